@@ -1,0 +1,3 @@
+pub mod Lends
+pub mod Spelling
+pub mod formers

@@ -1,0 +1,30 @@
+//! The plain types that every layer speaks of: ids, policies, the scenario, log records, mails and facts.
+#![tactic(auto)]
+
+mod fact;
+mod ids;
+mod list;
+mod mail;
+mod name;
+mod policy;
+mod records;
+mod scenario;
+
+pub use fact::{Ending, Fact, What};
+pub use ids::{AdminId, CredId, ItemId, Place, ServerId, TxnId, Version};
+pub use list::{List, NoMemory, TryClone};
+pub use mail::{
+    AckReply, Answer, AskRequest, Body, DecideRequest, DoneReply, InquireRequest, Letter, Mail,
+    NewestReply, PrepareRequest, ProbeRequest, PushNotice, QueryRequest, Reaction, TellReply,
+    ValidateRequest, VerdictsReply, Vote, VoteReply,
+};
+pub use name::{Name, Text};
+pub use policy::{Action, Cond, Op, Pattern, Policy, Rule, Value};
+pub use records::{
+    Cause, CommitRecord, Decided, Decision, Deed, Denied, Died, Instance, Met, Newer, No,
+    OutOfRange, Outcome, Prepared, Reading, Record, Settled, Staple, Told, Verdict,
+};
+pub use scenario::{
+    Actor, Admin, Credential, Cut, Item, Level, Operand, Query, Scenario, Scheme, ServerDecl, Step,
+    Term, Transaction,
+};
