@@ -1,5 +1,5 @@
 //! A list that contracts see as the list of its members, and clones that equal what they copy.
-ghost use Rattle.std.specs.Prelude.{◌≡◌, [], ◌∷◌, ◌++◌, ◌<◌, ◌↔◌, length, take, slice_get, IfOk, OnOk, OnErr, IfSome, IfNone, IsSome};
+ghost use Rattle.std.specs.Prelude.{◌≡◌, [], ◌∷◌, ◌++◌, ◌<◌, ◌↔◌, length, take, slice_get, IfOk, OnOk, OnErr, IfSome, IfNone, IsSome, IsTrue};
 
 use std::alloc::{AllocError, AllocFailed, Global};
 use std::marker::Model;
@@ -78,6 +78,12 @@ impl<T> List<T> {
         ensures { result ≡ length self.now }
     {
         self.items.len()
+    }
+
+    pub fn is_empty(&self) -> bool
+        ensures { IsTrue result ↔ (self.now ≡ []) }
+    {
+        self.items.is_empty()
     }
 
     pub fn as_slice(&self) -> &[T]

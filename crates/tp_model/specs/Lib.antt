@@ -1,0 +1,4 @@
+pub mod Built
+pub mod Levels
+pub mod Limits
+pub mod Queries

@@ -1,0 +1,19 @@
+-- The limits of a scenario, and of the numbers in it.
+use Rattle.std.specs.Prelude.{◌^◌, ◌&&◌, Bool, ℤ, pos, neg_ℤ, not}
+use Rattle.std.specs.Ordering.{int_cmp, is_gt}
+
+-- x is at most y
+abbrev pub int_le : ℤ → ℤ → Bool
+int_le x y = not (is_gt (int_cmp x y))
+
+-- the greatest magnitude of an item's value or bound
+abbrev pub value_limit : ℤ
+value_limit = pos (10 ^ 15)
+
+-- low <= x <= high
+abbrev pub is_between : ℤ → ℤ → ℤ → Bool
+is_between low high x = int_le low x && int_le x high
+
+-- a value or a bound of an item is within plus or minus 10^15
+abbrev pub is_value : ℤ → Bool
+is_value x = is_between (neg_ℤ value_limit) value_limit x

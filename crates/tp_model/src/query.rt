@@ -1,0 +1,103 @@
+//! What a transaction's queries are about.
+ghost use Rattle.std.specs.Prelude.{◌≡◌, ◌^◌, ◌<◌, length, IfOk};
+ghost use Rattle.std.specs.Option.{option_copied};
+ghost use Rattle.std.specs.List.{list_any};
+ghost use Rattle.tp_model.specs.Queries as queries;
+
+use std::alloc::Global;
+use tp_types::{ItemId, List, NoMemory, Operand, Query, Scenario, ServerId, Term, Transaction};
+
+/// The item that a query reads or writes.
+pub fn item_of(query: &Query) -> ItemId
+    ensures { result ≡ queries.item_of query.now }
+{
+    match query {
+        Query::Read { item, into: _ } => *item,
+        Query::Write { item, expr: _ } => *item,
+    }
+}
+
+/// A transaction's query by its number, which counts from 1; None exactly where there is none.
+pub fn query_at(txn: &Transaction, number: u32) -> Option<&Query>
+    ensures { option_copied result ≡ queries.query_at txn.now number }
+{
+    if number == 0 {
+        return None;
+    }
+    txn.queries.get(number as usize - 1)
+}
+
+/// What a term adds, if it is a constant; a register counts as 0 until reads are built.
+pub fn term_value(term: &Term) -> i128
+    ensures { result ≡ queries.term_value term.now }
+{
+    let value = match term.operand {
+        Operand::Constant(constant) => i128::from(constant),
+        Operand::Register(_) => 0,
+    };
+    if term.minus { -value } else { value }
+}
+
+/// The member of a slice that has exactly one.
+pub fn only<T>(items: &[T]) -> Option<&T>
+    ensures { option_copied result ≡ queries.only items.now }
+{
+    match items.split_first() {
+        None => None,
+        Some((first, others)) => { if others.is_empty() { Some(first) } else { None } }
+    }
+}
+
+fn only_value(expr: &[Term]) -> Option<i128>
+    ensures { result ≡ queries.only_value expr.now }
+{
+    match only(expr) {
+        None => None,
+        Some(term) => Some(term_value(term)),
+    }
+}
+
+/// The value of a write of one constant; None for every other query, which is not built yet.
+pub fn written_constant(query: &Query) -> Option<i128>
+    ensures { result ≡ queries.written_constant query.now }
+{
+    match query {
+        Query::Read { item: _, into: _ } => None,
+        Query::Write { item: _, expr } => only_value(expr.as_slice()),
+    }
+}
+
+fn is_at_server(scenario: &Scenario, server: u32, query: &Query) -> bool
+    ensures { result ≡ queries.is_at_server scenario.now server query.now }
+{
+    match scenario.items.get(item_of(query).0 as usize) {
+        None => false,
+        Some(item) => item.server.0 == server,
+    }
+}
+
+fn has_query_at(scenario: &Scenario, server: u32, asked: &[Query]) -> bool
+    ensures { result ≡ list_any (queries.is_at_server scenario.now server) asked.now }
+{
+    asked
+        .iter()
+        .any(|query| is_at_server(scenario, server, query))
+}
+
+/// The servers of a transaction's queries, in order of number, each once.
+pub fn servers_of(
+    alloc: Global,
+    scenario: &Scenario,
+    txn: &Transaction,
+) -> Result<List<ServerId>, NoMemory>
+    requires { length scenario.now.servers < 2 ^ 32 }
+    ensures { IfOk result (λ made. made ≡ queries.servers_of scenario.now txn.now) }
+{
+    let mut made = List::new(alloc);
+    for server in 0..scenario.servers.len() as u32 {
+        if has_query_at(scenario, server, txn.queries.as_slice()) {
+            made.push(ServerId(server))?;
+        }
+    }
+    Ok(made)
+}
