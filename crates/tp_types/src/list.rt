@@ -1,5 +1,5 @@
 //! A list that contracts see as the list of its members, and clones that equal what they copy.
-ghost use Rattle.std.specs.Prelude.{◌≡◌, [], ◌∷◌, ◌++◌, ◌<◌, ◌↔◌, length, take, slice_get, IfOk, OnOk, OnErr, IfSome, IfNone, IsSome, IsTrue};
+ghost use Rattle.std.specs.Prelude.{◌≡◌, [], ◌∷◌, ◌++◌, ◌<◌, ◌↔◌, length, take, slice_get, slice_set, IfOk, OnOk, OnErr, IfSome, IfNone, IsSome, IsTrue};
 
 use std::alloc::{AllocError, AllocFailed, Global};
 use std::marker::Model;
@@ -132,6 +132,24 @@ impl<T: Drop> List<T> {
         ensures none { IfNone result ((self.old ≡ []) × (self.new ≡ [])) }
     {
         self.items.pop()
+    }
+
+    /// Replaces the member at a place. Where there is no such place the list stays, and the value is dropped.
+    pub fn put(&mut self, at: usize, value: T)
+        ensures { self.new ≡ slice_set self.old at value }
+    {
+        if at < self.items.len() {
+            self.items[at] = value;
+        }
+    }
+
+    /// The list of one member.
+    pub fn of_one(alloc: Global, value: T) -> Result<List<T>, NoMemory>
+        ensures { IfOk result (λ made. made ≡ value ∷ []) }
+    {
+        let mut made = List::new(alloc);
+        made.push(value)?;
+        Ok(made)
     }
 
     /// Keeps the first members, at most so many.

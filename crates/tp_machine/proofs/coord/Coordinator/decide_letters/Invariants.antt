@@ -1,0 +1,10 @@
+use Rattle.std.proofs.Common.{◌≡◌, take, map}
+use Rattle.tp_types.specs.declared.ids.ServerId.{ServerId}
+use Rattle.tp_types.specs.declared.mail.Body.TheVariants as body
+use Rattle.tp_machine.specs.coord.Row.{request}
+use Rattle.tp_machine.proofs.coord.Coordinator.decide_letters.Given as goal
+
+-- the servers so far have their letters
+abbrev pub invariant-loop-server : goal.invariant-loop-server
+invariant-loop-server l =
+    l.letters ≡ map (λ (server : ServerId). request l.self server (body.Decide (record { txn = l.self.txn; outcome = l.outcome }))) (take l.server-index l.server-items)

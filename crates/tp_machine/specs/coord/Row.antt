@@ -1,0 +1,270 @@
+-- A coordinator's rows: what it does when its transaction is submitted, and on receipt of a mail. A reply is used only in
+-- the phase that awaits it, with the present turn, and once from each server; otherwise nothing happens.
+use Rattle.std.specs.Prelude.{ℕ, ◌+◌, ◌-◌, ◌^◌, ◌==◌, ◌&&◌, nat_lt, min, List, [], ◌∷◌, ◌++◌, map, filter, slice_get, slice_set, Bool, true, false, not, Option, Some, None, is_some, is_none, option_map, option_and_then, unwrap_or, ℤ, if◌then◌else◌}
+use Rattle.std.specs.List.{list_any, list_all}
+use Rattle.tp_types.specs.declared.ids.ServerId.{ServerId}
+use Rattle.tp_types.specs.declared.ids.ItemId.{ItemId}
+use Rattle.tp_types.specs.declared.policy.Action.TheVariants as action
+use Rattle.tp_types.specs.declared.scenario.Actor.{Actor}
+use Rattle.tp_types.specs.declared.scenario.Actor.TheVariants as actor
+use Rattle.tp_types.specs.declared.scenario.Item.{Item}
+use Rattle.tp_types.specs.declared.scenario.Query.{Query}
+use Rattle.tp_types.specs.declared.scenario.Scenario.{Scenario}
+use Rattle.tp_types.specs.declared.scenario.Transaction.{Transaction}
+use Rattle.tp_types.specs.declared.records.CommitRecord.{CommitRecord}
+use Rattle.tp_types.specs.declared.records.Decision.TheVariants as decision
+use Rattle.tp_types.specs.declared.records.Deed.{Deed}
+use Rattle.tp_types.specs.declared.records.Instance.{Instance}
+use Rattle.tp_types.specs.declared.records.Outcome.{Outcome}
+use Rattle.tp_types.specs.declared.records.Outcome.TheVariants.{Commit}
+use Rattle.tp_types.specs.declared.records.Record.TheVariants as log
+use Rattle.tp_types.specs.declared.records.Staple.{Staple}
+use Rattle.tp_types.specs.declared.records.Verdict.{Verdict}
+use Rattle.tp_types.specs.declared.mail.Answer.{Answer}
+use Rattle.tp_types.specs.declared.mail.Answer.TheVariants as answer
+use Rattle.tp_types.specs.declared.mail.Body.{Body}
+use Rattle.tp_types.specs.declared.mail.Body.TheVariants as body
+use Rattle.tp_types.specs.declared.mail.DoneReply.{DoneReply}
+use Rattle.tp_types.specs.declared.mail.Letter.{Letter}
+use Rattle.tp_types.specs.declared.mail.Mail.{Mail}
+use Rattle.tp_types.specs.declared.mail.TellReply.{TellReply}
+use Rattle.tp_types.specs.declared.mail.Vote.{Vote}
+use Rattle.tp_types.specs.declared.mail.Vote.TheVariants as vote
+use Rattle.tp_types.specs.declared.mail.VoteReply.{VoteReply}
+use Rattle.tp_model.specs.Built.{is_empty}
+use Rattle.tp_model.specs.Queries.{item_of, query_at, written_constant}
+use Rattle.tp_machine.specs.declared.coord.Coordinator.{Coordinator}
+use Rattle.tp_machine.specs.declared.coord.Phase.{Phase}
+use Rattle.tp_machine.specs.declared.coord.Phase.TheVariants as phase
+use Rattle.tp_machine.specs.declared.coord.Round.{Round}
+use Rattle.tp_machine.specs.Effect.{Effect, silent, sends, logs}
+use Rattle.tp_machine.specs.Table.{flattened}
+
+-- the turn of the next request; at the greatest number it stays
+abbrev pub next_turn : Coordinator → ℕ
+next_turn c = min (c.turn + 1) (2 ^ 32 - 1)
+
+-- a letter to a server
+abbrev pub request : Coordinator → ServerId → Body → Letter
+request c server said = record { from = actor.Coordinator c.txn; to = actor.Server server; body = said }
+
+abbrev pub requests : Coordinator → Body → List ServerId → List Letter
+requests c said servers = map (λ (server : ServerId). request c server said) servers
+
+-- a query of the transaction by its number
+abbrev pub query_of : Scenario → Coordinator → ℕ → Option Query
+query_of sc c number = option_and_then (λ (txn : Transaction). query_at txn number) (slice_get sc.txns c.txn.0)
+
+-- the server of an item
+abbrev pub server_at : Scenario → ItemId → Option ServerId
+server_at sc item = option_map (λ (i : Item). i.server) (slice_get sc.items item.0)
+
+-- the server of a query
+abbrev pub server_of : Scenario → Query → Option ServerId
+server_of sc query = server_at sc (item_of query)
+
+-- ---- Submit
+
+-- the first query is a write of a constant: it is sent to its server. Its age is the place where it is sent
+abbrev pub sends_first : Coordinator → Option ServerId → Option ℤ → Effect Coordinator
+sends_first c (Some server) (Some value) =
+    sends (record c { turn = next_turn c; phase = phase.Querying 1 None })
+    (request c server
+    (body.Query (record { txn = c.txn; turn = next_turn c; query = 1; age = None; epoch = None; value = Some value; staple = None; pin = None })) ∷ [])
+sends_first c _ _ = silent c
+
+abbrev pub begins : Scenario → Coordinator → Option Query → Effect Coordinator
+begins sc c None = silent c
+begins sc c (Some query) = sends_first c (server_of sc query) (written_constant query)
+
+-- what the submission of the transaction does
+abbrev pub submit_row : Scenario → Coordinator → Effect Coordinator
+submit_row sc c = begins sc c (query_of sc c 1)
+
+-- the place of the submission is known after it
+abbrev pub placed : Coordinator → ℕ → Coordinator
+placed c place = record c { age = Some place }
+
+-- ---- Done
+
+abbrev pub is_from : Actor → ServerId → Bool
+is_from (actor.Server server) asked = server.0 == asked.0
+is_from _ asked = false
+
+abbrev pub first_round : Coordinator → Round
+first_round c = record { number = 1; aim = None; kept = []; awaited = c.servers; mets = [] }
+
+-- the transaction's servers are to prepare: the authority is asked first
+abbrev pub asks : Coordinator → Effect Coordinator
+asks c =
+    sends (record c { turn = next_turn c; phase = phase.Asking (first_round c) })
+    (record { from = actor.Coordinator c.txn; to = actor.Authority; body = body.Ask (record { txn = c.txn; turn = next_turn c }) } ∷ [])
+
+abbrev pub deed_of : ℕ → Query → ℤ → Deed
+deed_of number query value = record { query = number; item = item_of query; action = action.Write; value = value }
+
+-- the deed of a query that ran, and the epoch of its server
+abbrev pub ran : Coordinator → ServerId → DoneReply → Query → ℤ → Coordinator
+ran c server done query value =
+    record c { epochs = slice_set c.epochs server.0 (Some done.epoch); deeds = c.deeds ++ deed_of done.query query value ∷ [] }
+
+-- the value of an answer that the query ran, without a verdict. Other answers are not built
+abbrev pub plain_value : Answer → Option ℤ
+plain_value (answer.Ran value None) = Some value
+plain_value _ = None
+
+-- the query is a write of a constant and the last one; reads and further queries are not built
+abbrev pub is_last_write : Scenario → Coordinator → Query → ℕ → Bool
+is_last_write sc c query number = is_some (written_constant query) && nat_lt number (2 ^ 32 - 1) && is_none (query_of sc c (number + 1))
+
+-- the reply to a query, from the server that was asked
+abbrev pub answered : Scenario → Coordinator → Actor → DoneReply → Query → Option ServerId → Option ℤ → Effect Coordinator
+answered sc c from done query (Some server) (Some value) =
+    if is_from from server && is_last_write sc c query done.query then asks (ran c server done query value) else silent c
+answered sc c from done query _ _ = silent c
+
+abbrev pub done_of : Scenario → Coordinator → Actor → DoneReply → Option Query → Effect Coordinator
+done_of sc c from done None = silent c
+done_of sc c from done (Some query) = answered sc c from done query (server_of sc query) (plain_value done.answer)
+
+-- the query that is awaited, in the present turn; one with a staple is not built
+abbrev pub awaits_query : Coordinator → Phase → DoneReply → Bool
+awaits_query c (phase.Querying number None) done = (done.turn == c.turn) && (done.query == number)
+awaits_query c _ done = false
+
+abbrev pub on_done : Scenario → Coordinator → Phase → Actor → DoneReply → Effect Coordinator
+on_done sc c awaited from done =
+    if awaits_query c awaited done then done_of sc c from done (query_of sc c done.query) else silent c
+
+-- ---- Tell
+
+-- the epoch that a server told; 0, which is no epoch, where it told none
+abbrev pub epoch_of : Coordinator → ServerId → ℕ
+epoch_of c server = unwrap_or (flattened (slice_get c.epochs server.0)) 0
+
+abbrev pub prepare_letter : Coordinator → Staple → ServerId → Letter
+prepare_letter c staple server =
+    request c server (body.Prepare (record { txn = c.txn; turn = next_turn c; epoch = epoch_of c server; staple = Some staple; want = [] }))
+
+abbrev pub staple_of : TellReply → ℕ → Staple
+staple_of tell sent = record { place = sent; clock = tell.clock; revoked = tell.revoked }
+
+-- a first round: each awaited server is asked to prepare with the staple
+abbrev pub prepares : Coordinator → Round → Staple → Effect Coordinator
+prepares c round staple =
+    sends (record c { turn = next_turn c; phase = phase.Checking round staple }) (map (prepare_letter c staple) round.awaited)
+
+-- the authority was asked before a first round; a later round is not built
+abbrev pub asks_first : Phase → Bool
+asks_first (phase.Asking round) = is_none round.aim
+asks_first _ = false
+
+abbrev pub told : Coordinator → Phase → Staple → Effect Coordinator
+told c (phase.Asking round) staple = prepares c round staple
+told c _ staple = silent c
+
+abbrev pub on_tell : Coordinator → Phase → ℕ → TellReply → Effect Coordinator
+on_tell c awaited sent tell =
+    if (tell.turn == c.turn) && asks_first awaited then told c awaited (staple_of tell sent) else silent c
+
+-- ---- Vote
+
+abbrev pub is_awaited : List ServerId → ServerId → Bool
+is_awaited awaited server = list_any (λ (other : ServerId). other.0 == server.0) awaited
+
+abbrev pub without : List ServerId → ServerId → List ServerId
+without awaited server = filter (λ (other : ServerId). not (other.0 == server.0)) awaited
+
+-- the round with a server's verdicts
+abbrev pub with_reply : Round → ServerId → List Verdict → Round
+with_reply round server verdicts =
+    record round { kept = round.kept ++ record { server = server; verdicts = verdicts } ∷ []; awaited = without round.awaited server }
+
+abbrev pub is_true_verdict : Verdict → Bool
+is_true_verdict verdict = is_some verdict.rule
+
+-- two verdicts of one administrator have one version
+abbrev pub agrees : Verdict → Verdict → Bool
+agrees one other = if one.admin.0 == other.admin.0 then one.version.0 == other.version.0 else true
+
+-- all verdicts are true, and those of one administrator have one version
+abbrev pub are_agreed : List Verdict → Bool
+are_agreed verdicts = list_all is_true_verdict verdicts && list_all (λ (one : Verdict). list_all (agrees one) verdicts) verdicts
+
+abbrev pub closed : Coordinator → List Verdict → List Instance
+closed c proofs = c.instances ++ record { reading = None; proofs = proofs } ∷ []
+
+abbrev pub commit_record : Coordinator → ℕ → List Verdict → CommitRecord
+commit_record c rounds proofs = record { rounds = rounds; instances = closed c proofs; deeds = c.deeds }
+
+abbrev pub decide_letters : Coordinator → Outcome → List Letter
+decide_letters c outcome = requests c (body.Decide (record { txn = c.txn; outcome = outcome })) c.servers
+
+-- the commit is forced before it is sent to all of the transaction's servers
+abbrev pub commits : Coordinator → ℕ → List Verdict → Effect Coordinator
+commits c rounds proofs =
+    logs (record c { instances = closed c proofs; phase = phase.Ending Commit c.servers })
+    (log.Decided (record { txn = c.txn; decision = decision.Commit (commit_record c rounds proofs) }))
+    (decide_letters c Commit)
+
+-- a round in which all have replied is judged. One server's proofs that agree commit; proofs of several servers, a false one
+-- and differing versions are not built
+abbrev pub judged : Coordinator → Round → List Verdict → Effect Coordinator
+judged c round verdicts = if is_empty round.kept && are_agreed verdicts then commits c round.number verdicts else silent c
+
+abbrev pub replied : Coordinator → Round → Staple → ServerId → List Verdict → List ServerId → Effect Coordinator
+replied c round staple server verdicts [] = judged c round verdicts
+replied c round staple server verdicts (other ∷ others) =
+    sends (record c { phase = phase.Checking (with_reply round server verdicts) staple }) []
+
+-- a vote NO is not built
+abbrev pub voted : Coordinator → Round → Staple → ServerId → Vote → Effect Coordinator
+voted c round staple server (vote.Yes verdicts) = replied c round staple server verdicts (without round.awaited server)
+voted c round staple server (vote.No why) = silent c
+
+-- the vote of this server is awaited
+abbrev pub awaits_vote : Phase → ServerId → Bool
+awaits_vote (phase.Checking round staple) server = is_awaited round.awaited server
+awaits_vote _ server = false
+
+abbrev pub vote_at : Coordinator → Phase → ServerId → Vote → Effect Coordinator
+vote_at c (phase.Checking round staple) server said = voted c round staple server said
+vote_at c _ server said = silent c
+
+abbrev pub on_vote : Coordinator → Phase → Actor → VoteReply → Effect Coordinator
+on_vote c awaited (actor.Server server) reply =
+    if (reply.turn == c.turn) && awaits_vote awaited server then vote_at c awaited server reply.vote else silent c
+on_vote c awaited _ reply = silent c
+
+-- ---- Ack
+
+abbrev pub ack_from : Coordinator → Outcome → List ServerId → Actor → Effect Coordinator
+ack_from c outcome awaited (actor.Server server) = sends (record c { phase = phase.Ending outcome (without awaited server) }) []
+ack_from c outcome awaited _ = silent c
+
+abbrev pub on_ack : Coordinator → Phase → Actor → Effect Coordinator
+on_ack c (phase.Ending outcome awaited) from = ack_from c outcome awaited from
+on_ack c _ from = silent c
+
+-- ---- all mails
+
+-- Verdicts, Newest and Inquire are not built
+abbrev pub on_body : Scenario → Coordinator → ℕ → Actor → Body → Effect Coordinator
+on_body sc c sent from (body.Done done) = on_done sc c c.phase from done
+on_body sc c sent from (body.Tell tell) = on_tell c c.phase sent tell
+on_body sc c sent from (body.Vote reply) = on_vote c c.phase from reply
+on_body sc c sent from (body.Ack ack) = on_ack c c.phase from
+on_body sc c sent from _ = silent c
+
+abbrev pub coordinator_row : Scenario → Coordinator → Mail → Effect Coordinator
+coordinator_row sc c mail = on_body sc c mail.sent mail.letter.from mail.letter.body
+
+-- ---- armed
+
+abbrev pub is_ending : Phase → Bool
+is_ending (phase.Ending outcome []) = true
+is_ending _ = false
+
+-- the transaction is submitted, and some server has not acknowledged its end
+abbrev pub is_armed : Coordinator → Bool
+is_armed c = is_some c.age && not (is_ending c.phase)

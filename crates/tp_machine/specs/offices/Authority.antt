@@ -1,0 +1,31 @@
+-- The authority's row.
+use Rattle.std.specs.Prelude.{[], ◌∷◌}
+use Rattle.tp_types.specs.declared.mail.AskRequest.{AskRequest}
+use Rattle.tp_types.specs.declared.mail.Body.{Body}
+use Rattle.tp_types.specs.declared.mail.Body.TheVariants as body
+use Rattle.tp_types.specs.declared.mail.Mail.{Mail}
+use Rattle.tp_types.specs.declared.scenario.Actor.TheVariants as actor
+use Rattle.tp_types.specs.declared.scenario.Scenario.{Scenario}
+use Rattle.tp_machine.specs.declared.offices.Authority.{Authority}
+use Rattle.tp_machine.specs.Effect.{Effect, silent, sends}
+
+-- the authority as it stands before the first step
+abbrev pub opened : Scenario → Authority
+opened sc = record { clock = sc.clock; revoked = [] }
+
+-- an Ask is answered with the clock and the revocations
+abbrev pub tells : Authority → AskRequest → Effect Authority
+tells authority ask =
+    sends authority
+    (record {
+      from = actor.Authority;
+      to = actor.Coordinator ask.txn;
+      body = body.Tell (record { txn = ask.txn; turn = ask.turn; clock = authority.clock; revoked = authority.revoked });
+    } ∷ [])
+
+abbrev pub on_body : Authority → Body → Effect Authority
+on_body authority (body.Ask ask) = tells authority ask
+on_body authority _ = silent authority
+
+abbrev pub authority_row : Authority → Mail → Effect Authority
+authority_row authority mail = on_body authority mail.letter.body

@@ -1,0 +1,24 @@
+-- A server as it stands before the first step.
+use Rattle.std.specs.Prelude.{List, [], length, map, replicate, slice_get, None}
+use Rattle.std.specs.Option.{option_map_or}
+use Rattle.tp_types.specs.declared.ids.ServerId.{ServerId}
+use Rattle.tp_types.specs.declared.ids.Version.{Version}
+use Rattle.tp_types.specs.declared.scenario.Item.{Item}
+use Rattle.tp_types.specs.declared.scenario.Scenario.{Scenario}
+use Rattle.tp_types.specs.declared.scenario.ServerDecl.{ServerDecl}
+use Rattle.tp_machine.specs.declared.server.Server.{Server}
+
+-- the versions that the scenario says the server knows
+abbrev pub known_at_first : Scenario → ServerId → List Version
+known_at_first sc server = option_map_or (λ (declared : ServerDecl). declared.knows) (slice_get sc.servers server.0) []
+
+abbrev pub opened : Scenario → ServerId → Server
+opened sc server =
+    record {
+      server = server;
+      epoch = 1;
+      known = known_at_first sc server;
+      values = map (λ (item : Item). item.value) sc.items;
+      settled = replicate (length sc.txns) None;
+      entries = replicate (length sc.txns) None;
+    }

@@ -1,0 +1,641 @@
+//! A coordinator: the requests of one transaction, in their order, and its decision.
+ghost use Rattle.std.specs.Prelude.{◌≡◌, ◌<◌, ◌^◌, ◌==◌, ◌++◌, not, Option, Some, None, [], ◌∷◌, length, map, filter, IfOk, OnOk};
+ghost use Rattle.std.specs.List.{list_all};
+ghost use Rattle.std.specs.Option.{option_copied};
+ghost use Rattle.tp_types.specs.declared.ids.ServerId.{ServerId};
+ghost use Rattle.tp_types.specs.declared.records.Verdict.{Verdict};
+ghost use Rattle.tp_machine.specs.declared.coord.Phase.TheVariants as Phase;
+ghost use Rattle.tp_types.specs.declared.mail.Vote.TheVariants as vote;
+ghost use Rattle.tp_machine.specs.Effect.{Gives};
+ghost use Rattle.tp_machine.specs.coord.Opened as opened;
+ghost use Rattle.tp_machine.specs.coord.Row as row;
+
+use crate::reaction::{nothing, sent_alone};
+use crate::table::none_for_each;
+use std::alloc::Global;
+use std::mem;
+use tp_model::{item_of, query_at, servers_of, written_constant};
+use tp_types::{
+    Action, Actor, Answer, AskRequest, Body, CommitRecord, DecideRequest, Decided, Decision, Deed,
+    DoneReply, Instance, ItemId, Letter, List, Mail, Met, NoMemory, Outcome, Place, PrepareRequest,
+    Query, QueryRequest, Reaction, Record, Scenario, ServerId, Staple, TellReply, TryClone, TxnId,
+    Verdict, Version, Vote, VoteReply,
+};
+
+/// A server's reply in a round.
+#[derive(Drop)]
+pub struct Reply {
+    pub server: ServerId,
+    pub verdicts: List<Verdict>,
+}
+
+/// A round of evaluation: servers are asked, and their verdicts are brought to one version of each administrator.
+#[derive(Drop)]
+pub struct Round {
+    /// Counted from 1.
+    pub number: u32,
+    /// The version of each administrator that the servers were last brought to; None in the first round.
+    pub aim: Option<List<Version>>,
+    pub kept: List<Reply>,
+    /// The servers whose replies are awaited.
+    pub awaited: List<ServerId>,
+    /// The newer versions that earlier rounds met at the master.
+    pub mets: List<Met>,
+}
+
+/// What a coordinator awaits: its whole outstanding request.
+#[derive(Drop)]
+pub enum Phase {
+    Idle,
+    /// A query was sent to its server, with the staple if there was one.
+    Querying {
+        query: u32,
+        staple: Option<Staple>,
+    },
+    /// The authority was asked before a round.
+    Asking {
+        round: Round,
+    },
+    /// The servers of a round were asked, with a staple.
+    Checking {
+        round: Round,
+        staple: Staple,
+    },
+    /// The decision was sent; these servers have not acknowledged it.
+    Ending {
+        outcome: Outcome,
+        awaited: List<ServerId>,
+    },
+}
+
+/// A coordinator's state while it is up.
+#[derive(Drop)]
+pub struct Coordinator {
+    pub txn: TxnId,
+    /// The servers of the transaction's queries, in order of number.
+    pub servers: List<ServerId>,
+    /// The place of the submission, once there was one.
+    pub age: Option<Place>,
+    /// The number of requests so far.
+    pub turn: u32,
+    /// The epoch of each server of the scenario, as its first reply told it.
+    pub epochs: List<Option<u64>>,
+    pub deeds: List<Deed>,
+    /// The proofs so far, where each query is proved as it runs.
+    pub gathered: List<Verdict>,
+    /// The instances that agreed so far.
+    pub instances: List<Instance>,
+    pub phase: Phase,
+}
+
+impl Coordinator {
+    /// A coordinator before its transaction is submitted.
+    pub fn idle(alloc: Global, scenario: &Scenario, txn: TxnId) -> Result<Coordinator, NoMemory>
+        requires { length scenario.now.servers < 2 ^ 32 }
+        ensures { IfOk result (λ made. made ≡ opened.idle scenario.now txn) }
+    {
+        Ok(Coordinator {
+            txn,
+            servers: servers_at(alloc, scenario, txn)?,
+            age: None,
+            turn: 0,
+            epochs: none_for_each(alloc, scenario.servers.len())?,
+            deeds: List::new(alloc),
+            gathered: List::new(alloc),
+            instances: List::new(alloc),
+            phase: Phase::Idle,
+        })
+    }
+
+    /// What the submission of the transaction does. After NoMemory nothing is said of the state.
+    pub fn submit(&mut self, alloc: Global, scenario: &Scenario) -> Result<Reaction, NoMemory>
+        ensures { IfOk result (λ reaction. Gives (row.submit_row scenario.now self.old) self.new reaction) }
+    {
+        let Some(query) = self.query_of(scenario, 1) else {
+            return Ok(nothing(alloc));
+        };
+        match (server_of(scenario, query), written_constant(query)) {
+            (Some(server), Some(value)) => self.sends_first(alloc, server, value),
+            _ => Ok(nothing(alloc)),
+        }
+    }
+
+    /// Tells the place of the submission, once it is known.
+    pub fn placed(&mut self, place: Place)
+        ensures { self.new ≡ row.placed self.old place }
+    {
+        self.age = Some(place);
+    }
+
+    /// Whether the transaction is submitted, and some server has not acknowledged its end.
+    pub fn armed(&self) -> bool
+        ensures { result ≡ row.is_armed self.now }
+    {
+        self.age.is_some() && !is_ending(&self.phase)
+    }
+
+    /// What the coordinator does on receipt of a mail. After NoMemory nothing is said of the state.
+    pub fn receive(
+        &mut self,
+        alloc: Global,
+        scenario: &Scenario,
+        mail: &Mail,
+    ) -> Result<Reaction, NoMemory>
+        ensures { IfOk result (λ reaction. Gives (row.coordinator_row scenario.now self.old mail.now) self.new reaction) }
+    {
+        let from = mail.letter.from;
+        match &mail.letter.body {
+            Body::Done(done) => self.on_done(alloc, scenario, from, done),
+            Body::Tell(tell) => self.on_tell(alloc, mail.sent, tell),
+            Body::Vote(reply) => self.on_vote(alloc, from, reply),
+            Body::Ack(_) => self.on_ack(alloc, from),
+            _ => Ok(nothing(alloc)),
+        }
+    }
+
+    fn query_of<'a>(&self, scenario: &'a Scenario, number: u32) -> Option<&'a Query>
+        ensures { option_copied result ≡ row.query_of scenario.now self.now number }
+    {
+        match scenario.txns.get(self.txn.0 as usize) {
+            None => None,
+            Some(txn) => query_at(txn, number),
+        }
+    }
+
+    fn request(&self, server: ServerId, body: Body) -> Letter
+        ensures { result ≡ row.request self.now server body }
+    {
+        Letter {
+            from: Actor::Coordinator(self.txn),
+            to: Actor::Server(server),
+            body,
+        }
+    }
+
+    fn next_turn(&self) -> u32
+        ensures { result ≡ row.next_turn self.now }
+    {
+        self.turn.saturating_add(1)
+    }
+
+    fn sends_first(
+        &mut self,
+        alloc: Global,
+        server: ServerId,
+        value: i128,
+    ) -> Result<Reaction, NoMemory>
+        ensures { IfOk result (λ reaction. Gives (row.sends_first self.old (Some server) (Some value)) self.new reaction) }
+    {
+        let turn = self.next_turn();
+        let query = QueryRequest {
+            txn: self.txn,
+            turn,
+            query: 1,
+            age: None,
+            epoch: None,
+            value: Some(value),
+            staple: None,
+            pin: None,
+        };
+        let letter = self.request(server, Body::Query(query));
+        self.turn = turn;
+        self.phase = Phase::Querying {
+            query: 1,
+            staple: None,
+        };
+        sent_alone(alloc, letter)
+    }
+
+    fn on_done(
+        &mut self,
+        alloc: Global,
+        scenario: &Scenario,
+        from: Actor,
+        done: &DoneReply,
+    ) -> Result<Reaction, NoMemory>
+        ensures { IfOk result (λ reaction. Gives (row.on_done scenario.now self.old self.old.phase from done.now) self.new reaction) }
+    {
+        if !self.awaits_query(done) {
+            return Ok(nothing(alloc));
+        }
+        let Some(query) = self.query_of(scenario, done.query) else {
+            return Ok(nothing(alloc));
+        };
+        match (server_of(scenario, query), plain_value(&done.answer)) {
+            (Some(server), Some(value)) => {
+                if !is_from(from, server) || !self.is_last_write(scenario, query, done.query) {
+                    return Ok(nothing(alloc));
+                }
+                self.ran(server, done, query, value)?;
+                self.asks(alloc)
+            }
+            _ => Ok(nothing(alloc)),
+        }
+    }
+
+    fn awaits_query(&self, done: &DoneReply) -> bool
+        ensures { result ≡ row.awaits_query self.now self.now.phase done.now }
+    {
+        match &self.phase {
+            Phase::Querying {
+                query,
+                staple: None,
+            } => done.turn == self.turn && done.query == *query,
+            _ => false,
+        }
+    }
+
+    fn is_last_write(&self, scenario: &Scenario, query: &Query, number: u32) -> bool
+        ensures { result ≡ row.is_last_write scenario.now self.now query.now number }
+    {
+        written_constant(query).is_some()
+            && number < u32::MAX
+            && self.query_of(scenario, number + 1).is_none()
+    }
+
+    fn ran(
+        &mut self,
+        server: ServerId,
+        done: &DoneReply,
+        query: &Query,
+        value: i128,
+    ) -> Result<(), NoMemory>
+        ensures { OnOk result (self.new ≡ row.ran self.old server done.now query.now value) }
+    {
+        let deed = Deed {
+            query: done.query,
+            item: item_of(query),
+            action: Action::Write,
+            value,
+        };
+        self.deeds.push(deed)?;
+        self.epochs.put(server.0 as usize, Some(done.epoch));
+        Ok(())
+    }
+
+    fn first_round(&self, alloc: Global) -> Result<Round, NoMemory>
+        ensures { IfOk result (λ round. round ≡ row.first_round self.now) }
+    {
+        Ok(Round {
+            number: 1,
+            aim: None,
+            kept: List::new(alloc),
+            awaited: self.servers.try_clone(alloc)?,
+            mets: List::new(alloc),
+        })
+    }
+
+    fn asks(&mut self, alloc: Global) -> Result<Reaction, NoMemory>
+        ensures { IfOk result (λ reaction. Gives (row.asks self.old) self.new reaction) }
+    {
+        let turn = self.next_turn();
+        let round = self.first_round(alloc)?;
+        let letter = Letter {
+            from: Actor::Coordinator(self.txn),
+            to: Actor::Authority,
+            body: Body::Ask(AskRequest {
+                txn: self.txn,
+                turn,
+            }),
+        };
+        self.turn = turn;
+        self.phase = Phase::Asking { round };
+        sent_alone(alloc, letter)
+    }
+
+    fn epoch_of(&self, server: ServerId) -> u64
+        ensures { result ≡ row.epoch_of self.now server }
+    {
+        match self.epochs.get(server.0 as usize) {
+            Some(Some(epoch)) => *epoch,
+            _ => 0,
+        }
+    }
+
+    fn prepare_letter(
+        &self,
+        alloc: Global,
+        staple: &Staple,
+        server: ServerId,
+    ) -> Result<Letter, NoMemory>
+        ensures { IfOk result (λ letter. letter ≡ row.prepare_letter self.now staple.now server) }
+    {
+        let prepare = PrepareRequest {
+            txn: self.txn,
+            turn: self.next_turn(),
+            epoch: self.epoch_of(server),
+            staple: Some(staple.try_clone(alloc)?),
+            want: List::new(alloc),
+        };
+        Ok(self.request(server, Body::Prepare(prepare)))
+    }
+
+    fn prepare_letters(
+        &self,
+        alloc: Global,
+        staple: &Staple,
+        servers: &[ServerId],
+    ) -> Result<List<Letter>, NoMemory>
+        ensures { IfOk result (λ letters. letters ≡ map (row.prepare_letter self.now staple.now) servers.now) }
+    {
+        let mut letters = List::new(alloc);
+        for server in servers {
+            letters.push(self.prepare_letter(alloc, staple, *server)?)?;
+        }
+        Ok(letters)
+    }
+
+    fn on_tell(
+        &mut self,
+        alloc: Global,
+        sent: Place,
+        tell: &TellReply,
+    ) -> Result<Reaction, NoMemory>
+        ensures { IfOk result (λ reaction. Gives (row.on_tell self.old self.old.phase sent tell.now) self.new reaction) }
+    {
+        if tell.turn != self.turn || !asks_first(&self.phase) {
+            return Ok(nothing(alloc));
+        }
+        let staple = Staple {
+            place: sent,
+            clock: tell.clock,
+            revoked: tell.revoked.try_clone(alloc)?,
+        };
+        match mem::replace(&mut self.phase, Phase::Idle) {
+            Phase::Asking { round } => self.prepares(alloc, round, staple),
+            other => {
+                self.phase = other;
+                Ok(nothing(alloc))
+            }
+        }
+    }
+
+    fn prepares(
+        &mut self,
+        alloc: Global,
+        round: Round,
+        staple: Staple,
+    ) -> Result<Reaction, NoMemory>
+        ensures { IfOk result (λ reaction. Gives (row.prepares self.old round staple) self.new reaction) }
+    {
+        let letters = self.prepare_letters(alloc, &staple, round.awaited.as_slice())?;
+        self.turn = self.next_turn();
+        self.phase = Phase::Checking { round, staple };
+        Ok(Reaction {
+            append: None,
+            letters,
+        })
+    }
+
+    fn on_vote(
+        &mut self,
+        alloc: Global,
+        from: Actor,
+        reply: &VoteReply,
+    ) -> Result<Reaction, NoMemory>
+        ensures { IfOk result (λ reaction. Gives (row.on_vote self.old self.old.phase from reply.now) self.new reaction) }
+    {
+        let Actor::Server(server) = from else {
+            return Ok(nothing(alloc));
+        };
+        let Vote::Yes(verdicts) = &reply.vote else {
+            return Ok(nothing(alloc));
+        };
+        if reply.turn != self.turn || !awaits_vote(&self.phase, server) {
+            return Ok(nothing(alloc));
+        }
+        match mem::replace(&mut self.phase, Phase::Idle) {
+            Phase::Checking { round, staple } => self.voted(alloc, round, staple, server, verdicts),
+            other => {
+                self.phase = other;
+                Ok(nothing(alloc))
+            }
+        }
+    }
+
+    fn voted(
+        &mut self,
+        alloc: Global,
+        round: Round,
+        staple: Staple,
+        server: ServerId,
+        verdicts: &List<Verdict>,
+    ) -> Result<Reaction, NoMemory>
+        ensures { IfOk result (λ reaction. Gives (row.voted (record self.old { phase = Phase.Checking round staple }) round staple server (vote.Yes verdicts.now)) self.new reaction) }
+    {
+        let left = without(alloc, round.awaited.as_slice(), server)?;
+        if !left.is_empty() {
+            let round = with_reply(alloc, round, server, verdicts, left)?;
+            self.phase = Phase::Checking { round, staple };
+            return Ok(nothing(alloc));
+        }
+        if !round.kept.is_empty() || !are_agreed(verdicts.as_slice()) {
+            self.phase = Phase::Checking { round, staple };
+            return Ok(nothing(alloc));
+        }
+        self.commits(alloc, round.number, verdicts)
+    }
+
+    fn commits(
+        &mut self,
+        alloc: Global,
+        rounds: u32,
+        proofs: &List<Verdict>,
+    ) -> Result<Reaction, NoMemory>
+        ensures { IfOk result (λ reaction. Gives (row.commits self.old rounds proofs.now) self.new reaction) }
+    {
+        self.instances.push(Instance {
+            reading: None,
+            proofs: proofs.try_clone(alloc)?,
+        })?;
+        let commit = CommitRecord {
+            rounds,
+            instances: self.instances.try_clone(alloc)?,
+            deeds: self.deeds.try_clone(alloc)?,
+        };
+        let letters = self.decide_letters(alloc, Outcome::Commit)?;
+        self.phase = Phase::Ending {
+            outcome: Outcome::Commit,
+            awaited: self.servers.try_clone(alloc)?,
+        };
+        Ok(Reaction {
+            append: Some(Record::Decided(Decided {
+                txn: self.txn,
+                decision: Decision::Commit(commit),
+            })),
+            letters,
+        })
+    }
+
+    fn decide_letters(&self, alloc: Global, outcome: Outcome) -> Result<List<Letter>, NoMemory>
+        ensures { IfOk result (λ letters. letters ≡ row.decide_letters self.now outcome) }
+    {
+        let mut letters = List::new(alloc);
+        for server in self.servers.as_slice() {
+            let decide = DecideRequest {
+                txn: self.txn,
+                outcome,
+            };
+            letters.push(self.request(*server, Body::Decide(decide)))?;
+        }
+        Ok(letters)
+    }
+
+    fn on_ack(&mut self, alloc: Global, from: Actor) -> Result<Reaction, NoMemory>
+        ensures { IfOk result (λ reaction. Gives (row.on_ack self.old self.old.phase from) self.new reaction) }
+    {
+        let Actor::Server(server) = from else {
+            return Ok(nothing(alloc));
+        };
+        match mem::replace(&mut self.phase, Phase::Idle) {
+            Phase::Ending { outcome, awaited } => {
+                let awaited = without(alloc, awaited.as_slice(), server)?;
+                self.phase = Phase::Ending { outcome, awaited };
+                Ok(nothing(alloc))
+            }
+            other => {
+                self.phase = other;
+                Ok(nothing(alloc))
+            }
+        }
+    }
+}
+
+fn servers_at(alloc: Global, scenario: &Scenario, txn: TxnId) -> Result<List<ServerId>, NoMemory>
+    requires { length scenario.now.servers < 2 ^ 32 }
+    ensures { IfOk result (λ made. made ≡ opened.servers_at scenario.now txn) }
+{
+    match scenario.txns.get(txn.0 as usize) {
+        None => Ok(List::new(alloc)),
+        Some(found) => servers_of(alloc, scenario, found),
+    }
+}
+
+fn server_of(scenario: &Scenario, query: &Query) -> Option<ServerId>
+    ensures { result ≡ row.server_of scenario.now query.now }
+{
+    match scenario.items.get(item_of(query).0 as usize) {
+        None => None,
+        Some(item) => Some(item.server),
+    }
+}
+
+fn is_from(from: Actor, asked: ServerId) -> bool
+    ensures { result ≡ row.is_from from asked }
+{
+    match from {
+        Actor::Server(server) => server.0 == asked.0,
+        _ => false,
+    }
+}
+
+fn plain_value(answer: &Answer) -> Option<i128>
+    ensures { result ≡ row.plain_value answer.now }
+{
+    match answer {
+        Answer::Ran {
+            value,
+            verdict: None,
+        } => Some(*value),
+        _ => None,
+    }
+}
+
+fn is_ending(phase: &Phase) -> bool
+    ensures { result ≡ row.is_ending phase.now }
+{
+    match phase {
+        Phase::Ending {
+            outcome: _,
+            awaited,
+        } => awaited.is_empty(),
+        _ => false,
+    }
+}
+
+fn asks_first(phase: &Phase) -> bool
+    ensures { result ≡ row.asks_first phase.now }
+{
+    match phase {
+        Phase::Asking { round } => round.aim.is_none(),
+        _ => false,
+    }
+}
+
+fn awaits_vote(phase: &Phase, server: ServerId) -> bool
+    ensures { result ≡ row.awaits_vote phase.now server }
+{
+    match phase {
+        Phase::Checking { round, staple: _ } => is_awaited(round.awaited.as_slice(), server),
+        _ => false,
+    }
+}
+
+fn is_awaited(awaited: &[ServerId], server: ServerId) -> bool
+    ensures { result ≡ row.is_awaited awaited.now server }
+{
+    awaited.iter().any(|other| other.0 == server.0)
+}
+
+fn without(
+    alloc: Global,
+    awaited: &[ServerId],
+    server: ServerId,
+) -> Result<List<ServerId>, NoMemory>
+    ensures { IfOk result (λ left. left ≡ row.without awaited.now server) }
+{
+    let left: Vec<ServerId> = awaited
+        .iter()
+        .copied()
+        .filter(|other| other.0 != server.0)
+        .collect(alloc)?;
+    Ok(List::from_vec(left))
+}
+
+fn with_reply(
+    alloc: Global,
+    round: Round,
+    server: ServerId,
+    verdicts: &List<Verdict>,
+    left: List<ServerId>,
+) -> Result<Round, NoMemory>
+    ensures { IfOk result (λ made. made ≡ record round { kept = round.kept ++ record { server = server; verdicts = verdicts.now } ∷ []; awaited = left }) }
+{
+    let mut round = round;
+    round.kept.push(Reply {
+        server,
+        verdicts: verdicts.try_clone(alloc)?,
+    })?;
+    round.awaited = left;
+    Ok(round)
+}
+
+fn agrees(one: &Verdict, other: &Verdict) -> bool
+    ensures { result ≡ row.agrees one.now other.now }
+{
+    one.admin.0 != other.admin.0 || one.version.0 == other.version.0
+}
+
+fn agrees_with_all(one: &Verdict, verdicts: &[Verdict]) -> bool
+    ensures { result ≡ list_all (row.agrees one.now) verdicts.now }
+{
+    verdicts.iter().all(|other| agrees(one, other))
+}
+
+fn have_one_version(verdicts: &[Verdict]) -> bool
+    ensures { result ≡ list_all (λ (one : Verdict). list_all (row.agrees one) verdicts.now) verdicts.now }
+{
+    verdicts.iter().all(|one| agrees_with_all(one, verdicts))
+}
+
+fn are_true(verdicts: &[Verdict]) -> bool
+    ensures { result ≡ list_all row.is_true_verdict verdicts.now }
+{
+    verdicts.iter().all(|verdict| verdict.rule.is_some())
+}
+
+fn are_agreed(verdicts: &[Verdict]) -> bool
+    ensures { result ≡ row.are_agreed verdicts.now }
+{
+    are_true(verdicts) && have_one_version(verdicts)
+}
