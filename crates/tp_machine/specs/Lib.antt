@@ -1,4 +1,8 @@
+pub mod Acts
 pub mod Effect
+pub mod Flags
+pub mod History
+pub mod Machine
 pub mod Table
 pub mod coord
 pub mod offices

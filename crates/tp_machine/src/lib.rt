@@ -1,12 +1,20 @@
 //! The cluster as a machine: actors, their logs, the mails between them, and the facts that they make.
 #![tactic(auto)]
 
+mod actors;
 mod coord;
+mod error;
+mod history;
 mod offices;
+mod part;
 mod reaction;
 mod server;
 mod table;
 
+pub use actors::Actors;
 pub use coord::{Coordinator, Phase, Reply, Round};
+pub use error::StepError;
+pub use history::History;
 pub use offices::Authority;
+pub use part::{Act, Part};
 pub use server::{Ballot, Entry, Server};

@@ -1,0 +1,283 @@
+-- The cluster as a machine: its state, what a step does to it, and the state after a list of steps.
+use Rattle.std.specs.Prelude.{ℕ, ◌+◌, ◌-◌, ◌==◌, List, [], ◌∷◌, ◌++◌, length, map, filter, drop, slice_get, slice_set, Bool, true, false, not, Option, Some, None, is_some, is_none, nat_lt, unwrap_or, ℤ, if◌then◌else◌}
+use Rattle.std.specs.List.{flat_map, range_with_len}
+use Rattle.std.specs.Option.{option_map_or}
+use Rattle.tp_types.specs.declared.fact.Ending.{Ending}
+use Rattle.tp_types.specs.declared.fact.Fact.{Fact}
+use Rattle.tp_types.specs.declared.fact.What.{What}
+use Rattle.tp_types.specs.declared.fact.What.TheVariants as what
+use Rattle.tp_types.specs.declared.ids.ServerId.{ServerId}
+use Rattle.tp_types.specs.declared.ids.TxnId.{TxnId}
+use Rattle.tp_types.specs.declared.mail.Letter.{Letter}
+use Rattle.tp_types.specs.declared.mail.Mail.{Mail}
+use Rattle.tp_types.specs.declared.records.Record.{Record}
+use Rattle.tp_types.specs.declared.records.Record.TheVariants as log
+use Rattle.tp_types.specs.declared.scenario.Actor.{Actor}
+use Rattle.tp_types.specs.declared.scenario.Actor.TheVariants as actor
+use Rattle.tp_types.specs.declared.scenario.Item.{Item}
+use Rattle.tp_types.specs.declared.scenario.Scenario.{Scenario}
+use Rattle.tp_types.specs.declared.scenario.Step.{Step}
+use Rattle.tp_types.specs.declared.scenario.Step.TheVariants as step
+use Rattle.tp_machine.specs.declared.actors.Actors.{Actors}
+use Rattle.tp_machine.specs.declared.coord.Coordinator.{Coordinator}
+use Rattle.tp_machine.specs.declared.error.StepError.{StepError}
+use Rattle.tp_machine.specs.declared.error.StepError.TheVariants as error
+use Rattle.tp_machine.specs.declared.part.Part.{Part}
+use Rattle.tp_machine.specs.declared.server.Server.{Server}
+use Rattle.tp_machine.specs.Effect.{Effect}
+use Rattle.tp_machine.specs.coord.Opened as coord
+use Rattle.tp_machine.specs.coord.Row.{coordinator_row, submit_row, placed}
+use Rattle.tp_machine.specs.offices.Authority as office
+use Rattle.tp_machine.specs.server.Opened as server
+use Rattle.tp_machine.specs.server.Row.{server_row}
+
+-- the actors with their logs, every mail ever sent, the facts and the steps
+pub record State : Type 0 where
+  pub actors : Actors
+  pub mails : List Mail
+  pub facts : List Fact
+  pub steps : List Step
+
+-- and the numbers of the mails that are neither delivered nor lost, which rise
+pub record Machine : Type 0 where
+  pub state : State
+  pub undelivered : List ℕ
+
+-- ---- what all steps share
+
+-- what a step did: the actors after it, what happened, and what was sent
+pub record Turn : Type 0 where
+  pub actors : Actors
+  pub happened : List What
+  pub letters : List Letter
+
+-- the letters as mails of these numbers, sent at a place
+abbrev pub posted : ℕ → ℕ → List Letter → List Mail
+posted place number [] = []
+posted place number (letter ∷ letters) = record { number = number; sent = place; letter = letter } ∷ posted place (number + 1) letters
+
+-- what happened, at a place
+abbrev pub noted : ℕ → List What → List Fact
+noted place happened = map (λ (w : What). record { place = place; what = w }) happened
+
+-- a step ends: its letters are posted, its facts are noted, and it is added to the steps
+abbrev pub concluded : State → Step → Turn → State
+concluded w taken turn =
+    record {
+      actors = turn.actors;
+      mails = w.mails ++ posted (length w.steps) (length w.mails) turn.letters;
+      facts = w.facts ++ noted (length w.steps) turn.happened;
+      steps = w.steps ++ taken ∷ [];
+    }
+
+-- no actor acts
+abbrev pub idles : Actors → List What → Turn
+idles actors happened = record { actors = actors; happened = happened; letters = [] }
+
+-- ---- an actor acts
+
+-- an actor after it acted: its part, what happened, and what it sends
+pub record Acted (S : Type 0) : Type 0 where
+  pub part : Part S
+  pub happened : List What
+  pub letters : List Letter
+
+-- the facts of the records that a log gained follow the step's own
+abbrev pub acts : {S : Type 0} → (Record → List What) → List What → List Record → Option S → List Record → List Letter → Acted S
+acts fact own old up kept letters =
+    record { part = record { up = up; log = kept }; happened = own ++ flat_map fact (drop (length old) kept); letters = letters }
+
+-- a log with what was appended to it
+abbrev pub log_with : List Record → Option Record → List Record
+log_with kept None = kept
+log_with kept (Some forced) = kept ++ forced ∷ []
+
+-- an actor that is up acts by its row
+abbrev pub acts_by : {S : Type 0} → (Record → List What) → List What → List Record → Effect S → Acted S
+acts_by fact own old effect = acts fact own old (Some effect.state) (log_with old effect.reaction.append) effect.reaction.letters
+
+-- an actor that is down does nothing, and what was sent to it is gone
+abbrev pub stays_down : {S : Type 0} → Part S → List What → Acted S
+stays_down part own = record { part = part; happened = own; letters = [] }
+
+-- ---- servers
+
+abbrev pub server_fact : ServerId → Record → List What
+server_fact at (log.Settled s) = what.Settled at s.txn s.outcome ∷ []
+server_fact at _ = []
+
+abbrev pub server_takes_up : Scenario → ServerId → Part Server → Mail → Option Server → Acted Server
+server_takes_up sc at part mail None = stays_down part []
+server_takes_up sc at part mail (Some s) = acts_by (server_fact at) [] part.log (server_row sc s mail)
+
+abbrev pub server_takes : Scenario → ServerId → Part Server → Mail → Acted Server
+server_takes sc at part mail = server_takes_up sc at part mail part.up
+
+-- the step in which a server acted
+abbrev pub server_acted : Actors → ServerId → Acted Server → Turn
+server_acted actors at acted =
+    record { actors = record actors { servers = slice_set actors.servers at.0 acted.part }; happened = acted.happened; letters = acted.letters }
+
+abbrev pub to_server : Scenario → Actors → Mail → ServerId → Option (Part Server) → Turn
+to_server sc actors mail at None = idles actors []
+to_server sc actors mail at (Some part) = server_acted actors at (server_takes sc at part mail)
+
+-- ---- coordinators
+
+abbrev pub coordinator_fact : Record → List What
+coordinator_fact (log.Decided d) = what.Decided d.txn d.decision ∷ []
+coordinator_fact _ = []
+
+abbrev pub coordinator_takes_up : Scenario → Part Coordinator → Mail → Option Coordinator → Acted Coordinator
+coordinator_takes_up sc part mail None = stays_down part []
+coordinator_takes_up sc part mail (Some c) = acts_by coordinator_fact [] part.log (coordinator_row sc c mail)
+
+abbrev pub coordinator_takes : Scenario → Part Coordinator → Mail → Acted Coordinator
+coordinator_takes sc part mail = coordinator_takes_up sc part mail part.up
+
+-- the effect of a submission, with its place
+abbrev pub with_age : Effect Coordinator → ℕ → Effect Coordinator
+with_age effect place = record { state = placed effect.state place; reaction = effect.reaction }
+
+abbrev pub coordinator_submits_up : Scenario → Part Coordinator → TxnId → ℕ → Option Coordinator → Acted Coordinator
+coordinator_submits_up sc part txn place None = stays_down part (what.Submitted txn ∷ [])
+coordinator_submits_up sc part txn place (Some c) =
+    acts_by coordinator_fact (what.Submitted txn ∷ []) part.log (with_age (submit_row sc c) place)
+
+abbrev pub coordinator_submits : Scenario → Part Coordinator → TxnId → ℕ → Acted Coordinator
+coordinator_submits sc part txn place = coordinator_submits_up sc part txn place part.up
+
+-- the step in which a coordinator acted
+abbrev pub coordinator_acted : Actors → TxnId → Acted Coordinator → Turn
+coordinator_acted actors txn acted =
+    record { actors = record actors { coordinators = slice_set actors.coordinators txn.0 acted.part }; happened = acted.happened; letters = acted.letters }
+
+abbrev pub to_coordinator : Scenario → Actors → Mail → TxnId → Option (Part Coordinator) → Turn
+to_coordinator sc actors mail txn None = idles actors []
+to_coordinator sc actors mail txn (Some part) = coordinator_acted actors txn (coordinator_takes sc part mail)
+
+abbrev pub submitted_by : Scenario → Actors → TxnId → ℕ → Option (Part Coordinator) → Turn
+submitted_by sc actors txn place None = idles actors (what.Submitted txn ∷ [])
+submitted_by sc actors txn place (Some part) = coordinator_acted actors txn (coordinator_submits sc part txn place)
+
+-- ---- steps
+
+abbrev pub to_authority : Actors → Mail → Turn
+to_authority actors mail =
+    record { actors = actors; happened = []; letters = (office.authority_row actors.authority mail).reaction.letters }
+
+-- a mail is delivered to its actor. The master is not built: what is sent to it is gone
+abbrev pub received : Scenario → Actors → Mail → Actor → Turn
+received sc actors mail (actor.Server at) = to_server sc actors mail at (slice_get actors.servers at.0)
+received sc actors mail (actor.Coordinator txn) = to_coordinator sc actors mail txn (slice_get actors.coordinators txn.0)
+received sc actors mail actor.Authority = to_authority actors mail
+received sc actors mail actor.Master = idles actors []
+
+-- a transaction is submitted
+abbrev pub submitted : Scenario → Actors → TxnId → ℕ → Turn
+submitted sc actors txn place = submitted_by sc actors txn place (slice_get actors.coordinators txn.0)
+
+abbrev pub delivered : Scenario → Actors → Option Mail → Turn
+delivered sc actors None = idles actors []
+delivered sc actors (Some mail) = received sc actors mail mail.letter.to
+
+-- the numbers but this one
+abbrev pub without_number : List ℕ → ℕ → List ℕ
+without_number numbers number = filter (λ (other : ℕ). not (other == number)) numbers
+
+-- the mails that were sent since are undelivered too
+abbrev pub with_new : State → State → List ℕ → Machine
+with_new before after undelivered =
+    record { state = after; undelivered = undelivered ++ range_with_len (length before.mails) (length after.mails - length before.mails) }
+
+-- what a step does that is not refused. Other steps are not built, and change nothing
+abbrev pub done : Scenario → Machine → Step → Machine
+done sc m (step.Submit txn) =
+    with_new m.state (concluded m.state (step.Submit txn) (submitted sc m.state.actors txn (length m.state.steps))) m.undelivered
+done sc m (step.Deliver mail) =
+    with_new m.state (concluded m.state (step.Deliver mail) (delivered sc m.state.actors (slice_get m.state.mails mail)))
+    (without_number m.undelivered mail)
+done sc m (step.Lose mail) =
+    with_new m.state (concluded m.state (step.Lose mail) (idles m.state.actors (what.Lost mail ∷ []))) (without_number m.undelivered mail)
+done sc m _ = m
+
+-- a coordinator that is down was submitted before
+abbrev pub is_part_submitted : Option Coordinator → Bool
+is_part_submitted None = true
+is_part_submitted (Some c) = is_some c.age
+
+-- the transaction was submitted
+abbrev pub is_submitted : State → TxnId → Bool
+is_submitted w txn = option_map_or (λ (part : Part Coordinator). is_part_submitted part.up) (slice_get w.actors.coordinators txn.0) false
+
+abbrev pub missing_mail : State → ℕ → Option StepError
+missing_mail w mail = if nat_lt mail (length w.mails) then None else Some (error.NoSuchMail mail (length w.mails))
+
+-- why a step is refused, if it is
+abbrev pub refusal : State → Step → Option StepError
+refusal w (step.Submit txn) = if is_submitted w txn then Some (error.AlreadySubmitted txn) else None
+refusal w (step.Deliver mail) = missing_mail w mail
+refusal w (step.Lose mail) = missing_mail w mail
+refusal w _ = None
+
+-- a step that is refused changes nothing
+abbrev pub after_step : Scenario → Machine → Step → Machine
+after_step sc m taken = if is_some (refusal m.state taken) then m else done sc m taken
+
+-- the machine after a list of steps
+abbrev pub after_steps : Scenario → Machine → List Step → Machine
+after_steps sc m [] = m
+after_steps sc m (taken ∷ others) = after_steps sc (after_step sc m taken) others
+
+-- ---- before the first step
+
+abbrev pub opened_part : {S : Type 0} → S → Part S
+opened_part state = record { up = Some state; log = [] }
+
+-- the actors as they stand before the first step
+abbrev pub opened_actors : Scenario → Actors
+opened_actors sc =
+    record {
+      servers = map (λ (n : ℕ). opened_part (server.opened sc (record { 0 = n }))) (range_with_len 0 (length sc.servers));
+      coordinators = map (λ (n : ℕ). opened_part (coord.idle sc (record { 0 = n }))) (range_with_len 0 (length sc.txns));
+      authority = office.opened sc;
+    }
+
+abbrev pub opening_state : Scenario → State
+opening_state sc = record { actors = opened_actors sc; mails = []; facts = []; steps = [] }
+
+-- the world before the first step
+abbrev pub opening : Scenario → Machine
+opening sc = record { state = opening_state sc; undelivered = [] }
+
+-- the machine is what the scenario's world is after these steps
+abbrev pub after : Scenario → List Step → Machine
+after sc taken = after_steps sc (opening sc) taken
+
+-- ---- what is seen
+
+abbrev pub is_part_down : {S : Type 0} → Part S → Bool
+is_part_down part = is_none part.up
+
+-- whether an actor is down; the offices never are
+abbrev pub is_down : Actors → Actor → Bool
+is_down actors (actor.Server at) = option_map_or is_part_down (slice_get actors.servers at.0) false
+is_down actors (actor.Coordinator txn) = option_map_or is_part_down (slice_get actors.coordinators txn.0) false
+is_down actors _ = false
+
+abbrev pub value_up : Option Server → ℕ → ℤ → ℤ
+value_up None item opening = opening
+value_up (Some s) item opening = unwrap_or (slice_get s.values item) opening
+
+-- the value of an item at its server; what a server that is down holds is not built
+abbrev pub item_value : List (Part Server) → ℕ → Item → ℤ
+item_value servers item declared = option_map_or (λ (part : Part Server). value_up part.up item declared.value) (slice_get servers declared.server.0) declared.value
+
+-- the values of items, the first having this number
+abbrev pub item_values : List (Part Server) → ℕ → List Item → List ℤ
+item_values servers first [] = []
+item_values servers first (item ∷ items) = item_value servers first item ∷ item_values servers (first + 1) items
+
+-- how many steps and mails there were, and the value of each item
+abbrev pub ending_of : Scenario → State → Ending
+ending_of sc w = record { steps = length w.steps; mails = length w.mails; values = item_values w.actors.servers 0 sc.items }

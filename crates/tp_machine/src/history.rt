@@ -1,0 +1,161 @@
+//! What the world keeps of its run: the steps, the facts, and every mail with whether it is undelivered.
+ghost use Rattle.std.specs.Prelude.{◌≡◌, ◌+◌, ◌≤◌, ◌<◌, ℕ, [], ◌∷◌, ◌++◌, length, take, drop, replicate, slice_set, true, false, IfOk, OnOk, OnErr};
+ghost use Rattle.tp_machine.specs.Flags.{first_marked};
+ghost use Rattle.tp_machine.specs.Machine.{noted, posted};
+
+use std::alloc::Global;
+use tp_types::{Fact, Letter, List, Mail, NoMemory, Place, Step, What};
+
+/// The steps, facts and mails of a run so far.
+#[derive(Drop)]
+pub struct History {
+    pub steps: List<Step>,
+    pub facts: List<Fact>,
+    pub mails: List<Mail>,
+    /// Of each mail, whether it is neither delivered nor lost.
+    pub pending: List<bool>,
+    /// The number of mails before the first that is pending.
+    pub oldest: usize,
+    ghost flagged: { length pending ≡ length mails },
+    ghost first: { oldest ≡ first_marked pending },
+}
+
+impl History {
+    ghost use Rattle.tp_machine.specs.History.{Notes, SameHistory};
+
+    /// Before the first step.
+    pub fn new(alloc: Global) -> History
+        ensures steps { result.steps ≡ [] }
+        ensures facts { result.facts ≡ [] }
+        ensures mails { result.mails ≡ [] }
+        ensures pending { result.pending ≡ [] }
+    {
+        History {
+            steps: List::new(alloc),
+            facts: List::new(alloc),
+            mails: List::new(alloc),
+            pending: List::new(alloc),
+            oldest: 0,
+        }
+    }
+
+    /// Adds a step with what happened in it and its letters, which become mails. Where memory is refused nothing is added.
+    pub fn note(
+        &mut self,
+        taken: Step,
+        happened: List<What>,
+        letters: List<Letter>,
+    ) -> Result<(), NoMemory>
+        ensures ok { OnOk result (Notes self.old self.new taken happened letters) }
+        ensures err { OnErr result (SameHistory self.old self.new) }
+    {
+        let steps = self.steps.len();
+        let facts = self.facts.len();
+        let mails = self.mails.len();
+        let added = add(
+            &mut self.steps,
+            &mut self.facts,
+            &mut self.mails,
+            &mut self.pending,
+            taken,
+            happened,
+            letters,
+        );
+        match added {
+            Ok(()) => Ok(()),
+            Err(refused) => {
+                self.steps.truncate(steps);
+                self.facts.truncate(facts);
+                self.mails.truncate(mails);
+                self.pending.truncate(mails);
+                Err(refused)
+            }
+        }
+    }
+
+    /// Marks a mail as no longer undelivered.
+    pub fn mark(&mut self, number: usize)
+        ensures steps { self.new.steps ≡ self.old.steps }
+        ensures facts { self.new.facts ≡ self.old.facts }
+        ensures mails { self.new.mails ≡ self.old.mails }
+        ensures pending { self.new.pending ≡ slice_set self.old.pending number false }
+    {
+        self.pending.put(number, false);
+        self.oldest = first_from(self.pending.as_slice(), self.oldest);
+    }
+}
+
+/// Adds to each list. Where memory is refused each list still begins with what it had.
+fn add(
+    steps: &mut List<Step>,
+    facts: &mut List<Fact>,
+    mails: &mut List<Mail>,
+    pending: &mut List<bool>,
+    taken: Step,
+    happened: List<What>,
+    letters: List<Letter>,
+) -> Result<(), NoMemory>
+    ensures steps { OnOk result (steps.new ≡ steps.old ++ taken ∷ []) }
+    ensures facts { OnOk result (facts.new ≡ facts.old ++ noted (length steps.old) happened) }
+    ensures mails { OnOk result (mails.new ≡ mails.old ++ posted (length steps.old) (length mails.old) letters) }
+    ensures pending { OnOk result (pending.new ≡ pending.old ++ replicate (length letters) true) }
+    ensures steps_kept { take (length steps.old) steps.new ≡ steps.old }
+    ensures facts_kept { take (length facts.old) facts.new ≡ facts.old }
+    ensures mails_kept { take (length mails.old) mails.new ≡ mails.old }
+    ensures pending_kept { take (length pending.old) pending.new ≡ pending.old }
+{
+    let place = steps.len() as u64;
+    steps.push(taken)?;
+    add_facts(facts, place, happened)?;
+    post(mails, pending, place, letters)
+}
+
+fn add_facts(facts: &mut List<Fact>, place: Place, happened: List<What>) -> Result<(), NoMemory>
+    ensures ok { OnOk result (facts.new ≡ facts.old ++ noted place happened) }
+    ensures kept { take (length facts.old) facts.new ≡ facts.old }
+{
+    let mut left = happened.into_vec();
+    while !left.is_empty() {
+        let what = left.remove(0);
+        facts.push(Fact { place, what })?;
+    }
+    Ok(())
+}
+
+fn post(
+    mails: &mut List<Mail>,
+    pending: &mut List<bool>,
+    sent: Place,
+    letters: List<Letter>,
+) -> Result<(), NoMemory>
+    ensures mails { OnOk result (mails.new ≡ mails.old ++ posted sent (length mails.old) letters) }
+    ensures pending { OnOk result (pending.new ≡ pending.old ++ replicate (length letters) true) }
+    ensures mails_kept { take (length mails.old) mails.new ≡ mails.old }
+    ensures pending_kept { take (length pending.old) pending.new ≡ pending.old }
+{
+    let mut left = letters.into_vec();
+    while !left.is_empty() {
+        let letter = left.remove(0);
+        let number = mails.len() as u64;
+        mails.push(Mail {
+            number,
+            sent,
+            letter,
+        })?;
+        pending.push(true)?;
+    }
+    Ok(())
+}
+
+/// The first place from here on whose flag is set, or the length.
+fn first_from(pending: &[bool], from: usize) -> usize
+    requires { from ≤ length pending.now }
+    ensures { result ≡ from + first_marked (drop from pending.now) }
+{
+    for at in from..pending.len() {
+        if pending[at] {
+            return at;
+        }
+    }
+    pending.len()
+}
