@@ -1,8 +1,9 @@
 -- Laws of the flags of undelivered mails.
-use Rattle.std.proofs.Common.{◌≡◌, ℕ, zero, suc, ◌+◌, ◌<◌, ◌≤◌, ◌==◌, List, [], ◌∷◌, ◌++◌, length, drop, replicate, slice_get, slice_set, Bool, true, false, Some, None, unwrap_or, refl, sym, subst, ◌∙◌, ap, arith, if◌then◌else◌, nat_lt}
+use Rattle.std.proofs.Common.{◌≡◌, ℕ, zero, suc, ◌+◌, ◌<◌, ◌≤◌, ◌==◌, List, [], ◌∷◌, ◌++◌, length, drop, replicate, slice_get, slice_set, Bool, true, false, not, Some, None, unwrap_or, refl, sym, subst, ◌∙◌, ap, arith, if◌then◌else◌, nat_lt}
 use Rattle.std.specs.List.{range_with_len, list_any}
 use Rattle.std.proofs.lemmas.Bool.Decides.{nat_tests}
 use Rattle.std.proofs.lemmas.List.{length-append, length-replicate}
+use Rattle.std.proofs.lemmas.List.Elements.{filter-append}
 use Rattle.tp_types.specs.declared.mail.Letter.{Letter}
 use Rattle.tp_types.specs.declared.mail.Mail.{Mail}
 use Rattle.tp_machine.specs.Flags.{marked, first_marked}
@@ -109,3 +110,29 @@ pub length-flags_posted : (place : ℕ) (flags : List Bool) (mails : List Mail) 
     → length (flags ++ replicate (length letters) true) ≡ length (mails ++ posted place (length mails) letters)
 length-flags_posted place flags mails letters same =
     omega (arith, same, length-append flags (replicate (length letters) true), length-replicate (length letters) true, length-append mails (posted place (length mails) letters), length_posted place (length mails) letters)
+
+-- the same from the first flag on
+pub any-marked_all : (k : ℕ) (flags : List Bool) → list_any (λ (m : ℕ). m == k) (marked 0 flags) ≡ unwrap_or (slice_get flags k) false
+any-marked_all k flags =
+    let same : 0 + k ≡ k = omega arith in
+    subst (λ (j : ℕ). list_any (λ (m : ℕ). m == j) (marked 0 flags) ≡ unwrap_or (slice_get flags k) false) same (any-marked 0 k flags)
+
+-- flags that are added at the end add their numbers
+pub marked-posted : (flags : List Bool) (count : ℕ) → marked 0 (flags ++ replicate count true) ≡ marked 0 flags ++ range_with_len (length flags) count
+marked-posted flags count =
+    marked-append 0 flags (replicate count true)
+    ∙ (ap (λ k. marked 0 flags ++ marked k (replicate count true)) (omega arith) ∙ ap (λ ns. marked 0 flags ++ ns) (marked-replicate (length flags) count))
+
+-- and one before them may be taken down
+pub marked-posted_cleared : (flags : List Bool) (count k : ℕ) → k < length flags
+    → marked 0 (slice_set (flags ++ replicate count true) k false) ≡ without_number (marked 0 flags) k ++ range_with_len (length flags) count
+marked-posted_cleared flags count k h =
+    let same : 0 + k ≡ k = omega arith in
+    let all = marked-cleared 0 k (flags ++ replicate count true) in
+    let later : without_number (range_with_len (length flags) count) k ≡ range_with_len (length flags) count =
+    subst (λ (ns : List ℕ). without_number ns k ≡ ns) (marked-replicate (length flags) count) (marked-without_below (length flags) k (replicate count true) h) in
+    all
+    ∙ (ap (without_number (marked 0 (flags ++ replicate count true))) same
+    ∙ (ap (λ (ns : List ℕ). without_number ns k) (marked-posted flags count)
+    ∙ (filter-append (λ (other : ℕ). not (other == k)) (marked 0 flags) (range_with_len (length flags) count)
+    ∙ ap (λ (ns : List ℕ). without_number (marked 0 flags) k ++ ns) later)))

@@ -1,2 +1,4 @@
 pub mod FlagsLemmas
+pub mod MachineLemmas
+pub mod OpenedLemmas
 pub mod TableLemmas

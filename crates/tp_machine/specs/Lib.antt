@@ -3,6 +3,7 @@ pub mod Effect
 pub mod Flags
 pub mod History
 pub mod Machine
+pub mod Seen
 pub mod Table
 pub mod coord
 pub mod offices

@@ -207,17 +207,17 @@ is_part_submitted None = true
 is_part_submitted (Some c) = is_some c.age
 
 -- the transaction was submitted
-abbrev pub is_submitted : State → TxnId → Bool
-is_submitted w txn = option_map_or (λ (part : Part Coordinator). is_part_submitted part.up) (slice_get w.actors.coordinators txn.0) false
+abbrev pub is_submitted : Actors → TxnId → Bool
+is_submitted actors txn = option_map_or (λ (part : Part Coordinator). is_part_submitted part.up) (slice_get actors.coordinators txn.0) false
 
-abbrev pub missing_mail : State → ℕ → Option StepError
-missing_mail w mail = if nat_lt mail (length w.mails) then None else Some (error.NoSuchMail mail (length w.mails))
+abbrev pub missing_mail : List Mail → ℕ → Option StepError
+missing_mail mails mail = if nat_lt mail (length mails) then None else Some (error.NoSuchMail mail (length mails))
 
 -- why a step is refused, if it is
 abbrev pub refusal : State → Step → Option StepError
-refusal w (step.Submit txn) = if is_submitted w txn then Some (error.AlreadySubmitted txn) else None
-refusal w (step.Deliver mail) = missing_mail w mail
-refusal w (step.Lose mail) = missing_mail w mail
+refusal w (step.Submit txn) = if is_submitted w.actors txn then Some (error.AlreadySubmitted txn) else None
+refusal w (step.Deliver mail) = missing_mail w.mails mail
+refusal w (step.Lose mail) = missing_mail w.mails mail
 refusal w _ = None
 
 -- a step that is refused changes nothing
@@ -234,12 +234,20 @@ after_steps sc m (taken ∷ others) = after_steps sc (after_step sc m taken) oth
 abbrev pub opened_part : {S : Type 0} → S → Part S
 opened_part state = record { up = Some state; log = [] }
 
+-- the first servers of a scenario, so many
+abbrev pub opened_servers : Scenario → ℕ → List (Part Server)
+opened_servers sc count = map (λ (n : ℕ). opened_part (server.opened sc (record { 0 = n }))) (range_with_len 0 count)
+
+-- the coordinators of its first transactions, so many
+abbrev pub idle_coordinators : Scenario → ℕ → List (Part Coordinator)
+idle_coordinators sc count = map (λ (n : ℕ). opened_part (coord.idle sc (record { 0 = n }))) (range_with_len 0 count)
+
 -- the actors as they stand before the first step
 abbrev pub opened_actors : Scenario → Actors
 opened_actors sc =
     record {
-      servers = map (λ (n : ℕ). opened_part (server.opened sc (record { 0 = n }))) (range_with_len 0 (length sc.servers));
-      coordinators = map (λ (n : ℕ). opened_part (coord.idle sc (record { 0 = n }))) (range_with_len 0 (length sc.txns));
+      servers = opened_servers sc (length sc.servers);
+      coordinators = idle_coordinators sc (length sc.txns);
       authority = office.opened sc;
     }
 

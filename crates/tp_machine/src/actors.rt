@@ -1,5 +1,5 @@
 //! All the actors of a world, and what a step does to them.
-ghost use Rattle.std.specs.Prelude.{◌≡◌, ◌<◌, ◌^◌, ◌∷◌, [], length, map, slice_get, IfOk, OnErr};
+ghost use Rattle.std.specs.Prelude.{◌≡◌, ◌<◌, ◌^◌, ◌∷◌, [], length, map, slice_get, IfOk};
 ghost use Rattle.tp_machine.specs.Machine as machine;
 
 use crate::coord::Coordinator;
@@ -7,7 +7,9 @@ use crate::offices::Authority;
 use crate::part::{Act, Part, coordinator_submits, coordinator_takes, no_act, server_takes};
 use crate::server::Server;
 use std::alloc::Global;
-use tp_types::{Actor, List, Mail, NoMemory, Place, Reaction, Scenario, ServerId, TxnId, What};
+use tp_types::{
+    Actor, Item, List, Mail, NoMemory, Place, Reaction, Scenario, ServerId, TxnId, What,
+};
 
 /// The servers, the coordinators, each with its log, and the offices.
 #[derive(Drop)]
@@ -20,6 +22,43 @@ pub struct Actors {
 impl Actors {
     ghost use Rattle.tp_machine.specs.Acts.{Turns, SameUp};
 
+    /// The actors as they stand before the first step.
+    pub fn opened(alloc: Global, scenario: &Scenario) -> Result<Actors, NoMemory>
+        requires servers { length scenario.now.servers < 2 ^ 32 }
+        requires txns { length scenario.now.txns < 2 ^ 32 }
+        ensures { IfOk result (λ made. made ≡ machine.opened_actors scenario.now) }
+    {
+        Ok(Actors {
+            servers: opened_servers(alloc, scenario)?,
+            coordinators: idle_coordinators(alloc, scenario)?,
+            authority: Authority::opened(alloc, scenario)?,
+        })
+    }
+
+    /// Whether an actor is down. The offices never are.
+    pub fn is_down(&self, actor: Actor) -> bool
+        ensures { result ≡ machine.is_down self.now actor }
+    {
+        match actor {
+            Actor::Server(at) => match self.servers.get(at.0 as usize) {
+                None => false,
+                Some(part) => part.up.is_none(),
+            },
+            Actor::Coordinator(txn) => match self.coordinators.get(txn.0 as usize) {
+                None => false,
+                Some(part) => part.up.is_none(),
+            },
+            _ => false,
+        }
+    }
+
+    /// The value of each item.
+    pub fn values(&self, alloc: Global, items: &[Item]) -> Result<List<i128>, NoMemory>
+        ensures { IfOk result (λ values. values ≡ machine.item_values self.now.servers 0 items.now) }
+    {
+        item_values(alloc, self.servers.as_slice(), items)
+    }
+
     /// A mail is delivered to its actor. After NoMemory the actors are up as before, and nothing else is said of them.
     pub fn receive(
         &mut self,
@@ -28,7 +67,7 @@ impl Actors {
         mail: &Mail,
     ) -> Result<Act, NoMemory>
         ensures ok { IfOk result (λ act. Turns (machine.received scenario.now self.old mail.now mail.now.letter.to) self.new act) }
-        ensures err { OnErr result (SameUp self.old self.new) }
+        ensures up { SameUp self.old self.new }
     {
         match mail.letter.to {
             Actor::Server(at) => self.to_server(alloc, scenario, mail, at),
@@ -46,7 +85,7 @@ impl Actors {
         at: ServerId,
     ) -> Result<Act, NoMemory>
         ensures ok { IfOk result (λ act. Turns (machine.to_server scenario.now self.old mail.now at (slice_get self.old.servers at.0)) self.new act) }
-        ensures err { OnErr result (SameUp self.old self.new) }
+        ensures up { SameUp self.old self.new }
     {
         match self.servers.get_mut(at.0 as usize) {
             None => Ok(no_act(alloc)),
@@ -62,7 +101,7 @@ impl Actors {
         txn: TxnId,
     ) -> Result<Act, NoMemory>
         ensures ok { IfOk result (λ act. Turns (machine.to_coordinator scenario.now self.old mail.now txn (slice_get self.old.coordinators txn.0)) self.new act) }
-        ensures err { OnErr result (SameUp self.old self.new) }
+        ensures up { SameUp self.old self.new }
     {
         match self.coordinators.get_mut(txn.0 as usize) {
             None => Ok(no_act(alloc)),
@@ -89,7 +128,7 @@ impl Actors {
         place: Place,
     ) -> Result<Act, NoMemory>
         ensures ok { IfOk result (λ act. Turns (machine.submitted scenario.now self.old txn place) self.new act) }
-        ensures err { OnErr result (SameUp self.old self.new) }
+        ensures up { SameUp self.old self.new }
     {
         match self.coordinators.get_mut(txn.0 as usize) {
             None => Ok(Act {
@@ -99,4 +138,73 @@ impl Actors {
             Some(part) => coordinator_submits(part, alloc, scenario, txn, place),
         }
     }
+}
+
+fn item_values(
+    alloc: Global,
+    servers: &[Part<Server>],
+    items: &[Item],
+) -> Result<List<i128>, NoMemory>
+    ensures { IfOk result (λ values. values ≡ machine.item_values servers.now 0 items.now) }
+{
+    let mut values = List::new(alloc);
+    for (at, item) in items.iter().enumerate() {
+        values.push(item_value(servers, at, item))?;
+    }
+    Ok(values)
+}
+
+fn item_value(servers: &[Part<Server>], at: usize, item: &Item) -> i128
+    ensures { result ≡ machine.item_value servers.now at item.now }
+{
+    match servers.get(item.server.0 as usize) {
+        None => i128::from(item.value),
+        Some(part) => value_up(&part.up, at, i128::from(item.value)),
+    }
+}
+
+fn value_up(up: &Option<Server>, at: usize, opening: i128) -> i128
+    ensures { result ≡ machine.value_up up.now at opening }
+{
+    match up {
+        None => opening,
+        Some(server) => match server.values.get(at) {
+            None => opening,
+            Some(value) => *value,
+        },
+    }
+}
+
+#[tactic(auto, using(crate::proofs::OpenedLemmas::opened_servers_more))]
+fn opened_servers(alloc: Global, scenario: &Scenario) -> Result<List<Part<Server>>, NoMemory>
+    requires { length scenario.now.servers < 2 ^ 32 }
+    ensures { IfOk result (λ made. made ≡ machine.opened_servers scenario.now (length scenario.now.servers)) }
+{
+    let mut made = List::new(alloc);
+    for number in 0..scenario.servers.len() as u32 {
+        made.push(Part {
+            up: Some(Server::opened(alloc, scenario, ServerId(number))?),
+            log: List::new(alloc),
+        })?;
+    }
+    Ok(made)
+}
+
+#[tactic(auto, using(crate::proofs::OpenedLemmas::idle_coordinators_more))]
+fn idle_coordinators(
+    alloc: Global,
+    scenario: &Scenario,
+) -> Result<List<Part<Coordinator>>, NoMemory>
+    requires servers { length scenario.now.servers < 2 ^ 32 }
+    requires txns { length scenario.now.txns < 2 ^ 32 }
+    ensures { IfOk result (λ made. made ≡ machine.idle_coordinators scenario.now (length scenario.now.txns)) }
+{
+    let mut made = List::new(alloc);
+    for number in 0..scenario.txns.len() as u32 {
+        made.push(Part {
+            up: Some(Coordinator::idle(alloc, scenario, TxnId(number))?),
+            log: List::new(alloc),
+        })?;
+    }
+    Ok(made)
 }

@@ -1,6 +1,7 @@
 //! What the world keeps of its run: the steps, the facts, and every mail with whether it is undelivered.
-ghost use Rattle.std.specs.Prelude.{◌≡◌, ◌+◌, ◌≤◌, ◌<◌, ℕ, [], ◌∷◌, ◌++◌, length, take, drop, replicate, slice_set, true, false, IfOk, OnOk, OnErr};
-ghost use Rattle.tp_machine.specs.Flags.{first_marked};
+ghost use Rattle.std.specs.Prelude.{◌≡◌, ◌+◌, ◌≤◌, ◌<◌, ℕ, [], ◌∷◌, ◌++◌, length, take, drop, replicate, slice_get, slice_set, ◌==◌, true, false, IfOk, OnOk, OnErr};
+ghost use Rattle.tp_machine.specs.Flags.{first_marked, marked};
+ghost use Rattle.std.specs.List.{list_any};
 ghost use Rattle.tp_machine.specs.Machine.{noted, posted};
 
 use std::alloc::Global;
@@ -36,6 +37,27 @@ impl History {
             mails: List::new(alloc),
             pending: List::new(alloc),
             oldest: 0,
+        }
+    }
+
+    /// Whether a mail of this number was sent, and is neither delivered nor lost.
+    pub fn is_pending(&self, number: usize) -> bool
+        ensures { result ≡ list_any (λ (other : ℕ). other == number) (marked 0 self.now.pending) }
+    {
+        match self.pending.get(number) {
+            None => false,
+            Some(flag) => *flag,
+        }
+    }
+
+    /// The least number of a pending mail, or None exactly where there is none.
+    pub fn oldest_pending(&self) -> Option<u64>
+        ensures { result ≡ slice_get (marked 0 self.now.pending) 0 }
+    {
+        if self.oldest < self.pending.len() {
+            Some(self.oldest as u64)
+        } else {
+            None
         }
     }
 

@@ -2,6 +2,7 @@
 #![tactic(auto)]
 
 mod actors;
+mod acts;
 mod coord;
 mod error;
 mod history;
@@ -10,6 +11,7 @@ mod part;
 mod reaction;
 mod server;
 mod table;
+mod world;
 
 pub use actors::Actors;
 pub use coord::{Coordinator, Phase, Reply, Round};
@@ -18,3 +20,4 @@ pub use history::History;
 pub use offices::Authority;
 pub use part::{Act, Part};
 pub use server::{Ballot, Entry, Server};
+pub use world::World;

@@ -1,5 +1,5 @@
 //! An actor with its log, and what it does to both when it acts.
-ghost use Rattle.std.specs.Prelude.{◌≡◌, [], ◌++◌, IfOk, OnOk, OnErr};
+ghost use Rattle.std.specs.Prelude.{◌≡◌, [], ◌++◌, IfOk, OnOk};
 ghost use Rattle.std.specs.Option.{option_map_or};
 ghost use Rattle.tp_machine.specs.Acts.{Acts};
 ghost use Rattle.tp_machine.specs.Machine as machine;
@@ -45,7 +45,7 @@ pub fn server_takes(
     mail: &Mail,
 ) -> Result<Act, NoMemory>
     ensures ok { IfOk result (λ act. Acts (machine.server_takes scenario.now at part.old mail.now) part.new act) }
-    ensures err { OnErr result (machine.is_part_down part.new ≡ machine.is_part_down part.old) }
+    ensures up { machine.is_part_down part.new ≡ machine.is_part_down part.old }
 {
     let Some(server) = &mut part.up else {
         return Ok(no_act(alloc));
@@ -64,7 +64,7 @@ pub fn coordinator_takes(
     mail: &Mail,
 ) -> Result<Act, NoMemory>
     ensures ok { IfOk result (λ act. Acts (machine.coordinator_takes scenario.now part.old mail.now) part.new act) }
-    ensures err { OnErr result (machine.is_part_down part.new ≡ machine.is_part_down part.old) }
+    ensures up { machine.is_part_down part.new ≡ machine.is_part_down part.old }
 {
     let Some(coordinator) = &mut part.up else {
         return Ok(no_act(alloc));
@@ -85,7 +85,7 @@ pub fn coordinator_submits(
     place: Place,
 ) -> Result<Act, NoMemory>
     ensures ok { IfOk result (λ act. Acts (machine.coordinator_submits scenario.now part.old txn place) part.new act) }
-    ensures err { OnErr result (machine.is_part_down part.new ≡ machine.is_part_down part.old) }
+    ensures up { machine.is_part_down part.new ≡ machine.is_part_down part.old }
 {
     let mut happened = List::of_one(alloc, What::Submitted(txn))?;
     let Some(coordinator) = &mut part.up else {

@@ -1,13 +1,10 @@
 use Rattle.std.proofs.Common.{refl}
-use Rattle.std.proofs.lemmas.Result.{on_err_weaker}
 use Rattle.tp_machine.proofs.TableLemmas.{same_up}
 use Rattle.tp_machine.proofs.actors.Actors.submit.Goals as goal
 
-pub returns-in-Some-clause-err : goal.returns-in-Some-clause-err
-returns-in-Some-clause-err c =
-    on_err_weaker c.coordinator_submits.result
-    (λ kept. record {
-      coordinators = same_up c.args.self.now.coordinators c.args.txn.0 c.in-Some.part.now c.coordinator_submits.new.part c.in-Some.ensures.item.1 kept;
+pub returns-in-Some-clause-up : goal.returns-in-Some-clause-up
+returns-in-Some-clause-up c =
+    record {
+      coordinators = same_up c.args.self.now.coordinators c.args.txn.0 c.in-Some.part.now c.coordinator_submits.new.part c.in-Some.ensures.item.1 c.coordinator_submits.ensures.up;
       servers = refl;
-    })
-    c.coordinator_submits.ensures.err
+    }

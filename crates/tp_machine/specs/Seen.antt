@@ -1,0 +1,59 @@
+-- A world as its callers see it.
+use Rattle.std.specs.Prelude.{◌≡◌, Bool, true, false, Some, None}
+use Rattle.tp_types.specs.declared.scenario.Scenario.{Scenario}
+use Rattle.tp_types.specs.declared.scenario.Step.{Step}
+use Rattle.tp_types.specs.declared.scenario.Step.TheVariants as step
+use Rattle.tp_machine.specs.declared.actors.Actors.{Actors}
+use Rattle.tp_machine.specs.declared.history.History.{History}
+use Rattle.tp_machine.specs.declared.error.StepError.{StepError}
+use Rattle.tp_machine.specs.Acts.{SameUp}
+use Rattle.tp_machine.specs.Flags.{marked}
+use Rattle.tp_machine.specs.Machine.{State, Machine, after, done, opening, refusal}
+
+-- the state of these actors with this history
+abbrev pub state_of : Actors → History → State
+state_of actors history = record { actors = actors; mails = history.mails; facts = history.facts; steps = history.steps }
+
+abbrev pub machine_of : Actors → History → Machine
+machine_of actors history = record { state = state_of actors history; undelivered = marked 0 history.pending }
+
+-- the scenario of the start, whether the world is given up, and the machine
+pub record Seen : Type 0 where
+  pub scenario : Scenario
+  pub given_up : Bool
+  pub machine : Machine
+
+-- the world before the first step
+abbrev pub started : Scenario → Seen
+started sc = record { scenario = sc; given_up = false; machine = opening sc }
+
+-- the machine is what the scenario and its steps give
+abbrev pub IsReached : Seen → Type 0
+IsReached world = world.given_up ≡ false → world.machine ≡ after world.scenario world.machine.state.steps
+
+-- a step of a kind that is built: a submission, or the delivery of a mail
+abbrev pub IsTaken : Step → Type 0
+IsTaken (step.Submit txn) = Unit {0}
+IsTaken (step.Deliver mail) = Unit {0}
+IsTaken _ = ⊥
+
+-- the step was not refused, and was done
+pub record Does (old new : Seen) (taken : Step) : Type 0 where
+  pub was_up : old.given_up ≡ false
+  pub not_refused : refusal old.machine.state taken ≡ None
+  pub now : new ≡ record old { machine = done old.scenario old.machine taken }
+
+-- the step was refused, and nothing changed
+pub record Refuses (old new : Seen) (taken : Step) (why : StepError) : Type 0 where
+  pub was_up : old.given_up ≡ false
+  pub reason : refusal old.machine.state taken ≡ Some why
+  pub unchanged : new ≡ old
+
+-- the world is given up: its facts, steps and mails, and which actors are down, stay
+pub record GivesUp (old new : Seen) : Type 0 where
+  pub scenario : new.scenario ≡ old.scenario
+  pub given_up : new.given_up ≡ true
+  pub facts : new.machine.state.facts ≡ old.machine.state.facts
+  pub steps : new.machine.state.steps ≡ old.machine.state.steps
+  pub mails : new.machine.state.mails ≡ old.machine.state.mails
+  pub up : SameUp old.machine.state.actors new.machine.state.actors

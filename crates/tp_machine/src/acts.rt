@@ -1,0 +1,133 @@
+//! What a step does to the actors and the history.
+ghost use Rattle.std.specs.Prelude.{◌≡◌, ◌<◌, length, Some, None, slice_get, IfOk, OnOk, OnErr};
+ghost use Rattle.tp_types.specs.declared.scenario.Step.TheVariants as step;
+ghost use Rattle.tp_machine.specs.Acts.{SameUp, Turns};
+ghost use Rattle.tp_machine.specs.History.{SameHistory};
+ghost use Rattle.tp_machine.specs.Machine as machine;
+ghost use Rattle.tp_machine.specs.Seen.{IsTaken, machine_of, state_of};
+
+use crate::actors::Actors;
+use crate::coord::Coordinator;
+use crate::error::StepError;
+use crate::history::History;
+use crate::part::{Act, no_act};
+use std::alloc::Global;
+use tp_types::{Mail, NoMemory, Scenario, Step, TxnId};
+
+/// Whether a transaction was submitted.
+pub fn is_submitted(actors: &Actors, txn: TxnId) -> bool
+    ensures { result ≡ machine.is_submitted actors.now txn }
+{
+    match actors.coordinators.get(txn.0 as usize) {
+        None => false,
+        Some(part) => is_part_submitted(&part.up),
+    }
+}
+
+fn is_part_submitted(up: &Option<Coordinator>) -> bool
+    ensures { result ≡ machine.is_part_submitted up.now }
+{
+    match up {
+        None => true,
+        Some(coordinator) => coordinator.age.is_some(),
+    }
+}
+
+/// Why a step is refused, if it is.
+pub fn refusal(actors: &Actors, history: &History, taken: &Step) -> Option<StepError>
+    ensures { result ≡ machine.refusal (state_of actors.now history.now) taken.now }
+{
+    match *taken {
+        Step::Submit { txn } => {
+            if is_submitted(actors, txn) {
+                Some(StepError::AlreadySubmitted { txn })
+            } else {
+                None
+            }
+        }
+        Step::Deliver { mail } => missing_mail(history.mails.as_slice(), mail),
+        Step::Lose { mail } => missing_mail(history.mails.as_slice(), mail),
+        _ => None,
+    }
+}
+
+fn missing_mail(mails: &[Mail], mail: u64) -> Option<StepError>
+    ensures { result ≡ machine.missing_mail mails.now mail }
+{
+    let mails = mails.len() as u64;
+    if mail < mails {
+        None
+    } else {
+        Some(StepError::NoSuchMail { mail, mails })
+    }
+}
+
+/// Does a step that is not refused.
+pub fn act(
+    actors: &mut Actors,
+    history: &mut History,
+    alloc: Global,
+    scenario: &Scenario,
+    taken: &Step,
+) -> Result<(), NoMemory>
+    requires built { IsTaken taken.now }
+    requires allowed { machine.refusal (state_of actors.old history.old) taken.now ≡ None }
+    ensures ok { OnOk result (machine_of actors.new history.new ≡ machine.done scenario.now (machine_of actors.old history.old) taken.now) }
+    ensures same_history { OnErr result (SameHistory history.old history.new) }
+    ensures up { SameUp actors.old actors.new }
+{
+    match *taken {
+        Step::Submit { txn } => submit(actors, history, alloc, scenario, txn),
+        Step::Deliver { mail } => deliver(actors, history, alloc, scenario, mail),
+        _ => Ok(()),
+    }
+}
+
+fn submit(
+    actors: &mut Actors,
+    history: &mut History,
+    alloc: Global,
+    scenario: &Scenario,
+    txn: TxnId,
+) -> Result<(), NoMemory>
+    ensures ok { OnOk result (machine_of actors.new history.new ≡ machine.done scenario.now (machine_of actors.old history.old) (step.Submit txn)) }
+    ensures same_history { OnErr result (SameHistory history.old history.new) }
+    ensures up { SameUp actors.old actors.new }
+{
+    let act = actors.submit(alloc, scenario, txn, history.steps.len() as u64)?;
+    history.note(Step::Submit { txn }, act.happened, act.letters)
+}
+
+fn deliver(
+    actors: &mut Actors,
+    history: &mut History,
+    alloc: Global,
+    scenario: &Scenario,
+    mail: u64,
+) -> Result<(), NoMemory>
+    requires { mail < length history.old.mails }
+    ensures ok { OnOk result (machine_of actors.new history.new ≡ machine.done scenario.now (machine_of actors.old history.old) (step.Deliver mail)) }
+    ensures same_history { OnErr result (SameHistory history.old history.new) }
+    ensures up { SameUp actors.old actors.new }
+{
+    let act = receive(actors, alloc, scenario, history.mails.as_slice(), mail)?;
+    history.note(Step::Deliver { mail }, act.happened, act.letters)?;
+    history.mark(mail as usize);
+    Ok(())
+}
+
+fn receive(
+    actors: &mut Actors,
+    alloc: Global,
+    scenario: &Scenario,
+    mails: &[Mail],
+    mail: u64,
+) -> Result<Act, NoMemory>
+    ensures ok { IfOk result (λ act. Turns (machine.delivered scenario.now actors.old (slice_get mails.now mail)) actors.new act) }
+    ensures up { SameUp actors.old actors.new }
+{
+    match mails.get(mail as usize) {
+        None => Ok(no_act(alloc)),
+        Some(found) => actors.receive(alloc, scenario, found),
+    }
+}

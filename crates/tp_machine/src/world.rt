@@ -1,0 +1,163 @@
+//! The world: the machine of a scenario and the steps that were done.
+ghost use Rattle.std.specs.Prelude.{◌≡◌, ◌≢◌, ℕ, ◌==◌, ◌<◌, length, true, false, Some, None, IfOk, IfErr, OnOk, OnErr, IsErrOf, IsErr, slice_get};
+ghost use Rattle.std.specs.List.{list_any};
+ghost use Rattle.tp_model.specs.Built as built;
+ghost use Rattle.tp_machine.specs.declared.error.StepError.{StepError};
+ghost use Rattle.tp_machine.specs.Seen.{started, IsReached, IsTaken, Does, Refuses, GivesUp};
+ghost use Rattle.tp_machine.specs.Machine as machine;
+
+use crate::actors::Actors;
+use crate::acts::{act, is_submitted, refusal};
+use crate::error::StepError;
+use crate::history::History;
+use std::alloc::Global;
+use std::marker::Model;
+use tp_types::{Actor, Ending, Fact, List, NoMemory, Scenario, Step, TryClone, TxnId};
+
+/// A scenario's cluster after the steps that were done. Contracts see the scenario, whether the world is given up, and the
+/// machine, which is always what the scenario and the steps give.
+#[derive(Drop)]
+pub struct World {
+    scenario: Scenario,
+    given_up: bool,
+    actors: Actors,
+    history: History,
+}
+
+impl Model for World {
+    ghost use Rattle.std.specs.Coded.{codes};
+    ghost use Rattle.tp_types.specs.contracts.policy.Cond as cond;
+    ghost use Rattle.tp_machine.specs.Seen.{Seen, IsReached, machine_of};
+
+    ghost Value = { Seen };
+
+    ghost coded = { Prim.hlevel (codes, cond.the_row.coded) };
+
+    ghost view = { λ w. record { scenario = w.scenario; given_up = w.given_up; machine = machine_of w.actors w.history } };
+
+    ghost invariant = { λ w. IsReached (record { scenario = w.scenario; given_up = w.given_up; machine = machine_of w.actors w.history }) };
+}
+
+impl World {
+    /// The world of a scenario before the first step.
+    pub fn start(alloc: Global, scenario: &Scenario) -> Result<World, NoMemory>
+        requires { built.is_built scenario.now ≡ true }
+        ensures { IfOk result (λ world. world ≡ started scenario.now) }
+    {
+        let actors = Actors::opened(alloc, scenario)?;
+        Ok(World {
+            scenario: scenario.try_clone(alloc)?,
+            given_up: false,
+            actors,
+            history: History::new(alloc),
+        })
+    }
+
+    /// Does a step. A refused step changes nothing. Where memory is refused the world is given up, and each later step answers
+    /// NoMemory.
+    pub fn step(&mut self, alloc: Global, taken: &Step) -> Result<(), StepError>
+        requires { IsTaken taken.now }
+        ensures done { OnOk result (Does self.old self.new taken.now) }
+        ensures refused { IfErr result (λ why. why ≢ StepError.NoMemory → Refuses self.old self.new taken.now why) }
+        ensures memory { IsErrOf result StepError.NoMemory → GivesUp self.old self.new }
+    {
+        if self.given_up {
+            return Err(StepError::NoMemory);
+        }
+        match refusal(&self.actors, &self.history, taken) {
+            Some(why) => Err(why),
+            None => match act(
+                &mut self.actors,
+                &mut self.history,
+                alloc,
+                &self.scenario,
+                taken,
+            ) {
+                Ok(()) => Ok(()),
+                Err(NoMemory) => {
+                    self.given_up = true;
+                    Err(StepError::NoMemory)
+                }
+            },
+        }
+    }
+
+    /// What happened so far, in order.
+    pub fn facts(&self) -> &List<Fact>
+        ensures value { result.now ≡ self.now.machine.state.facts }
+        ensures reached { IsReached self.now }
+    {
+        &self.history.facts
+    }
+
+    /// The steps that were done, in order.
+    pub fn steps(&self) -> &List<Step>
+        ensures { result.now ≡ self.now.machine.state.steps }
+    {
+        &self.history.steps
+    }
+
+    /// The number of mails sent so far.
+    pub fn mails(&self) -> u64
+        ensures { result ≡ length self.now.machine.state.mails }
+    {
+        self.history.mails.len() as u64
+    }
+
+    /// The scenario of the start.
+    pub fn scenario(&self) -> &Scenario
+        ensures { result.now ≡ self.now.scenario }
+    {
+        &self.scenario
+    }
+
+    /// Whether memory was refused in a step.
+    pub fn given_up(&self) -> bool
+        ensures { result ≡ self.now.given_up }
+    {
+        self.given_up
+    }
+
+    /// Whether an actor is down. The master and the authority never are.
+    pub fn down(&self, actor: &Actor) -> bool
+        ensures { result ≡ machine.is_down self.now.machine.state.actors actor.now }
+    {
+        self.actors.is_down(*actor)
+    }
+
+    /// Whether a mail of this number was sent, and is neither delivered nor lost.
+    pub fn undelivered(&self, mail: u64) -> bool
+        ensures { result ≡ list_any (λ (number : ℕ). number == mail) self.now.machine.undelivered }
+    {
+        self.history.is_pending(mail as usize)
+    }
+
+    /// The least number of an undelivered mail, or None exactly where there is none.
+    pub fn oldest(&self) -> Option<u64>
+        ensures { result ≡ slice_get self.now.machine.undelivered 0 }
+    {
+        self.history.oldest_pending()
+    }
+
+    /// Whether a transaction was submitted.
+    pub fn is_submitted(&self, txn: TxnId) -> bool
+        ensures { result ≡ machine.is_submitted self.now.machine.state.actors txn }
+    {
+        is_submitted(&self.actors, txn)
+    }
+
+    /// How many steps and mails there were, and the value of each item.
+    pub fn ending(&self, alloc: Global) -> Result<Ending, NoMemory>
+        ensures value { IfOk result (λ ending. ending ≡ machine.ending_of self.now.scenario self.now.machine.state) }
+        ensures given_up { self.now.given_up ≡ true → IsErr result }
+    {
+        if self.given_up {
+            return Err(NoMemory);
+        }
+        Ok(Ending {
+            steps: self.history.steps.len() as u64,
+            mails: self.history.mails.len() as u64,
+            values: self.actors.values(alloc, self.scenario.items.as_slice())?,
+        })
+    }
+}

@@ -1,0 +1,39 @@
+-- What the built form gives of a scenario's lengths.
+use Rattle.std.proofs.Common.{◌≡◌, Bool, true, false, ◌&&◌, List, [], ◌∷◌, length, Option, Some, None, refl}
+use Rattle.tp_types.specs.declared.scenario.Item.{Item}
+use Rattle.tp_types.specs.declared.scenario.Scenario.{Scenario}
+use Rattle.tp_types.specs.declared.scenario.ServerDecl.{ServerDecl}
+use Rattle.tp_types.specs.declared.scenario.Transaction.{Transaction}
+use Rattle.tp_model.specs.Queries.{only}
+use Rattle.tp_model.specs.Built.{is_built, is_built_parts, is_single, is_built_admin, is_empty, is_unscripted}
+
+left_true : (a b : Bool) → (a && b) ≡ true → a ≡ true
+left_true true b h = refl
+left_true false b h = h
+
+right_true : (a b : Bool) → (a && b) ≡ true → b ≡ true
+right_true true b h = h
+right_true false b h = absurd (cc)
+
+one_server : (servers : List ServerDecl) (item : Option Item) (txn : Option Transaction) → is_built_parts (only servers) item txn ≡ true → length servers ≡ 1
+one_server [] item txn h = absurd (cc)
+one_server (server ∷ []) item txn h = refl
+one_server (server ∷ other ∷ others) item txn h = absurd (cc)
+
+one_txn : (server : Option ServerDecl) (item : Option Item) (txns : List Transaction) → is_built_parts server item (only txns) ≡ true → length txns ≡ 1
+one_txn None item txns h = absurd (cc)
+one_txn (Some server) None txns h = absurd (cc)
+one_txn (Some server) (Some item) [] h = absurd (cc)
+one_txn (Some server) (Some item) (txn ∷ []) h = refl
+one_txn (Some server) (Some item) (txn ∷ other ∷ others) h = absurd (cc)
+
+parts_built : (sc : Scenario) → is_built sc ≡ true → is_built_parts (only sc.servers) (only sc.items) (only sc.txns) ≡ true
+parts_built sc h = right_true (is_single is_built_admin sc.admins) _ (left_true _ _ h)
+
+-- a built scenario has one server
+pub length-servers_built : (sc : Scenario) → is_built sc ≡ true → length sc.servers ≡ 1
+length-servers_built sc h = one_server sc.servers (only sc.items) (only sc.txns) (parts_built sc h)
+
+-- a built scenario has one transaction
+pub length-txns_built : (sc : Scenario) → is_built sc ≡ true → length sc.txns ≡ 1
+length-txns_built sc h = one_txn (only sc.servers) (only sc.items) sc.txns (parts_built sc h)
