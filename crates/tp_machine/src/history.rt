@@ -1,5 +1,5 @@
 //! What the world keeps of its run: the steps, the facts, and every mail with whether it is undelivered.
-ghost use Rattle.std.specs.Prelude.{◌≡◌, ◌+◌, ◌≤◌, ◌<◌, ℕ, [], ◌∷◌, ◌++◌, length, take, drop, replicate, slice_get, slice_set, ◌==◌, true, false, IfOk, OnOk, OnErr};
+ghost use Rattle.std.specs.Prelude.{◌≡◌, ◌+◌, ◌≤◌, ◌<◌, ℕ, [], ◌∷◌, ◌++◌, length, take, drop, replicate, slice_get, slice_set, ◌==◌, true, false, IfOk, IfSome, OnOk, OnErr};
 ghost use Rattle.tp_machine.specs.Flags.{first_marked, marked};
 ghost use Rattle.std.specs.List.{list_any};
 ghost use Rattle.tp_machine.specs.Machine.{noted, posted};
@@ -52,7 +52,8 @@ impl History {
 
     /// The least number of a pending mail, or None exactly where there is none.
     pub fn oldest_pending(&self) -> Option<u64>
-        ensures { result ≡ slice_get (marked 0 self.now.pending) 0 }
+        ensures value { result ≡ slice_get (marked 0 self.now.pending) 0 }
+        ensures sent { IfSome result (λ mail. mail < length self.now.mails) }
     {
         if self.oldest < self.pending.len() {
             Some(self.oldest as u64)

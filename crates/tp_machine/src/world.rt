@@ -1,5 +1,5 @@
 //! The world: the machine of a scenario and the steps that were done.
-ghost use Rattle.std.specs.Prelude.{◌≡◌, ◌≢◌, ℕ, ◌==◌, ◌<◌, length, true, false, Some, None, IfOk, IfErr, OnOk, OnErr, IsErrOf, IsErr, slice_get};
+ghost use Rattle.std.specs.Prelude.{◌≡◌, ◌≢◌, ℕ, ◌==◌, ◌<◌, length, true, false, Some, None, IfOk, IfErr, IfSome, OnOk, OnErr, IsErrOf, IsErr, slice_get};
 ghost use Rattle.std.specs.List.{list_any};
 ghost use Rattle.tp_model.specs.Built as built;
 ghost use Rattle.tp_machine.specs.declared.error.StepError.{StepError};
@@ -134,7 +134,8 @@ impl World {
 
     /// The least number of an undelivered mail, or None exactly where there is none.
     pub fn oldest(&self) -> Option<u64>
-        ensures { result ≡ slice_get self.now.machine.undelivered 0 }
+        ensures value { result ≡ slice_get self.now.machine.undelivered 0 }
+        ensures sent { IfSome result (λ mail. mail < length self.now.machine.state.mails) }
     {
         self.history.oldest_pending()
     }

@@ -3,8 +3,8 @@ use Rattle.std.proofs.lemmas.Bool.Decides.{nat_tests}
 use Rattle.tp_machine.proofs.FlagsLemmas.{marked-first}
 use Rattle.tp_machine.proofs.history.History.oldest_pending.Goals as goal
 
-pub returns-then-self-len : goal.returns-then-self-len
-returns-then-self-len c = grind (arith, nat_tests, marked-first 0 c.args.self.now.pending, c.args.self.now.first)
+pub returns-then-self-len-clause-value : goal.returns-then-self-len-clause-value
+returns-then-self-len-clause-value c = grind (arith, nat_tests, marked-first 0 c.args.self.now.pending, c.args.self.now.first)
 
-pub returns-else-self-len : goal.returns-else-self-len
-returns-else-self-len c = grind (arith, nat_tests, marked-first 0 c.args.self.now.pending, c.args.self.now.first)
+pub returns-else-self-len-clause-value : goal.returns-else-self-len-clause-value
+returns-else-self-len-clause-value c = grind (arith, nat_tests, marked-first 0 c.args.self.now.pending, c.args.self.now.first)

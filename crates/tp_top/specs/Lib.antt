@@ -1,0 +1,5 @@
+pub mod Adapters
+pub mod Faults
+pub mod Fakes
+pub mod Status
+pub mod Whole
