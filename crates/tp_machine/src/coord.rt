@@ -458,11 +458,12 @@ impl Coordinator {
             outcome: Outcome::Commit,
             awaited: self.servers.try_clone(alloc)?,
         };
+        let decided = Record::Decided(Decided {
+            txn: self.txn,
+            decision: Decision::Commit(commit),
+        });
         Ok(Reaction {
-            append: Some(Record::Decided(Decided {
-                txn: self.txn,
-                decision: Decision::Commit(commit),
-            })),
+            append: Some(decided),
             letters,
         })
     }
