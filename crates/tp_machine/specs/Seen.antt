@@ -3,6 +3,7 @@ use Rattle.std.specs.Prelude.{◌≡◌, Bool, true, false, Some, None}
 use Rattle.tp_types.specs.declared.scenario.Scenario.{Scenario}
 use Rattle.tp_types.specs.declared.scenario.Step.{Step}
 use Rattle.tp_types.specs.declared.scenario.Step.TheVariants as step
+use Rattle.tp_model.specs.Built.{is_built}
 use Rattle.tp_machine.specs.declared.actors.Actors.{Actors}
 use Rattle.tp_machine.specs.declared.history.History.{History}
 use Rattle.tp_machine.specs.declared.error.StepError.{StepError}
@@ -30,6 +31,11 @@ started sc = record { scenario = sc; given_up = false; machine = opening sc }
 -- the machine is what the scenario and its steps give
 abbrev pub IsReached : Seen → Type 0
 IsReached world = world.given_up ≡ false → world.machine ≡ after world.scenario world.machine.state.steps
+
+-- what is so of every world: its scenario is of the form that is built, and while it is not given up it is reached
+pub record IsWorld (world : Seen) : Type 0 where
+  pub built : is_built world.scenario ≡ true
+  pub reached : IsReached world
 
 -- a step of a kind that is built: a submission, or the delivery of a mail
 abbrev pub IsTaken : Step → Type 0

@@ -27,7 +27,7 @@ pub struct World {
 impl Model for World {
     ghost use Rattle.std.specs.Coded.{codes};
     ghost use Rattle.tp_types.specs.contracts.policy.Cond as cond;
-    ghost use Rattle.tp_machine.specs.Seen.{Seen, IsReached, machine_of};
+    ghost use Rattle.tp_machine.specs.Seen.{Seen, IsWorld, machine_of};
 
     ghost Value = { Seen };
 
@@ -35,7 +35,7 @@ impl Model for World {
 
     ghost view = { λ w. record { scenario = w.scenario; given_up = w.given_up; machine = machine_of w.actors w.history } };
 
-    ghost invariant = { λ w. IsReached (record { scenario = w.scenario; given_up = w.given_up; machine = machine_of w.actors w.history }) };
+    ghost invariant = { λ w. IsWorld (record { scenario = w.scenario; given_up = w.given_up; machine = machine_of w.actors w.history }) };
 }
 
 impl World {
@@ -106,7 +106,8 @@ impl World {
 
     /// The scenario of the start.
     pub fn scenario(&self) -> &Scenario
-        ensures { result.now ≡ self.now.scenario }
+        ensures value { result.now ≡ self.now.scenario }
+        ensures built { built.is_built self.now.scenario ≡ true }
     {
         &self.scenario
     }
