@@ -1,4 +1,11 @@
 pub mod FlagsLemmas
 pub mod MachineLemmas
 pub mod OpenedLemmas
+pub mod Sound
+pub mod SoundActs
+pub mod SoundBuilt
+pub mod SoundCoordinator
+pub mod SoundLists
+pub mod SoundServer
 pub mod TableLemmas
+pub mod WorldLemmas

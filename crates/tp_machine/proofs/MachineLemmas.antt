@@ -19,7 +19,7 @@ use Rattle.tp_machine.specs.Machine.{State, Machine, Turn, concluded, noted, pos
 use Rattle.tp_machine.specs.Seen.{IsTaken, machine_of, state_of}
 use Rattle.tp_machine.proofs.FlagsLemmas.{length_posted, marked-posted, marked-posted_cleared}
 
-same_state : (actors actors' : Actors) (mails mails' : List Mail) (facts facts' : List Fact) (steps steps' : List Step)
+pub same_state : (actors actors' : Actors) (mails mails' : List Mail) (facts facts' : List Fact) (steps steps' : List Step)
     → actors ≡ actors' → mails ≡ mails' → facts ≡ facts' → steps ≡ steps'
     → ◌≡◌ {A = State} (record { actors = actors; mails = mails; facts = facts; steps = steps }) (record { actors = actors'; mails = mails'; facts = facts'; steps = steps' })
 same_state actors actors' mails mails' facts facts' steps steps' a m f s =
@@ -28,7 +28,7 @@ same_state actors actors' mails mails' facts facts' steps steps' a m f s =
     ∙ (ap (λ (x : List Fact). record { actors = actors'; mails = mails'; facts = x; steps = steps }) f
     ∙ ap (λ (x : List Step). record { actors = actors'; mails = mails'; facts = facts'; steps = x }) s))
 
-same_machine : (state state' : State) (undelivered undelivered' : List ℕ) → state ≡ state' → undelivered ≡ undelivered'
+pub same_machine : (state state' : State) (undelivered undelivered' : List ℕ) → state ≡ state' → undelivered ≡ undelivered'
     → ◌≡◌ {A = Machine} (record { state = state; undelivered = undelivered }) (record { state = state'; undelivered = undelivered' })
 same_machine state state' undelivered undelivered' s u =
     ap (λ (x : State). record { state = x; undelivered = undelivered }) s

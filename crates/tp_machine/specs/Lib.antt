@@ -4,6 +4,7 @@ pub mod Flags
 pub mod History
 pub mod Machine
 pub mod Seen
+pub mod Sound
 pub mod Table
 pub mod coord
 pub mod offices

@@ -9,6 +9,7 @@ use Rattle.tp_machine.specs.declared.history.History.{History}
 use Rattle.tp_machine.specs.declared.error.StepError.{StepError}
 use Rattle.tp_machine.specs.Acts.{SameUp}
 use Rattle.tp_machine.specs.Flags.{marked}
+use Rattle.tp_machine.specs.Sound.{IsSound}
 use Rattle.tp_machine.specs.Machine.{State, Machine, after, done, opening, refusal}
 
 -- the state of these actors with this history
@@ -32,10 +33,12 @@ started sc = record { scenario = sc; given_up = false; machine = opening sc }
 abbrev pub IsReached : Seen → Type 0
 IsReached world = world.given_up ≡ false → world.machine ≡ after world.scenario world.machine.state.steps
 
--- what is so of every world: its scenario is of the form that is built, and while it is not given up it is reached
+-- what is so of every world: its scenario is of the form that is built, and while it is not given up it is reached, and all
+-- that its mails, records and facts name exists
 pub record IsWorld (world : Seen) : Type 0 where
   pub built : is_built world.scenario ≡ true
   pub reached : IsReached world
+  pub sound : world.given_up ≡ false → IsSound world.scenario world.machine.state
 
 -- a step of a kind that is built: a submission, or the delivery of a mail
 abbrev pub IsTaken : Step → Type 0

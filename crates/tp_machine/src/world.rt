@@ -5,6 +5,7 @@ ghost use Rattle.tp_model.specs.Built as built;
 ghost use Rattle.tp_machine.specs.declared.error.StepError.{StepError};
 ghost use Rattle.tp_machine.specs.Seen.{started, IsReached, IsTaken, Does, Refuses, GivesUp};
 ghost use Rattle.tp_machine.specs.Machine as machine;
+ghost use Rattle.tp_machine.specs.Sound.{IsSound, IsStepOf};
 
 use crate::actors::Actors;
 use crate::acts::{act, is_submitted, refusal};
@@ -15,7 +16,8 @@ use std::marker::Model;
 use tp_types::{Actor, Ending, Fact, List, NoMemory, Scenario, Step, TryClone, TxnId};
 
 /// A scenario's cluster after the steps that were done. Contracts see the scenario, whether the world is given up, and the
-/// machine, which is always what the scenario and the steps give.
+/// machine. Until the world is given up the machine is what the scenario and the steps give, and all that its mails, records
+/// and facts name exists.
 #[derive(Drop)]
 pub struct World {
     scenario: Scenario,
@@ -56,7 +58,8 @@ impl World {
     /// Does a step. A refused step changes nothing. Where memory is refused the world is given up, and each later step answers
     /// NoMemory.
     pub fn step(&mut self, alloc: Global, taken: &Step) -> Result<(), StepError>
-        requires { IsTaken taken.now }
+        requires built { IsTaken taken.now }
+        requires ids { IsStepOf self.old.scenario taken.now }
         ensures done { OnOk result (Does self.old self.new taken.now) }
         ensures refused { IfErr result (λ why. why ≢ StepError.NoMemory → Refuses self.old self.new taken.now why) }
         ensures memory { IsErrOf result StepError.NoMemory → GivesUp self.old self.new }
@@ -86,6 +89,7 @@ impl World {
     pub fn facts(&self) -> &List<Fact>
         ensures value { result.now ≡ self.now.machine.state.facts }
         ensures reached { IsReached self.now }
+        ensures sound { self.now.given_up ≡ false → IsSound self.now.scenario self.now.machine.state }
     {
         &self.history.facts
     }

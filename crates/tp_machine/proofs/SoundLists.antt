@@ -1,0 +1,113 @@
+-- Laws of what holds of each member of a list or table, as the list grows or changes.
+use Rattle.std.proofs.Common.{◌≡◌, ℕ, zero, suc, ◌+◌, ◌<◌, List, [], ◌∷◌, ◌++◌, length, map, filter, flat_map, drop, replicate, slice_get, slice_set, Bool, true, false, Option, Some, None, if◌then◌else◌, refl, subst, arith}
+use Rattle.std.specs.List.{list_all, range_with_len}
+use Rattle.tp_machine.specs.Sound.{Each, EachPlaced, EachAt}
+
+-- ---- conditionals
+
+-- what holds of both branches holds of the whole; each branch knows its test
+pub by_cond : {A : Type 0} (P : A → Type 0) (b : Bool) {x y : A} → (b ≡ true → P x) → (b ≡ false → P y) → P (if b then x else y)
+by_cond P true first second = first refl
+by_cond P false first second = second refl
+
+-- ---- each member
+
+pub each_map : {A : Type 0} {B : Type 0} (P : A → Type 0) (Q : B → Type 0) (f : A → B) → ((x : A) → P x → Q (f x)) → (xs : List A) → Each P xs → Each Q (map f xs)
+each_map P Q f step [] h = tt
+each_map P Q f step (x ∷ xs) h = (step x h.0, each_map P Q f step xs h.1)
+
+-- what follows from P holds of each member
+pub each_as : {A : Type 0} (P : A → Type 0) (Q : A → Type 0) → ((x : A) → P x → Q x) → (xs : List A) → Each P xs → Each Q xs
+each_as P Q step [] h = tt
+each_as P Q step (x ∷ xs) h = (step x h.0, each_as P Q step xs h.1)
+
+pub each_append : {A : Type 0} (P : A → Type 0) (xs ys : List A) → Each P xs → Each P ys → Each P (xs ++ ys)
+each_append P [] ys h k = k
+each_append P (x ∷ xs) ys h k = (h.0, each_append P xs ys h.1 k)
+
+-- one more member at the end
+pub each_more : {A : Type 0} (P : A → Type 0) (xs : List A) (x : A) → Each P xs → P x → Each P (xs ++ x ∷ [])
+each_more P xs x h k = each_append P xs (x ∷ []) h (k, tt)
+
+pub each_drop : {A : Type 0} (P : A → Type 0) (n : ℕ) (xs : List A) → Each P xs → Each P (drop n xs)
+each_drop P zero xs h = h
+each_drop P (suc n) [] h = tt
+each_drop P (suc n) (x ∷ xs) h = each_drop P n xs h.1
+
+pub each_filter : {A : Type 0} (P : A → Type 0) (test : A → Bool) (xs : List A) → Each P xs → Each P (filter test xs)
+each_filter P test [] h = tt
+each_filter {A = A} P test (x ∷ xs) h =
+    by_cond (λ (ys : List A). Each P ys) (test x) (λ y. (h.0, each_filter P test xs h.1)) (λ n. each_filter P test xs h.1)
+
+pub each_flat_map : {A : Type 0} {B : Type 0} (P : A → Type 0) (Q : B → Type 0) (f : A → List B) → ((x : A) → P x → Each Q (f x)) → (xs : List A) → Each P xs → Each Q (flat_map f xs)
+each_flat_map P Q f step [] h = tt
+each_flat_map P Q f step (x ∷ xs) h = each_append Q (f x) (flat_map f xs) (step x h.0) (each_flat_map P Q f step xs h.1)
+
+pub each_set : {A : Type 0} (P : A → Type 0) (xs : List A) (k : ℕ) (v : A) → Each P xs → P v → Each P (slice_set xs k v)
+each_set P [] k v h p = tt
+each_set P (x ∷ xs) zero v h p = (p, h.1)
+each_set P (x ∷ xs) (suc k) v h p = (h.0, each_set P xs k v h.1 p)
+
+pub each_get : {A : Type 0} (P : A → Type 0) (xs : List A) (k : ℕ) (x : A) → Each P xs → slice_get xs k ≡ Some x → P x
+each_get P [] k x h e = absurd (cc)
+each_get P (y ∷ xs) zero x h e = let same : y ≡ x = grind arith in subst P same h.0
+each_get P (y ∷ xs) (suc k) x h e = each_get P xs k x h.1 e
+
+-- members that all pass a test
+pub each_passing : {A : Type 0} (P : A → Type 0) (Q : A → Type 0) (test : A → Bool) → ((x : A) → P x → test x ≡ true → Q x) → (xs : List A) → list_all test xs ≡ true → Each P xs → Each Q xs
+each_passing P Q test step [] e h = tt
+each_passing P Q test step (x ∷ xs) e h =
+    let here : test x ≡ true = grind arith in
+    let later : list_all test xs ≡ true = grind arith in
+    (step x h.0 here, each_passing P Q test step xs later h.1)
+
+-- ---- members and their places
+
+-- a place within a list has a member
+pub missing : {A : Type 0} (xs : List A) (n : ℕ) → n < length xs → slice_get xs n ≡ None → ⊥
+missing [] n within e = omega arith
+missing (x ∷ xs) zero within e = cc
+missing (x ∷ xs) (suc n) within e = missing xs n (omega arith) e
+
+pub at_set : {A : Type 0} (P : ℕ → A → Type 0) (xs : List A) (k : ℕ) (v : A) → EachAt P xs → P k v → EachAt P (slice_set xs k v)
+at_set P [] k v h p n found e = absurd (cc)
+at_set P (x ∷ xs) zero v h p zero found e = let same : v ≡ found = grind arith in subst (P 0) same p
+at_set P (x ∷ xs) zero v h p (suc n) found e = h (suc n) found e
+at_set P (x ∷ xs) (suc k) v h p zero found e = h 0 found e
+at_set P (x ∷ xs) (suc k) v h p (suc n) found e = at_set (λ m a. P (suc m) a) xs k v (λ m a. h (suc m) a) p n found e
+
+-- a list that a function of the place makes
+pub at_made : {A : Type 0} (P : ℕ → A → Type 0) (f : ℕ → A) (low count : ℕ) → ((n : ℕ) → n < low + count → P n (f n))
+    → (n : ℕ) (found : A) → slice_get (map f (range_with_len low count)) n ≡ Some found → P (low + n) found
+at_made P f low zero h n found e = absurd (cc)
+at_made P f low (suc count) h zero found e =
+    let same : f low ≡ found = grind arith in
+    let here : P low (f low) = h low (omega arith) in
+    let first : low ≡ low + 0 = omega arith in
+    subst (λ (m : ℕ). P m found) first (subst (P low) same here)
+at_made P f low (suc count) h (suc n) found e =
+    let later : P ((low + 1) + n) found = at_made P f (low + 1) count (λ m less. h m (omega arith)) n found e in
+    let same : (low + 1) + n ≡ low + suc n = omega arith in
+    subst (λ (m : ℕ). P m found) same later
+
+-- ---- tables
+
+pub placed_set : {A : Type 0} (P : ℕ → A → Type 0) (table : List (Option A)) (k : ℕ) (v : A) → EachPlaced P table → P k v → EachPlaced P (slice_set table k (Some v))
+placed_set P [] k v h p n found e = absurd (cc)
+placed_set P (x ∷ xs) zero v h p zero found e = let same : v ≡ found = grind arith in subst (P 0) same p
+placed_set P (x ∷ xs) zero v h p (suc n) found e = h (suc n) found e
+placed_set P (x ∷ xs) (suc k) v h p zero found e = h 0 found e
+placed_set P (x ∷ xs) (suc k) v h p (suc n) found e = placed_set (λ m a. P (suc m) a) xs k v (λ m a. h (suc m) a) p n found e
+
+pub placed_emptied : {A : Type 0} (P : ℕ → A → Type 0) (table : List (Option A)) (k : ℕ) → EachPlaced P table → EachPlaced P (slice_set table k None)
+placed_emptied P [] k h n found e = absurd (cc)
+placed_emptied P (x ∷ xs) zero h zero found e = absurd (cc)
+placed_emptied P (x ∷ xs) zero h (suc n) found e = h (suc n) found e
+placed_emptied P (x ∷ xs) (suc k) h zero found e = h 0 found e
+placed_emptied P (x ∷ xs) (suc k) h (suc n) found e = placed_emptied (λ m a. P (suc m) a) xs k (λ m a. h (suc m) a) n found e
+
+-- an empty table
+pub placed_none : {A : Type 0} (P : ℕ → A → Type 0) (count : ℕ) → EachPlaced P (replicate count None)
+placed_none P zero n found e = absurd (cc)
+placed_none P (suc count) zero found e = absurd (cc)
+placed_none P (suc count) (suc n) found e = placed_none (λ m a. P (suc m) a) count n found e
