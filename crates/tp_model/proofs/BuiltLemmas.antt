@@ -5,13 +5,13 @@ use Rattle.tp_types.specs.declared.scenario.Scenario.{Scenario}
 use Rattle.tp_types.specs.declared.scenario.ServerDecl.{ServerDecl}
 use Rattle.tp_types.specs.declared.scenario.Transaction.{Transaction}
 use Rattle.tp_model.specs.Queries.{only}
-use Rattle.tp_model.specs.Built.{is_built, is_built_parts, is_single, is_built_admin, is_empty, is_unscripted}
+use Rattle.tp_model.specs.Built.{is_built, is_built_parts, is_single, is_built_admin, is_empty}
 
-left_true : (a b : Bool) → (a && b) ≡ true → a ≡ true
+pub left_true : (a b : Bool) → (a && b) ≡ true → a ≡ true
 left_true true b h = refl
 left_true false b h = h
 
-right_true : (a b : Bool) → (a && b) ≡ true → b ≡ true
+pub right_true : (a b : Bool) → (a && b) ≡ true → b ≡ true
 right_true true b h = h
 right_true false b h = absurd (cc)
 
@@ -27,7 +27,7 @@ one_txn (Some server) (Some item) [] h = absurd (cc)
 one_txn (Some server) (Some item) (txn ∷ []) h = refl
 one_txn (Some server) (Some item) (txn ∷ other ∷ others) h = absurd (cc)
 
-parts_built : (sc : Scenario) → is_built sc ≡ true → is_built_parts (only sc.servers) (only sc.items) (only sc.txns) ≡ true
+pub parts_built : (sc : Scenario) → is_built sc ≡ true → is_built_parts (only sc.servers) (only sc.items) (only sc.txns) ≡ true
 parts_built sc h = right_true (is_single is_built_admin sc.admins) _ (left_true _ _ h)
 
 -- a built scenario has one server
@@ -37,3 +37,11 @@ length-servers_built sc h = one_server sc.servers (only sc.items) (only sc.txns)
 -- a built scenario has one transaction
 pub length-txns_built : (sc : Scenario) → is_built sc ≡ true → length sc.txns ≡ 1
 length-txns_built sc h = one_txn (only sc.servers) (only sc.items) sc.txns (parts_built sc h)
+
+no_steps : {A : Type 0} → (steps : List A) → is_empty steps ≡ true → steps ≡ []
+no_steps [] h = refl
+no_steps (first ∷ others) h = absurd (cc)
+
+-- a built scenario lists no steps
+pub steps_built : (sc : Scenario) → is_built sc ≡ true → sc.steps ≡ []
+steps_built sc h = no_steps sc.steps (left_true _ _ (left_true _ _ (left_true _ _ (right_true _ _ (right_true _ _ h)))))

@@ -1,1 +1,7 @@
+pub mod AutoLemmas
+pub mod BoundLemmas
 pub mod IoLemmas
+pub mod Numbers
+pub mod Objects
+pub mod RunLemmas
+pub mod Walks

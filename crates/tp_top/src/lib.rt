@@ -1,24 +1,14 @@
-//! The top call, and the reading and writing under it.
+//! The top call of the cluster's program, and what stands directly under it: reading scenarios, the automatic phase, printing
+//! reports, and the input and outputs.
 #![tactic(auto)]
 
+mod answer;
+pub mod auto;
 pub mod io;
+pub mod report;
+pub mod scenario;
 mod status;
+mod top;
 
-use io::{Sink, Source, write_all};
 pub use status::Status;
-use std::alloc::Global;
-use tp_types::Text;
-
-/// Runs the command that the words name, from the input to the outputs.
-pub fn tpvc<I: Source, O: Sink, N: Sink>(
-    _alloc: Global,
-    _words: &[Text],
-    _input: &mut I,
-    _out: &mut O,
-    notes: &mut N,
-) -> Status {
-    match write_all(notes, b"usage: tpvc COMMAND [WORD]\n") {
-        Ok(()) => Status::Usage,
-        Err(_) => Status::WriteFault,
-    }
-}
+pub use top::tpvc;

@@ -1,0 +1,15 @@
+//! The tests of the public calls, by tables of cases whose expected values were worked out by hand.
+#![tactic(auto)]
+
+#[cfg(test)]
+mod clones;
+#[cfg(test)]
+mod io;
+#[cfg(test)]
+mod report;
+#[cfg(test)]
+mod run;
+#[cfg(test)]
+mod scenario;
+#[cfg(test)]
+mod world;

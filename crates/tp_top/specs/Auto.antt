@@ -1,0 +1,92 @@
+-- The automatic phase: which step comes next by itself, what so many such steps are, and how many are allowed.
+use Rattle.std.specs.Prelude.{◌≡◌, ◌<◌, ℕ, ◌+◌, ◌*◌, max, List, [], ◌∷◌, length, map, find, fold, slice_get, take, Bool, false, not, Option, Some, None, is_none, option_map, zero, suc}
+use Rattle.std.specs.List.{range_with_len}
+use Rattle.std.specs.Option.{option_map_or}
+use Rattle.tp_types.specs.declared.ids.TxnId.{TxnId}
+use Rattle.tp_types.specs.declared.scenario.Scenario.{Scenario}
+use Rattle.tp_types.specs.declared.scenario.Step.{Step}
+use Rattle.tp_types.specs.declared.scenario.Step.TheVariants as step
+use Rattle.tp_types.specs.declared.scenario.Transaction.{Transaction}
+use Rattle.tp_machine.specs.declared.actors.Actors.{Actors}
+use Rattle.tp_machine.specs.Machine.{Machine, after_step, after_steps, is_submitted}
+use Rattle.tp_machine.specs.Seen.{GivesUp, Seen}
+
+-- ---- which step is next
+
+-- the scenario's transactions, in order
+abbrev pub txns_of : Scenario → List TxnId
+txns_of sc = map (λ (n : ℕ). record { 0 = n }) (range_with_len 0 (length sc.txns))
+
+-- the lowest transaction that is not submitted
+abbrev pub lowest_unsubmitted : Scenario → Actors → Option TxnId
+lowest_unsubmitted sc actors = find (λ (txn : TxnId). not (is_submitted actors txn)) (txns_of sc)
+
+-- the oldest undelivered mail is delivered; where there is none, a transaction is submitted
+abbrev pub next_by : Scenario → Actors → Option ℕ → Option Step
+next_by sc actors (Some mail) = Some (step.Deliver mail)
+next_by sc actors None = option_map (λ (txn : TxnId). step.Submit txn) (lowest_unsubmitted sc actors)
+
+-- the next automatic step, if there is one; the cursor is where timers will be looked for
+abbrev pub next_of : Scenario → Machine → ℕ → Option Step
+next_of sc m cursor = next_by sc m.state.actors (slice_get m.undelivered 0)
+
+-- no rule gives a step
+abbrev pub is_quiet : Scenario → Machine → Bool
+is_quiet sc m = is_none (next_of sc m 0)
+
+-- ---- so many steps
+
+-- at most so many automatic steps from a machine on: fewer where it comes to be quiet
+abbrev pub automatic_from : Scenario → ℕ → ℕ → Machine → List Step
+automatic_from sc zero cursor m = []
+automatic_from sc (suc left) cursor m =
+    option_map_or (λ (taken : Step). taken ∷ automatic_from sc left cursor (after_step sc m taken)) (next_of sc m cursor) []
+
+-- the cursor begins at 0
+abbrev pub automatic_steps : Scenario → ℕ → Machine → List Step
+automatic_steps sc count m = automatic_from sc count 0 m
+
+-- ---- what a drain does
+
+-- the automatic steps of a world, at most so many
+abbrev pub steps_of : Seen → ℕ → List Step
+steps_of world budget = automatic_steps world.scenario budget world.machine
+
+-- the world after these steps
+abbrev pub stepped : Seen → List Step → Seen
+stepped world taken = record world { machine = after_steps world.scenario world.machine taken }
+
+-- the world, which was not given up, did at most so many automatic steps
+pub record Drains (old new : Seen) (budget : ℕ) : Type 0 where
+  pub was_up : old.given_up ≡ false
+  pub now : new ≡ stepped old (steps_of old budget)
+
+-- it did just so many, and is not quiet
+pub record IsSpent (old new : Seen) (budget : ℕ) : Type 0 where
+  pub all : length (steps_of old budget) ≡ budget
+  pub goes_on : is_quiet new.scenario new.machine ≡ false
+
+-- memory was refused in one of those steps, after the ones before it were done
+pub record Stops (old new : Seen) (budget : ℕ) : Type 0 where
+  pub count : ℕ
+  pub within : count < length (steps_of old budget)
+  pub gave_up : GivesUp (stepped old (take count (steps_of old budget))) new
+
+-- ---- how many steps are allowed
+
+-- the most queries of a transaction, 0 if there is none
+abbrev pub most_queries : List Transaction → ℕ
+most_queries txns = fold (λ (most : ℕ) (txn : Transaction). max most (length txn.queries)) 0 txns
+
+-- the greatest round limit, at least 2
+abbrev pub most_rounds : List Transaction → ℕ
+most_rounds txns = fold (λ (most : ℕ) (txn : Transaction). max most txn.rounds) 2 txns
+
+-- the bound in numbers
+abbrev pub bound_by : ℕ → ℕ → ℕ → ℕ → ℕ → ℕ
+bound_by txns queries rounds servers undelivered =
+    3 * undelivered + (txns * ((queries + 1) * (3 * rounds + 3) + servers + 2) + 1) * (16 * (txns + 1) * (servers + 1)) + servers + txns + 2
+
+-- how many automatic steps a run allows, from so many undelivered mails on
+abbrev pub bound : Scenario → ℕ → ℕ
+bound sc undelivered = bound_by (length sc.txns) (most_queries sc.txns) (most_rounds sc.txns) (length sc.servers) undelivered

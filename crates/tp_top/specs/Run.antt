@@ -1,0 +1,106 @@
+-- What a run is: from bytes to the world after all steps, and its report.
+use Rattle.std.specs.Prelude.{◌≡◌, ℕ, ◌+◌, ◌≤◌, List, [], ◌∷◌, length, true, false, Option, Some, None, codes}
+use Rattle.std.specs.Io.KnownBytes.{Consumes, IsAtEnd}
+use Rattle.tp_types.specs.declared.name.Text.{Text}
+use Rattle.tp_types.specs.declared.scenario.Scenario.{Scenario}
+use Rattle.tp_types.specs.declared.scenario.Step.{Step}
+use Rattle.tp_machine.specs.Machine.{Machine, after, after_steps, ending_of}
+use Rattle.tp_top.specs.declared.answer.Answer.{Answer}
+use Rattle.tp_top.specs.declared.answer.Answer.TheVariants as answer
+use Rattle.tp_top.specs.declared.io.whole.TheConstants.{INPUT_MAX}
+use Rattle.tp_top.specs.declared.scenario.from_json.ScenarioError.{ScenarioError}
+use Rattle.tp_top.specs.declared.scenario.from_json.ScenarioError.TheVariants.{TooLong, BadJson, NotYet, NoMemory}
+use Rattle.tp_top.specs.Auto.{automatic_steps, bound, is_quiet}
+use Rattle.tp_top.specs.Faults.{Rose}
+use Rattle.tp_top.specs.Reads.{Reads, IsNoJson, IsNotBuilt, IsWhole}
+use Rattle.tp_top.specs.ReportText.{report_text}
+use Rattle.tp_top.specs.Whole.{TakesAtMost, TakesExactly}
+
+-- the words are the one word run
+abbrev pub IsRun : List Text → Type 0
+IsRun words = words ≡ record { 0 = codes "run" } ∷ []
+
+-- the world after the listed steps
+abbrev pub listed : Scenario → Machine
+listed sc = after sc sc.steps
+
+-- the bound on the automatic steps after them
+abbrev pub automatic_bound : Scenario → ℕ
+automatic_bound sc = bound sc (length (listed sc).undelivered)
+
+-- the automatic steps after them
+abbrev pub automatic : Scenario → List Step
+automatic sc = automatic_steps sc (automatic_bound sc) (listed sc)
+
+-- the world after all of them
+abbrev pub final : Scenario → Machine
+final sc = after_steps sc (listed sc) (automatic sc)
+
+-- the report of that world
+abbrev pub report_of : Scenario → List ℕ
+report_of sc = report_text sc (final sc).state.facts (ending_of sc (final sc).state)
+
+-- exactly these bytes were consumed, and the input is at its end
+pub record TakesAll (old new : Option (List ℕ)) (bytes : List ℕ) : Type 0 where
+  pub consumed : Consumes old new bytes
+  pub at_end : IsAtEnd new
+
+-- the input was read whole as a scenario, whose run comes to rest, and the text is its report
+pub record RunsTo (old new : Option (List ℕ)) (text : List ℕ) : Type 0 where
+  pub bytes : List ℕ
+  pub scenario : Scenario
+  pub taken : TakesAll old new bytes
+  pub reads : Reads bytes scenario
+  pub quiet : is_quiet scenario (final scenario) ≡ true
+  pub within : length (automatic scenario) ≤ automatic_bound scenario
+  pub text_is : text ≡ report_of scenario
+
+-- the input was read whole as a scenario, and as many automatic steps as the bound were done without an end
+pub record RunsOut (old new : Option (List ℕ)) : Type 0 where
+  pub bytes : List ℕ
+  pub scenario : Scenario
+  pub taken : TakesAll old new bytes
+  pub reads : Reads bytes scenario
+  pub restless : is_quiet scenario (final scenario) ≡ false
+  pub used_up : length (automatic scenario) ≡ automatic_bound scenario
+
+-- the input was read whole, and is no JSON text
+pub record TakesNoJson (old new : Option (List ℕ)) : Type 0 where
+  pub bytes : List ℕ
+  pub taken : TakesAll old new bytes
+  pub no_json : IsNoJson bytes
+
+-- the input was read whole, and is not of the form that is built so far
+pub record TakesNotBuilt (old new : Option (List ℕ)) (path : Text) : Type 0 where
+  pub bytes : List ℕ
+  pub taken : TakesAll old new bytes
+  pub not_built : IsNotBuilt bytes
+  pub whole : IsWhole path
+
+-- why the scenario was refused
+abbrev pub IsRefusedFor : Option (List ℕ) → Option (List ℕ) → ScenarioError → Type 0
+IsRefusedFor old new TooLong = TakesExactly (INPUT_MAX + 1) old new
+IsRefusedFor old new BadJson = TakesNoJson old new
+IsRefusedFor old new (NotYet path) = TakesNotBuilt old new path
+IsRefusedFor old new NoMemory = ⊥
+
+-- the answer to the word run, with its cause; want of memory has none
+abbrev pub Answers : Option (List ℕ) → Option (List ℕ) → ℕ → ℕ → Answer → Type 0
+Answers old new faults faults' (answer.Report text) = RunsTo old new text.0
+Answers old new faults faults' (answer.Refused why) = IsRefusedFor old new why
+Answers old new faults faults' answer.ReadFault = Rose faults faults' × TakesAtMost (INPUT_MAX + 1) old new
+Answers old new faults faults' answer.Budget = RunsOut old new
+Answers old new faults faults' answer.NoMemory = Unit {0}
+
+-- what comes of a scenario's run: its report, or no end within the bound
+abbrev pub IsRunOf : Scenario → Option Text → Type 0
+IsRunOf sc (Some text) = (is_quiet sc (final sc) ≡ true) × (text.0 ≡ report_of sc)
+IsRunOf sc None = (is_quiet sc (final sc) ≡ false) × (length (automatic sc) ≡ automatic_bound sc)
+
+-- the same, as an answer
+abbrev pub IsReported : Scenario → Answer → Type 0
+IsReported sc (answer.Report text) = IsRunOf sc (Some text)
+IsReported sc answer.Budget = IsRunOf sc None
+IsReported sc answer.NoMemory = Unit {0}
+IsReported sc (answer.Refused why) = ⊥
+IsReported sc answer.ReadFault = ⊥

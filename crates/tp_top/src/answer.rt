@@ -1,0 +1,103 @@
+//! The answer to the word `run`, made whole before anything is written.
+ghost use Rattle.std.specs.Prelude.{◌≡◌, ◌++◌, true, IfOk, codes};
+ghost use Rattle.tp_model.specs.Built as built;
+ghost use Rattle.tp_machine.specs.Machine.{ending_of};
+ghost use Rattle.tp_top.specs.Refusals as refusals;
+ghost use Rattle.tp_top.specs.ReportText.{report_text};
+ghost use Rattle.tp_top.specs.Run.{Answers, IsReported, IsRunOf};
+
+use crate::auto::{Drained, bound, drain};
+use crate::io::{ReadError, Source, read_to_end};
+use crate::report::print;
+use crate::scenario::{ScenarioError, read};
+use std::alloc::Global;
+use tp_machine::World;
+use tp_types::{List, NoMemory, Scenario, Text};
+
+/// What comes of an input.
+#[derive(Drop)]
+pub enum Answer {
+    /// The report of its run.
+    Report(Text),
+    /// It is not a scenario that can be run.
+    Refused(ScenarioError),
+    /// The input failed.
+    ReadFault,
+    /// The automatic steps came to their bound without an end.
+    Budget,
+    /// No memory was to be had.
+    NoMemory,
+}
+
+/// Reads an input to its end and runs its scenario.
+pub fn answer_to<I: Source>(alloc: Global, input: &mut I) -> Answer
+    ensures cause { Answers (I.left input.old) (I.left input.new) (I.faults input.old) (I.faults input.new) result }
+{
+    match read_to_end(alloc, input) {
+        Err(ReadError::TooLong) => Answer::Refused(ScenarioError::TooLong),
+        Err(ReadError::Fault) => Answer::ReadFault,
+        Err(ReadError::NoMemory) => Answer::NoMemory,
+        Ok(bytes) => match read(alloc, bytes.as_slice()) {
+            Err(ScenarioError::NoMemory) => Answer::NoMemory,
+            Err(why) => Answer::Refused(why),
+            Ok(scenario) => reported(alloc, &scenario),
+        },
+    }
+}
+
+/// Runs a scenario and prints its report.
+fn reported(alloc: Global, scenario: &Scenario) -> Answer
+    requires { built.is_built scenario.now ≡ true }
+    ensures { IsReported scenario.now result }
+{
+    match run(alloc, scenario) {
+        Err(NoMemory) => Answer::NoMemory,
+        Ok(None) => Answer::Budget,
+        Ok(Some(text)) => Answer::Report(text),
+    }
+}
+
+/// The report of a run, or None where the automatic steps came to their bound. The form that is built lists no steps.
+fn run(alloc: Global, scenario: &Scenario) -> Result<Option<Text>, NoMemory>
+    requires { built.is_built scenario.now ≡ true }
+    ensures { IfOk result (IsRunOf scenario.now) }
+{
+    let mut world = World::start(alloc, scenario)?;
+    let budget = bound(scenario, 0);
+    match drain(&mut world, alloc, budget) {
+        Drained::NoMemory => Err(NoMemory),
+        Drained::Budget => Ok(None),
+        Drained::Quiet => Ok(Some(text_of(alloc, &world)?)),
+    }
+}
+
+/// The report of a world.
+fn text_of(alloc: Global, world: &World) -> Result<Text, NoMemory>
+    ensures { IfOk result (λ text. text.0 ≡ report_text world.now.scenario world.now.machine.state.facts (ending_of world.now.scenario world.now.machine.state)) }
+{
+    let ending = world.ending(alloc)?;
+    print(alloc, world.scenario(), world.facts(), &ending)
+}
+
+/// The line that says why a scenario was refused.
+pub fn refusal_line(alloc: Global, why: &ScenarioError) -> Result<Text, NoMemory>
+    ensures { IfOk result (λ line. line.0 ≡ refusals.refusal_line why.now) }
+{
+    match why {
+        ScenarioError::TooLong => line_of(alloc, b"refused toolong\n"),
+        ScenarioError::BadJson => line_of(alloc, b"refused badjson\n"),
+        ScenarioError::NotYet { path } => {
+            let mut line = Vec::from_slice(alloc, b"refused notyet ")?;
+            line.extend_from_slice(path.0.as_slice())?;
+            line.extend_from_slice(b"\n")?;
+            Ok(Text(List::from_vec(line)))
+        }
+        ScenarioError::NoMemory => line_of(alloc, b""),
+    }
+}
+
+fn line_of(alloc: Global, bytes: &[u8]) -> Result<Text, NoMemory>
+    ensures { IfOk result (λ line. line.0 ≡ bytes.now) }
+{
+    Ok(Text(List::from_vec(Vec::from_slice(alloc, bytes)?)))
+}

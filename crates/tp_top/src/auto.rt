@@ -1,0 +1,123 @@
+//! The automatic phase: what happens by itself when no step is listed, until the world is quiet.
+ghost use Rattle.std.specs.Prelude.{◌≡◌, ◌≢◌, ◌<◌, ◌≤◌, ◌^◌, true, false, None, length, IfSome};
+ghost use Rattle.tp_model.specs.Built as built;
+ghost use Rattle.tp_machine.specs.Machine.{is_submitted, refusal};
+ghost use Rattle.tp_machine.specs.Seen.{IsTaken};
+ghost use Rattle.tp_machine.specs.Sound.{IsStepOf};
+ghost use Rattle.tp_top.specs.Auto as automatic;
+ghost use Rattle.tp_top.specs.Auto.{Drains, IsSpent, Stops, is_quiet, lowest_unsubmitted, next_of};
+
+use std::alloc::Global;
+use tp_machine::World;
+use tp_types::{Scenario, Step, Transaction, TxnId};
+
+/// How a drain ended.
+#[derive(Drop)]
+pub enum Drained {
+    /// The world is quiet.
+    Quiet,
+    /// All steps of the budget were taken, and the world is not quiet.
+    Budget,
+    /// Memory was refused: the world is given up.
+    NoMemory,
+}
+
+/// The lowest transaction that is not submitted.
+fn lowest_unsubmitted(world: &World) -> Option<TxnId>
+    ensures value { result ≡ lowest_unsubmitted world.now.scenario world.now.machine.state.actors }
+    ensures unsubmitted { IfSome result (λ txn. is_submitted world.now.machine.state.actors txn ≡ false) }
+    ensures declared { IfSome result (λ txn. txn.0 < length world.now.scenario.txns) }
+{
+    (0..world.scenario().txns.len() as u32)
+        .map(TxnId)
+        .find(|txn| !world.is_submitted(*txn))
+}
+
+/// The next step that comes by itself, or None where the world is quiet: the oldest undelivered mail is delivered, or else
+/// the lowest transaction that is not submitted is submitted. The cursor is where a timer will be looked for first.
+pub fn next(world: &World, cursor: u32) -> Option<Step>
+    ensures value { result ≡ next_of world.now.scenario world.now.machine cursor }
+    ensures taken { IfSome result IsTaken }
+    ensures ids { IfSome result (IsStepOf world.now.scenario) }
+    ensures allowed { IfSome result (λ step. refusal world.now.machine.state step ≡ None) }
+{
+    match world.oldest() {
+        Some(mail) => Some(Step::Deliver { mail }),
+        None => lowest_unsubmitted(world).map(|txn| Step::Submit { txn }),
+    }
+}
+
+/// Takes automatic steps until the world is quiet, or so many of them were taken, or memory is refused. A world that was
+/// given up before stays as it is.
+pub fn drain(world: &mut World, alloc: Global, budget: u64) -> Drained
+    ensures steps { result ≢ Drained.NoMemory → Drains world.old world.new budget }
+    ensures quiet { result ≡ Drained.Quiet → is_quiet world.new.scenario world.new.machine ≡ true }
+    ensures budget { result ≡ Drained.Budget → IsSpent world.old world.new budget }
+    ensures memory { result ≡ Drained.NoMemory → world.new.given_up ≡ true }
+    ensures stopped { result ≡ Drained.NoMemory → world.old.given_up ≡ false → Stops world.old world.new budget }
+    ensures unchanged { world.old.given_up ≡ true → world.new ≡ world.old }
+    ensures scenario { world.new.scenario ≡ world.old.scenario }
+{
+    if world.given_up() {
+        return Drained::NoMemory;
+    }
+    for _turn in 0..budget {
+        match next(world, 0) {
+            None => return Drained::Quiet,
+            Some(step) => match world.step(alloc, &step) {
+                Ok(()) => {}
+                Err(_) => return Drained::NoMemory,
+            },
+        }
+    }
+    match next(world, 0) {
+        None => Drained::Quiet,
+        Some(_) => Drained::Budget,
+    }
+}
+
+/// The most queries of a transaction, 0 if there is none.
+fn most_queries(txns: &[Transaction]) -> u64
+    ensures { result ≡ automatic.most_queries txns.now }
+{
+    txns.iter()
+        .fold(0, |most, txn| most.max(txn.queries.len() as u64))
+}
+
+/// The greatest round limit, at least 2.
+fn most_rounds(txns: &[Transaction]) -> u64
+    ensures { result ≡ automatic.most_rounds txns.now }
+{
+    txns.iter()
+        .fold(2, |most, txn| most.max(u64::from(txn.rounds)))
+}
+
+#[tactic(auto, using(crate::proofs::BoundLemmas::work_is_small))]
+fn bound_by(txns: u64, queries: u64, rounds: u64, servers: u64, undelivered: u64) -> u64
+    requires txns { txns ≤ 128 }
+    requires queries { queries ≤ 16 }
+    requires rounds { rounds ≤ 16 }
+    requires servers { servers ≤ 16 }
+    requires undelivered { undelivered < 2 ^ 32 }
+    ensures { result ≡ automatic.bound_by txns queries rounds servers undelivered }
+{
+    let turns = txns * ((queries + 1) * (3 * rounds + 3) + servers + 2) + 1;
+    let each = 16 * (txns + 1) * (servers + 1);
+    3 * undelivered + turns * each + servers + txns + 2
+}
+
+/// How many automatic steps a run allows from a world with so many undelivered mails on.
+#[tactic(auto, using(crate::proofs::BoundLemmas::most_queries_built, crate::proofs::BoundLemmas::most_rounds_built))]
+pub fn bound(scenario: &Scenario, undelivered: u64) -> u64
+    requires built { built.is_built scenario.now ≡ true }
+    requires few { undelivered < 2 ^ 32 }
+    ensures { result ≡ automatic.bound scenario.now undelivered }
+{
+    bound_by(
+        scenario.txns.len() as u64,
+        most_queries(scenario.txns.as_slice()),
+        most_rounds(scenario.txns.as_slice()),
+        scenario.servers.len() as u64,
+        undelivered,
+    )
+}

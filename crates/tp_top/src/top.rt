@@ -1,0 +1,78 @@
+//! The top call of the program.
+ghost use Rattle.std.specs.Prelude.{◌≡◌, ◌≢◌, ◌⊎◌, ◌↔◌, [], IsTrue, IfOk};
+ghost use Rattle.std.specs.Io.KnownBytes.{Appends};
+ghost use Rattle.tp_top.specs.declared.status.Status.TheVariants as Status;
+ghost use Rattle.tp_top.specs.Refusals.{usage_line};
+ghost use Rattle.tp_top.specs.Run.{IsRun, IsRefusedFor, RunsTo};
+ghost use Rattle.tp_top.specs.Top as top;
+ghost use Rattle.tp_top.specs.Top.{IsDone, IsRefused, IsUsage, IsReadFault, IsBudget, IsNoMemory, IsOutFault, IsRefusalFault, IsUsageFault};
+
+use crate::answer::{Answer, answer_to, refusal_line};
+use crate::io::{Sink, Source, write_all};
+use crate::scenario::ScenarioError;
+use crate::status::Status;
+use std::alloc::Global;
+use tp_model::only;
+use tp_types::Text;
+
+/// Does all that the program does: reads the input where the words are `run`, and writes the report to `out`, or why there
+/// is none to `notes`. It always returns. The whole text is made before the first write, and the writes take no memory.
+pub fn tpvc<I: Source, O: Sink, N: Sink>(
+    alloc: Global,
+    words: &[Text],
+    input: &mut I,
+    out: &mut O,
+    notes: &mut N,
+) -> Status
+    ensures done { result ≡ Status.Done
+        → IsDone words.now (I.left input.old) (I.left input.new) (O.written out.old) (O.written out.new) (N.written notes.old) (N.written notes.new) }
+    ensures refused { result ≡ Status.Refused
+        → IsRefused words.now (I.left input.old) (I.left input.new) (O.written out.old) (O.written out.new) (N.written notes.old) (N.written notes.new) }
+    ensures usage { result ≡ Status.Usage
+        → IsUsage words.now (O.written out.old) (O.written out.new) (N.written notes.old) (N.written notes.new) }
+    ensures read_fault { result ≡ Status.ReadFault
+        → IsReadFault words.now (I.left input.old) (I.left input.new) (O.written out.old) (O.written out.new) (N.written notes.old) (N.written notes.new) (I.faults input.old) (I.faults input.new) }
+    ensures write_fault { result ≡ Status.WriteFault
+        → IsOutFault words.now (I.left input.old) (I.left input.new) (O.written out.old) (O.written out.new) (N.written notes.old) (N.written notes.new) (O.faults out.old) (O.faults out.new)
+        ⊎ (IsRefusalFault words.now (I.left input.old) (I.left input.new) (O.written out.old) (O.written out.new) (N.written notes.old) (N.written notes.new) (N.faults notes.old) (N.faults notes.new)
+        ⊎ IsUsageFault words.now (O.written out.old) (O.written out.new) (N.written notes.old) (N.written notes.new) (N.faults notes.old) (N.faults notes.new)) }
+    ensures no_memory { result ≡ Status.NoMemory
+        → IsNoMemory (O.written out.old) (O.written out.new) (N.written notes.old) (N.written notes.new) }
+    ensures budget { result ≡ Status.Budget
+        → IsBudget words.now (I.left input.old) (I.left input.new) (O.written out.old) (O.written out.new) (N.written notes.old) (N.written notes.new) }
+
+    // Where the words are another command nothing is read.
+    ensures unread { ¬ (IsRun words.now) → input.new ≡ input.old }
+{
+    if !is_run(words) {
+        return match write_all(notes, b"usage: tpvc COMMAND [WORD]\n") {
+            Ok(()) => Status::Usage,
+            Err(_) => Status::WriteFault,
+        };
+    }
+    match answer_to(alloc, input) {
+        Answer::Report(text) => match write_all(out, text.0.as_slice()) {
+            Ok(()) => Status::Done,
+            Err(_) => Status::WriteFault,
+        },
+        Answer::Refused(why) => match refusal_line(alloc, &why) {
+            Err(_) => Status::NoMemory,
+            Ok(line) => match write_all(notes, line.0.as_slice()) {
+                Ok(()) => Status::Refused,
+                Err(_) => Status::WriteFault,
+            },
+        },
+        Answer::ReadFault => Status::ReadFault,
+        Answer::Budget => Status::Budget,
+        Answer::NoMemory => Status::NoMemory,
+    }
+}
+
+fn is_run(words: &[Text]) -> bool
+    ensures { IsTrue result ↔ IsRun words.now }
+{
+    match only(words) {
+        None => false,
+        Some(word) => word.0.as_slice() == b"run".as_slice(),
+    }
+}
