@@ -4,4 +4,5 @@ pub mod IoLemmas
 pub mod Numbers
 pub mod Objects
 pub mod RunLemmas
+pub mod TopLemmas
 pub mod Walks

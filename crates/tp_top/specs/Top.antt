@@ -1,12 +1,18 @@
 -- What the top call promises at each status: what was read, what was written, and why.
-use Rattle.std.specs.Prelude.{ℕ, ◌+◌, List, [], Option}
+use Rattle.std.specs.Prelude.{◌≡◌, ◌⊎◌, ◌<◌, ℕ, ◌+◌, List, [], length, true, false, Option, codes}
 use Rattle.std.specs.Io.KnownBytes.{Appends}
 use Rattle.tp_types.specs.declared.name.Text.{Text}
+use Rattle.tp_types.specs.declared.scenario.Scenario.{Scenario}
 use Rattle.tp_top.specs.declared.io.whole.TheConstants.{INPUT_MAX}
 use Rattle.tp_top.specs.declared.scenario.from_json.ScenarioError.{ScenarioError}
+use Rattle.tp_top.specs.declared.scenario.from_json.ScenarioError.TheVariants as error
+use Rattle.tp_top.specs.declared.status.Status.{Status}
+use Rattle.tp_top.specs.declared.status.Status.TheVariants.{Done, Refused, NoMemory, Budget}
+use Rattle.tp_top.specs.Auto.{is_quiet}
 use Rattle.tp_top.specs.Faults.{Rose}
+use Rattle.tp_top.specs.Reads.{Reads, IsNoJson, IsNotBuilt}
 use Rattle.tp_top.specs.Refusals.{refusal_line, usage_line}
-use Rattle.tp_top.specs.Run.{IsRun, IsRefusedFor, RunsOut, RunsTo}
+use Rattle.tp_top.specs.Run.{IsRun, IsRefusedFor, RunsOut, RunsTo, final}
 use Rattle.tp_top.specs.Whole.{AppendsFront, TakesAtMost}
 
 -- nothing was written
@@ -101,3 +107,21 @@ pub record IsUsageFault (words : List Text) (out out' notes notes' : Option (Lis
   pub no_command : ¬ (IsRun words)
   pub usage : FailsInUsage notes notes' faults faults'
   pub out_kept : Untouched out out'
+
+-- ---- which status comes, where the input is told and no count rose
+
+-- the refusal with this line, or want of memory
+abbrev pub Says : Status → Option (List ℕ) → Option (List ℕ) → ScenarioError → Type 0
+Says status notes notes' why = ((status ≡ Refused) × Appends notes notes' (refusal_line why)) ⊎ (status ≡ NoMemory)
+
+-- this status, or want of memory
+abbrev pub Ends : Status → Status → Type 0
+Ends status wanted = (status ≡ wanted) ⊎ (status ≡ NoMemory)
+
+-- each cause in the input has its status, and its line where it is a refusal
+pub record EndsRightly (input : List ℕ) (status : Status) (notes notes' : Option (List ℕ)) : Type 0 where
+  pub too_long : INPUT_MAX < length input → Says status notes notes' error.TooLong
+  pub no_json : IsNoJson input → Says status notes notes' error.BadJson
+  pub not_built : IsNotBuilt input → Says status notes notes' (error.NotYet (record { 0 = codes "$" }))
+  pub at_rest : (sc : Scenario) → Reads input sc → is_quiet sc (final sc) ≡ true → Ends status Done
+  pub restless : (sc : Scenario) → Reads input sc → is_quiet sc (final sc) ≡ false → Ends status Budget

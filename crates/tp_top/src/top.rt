@@ -1,11 +1,12 @@
 //! The top call of the program.
-ghost use Rattle.std.specs.Prelude.{◌≡◌, ◌≢◌, ◌⊎◌, ◌↔◌, [], IsTrue, IfOk};
+ghost use Rattle.std.specs.Prelude.{◌≡◌, ◌≢◌, ◌⊎◌, ◌↔◌, [], IsTrue, IfOk, IfSome};
 ghost use Rattle.std.specs.Io.KnownBytes.{Appends};
 ghost use Rattle.tp_top.specs.declared.status.Status.TheVariants as Status;
+ghost use Rattle.tp_top.specs.Faults.{Rose};
 ghost use Rattle.tp_top.specs.Refusals.{usage_line};
 ghost use Rattle.tp_top.specs.Run.{IsRun, IsRefusedFor, RunsTo};
 ghost use Rattle.tp_top.specs.Top as top;
-ghost use Rattle.tp_top.specs.Top.{IsDone, IsRefused, IsUsage, IsReadFault, IsBudget, IsNoMemory, IsOutFault, IsRefusalFault, IsUsageFault};
+ghost use Rattle.tp_top.specs.Top.{IsDone, IsRefused, IsUsage, IsReadFault, IsBudget, IsNoMemory, IsOutFault, IsRefusalFault, IsUsageFault, EndsRightly};
 
 use crate::answer::{Answer, answer_to, refusal_line};
 use crate::io::{Sink, Source, write_all};
@@ -40,6 +41,12 @@ pub fn tpvc<I: Source, O: Sink, N: Sink>(
         → IsNoMemory (O.written out.old) (O.written out.new) (N.written notes.old) (N.written notes.new) }
     ensures budget { result ≡ Status.Budget
         → IsBudget words.now (I.left input.old) (I.left input.new) (O.written out.old) (O.written out.new) (N.written notes.old) (N.written notes.new) }
+
+    // Where no count rose, another command is answered by usage, and each cause in an input that is told by its status.
+    ensures called { ¬ (IsRun words.now) → ¬ (Rose (N.faults notes.old) (N.faults notes.new)) → result ≡ Status.Usage }
+    ensures complete { IsRun words.now → ¬ (Rose (I.faults input.old) (I.faults input.new))
+        → ¬ (Rose (O.faults out.old) (O.faults out.new)) → ¬ (Rose (N.faults notes.old) (N.faults notes.new))
+        → IfSome (I.left input.old) (λ bytes. EndsRightly bytes result (N.written notes.old) (N.written notes.new)) }
 
     // Where the words are another command nothing is read.
     ensures unread { ¬ (IsRun words.now) → input.new ≡ input.old }

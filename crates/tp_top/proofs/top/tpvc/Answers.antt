@@ -1,5 +1,6 @@
 use Rattle.std.proofs.Common.{rules, inl, inr, ◌∙◌}
 use Rattle.std.proofs.KnownBytes.{Appends-nil}
+use Rattle.tp_top.proofs.TopLemmas.{refusal_complete, report_complete, budget_complete}
 use Rattle.tp_top.proofs.top.tpvc.Goals as goal
 
 pub returns-in-Refused-clause-write_fault : goal.returns-in-Refused-clause-write_fault
@@ -15,3 +16,14 @@ returns-in-Refused-clause-write_fault g c =
       };
       out_kept = Appends-nil _;
     }))
+
+pub returns-in-Ok-write_all-2-clause-complete : goal.returns-in-Ok-write_all-2-clause-complete
+returns-in-Ok-write_all-2-clause-complete g c =
+    let line = c.as_slice-in-Ok-refusal_line.ensures ∙ c.in-Ok-refusal_line.ensures in
+    λ _ _ _ _. refusal_complete _ _ _ _ c.in-Refused.why c.in-Refused.ensures.cause (rw line at c.in-Ok-write_all-2.ensures.whole)
+
+pub returns-in-Ok-write_all-clause-complete : goal.returns-in-Ok-write_all-clause-complete
+returns-in-Ok-write_all-clause-complete g c = λ _ _ _ _. report_complete _ _ _ _ _ c.in-Report.ensures.cause
+
+pub returns-in-Budget-clause-complete : goal.returns-in-Budget-clause-complete
+returns-in-Budget-clause-complete g c = λ _ _ _ _. budget_complete _ _ _ _ c.in-Budget.ensures.cause
