@@ -116,7 +116,7 @@ const BUILT: &[(&[Edit], &str)] = &[
 ];
 
 /// Edits after each of which the scenario is of no form that is built yet.
-const NOT_YET: &[Edit] = &[
+pub const NOT_YET: &[Edit] = &[
     // a key is missing
     (
         r#""admins":[{"name":"hr","policies":["allow any on * if true;"]}],"#,
@@ -290,10 +290,10 @@ const TOO_MANY_DIGITS: &[Edit] = &[
 ];
 
 /// Whole texts that have a reading, of no form that is built yet.
-const OTHER_VALUES: &[&str] = &["[]", "{}", "null", "7", r#""write x := 7""#];
+pub const OTHER_VALUES: &[&str] = &["[]", "{}", "null", "7", r#""write x := 7""#];
 
 /// Bytes that are no JSON text.
-const NO_JSON: &[&[u8]] = &[
+pub const NO_JSON: &[&[u8]] = &[
     b"",
     b" ",
     br#"{"admins":["#,

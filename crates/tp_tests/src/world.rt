@@ -1,72 +1,131 @@
 //! The world of the first scenario, step by step.
 use crate::scenario::FIRST;
+use std::alloc::Global;
 use std::test::Fail;
 use tp_machine::{StepError, World};
 use tp_top::auto::{Drained, bound, drain, next};
 use tp_top::scenario::read;
-use tp_types::{Actor, ServerId, Step, TxnId};
+use tp_types::{Step, TxnId};
 
 const T1: TxnId = TxnId(0);
 
 /// The bound of the first scenario: one transaction of one query, one server, at most eight rounds.
 const BOUND: u64 = (2 * 27 + 3 + 1) * 16 * 2 * 2 + 1 + 1 + 2;
 
+fn start(alloc: Global, bytes: &[u8]) -> Result<World, Fail> {
+    match read(alloc, bytes) {
+        Ok(scenario) => Ok(World::start(alloc, &scenario)?),
+        Err(_) => Err(Fail::from("no scenario")),
+    }
+}
+
+fn submit(alloc: Global, world: &mut World) -> Result<(), StepError> {
+    if world.scenario().txns.is_empty() {
+        return Err(StepError::NoMemory);
+    }
+    world.step(alloc, &Step::Submit { txn: T1 })
+}
+
+fn deliver(alloc: Global, world: &mut World, mail: u64) -> Result<(), StepError> {
+    world.step(alloc, &Step::Deliver { mail })
+}
+
+fn settle(alloc: Global, world: &mut World, budget: u64) -> Drained {
+    drain(world, alloc, budget)
+}
+
+/// The world after the first step.
+fn submitted(alloc: Global, bytes: &[u8]) -> Result<World, Fail> {
+    let mut world = start(alloc, bytes)?;
+    match submit(alloc, &mut world) {
+        Ok(()) => Ok(world),
+        Err(_) => Err(Fail::from("not submitted")),
+    }
+}
+
+/// The world after automatic steps of that number, and how they ended.
+fn drained(alloc: Global, bytes: &[u8], budget: u64) -> Result<(World, Drained), Fail> {
+    let mut world = start(alloc, bytes)?;
+    let end = settle(alloc, &mut world, budget);
+    Ok((world, end))
+}
+
+fn chosen(world: &World) -> Option<Step> {
+    next(world, 0)
+}
+
+/// The step that is chosen after automatic steps of that number.
+fn step_after(alloc: Global, bytes: &[u8], budget: u64) -> Result<Option<Step>, Fail> {
+    let (world, _) = drained(alloc, bytes, budget)?;
+    Ok(chosen(&world))
+}
+
+fn bound_of(alloc: Global, bytes: &[u8]) -> Result<u64, Fail> {
+    match read(alloc, bytes) {
+        Ok(scenario) => Ok(bound(&scenario, 0)),
+        Err(_) => Err(Fail::from("no scenario")),
+    }
+}
+
+/// What a first delivery is refused for.
+fn early(alloc: Global, bytes: &[u8]) -> Result<Option<StepError>, Fail> {
+    let mut world = start(alloc, bytes)?;
+    Ok(deliver(alloc, &mut world, 0).err())
+}
+
+/// What a second submission is refused for.
+fn again(alloc: Global, bytes: &[u8]) -> Result<Option<StepError>, Fail> {
+    let mut world = submitted(alloc, bytes)?;
+    Ok(submit(alloc, &mut world).err())
+}
+
+/// What the delivery of a mail that was never sent is refused for.
+fn beyond(alloc: Global, bytes: &[u8]) -> Result<Option<StepError>, Fail> {
+    let mut world = submitted(alloc, bytes)?;
+    Ok(deliver(alloc, &mut world, 1).err())
+}
+
 #[test]
 fn refuses_what_no_step_may_do(rt: HostRuntime) -> Result<(), Fail> {
     let alloc = rt.alloc();
-    let mut world = World::start(
-        alloc,
-        &read(alloc, FIRST.as_bytes()).ok().ok_or("no scenario")?,
-    )?;
-    let early = world.step(alloc, &Step::Deliver { mail: 0 });
-    assert!(rt; matches!(early, Err(StepError::NoSuchMail { mail: 0, mails: 0 })));
-    assert!(rt; world.step(alloc, &Step::Submit { txn: T1 }).is_ok());
-    let again = world.step(alloc, &Step::Submit { txn: T1 });
-    assert!(rt; matches!(again, Err(StepError::AlreadySubmitted { txn: TxnId(0) })));
-    let beyond = world.step(alloc, &Step::Deliver { mail: 1 });
-    assert!(rt; matches!(beyond, Err(StepError::NoSuchMail { mail: 1, mails: 1 })));
-    assert_eq!(rt; world.steps().len(), 1);
-    assert_eq!(rt; world.facts().len(), 1);
+    let early = early(alloc, FIRST.as_bytes())?;
+    assert!(rt; matches!(early, Some(StepError::NoSuchMail { mail: 0, mails: 0 })));
+    let again = again(alloc, FIRST.as_bytes())?;
+    assert!(rt; matches!(again, Some(StepError::AlreadySubmitted { txn: TxnId(0) })));
+    let beyond = beyond(alloc, FIRST.as_bytes())?;
+    assert!(rt; matches!(beyond, Some(StepError::NoSuchMail { mail: 1, mails: 1 })));
     Ok(())
 }
 
 #[test]
-fn shows_what_is_undelivered(rt: HostRuntime) -> Result<(), Fail> {
-    let alloc = rt.alloc();
-    let mut world = World::start(
-        alloc,
-        &read(alloc, FIRST.as_bytes()).ok().ok_or("no scenario")?,
-    )?;
-    assert!(rt; !world.is_submitted(T1));
-    assert_eq!(rt; world.oldest(), None);
-    assert!(rt; world.step(alloc, &Step::Submit { txn: T1 }).is_ok());
-    assert!(rt; world.is_submitted(T1));
-    assert!(rt; world.undelivered(0));
-    assert!(rt; !world.undelivered(1));
-    assert!(rt; world.step(alloc, &Step::Deliver { mail: 0 }).is_ok());
-    assert!(rt; !world.undelivered(0));
-    assert_eq!(rt; world.oldest(), Some(1));
-    assert_eq!(rt; world.mails(), 2);
-    assert!(rt; !world.down(&Actor::Server(ServerId(0))));
-    assert!(rt; !world.given_up());
-    assert_eq!(rt; world.scenario().items.len(), 1);
+fn chooses_its_next_step(rt: HostRuntime) -> Result<(), Fail> {
+    let first = step_after(rt.alloc(), FIRST.as_bytes(), 0)?;
+    assert!(rt; matches!(first, Some(Step::Submit { txn: TxnId(0) })));
+    let second = step_after(rt.alloc(), FIRST.as_bytes(), 1)?;
+    assert!(rt; matches!(second, Some(Step::Deliver { mail: 0 })));
+    let third = step_after(rt.alloc(), FIRST.as_bytes(), 2)?;
+    assert!(rt; matches!(third, Some(Step::Deliver { mail: 1 })));
+    Ok(())
+}
+
+#[test]
+fn has_its_bound(rt: HostRuntime) -> Result<(), Fail> {
+    assert_eq!(rt; bound_of(rt.alloc(), FIRST.as_bytes())?, BOUND);
+    Ok(())
+}
+
+#[test]
+fn comes_to_its_budget(rt: HostRuntime) -> Result<(), Fail> {
+    let (world, end) = drained(rt.alloc(), FIRST.as_bytes(), 8)?;
+    assert!(rt; matches!(end, Drained::Budget));
+    assert!(rt; matches!(chosen(&world), Some(Step::Deliver { mail: 7 })));
     Ok(())
 }
 
 #[test]
 fn comes_to_rest(rt: HostRuntime) -> Result<(), Fail> {
-    let alloc = rt.alloc();
-    let scenario = read(alloc, FIRST.as_bytes()).ok().ok_or("no scenario")?;
-    assert_eq!(rt; bound(&scenario, 0), BOUND);
-    let mut world = World::start(alloc, &scenario)?;
-    assert!(rt; matches!(drain(&mut world, alloc, 8), Drained::Budget));
-    assert_eq!(rt; world.steps().len(), 8);
-    assert!(rt; matches!(next(&world, 0), Some(Step::Deliver { mail: 7 })));
-    assert!(rt; matches!(drain(&mut world, alloc, 1), Drained::Quiet));
-    assert!(rt; next(&world, 0).is_none());
-    let ending = world.ending(alloc)?;
-    assert_eq!(rt; ending.steps, 9);
-    assert_eq!(rt; ending.mails, 8);
-    assert_eq!(rt; ending.values.as_slice(), [7i128].as_slice());
+    let (world, end) = drained(rt.alloc(), FIRST.as_bytes(), 9)?;
+    assert!(rt; matches!(end, Drained::Quiet));
+    assert!(rt; chosen(&world).is_none());
     Ok(())
 }
