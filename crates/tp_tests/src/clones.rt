@@ -68,9 +68,8 @@ fn answers(rt: &(impl Abort + AllocGlobal)) -> Vec<Answer> {
         .expect(rt, "memory for answers")
 }
 
-/// One body of each kind.
-fn bodies(rt: &(impl Abort + AllocGlobal)) -> Vec<Body> {
-    let query = QueryRequest {
+fn query_request(rt: &(impl Abort + AllocGlobal)) -> QueryRequest {
+    QueryRequest {
         txn: T1,
         turn: 1,
         query: 1,
@@ -79,32 +78,56 @@ fn bodies(rt: &(impl Abort + AllocGlobal)) -> Vec<Body> {
         value: Some(7),
         staple: Some(staple(rt)),
         pin: Some(Version(1)),
-    };
-    let validate = ValidateRequest {
+    }
+}
+
+fn validate_request(rt: &(impl Abort + AllocGlobal)) -> ValidateRequest {
+    ValidateRequest {
         txn: T1,
         turn: 2,
         epoch: 1,
         staple: staple(rt),
         want: one(rt, (AdminId(0), Version(2))),
-    };
-    let prepare = PrepareRequest {
+    }
+}
+
+fn prepare_request(rt: &(impl Abort + AllocGlobal)) -> PrepareRequest {
+    PrepareRequest {
         txn: T1,
         turn: 3,
         epoch: 1,
         staple: Some(staple(rt)),
         want: one(rt, (AdminId(0), Version(2))),
-    };
-    let tell = TellReply {
+    }
+}
+
+fn tell_reply(rt: &(impl Abort + AllocGlobal)) -> TellReply {
+    TellReply {
         txn: T1,
         turn: 2,
         clock: 5,
         revoked: one(rt, CredId(0)),
-    };
-    let verdicts = VerdictsReply {
+    }
+}
+
+fn verdicts_reply(rt: &(impl Abort + AllocGlobal)) -> VerdictsReply {
+    VerdictsReply {
         txn: T1,
         turn: 2,
         verdicts: Some(one(rt, verdict(rt))),
-    };
+    }
+}
+
+fn newest_reply(rt: &(impl Abort + AllocGlobal)) -> NewestReply {
+    NewestReply {
+        txn: T1,
+        turn: 4,
+        newest: one(rt, Version(2)),
+    }
+}
+
+/// One body of each kind.
+fn bodies(rt: &(impl Abort + AllocGlobal)) -> Vec<Body> {
     let yes = VoteReply {
         txn: T1,
         turn: 3,
@@ -115,11 +138,6 @@ fn bodies(rt: &(impl Abort + AllocGlobal)) -> Vec<Body> {
         turn: 3,
         vote: Vote::No(No::Range { query: 1, value: 9 }),
     };
-    let newest = NewestReply {
-        txn: T1,
-        turn: 4,
-        newest: one(rt, Version(2)),
-    };
     let decide = DecideRequest {
         txn: T1,
         outcome: Outcome::Abort,
@@ -129,16 +147,16 @@ fn bodies(rt: &(impl Abort + AllocGlobal)) -> Vec<Body> {
         version: Version(2),
     };
     let all = [
-        Body::Query(query),
+        Body::Query(query_request(rt)),
         Body::Ask(AskRequest { txn: T1, turn: 1 }),
-        Body::Tell(tell),
-        Body::Validate(validate),
-        Body::Verdicts(verdicts),
-        Body::Prepare(prepare),
+        Body::Tell(tell_reply(rt)),
+        Body::Validate(validate_request(rt)),
+        Body::Verdicts(verdicts_reply(rt)),
+        Body::Prepare(prepare_request(rt)),
         Body::Vote(yes),
         Body::Vote(no),
         Body::Probe(ProbeRequest { txn: T1, turn: 4 }),
-        Body::Newest(newest),
+        Body::Newest(newest_reply(rt)),
         Body::Decide(decide),
         Body::Ack(AckReply { txn: T1 }),
         Body::Inquire(InquireRequest { txn: T1 }),
