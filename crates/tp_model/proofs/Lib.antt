@@ -1,3 +1,9 @@
 pub mod BuiltLemmas
+pub mod CauseLemmas
+pub mod ConditionLemmas
+pub mod DemandLemmas
+pub mod HeldLemmas
+pub mod HistoryLemmas
+pub mod SerialLemmas
 pub mod ServersLemmas
 pub mod WorkLemmas

@@ -1,0 +1,193 @@
+//! What a policy allows on what is held.
+ghost use Rattle.std.specs.Prelude.{◌≡◌, slice_get, false};
+ghost use Rattle.std.specs.Option.{option_map_or};
+ghost use Rattle.std.specs.List.{list_all, list_any};
+ghost use Rattle.tp_model.specs.Audit as audit;
+ghost use Rattle.tp_model.specs.Policies as policies;
+
+use crate::audit::credentials::{Held, is_valid};
+use tp_types::{Action, Cond, CredId, Credential, Name, Op, Pattern, Policy, Rule, Value};
+
+fn is_number(value: &Value, wanted: i64) -> bool
+    ensures { result ≡ policies.same_value (Value.Number wanted) value.now }
+{
+    match value {
+        Value::Number(number) => *number == wanted,
+        Value::Word(_) => false,
+    }
+}
+
+fn is_word(value: &Value, wanted: &Name) -> bool
+    ensures { result ≡ policies.same_value (Value.Word wanted.now) value.now }
+{
+    match value {
+        Value::Number(_) => false,
+        Value::Word(word) => wanted == word,
+    }
+}
+
+fn same_value(one: &Value, other: &Value) -> bool
+    ensures { result ≡ policies.same_value one.now other.now }
+{
+    match one {
+        Value::Number(number) => is_number(other, *number),
+        Value::Word(word) => is_word(other, word),
+    }
+}
+
+fn is_at_most(one: &Value, other: &Value) -> bool
+    ensures { result ≡ policies.is_at_most one.now other.now }
+{
+    match (one, other) {
+        (Value::Number(low), Value::Number(high)) => *low <= *high,
+        _ => false,
+    }
+}
+
+fn satisfies(op: Op, wanted: &Value, found: &Value) -> bool
+    ensures { result ≡ policies.satisfies op wanted.now found.now }
+{
+    match op {
+        Op::Equal => same_value(found, wanted),
+        Op::AtLeast => is_at_most(wanted, found),
+        Op::AtMost => is_at_most(found, wanted),
+    }
+}
+
+fn meets(credential: &Credential, issuer: &Name, attr: &Name, op: Op, wanted: &Value) -> bool
+    ensures { result ≡ policies.meets issuer.now attr.now op wanted.now (audit.said_by credential.now) }
+{
+    credential.issuer == *issuer
+        && credential.attr == *attr
+        && satisfies(op, wanted, &credential.value)
+}
+
+fn says(
+    held: &Held<'_>,
+    credential: &Credential,
+    issuer: &Name,
+    attr: &Name,
+    op: Op,
+    wanted: &Value,
+) -> bool
+    ensures { result ≡ audit.says (policies.meets issuer.now attr.now op wanted.now) held.now credential.now }
+{
+    credential.subject == *held.subject && meets(credential, issuer, attr, op, wanted)
+}
+
+fn is_said(
+    held: &Held<'_>,
+    cred: CredId,
+    issuer: &Name,
+    attr: &Name,
+    op: Op,
+    wanted: &Value,
+) -> bool
+    ensures { result ≡ option_map_or (audit.says (policies.meets issuer.now attr.now op wanted.now) held.now) (slice_get held.now.scenario.now.creds cred.0) false }
+{
+    match held.scenario.creds.get(cred.0 as usize) {
+        None => false,
+        Some(credential) => says(held, credential, issuer, attr, op, wanted),
+    }
+}
+
+fn shows(held: &Held<'_>, cred: CredId, issuer: &Name, attr: &Name, op: Op, wanted: &Value) -> bool
+    ensures { result ≡ audit.shows (policies.meets issuer.now attr.now op wanted.now) held.now cred }
+{
+    is_said(held, cred, issuer, attr, op, wanted)
+        && is_valid(held.scenario, held.place, held.facts, cred)
+}
+
+fn is_met(held: &Held<'_>, issuer: &Name, attr: &Name, op: Op, wanted: &Value) -> bool
+    ensures { result ≡ list_any (policies.meets issuer.now attr.now op wanted.now) (audit.held_by held.now) }
+{
+    held.creds
+        .iter()
+        .any(|cred| shows(held, *cred, issuer, attr, op, wanted))
+}
+
+/// The condition is true of what is held.
+#[cycle(evaluation)]
+#[tactic(auto, using(crate::proofs::ConditionLemmas::holds_atom, crate::proofs::ConditionLemmas::holds_and, crate::proofs::ConditionLemmas::holds_or))]
+pub fn holds(held: &Held<'_>, cond: &Cond) -> bool
+    ensures { result ≡ policies.holds (audit.held_by held.now) cond.now }
+{
+    match cond {
+        Cond::True => true,
+        Cond::Atom {
+            issuer,
+            attr,
+            op,
+            value,
+        } => is_met(held, issuer, attr, *op, value),
+        Cond::And(members) => all_hold(held, members.as_slice()),
+        Cond::Or(members) => any_holds(held, members.as_slice()),
+    }
+}
+
+#[cycle(evaluation)]
+fn all_hold(held: &Held<'_>, members: &[Cond]) -> bool
+    ensures { result ≡ list_all (policies.holds (audit.held_by held.now)) members.now }
+{
+    for member in members {
+        if !holds(held, member) {
+            return false;
+        }
+    }
+    true
+}
+
+#[cycle(evaluation)]
+fn any_holds(held: &Held<'_>, members: &[Cond]) -> bool
+    ensures { result ≡ list_any (policies.holds (audit.held_by held.now)) members.now }
+{
+    for member in members {
+        if holds(held, member) {
+            return true;
+        }
+    }
+    false
+}
+
+fn is_about_action(named: Option<Action>, asked: Action) -> bool
+    ensures { result ≡ policies.is_about_action named asked }
+{
+    match named {
+        None => true,
+        Some(action) => action == asked,
+    }
+}
+
+fn is_about_item(pattern: &Pattern, item: &Name) -> bool
+    ensures { result ≡ policies.is_about_item pattern.now item.now }
+{
+    match pattern {
+        Pattern::All => true,
+        Pattern::Exact(name) => item == name,
+        Pattern::Prefix(name) => item.bytes().starts_with(name.bytes()),
+    }
+}
+
+/// The rule is about the action on the item.
+pub fn matches(asked: Action, item: &Name, rule: &Rule) -> bool
+    ensures { result ≡ policies.matches asked item.now rule.now }
+{
+    is_about_action(rule.action, asked) && is_about_item(&rule.pattern, item)
+}
+
+/// The rule is about the action on the item, and its condition is true of what is held.
+pub fn rule_allows(asked: Action, item: &Name, held: &Held<'_>, rule: &Rule) -> bool
+    ensures { result ≡ policies.rule_allows asked item.now (audit.held_by held.now) rule.now }
+{
+    matches(asked, item, rule) && holds(held, &rule.cond)
+}
+
+/// The policy allows the action on the item, on what is held: some rule does.
+pub fn allows(policy: &Policy, asked: Action, item: &Name, held: &Held<'_>) -> bool
+    ensures { result ≡ policies.allows policy.now asked item.now (audit.held_by held.now) }
+{
+    policy
+        .rules
+        .iter()
+        .any(|rule| rule_allows(asked, item, held, rule))
+}
