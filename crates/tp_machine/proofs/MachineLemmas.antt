@@ -92,7 +92,7 @@ allowed : (sc : Scenario) (m : Machine) (taken : Step) (why : Option StepError) 
 allowed sc m taken None e = refl
 allowed sc m taken (Some why) e = absurd (cc)
 
-steps_done : (sc : Scenario) (m : Machine) (taken : Step) → IsTaken taken → (done sc m taken).state.steps ≡ m.state.steps ++ taken ∷ []
+pub steps_done : (sc : Scenario) (m : Machine) (taken : Step) → IsTaken taken → (done sc m taken).state.steps ≡ m.state.steps ++ taken ∷ []
 steps_done sc m (step.Submit txn) h = refl
 steps_done sc m (step.Deliver mail) h = refl
 steps_done sc m _ h = absurd h

@@ -44,12 +44,12 @@ pub record IsValid (sc : Scenario) : Type 0 where
 
 -- ---- tests
 
-and_parts : (a b : Bool) → (a && b) ≡ true → (a ≡ true) × (b ≡ true)
+pub and_parts : (a b : Bool) → (a && b) ≡ true → (a ≡ true) × (b ≡ true)
 and_parts true b e = (refl, e)
 and_parts false b e = absurd (cc)
 
 -- a number that is tested for being 1 or 0 is that number
-number_is : (a b : ℕ) → (a == b) ≡ true → a ≡ b
+pub number_is : (a b : ℕ) → (a == b) ≡ true → a ≡ b
 number_is a b e = grind (arith, nat_tests)
 
 ranked_le : (x y : ℤ) (r : Ordering) → MatchOrdering r (x <ℤ y) (x ≡ y) (y <ℤ x) → not (is_gt r) ≡ true → x ≤ℤ y
@@ -79,28 +79,28 @@ bounded_between low high x l h e =
 -- ---- lists of one member
 
 -- a list of one member that passes a test
-record IsOnly {A : Type 0} (test : A → Bool) (xs : List A) : Type 0 where
+pub record IsOnly {A : Type 0} (test : A → Bool) (xs : List A) : Type 0 where
   pub member : A
   pub is_list : xs ≡ member ∷ []
   pub passes : test member ≡ true
 
-only_is : {A : Type 0} (xs : List A) (x : A) → only xs ≡ Some x → xs ≡ x ∷ []
+pub only_is : {A : Type 0} (xs : List A) (x : A) → only xs ≡ Some x → xs ≡ x ∷ []
 only_is [] x e = absurd (cc)
 only_is (y ∷ []) x e = ap (λ z. z ∷ []) (grind arith)
 only_is (y ∷ z ∷ rest) x e = absurd (cc)
 
-single_is : {A : Type 0} (test : A → Bool) (xs : List A) → is_single test xs ≡ true → IsOnly test xs
+pub single_is : {A : Type 0} (test : A → Bool) (xs : List A) → is_single test xs ≡ true → IsOnly test xs
 single_is test [] e = absurd (cc)
 single_is test (x ∷ []) e = record { member = x; is_list = refl; passes = e }
 single_is test (x ∷ y ∷ rest) e = absurd (cc)
 
-count_of : {A : Type 0} (xs : List A) (x : A) → xs ≡ x ∷ [] → length xs ≡ 1
+pub count_of : {A : Type 0} (xs : List A) (x : A) → xs ≡ x ∷ [] → length xs ≡ 1
 count_of xs x e = ap length e
 
 -- ---- the form that is built
 
 -- one administrator, one server, one item and one transaction, each of its form
-record HasForm (sc : Scenario) : Type 0 where
+pub record HasForm (sc : Scenario) : Type 0 where
   pub admins : IsOnly is_built_admin sc.admins
   pub server : ServerDecl
   pub servers_are : sc.servers ≡ server ∷ []
@@ -131,7 +131,7 @@ form_of sc (Some server) (Some item) None a b c admins e = absurd (cc)
 form_of sc (Some server) None txns a b c admins e = absurd (cc)
 form_of sc None items txns a b c admins e = absurd (cc)
 
-has_form : (sc : Scenario) → is_built sc ≡ true → HasForm sc
+pub has_form : (sc : Scenario) → is_built sc ≡ true → HasForm sc
 has_form sc e =
     let front : (is_single is_built_admin sc.admins && is_built_parts (only sc.servers) (only sc.items) (only sc.txns)) ≡ true = grind arith in
     let parts = and_parts (is_single is_built_admin sc.admins) (is_built_parts (only sc.servers) (only sc.items) (only sc.txns)) front in
@@ -198,7 +198,7 @@ deferred_proves scheme.Punctual e = absurd (cc)
 deferred_proves scheme.Incremental e = absurd (cc)
 
 -- what holds of the only member holds of each
-each_of_one : {A : Type 0} (P : A → Type 0) (xs : List A) (x : A) → xs ≡ x ∷ [] → P x → Each P xs
+pub each_of_one : {A : Type 0} (P : A → Type 0) (xs : List A) (x : A) → xs ≡ x ∷ [] → P x → Each P xs
 each_of_one P xs x e h = let made : Each P (x ∷ []) = (h, tt) in subst (Each P) (sym e) made
 
 third_test : (a b c : Bool) → (a && b && c) ≡ true → c ≡ true
@@ -208,11 +208,11 @@ range_valid : (item : Item) → is_built_item item ≡ true → has_valid_range 
 range_valid item e = third_test (item.server.0 == 0) (item.admin.0 == 0) (has_valid_range item) e
 
 -- of six tests that all pass, the second and the last
-second_and_last : (a b c d e f : Bool) → (a && b && c && (d && e && f)) ≡ true → (b ≡ true) × (f ≡ true)
+pub second_and_last : (a b c d e f : Bool) → (a && b && c && (d && e && f)) ≡ true → (b ≡ true) × (f ≡ true)
 second_and_last a b c d e f all = grind arith
 
 -- the transaction is deferred, and has one query of the form
-txn_parts : (server : ServerDecl) (item : Item) (txn : Transaction) → is_built_txn server item txn ≡ true
+pub txn_parts : (server : ServerDecl) (item : Item) (txn : Transaction) → is_built_txn server item txn ≡ true
     → (is_deferred txn.scheme ≡ true) × (is_single (is_built_query item) txn.queries ≡ true)
 txn_parts server item txn e =
     second_and_last (not (pointwise ◌==◌ txn.name server.name)) (is_deferred txn.scheme) (is_view txn.level) (txn.rounds == 8) (is_empty txn.creds)

@@ -131,12 +131,12 @@ version_of (admin ∷ admins) (version ∷ versions) zero default h within = (ad
 version_of (admin ∷ admins) (version ∷ versions) (suc n) default h within = version_of admins versions n default h.1 (omega arith)
 
 -- the version that a sound server knows of an administrator that exists
-known_version : (sc : Scenario) (s : Server) (admin : AdminId) → IsSoundServer sc s → IsAdmin sc admin → IsVersion sc admin (version_known s admin)
+pub known_version : (sc : Scenario) (s : Server) (admin : AdminId) → IsSoundServer sc s → IsAdmin sc admin → IsVersion sc admin (version_known s admin)
 known_version sc s admin h within =
     let found = version_of sc.admins s.known admin.0 (record { 0 = 1 }) h.known within in
     record { declared = found.0; declared_is = found.1; in_library = found.2 }
 
-verdict_sound : (sc : Scenario) (s : Server) (txn : TxnId) (place : ℕ) (deed : Deed) → IsValid sc → IsSoundServer sc s → IsSoundDeedAt sc s.server txn deed
+pub verdict_sound : (sc : Scenario) (s : Server) (txn : TxnId) (place : ℕ) (deed : Deed) → IsValid sc → IsSoundServer sc s → IsSoundDeedAt sc s.server txn deed
     → IsSoundVerdict sc txn (verdict_on sc s place deed)
 verdict_sound sc s txn place deed valid h d =
     let item_is : IsValidItem sc d.kept.declared = each_get (IsValidItem sc) sc.items deed.item.0 d.kept.declared valid.items d.kept.declared_is in

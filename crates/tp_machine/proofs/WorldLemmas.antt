@@ -21,4 +21,4 @@ world_started sc own machine built same opened =
     let whole : ◌≡◌ {A = Seen} (record { scenario = own; given_up = false; machine = machine }) (started sc) =
     ap (λ (x : Scenario). record { scenario = x; given_up = false; machine = machine }) same
     ∙ ap (λ (x : Machine). record { scenario = sc; given_up = false; machine = x }) opened in
-    subst IsWorld (sym whole) (record { built = built; reached = λ _. refl; sound = λ _. sound_opening sc built })
+    subst IsWorld (sym whole) (record { built = built; named = tt; told = refl; reached = λ _. refl; sound = λ _. sound_opening sc built })

@@ -2,6 +2,7 @@ pub mod Acts
 pub mod Effect
 pub mod Flags
 pub mod History
+pub mod Logs
 pub mod Machine
 pub mod Seen
 pub mod Sound

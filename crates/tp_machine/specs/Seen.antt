@@ -4,13 +4,14 @@ use Rattle.tp_types.specs.declared.scenario.Scenario.{Scenario}
 use Rattle.tp_types.specs.declared.scenario.Step.{Step}
 use Rattle.tp_types.specs.declared.scenario.Step.TheVariants as step
 use Rattle.tp_model.specs.Built.{is_built}
+use Rattle.tp_model.specs.TrustedHistory.{TrustedSoFar}
 use Rattle.tp_machine.specs.declared.actors.Actors.{Actors}
 use Rattle.tp_machine.specs.declared.history.History.{History}
 use Rattle.tp_machine.specs.declared.error.StepError.{StepError}
 use Rattle.tp_machine.specs.Acts.{SameUp}
 use Rattle.tp_machine.specs.Flags.{marked}
-use Rattle.tp_machine.specs.Sound.{IsSound}
-use Rattle.tp_machine.specs.Machine.{State, Machine, after, done, opening, refusal}
+use Rattle.tp_machine.specs.Sound.{Each, IsSound, IsStepOf}
+use Rattle.tp_machine.specs.Machine.{State, Machine, after, done, ending_of, opening, refusal}
 
 -- the state of these actors with this history
 abbrev pub state_of : Actors → History → State
@@ -33,12 +34,23 @@ started sc = record { scenario = sc; given_up = false; machine = opening sc }
 abbrev pub IsReached : Seen → Type 0
 IsReached world = world.given_up ≡ false → world.machine ≡ after world.scenario world.machine.state.steps
 
--- what is so of every world: its scenario is of the form that is built, and while it is not given up it is reached, and all
--- that its mails, records and facts name exists
+-- the facts are those that the scenario and the steps give
+abbrev pub IsTold : Seen → Type 0
+IsTold world = world.machine.state.facts ≡ (after world.scenario world.machine.state.steps).state.facts
+
+-- what is so of every world: its scenario is of the form that is built, its steps name what exists, and its facts are those
+-- that they give; and while it is not given up it is reached, and all that its mails, records and facts name exists
 pub record IsWorld (world : Seen) : Type 0 where
   pub built : is_built world.scenario ≡ true
+  pub named : Each (IsStepOf world.scenario) world.machine.state.steps
+  pub told : IsTold world
   pub reached : IsReached world
   pub sound : world.given_up ≡ false → IsSound world.scenario world.machine.state
+
+-- what a world shows at any moment is a trusted history
+abbrev pub IsTrustedSoFar : Seen → Type 0
+IsTrustedSoFar world =
+    TrustedSoFar world.scenario world.machine.state.steps world.machine.state.facts (ending_of world.scenario world.machine.state).values
 
 -- a step of a kind that is built: a submission, or the delivery of a mail
 abbrev pub IsTaken : Step → Type 0

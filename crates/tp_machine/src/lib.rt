@@ -3,14 +3,17 @@
 
 mod actors;
 mod acts;
+pub mod agree;
 mod coord;
 mod error;
 mod history;
 mod offices;
 mod part;
 mod reaction;
+pub mod serial;
 mod server;
 mod table;
+pub mod views;
 mod world;
 
 pub use actors::Actors;

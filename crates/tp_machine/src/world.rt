@@ -2,10 +2,11 @@
 ghost use Rattle.std.specs.Prelude.{◌≡◌, ◌≢◌, ℕ, ◌==◌, ◌<◌, length, true, false, Some, None, IfOk, IfErr, IfSome, OnOk, OnErr, IsErrOf, IsErr, slice_get};
 ghost use Rattle.std.specs.List.{list_any};
 ghost use Rattle.tp_model.specs.Built as built;
+ghost use Rattle.tp_model.specs.SerialRun.{overlaid};
 ghost use Rattle.tp_machine.specs.declared.error.StepError.{StepError};
-ghost use Rattle.tp_machine.specs.Seen.{started, IsReached, IsTaken, Does, Refuses, GivesUp};
+ghost use Rattle.tp_machine.specs.Seen.{started, IsReached, IsTaken, IsTold, IsTrustedSoFar, Does, Refuses, GivesUp};
 ghost use Rattle.tp_machine.specs.Machine as machine;
-ghost use Rattle.tp_machine.specs.Sound.{IsSound, IsStepOf};
+ghost use Rattle.tp_machine.specs.Sound.{Each, IsSound, IsStepOf};
 
 use crate::actors::Actors;
 use crate::acts::{act, is_submitted, refusal};
@@ -85,10 +86,14 @@ impl World {
         }
     }
 
-    /// What happened so far, in order.
+    /// What happened so far, in order. It is a trusted history at every moment.
     pub fn facts(&self) -> &List<Fact>
         ensures value { result.now ≡ self.now.machine.state.facts }
         ensures reached { IsReached self.now }
+        ensures named { Each (IsStepOf self.now.scenario) self.now.machine.state.steps }
+        ensures told { IsTold self.now }
+        ensures built { built.is_built self.now.scenario ≡ true }
+        ensures so_far { self.now.given_up ≡ false → IsTrustedSoFar self.now }
         ensures sound { self.now.given_up ≡ false → IsSound self.now.scenario self.now.machine.state }
     {
         &self.history.facts
@@ -152,9 +157,11 @@ impl World {
         is_submitted(&self.actors, txn)
     }
 
-    /// How many steps and mails there were, and the value of each item.
+    /// How many steps and mails there were, and the value of each item: its opening value, overlaid by the commits that its
+    /// server has settled.
     pub fn ending(&self, alloc: Global) -> Result<Ending, NoMemory>
         ensures value { IfOk result (λ ending. ending ≡ machine.ending_of self.now.scenario self.now.machine.state) }
+        ensures overlaid { IfOk result (λ ending. ending.values ≡ overlaid self.now.scenario self.now.machine.state.facts) }
         ensures given_up { self.now.given_up ≡ true → IsErr result }
     {
         if self.given_up {

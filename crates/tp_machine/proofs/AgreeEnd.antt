@@ -1,0 +1,185 @@
+-- Agreement of the facts: where the invariant holds, every fact keeps agreement.
+use Rattle.std.proofs.Common.{◌≡◌, ℕ, zero, suc, ◌+◌, ◌≤◌, ◌==◌, ◌&&◌, ◌||◌, List, [], ◌∷◌, length, slice_get, Bool, true, false, cond, not, Option, Some, None, option_map, option_and_then, refl, sym, ap, subst, ◌∙◌, arith}
+use Rattle.std.specs.List.{count_by, list_any}
+use Rattle.std.proofs.lemmas.List.Sums.{sum_by-cons}
+use Rattle.std.proofs.lemmas.Option.{same_Some}
+use Rattle.tp_types.specs.declared.fact.Fact.{Fact}
+use Rattle.tp_types.specs.declared.fact.What.{What}
+use Rattle.tp_types.specs.declared.fact.What.TheVariants as what
+use Rattle.tp_types.specs.declared.ids.ServerId.{ServerId}
+use Rattle.tp_types.specs.declared.ids.TxnId.{TxnId}
+use Rattle.tp_types.specs.declared.records.Decision.{Decision}
+use Rattle.tp_types.specs.declared.records.Outcome.{Outcome}
+use Rattle.tp_types.specs.declared.records.Outcome.TheVariants as outcome
+use Rattle.tp_types.specs.declared.records.Settled.{Settled}
+use Rattle.tp_types.specs.declared.scenario.Scenario.{Scenario}
+use Rattle.tp_model.specs.Agreement.{follows_decision, is_agreed, is_only, keeps_agreement, keeps_agreement_what}
+use Rattle.tp_model.specs.Facts.{before, is_decided_as, is_decision, is_settled_as, is_settlement, is_submission, outcome_of, same_outcome}
+use Rattle.tp_model.specs.Ids.{same_server, same_txn}
+use Rattle.tp_machine.specs.declared.coord.Coordinator.{Coordinator}
+use Rattle.tp_machine.specs.declared.part.Part.{Part}
+use Rattle.tp_machine.specs.declared.server.Server.{Server}
+use Rattle.tp_machine.specs.Logs.{decided_at, settled_at, settled_by}
+use Rattle.tp_machine.specs.Machine.{State}
+use Rattle.tp_machine.specs.Sound.{Each}
+use Rattle.tp_machine.proofs.AgreeWorld.{Agrees, DecidedAs, FactFollows, Follows, WhatFollows, age_count, settled_outcome, submitted_count, submitted_up}
+use Rattle.tp_machine.proofs.AgreeActs.{number_itself}
+use Rattle.tp_machine.proofs.FactLemmas.{all_from_each, any_decided, any_settled, count_decisions, count_settlements, count_submissions, decisions, said, settlements}
+use Rattle.tp_machine.proofs.LogLemmas.{listed}
+use Rattle.tp_machine.proofs.SoundLists.{each_get}
+
+-- ---- members
+
+-- what holds of each member that is found holds of each
+pub each_found : {A : Type 0} (P : A → Type 0) (xs : List A) → ((n : ℕ) (x : A) → slice_get xs n ≡ Some x → P x) → Each P xs
+each_found P [] h = tt
+each_found P (x ∷ xs) h = (h 0 x refl, each_found P xs (λ n y e. h (suc n) y e))
+
+counted_first : (b : Bool) (rest : ℕ) → b ≡ true → 1 ≤ cond b 1 0 + rest
+counted_first true rest e = omega arith
+counted_first false rest e = absurd (cc)
+
+-- a member that passes is counted
+pub member_counted : {A : Type 0} (test : A → Bool) (xs : List A) (n : ℕ) (x : A) → slice_get xs n ≡ Some x → test x ≡ true → 1 ≤ count_by test xs
+member_counted test [] n x e p = absurd (cc)
+member_counted test (y ∷ xs) zero x e p =
+    let here : test y ≡ true = ap test (same_Some y x e) ∙ p in
+    let whole : count_by test (y ∷ xs) ≡ cond (test y) 1 0 + count_by test xs = sum_by-cons (λ z. cond (test z) 1 0) y xs in
+    let one : 1 ≤ cond (test y) 1 0 + count_by test xs = counted_first (test y) (count_by test xs) here in
+    omega (arith, whole, one)
+member_counted test (y ∷ xs) (suc n) x e p =
+    let later : 1 ≤ count_by test xs = member_counted test xs n x e p in
+    let whole : count_by test (y ∷ xs) ≡ cond (test y) 1 0 + count_by test xs = sum_by-cons (λ z. cond (test z) 1 0) y xs in
+    omega (arith, whole, later)
+
+either_true : (b c : Bool) → b ≡ true → (b || c) ≡ true
+either_true b c e = grind arith
+
+later_true : (b c : Bool) → c ≡ true → (b || c) ≡ true
+later_true b c e = grind arith
+
+-- a member that passes is one
+pub member_any : {A : Type 0} (test : A → Bool) (xs : List A) (n : ℕ) (x : A) → slice_get xs n ≡ Some x → test x ≡ true → list_any test xs ≡ true
+member_any test [] n x e p = absurd (cc)
+member_any test (y ∷ xs) zero x e p = either_true (test y) (list_any test xs) (ap test (same_Some y x e) ∙ p)
+member_any test (y ∷ xs) (suc n) x e p = later_true (test y) (list_any test xs) (member_any test xs n x e p)
+
+-- ---- at most one
+
+age_at_most : (age : Option ℕ) → age_count age ≤ 1
+age_at_most None = omega arith
+age_at_most (Some place) = omega arith
+
+up_at_most : (up : Option Coordinator) → submitted_up up ≤ 1
+up_at_most None = omega arith
+up_at_most (Some c) = age_at_most c.age
+
+submitted_at_most : (found : Option (Part Coordinator)) → submitted_count found ≤ 1
+submitted_at_most None = omega arith
+submitted_at_most (Some part) = up_at_most part.up
+
+listed_at_most : {A : Type 0} (found : Option A) → length (listed found) ≤ 1
+listed_at_most None = omega arith
+listed_at_most (Some x) = omega arith
+
+only_one : (test : Fact → Bool) (facts : List Fact) (n : ℕ) (fact : Fact) → slice_get facts n ≡ Some fact → test fact ≡ true → count_by test facts ≤ 1 → is_only test facts ≡ true
+only_one test facts n fact e p most =
+    let least : 1 ≤ count_by test facts = member_counted test facts n fact e p in
+    let exact : count_by test facts ≡ 1 = omega (arith, most, least) in
+    ap (λ (k : ℕ). k == 1) exact
+
+both : (a b : Bool) → a ≡ true → b ≡ true → (a && b) ≡ true
+both a b e f = grind arith
+
+three : (a b c : Bool) → a ≡ true → b ≡ true → c ≡ true → (a && b && c) ≡ true
+three a b c e f g = grind arith
+
+-- ---- settlements
+
+outcome_itself : (o : Outcome) → same_outcome o o ≡ true
+outcome_itself outcome.Commit = refl
+outcome_itself outcome.Abort = refl
+
+outcome_is : (one other : Outcome) → same_outcome one other ≡ true → one ≡ other
+outcome_is outcome.Commit outcome.Commit e = refl
+outcome_is outcome.Abort outcome.Abort e = refl
+outcome_is outcome.Commit outcome.Abort e = absurd (cc)
+outcome_is outcome.Abort outcome.Commit e = absurd (cc)
+
+one_passes : (b : Bool) → (b || false) ≡ true → b ≡ true
+one_passes b e = grind arith
+
+listed_passes : (found : Option Outcome) (ended : Outcome) → list_any (λ (o : Outcome). same_outcome o ended) (listed found) ≡ true → found ≡ Some ended
+listed_passes None ended e = absurd (cc)
+listed_passes (Some o) ended e = ap Some (outcome_is o ended (one_passes (same_outcome o ended) e))
+
+outcome_found : (found : Option Settled) (ended : Outcome) → option_map (λ (s : Settled). s.outcome) found ≡ Some ended → (s : Settled) × (found ≡ Some s) × (s.outcome ≡ ended)
+outcome_found None ended e = absurd (cc)
+outcome_found (Some s) ended e = (s, refl, same_Some s.outcome ended e)
+
+settled_part : (sc : Scenario) (w : State) (at : ServerId) (txn : TxnId) (s : Settled) (found : Option (Part Server)) → Agrees sc w → slice_get w.actors.servers at.0 ≡ found
+    → option_and_then (settled_by txn) found ≡ Some s → DecidedAs w.actors.coordinators txn s.outcome
+settled_part sc w at txn s None h e f = absurd (cc)
+settled_part sc w at txn s (Some part) h e f = ((h.servers at.0 part e).settled txn s f).decided
+
+-- what a server has settled was decided so
+pub settled_decided : (sc : Scenario) (w : State) (at : ServerId) (txn : TxnId) (ended : Outcome) → Agrees sc w → list_any (is_settled_as at txn ended) w.facts ≡ true → DecidedAs w.actors.coordinators txn ended
+settled_decided sc w at txn ended h e =
+    let listed_so : settled_outcome w.actors.servers at txn ≡ Some ended =
+    listed_passes (settled_outcome w.actors.servers at txn) ended
+    (sym (any_settled at txn ended w.facts ∙ ap (list_any (λ (o : Outcome). same_outcome o ended)) (h.settled at txn)) ∙ e) in
+    let s = outcome_found (settled_at w.actors.servers at.0 txn) ended listed_so in
+    subst (DecidedAs w.actors.coordinators txn) s.2 (settled_part sc w at txn s.0 (slice_get w.actors.servers at.0) h refl s.1)
+
+not_commit : (found : Option Decision) → option_map outcome_of found ≡ Some outcome.Abort → list_any (λ (d : Decision). same_outcome (outcome_of d) outcome.Commit) (listed found) ≡ false
+not_commit None e = refl
+not_commit (Some d) e = ap (λ (o : Outcome). same_outcome o outcome.Commit || false) (same_Some (outcome_of d) outcome.Abort e)
+
+-- no commit of a transaction that was decided as an abort stands among the facts
+no_commit : (sc : Scenario) (w : State) (txn : TxnId) → Agrees sc w → DecidedAs w.actors.coordinators txn outcome.Abort → list_any (is_decided_as txn outcome.Commit) w.facts ≡ false
+no_commit sc w txn h d =
+    any_decided txn outcome.Commit w.facts
+    ∙ (ap (list_any (λ (e : Decision). same_outcome (outcome_of e) outcome.Commit)) (h.decided txn) ∙ not_commit (decided_at w.actors.coordinators txn.0) d)
+
+follows_from : (sc : Scenario) (w : State) (place : ℕ) (at : ServerId) (txn : TxnId) (ended : Outcome) → Agrees sc w → list_any (is_settled_as at txn ended) w.facts ≡ true
+    → Follows (before place w.facts) txn ended → follows_decision txn place w.facts ended ≡ true
+follows_from sc w place at txn outcome.Commit h e f = f
+follows_from sc w place at txn outcome.Abort h e f = ap not (no_commit sc w txn h (settled_decided sc w at txn outcome.Abort h e))
+
+-- ---- every fact
+
+settled_itself : (at : ServerId) (txn : TxnId) → (same_server at at && same_txn txn txn) ≡ true
+settled_itself at txn = both (same_server at at) (same_txn txn txn) (number_itself at.0) (number_itself txn.0)
+
+settled_so : (at : ServerId) (txn : TxnId) (ended : Outcome) → (same_server at at && same_txn txn txn && same_outcome ended ended) ≡ true
+settled_so at txn ended = three (same_server at at) (same_txn txn txn) (same_outcome ended ended) (number_itself at.0) (number_itself txn.0) (outcome_itself ended)
+
+what_keeps : (sc : Scenario) (w : State) (n place : ℕ) (w_is : What) → Agrees sc w → slice_get w.facts n ≡ Some (record { place = place; what = w_is }) → WhatFollows sc (before place w.facts) w_is
+    → keeps_agreement_what sc w.facts place w_is ≡ true
+what_keeps sc w n place (what.Submitted txn) h e f =
+    only_one (is_submission txn) w.facts n (record { place = place; what = what.Submitted txn }) e (number_itself txn.0)
+    (let most = submitted_at_most (slice_get w.actors.coordinators txn.0) in omega (arith, count_submissions txn w.facts, h.submitted txn, most))
+what_keeps sc w n place (what.Decided txn decided) h e f =
+    both _ _
+    (only_one (is_decision txn) w.facts n (record { place = place; what = what.Decided txn decided }) e (number_itself txn.0)
+    (let most = listed_at_most (decided_at w.actors.coordinators txn.0) in
+    let same : length (decisions txn (said w.facts)) ≡ length (listed (decided_at w.actors.coordinators txn.0)) = ap length (h.decided txn) in
+    omega (arith, count_decisions txn w.facts, same, most)))
+    f
+what_keeps sc w n place (what.Settled at txn ended) h e f =
+    three _ _ _
+    (only_one (is_settlement at txn) w.facts n (record { place = place; what = what.Settled at txn ended }) e (settled_itself at txn)
+    (let most = listed_at_most (settled_outcome w.actors.servers at txn) in
+    let same : length (settlements at txn (said w.facts)) ≡ length (listed (settled_outcome w.actors.servers at txn)) = ap length (h.settled at txn) in
+    omega (arith, count_settlements at txn w.facts, same, most)))
+    (both _ _ f.submitted f.item)
+    (follows_from sc w place at txn ended h
+    (member_any (is_settled_as at txn ended) w.facts n (record { place = place; what = what.Settled at txn ended }) e (settled_so at txn ended)) f.follows)
+what_keeps sc w n place _ h e f = refl
+
+-- the facts of a world that agrees agree
+pub facts_agreed : (sc : Scenario) (w : State) → Agrees sc w → is_agreed sc w.facts ≡ true
+facts_agreed sc w h =
+    all_from_each (λ (fact : Fact). keeps_agreement sc w.facts fact ≡ true) (keeps_agreement sc w.facts) (λ fact k. k) w.facts
+    (each_found (λ (fact : Fact). keeps_agreement sc w.facts fact ≡ true) w.facts
+    (λ n fact e. what_keeps sc w n fact.place fact.what h e (each_get (FactFollows sc w.facts) w.facts n fact h.facts e)))

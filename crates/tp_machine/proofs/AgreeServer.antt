@@ -1,0 +1,158 @@
+-- Agreement, the server's rows: a transaction is settled once, as it was decided.
+use Rattle.std.proofs.Common.{◌≡◌, ℕ, ◌==◌, List, slice_get, Bool, true, false, Option, Some, None, is_none, IfSome, if◌then◌else◌, refl, sym, ap, subst, ◌∙◌, arith}
+use Rattle.std.proofs.lemmas.Bool.Decides.{nat_tests}
+use Rattle.tp_types.specs.declared.ids.TxnId.{TxnId}
+use Rattle.tp_types.specs.declared.mail.Body.{Body}
+use Rattle.tp_types.specs.declared.mail.Body.TheVariants as body
+use Rattle.tp_types.specs.declared.mail.DecideRequest.{DecideRequest}
+use Rattle.tp_types.specs.declared.mail.Letter.{Letter}
+use Rattle.tp_types.specs.declared.mail.Mail.{Mail}
+use Rattle.tp_types.specs.declared.mail.PrepareRequest.{PrepareRequest}
+use Rattle.tp_types.specs.declared.mail.QueryRequest.{QueryRequest}
+use Rattle.tp_types.specs.declared.records.Deed.{Deed}
+use Rattle.tp_types.specs.declared.records.Outcome.{Outcome}
+use Rattle.tp_types.specs.declared.records.Record.{Record}
+use Rattle.tp_types.specs.declared.records.Record.TheVariants as log
+use Rattle.tp_types.specs.declared.records.Settled.{Settled}
+use Rattle.tp_types.specs.declared.records.Staple.{Staple}
+use Rattle.tp_types.specs.declared.scenario.Scenario.{Scenario}
+use Rattle.tp_model.specs.Facts.{first_of}
+use Rattle.tp_machine.specs.declared.server.Entry.{Entry}
+use Rattle.tp_machine.specs.declared.server.Server.{Server}
+use Rattle.tp_machine.specs.Effect.{Effect, silent}
+use Rattle.tp_machine.specs.Logs.{settled_in}
+use Rattle.tp_machine.specs.Machine.{log_with}
+use Rattle.tp_machine.specs.Sound.{Each}
+use Rattle.tp_machine.specs.Table.{flattened, is_unset}
+use Rattle.tp_machine.specs.server.Row.{asked_item, asked_to_vote, begins, entry_at, is_open, may_prepare, on_body, on_decide, on_prepare, on_query, plain_write, queried, server_row, settled_as, settles, votes}
+use Rattle.tp_machine.proofs.LogLemmas.{first_none, get_set, settled_with}
+use Rattle.tp_machine.proofs.SoundLists.{by_cond}
+
+-- ---- what is kept
+
+-- the server has settled what its log says, and that alone
+pub record ServerAgrees (s : Server) (kept : List Record) : Type 0 where
+  pub settled : (txn : TxnId) → flattened (slice_get s.settled txn.0) ≡ settled_in txn kept
+
+-- a settlement is the first, is the coordinator's decision and not the server's own (no server aborts by itself yet), and rests on it
+pub record SettlementRests (V : TxnId → Outcome → Type 0) (kept : List Record) (forced : Settled) : Type 0 where
+  pub fresh : settled_in forced.txn kept ≡ None
+  pub no_why : forced.why ≡ None
+  pub decided : V forced.txn forced.outcome
+
+-- what a record of a server rests on
+abbrev pub RecordRests : (TxnId → Outcome → Type 0) → List Record → Record → Type 0
+RecordRests V kept (log.Settled forced) = SettlementRests V kept forced
+RecordRests V kept _ = Unit {0}
+
+-- servers order no end
+abbrev pub IsNoOrder : Body → Type 0
+IsNoOrder (body.Decide order) = ⊥
+IsNoOrder _ = Unit {0}
+
+abbrev pub IsReply : Letter → Type 0
+IsReply letter = IsNoOrder letter.body
+
+-- an order to end rests on the decision; V says which outcomes are decided
+abbrev pub OrderRests : (TxnId → Outcome → Type 0) → Body → Type 0
+OrderRests V (body.Decide order) = V order.txn order.outcome
+OrderRests V _ = Unit {0}
+
+-- an act of a server: it agrees with its log after it, and what it forces rests on a decision
+pub record ServerLawful (V : TxnId → Outcome → Type 0) (s : Server) (kept : List Record) (effect : Effect Server) : Type 0 where
+  pub agrees : ServerAgrees effect.state (log_with kept effect.reaction.append)
+  pub rests : IfSome effect.reaction.append (RecordRests V kept)
+  pub replies : Each IsReply effect.reaction.letters
+
+-- ---- rows
+
+silent_lawful : (V : TxnId → Outcome → Type 0) (s : Server) (kept : List Record) → ServerAgrees s kept → ServerLawful V s kept (silent s)
+silent_lawful V s kept h = record { agrees = h; rests = tt; replies = tt }
+
+begins_lawful : (V : TxnId → Outcome → Type 0) (s : Server) (kept : List Record) (sent : ℕ) (q : QueryRequest) (asked : Option Deed) → ServerAgrees s kept
+    → ServerLawful V s kept (begins s sent q asked)
+begins_lawful V s kept sent q None h = silent_lawful V s kept h
+begins_lawful V s kept sent q (Some deed) h = record { agrees = record { settled = h.settled }; rests = tt; replies = (tt, tt) }
+
+queried_lawful : (V : TxnId → Outcome → Type 0) (sc : Scenario) (s : Server) (kept : List Record) (sent : ℕ) (q : QueryRequest) (entry : Option Entry) → ServerAgrees s kept
+    → ServerLawful V s kept (queried sc s sent q entry)
+queried_lawful V sc s kept sent q (Some entry) h = silent_lawful V s kept h
+queried_lawful V sc s kept sent q None h =
+    by_cond (ServerLawful V s kept) (is_none q.epoch) (λ first. begins_lawful V s kept sent q (plain_write q (asked_item sc q) q.value) h) (λ later. silent_lawful V s kept h)
+
+query_lawful : (V : TxnId → Outcome → Type 0) (sc : Scenario) (s : Server) (kept : List Record) (sent : ℕ) (q : QueryRequest) → ServerAgrees s kept
+    → ServerLawful V s kept (on_query sc s sent q)
+query_lawful V sc s kept sent q h =
+    by_cond (ServerLawful V s kept) (is_open s q.txn) (λ unsettled. queried_lawful V sc s kept sent q (entry_at s q.txn) h) (λ settled. silent_lawful V s kept h)
+
+-- a vote YES settles nothing
+votes_lawful : (V : TxnId → Outcome → Type 0) (sc : Scenario) (s : Server) (kept : List Record) (p : PrepareRequest) (place : ℕ) (entry : Entry) → ServerAgrees s kept
+    → ServerLawful V s kept (votes sc s p place entry)
+votes_lawful V sc s kept p place entry h =
+    let forced = (votes sc s p place entry).reaction.append in
+    record {
+      agrees = record { settled = λ txn. h.settled txn ∙ sym (settled_with txn kept forced ∙ first_none (settled_in txn kept)) };
+      rests = tt;
+      replies = (tt, tt);
+    }
+
+asked_to_vote_lawful : (V : TxnId → Outcome → Type 0) (sc : Scenario) (s : Server) (kept : List Record) (p : PrepareRequest) (staple : Option Staple) (entry : Option Entry) → ServerAgrees s kept
+    → ServerLawful V s kept (asked_to_vote sc s p staple entry)
+asked_to_vote_lawful V sc s kept p (Some staple) (Some entry) h =
+    by_cond (ServerLawful V s kept) (may_prepare sc p entry) (λ may. votes_lawful V sc s kept p staple.place entry h) (λ may_not. silent_lawful V s kept h)
+asked_to_vote_lawful V sc s kept p _ _ h = silent_lawful V s kept h
+
+prepare_lawful : (V : TxnId → Outcome → Type 0) (sc : Scenario) (s : Server) (kept : List Record) (p : PrepareRequest) → ServerAgrees s kept
+    → ServerLawful V s kept (on_prepare sc s p)
+prepare_lawful V sc s kept p h =
+    by_cond (ServerLawful V s kept) (is_open s p.txn) (λ unsettled. asked_to_vote_lawful V sc s kept p p.staple (entry_at s p.txn) h) (λ settled. silent_lawful V s kept h)
+
+-- what an empty place of a table says
+pub unset_is : {A : Type 0} (found : Option (Option A)) → is_unset found ≡ true → found ≡ Some None
+unset_is None e = absurd (cc)
+unset_is (Some None) e = refl
+unset_is (Some (Some x)) e = absurd (cc)
+
+settled_here : (b : Bool) (order : Settled) (other : Option (Option Settled)) (old : Option Settled) → flattened other ≡ old → (b ≡ true → old ≡ None)
+    → flattened (if b then Some (Some order) else other) ≡ first_of old (if b then Some order else None)
+settled_here true order other old e fresh = sym (ap (λ (x : Option Settled). first_of x (Some order)) (fresh refl))
+settled_here false order other old e fresh = e ∙ sym (first_none old)
+
+same_number : (n m : ℕ) → (n == m) ≡ true → n ≡ m
+same_number n m e = grind (arith, nat_tests)
+
+-- an order to end a transaction that is open is forced as it is
+settles_lawful : (V : TxnId → Outcome → Type 0) (s : Server) (kept : List Record) (d : DecideRequest) → ServerAgrees s kept → is_open s d.txn ≡ true → V d.txn d.outcome
+    → ServerLawful V s kept (settles s d)
+settles_lawful V s kept d h unsettled decided =
+    let empty : slice_get s.settled d.txn.0 ≡ Some None = unset_is (slice_get s.settled d.txn.0) unsettled in
+    let fresh : settled_in d.txn kept ≡ None = sym (h.settled d.txn) ∙ ap flattened empty in
+    let forced = (settles s d).reaction.append in
+    record {
+      agrees = record {
+        settled = λ txn.
+            ap flattened (get_set s.settled d.txn.0 txn.0 None (Some (settled_as d)) empty)
+            ∙ (settled_here (d.txn.0 == txn.0) (settled_as d) (slice_get s.settled txn.0) (settled_in txn kept) (h.settled txn)
+            (λ same. sym (h.settled txn) ∙ ap flattened (subst (λ (n : ℕ). slice_get s.settled n ≡ Some None) (same_number d.txn.0 txn.0 same) empty))
+            ∙ sym (settled_with txn kept forced));
+      };
+      rests = record { fresh = fresh; no_why = refl; decided = decided };
+      replies = (tt, tt);
+    }
+
+decide_lawful : (V : TxnId → Outcome → Type 0) (s : Server) (kept : List Record) (d : DecideRequest) → ServerAgrees s kept → V d.txn d.outcome
+    → ServerLawful V s kept (on_decide s d)
+decide_lawful V s kept d h decided =
+    by_cond (ServerLawful V s kept) (is_open s d.txn) (λ unsettled. settles_lawful V s kept d h unsettled decided) (λ settled. silent_lawful V s kept h)
+
+body_lawful : (V : TxnId → Outcome → Type 0) (sc : Scenario) (s : Server) (kept : List Record) (sent : ℕ) (said : Body) → ServerAgrees s kept → OrderRests V said
+    → ServerLawful V s kept (on_body sc s sent said)
+body_lawful V sc s kept sent (body.Query q) h m = query_lawful V sc s kept sent q h
+body_lawful V sc s kept sent (body.Prepare p) h m = prepare_lawful V sc s kept p h
+body_lawful V sc s kept sent (body.Decide d) h m = decide_lawful V s kept d h m
+body_lawful V sc s kept sent _ h m = silent_lawful V s kept h
+
+-- every row of a server on receipt of a mail
+pub server_row_lawful : (V : TxnId → Outcome → Type 0) (sc : Scenario) (s : Server) (kept : List Record) (mail : Mail) → ServerAgrees s kept → OrderRests V mail.letter.body
+    → ServerLawful V s kept (server_row sc s mail)
+server_row_lawful V sc s kept mail h m = body_lawful V sc s kept mail.sent mail.letter.body h m

@@ -1,0 +1,101 @@
+-- All invariants together, after every list of steps that name what exists.
+use Rattle.std.proofs.Common.{◌≡◌, List, [], ◌∷◌, true, Option, Some, None, is_some, if◌then◌else◌, refl, sym, ap, subst, ◌∙◌}
+use Rattle.tp_types.specs.declared.fact.Fact.{Fact}
+use Rattle.tp_types.specs.declared.scenario.Scenario.{Scenario}
+use Rattle.tp_types.specs.declared.scenario.Step.{Step}
+use Rattle.tp_model.specs.Agreement.{is_agreed}
+use Rattle.tp_model.specs.Built.{is_built}
+use Rattle.tp_model.specs.Causes.{is_caused}
+use Rattle.tp_model.specs.Outside.{IsOutside}
+use Rattle.tp_model.specs.SerialRun.{is_serial, overlaid}
+use Rattle.tp_model.specs.Trust.{is_trusted}
+use Rattle.tp_model.specs.TrustedHistory.{TrustedSoFar}
+use Rattle.tp_machine.specs.declared.error.StepError.{StepError}
+use Rattle.tp_machine.specs.Machine.{Machine, State, after, after_step, after_steps, done, ending_of, opening, opening_state, refusal}
+use Rattle.tp_machine.specs.Sound.{Each, IsSound, IsStepOf}
+use Rattle.tp_machine.proofs.AgreeWorld.{Agrees}
+use Rattle.tp_machine.proofs.AgreeEnd.{facts_agreed}
+use Rattle.tp_machine.proofs.AgreeSteps.{agrees_done, agrees_opening}
+use Rattle.tp_machine.proofs.OutsideLemmas.{outside_done, outside_opening}
+use Rattle.tp_machine.proofs.Sound.{sound_done, sound_opening}
+use Rattle.tp_machine.proofs.SerialEnd.{serial_facts, serial_values}
+use Rattle.tp_machine.proofs.SerialSteps.{serial_done, serial_opening}
+use Rattle.tp_machine.proofs.SerialWorld.{Serial}
+use Rattle.tp_machine.proofs.ViewsEnd.{facts_caused, facts_trusted}
+use Rattle.tp_machine.proofs.ViewsSteps.{trusts_done, trusts_opening}
+use Rattle.tp_machine.proofs.ViewsWorld.{Trusts}
+
+-- what holds of every world: its ids exist, its actors agree, its commits are trusted and serial, and what
+-- comes from outside is what its steps say
+pub record Holds (sc : Scenario) (w : State) : Type 0 where
+  pub sound : IsSound sc w
+  pub agrees : Agrees sc w
+  pub outside : IsOutside sc w.steps w.facts
+  pub trusts : Trusts sc w
+  pub serial : Serial sc w
+
+pub holds_opening : (sc : Scenario) → is_built sc ≡ true → Holds sc (opening_state sc)
+holds_opening sc built =
+    record { sound = sound_opening sc built; agrees = agrees_opening sc; outside = outside_opening sc; trusts = trusts_opening sc built; serial = serial_opening sc built }
+
+-- each invariant may lean on all the others before the step
+pub holds_done : (sc : Scenario) (m : Machine) (taken : Step) → is_built sc ≡ true → IsStepOf sc taken → refusal m.state taken ≡ None → Holds sc m.state → Holds sc (done sc m taken).state
+holds_done sc m taken built exists allowed h =
+    record {
+      sound = sound_done sc m taken built exists h.sound;
+      agrees = agrees_done sc m taken exists allowed h.sound h.agrees;
+      outside = outside_done sc m taken h.agrees.past h.outside;
+      trusts = trusts_done sc m taken built exists allowed h.sound h.agrees h.trusts;
+      serial = serial_done sc m taken built exists allowed h.sound h.agrees h.serial;
+    }
+
+step_holds : (sc : Scenario) (m : Machine) (taken : Step) (why : Option StepError) → refusal m.state taken ≡ why → is_built sc ≡ true → IsStepOf sc taken → Holds sc m.state
+    → Holds sc (if is_some why then m else done sc m taken).state
+step_holds sc m taken None e built exists h = holds_done sc m taken built exists e h
+step_holds sc m taken (Some why) e built exists h = h
+
+steps_hold : (sc : Scenario) (m : Machine) (steps : List Step) → is_built sc ≡ true → Each (IsStepOf sc) steps → Holds sc m.state → Holds sc (after_steps sc m steps).state
+steps_hold sc m [] built exist h = h
+steps_hold sc m (taken ∷ steps) built exist h =
+    steps_hold sc (after_step sc m taken) steps built exist.1 (step_holds sc m taken (refusal m.state taken) refl built exist.0 h)
+
+-- after every list of steps
+pub holds_after : (sc : Scenario) (steps : List Step) → is_built sc ≡ true → Each (IsStepOf sc) steps → Holds sc (after sc steps).state
+holds_after sc steps built exist = steps_hold sc (opening sc) steps built exist (holds_opening sc built)
+
+-- ---- what the facts show
+
+pub agreed_after : (sc : Scenario) (steps : List Step) (facts : List Fact) → is_built sc ≡ true → Each (IsStepOf sc) steps → facts ≡ (after sc steps).state.facts → is_agreed sc facts ≡ true
+agreed_after sc steps facts built exist e = ap (is_agreed sc) e ∙ facts_agreed sc (after sc steps).state (holds_after sc steps built exist).agrees
+
+pub trusted_after : (sc : Scenario) (steps : List Step) (facts : List Fact) → is_built sc ≡ true → Each (IsStepOf sc) steps → facts ≡ (after sc steps).state.facts → is_trusted sc facts ≡ true
+trusted_after sc steps facts built exist e =
+    let h = holds_after sc steps built exist in
+    ap (is_trusted sc) e ∙ facts_trusted sc (after sc steps).state built h.sound h.trusts
+
+pub caused_after : (sc : Scenario) (steps : List Step) (facts : List Fact) → is_built sc ≡ true → Each (IsStepOf sc) steps → facts ≡ (after sc steps).state.facts → is_caused sc facts ≡ true
+caused_after sc steps facts built exist e = ap (is_caused sc) e ∙ facts_caused sc (after sc steps).state (holds_after sc steps built exist).trusts
+
+pub serial_after : (sc : Scenario) (steps : List Step) (facts : List Fact) → is_built sc ≡ true → Each (IsStepOf sc) steps → facts ≡ (after sc steps).state.facts → is_serial sc facts ≡ true
+serial_after sc steps facts built exist e =
+    let h = holds_after sc steps built exist in
+    ap (is_serial sc) e ∙ serial_facts sc (after sc steps).state h.agrees h.serial
+
+-- the values of a world are those that its servers have settled
+pub overlaid_after : (sc : Scenario) (steps : List Step) (w : State) → is_built sc ≡ true → Each (IsStepOf sc) steps → w ≡ (after sc steps).state → (ending_of sc w).values ≡ overlaid sc w.facts
+overlaid_after sc steps w built exist e =
+    let h = holds_after sc steps built exist in
+    subst (λ (v : State). (ending_of sc v).values ≡ overlaid sc v.facts) (sym e) (serial_values sc (after sc steps).state built h.sound h.agrees h.serial)
+
+-- the history of a world so far is trusted
+pub so_far_after : (sc : Scenario) (w : State) → is_built sc ≡ true → Each (IsStepOf sc) w.steps → w ≡ (after sc w.steps).state → TrustedSoFar sc w.steps w.facts (ending_of sc w).values
+so_far_after sc w built exist e =
+    let h : Holds sc w = subst (Holds sc) (sym e) (holds_after sc w.steps built exist) in
+    record {
+      outside = h.outside;
+      agreed = facts_agreed sc w h.agrees;
+      trusted = facts_trusted sc w built h.sound h.trusts;
+      caused = facts_caused sc w h.trusts;
+      serial = serial_facts sc w h.agrees h.serial;
+      values_are = serial_values sc w built h.sound h.agrees h.serial;
+    }

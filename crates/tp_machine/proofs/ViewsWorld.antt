@@ -1,0 +1,244 @@
+-- Trust over every list of steps: what is kept of a world, and what a step has to leave.
+use Rattle.std.proofs.Common.{◌≡◌, ℕ, ◌+◌, ◌≤◌, ◌<◌, ◌||◌, List, [], ◌∷◌, ◌++◌, length, slice_get, Bool, true, false, Option, Some, None, IfSome, option_and_then, refl, sym, ap, subst, ◌∙◌, arith}
+use Rattle.std.specs.List.{list_any, sum_by}
+use Rattle.std.proofs.lemmas.List.Sums.{sum_by-append, sum_by-cons}
+use Rattle.tp_types.specs.declared.fact.Fact.{Fact}
+use Rattle.tp_types.specs.declared.fact.What.{What}
+use Rattle.tp_types.specs.declared.fact.What.TheVariants as what
+use Rattle.tp_types.specs.declared.ids.CredId.{CredId}
+use Rattle.tp_types.specs.declared.ids.TxnId.{TxnId}
+use Rattle.tp_types.specs.declared.mail.Body.{Body}
+use Rattle.tp_types.specs.declared.mail.Letter.{Letter}
+use Rattle.tp_types.specs.declared.mail.Mail.{Mail}
+use Rattle.tp_types.specs.declared.records.Decision.{Decision}
+use Rattle.tp_types.specs.declared.records.Decision.TheVariants as decision
+use Rattle.tp_types.specs.declared.scenario.Scenario.{Scenario}
+use Rattle.tp_types.specs.declared.scenario.Step.{Step}
+use Rattle.tp_model.specs.Credentials.{is_revocation, is_revocation_what, ticks, ticks_what}
+use Rattle.tp_model.specs.Facts.{before, is_submission}
+use Rattle.tp_machine.specs.declared.actors.Actors.{Actors}
+use Rattle.tp_machine.specs.declared.coord.Coordinator.{Coordinator}
+use Rattle.tp_machine.specs.declared.offices.Authority.{Authority}
+use Rattle.tp_machine.specs.declared.part.Part.{Part}
+use Rattle.tp_machine.specs.declared.server.Server.{Server}
+use Rattle.tp_machine.specs.Machine.{State, Turn, concluded, noted, posted}
+use Rattle.tp_machine.specs.Sound.{Each, EachAt}
+use Rattle.tp_machine.proofs.AgreeWorld.{Agrees, steps_more}
+use Rattle.tp_machine.proofs.FactLemmas.{ArePast, any_append, before_past, grows_noted, noted_past, past_as}
+use Rattle.tp_machine.proofs.SoundLists.{each_append, each_as}
+use Rattle.tp_machine.proofs.ViewsFit.{AuthorityFits, BodyFits, Later, MailFits, RecordFits, ServerFits, body_stays, phase_stays, record_stays, server_stays, verdicts_stay}
+use Rattle.tp_machine.proofs.ViewsCoordinator.{CoordinatorFits, DecisionFits}
+use Rattle.tp_machine.proofs.ViewsTurns.{IsTimely, Stamp, stamp_of}
+
+-- ---- the invariant
+
+-- a server that is up fits, and so does each record of its log
+pub record ServerPartFits (sc : Scenario) (facts : List Fact) (place : ℕ) (part : Part Server) : Type 0 where
+  pub state : IfSome part.up (ServerFits sc facts place)
+  pub records : Each (RecordFits sc facts place) part.log
+
+abbrev pub CoordinatorPartFits : Scenario → List Fact → ℕ → Part Coordinator → Type 0
+CoordinatorPartFits sc facts place part = IfSome part.up (CoordinatorFits sc facts place)
+
+abbrev pub up_of : Part Coordinator → Option Coordinator
+up_of part = part.up
+
+-- the coordinator of a transaction, by its number, where it is up
+abbrev pub up_at : List (Part Coordinator) → ℕ → Option Coordinator
+up_at coordinators txn = option_and_then up_of (slice_get coordinators txn)
+
+abbrev pub TurnFits : ℕ → Body → Coordinator → Type 0
+TurnFits turn said c = IsTimely c.phase c.turn turn said
+
+-- what a mail says where its turn is the present one of its transaction's coordinator
+abbrev pub StampFits : List (Part Coordinator) → Body → Stamp → Type 0
+StampFits coordinators said stamped = IfSome (up_at coordinators stamped.txn.0) (TurnFits stamped.turn said)
+
+abbrev pub BodyTimely : List (Part Coordinator) → Body → Type 0
+BodyTimely coordinators said = IfSome (stamp_of said) (StampFits coordinators said)
+
+abbrev pub MailTimely : List (Part Coordinator) → Mail → Type 0
+MailTimely coordinators mail = BodyTimely coordinators mail.letter.body
+
+-- what a fact of a place shows by the facts before it
+abbrev pub WhatFits : Scenario → List Fact → ℕ → What → Type 0
+WhatFits sc facts place (what.Decided txn decided) = DecisionFits sc facts place txn decided
+WhatFits sc facts place _ = Unit {0}
+
+abbrev pub FactFits : Scenario → List Fact → Fact → Type 0
+FactFits sc facts fact = WhatFits sc facts fact.place fact.what
+
+-- all that trust rests on: each actor, each record, each mail ever sent and each fact fits the facts so far
+pub record TrustsAt (sc : Scenario) (facts : List Fact) (place : ℕ) (actors : Actors) (mails : List Mail) : Type 0 where
+  pub authority : AuthorityFits sc facts place actors.authority
+  pub servers : EachAt (λ (n : ℕ) (part : Part Server). ServerPartFits sc facts place part) actors.servers
+  pub coordinators : EachAt (λ (n : ℕ) (part : Part Coordinator). CoordinatorPartFits sc facts place part) actors.coordinators
+  pub mails_fit : Each (MailFits sc facts place) mails
+  pub mails_timely : Each (MailTimely actors.coordinators) mails
+  pub facts_fit : Each (FactFits sc facts) facts
+
+abbrev pub Trusts : Scenario → State → Type 0
+Trusts sc w = TrustsAt sc w.facts (length w.steps) w.actors w.mails
+
+-- ---- a turn
+
+-- the clock, the revocations and the versions stay (no step that changes them is built)
+abbrev pub IsStill : What → Type 0
+IsStill (what.Ticked by) = ⊥
+IsStill (what.Revoked cred) = ⊥
+IsStill (what.Published admin version) = ⊥
+IsStill _ = Unit {0}
+
+-- the facts after a turn
+abbrev pub facts_after : State → List What → List Fact
+facts_after w happened = w.facts ++ noted (length w.steps) happened
+
+-- a step leaves actors, letters and facts that fit the facts after it
+pub record TurnTrusts (sc : Scenario) (w : State) (turn : Turn) : Type 0 where
+  pub still : Each IsStill turn.happened
+  pub authority : turn.actors.authority ≡ w.actors.authority
+  pub servers : EachAt (λ (n : ℕ) (part : Part Server). ServerPartFits sc (facts_after w turn.happened) (length w.steps + 1) part) turn.actors.servers
+  pub coordinators : EachAt (λ (n : ℕ) (part : Part Coordinator). CoordinatorPartFits sc (facts_after w turn.happened) (length w.steps + 1) part) turn.actors.coordinators
+  pub letters : Each (λ (letter : Letter). BodyFits sc (facts_after w turn.happened) (length w.steps + 1) (length w.steps) letter.body) turn.letters
+  pub old_timely : Each (MailTimely turn.actors.coordinators) w.mails
+  pub new_timely : Each (λ (letter : Letter). BodyTimely turn.actors.coordinators letter.body) turn.letters
+  pub facts : Each (WhatFits sc (facts_after w turn.happened) (length w.steps)) turn.happened
+
+-- ---- growth
+
+either_true : (a b : Bool) → a ≡ true → (a || b) ≡ true
+either_true a b e = grind arith
+
+-- the facts after a turn are later ones
+pub later_noted : (w : State) (happened : List What) (high : ℕ) → length w.steps ≤ high → Later w.facts (facts_after w happened) (length w.steps) high
+later_noted w happened high le =
+    record {
+      grows = grows_noted w.facts (length w.steps) happened;
+      le = le;
+      more = λ txn e. any_append (is_submission txn) w.facts (noted (length w.steps) happened) ∙ either_true _ _ e;
+    }
+
+pub server_part_stays : (sc : Scenario) (old new : List Fact) (low high : ℕ) (part : Part Server) → Later old new low high → ServerPartFits sc old low part → ServerPartFits sc new high part
+server_part_stays sc old new low high part l h =
+    record {
+      state = up_stays part.up h.state;
+      records = each_as (RecordFits sc old low) (RecordFits sc new high) (λ kept k. record_stays sc old new low high kept l k) part.log h.records;
+    }
+  where
+    up_stays : (up : Option Server) → IfSome up (ServerFits sc old low) → IfSome up (ServerFits sc new high)
+    up_stays None k = tt
+    up_stays (Some s) k = server_stays sc old new low high s l k
+
+pub coordinator_stays : (sc : Scenario) (old new : List Fact) (low high : ℕ) (c : Coordinator) → Later old new low high → CoordinatorFits sc old low c → CoordinatorFits sc new high c
+coordinator_stays sc old new low high c l h = record { awaits = phase_stays sc old new low high c.txn c.phase l h.awaits; unclosed = h.unclosed; turn = h.turn }
+
+pub coordinator_up_stays : (sc : Scenario) (old new : List Fact) (low high : ℕ) (up : Option Coordinator) → Later old new low high → IfSome up (CoordinatorFits sc old low) → IfSome up (CoordinatorFits sc new high)
+coordinator_up_stays sc old new low high None l h = tt
+coordinator_up_stays sc old new low high (Some c) l h = coordinator_stays sc old new low high c l h
+
+pub decision_stays : (sc : Scenario) (old new : List Fact) (low high : ℕ) (txn : TxnId) (decided : Decision) → Later old new low high → DecisionFits sc old low txn decided → DecisionFits sc new high txn decided
+decision_stays sc old new low high txn (decision.Commit committed) l h =
+    record { rounds = h.rounds; proofs = h.proofs; instances = h.instances; fit = verdicts_stay sc old new low high txn h.proofs l h.fit; agreed = h.agreed }
+decision_stays sc old new low high txn (decision.Abort why) l h = h
+
+-- what holds up to a place holds up to an earlier one
+earlier_too : (old new : List Fact) (low high first : ℕ) → first ≤ low → Later old new low high → Later old new first first
+earlier_too old new low high first le l = record { grows = record { same = λ k small. l.grows.same k (omega (arith, small, le)) }; le = omega arith; more = l.more }
+
+what_stays : (sc : Scenario) (old new : List Fact) (low high place : ℕ) (w : What) → place ≤ low → Later old new low high → WhatFits sc old place w → WhatFits sc new place w
+what_stays sc old new low high place (what.Decided txn decided) le l h = decision_stays sc old new place place txn decided (earlier_too old new low high place le l) h
+what_stays sc old new low high place _ le l h = tt
+
+facts_stay : (sc : Scenario) (old new : List Fact) (low high : ℕ) (facts : List Fact) → Later old new low high → ArePast low facts → Each (FactFits sc old) facts → Each (FactFits sc new) facts
+facts_stay sc old new low high [] l past h = tt
+facts_stay sc old new low high (fact ∷ facts) l past h =
+    (what_stays sc old new low high fact.place fact.what (omega (arith, past.0)) l h.0, facts_stay sc old new low high facts l past.1 h.1)
+
+noted_fit : (sc : Scenario) (facts : List Fact) (place : ℕ) (happened : List What) → Each (WhatFits sc facts place) happened → Each (FactFits sc facts) (noted place happened)
+noted_fit sc facts place [] h = tt
+noted_fit sc facts place (w ∷ happened) h = (h.0, noted_fit sc facts place happened h.1)
+
+posted_fit : (sc : Scenario) (facts : List Fact) (place sent number : ℕ) (letters : List Letter) → Each (λ (letter : Letter). BodyFits sc facts place sent letter.body) letters
+    → Each (MailFits sc facts place) (posted sent number letters)
+posted_fit sc facts place sent number [] h = tt
+posted_fit sc facts place sent number (letter ∷ letters) h = (h.0, posted_fit sc facts place sent (number + 1) letters h.1)
+
+posted_timely : (coordinators : List (Part Coordinator)) (sent number : ℕ) (letters : List Letter) → Each (λ (letter : Letter). BodyTimely coordinators letter.body) letters
+    → Each (MailTimely coordinators) (posted sent number letters)
+posted_timely coordinators sent number [] h = tt
+posted_timely coordinators sent number (letter ∷ letters) h = (h.0, posted_timely coordinators sent (number + 1) letters h.1)
+
+-- ---- the authority's facts
+
+no_ticks : (place : ℕ) (happened : List What) → Each IsStill happened → sum_by ticks (noted place happened) ≡ 0
+no_ticks place [] h = refl
+no_ticks place (w ∷ happened) h =
+    let whole : sum_by ticks (noted place (w ∷ happened)) ≡ ticks (record { place = place; what = w }) + sum_by ticks (noted place happened) = sum_by-cons ticks (record { place = place; what = w }) (noted place happened) in
+    let later : sum_by ticks (noted place happened) ≡ 0 = no_ticks place happened h.1 in
+    let here : ticks (record { place = place; what = w }) ≡ 0 = still w h.0 in
+    omega (arith, whole, later, here)
+  where
+    still : (v : What) → IsStill v → ticks_what v ≡ 0
+    still (what.Ticked by) n = absurd n
+    still _ n = refl
+
+no_revocation : (cred : CredId) (place : ℕ) (happened : List What) → Each IsStill happened → list_any (is_revocation cred) (noted place happened) ≡ false
+no_revocation cred place [] h = refl
+no_revocation cred place (w ∷ happened) h =
+    let later : list_any (is_revocation cred) (noted place happened) ≡ false = no_revocation cred place happened h.1 in
+    let here : is_revocation cred (record { place = place; what = w }) ≡ false = still w h.0 in
+    neither _ _ here later
+  where
+    still : (v : What) → IsStill v → is_revocation_what cred v ≡ false
+    still (what.Revoked other) n = absurd n
+    still _ n = refl
+
+    neither : (a b : Bool) → a ≡ false → b ≡ false → (a || b) ≡ false
+    neither a b e f = grind arith
+
+or_false : (a b : Bool) → b ≡ false → a ≡ (a || b)
+or_false a b e = grind arith
+
+-- an authority that stays fits the facts after a turn
+authority_stays : (sc : Scenario) (w : State) (happened : List What) (authority : Authority) → ArePast (length w.steps) w.facts → ArePast (length w.steps + 1) (facts_after w happened) → Each IsStill happened
+    → AuthorityFits sc w.facts (length w.steps) authority → AuthorityFits sc (facts_after w happened) (length w.steps + 1) authority
+authority_stays sc w happened authority past past_now still h =
+    let place = length w.steps in
+    let now = facts_after w happened in
+    let was : before place w.facts ≡ w.facts = before_past place w.facts past in
+    let all : before (place + 1) now ≡ now = before_past (place + 1) now past_now in
+    let sum_now : sum_by ticks now ≡ sum_by ticks w.facts + sum_by ticks (noted place happened) = sum_by-append ticks w.facts (noted place happened) in
+    let none : sum_by ticks (noted place happened) ≡ 0 = no_ticks place happened still in
+    let same : sum_by ticks w.facts ≡ sum_by ticks now = omega (arith, sum_now, none) in
+    record {
+      clock_is = h.clock_is ∙ ap (λ (n : ℕ). sc.clock + n) (ap (sum_by ticks) was ∙ (same ∙ ap (sum_by ticks) (sym all)));
+      revoked_is = λ cred. h.revoked_is cred
+          ∙ (ap (list_any (is_revocation cred)) was
+          ∙ (or_false (list_any (is_revocation cred) w.facts) (list_any (is_revocation cred) (noted place happened)) (no_revocation cred place happened still)
+          ∙ (sym (any_append (is_revocation cred) w.facts (noted place happened)) ∙ ap (list_any (is_revocation cred)) (sym all))));
+    }
+
+-- ---- a step
+
+-- a step whose turn fits leaves a world that fits
+pub concluded_trusts : (sc : Scenario) (w : State) (taken : Step) (turn : Turn) → Agrees sc w → Trusts sc w → TurnTrusts sc w turn → Trusts sc (concluded w taken turn)
+concluded_trusts sc w taken turn a h t =
+    let place = length w.steps in
+    let now = facts_after w turn.happened in
+    let l = later_noted w turn.happened (place + 1) (omega arith) in
+    let past_now : ArePast (place + 1) now =
+    each_append (λ (fact : Fact). fact.place < place + 1) w.facts (noted place turn.happened) (past_as place (place + 1) (omega arith) w.facts a.past) (noted_past place turn.happened) in
+    let mails = w.mails ++ posted place (length w.mails) turn.letters in
+    let made : TrustsAt sc now (place + 1) turn.actors mails = record {
+      authority = subst (AuthorityFits sc now (place + 1)) (sym t.authority) (authority_stays sc w turn.happened w.actors.authority a.past past_now t.still h.authority);
+      servers = t.servers;
+      coordinators = t.coordinators;
+      mails_fit = each_append (MailFits sc now (place + 1)) w.mails (posted place (length w.mails) turn.letters)
+          (each_as (MailFits sc w.facts place) (MailFits sc now (place + 1)) (λ mail m. body_stays sc w.facts now place (place + 1) mail.sent mail.letter.body l m) w.mails h.mails_fit)
+          (posted_fit sc now (place + 1) place (length w.mails) turn.letters t.letters);
+      mails_timely = each_append (MailTimely turn.actors.coordinators) w.mails (posted place (length w.mails) turn.letters) t.old_timely
+          (posted_timely turn.actors.coordinators place (length w.mails) turn.letters t.new_timely);
+      facts_fit = each_append (FactFits sc now) w.facts (noted place turn.happened) (facts_stay sc w.facts now place (place + 1) w.facts l a.past h.facts_fit)
+          (noted_fit sc now place turn.happened t.facts);
+    } in
+    subst (λ (p : ℕ). TrustsAt sc now p turn.actors mails) (sym (steps_more w.steps taken)) made

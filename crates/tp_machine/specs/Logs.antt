@@ -1,0 +1,67 @@
+-- What a log says: look-ups on the list of its records. Nothing else reads a log.
+use Rattle.std.specs.Prelude.{ℕ, List, [], ◌∷◌, slice_get, Option, Some, None, option_and_then, if◌then◌else◌}
+use Rattle.tp_types.specs.declared.ids.TxnId.{TxnId}
+use Rattle.tp_types.specs.declared.records.Decision.{Decision}
+use Rattle.tp_types.specs.declared.records.Prepared.{Prepared}
+use Rattle.tp_types.specs.declared.records.Record.{Record}
+use Rattle.tp_types.specs.declared.records.Record.TheVariants as log
+use Rattle.tp_types.specs.declared.records.Settled.{Settled}
+use Rattle.tp_model.specs.Facts.{first_of}
+use Rattle.tp_model.specs.Ids.{same_txn}
+use Rattle.tp_machine.specs.declared.coord.Coordinator.{Coordinator}
+use Rattle.tp_machine.specs.declared.part.Part.{Part}
+use Rattle.tp_machine.specs.declared.server.Server.{Server}
+
+-- ---- a coordinator's log
+
+abbrev pub decision_in : Record → Option Decision
+decision_in (log.Decided d) = Some d.decision
+decision_in _ = None
+
+-- the first decision
+abbrev pub decided_in : List Record → Option Decision
+decided_in [] = None
+decided_in (first ∷ kept) = first_of (decision_in first) (decided_in kept)
+
+-- ---- a server's log
+
+abbrev pub settlement_in : TxnId → Record → Option Settled
+settlement_in txn (log.Settled s) = if same_txn s.txn txn then Some s else None
+settlement_in txn _ = None
+
+-- how the transaction was settled first
+abbrev pub settled_in : TxnId → List Record → Option Settled
+settled_in txn [] = None
+settled_in txn (first ∷ kept) = first_of (settlement_in txn first) (settled_in txn kept)
+
+abbrev pub preparation_in : TxnId → Record → Option Prepared
+preparation_in txn (log.Prepared p) = if same_txn p.txn txn then Some p else None
+preparation_in txn _ = None
+
+-- the transaction's last vote YES
+abbrev pub prepared_in : TxnId → List Record → Option Prepared
+prepared_in txn [] = None
+prepared_in txn (first ∷ kept) = first_of (prepared_in txn kept) (preparation_in txn first)
+
+-- ---- the logs of all actors
+
+abbrev pub decided_by : Part Coordinator → Option Decision
+decided_by part = decided_in part.log
+
+-- what the coordinator of a transaction has decided, by its number
+abbrev pub decided_at : List (Part Coordinator) → ℕ → Option Decision
+decided_at coordinators txn = option_and_then decided_by (slice_get coordinators txn)
+
+abbrev pub settled_by : TxnId → Part Server → Option Settled
+settled_by txn part = settled_in txn part.log
+
+-- how a server, by its number, has settled a transaction
+abbrev pub settled_at : List (Part Server) → ℕ → TxnId → Option Settled
+settled_at servers at txn = option_and_then (settled_by txn) (slice_get servers at)
+
+abbrev pub prepared_by : TxnId → Part Server → Option Prepared
+prepared_by txn part = prepared_in txn part.log
+
+-- what a server, by its number, has voted YES on for a transaction
+abbrev pub prepared_at : List (Part Server) → ℕ → TxnId → Option Prepared
+prepared_at servers at txn = option_and_then (prepared_by txn) (slice_get servers at)
