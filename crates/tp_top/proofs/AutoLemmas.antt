@@ -29,16 +29,16 @@ none_more k xs e = omega (arith, length-drop k xs, ap length e)
 
 -- ---- automatic steps
 
-after_done : (sc : Scenario) (m : Machine) (taken : Step) → refusal m.state taken ≡ None → after_step sc m taken ≡ done sc m taken
+pub after_done : (sc : Scenario) (m : Machine) (taken : Step) → refusal m.state taken ≡ None → after_step sc m taken ≡ done sc m taken
 after_done sc m taken ok = ap (λ (why : Option StepError). if is_some why then m else done sc m taken) ok
 
-automatic-some : (sc : Scenario) (left : ℕ) (m : Machine) (taken : Step) → next_of sc m 0 ≡ Some taken → refusal m.state taken ≡ None
+pub automatic-some : (sc : Scenario) (left : ℕ) (m : Machine) (taken : Step) → next_of sc m 0 ≡ Some taken → refusal m.state taken ≡ None
     → automatic_from sc (suc left) 0 m ≡ taken ∷ automatic_from sc left 0 (done sc m taken)
 automatic-some sc left m taken e ok =
     ap (λ (o : Option Step). option_map_or (λ (s : Step). s ∷ automatic_from sc left 0 (after_step sc m s)) o []) e
     ∙ ap (λ (k : Machine). taken ∷ automatic_from sc left 0 k) (after_done sc m taken ok)
 
-automatic-none : (sc : Scenario) (left : ℕ) (m : Machine) → next_of sc m 0 ≡ None → automatic_from sc left 0 m ≡ []
+pub automatic-none : (sc : Scenario) (left : ℕ) (m : Machine) → next_of sc m 0 ≡ None → automatic_from sc left 0 m ≡ []
 automatic-none sc zero m e = refl
 automatic-none sc (suc left) m e =
     ap (λ (o : Option Step). option_map_or (λ (s : Step). s ∷ automatic_from sc left 0 (after_step sc m s)) o []) e

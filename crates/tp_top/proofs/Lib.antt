@@ -1,8 +1,11 @@
 pub mod AutoLemmas
 pub mod BoundLemmas
+pub mod FirstForm
+pub mod FirstRun
 pub mod IoLemmas
 pub mod Numbers
 pub mod Objects
 pub mod RunLemmas
 pub mod TopLemmas
+pub mod TrustedRun
 pub mod Walks

@@ -7,6 +7,8 @@ use Rattle.tp_model.specs.Built.{is_built}
 use Rattle.tp_model.proofs.BuiltLemmas.{steps_built}
 use Rattle.tp_machine.specs.Machine.{Machine, after, after_step, after_steps, ending_of, opening}
 use Rattle.tp_machine.specs.Seen.{Seen, started}
+use Rattle.tp_top.proofs.TrustedRun.{trusted_run}
+use Rattle.tp_top.proofs.Walks.{reads_built}
 use Rattle.tp_top.specs.declared.answer.Answer.{Answer}
 use Rattle.tp_top.specs.declared.answer.Answer.TheVariants as answer
 use Rattle.tp_top.specs.Auto.{Drains, IsSpent, automatic_from, automatic_steps, bound, is_quiet, next_of}
@@ -83,6 +85,7 @@ answers_reported old new faults faults' bytes sc (answer.Report text) taken read
       reads = reads;
       quiet = h.0;
       within = length-automatic_from sc (automatic_bound sc) 0 (listed sc);
+      trusted = trusted_run sc (reads_built bytes sc reads);
       text_is = h.1;
     }
 answers_reported old new faults faults' bytes sc answer.Budget taken reads h =

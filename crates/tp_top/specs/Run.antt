@@ -1,9 +1,10 @@
 -- What a run is: from bytes to the world after all steps, and its report.
-use Rattle.std.specs.Prelude.{◌≡◌, ℕ, ◌+◌, ◌≤◌, List, [], ◌∷◌, length, true, false, Option, Some, None, codes}
+use Rattle.std.specs.Prelude.{◌≡◌, ℕ, ◌+◌, ◌≤◌, List, [], ◌∷◌, ◌++◌, length, true, false, Option, Some, None, codes}
 use Rattle.std.specs.Io.KnownBytes.{Consumes, IsAtEnd}
 use Rattle.tp_types.specs.declared.name.Text.{Text}
 use Rattle.tp_types.specs.declared.scenario.Scenario.{Scenario}
 use Rattle.tp_types.specs.declared.scenario.Step.{Step}
+use Rattle.tp_model.specs.TrustedHistory.{TrustedHistory}
 use Rattle.tp_machine.specs.Machine.{Machine, after, after_steps, ending_of}
 use Rattle.tp_top.specs.declared.answer.Answer.{Answer}
 use Rattle.tp_top.specs.declared.answer.Answer.TheVariants as answer
@@ -32,6 +33,10 @@ automatic_bound sc = bound sc (length (listed sc).undelivered)
 abbrev pub automatic : Scenario → List Step
 automatic sc = automatic_steps sc (automatic_bound sc) (listed sc)
 
+-- the listed steps, and the automatic ones after them
+abbrev pub all_steps : Scenario → List Step
+all_steps sc = sc.steps ++ automatic sc
+
 -- the world after all of them
 abbrev pub final : Scenario → Machine
 final sc = after_steps sc (listed sc) (automatic sc)
@@ -45,7 +50,7 @@ pub record TakesAll (old new : Option (List ℕ)) (bytes : List ℕ) : Type 0 wh
   pub consumed : Consumes old new bytes
   pub at_end : IsAtEnd new
 
--- the input was read whole as a scenario, whose run comes to rest, and the text is its report
+-- the input was read whole as a scenario, whose run comes to rest with a trusted history, and the text is its report
 pub record RunsTo (old new : Option (List ℕ)) (text : List ℕ) : Type 0 where
   pub bytes : List ℕ
   pub scenario : Scenario
@@ -53,6 +58,7 @@ pub record RunsTo (old new : Option (List ℕ)) (text : List ℕ) : Type 0 where
   pub reads : Reads bytes scenario
   pub quiet : is_quiet scenario (final scenario) ≡ true
   pub within : length (automatic scenario) ≤ automatic_bound scenario
+  pub trusted : TrustedHistory scenario (all_steps scenario) (final scenario).state.facts (ending_of scenario (final scenario).state)
   pub text_is : text ≡ report_of scenario
 
 -- the input was read whole as a scenario, and as many automatic steps as the bound were done without an end

@@ -1,0 +1,189 @@
+-- The history of a whole run is trusted: the invariants of every world, and the end of the one run.
+use Rattle.std.proofs.Common.{◌≡◌, ℕ, zero, suc, ◌+◌, ◌-◌, ◌<◌, ◌≤◌, ◌==◌, List, [], ◌∷◌, ◌++◌, length, find, cond, nat_lt, slice_get, Bool, true, false, not, Option, Some, None, option_map, if◌then◌else◌, refl, sym, ap, subst, ◌∙◌, arith}
+use Rattle.std.specs.List.{range_with_len}
+use Rattle.std.proofs.lemmas.Bool.Decides.{nat_tests}
+use Rattle.std.proofs.lemmas.List.{length-append}
+use Rattle.std.proofs.lemmas.Option.{same_Some}
+use Rattle.tp_types.specs.declared.fact.What.TheVariants as what
+use Rattle.tp_types.specs.declared.ids.TxnId.{TxnId}
+use Rattle.tp_types.specs.declared.scenario.Scenario.{Scenario}
+use Rattle.tp_types.specs.declared.scenario.Step.{Step}
+use Rattle.tp_types.specs.declared.scenario.Step.TheVariants as step
+use Rattle.tp_model.specs.Built.{is_built}
+use Rattle.tp_model.specs.Outside.{IsOutside}
+use Rattle.tp_model.specs.TrustedHistory.{TrustedHistory, have_ended}
+use Rattle.tp_model.proofs.BuiltLemmas.{steps_built}
+use Rattle.tp_machine.specs.declared.error.StepError.{StepError}
+use Rattle.tp_machine.specs.declared.error.StepError.TheVariants as error
+use Rattle.tp_machine.specs.Machine.{Machine, State, Turn, after, after_step, after_steps, concluded, delivered, done, ending_of, idles, is_submitted, opening, posted, refusal, submitted, with_new, without_number}
+use Rattle.tp_machine.specs.Seen.{IsTaken}
+use Rattle.tp_machine.specs.Sound.{Each, IsStepOf, IsTxn}
+use Rattle.tp_machine.proofs.AgreeEnd.{facts_agreed}
+use Rattle.tp_machine.proofs.MachineLemmas.{steps_done}
+use Rattle.tp_machine.proofs.Runs.{Holds, holds_after}
+use Rattle.tp_machine.proofs.SerialEnd.{serial_facts, serial_values, values_at_end}
+use Rattle.tp_machine.proofs.SoundLists.{each_append, each_as, each_filter, each_map}
+use Rattle.tp_machine.proofs.ViewsEnd.{facts_caused, facts_trusted}
+use Rattle.tp_top.specs.Auto.{automatic_from, lowest_unsubmitted, next_by, next_of, txns_of}
+use Rattle.tp_top.specs.Run.{all_steps, automatic, automatic_bound, final, listed}
+use Rattle.tp_top.proofs.AutoLemmas.{after_done, automatic-none, automatic-some}
+use Rattle.tp_top.proofs.FirstRun.{first_run_ends}
+
+-- ---- the undelivered mails were sent
+
+abbrev AreSent : Machine → Type 0
+AreSent m = Each (λ (number : ℕ). number < length m.state.mails) m.undelivered
+
+below : (low count high : ℕ) → low + count ≤ high → Each (λ (number : ℕ). number < high) (range_with_len low count)
+below low zero high le = tt
+below low (suc count) high le = (omega (arith, le), below (low + 1) count high (omega (arith, le)))
+
+-- mails of before stay, and the new ones are those that were sent since
+sent_new : (before after : State) (undelivered : List ℕ) → length before.mails ≤ length after.mails → Each (λ (number : ℕ). number < length before.mails) undelivered → AreSent (with_new before after undelivered)
+sent_new before after undelivered le h =
+    each_append (λ (number : ℕ). number < length after.mails) undelivered (range_with_len (length before.mails) (length after.mails - length before.mails))
+    (each_as (λ (number : ℕ). number < length before.mails) (λ (number : ℕ). number < length after.mails) (λ number low. omega (arith, low, le)) undelivered h)
+    (below (length before.mails) (length after.mails - length before.mails) (length after.mails) (omega (arith, le)))
+
+more_mails : (w : State) (taken : Step) (turn : Turn) → length w.mails ≤ length (concluded w taken turn).mails
+more_mails w taken turn = omega (arith, length-append w.mails (posted (length w.steps) (length w.mails) turn.letters))
+
+sent_after : (w : State) (taken : Step) (turn : Turn) (undelivered : List ℕ) → Each (λ (number : ℕ). number < length w.mails) undelivered → AreSent (with_new w (concluded w taken turn) undelivered)
+sent_after w taken turn undelivered h = sent_new w (concluded w taken turn) undelivered (more_mails w taken turn) h
+
+sent_without : (w : State) (undelivered : List ℕ) (mail : ℕ) → Each (λ (number : ℕ). number < length w.mails) undelivered → Each (λ (number : ℕ). number < length w.mails) (without_number undelivered mail)
+sent_without w undelivered mail h = each_filter (λ (number : ℕ). number < length w.mails) (λ (other : ℕ). not (other == mail)) undelivered h
+
+sent_done : (sc : Scenario) (m : Machine) (taken : Step) → AreSent m → AreSent (done sc m taken)
+sent_done sc m (step.Submit txn) h = sent_after m.state (step.Submit txn) (submitted sc m.state.actors txn (length m.state.steps)) m.undelivered h
+sent_done sc m (step.Deliver mail) h =
+    sent_after m.state (step.Deliver mail) (delivered sc m.state.actors (slice_get m.state.mails mail)) (without_number m.undelivered mail) (sent_without m.state m.undelivered mail h)
+sent_done sc m (step.Lose mail) h =
+    sent_after m.state (step.Lose mail) (idles m.state.actors (what.Lost mail ∷ [])) (without_number m.undelivered mail) (sent_without m.state m.undelivered mail h)
+sent_done sc m _ h = h
+
+-- ---- the next automatic step is done
+
+-- it names what exists, is of a kind that is built, and is not refused
+record IsDone (sc : Scenario) (m : Machine) (taken : Step) : Type 0 where
+  pub exists : IsStepOf sc taken
+  pub kind : IsTaken taken
+  pub allowed : refusal m.state taken ≡ None
+
+first_holds : (P : ℕ → Type 0) (numbers : List ℕ) (number : ℕ) → Each P numbers → slice_get numbers 0 ≡ Some number → P number
+first_holds P [] number h e = absurd (cc)
+first_holds P (n ∷ numbers) number h e = subst P (same_Some n number e) h.0
+
+mail_allowed : (mails number : ℕ) (b : Bool) (why : StepError) → number < mails → nat_lt number mails ≡ b → (if b then None else Some why) ≡ None
+mail_allowed mails number true why low e = refl
+mail_allowed mails number false why low e = absurd (below_fails e)
+  where
+    below_fails : nat_lt number mails ≡ false → ⊥
+    below_fails f = let t : nat_lt number mails ≡ true = grind (arith, nat_tests) in cc
+
+chosen_holds : (P : TxnId → Type 0) (test : TxnId → Bool) (first txn : TxnId) (later : Option TxnId) (b : Bool) → test first ≡ b → P first → (later ≡ Some txn → P txn × (test txn ≡ true))
+    → cond b (Some first) later ≡ Some txn → P txn × (test txn ≡ true)
+chosen_holds P test first txn later true t h rest e =
+    let same : first ≡ txn = same_Some first txn e in
+    (subst P same h, subst (λ (x : TxnId). test x ≡ true) same t)
+chosen_holds P test first txn later false t h rest e = rest e
+
+found_holds : (P : TxnId → Type 0) (test : TxnId → Bool) (txns : List TxnId) (txn : TxnId) → Each P txns → find test txns ≡ Some txn → P txn × (test txn ≡ true)
+found_holds P test [] txn h e = absurd (cc)
+found_holds P test (first ∷ txns) txn h e = chosen_holds P test first txn (find test txns) (test first) refl h.0 (λ f. found_holds P test txns txn h.1 f) e
+
+submitted_allowed : (b : Bool) (why : StepError) → not b ≡ true → (if b then Some why else None) ≡ None
+submitted_allowed true why e = absurd (cc)
+submitted_allowed false why e = refl
+
+submit_done : (sc : Scenario) (m : Machine) (found : Option TxnId) (taken : Step) → lowest_unsubmitted sc m.state.actors ≡ found → option_map (λ (txn : TxnId). step.Submit txn) found ≡ Some taken → IsDone sc m taken
+submit_done sc m None taken e f = absurd (cc)
+submit_done sc m (Some txn) taken e f =
+    let exist : Each (IsTxn sc) (txns_of sc) =
+    each_map (λ (n : ℕ). n < length sc.txns) (IsTxn sc) (λ (n : ℕ). record { 0 = n }) (λ n low. low) (range_with_len 0 (length sc.txns)) (below 0 (length sc.txns) (length sc.txns) (omega arith)) in
+    let facts = found_holds (IsTxn sc) (λ (t : TxnId). not (is_submitted m.state.actors t)) (txns_of sc) txn exist e in
+    subst (IsDone sc m) (same_Some (step.Submit txn) taken f)
+    (record { exists = facts.0; kind = tt; allowed = submitted_allowed (is_submitted m.state.actors txn) (error.AlreadySubmitted txn) facts.1 })
+
+next_done : (sc : Scenario) (m : Machine) (oldest : Option ℕ) (taken : Step) → AreSent m → slice_get m.undelivered 0 ≡ oldest → next_by sc m.state.actors oldest ≡ Some taken → IsDone sc m taken
+next_done sc m None taken h e f = submit_done sc m (lowest_unsubmitted sc m.state.actors) taken refl f
+next_done sc m (Some mail) taken h e f =
+    let low : mail < length m.state.mails = first_holds (λ (number : ℕ). number < length m.state.mails) m.undelivered mail h e in
+    subst (IsDone sc m) (same_Some (step.Deliver mail) taken f)
+    (record { exists = tt; kind = tt; allowed = mail_allowed (length m.state.mails) mail (nat_lt mail (length m.state.mails)) (error.NoSuchMail mail (length m.state.mails)) low refl })
+
+-- ---- all automatic steps are done
+
+-- they name what exists, and are the steps that the machine then has
+record AreDone (sc : Scenario) (m : Machine) (steps : List Step) : Type 0 where
+  pub exist : Each (IsStepOf sc) steps
+  pub steps_are : (after_steps sc m steps).state.steps ≡ m.state.steps ++ steps
+
+append_none : {A : Type 0} (xs : List A) → xs ++ [] ≡ xs
+append_none [] = refl
+append_none (x ∷ xs) = ap (λ ys. x ∷ ys) (append_none xs)
+
+append_one : {A : Type 0} (xs : List A) (x : A) (ys : List A) → (xs ++ x ∷ []) ++ ys ≡ xs ++ x ∷ ys
+append_one [] x ys = refl
+append_one (first ∷ xs) x ys = ap (λ zs. first ∷ zs) (append_one xs x ys)
+
+one_more : (sc : Scenario) (left : ℕ) (m : Machine) (taken : Step) → next_of sc m 0 ≡ Some taken → IsDone sc m taken → AreDone sc (done sc m taken) (automatic_from sc left 0 (done sc m taken))
+    → AreDone sc m (automatic_from sc (suc left) 0 m)
+one_more sc left m taken e d rest =
+    let others = automatic_from sc left 0 (done sc m taken) in
+    subst (AreDone sc m) (sym (automatic-some sc left m taken e d.allowed))
+    (record {
+      exist = (d.exists, rest.exist);
+      steps_are = ap (λ (k : Machine). (after_steps sc k others).state.steps) (after_done sc m taken d.allowed)
+          ∙ (rest.steps_are ∙ (ap (λ (steps : List Step). steps ++ others) (steps_done sc m taken d.kind) ∙ append_one m.state.steps taken others));
+    })
+
+by_next : (sc : Scenario) (left : ℕ) (m : Machine) (next : Option Step) → next_of sc m 0 ≡ next → AreSent m → ((k : Machine) → AreSent k → AreDone sc k (automatic_from sc left 0 k))
+    → AreDone sc m (automatic_from sc (suc left) 0 m)
+by_next sc left m None e h rest = subst (AreDone sc m) (sym (automatic-none sc (suc left) m e)) (record { exist = tt; steps_are = sym (append_none m.state.steps) })
+by_next sc left m (Some taken) e h rest =
+    one_more sc left m taken e (next_done sc m (slice_get m.undelivered 0) taken h refl e) (rest (done sc m taken) (sent_done sc m taken h))
+
+automatic_done : (sc : Scenario) (count : ℕ) (m : Machine) → AreSent m → AreDone sc m (automatic_from sc count 0 m)
+automatic_done sc zero m h = record { exist = tt; steps_are = sym (append_none m.state.steps) }
+automatic_done sc (suc left) m h = by_next sc left m (next_of sc m 0) refl h (λ k s. automatic_done sc left k s)
+
+-- ---- the whole run
+
+append_steps : (sc : Scenario) (m : Machine) (first more : List Step) → after_steps sc (after_steps sc m first) more ≡ after_steps sc m (first ++ more)
+append_steps sc m [] more = refl
+append_steps sc m (taken ∷ first) more = append_steps sc (after_step sc m taken) first more
+
+-- the last machine is the one after all steps
+pub final_after : (sc : Scenario) → final sc ≡ after sc (all_steps sc)
+final_after sc = append_steps sc (opening sc) sc.steps (automatic sc)
+
+listed_built : (sc : Scenario) → is_built sc ≡ true → listed sc ≡ opening sc
+listed_built sc built = ap (after sc) (steps_built sc built)
+
+-- all steps name what exists, and are the steps of the last machine
+all_done : (sc : Scenario) → is_built sc ≡ true → AreDone sc (opening sc) (all_steps sc)
+all_done sc built =
+    let own : AreDone sc (opening sc) (automatic_from sc (automatic_bound sc) 0 (opening sc)) = automatic_done sc (automatic_bound sc) (opening sc) tt in
+    let same : all_steps sc ≡ automatic_from sc (automatic_bound sc) 0 (opening sc) =
+    ap (λ (steps : List Step). steps ++ automatic sc) (steps_built sc built) ∙ ap (λ (m : Machine). automatic_from sc (automatic_bound sc) 0 m) (listed_built sc built) in
+    subst (AreDone sc (opening sc)) (sym same) own
+
+-- the run of a built scenario leaves a trusted history
+pub trusted_run : (sc : Scenario) → is_built sc ≡ true → TrustedHistory sc (all_steps sc) (final sc).state.facts (ending_of sc (final sc).state)
+trusted_run sc built =
+    let done_all : AreDone sc (opening sc) (all_steps sc) = all_done sc built in
+    let w = (after sc (all_steps sc)).state in
+    let h : Holds sc w = holds_after sc (all_steps sc) built done_all.exist in
+    let ended : have_ended sc w.facts 0 sc.txns ≡ true = ap (λ (m : Machine). have_ended sc m.state.facts 0 sc.txns) (sym (final_after sc)) ∙ first_run_ends sc built in
+    let made : TrustedHistory sc (all_steps sc) w.facts (ending_of sc w) = record {
+      outside = subst (λ (steps : List Step). IsOutside sc steps w.facts) done_all.steps_are h.outside;
+      agreed = facts_agreed sc w h.agrees;
+      trusted = facts_trusted sc w built h.sound h.trusts;
+      caused = facts_caused sc w h.trusts;
+      serial = serial_facts sc w h.agrees h.serial;
+      ended = ended;
+      values_are = serial_values sc w built h.sound h.agrees h.serial ∙ values_at_end sc w built h.agrees h.serial ended;
+      steps_are = ap length done_all.steps_are;
+    } in
+    subst (λ (m : Machine). TrustedHistory sc (all_steps sc) m.state.facts (ending_of sc m.state)) (sym (final_after sc)) made
