@@ -2,6 +2,16 @@
 #![tactic(auto)]
 
 #[cfg(test)]
+mod audit;
+#[cfg(test)]
+mod audit_agreement;
+#[cfg(test)]
+mod audit_causes;
+#[cfg(test)]
+mod audit_serial;
+#[cfg(test)]
+mod audit_trust;
+#[cfg(test)]
 mod clones;
 #[cfg(test)]
 mod io;

@@ -1,0 +1,233 @@
+//! Each way to break agreement, and histories that keep it.
+use crate::audit::{BACK, Case, EVES, NOTHING, PAY, Said, Why, history, scenario};
+use std::test::Fail;
+use tp_model::{is_agreed, keeps_agreement};
+use tp_types::{Actor, Fact, List, Outcome, Scenario};
+
+const CASES: &[Case] = &[
+    // submitted alone, and beside facts of other kinds
+    (&[(0, Said::Submit(PAY))], None),
+    (
+        &[
+            (0, Said::Submit(PAY)),
+            (0, Said::Submit(BACK)),
+            (1, Said::Tick(4)),
+            (2, Said::Crash(Actor::Master)),
+            (3, Said::Publish(0, 2)),
+            (4, Said::Revoke(0)),
+            (5, Said::Lose),
+        ],
+        None,
+    ),
+    // a commit, settled at both servers of PAY
+    (
+        &[
+            (0, Said::Submit(PAY)),
+            (5, Said::Commit(PAY, NOTHING)),
+            (6, Said::Settle(0, PAY, Outcome::Commit)),
+            (6, Said::Settle(1, PAY, Outcome::Commit)),
+        ],
+        None,
+    ),
+    // an abort, settled
+    (
+        &[
+            (0, Said::Submit(PAY)),
+            (5, Said::Abort(PAY, Why::Halted)),
+            (6, Said::Settle(0, PAY, Outcome::Abort)),
+        ],
+        None,
+    ),
+    // an abort that is settled before it is decided, or never decided
+    (
+        &[
+            (0, Said::Submit(PAY)),
+            (4, Said::Settle(0, PAY, Outcome::Abort)),
+            (5, Said::Abort(PAY, Why::Halted)),
+        ],
+        None,
+    ),
+    (
+        &[
+            (0, Said::Submit(PAY)),
+            (4, Said::Settle(0, PAY, Outcome::Abort)),
+        ],
+        None,
+    ),
+    // submitted twice, at two places or at one
+    (&[(0, Said::Submit(PAY)), (1, Said::Submit(PAY))], Some(0)),
+    (
+        &[
+            (0, Said::Submit(BACK)),
+            (1, Said::Submit(PAY)),
+            (1, Said::Submit(PAY)),
+        ],
+        Some(1),
+    ),
+    // decided twice, so or so
+    (
+        &[
+            (0, Said::Submit(PAY)),
+            (4, Said::Commit(PAY, NOTHING)),
+            (5, Said::Commit(PAY, NOTHING)),
+        ],
+        Some(1),
+    ),
+    (
+        &[
+            (0, Said::Submit(PAY)),
+            (4, Said::Commit(PAY, NOTHING)),
+            (5, Said::Abort(PAY, Why::Halted)),
+        ],
+        Some(1),
+    ),
+    // decided before the submission, at its place, or without one
+    (
+        &[(1, Said::Commit(PAY, NOTHING)), (3, Said::Submit(PAY))],
+        Some(0),
+    ),
+    (
+        &[(3, Said::Submit(PAY)), (3, Said::Commit(PAY, NOTHING))],
+        Some(1),
+    ),
+    (&[(3, Said::Abort(PAY, Why::Halted))], Some(0)),
+    (
+        &[(0, Said::Submit(BACK)), (3, Said::Abort(PAY, Why::Halted))],
+        Some(1),
+    ),
+    // settled twice at one server
+    (
+        &[
+            (0, Said::Submit(PAY)),
+            (5, Said::Commit(PAY, NOTHING)),
+            (6, Said::Settle(0, PAY, Outcome::Commit)),
+            (7, Said::Settle(0, PAY, Outcome::Commit)),
+        ],
+        Some(2),
+    ),
+    (
+        &[
+            (0, Said::Submit(PAY)),
+            (5, Said::Settle(0, PAY, Outcome::Abort)),
+            (7, Said::Settle(0, PAY, Outcome::Abort)),
+        ],
+        Some(1),
+    ),
+    // settled at a server without an item of it, or at none that is declared
+    (
+        &[
+            (0, Said::Submit(PAY)),
+            (5, Said::Commit(PAY, NOTHING)),
+            (6, Said::Settle(2, PAY, Outcome::Commit)),
+        ],
+        Some(2),
+    ),
+    (
+        &[
+            (0, Said::Submit(PAY)),
+            (6, Said::Settle(9, PAY, Outcome::Abort)),
+        ],
+        Some(1),
+    ),
+    // settled before the submission, without one, or of no transaction that is declared
+    (
+        &[
+            (1, Said::Settle(0, PAY, Outcome::Abort)),
+            (2, Said::Submit(PAY)),
+        ],
+        Some(0),
+    ),
+    (
+        &[
+            (0, Said::Submit(BACK)),
+            (1, Said::Settle(0, PAY, Outcome::Abort)),
+        ],
+        Some(1),
+    ),
+    (
+        &[
+            (0, Said::Submit(99)),
+            (1, Said::Settle(0, 99, Outcome::Abort)),
+        ],
+        Some(1),
+    ),
+    // a commit is settled before it was decided, at that place, without it, or after that of another
+    (
+        &[
+            (0, Said::Submit(PAY)),
+            (4, Said::Settle(0, PAY, Outcome::Commit)),
+            (5, Said::Commit(PAY, NOTHING)),
+        ],
+        Some(1),
+    ),
+    (
+        &[
+            (0, Said::Submit(PAY)),
+            (5, Said::Commit(PAY, NOTHING)),
+            (5, Said::Settle(0, PAY, Outcome::Commit)),
+        ],
+        Some(2),
+    ),
+    (
+        &[
+            (0, Said::Submit(PAY)),
+            (5, Said::Settle(0, PAY, Outcome::Commit)),
+        ],
+        Some(1),
+    ),
+    (
+        &[
+            (0, Said::Submit(PAY)),
+            (0, Said::Submit(EVES)),
+            (4, Said::Commit(EVES, NOTHING)),
+            (5, Said::Settle(0, PAY, Outcome::Commit)),
+        ],
+        Some(3),
+    ),
+    // a commit is settled of an abort, and an abort beside a commit, which may come later
+    (
+        &[
+            (0, Said::Submit(PAY)),
+            (4, Said::Abort(PAY, Why::Halted)),
+            (5, Said::Settle(0, PAY, Outcome::Commit)),
+        ],
+        Some(2),
+    ),
+    (
+        &[
+            (0, Said::Submit(PAY)),
+            (4, Said::Commit(PAY, NOTHING)),
+            (5, Said::Settle(0, PAY, Outcome::Abort)),
+        ],
+        Some(2),
+    ),
+    (
+        &[
+            (0, Said::Submit(PAY)),
+            (4, Said::Settle(0, PAY, Outcome::Abort)),
+            (5, Said::Commit(PAY, NOTHING)),
+        ],
+        Some(1),
+    ),
+];
+
+/// The first fact that does not keep agreement.
+fn first_breach(scenario: &Scenario, facts: &List<Fact>) -> Option<usize> {
+    for (at, fact) in facts.as_slice().iter().enumerate() {
+        if !keeps_agreement(scenario, facts, fact) {
+            return Some(at);
+        }
+    }
+    None
+}
+
+#[test]
+fn agrees(rt: HostRuntime) -> Result<(), Fail> {
+    let scenario = scenario(&rt);
+    for (at, (story, breach)) in CASES.iter().enumerate() {
+        let facts = history(&rt, story);
+        assert_eq!(rt; first_breach(&scenario, &facts), *breach, "case {at}");
+        assert_eq!(rt; is_agreed(&scenario, &facts), breach.is_none(), "case {at}");
+    }
+    Ok(())
+}
