@@ -5,9 +5,12 @@ pub mod AgreeEnd
 pub mod AgreeServer
 pub mod AgreeSteps
 pub mod AgreeWorld
+pub mod EpochActors
+pub mod EpochWorld
 pub mod FactLemmas
 pub mod FlagsLemmas
 pub mod LogLemmas
+pub mod LoneLemmas
 pub mod MachineLemmas
 pub mod OpenedLemmas
 pub mod OutsideLemmas

@@ -16,6 +16,8 @@ use Rattle.tp_machine.specs.Sound.{Each, IsSound, IsStepOf}
 use Rattle.tp_machine.proofs.AgreeWorld.{Agrees}
 use Rattle.tp_machine.proofs.AgreeEnd.{facts_agreed}
 use Rattle.tp_machine.proofs.AgreeSteps.{agrees_done, agrees_opening}
+use Rattle.tp_machine.proofs.EpochWorld.{Epochs, epochs_done, epochs_opening}
+use Rattle.tp_machine.proofs.LoneLemmas.{AreLone, lone_done, lone_opening}
 use Rattle.tp_machine.proofs.OutsideLemmas.{outside_done, outside_opening}
 use Rattle.tp_machine.proofs.Sound.{sound_done, sound_opening}
 use Rattle.tp_machine.proofs.SerialEnd.{serial_facts, serial_values}
@@ -30,13 +32,15 @@ use Rattle.tp_machine.proofs.ViewsWorld.{Trusts}
 pub record Holds (sc : Scenario) (w : State) : Type 0 where
   pub sound : IsSound sc w
   pub agrees : Agrees sc w
+  pub epochs : Epochs w
+  pub lone : AreLone w.facts
   pub outside : IsOutside sc w.steps w.facts
   pub trusts : Trusts sc w
   pub serial : Serial sc w
 
 pub holds_opening : (sc : Scenario) → is_built sc ≡ true → Holds sc (opening_state sc)
 holds_opening sc built =
-    record { sound = sound_opening sc built; agrees = agrees_opening sc; outside = outside_opening sc; trusts = trusts_opening sc built; serial = serial_opening sc built }
+    record { sound = sound_opening sc built; agrees = agrees_opening sc; epochs = epochs_opening sc; lone = lone_opening; outside = outside_opening sc; trusts = trusts_opening sc built; serial = serial_opening sc built }
 
 -- each invariant may lean on all the others before the step
 pub holds_done : (sc : Scenario) (m : Machine) (taken : Step) → is_built sc ≡ true → IsStepOf sc taken → refusal m.state taken ≡ None → Holds sc m.state → Holds sc (done sc m taken).state
@@ -44,6 +48,8 @@ holds_done sc m taken built exists allowed h =
     record {
       sound = sound_done sc m taken built exists h.sound;
       agrees = agrees_done sc m taken exists allowed h.sound h.agrees;
+      epochs = epochs_done sc m taken exists allowed h.sound h.agrees h.epochs;
+      lone = lone_done sc m taken h.agrees.past h.lone;
       outside = outside_done sc m taken h.agrees.past h.outside;
       trusts = trusts_done sc m taken built exists allowed h.sound h.agrees h.trusts;
       serial = serial_done sc m taken built exists allowed h.sound h.agrees h.serial;
@@ -79,7 +85,7 @@ caused_after sc steps facts built exist e = ap (is_caused sc) e ∙ facts_caused
 pub serial_after : (sc : Scenario) (steps : List Step) (facts : List Fact) → is_built sc ≡ true → Each (IsStepOf sc) steps → facts ≡ (after sc steps).state.facts → is_serial sc facts ≡ true
 serial_after sc steps facts built exist e =
     let h = holds_after sc steps built exist in
-    ap (is_serial sc) e ∙ serial_facts sc (after sc steps).state h.agrees h.serial
+    ap (is_serial sc) e ∙ serial_facts sc (after sc steps).state h.lone h.serial
 
 -- the values of a world are those that its servers have settled
 pub overlaid_after : (sc : Scenario) (steps : List Step) (w : State) → is_built sc ≡ true → Each (IsStepOf sc) steps → w ≡ (after sc steps).state → (ending_of sc w).values ≡ overlaid sc w.facts
@@ -96,6 +102,6 @@ so_far_after sc w built exist e =
       agreed = facts_agreed sc w h.agrees;
       trusted = facts_trusted sc w built h.sound h.trusts;
       caused = facts_caused sc w h.trusts;
-      serial = serial_facts sc w h.agrees h.serial;
+      serial = serial_facts sc w h.lone h.serial;
       values_are = serial_values sc w built h.sound h.agrees h.serial;
     }

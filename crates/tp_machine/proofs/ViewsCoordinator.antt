@@ -321,7 +321,7 @@ coordinator_row_trusts sc facts place c mail h m f = body_trusts sc facts place 
 
 -- ---- Submit
 
-idle_is : (awaited : Phase) → HasBegun awaited None → awaited ≡ phase.Idle
+pub idle_is : (awaited : Phase) → HasBegun awaited None → awaited ≡ phase.Idle
 idle_is phase.Idle h = refl
 idle_is (phase.Querying number staple) h = absurd (cc)
 idle_is (phase.Asking round) h = absurd (cc)

@@ -1,5 +1,6 @@
 -- What a log says: look-ups on the list of its records. Nothing else reads a log.
-use Rattle.std.specs.Prelude.{ℕ, List, [], ◌∷◌, slice_get, Option, Some, None, option_and_then, if◌then◌else◌}
+use Rattle.std.specs.Prelude.{ℕ, ◌+◌, List, [], ◌∷◌, slice_get, Option, Some, None, option_and_then, if◌then◌else◌}
+use Rattle.std.specs.Option.{option_map_or}
 use Rattle.tp_types.specs.declared.ids.TxnId.{TxnId}
 use Rattle.tp_types.specs.declared.records.Decision.{Decision}
 use Rattle.tp_types.specs.declared.records.Prepared.{Prepared}
@@ -43,6 +44,16 @@ abbrev pub prepared_in : TxnId → List Record → Option Prepared
 prepared_in txn [] = None
 prepared_in txn (first ∷ kept) = first_of (prepared_in txn kept) (preparation_in txn first)
 
+-- how often the server was booted
+abbrev pub boots_in : List Record → ℕ
+boots_in [] = 0
+boots_in (log.Boot ∷ kept) = boots_in kept + 1
+boots_in (first ∷ kept) = boots_in kept
+
+-- the server's epoch: one, and one more for each boot
+abbrev pub epoch_in : List Record → ℕ
+epoch_in kept = boots_in kept + 1
+
 -- ---- the logs of all actors
 
 abbrev pub decided_by : Part Coordinator → Option Decision
@@ -65,3 +76,10 @@ prepared_by txn part = prepared_in txn part.log
 -- what a server, by its number, has voted YES on for a transaction
 abbrev pub prepared_at : List (Part Server) → ℕ → TxnId → Option Prepared
 prepared_at servers at txn = option_and_then (prepared_by txn) (slice_get servers at)
+
+abbrev pub epoch_by : Part Server → ℕ
+epoch_by part = epoch_in part.log
+
+-- the epoch of a server, by its number; 0, which is no epoch, where there is no such server
+abbrev pub epoch_at : List (Part Server) → ℕ → ℕ
+epoch_at servers at = option_map_or epoch_by (slice_get servers at) 0

@@ -70,11 +70,12 @@ pub record Refuses (old new : Seen) (taken : Step) (why : StepError) : Type 0 wh
   pub reason : refusal old.machine.state taken ≡ Some why
   pub unchanged : new ≡ old
 
--- the world is given up: its facts, steps and mails, and which actors are down, stay
+-- the world is given up: its facts, steps and mails, which of these are undelivered, and which actors are down, stay
 pub record GivesUp (old new : Seen) : Type 0 where
   pub scenario : new.scenario ≡ old.scenario
   pub given_up : new.given_up ≡ true
   pub facts : new.machine.state.facts ≡ old.machine.state.facts
   pub steps : new.machine.state.steps ≡ old.machine.state.steps
   pub mails : new.machine.state.mails ≡ old.machine.state.mails
+  pub undelivered : new.machine.undelivered ≡ old.machine.undelivered
   pub up : SameUp old.machine.state.actors new.machine.state.actors

@@ -50,14 +50,10 @@ abbrev pub have_ended : Scenario → List Fact → ℕ → List Transaction → 
 have_ended sc facts first [] = true
 have_ended sc facts first (declared ∷ others) = has_ended sc facts (record { 0 = first }) declared && have_ended sc facts (first + 1) others
 
--- a run of these steps came to a quiet end with this history: it agrees, its commits are trusted and serial, its aborts have
--- causes, every transaction has ended at all its servers, and each item has the value that all commits leave
+-- a run of these steps came to a quiet end with this history: it is trusted as at any moment, every transaction has ended at all its
+-- servers, and each item has the value that all commits leave
 pub record TrustedHistory (sc : Scenario) (steps : List Step) (facts : List Fact) (ending : Ending) : Type 0 where
-  pub outside : IsOutside sc steps facts
-  pub agreed : is_agreed sc facts ≡ true
-  pub trusted : is_trusted sc facts ≡ true
-  pub caused : is_caused sc facts ≡ true
-  pub serial : is_serial sc facts ≡ true
+  pub so_far : TrustedSoFar sc steps facts ending.values
   pub ended : have_ended sc facts 0 sc.txns ≡ true
   pub values_are : ending.values ≡ store_of sc facts
   pub steps_are : ending.steps ≡ length steps

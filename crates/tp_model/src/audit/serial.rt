@@ -243,7 +243,7 @@ fn is_serial_decision(
     txn: TxnId,
     decision: &Decision,
 ) -> Result<bool, NoMemory>
-    ensures { IfOk result (λ kept. kept ≡ serial.keeps_serial_what scenario.now facts.now place (What.Decided txn decision.now)) }
+    ensures { IfOk result (λ kept. kept ≡ serial.ran_alone_what scenario.now facts.now place (What.Decided txn decision.now)) }
 {
     let Decision::Commit(committed) = decision else {
         return Ok(true);
@@ -255,8 +255,29 @@ fn is_serial_decision(
     Ok(is_serial_commit(scenario, store, committed, declared))
 }
 
-/// Whether one fact keeps serial data beside all facts: if it is a commit, it did what its transaction does by itself on the
-/// data of the commits before it, and left each item in its range.
+fn is_commit_at(place: Place, fact: &Fact) -> bool
+    ensures { result ≡ serial.is_commit_at place fact.now }
+{
+    fact.place == place && matches!(&fact.what, What::Decided(_, Decision::Commit(_)))
+}
+
+fn is_lone(facts: &List<Fact>, place: Place, _txn: TxnId, decision: &Decision) -> bool
+    ensures { result ≡ serial.is_lone_what facts.now place (What.Decided _txn decision.now) }
+{
+    match decision {
+        Decision::Commit(_) => {
+            facts
+                .iter()
+                .filter(|fact| is_commit_at(place, fact))
+                .count()
+                == 1
+        }
+        Decision::Abort(_) => true,
+    }
+}
+
+/// Whether one fact keeps serial data beside all facts: if it is a commit, it is the only one of its place, did what its
+/// transaction does by itself on the data of the commits before it, and left each item in its range.
 pub fn keeps_serial(
     alloc: Global,
     scenario: &Scenario,
@@ -267,6 +288,9 @@ pub fn keeps_serial(
 {
     match &fact.what {
         What::Decided(txn, decision) => {
+            if !is_lone(facts, fact.place, *txn, decision) {
+                return Ok(false);
+            }
             is_serial_decision(alloc, scenario, facts, fact.place, *txn, decision)
         }
         _ => Ok(true),
