@@ -186,8 +186,13 @@ const RUNS: &[Run] = &[
     (&[(4, BACK, WENT_BACK), (5, PAY, PAID_LATER)], None),
     (&[(4, BACK, WENT_BACK), (5, PAY, PAID)], Some(1)),
     (&[(4, PAY, PAID), (5, BACK, WENT_BACK)], None),
-    // what is at the place itself, or later, is not before it
-    (&[(5, BACK, WENT_BACK), (5, PAY, PAID)], None),
+    // two at one place, of which neither is before the other
+    (&[(5, BACK, WENT_BACK), (5, PAY, PAID)], Some(0)),
+    (
+        &[(4, PAY, PAID), (5, BACK, WENT_BACK), (5, PAY, PAID_LATER)],
+        Some(1),
+    ),
+    // what is at a later place is not before it, wherever it stands
     (&[(5, BACK, WENT_BACK), (4, PAY, PAID)], None),
     // out of the range at the end, and on the way alone
     (
