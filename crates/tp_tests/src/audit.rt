@@ -5,7 +5,7 @@ use tp_model::{is_agreed, is_caused, is_serial, is_trusted, newest_at};
 use tp_types::{
     Action, Actor, Admin, AdminId, Cause, CommitRecord, Cond, CredId, Credential, Decision, Deed,
     Denied, Died, Fact, Instance, Item, ItemId, Level, List, Name, Newer, Op, Operand, OutOfRange,
-    Outcome, Pattern, Policy, Query, Rule, Scenario, Scheme, ServerDecl, ServerId, Term,
+    Outcome, Pattern, Place, Policy, Query, Rule, Scenario, Scheme, ServerDecl, ServerId, Term,
     Transaction, TxnId, Value, Verdict, Version, What,
 };
 
@@ -686,14 +686,26 @@ const PUBLISHED: Story = &[
     (4, Said::Publish(HR, 6)),
 ];
 
+/// The newest version, where facts are few and the opening version is small.
+fn newest(
+    rt: &impl Abort,
+    admin: u32,
+    opening: u32,
+    facts: &List<Fact>,
+    place: Place,
+) -> Version {
+    assert!(rt; facts.len() < 1000 && opening < 1000);
+    newest_at(AdminId(admin), Version(opening), facts, place)
+}
+
 #[test]
 fn counts_publications_before_a_place(rt: HostRuntime) -> Result<(), Fail> {
     let facts = history(&rt, PUBLISHED);
-    for (place, newest) in [(0, 4), (2, 4), (3, 5), (4, 5), (5, 6)] {
-        let found = newest_at(AdminId(HR), Version(4), &facts, place);
-        assert_eq!(rt; found, Version(newest));
+    for (place, version) in [(0, 4), (2, 4), (3, 5), (4, 5), (5, 6)] {
+        let found = newest(&rt, HR, 4, &facts, place);
+        assert_eq!(rt; found, Version(version));
     }
-    assert_eq!(rt; newest_at(AdminId(IT), Version(1), &facts, 9), Version(2));
-    assert_eq!(rt; newest_at(AdminId(7), Version(1), &facts, 9), Version(1));
+    assert_eq!(rt; newest(&rt, IT, 1, &facts, 9), Version(2));
+    assert_eq!(rt; newest(&rt, 7, 1, &facts, 9), Version(1));
     Ok(())
 }
