@@ -1,0 +1,15 @@
+pub mod Choices
+pub mod Comparisons
+pub mod Conditions
+pub mod Exact
+pub mod Heads
+pub mod Images
+pub mod Leaves
+pub mod Links
+pub mod Names
+pub mod Numbers
+pub mod Patterns
+pub mod Rules
+pub mod Sequences
+pub mod Texts
+pub mod Tokens

@@ -1,0 +1,4 @@
+pub mod Grammar
+pub mod Lexis
+pub mod Readers
+pub mod Readings
