@@ -47,21 +47,23 @@ digit_begins byte e = ap (λ (b : Bool). b || (byte == 45)) e
 int_begins : (z : ℤ) (s t : List ℕ) → Int z s t → begins_int (first s) ≡ true
 int_begins z s t h = by_spelling h.text h.spelled h.word
   where
-  by_number : (text : List ℕ) → is_number text ≡ true → Word text s t → begins_int (first s) ≡ true
-  by_number [] e w = absurd (cc)
-  by_number (head ∷ others) e w = ap begins_int (ap first w.begins) ∙ digit_begins head (number_parts head others e).digit
-  by_spelling : (text : List ℕ) → IsInt text z → Word text s t → begins_int (first s) ≡ true
-  by_spelling text (inl k) w = by_number text k.digits w
-  by_spelling text (inr k) w = ap begins_int (ap first (w.begins ∙ ap (λ l. l ++ w.after) k.signed))
+    by_number : (text : List ℕ) → is_number text ≡ true → Word text s t → begins_int (first s) ≡ true
+    by_number [] e w = absurd (cc)
+    by_number (head ∷ others) e w = ap begins_int (ap first w.begins) ∙ digit_begins head (number_parts head others e).digit
+
+    by_spelling : (text : List ℕ) → IsInt text z → Word text s t → begins_int (first s) ≡ true
+    by_spelling text (inl k) w = by_number text k.digits w
+    by_spelling text (inr k) w = ap begins_int (ap first (w.begins ∙ ap (λ l. l ++ w.after) k.signed))
 
 letter_begins : (byte : ℕ) → is_letter byte ≡ true → begins_int (Some byte) ≡ false
 letter_begins byte e = by_int (begins_int (Some byte)) refl
   where
-  wrong : (n : ℕ) → is_letter n ≡ true → (is_digit n || (n == 45)) ≡ true → ⊥
-  wrong n e2 e3 = grind (arith, nat_tests)
-  by_int : (b : Bool) → begins_int (Some byte) ≡ b → b ≡ false
-  by_int false e2 = refl
-  by_int true e2 = absurd (wrong byte e e2)
+    wrong : (n : ℕ) → is_letter n ≡ true → (is_digit n || (n == 45)) ≡ true → ⊥
+    wrong n e2 e3 = grind (arith, nat_tests)
+
+    by_int : (b : Bool) → begins_int (Some byte) ≡ b → b ≡ false
+    by_int false e2 = refl
+    by_int true e2 = absurd (wrong byte e e2)
 
 named_begins : (name s t : List ℕ) → Named name s t → begins_int (first s) ≡ false
 named_begins name s t h =
@@ -71,21 +73,21 @@ named_begins name s t h =
 pub value_exact : (d n : ℕ) → Exact IsValue IsValue any_next d d n value_at
 value_exact d n =
     retell (Either Numbers Names) (Either Numbers Names) IsValue IsValue any_next any_next d d n n value_at
-      (choice_exact begins_int (λ s. mapped value.Number (int_at s)) (λ s. mapped value.Word (name_at s)) Numbers Numbers Names Names any_next d d n
-        (mapped_exact value.Number Int Int any_next d d n int_at (int_exact d n))
-        (mapped_exact value.Word Named Named any_next d d n name_at (name_exact d n))
-        (record {
-          one = λ s t a h. int_begins h.value s t h.says;
-          two = λ s t a h. named_begins h.value s t h.says;
-        }))
-      (record {
-        to = λ s t a h. value_says a s t h;
-        from = λ s t a may h. says_value a s t h;
-        from_wide = λ s t a may h. says_value a s t h;
-        wide = λ s t a h. h;
-        allows = λ o may. refl;
-      })
-      (omega (arith))
+    (choice_exact begins_int (λ s. mapped value.Number (int_at s)) (λ s. mapped value.Word (name_at s)) Numbers Numbers Names Names any_next d d n
+    (mapped_exact value.Number Int Int any_next d d n int_at (int_exact d n))
+    (mapped_exact value.Word Named Named any_next d d n name_at (name_exact d n))
+    (record {
+      one = λ s t a h. int_begins h.value s t h.says;
+      two = λ s t a h. named_begins h.value s t h.says;
+    }))
+    (record {
+      to = λ s t a h. value_says a s t h;
+      from = λ s t a may h. says_value a s t h;
+      from_wide = λ s t a may h. says_value a s t h;
+      wide = λ s t a h. h;
+      allows = λ o may. refl;
+    })
+    (omega (arith))
 
 -- ---- an operator with what it compares to
 
@@ -119,37 +121,37 @@ says_by op.AtMost (value.Word name) s t h = absurd (h)
 pub compared_exact : (d n : ℕ) → Exact IsComparedBy IsComparedBy any_next d d n compared_at
 compared_exact d n =
     retell Comparing Comparing IsComparedBy IsComparedBy any_next any_next d d n n compared_at
-      (choice_exact (comes 61) (both with_op (sign_at (codes "=") op.Equal) value_at)
-        (choice (comes 62) (both with_number (sign_at (codes ">=") op.AtLeast) int_at) (both with_number (sign_at (codes "<=") op.AtMost) int_at))
-        Equals Equals (Either AtLeasts AtMosts) (Either AtLeasts AtMosts) any_next d d n
-        (both_exact with_op (sign_at (codes "=") op.Equal) value_at (Says false (codes "=") op.Equal) (Says false (codes "=") op.Equal) IsValue IsValue any_next any_next d d d n
-          (plain_token false 61 [] op.Equal any_next d n refl refl refl) (value_exact d n) (λ b m t h. refl))
-        (choice_exact (comes 62) (both with_number (sign_at (codes ">=") op.AtLeast) int_at) (both with_number (sign_at (codes "<=") op.AtMost) int_at)
-          AtLeasts AtLeasts AtMosts AtMosts any_next d d n
-          (both_exact with_number (sign_at (codes ">=") op.AtLeast) int_at (Says false (codes ">=") op.AtLeast) (Says false (codes ">=") op.AtLeast) Int Int any_next any_next d d d n
-            (plain_token false 62 (61 ∷ []) op.AtLeast any_next d n refl refl refl) (int_exact d n) (λ b m t h. refl))
-          (both_exact with_number (sign_at (codes "<=") op.AtMost) int_at (Says false (codes "<=") op.AtMost) (Says false (codes "<=") op.AtMost) Int Int any_next any_next d d d n
-            (plain_token false 60 (61 ∷ []) op.AtMost any_next d n refl refl refl) (int_exact d n) (λ b m t h. refl))
-          (record {
-            one = λ s t a h. ap (comes 62) (token_begins false 62 (61 ∷ []) s h.between h.one.1);
-            two = λ s t a h. ap (comes 62) (token_begins false 60 (61 ∷ []) s h.between h.one.1);
-          }))
-        (record {
-          one = λ s t a h. ap (comes 61) (token_begins false 61 [] s h.between h.one.1);
-          two = λ s t a h. other_begins a s t h;
-        }))
-      (record {
-        to = λ s t a h. comparing_says a s t h;
-        from = λ s t a may h. says_by a.op a.wanted s t h;
-        from_wide = λ s t a may h. says_by a.op a.wanted s t h;
-        wide = λ s t a h. h;
-        allows = λ o may. refl;
-      })
-      (omega (arith))
+    (choice_exact (comes 61) (both with_op (sign_at (codes "=") op.Equal) value_at)
+    (choice (comes 62) (both with_number (sign_at (codes ">=") op.AtLeast) int_at) (both with_number (sign_at (codes "<=") op.AtMost) int_at))
+    Equals Equals (Either AtLeasts AtMosts) (Either AtLeasts AtMosts) any_next d d n
+    (both_exact with_op (sign_at (codes "=") op.Equal) value_at (Says false (codes "=") op.Equal) (Says false (codes "=") op.Equal) IsValue IsValue any_next any_next d d d n
+    (plain_token false 61 [] op.Equal any_next d n refl refl refl) (value_exact d n) (λ b m t h. refl))
+    (choice_exact (comes 62) (both with_number (sign_at (codes ">=") op.AtLeast) int_at) (both with_number (sign_at (codes "<=") op.AtMost) int_at)
+    AtLeasts AtLeasts AtMosts AtMosts any_next d d n
+    (both_exact with_number (sign_at (codes ">=") op.AtLeast) int_at (Says false (codes ">=") op.AtLeast) (Says false (codes ">=") op.AtLeast) Int Int any_next any_next d d d n
+    (plain_token false 62 (61 ∷ []) op.AtLeast any_next d n refl refl refl) (int_exact d n) (λ b m t h. refl))
+    (both_exact with_number (sign_at (codes "<=") op.AtMost) int_at (Says false (codes "<=") op.AtMost) (Says false (codes "<=") op.AtMost) Int Int any_next any_next d d d n
+    (plain_token false 60 (61 ∷ []) op.AtMost any_next d n refl refl refl) (int_exact d n) (λ b m t h. refl))
+    (record {
+      one = λ s t a h. ap (comes 62) (token_begins false 62 (61 ∷ []) s h.between h.one.1);
+      two = λ s t a h. ap (comes 62) (token_begins false 60 (61 ∷ []) s h.between h.one.1);
+    }))
+    (record {
+      one = λ s t a h. ap (comes 61) (token_begins false 61 [] s h.between h.one.1);
+      two = λ s t a h. other_begins a s t h;
+    }))
+    (record {
+      to = λ s t a h. comparing_says a s t h;
+      from = λ s t a may h. says_by a.op a.wanted s t h;
+      from_wide = λ s t a may h. says_by a.op a.wanted s t h;
+      wide = λ s t a h. h;
+      allows = λ o may. refl;
+    })
+    (omega (arith))
   where
-  other_begins : (a : Compared) (s t : List ℕ) → Either AtLeasts AtMosts a s t → comes 61 (first s) ≡ false
-  other_begins a s t (inl h) = ap (comes 61) (token_begins false 62 (61 ∷ []) s h.between h.one.1)
-  other_begins a s t (inr h) = ap (comes 61) (token_begins false 60 (61 ∷ []) s h.between h.one.1)
+    other_begins : (a : Compared) (s t : List ℕ) → Either AtLeasts AtMosts a s t → comes 61 (first s) ≡ false
+    other_begins a s t (inl h) = ap (comes 61) (token_begins false 62 (61 ∷ []) s h.between h.one.1)
+    other_begins a s t (inr h) = ap (comes 61) (token_begins false 60 (61 ∷ []) s h.between h.one.1)
 
 -- ---- atoms
 
@@ -163,41 +165,42 @@ compared_begins op.AtMost (value.Word name) s t h = absurd (h)
 pub same_inl : {C : Type 0} {B : Type 0} (a b : C) → ◌≡◌ {A = C ⊎ (B → C)} (inl a) (inl b) → a ≡ b
 same_inl {C = C} {B = B} a b e = ap value_of e
   where
-  value_of : C ⊎ (B → C) → C
-  value_of (inl c) = c
-  value_of (inr g) = a
+    value_of : C ⊎ (B → C) → C
+    value_of (inl c) = c
+    value_of (inr g) = a
 
 atom_fits : (d : ℕ) → Fits atom_of IsComparedBy not_dot any_next not_dot d d
 atom_fits d = record {
-    follows = λ b m t h. compared_begins b.op b.wanted m t h;
-    leads = λ a b m t h. leads a (first m);
-    done = done;
-    after = λ o may. refl;
-    even = λ a o c h. refl;
-  }
+  follows = λ b m t h. compared_begins b.op b.wanted m t h;
+  leads = λ a b m t h. leads a (first m);
+  done = done;
+  after = λ o may. refl;
+  even = λ a o c h. refl;
+}
   where
-  leads : (a : Option Head) (o : Option ℕ) → Leads atom_of a o
-  leads None o = inr (cond.True, λ o2. refl)
-  leads (Some head) o = inl (_, refl)
-  done : (a : Option Head) (o : Option ℕ) (c : Cond) → atom_of a o ≡ inl c → (o2 : Option ℕ) → not_dot o2 ≡ true → (atom_of a o2 ≡ inl c) × (not_dot o2 ≡ true)
-  done None o c h o2 may = (h, may)
-  done (Some head) o c h o2 may = absurd (wrong h)
-    where
-    wrong : {g : Compared → Cond} → ◌≡◌ {A = Cond ⊎ (Compared → Cond)} (inr g) (inl c) → ⊥
-    wrong e = absurd (cc)
+    leads : (a : Option Head) (o : Option ℕ) → Leads atom_of a o
+    leads None o = inr (cond.True, λ o2. refl)
+    leads (Some head) o = inl (_, refl)
+
+    done : (a : Option Head) (o : Option ℕ) (c : Cond) → atom_of a o ≡ inl c → (o2 : Option ℕ) → not_dot o2 ≡ true → (atom_of a o2 ≡ inl c) × (not_dot o2 ≡ true)
+    done None o c h o2 may = (h, may)
+    done (Some head) o c h o2 may = absurd (wrong h)
+      where
+        wrong : {g : Compared → Cond} → ◌≡◌ {A = Cond ⊎ (Compared → Cond)} (inr g) (inl c) → ⊥
+        wrong e = absurd (cc)
 
 linked_atom : (c : Cond) (s t : List ℕ) → Linked atom_of IsHead IsComparedBy c s t → IsAtom c s t
 linked_atom c s t (inl h) = by_head h.value h.one h.ends
   where
-  by_head : (a : Option Head) → IsHead a s t → atom_of a (first t) ≡ inl c → IsAtom c s t
-  by_head None one ends = inl (sym (same_inl {B = Compared} cond.True c ends), one)
-  by_head (Some head) one ends = absurd (cc)
+    by_head : (a : Option Head) → IsHead a s t → atom_of a (first t) ≡ inl c → IsAtom c s t
+    by_head None one ends = inl (sym (same_inl {B = Compared} cond.True c ends), one)
+    by_head (Some head) one ends = absurd (cc)
 linked_atom c s t (inr h) = by_head h.value h.one h.goes
   where
-  by_attr : (issuer : List ℕ) (attr : Option (List ℕ)) → IsHead (Some (record { issuer = issuer; attr = attr })) s h.between
-      → atom_of (Some (record { issuer = issuer; attr = attr })) (first h.between) ≡ inr h.with_more → IsAtom c s t
-  by_attr issuer None one goes = absurd (one)
-  by_attr issuer (Some attr) one goes = inr (record {
+    by_attr : (issuer : List ℕ) (attr : Option (List ℕ)) → IsHead (Some (record { issuer = issuer; attr = attr })) s h.between
+        → atom_of (Some (record { issuer = issuer; attr = attr })) (first h.between) ≡ inr h.with_more → IsAtom c s t
+    by_attr issuer None one goes = absurd (one)
+    by_attr issuer (Some attr) one goes = inr (record {
       issuer = issuer;
       attr = attr;
       compares = h.more.op;
@@ -207,32 +210,33 @@ linked_atom c s t (inr h) = by_head h.value h.one h.goes
       subject = one;
       compared = h.two;
     })
-  by_head : (a : Option Head) → IsHead a s h.between → atom_of a (first h.between) ≡ inr h.with_more → IsAtom c s t
-  by_head None one goes = absurd (cc)
-  by_head (Some head) one goes = by_attr head.issuer head.attr one goes
+
+    by_head : (a : Option Head) → IsHead a s h.between → atom_of a (first h.between) ≡ inr h.with_more → IsAtom c s t
+    by_head None one goes = absurd (cc)
+    by_head (Some head) one goes = by_attr head.issuer head.attr one goes
 
 atom_linked : (c : Cond) (s t : List ℕ) → IsAtom c s t → Linked atom_of IsHead IsComparedBy c s t
 atom_linked c s t (inl h) = inl (record { value = None; one = h.1; ends = ap (λ (v : Cond). inl v) (sym h.0) })
 atom_linked c s t (inr h) = inr (record {
-    value = Some (record { issuer = h.issuer; attr = Some h.attr });
-    more = record { op = h.compares; wanted = h.wanted };
-    with_more = λ compared. cond.Atom h.issuer h.attr compared.op compared.wanted;
-    between = h.between;
-    one = h.subject;
-    goes = refl;
-    two = h.compared;
-    is = h.says;
-  })
+  value = Some (record { issuer = h.issuer; attr = Some h.attr });
+  more = record { op = h.compares; wanted = h.wanted };
+  with_more = λ compared. cond.Atom h.issuer h.attr compared.op compared.wanted;
+  between = h.between;
+  one = h.subject;
+  goes = refl;
+  two = h.compared;
+  is = h.says;
+})
 
 pub atom_exact : (d n : ℕ) → Exact IsAtom IsAtom not_dot d d n atom_at
 atom_exact d n =
     retell (Linked atom_of IsHead IsComparedBy) (Linked atom_of IsHead IsComparedBy) IsAtom IsAtom not_dot not_dot d d n n atom_at
-      (link_exact atom_of head_at compared_at IsHead IsHead IsComparedBy IsComparedBy not_dot any_next not_dot d d d n n (head_exact d n) (compared_exact d n) (atom_fits d) (omega (arith)))
-      (record {
-        to = λ s t a h. linked_atom a s t h;
-        from = λ s t a may h. atom_linked a s t h;
-        from_wide = λ s t a may h. atom_linked a s t h;
-        wide = λ s t a h. h;
-        allows = λ o may. may;
-      })
-      (omega (arith))
+    (link_exact atom_of head_at compared_at IsHead IsHead IsComparedBy IsComparedBy not_dot any_next not_dot d d d n n (head_exact d n) (compared_exact d n) (atom_fits d) (omega (arith)))
+    (record {
+      to = λ s t a h. linked_atom a s t h;
+      from = λ s t a may h. atom_linked a s t h;
+      from_wide = λ s t a may h. atom_linked a s t h;
+      wide = λ s t a h. h;
+      allows = λ o may. may;
+    })
+    (omega (arith))

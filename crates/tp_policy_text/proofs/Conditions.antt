@@ -32,35 +32,38 @@ joined_wider word L W wide (x ∷ xs) s t (inr h) = inr (h.0, h.1, wide s h.0 x 
 -- a reader that is spent
 pub spent_exact : {A : Type 0} (L W : Language A) (F : Option ℕ → Bool) (d : ℕ) → Starts L → ((s t : List ℕ) (a : A) → L a s t → W a s t) → Exact L W F d d 0 (λ s. stopped stop.Spent s)
 spent_exact {A = A} L W F d some wide = record {
-    front = λ s. record { before = []; parts = refl };
-    local = λ x t u o h same. let none = (nothing x t o h) in ap (λ (l : List ℕ). stopped stop.Spent (l ++ u)) none.0 ∙ ap (λ (v : Result A Stop). left_at v u) (sym none.1);
-    spaced = λ x t u a h tight may. absurd (wrong a (ap (λ (w : Reading A). w.outcome) h));
-    takes = λ s t a h. absurd (wrong a (ap (λ (w : Reading A). w.outcome) h));
-    wide = wide;
-    again = λ s t a h may. inr (tt);
-    full = λ s t a h may short. absurd (omega (arith, short));
-    lasts = λ s short h. omega (arith, short);
-    viable = λ x t why h. let none = (nothing x t (Err why) h).0 in record {
-      more = some.byte ∷ some.others;
-      value = some.value;
-      ends = λ u tight. subst (λ (l : List ℕ). L some.value (l ++ (some.byte ∷ (some.others ++ u))) u) (sym none) (some.ends u tight);
-    };
-    some = some;
-    solid = λ t a h. wrong a (ap (λ (w : Reading A). w.outcome) h);
-    level = λ x t a h. absurd (wrong a (ap (λ (w : Reading A). w.outcome) h));
-    deep = λ x t h. absurd (not_deep (ap (λ (w : Reading A). w.outcome) h));
-    shallow = λ x t o h. subst (IsShallow d) (sym (nothing x t o h).0) (λ p q parts. absurd (no_parts p q parts));
-  }
+  front = λ s. record { before = []; parts = refl };
+  local = λ x t u o h same. let none = (nothing x t o h) in ap (λ (l : List ℕ). stopped stop.Spent (l ++ u)) none.0 ∙ ap (λ (v : Result A Stop). left_at v u) (sym none.1);
+  spaced = λ x t u a h tight may. absurd (wrong a (ap (λ (w : Reading A). w.outcome) h));
+  takes = λ s t a h. absurd (wrong a (ap (λ (w : Reading A). w.outcome) h));
+  wide = wide;
+  again = λ s t a h may. inr (tt);
+  full = λ s t a h may short. absurd (omega (arith, short));
+  lasts = λ s short h. omega (arith, short);
+  viable = λ x t why h. let none = (nothing x t (Err why) h).0 in record {
+    more = some.byte ∷ some.others;
+    value = some.value;
+    ends = λ u tight. subst (λ (l : List ℕ). L some.value (l ++ (some.byte ∷ (some.others ++ u))) u) (sym none) (some.ends u tight);
+  };
+  some = some;
+  solid = λ t a h. wrong a (ap (λ (w : Reading A). w.outcome) h);
+  level = λ x t a h. absurd (wrong a (ap (λ (w : Reading A). w.outcome) h));
+  deep = λ x t h. absurd (not_deep (ap (λ (w : Reading A). w.outcome) h));
+  shallow = λ x t o h. subst (IsShallow d) (sym (nothing x t o h).0) (λ p q parts. absurd (no_parts p q parts));
+}
   where
-  wrong : (a : A) → ◌≡◌ {A = Result A Stop} (Err stop.Spent) (Ok a) → ⊥
-  wrong a e = absurd (cc)
-  not_deep : ◌≡◌ {A = Result A Stop} (Err stop.Spent) (Err stop.Deep) → ⊥
-  not_deep e = absurd (cc)
-  nothing : (x t : List ℕ) (o : Result A Stop) → stopped stop.Spent (x ++ t) ≡ left_at o t → (x ≡ []) × (o ≡ Err stop.Spent)
-  nothing x t o h = (same_front x [] t (ap (λ (w : Reading A). w.left) h), sym (ap (λ (w : Reading A). w.outcome) h))
-  no_parts : (p q : List ℕ) → [] ≡ p ++ (40 ∷ q) → ⊥
-  no_parts [] q parts = absurd (cc)
-  no_parts (c ∷ p) q parts = absurd (cc)
+    wrong : (a : A) → ◌≡◌ {A = Result A Stop} (Err stop.Spent) (Ok a) → ⊥
+    wrong a e = absurd (cc)
+
+    not_deep : ◌≡◌ {A = Result A Stop} (Err stop.Spent) (Err stop.Deep) → ⊥
+    not_deep e = absurd (cc)
+
+    nothing : (x t : List ℕ) (o : Result A Stop) → stopped stop.Spent (x ++ t) ≡ left_at o t → (x ≡ []) × (o ≡ Err stop.Spent)
+    nothing x t o h = (same_front x [] t (ap (λ (w : Reading A). w.left) h), sym (ap (λ (w : Reading A). w.outcome) h))
+
+    no_parts : (p q : List ℕ) → [] ≡ p ++ (40 ∷ q) → ⊥
+    no_parts [] q parts = absurd (cc)
+    no_parts (c ∷ p) q parts = absurd (cc)
 
 -- neither the word between two members nor what the members exclude
 abbrev pub not_joined : (Option ℕ → Bool) → ℕ → Option ℕ → Bool
@@ -69,14 +72,14 @@ not_joined F byte o = F o && not (comes byte o)
 pub more_no : {A : Type 0} (byte : ℕ) (a : A) (o : Option ℕ) → comes byte o ≡ false → more_of byte a o ≡ inl (a ∷ [])
 more_no {A = A} byte a o e = ap (λ (b : Bool). chosen b) e
   where
-  chosen : Bool → List A ⊎ (List A → List A)
-  chosen b = if b then inr (λ others. a ∷ others) else inl (a ∷ [])
+    chosen : Bool → List A ⊎ (List A → List A)
+    chosen b = if b then inr (λ others. a ∷ others) else inl (a ∷ [])
 
 pub more_yes : {A : Type 0} (byte : ℕ) (a : A) (o : Option ℕ) → comes byte o ≡ true → more_of byte a o ≡ inr (λ others. a ∷ others)
 more_yes {A = A} byte a o e = ap (λ (b : Bool). chosen b) e
   where
-  chosen : Bool → List A ⊎ (List A → List A)
-  chosen b = if b then inr (λ others. a ∷ others) else inl (a ∷ [])
+    chosen : Bool → List A ⊎ (List A → List A)
+    chosen b = if b then inr (λ others. a ∷ others) else inl (a ∷ [])
 
 left_or_right : {A : Type 0} (c : List A) (g : List A → List A) → ◌≡◌ {A = List A ⊎ (List A → List A)} (inl c) (inr g) → ⊥
 left_or_right c g e = absurd (cc)
@@ -85,27 +88,27 @@ left_or_right c g e = absurd (cc)
 pub more_ends : {A : Type 0} (byte : ℕ) (a : A) (o : Option ℕ) (c : List A) → more_of byte a o ≡ inl c → (comes byte o ≡ false) × (c ≡ a ∷ [])
 more_ends {A = A} byte a o c h = by_next (comes byte o) refl
   where
-  by_next : (b : Bool) → comes byte o ≡ b → (comes byte o ≡ false) × (c ≡ a ∷ [])
-  by_next false e = (e, sym (same_inl (a ∷ []) c (sym (more_no byte a o e) ∙ h)))
-  by_next true e = absurd (left_or_right c (λ others. a ∷ others) (sym h ∙ more_yes byte a o e))
+    by_next : (b : Bool) → comes byte o ≡ b → (comes byte o ≡ false) × (c ≡ a ∷ [])
+    by_next false e = (e, sym (same_inl (a ∷ []) c (sym (more_no byte a o e) ∙ h)))
+    by_next true e = absurd (left_or_right c (λ others. a ∷ others) (sym h ∙ more_yes byte a o e))
 
 pub more_goes : {A : Type 0} (byte : ℕ) (a : A) (o : Option ℕ) (g : List A → List A) → more_of byte a o ≡ inr g → (λ others. a ∷ others) ≡ g
 more_goes {A = A} byte a o g h = by_next (comes byte o) refl
   where
-  by_next : (b : Bool) → comes byte o ≡ b → (λ others. a ∷ others) ≡ g
-  by_next false e = absurd (left_or_right (a ∷ []) g (sym (more_no byte a o e) ∙ h))
-  by_next true e = inr_is (λ others. a ∷ others) g (sym (more_yes byte a o e) ∙ h)
+    by_next : (b : Bool) → comes byte o ≡ b → (λ others. a ∷ others) ≡ g
+    by_next false e = absurd (left_or_right (a ∷ []) g (sym (more_no byte a o e) ∙ h))
+    by_next true e = inr_is (λ others. a ∷ others) g (sym (more_yes byte a o e) ∙ h)
 
 pub more_fits : {A : Type 0} (byte : ℕ) (V : Language (List A)) (F : Option ℕ → Bool) (d : ℕ) → ((b : List A) (m t : List ℕ) → V b m t → first m ≡ Some byte) → F (Some byte) ≡ true → (byte == byte) ≡ true
     → Fits (more_of {A = A} byte) V F (not_joined F byte) (not_joined F byte) d d
 more_fits {A = A} byte V F d begins allows same = record {
-    follows = λ b m t h. ap F (begins b m t h) ∙ allows;
-    leads = λ a b m t h. inl (λ others. a ∷ others, more_yes byte a (first m) (ap (comes byte) (begins b m t h) ∙ same));
-    done = λ a o c h o2 may. let over = more_ends byte a o c h in let parts = and_parts (F o2) (not (comes byte o2)) may in
+  follows = λ b m t h. ap F (begins b m t h) ∙ allows;
+  leads = λ a b m t h. inl (λ others. a ∷ others, more_yes byte a (first m) (ap (comes byte) (begins b m t h) ∙ same));
+  done = λ a o c h o2 may. let over = more_ends byte a o c h in let parts = and_parts (F o2) (not (comes byte o2)) may in
       (more_no byte a o2 (not_true (comes byte o2) parts.1) ∙ ap (λ (l : List A). inl l) (sym over.1), parts.0);
-    after = λ o may. may;
-    even = λ a o c h. refl;
-  }
+  after = λ o may. may;
+  even = λ a o c h. refl;
+}
 
 abbrev Following : {A : Type 0} → List ℕ → Language A → Language (List A)
 Following {A = A} word L = Both second (Says true word (tt {0})) (Joined word L)
@@ -116,62 +119,62 @@ linked_joined byte word L xs s t (inl h) =
 linked_joined {A = A} byte word L xs s t (inr h) =
     let goes = more_goes byte h.value (first h.between) h.with_more h.goes in
     subst (λ l. Joined word L l s t) (sym (h.is ∙ (ap (λ (g : List A → List A). g h.more) (sym goes) ∙ ap (λ l. h.value ∷ l) h.two.is)))
-      (inr (h.between, h.two.between, h.one, h.two.one.1, h.two.two))
+    (inr (h.between, h.two.between, h.one, h.two.one.1, h.two.two))
 
 joined_linked : {A : Type 0} (byte : ℕ) (others : List ℕ) (L : Language A) (xs : List A) (s t : List ℕ) → (byte == byte) ≡ true → comes byte (first t) ≡ false
     → Joined (byte ∷ others) L xs s t → Linked (more_of byte) L (Following (byte ∷ others) L) xs s t
 joined_linked byte others L [] s t same over h = absurd (h)
 joined_linked {A = A} byte others L (x ∷ xs) s t same over (inl h) = inl (record {
-    value = x;
-    one = h.1;
-    ends = more_no byte x (first t) over ∙ ap (λ (l : List A). inl (x ∷ l)) (sym h.0);
-  })
+  value = x;
+  one = h.1;
+  ends = more_no byte x (first t) over ∙ ap (λ (l : List A). inl (x ∷ l)) (sym h.0);
+})
 joined_linked byte others L (x ∷ xs) s t same over (inr h) = inr (record {
-    value = x;
-    more = xs;
-    with_more = λ ys. x ∷ ys;
-    between = h.0;
-    one = h.2;
-    goes = more_yes byte x (first h.0) (ap (comes byte) (token_begins true byte others h.0 h.1 h.3) ∙ same);
-    two = record { value = tt; more = xs; between = h.1; one = (refl, h.3); two = h.4; is = refl };
-    is = refl;
-  })
+  value = x;
+  more = xs;
+  with_more = λ ys. x ∷ ys;
+  between = h.0;
+  one = h.2;
+  goes = more_yes byte x (first h.0) (ap (comes byte) (token_begins true byte others h.0 h.1 h.3) ∙ same);
+  two = record { value = tt; more = xs; between = h.1; one = (refl, h.3); two = h.4; is = refl };
+  is = refl;
+})
 
 pub joined_exact : {A : Type 0} (byte : ℕ) (others : List ℕ) (L W : Language A) (F : Option ℕ → Bool) (d N : ℕ) (r : Reader A) → Exact L W F d d N r
     → is_blank byte ≡ false → count 40 (byte ∷ others) ≡ 0 → count 41 (byte ∷ others) ≡ 0 → F (Some byte) ≡ true → (byte == byte) ≡ true → (n : ℕ) → n ≤ N
     → Exact (Joined (byte ∷ others) L) (Joined (byte ∷ others) W) (not_joined F byte) d d n (joined_at n byte (byte ∷ others) r)
 joined_exact {A = A} byte others L W F d N r R tight opens closes allows same zero fewer =
     spent_exact (Joined (byte ∷ others) L) (Joined (byte ∷ others) W) (not_joined F byte) d
-      (record {
-        byte = R.some.byte;
-        others = R.some.others;
-        value = R.some.value ∷ [];
-        tight = R.some.tight;
-        ends = λ u may. inl (refl, R.some.ends u may);
-      })
-      (λ s t xs h. joined_wider (byte ∷ others) L W R.wide xs s t h)
+    (record {
+      byte = R.some.byte;
+      others = R.some.others;
+      value = R.some.value ∷ [];
+      tight = R.some.tight;
+      ends = λ u may. inl (refl, R.some.ends u may);
+    })
+    (λ s t xs h. joined_wider (byte ∷ others) L W R.wide xs s t h)
 joined_exact {A = A} byte others L W F d N r R tight opens closes allows same (suc n) fewer =
     retell (Linked (more_of byte) L (Following (byte ∷ others) L)) (Linked (more_of byte) W (Following (byte ∷ others) W))
-      (Joined (byte ∷ others) L) (Joined (byte ∷ others) W) (not_joined F byte) (not_joined F byte) d d (suc n) (suc n)
-      (joined_at (suc n) byte (byte ∷ others) r)
-      (link_exact (more_of byte) r (both second (word_at (byte ∷ others) (tt {0})) (joined_at n byte (byte ∷ others) r)) L W
-        (Following (byte ∷ others) L) (Following (byte ∷ others) W) F (not_joined F byte) (not_joined F byte) d d d (suc n) n
-        (narrowed L W F F d d N (suc n) r R (λ o may. may) fewer)
-        (both_exact second (word_at (byte ∷ others) (tt {0})) (joined_at n byte (byte ∷ others) r) (Says true (byte ∷ others) (tt {0})) (Says true (byte ∷ others) (tt {0}))
-          (Joined (byte ∷ others) L) (Joined (byte ∷ others) W) any_next (not_joined F byte) d d d n
-          (plain_token true byte others (tt {0}) any_next d n tight opens closes)
-          (joined_exact byte others L W F d N r R tight opens closes allows same n (omega (arith, fewer)))
-          (λ b m t h. refl))
-        (more_fits byte (Following (byte ∷ others) W) F d (λ b m t h. token_begins true byte others m h.between h.one.1) allows same)
-        (omega (arith)))
-      (record {
-        to = λ s t xs h. linked_joined byte (byte ∷ others) L xs s t h;
-        from = λ s t xs may h. joined_linked byte others L xs s t same (not_true (comes byte (first t)) (and_parts (F (first t)) (not (comes byte (first t))) may).1) h;
-        from_wide = λ s t xs may h. joined_linked byte others W xs s t same (not_true (comes byte (first t)) (and_parts (F (first t)) (not (comes byte (first t))) may).1) h;
-        wide = λ s t xs h. joined_wider (byte ∷ others) L W R.wide xs s t h;
-        allows = λ o may. may;
-      })
-      (omega (arith))
+    (Joined (byte ∷ others) L) (Joined (byte ∷ others) W) (not_joined F byte) (not_joined F byte) d d (suc n) (suc n)
+    (joined_at (suc n) byte (byte ∷ others) r)
+    (link_exact (more_of byte) r (both second (word_at (byte ∷ others) (tt {0})) (joined_at n byte (byte ∷ others) r)) L W
+    (Following (byte ∷ others) L) (Following (byte ∷ others) W) F (not_joined F byte) (not_joined F byte) d d d (suc n) n
+    (narrowed L W F F d d N (suc n) r R (λ o may. may) fewer)
+    (both_exact second (word_at (byte ∷ others) (tt {0})) (joined_at n byte (byte ∷ others) r) (Says true (byte ∷ others) (tt {0})) (Says true (byte ∷ others) (tt {0}))
+    (Joined (byte ∷ others) L) (Joined (byte ∷ others) W) any_next (not_joined F byte) d d d n
+    (plain_token true byte others (tt {0}) any_next d n tight opens closes)
+    (joined_exact byte others L W F d N r R tight opens closes allows same n (omega (arith, fewer)))
+    (λ b m t h. refl))
+    (more_fits byte (Following (byte ∷ others) W) F d (λ b m t h. token_begins true byte others m h.between h.one.1) allows same)
+    (omega (arith)))
+    (record {
+      to = λ s t xs h. linked_joined byte (byte ∷ others) L xs s t h;
+      from = λ s t xs may h. joined_linked byte others L xs s t same (not_true (comes byte (first t)) (and_parts (F (first t)) (not (comes byte (first t))) may).1) h;
+      from_wide = λ s t xs may h. joined_linked byte others W xs s t same (not_true (comes byte (first t)) (and_parts (F (first t)) (not (comes byte (first t))) may).1) h;
+      wide = λ s t xs h. joined_wider (byte ∷ others) L W R.wide xs s t h;
+      allows = λ o may. may;
+    })
+    (omega (arith))
 
 -- ---- parts
 
@@ -195,22 +198,22 @@ Parentheses I = Both second (Says false (codes "(") (tt {0})) (Closed I)
 
 says_parentheses : (I : Language Cond) (c : Cond) (s t : List ℕ) → Parentheses I c s t → IsInParentheses I c s t
 says_parentheses I c s t h = record {
-    opened = h.between;
-    closed = h.two.between;
-    opens = h.one.1;
-    inner = subst (λ v. I v h.between h.two.between) (sym (h.is ∙ h.two.is)) h.two.one;
-    closes = h.two.two.1;
-  }
+  opened = h.between;
+  closed = h.two.between;
+  opens = h.one.1;
+  inner = subst (λ v. I v h.between h.two.between) (sym (h.is ∙ h.two.is)) h.two.one;
+  closes = h.two.two.1;
+}
 
 parentheses_say : (I : Language Cond) (c : Cond) (s t : List ℕ) → IsInParentheses I c s t → Parentheses I c s t
 parentheses_say I c s t h = record {
-    value = tt;
-    more = c;
-    between = h.opened;
-    one = (refl, h.opens);
-    two = record { value = c; more = tt; between = h.closed; one = h.inner; two = (refl, h.closes); is = refl };
-    is = refl;
-  }
+  value = tt;
+  more = c;
+  between = h.opened;
+  one = (refl, h.opens);
+  two = record { value = c; more = tt; between = h.closed; one = h.inner; two = (refl, h.closes); is = refl };
+  is = refl;
+}
 
 pub parentheses_wider : (I J : Language Cond) → ((s t : List ℕ) (c : Cond) → I c s t → J c s t) → (c : Cond) (s t : List ℕ) → IsInParentheses I c s t → IsInParentheses J c s t
 parentheses_wider I J wide c s t h = record { opened = h.opened; closed = h.closed; opens = h.opens; inner = wide h.opened h.closed c h.inner; closes = h.closes }
@@ -219,33 +222,33 @@ parentheses_exact : (I J : Language Cond) (F : Option ℕ → Bool) (d n : ℕ) 
     → Exact (IsInParentheses I) (IsInParentheses J) not_dot (suc d) (suc d) n (in_parentheses r)
 parentheses_exact I J F d n r R allows =
     retell (Parentheses I) (Parentheses J) (IsInParentheses I) (IsInParentheses J) any_next not_dot (suc d) (suc d) n n (in_parentheses r)
-      (both_exact second (sign_at (codes "(") (tt {0})) (both earlier r (sign_at (codes ")") (tt {0}))) (Says false (codes "(") (tt {0})) (Says false (codes "(") (tt {0})) (Closed I) (Closed J) any_next any_next (suc d) d (suc d) n
-        (token_exact false 40 [] (tt {0}) (suc d) d n refl (open_level d) (open_shallow d))
-        (both_exact earlier r (sign_at (codes ")") (tt {0})) I J (Says false (codes ")") (tt {0})) (Says false (codes ")") (tt {0})) F any_next d d (suc d) n R
-          (token_exact false 41 [] (tt {0}) d (suc d) n refl (close_level d) (close_shallow d))
-          (λ b m t h. ap F (token_begins false 41 [] m t h.1) ∙ allows))
-        (λ b m t h. refl))
-      (record {
-        to = λ s t c h. says_parentheses I c s t h;
-        from = λ s t c may h. parentheses_say I c s t h;
-        from_wide = λ s t c may h. parentheses_say J c s t h;
-        wide = λ s t c h. parentheses_wider I J R.wide c s t h;
-        allows = λ o may. refl;
-      })
-      (omega (arith))
+    (both_exact second (sign_at (codes "(") (tt {0})) (both earlier r (sign_at (codes ")") (tt {0}))) (Says false (codes "(") (tt {0})) (Says false (codes "(") (tt {0})) (Closed I) (Closed J) any_next any_next (suc d) d (suc d) n
+    (token_exact false 40 [] (tt {0}) (suc d) d n refl (open_level d) (open_shallow d))
+    (both_exact earlier r (sign_at (codes ")") (tt {0})) I J (Says false (codes ")") (tt {0})) (Says false (codes ")") (tt {0})) F any_next d d (suc d) n R
+    (token_exact false 41 [] (tt {0}) d (suc d) n refl (close_level d) (close_shallow d))
+    (λ b m t h. ap F (token_begins false 41 [] m t h.1) ∙ allows))
+    (λ b m t h. refl))
+    (record {
+      to = λ s t c h. says_parentheses I c s t h;
+      from = λ s t c may h. parentheses_say I c s t h;
+      from_wide = λ s t c may h. parentheses_say J c s t h;
+      wide = λ s t c h. parentheses_wider I J R.wide c s t h;
+      allows = λ o may. refl;
+    })
+    (omega (arith))
 
 letter_not_open : (byte : ℕ) → is_letter byte ≡ true → is_open (Some byte) ≡ false
 letter_not_open byte e = by_open (byte == 40) refl
   where
-  by_open : (b : Bool) → (byte == 40) ≡ b → b ≡ false
-  by_open false e2 = refl
-  by_open true e2 = let both = sym e ∙ ap is_letter (same_number byte 40 e2) in absurd (cc)
+    by_open : (b : Bool) → (byte == 40) ≡ b → b ≡ false
+    by_open false e2 = refl
+    by_open true e2 = let both = sym e ∙ ap is_letter (same_number byte 40 e2) in absurd (cc)
 
 atom_begins : (c : Cond) (s t : List ℕ) → IsAtom c s t → is_open (first s) ≡ false
 atom_begins c s t (inl h) = ap is_open (ap first h.1.begins)
 atom_begins c s t (inr h) =
     let at = name_begins true h.issuer (codes "." ++ h.attr) s h.between h.subject.issuer_is
-      (subst (λ l. Token true l s h.between) (sym (append_append h.issuer (codes ".") h.attr)) h.subject.word) in
+    (subst (λ l. Token true l s h.between) (sym (append_append h.issuer (codes ".") h.attr)) h.subject.word) in
     ap is_open at.1.0 ∙ letter_not_open at.0 at.1.1
 
 parentheses_begin : (I : Language Cond) (c : Cond) (s t : List ℕ) → IsInParentheses I c s t → is_open (first s) ≡ true
@@ -267,28 +270,28 @@ any_of depth s t c h = (depth, h)
 no_parts_exact : (n : ℕ) (inner : Reader Cond) → Exact (IsPart (IsCond 0)) (IsPart AnyCond) not_dot 0 0 n (part_at 0 inner)
 no_parts_exact n inner =
     retell IsAtom (Either (IsInParentheses AnyCond) IsAtom) (IsPart (IsCond 0)) (IsPart AnyCond) not_dot not_dot 0 0 n n (part_at 0 inner)
-      (unopened_exact atom_at IsAtom IsAtom (IsInParentheses AnyCond) not_dot n (atom_exact 0 n)
-        (record { opened = λ s t c h. parentheses_begin AnyCond c s t h; other = λ s t c h. atom_begins c s t h }))
-      (record {
-        to = λ s t c h. inr h;
-        from = λ s t c may h. from s t c h;
-        from_wide = λ s t c may h. h;
-        wide = part_wider (IsCond 0) AnyCond (any_of 0);
-        allows = λ o may. may;
-      })
-      (omega (arith))
+    (unopened_exact atom_at IsAtom IsAtom (IsInParentheses AnyCond) not_dot n (atom_exact 0 n)
+    (record { opened = λ s t c h. parentheses_begin AnyCond c s t h; other = λ s t c h. atom_begins c s t h }))
+    (record {
+      to = λ s t c h. inr h;
+      from = λ s t c may h. from s t c h;
+      from_wide = λ s t c may h. h;
+      wide = part_wider (IsCond 0) AnyCond (any_of 0);
+      allows = λ o may. may;
+    })
+    (omega (arith))
   where
-  from : (s t : List ℕ) (c : Cond) → IsPart (IsCond 0) c s t → IsAtom c s t
-  from s t c (inl h) = absurd (h.inner)
-  from s t c (inr h) = h
+    from : (s t : List ℕ) (c : Cond) → IsPart (IsCond 0) c s t → IsAtom c s t
+    from s t c (inl h) = absurd (h.inner)
+    from s t c (inr h) = h
 
 parts_exact : (d n : ℕ) (F : Option ℕ → Bool) (inner : Reader Cond) → Exact (IsCond (suc d)) AnyCond F d d n inner → F (Some 41) ≡ true
     → Exact (IsPart (IsCond (suc d))) (IsPart AnyCond) not_dot (suc d) (suc d) n (part_at (suc d) inner)
 parts_exact d n F inner R allows =
     choice_exact is_open (in_parentheses inner) atom_at (IsInParentheses (IsCond (suc d))) (IsInParentheses AnyCond) IsAtom IsAtom not_dot (suc d) (suc d) n
-      (parentheses_exact (IsCond (suc d)) AnyCond F d n inner R allows)
-      (atom_exact (suc d) n)
-      (record { one = λ s t c h. parentheses_begin AnyCond c s t h; two = λ s t c h. atom_begins c s t h })
+    (parentheses_exact (IsCond (suc d)) AnyCond F d n inner R allows)
+    (atom_exact (suc d) n)
+    (record { one = λ s t c h. parentheses_begin AnyCond c s t h; two = λ s t c h. atom_begins c s t h })
 
 -- ---- conjunctions and disjunctions
 
@@ -308,16 +311,16 @@ conj_exact : (I : Language Cond) (d n : ℕ) (inner : Reader Cond) → ((s t : L
     → Exact (IsConj I) (IsConj AnyCond) after_conj d d n (conj_at n d inner)
 conj_exact I d n inner wide R =
     retell (Image and_of (Joined (codes "and") (IsPart I))) (Image and_of (Joined (codes "and") (IsPart AnyCond))) (IsConj I) (IsConj AnyCond) after_conj after_conj d d n n (conj_at n d inner)
-      (mapped_exact and_of (Joined (codes "and") (IsPart I)) (Joined (codes "and") (IsPart AnyCond)) after_conj d d n (joined_at n 97 (codes "and") (part_at d inner))
-        (joined_exact 97 (110 ∷ 100 ∷ []) (IsPart I) (IsPart AnyCond) not_dot d n (part_at d inner) R refl refl refl refl refl n (omega (arith))))
-      (record {
-        to = image_conj I;
-        from = λ s t c may h. conj_image I s t c h;
-        from_wide = λ s t c may h. conj_image AnyCond s t c h;
-        wide = conj_wider I AnyCond wide;
-        allows = λ o may. may;
-      })
-      (omega (arith))
+    (mapped_exact and_of (Joined (codes "and") (IsPart I)) (Joined (codes "and") (IsPart AnyCond)) after_conj d d n (joined_at n 97 (codes "and") (part_at d inner))
+    (joined_exact 97 (110 ∷ 100 ∷ []) (IsPart I) (IsPart AnyCond) not_dot d n (part_at d inner) R refl refl refl refl refl n (omega (arith))))
+    (record {
+      to = image_conj I;
+      from = λ s t c may h. conj_image I s t c h;
+      from_wide = λ s t c may h. conj_image AnyCond s t c h;
+      wide = conj_wider I AnyCond wide;
+      allows = λ o may. may;
+    })
+    (omega (arith))
 
 image_disj : (I : Language Cond) (s t : List ℕ) (c : Cond) → Image or_of (Joined (codes "or") (IsConj I)) c s t → IsDisj I c s t
 image_disj I s t c h = (h.value, h.is, h.says)
@@ -332,16 +335,16 @@ any_disj s t c (suc depth, h) = disj_wider (IsCond depth) AnyCond (any_of depth)
 disj_exact : (d n : ℕ) (inner : Reader Cond) → Exact (IsPart (IsCond d)) (IsPart AnyCond) not_dot d d n (part_at d inner) → Exact (IsCond (suc d)) AnyCond after_cond d d n (disj_at n d inner)
 disj_exact d n inner R =
     retell (Image or_of (Joined (codes "or") (IsConj (IsCond d)))) (Image or_of (Joined (codes "or") (IsConj AnyCond))) (IsCond (suc d)) AnyCond after_cond after_cond d d n n (disj_at n d inner)
-      (mapped_exact or_of (Joined (codes "or") (IsConj (IsCond d))) (Joined (codes "or") (IsConj AnyCond)) after_cond d d n (joined_at n 111 (codes "or") (conj_at n d inner))
-        (joined_exact 111 (114 ∷ []) (IsConj (IsCond d)) (IsConj AnyCond) after_conj d n (conj_at n d inner) (conj_exact (IsCond d) d n inner (any_of d) R) refl refl refl refl refl n (omega (arith))))
-      (record {
-        to = image_disj (IsCond d);
-        from = λ s t c may h. disj_image (IsCond d) s t c h;
-        from_wide = λ s t c may h. disj_image AnyCond s t c (any_disj s t c h);
-        wide = any_of (suc d);
-        allows = λ o may. may;
-      })
-      (omega (arith))
+    (mapped_exact or_of (Joined (codes "or") (IsConj (IsCond d))) (Joined (codes "or") (IsConj AnyCond)) after_cond d d n (joined_at n 111 (codes "or") (conj_at n d inner))
+    (joined_exact 111 (114 ∷ []) (IsConj (IsCond d)) (IsConj AnyCond) after_conj d n (conj_at n d inner) (conj_exact (IsCond d) d n inner (any_of d) R) refl refl refl refl refl n (omega (arith))))
+    (record {
+      to = image_disj (IsCond d);
+      from = λ s t c may h. disj_image (IsCond d) s t c h;
+      from_wide = λ s t c may h. disj_image AnyCond s t c (any_disj s t c h);
+      wide = any_of (suc d);
+      allows = λ o may. may;
+    })
+    (omega (arith))
 
 pub cond_exact : (turns d : ℕ) → Exact (IsCond (suc d)) AnyCond after_cond d d turns (cond_at turns d)
 cond_exact turns zero = disj_exact 0 turns (stopped stop.Deep) (no_parts_exact turns (stopped stop.Deep))

@@ -24,9 +24,9 @@ abbrev pub IsHead : Option Head → List ℕ → List ℕ → Type 0
 IsHead None s t = Word (codes "true") s t
 IsHead (Some head) s t = IsSubject head.issuer head.attr s t
   where
-  IsSubject : List ℕ → Option (List ℕ) → List ℕ → List ℕ → Type 0
-  IsSubject issuer None s t = ⊥
-  IsSubject issuer (Some attr) s t = Subject issuer attr s t
+    IsSubject : List ℕ → Option (List ℕ) → List ℕ → List ℕ → Type 0
+    IsSubject issuer None s t = ⊥
+    IsSubject issuer (Some attr) s t = Subject issuer attr s t
 
 -- ---- the states
 
@@ -68,49 +68,51 @@ head_of : (issuer text : List ℕ) (last : Head) → Goes head_step (in_issuer i
 head_of issuer [] last h = inl (record { goes = sym (append_none issuer); is = sym h ∙ ap in_issuer (sym (append_none issuer)) })
 head_of issuer (byte ∷ text) last (next, e, later) = by_dot ((byte == 46) && is_some_text issuer) refl (λ issuer2 goes. head_of issuer2 text last goes)
   where
-  by_rest : (issuer2 : List ℕ) → name_step issuer byte ≡ Some issuer2 → issuer2 ≡ issuer ++ byte ∷ [] → Reads_issuer issuer2 text last ⊎ Reads_attr issuer2 text last → Reads_issuer issuer (byte ∷ text) last ⊎ Reads_attr issuer (byte ∷ text) last
-  by_rest issuer2 step same (inl h) =
-      let whole : issuer2 ++ text ≡ issuer ++ (byte ∷ text) = ap (λ l. l ++ text) same ∙ sym (append_append issuer (byte ∷ []) text) in
-      inl (record { goes = (issuer2, step, subst (λ l. Goes name_step issuer2 text l) whole h.goes); is = h.is ∙ ap in_issuer whole })
-  by_rest issuer2 step same (inr h) =
-      let whole : issuer2 ++ h.before ≡ issuer ++ (byte ∷ h.before) = ap (λ l. l ++ h.before) same ∙ sym (append_append issuer (byte ∷ []) h.before) in
-      inr (record {
-        before = byte ∷ h.before;
-        attr = h.attr;
-        parts = ap (λ l. byte ∷ l) h.parts;
-        goes = (issuer2, step, subst (λ l. Goes name_step issuer2 h.before l) whole h.goes);
-        some = ap is_some_text (sym whole) ∙ h.some;
-        then_goes = h.then_goes;
-        is = h.is ∙ ap (λ l. in_attr l h.attr) whole;
-      })
-  by_dot : (b : Bool) → ((byte == 46) && is_some_text issuer) ≡ b → ((issuer2 : List ℕ) → Goes head_step (in_issuer issuer2) text last → Reads_issuer issuer2 text last ⊎ Reads_attr issuer2 text last)
-      → Reads_issuer issuer (byte ∷ text) last ⊎ Reads_attr issuer (byte ∷ text) last
-  by_dot true dot rec =
-      let at = same_Some (in_attr issuer []) next (sym (dot_step issuer byte true dot) ∙ e) in
-      let over = attr_of issuer [] text last (subst (λ s. Goes head_step s text last) (sym at) later) in
-      let test = and_parts (byte == 46) (is_some_text issuer) dot in
-      inr (record {
-        before = [];
-        attr = text;
-        parts = ap (λ (b : ℕ). b ∷ text) (same_number byte 46 test.0);
-        goes = sym (append_none issuer);
-        some = ap is_some_text (append_none issuer) ∙ test.1;
-        then_goes = over.0;
-        is = over.1 ∙ ap (λ l. in_attr l text) (sym (append_none issuer));
-      })
-  by_dot false dot rec =
-      let at = issuer_is (name_step issuer byte) next (sym (dot_step issuer byte false dot) ∙ e) in
-      by_rest at.0 at.1.0 (sym (given_name issuer byte at.0 at.1.0)) (rec at.0 (subst (λ s. Goes head_step s text last) at.1.1 later))
+    by_rest : (issuer2 : List ℕ) → name_step issuer byte ≡ Some issuer2 → issuer2 ≡ issuer ++ byte ∷ [] → Reads_issuer issuer2 text last ⊎ Reads_attr issuer2 text last → Reads_issuer issuer (byte ∷ text) last ⊎ Reads_attr issuer (byte ∷ text) last
+    by_rest issuer2 step same (inl h) =
+        let whole : issuer2 ++ text ≡ issuer ++ (byte ∷ text) = ap (λ l. l ++ text) same ∙ sym (append_append issuer (byte ∷ []) text) in
+        inl (record { goes = (issuer2, step, subst (λ l. Goes name_step issuer2 text l) whole h.goes); is = h.is ∙ ap in_issuer whole })
+    by_rest issuer2 step same (inr h) =
+        let whole : issuer2 ++ h.before ≡ issuer ++ (byte ∷ h.before) = ap (λ l. l ++ h.before) same ∙ sym (append_append issuer (byte ∷ []) h.before) in
+        inr (record {
+          before = byte ∷ h.before;
+          attr = h.attr;
+          parts = ap (λ l. byte ∷ l) h.parts;
+          goes = (issuer2, step, subst (λ l. Goes name_step issuer2 h.before l) whole h.goes);
+          some = ap is_some_text (sym whole) ∙ h.some;
+          then_goes = h.then_goes;
+          is = h.is ∙ ap (λ l. in_attr l h.attr) whole;
+        })
+
+    by_dot : (b : Bool) → ((byte == 46) && is_some_text issuer) ≡ b → ((issuer2 : List ℕ) → Goes head_step (in_issuer issuer2) text last → Reads_issuer issuer2 text last ⊎ Reads_attr issuer2 text last)
+        → Reads_issuer issuer (byte ∷ text) last ⊎ Reads_attr issuer (byte ∷ text) last
+    by_dot true dot rec =
+        let at = same_Some (in_attr issuer []) next (sym (dot_step issuer byte true dot) ∙ e) in
+        let over = attr_of issuer [] text last (subst (λ s. Goes head_step s text last) (sym at) later) in
+        let test = and_parts (byte == 46) (is_some_text issuer) dot in
+        inr (record {
+          before = [];
+          attr = text;
+          parts = ap (λ (b : ℕ). b ∷ text) (same_number byte 46 test.0);
+          goes = sym (append_none issuer);
+          some = ap is_some_text (append_none issuer) ∙ test.1;
+          then_goes = over.0;
+          is = over.1 ∙ ap (λ l. in_attr l text) (sym (append_none issuer));
+        })
+    by_dot false dot rec =
+        let at = issuer_is (name_step issuer byte) next (sym (dot_step issuer byte false dot) ∙ e) in
+        by_rest at.0 at.1.0 (sym (given_name issuer byte at.0 at.1.0)) (rec at.0 (subst (λ s. Goes head_step s text last) at.1.1 later))
 
 -- a step of a name is one of an issuer, and one of an attribute
 issuer_lifted : (issuer : List ℕ) (byte : ℕ) (next : List ℕ) → name_step issuer byte ≡ Some next → head_step (in_issuer issuer) byte ≡ Some (in_issuer next)
 issuer_lifted issuer byte next e = dot_step issuer byte false (by_dot (byte == 46) refl) ∙ ap issuer_step e
   where
-  wrong : None ≡ Some next → ⊥
-  wrong e2 = absurd (cc)
-  by_dot : (b : Bool) → (byte == 46) ≡ b → ((byte == 46) && is_some_text issuer) ≡ false
-  by_dot false e2 = ap (λ (b : Bool). b && is_some_text issuer) e2
-  by_dot true e2 = absurd (wrong (sym (subst (λ (b : ℕ). name_step issuer b ≡ None) (sym (same_number byte 46 e2)) (no_further issuer 46 refl)) ∙ e))
+    wrong : None ≡ Some next → ⊥
+    wrong e2 = absurd (cc)
+
+    by_dot : (b : Bool) → (byte == 46) ≡ b → ((byte == 46) && is_some_text issuer) ≡ false
+    by_dot false e2 = ap (λ (b : Bool). b && is_some_text issuer) e2
+    by_dot true e2 = absurd (wrong (sym (subst (λ (b : ℕ). name_step issuer b ≡ None) (sym (same_number byte 46 e2)) (no_further issuer 46 refl)) ∙ e))
 
 issuer_goes : (issuer text last : List ℕ) → Goes name_step issuer text last → Goes head_step (in_issuer issuer) text (in_issuer last)
 issuer_goes issuer [] last h = ap in_issuer h
@@ -124,19 +126,19 @@ attr_goes issuer attr (byte ∷ text) last (next, e, later) = (in_attr issuer ne
 both_go : (issuer before attr text last : List ℕ) → Goes name_step issuer before attr → is_some_text attr ≡ true → Goes name_step [] text last → Goes head_step (in_issuer issuer) (before ++ (46 ∷ text)) (in_attr attr last)
 both_go issuer before attr text last h some k =
     goes_both head_step (in_issuer issuer) (in_issuer attr) (in_attr attr last) before (46 ∷ text) (issuer_goes issuer before attr h)
-      (in_attr attr [], dot_step attr 46 true some, attr_goes attr [] text last k)
+    (in_attr attr [], dot_step attr 46 true some, attr_goes attr [] text last k)
 
 -- ---- the end
 
 no_step : (h : Head) (byte : ℕ) → (byte == 46) ≡ false → ((name : List ℕ) → name_step name byte ≡ None) → head_step h byte ≡ None
 no_step h byte other none = by_attr h.attr refl
   where
-  by_attr : (attr : Option (List ℕ)) → h.attr ≡ attr → head_step h byte ≡ None
-  by_attr None e =
-      ap (λ (a : Option (List ℕ)). head_step (record { issuer = h.issuer; attr = a }) byte) e
-      ∙ (dot_step h.issuer byte false (ap (λ (v : Bool). v && is_some_text h.issuer) other) ∙ ap issuer_step (none h.issuer))
-  by_attr (Some attr) e =
-      ap (λ (a : Option (List ℕ)). head_step (record { issuer = h.issuer; attr = a }) byte) e ∙ ap (attr_step h.issuer) (none attr)
+    by_attr : (attr : Option (List ℕ)) → h.attr ≡ attr → head_step h byte ≡ None
+    by_attr None e =
+        ap (λ (a : Option (List ℕ)). head_step (record { issuer = h.issuer; attr = a }) byte) e
+        ∙ (dot_step h.issuer byte false (ap (λ (v : Bool). v && is_some_text h.issuer) other) ∙ ap issuer_step (none h.issuer))
+    by_attr (Some attr) e =
+        ap (λ (a : Option (List ℕ)). head_step (record { issuer = h.issuer; attr = a }) byte) e ∙ ap (attr_step h.issuer) (none attr)
 
 head_plain : Plain head_step
 head_plain = record { opens = λ h. no_step h 40 refl (λ name. no_further name 40 refl); closes = λ h. no_step h 41 refl (λ name. no_further name 41 refl) }
@@ -172,35 +174,35 @@ led h text issuer attr u goes some tight =
 
 finished : (issuer : List ℕ) (attr : Option (List ℕ)) → Ends (λ (a : Option Head) s t. machine head_step head_end (record { issuer = issuer; attr = attr }) s ≡ read a t) []
 finished issuer None = let end = name_finish issuer in record {
-    more = (end.more ++ (46 ∷ 97 ∷ [])) ++ (32 ∷ []);
-    value = Some (in_attr (issuer ++ end.more) (97 ∷ []));
-    ends = λ u tight. led (in_issuer issuer) (end.more ++ (46 ∷ 97 ∷ [])) (issuer ++ end.more) (97 ∷ []) u
+  more = (end.more ++ (46 ∷ 97 ∷ [])) ++ (32 ∷ []);
+  value = Some (in_attr (issuer ++ end.more) (97 ∷ []));
+  ends = λ u tight. led (in_issuer issuer) (end.more ++ (46 ∷ 97 ∷ [])) (issuer ++ end.more) (97 ∷ []) u
       (both_go issuer end.more (issuer ++ end.more) (97 ∷ []) (97 ∷ []) end.goes end.some (97 ∷ [], refl, refl)) refl tight;
-  }
+}
 finished issuer (Some attr) = let end = name_finish attr in record {
-    more = end.more ++ (32 ∷ []);
-    value = Some (in_attr issuer (attr ++ end.more));
-    ends = λ u tight. led (in_attr issuer attr) end.more issuer (attr ++ end.more) u (attr_goes issuer attr end.more (attr ++ end.more) end.goes) end.some tight;
-  }
+  more = end.more ++ (32 ∷ []);
+  value = Some (in_attr issuer (attr ++ end.more));
+  ends = λ u tight. led (in_attr issuer attr) end.more issuer (attr ++ end.more) u (attr_goes issuer attr end.more (attr ++ end.more) end.goes) end.some tight;
+}
 
 head_sound : (d : ℕ) → Sound head_step head_end (in_issuer []) d d
 head_sound d = record {
-    blank = λ h o found e. (no_step h 32 refl (λ name. no_further name 32 refl), before_blank h.issuer h.attr o found e);
-    solid = λ o found e. wrong (true_ended [] o found e).0;
-    finish = λ h. finished h.issuer h.attr;
-    some = record {
-      byte = 116;
-      others = 114 ∷ 117 ∷ 101 ∷ 32 ∷ [];
-      value = None;
-      tight = refl;
-      ends = λ u tight. ap (λ l. read None l) tight;
-    };
-    level = λ text last o a goes e. plain_level head_step head_plain d (in_issuer []) last text goes;
-    shallow = λ text last goes. plain_shallow head_step head_plain d (in_issuer []) last text goes;
-  }
+  blank = λ h o found e. (no_step h 32 refl (λ name. no_further name 32 refl), before_blank h.issuer h.attr o found e);
+  solid = λ o found e. wrong (true_ended [] o found e).0;
+  finish = λ h. finished h.issuer h.attr;
+  some = record {
+    byte = 116;
+    others = 114 ∷ 117 ∷ 101 ∷ 32 ∷ [];
+    value = None;
+    tight = refl;
+    ends = λ u tight. ap (λ l. read None l) tight;
+  };
+  level = λ text last o a goes e. plain_level head_step head_plain d (in_issuer []) last text goes;
+  shallow = λ text last goes. plain_shallow head_step head_plain d (in_issuer []) last text goes;
+}
   where
-  wrong : ◌≡◌ {A = Bool} false true → ⊥
-  wrong e = absurd (cc)
+    wrong : ◌≡◌ {A = Bool} false true → ⊥
+    wrong e = absurd (cc)
 
 -- ---- the tie to the grammar
 
@@ -215,24 +217,24 @@ same_text_is (x ∷ xs) (y ∷ ys) e =
 leaf_head : (a : Option Head) (s t : List ℕ) → IsLeaf head_step head_end (in_issuer []) a s t → IsHead a s t
 leaf_head a s t h = by_state (head_of [] h.text h.last h.goes)
   where
-  by_state : Reads_issuer [] h.text h.last ⊎ Reads_attr [] h.text h.last → IsHead a s t
-  by_state (inl k) =
-      let over = true_ended h.text (first h.after) a (subst (λ p. head_end p (first h.after) ≡ Some a) k.is h.ends) in
-      subst (λ p. IsHead p s t) over.2 (record {
-        after = h.after;
-        begins = h.parts ∙ ap (λ l. l ++ h.after) (same_text_is h.text (codes "true") over.0);
-        is_apart = over.1;
-        left_is = h.left;
-      })
-  by_state (inr k) =
-      let over = subject_ended k.before k.attr (first h.after) a (subst (λ p. head_end p (first h.after) ≡ Some a) k.is h.ends) in
-      let issuer_on = names_of [] k.before k.before k.goes in
-      let attr_on = names_of [] k.attr k.attr k.then_goes in
-      subst (λ p. IsHead p s t) over.2 (record {
-        issuer_is = name_of_some k.before k.some (issuer_on.so_far (tt));
-        attr_is = name_of_some k.attr over.0 (attr_on.so_far (tt));
-        word = record { after = h.after; begins = h.parts ∙ ap (λ l. l ++ h.after) (k.parts ∙ append_append k.before (codes ".") k.attr); is_apart = over.1; left_is = h.left };
-      })
+    by_state : Reads_issuer [] h.text h.last ⊎ Reads_attr [] h.text h.last → IsHead a s t
+    by_state (inl k) =
+        let over = true_ended h.text (first h.after) a (subst (λ p. head_end p (first h.after) ≡ Some a) k.is h.ends) in
+        subst (λ p. IsHead p s t) over.2 (record {
+          after = h.after;
+          begins = h.parts ∙ ap (λ l. l ++ h.after) (same_text_is h.text (codes "true") over.0);
+          is_apart = over.1;
+          left_is = h.left;
+        })
+    by_state (inr k) =
+        let over = subject_ended k.before k.attr (first h.after) a (subst (λ p. head_end p (first h.after) ≡ Some a) k.is h.ends) in
+        let issuer_on = names_of [] k.before k.before k.goes in
+        let attr_on = names_of [] k.attr k.attr k.then_goes in
+        subst (λ p. IsHead p s t) over.2 (record {
+          issuer_is = name_of_some k.before k.some (issuer_on.so_far (tt));
+          attr_is = name_of_some k.attr over.0 (attr_on.so_far (tt));
+          word = record { after = h.after; begins = h.parts ∙ ap (λ l. l ++ h.after) (k.parts ∙ append_append k.before (codes ".") k.attr); is_apart = over.1; left_is = h.left };
+        })
 
 -- a dot right behind the word true makes a subject of it
 abbrev pub not_dot : Option ℕ → Bool
@@ -242,60 +244,61 @@ no_dot : (after t : List ℕ) → t ≡ skip after → not_dot (first t) ≡ tru
 no_dot [] t e may = refl
 no_dot (byte ∷ others) t e may = by_dot (byte == 46) refl
   where
-  by_dot : (b : Bool) → (byte == 46) ≡ b → not b ≡ true
-  by_dot false e2 = refl
-  by_dot true e2 =
-      let here : skip (byte ∷ others) ≡ byte ∷ others = tight_byte byte others (ap is_blank (same_number byte 46 e2)) in
-      let is : not_dot (first t) ≡ not (byte == 46) = ap (λ l. not_dot (first l)) (e ∙ here) in
-      sym (ap not e2) ∙ (sym is ∙ may)
+    by_dot : (b : Bool) → (byte == 46) ≡ b → not b ≡ true
+    by_dot false e2 = refl
+    by_dot true e2 =
+        let here : skip (byte ∷ others) ≡ byte ∷ others = tight_byte byte others (ap is_blank (same_number byte 46 e2)) in
+        let is : not_dot (first t) ≡ not (byte == 46) = ap (λ l. not_dot (first l)) (e ∙ here) in
+        sym (ap not e2) ∙ (sym is ∙ may)
 
 head_leaf : (a : Option Head) (s t : List ℕ) → not_dot (first t) ≡ true → IsHead a s t → IsLeaf head_step head_end (in_issuer []) a s t
 head_leaf None s t may h = record {
-    text = codes "true";
-    after = h.after;
-    last = in_issuer (codes "true");
-    parts = h.begins;
-    goes = issuer_goes [] (codes "true") (codes "true") (names_go [] (codes "true") refl);
-    halts = no_next (first h.after) h.is_apart (no_dot h.after t h.left_is may);
-    ends = give (not (in_word (first h.after))) None (not_false (in_word (first h.after)) h.is_apart);
-    left = h.left_is;
-  }
+  text = codes "true";
+  after = h.after;
+  last = in_issuer (codes "true");
+  parts = h.begins;
+  goes = issuer_goes [] (codes "true") (codes "true") (names_go [] (codes "true") refl);
+  halts = no_next (first h.after) h.is_apart (no_dot h.after t h.left_is may);
+  ends = give (not (in_word (first h.after))) None (not_false (in_word (first h.after)) h.is_apart);
+  left = h.left_is;
+}
   where
-  no_next : (o : Option ℕ) → in_word o ≡ false → not_dot o ≡ true → next_of head_step (in_issuer (codes "true")) o ≡ None
-  no_next None e other = refl
-  no_next (Some byte) e other = no_step (in_issuer (codes "true")) byte (not_true (byte == 46) other) (λ name. no_further name byte e)
+    no_next : (o : Option ℕ) → in_word o ≡ false → not_dot o ≡ true → next_of head_step (in_issuer (codes "true")) o ≡ None
+    no_next None e other = refl
+    no_next (Some byte) e other = no_step (in_issuer (codes "true")) byte (not_true (byte == 46) other) (λ name. no_further name byte e)
 head_leaf (Some head) s t may h = by_attr head.attr refl
   where
-  wrong : IsHead (Some (in_issuer head.issuer)) s t → ⊥
-  wrong k = k
-  by_attr : (attr : Option (List ℕ)) → head.attr ≡ attr → IsLeaf head_step head_end (in_issuer []) (Some head) s t
-  by_attr None e = absurd (wrong (subst (λ (a : Option (List ℕ)). IsHead (Some (record { issuer = head.issuer; attr = a })) s t) e h))
-  by_attr (Some attr) e =
-      let k : Subject head.issuer attr s t = subst (λ (a : Option (List ℕ)). IsHead (Some (record { issuer = head.issuer; attr = a })) s t) e h in
-      subst (λ (a : Option (List ℕ)). IsLeaf head_step head_end (in_issuer []) (Some (record { issuer = head.issuer; attr = a })) s t) (sym e) (record {
-        text = head.issuer ++ (46 ∷ attr);
-        after = k.word.after;
-        last = in_attr head.issuer attr;
-        parts = k.word.begins ∙ ap (λ l. l ++ k.word.after) (sym (append_append head.issuer (codes ".") attr));
-        goes = both_go [] head.issuer head.issuer attr attr (names_go [] head.issuer k.issuer_is) (some_of_name head.issuer k.issuer_is) (names_go [] attr k.attr_is);
-        halts = no_next attr (first k.word.after) k.word.is_apart;
-        ends = subject_ends head.issuer attr (first k.word.after) (some_of_name attr k.attr_is) k.word.is_apart;
-        left = k.word.left_is;
-      })
-    where
-    no_next : (attr2 : List ℕ) (o : Option ℕ) → in_word o ≡ false → next_of head_step (in_attr head.issuer attr2) o ≡ None
-    no_next attr2 None e2 = refl
-    no_next attr2 (Some byte) e2 = ap (attr_step head.issuer) (no_further attr2 byte e2)
+    wrong : IsHead (Some (in_issuer head.issuer)) s t → ⊥
+    wrong k = k
+
+    by_attr : (attr : Option (List ℕ)) → head.attr ≡ attr → IsLeaf head_step head_end (in_issuer []) (Some head) s t
+    by_attr None e = absurd (wrong (subst (λ (a : Option (List ℕ)). IsHead (Some (record { issuer = head.issuer; attr = a })) s t) e h))
+    by_attr (Some attr) e =
+        let k : Subject head.issuer attr s t = subst (λ (a : Option (List ℕ)). IsHead (Some (record { issuer = head.issuer; attr = a })) s t) e h in
+        subst (λ (a : Option (List ℕ)). IsLeaf head_step head_end (in_issuer []) (Some (record { issuer = head.issuer; attr = a })) s t) (sym e) (record {
+          text = head.issuer ++ (46 ∷ attr);
+          after = k.word.after;
+          last = in_attr head.issuer attr;
+          parts = k.word.begins ∙ ap (λ l. l ++ k.word.after) (sym (append_append head.issuer (codes ".") attr));
+          goes = both_go [] head.issuer head.issuer attr attr (names_go [] head.issuer k.issuer_is) (some_of_name head.issuer k.issuer_is) (names_go [] attr k.attr_is);
+          halts = no_next attr (first k.word.after) k.word.is_apart;
+          ends = subject_ends head.issuer attr (first k.word.after) (some_of_name attr k.attr_is) k.word.is_apart;
+          left = k.word.left_is;
+        })
+      where
+        no_next : (attr2 : List ℕ) (o : Option ℕ) → in_word o ≡ false → next_of head_step (in_attr head.issuer attr2) o ≡ None
+        no_next attr2 None e2 = refl
+        no_next attr2 (Some byte) e2 = ap (attr_step head.issuer) (no_further attr2 byte e2)
 
 pub head_exact : (d n : ℕ) → Exact IsHead IsHead not_dot d d n head_at
 head_exact d n =
     retell (IsLeaf head_step head_end (in_issuer [])) (IsLeaf head_step head_end (in_issuer [])) IsHead IsHead any_next not_dot d d n n head_at
-      (leaf_exact head_step head_end (in_issuer []) d d n (head_sound d))
-      (record {
-        to = λ s t a h. leaf_head a s t h;
-        from = λ s t a may h. head_leaf a s t may h;
-        from_wide = λ s t a may h. head_leaf a s t may h;
-        wide = λ s t a h. h;
-        allows = λ o may. refl;
-      })
-      (omega (arith))
+    (leaf_exact head_step head_end (in_issuer []) d d n (head_sound d))
+    (record {
+      to = λ s t a h. leaf_head a s t h;
+      from = λ s t a may h. head_leaf a s t may h;
+      from_wide = λ s t a may h. head_leaf a s t may h;
+      wide = λ s t a h. h;
+      allows = λ o may. refl;
+    })
+    (omega (arith))

@@ -46,8 +46,8 @@ pub given : {A : Type 0} (b : Bool) (x y : A) → (if b then Some x else None) �
 given true x y e = (refl, same_Some x y e)
 given {A = A} false x y e = absurd (wrong e)
   where
-  wrong : ◌≡◌ {A = Option A} None (Some y) → ⊥
-  wrong e2 = absurd (cc)
+    wrong : ◌≡◌ {A = Option A} None (Some y) → ⊥
+    wrong e2 = absurd (cc)
 
 pub give : {A : Type 0} (b : Bool) (x : A) → b ≡ true → (if b then Some x else None) ≡ Some x
 give {A = A} b x e = ap (λ (v : Bool). if v then Some x else None) e
@@ -82,7 +82,7 @@ name_parts head others h =
 pub name_of_parts : (head : ℕ) (others : List ℕ) → NameParts head others → IsName (head ∷ others)
 name_of_parts head others h =
     both_true (is_letter head && nat_lt (length others) 32) (list_all is_part others)
-      (both_true (is_letter head) (nat_lt (length others) 32) h.letter (of_less (length others) 32 h.short)) h.parts
+    (both_true (is_letter head) (nat_lt (length others) 32) h.letter (of_less (length others) 32 h.short)) h.parts
 
 pub last_part : (p : ℕ → Bool) (others : List ℕ) (byte : ℕ) → list_all p others ≡ true → p byte ≡ true → list_all p (others ++ byte ∷ []) ≡ true
 last_part p others byte h e =
@@ -123,22 +123,24 @@ may_go_on (head ∷ others) text byte h =
     let sum = length-append others (byte ∷ text) in
     let short = was.short in
     both_true (is_part byte) (nat_lt (length others) 31) (and_parts (is_part byte) (list_all is_part text) halves.1).0
-      (of_less (length others) 31 (omega (arith, sum, short)))
+    (of_less (length others) 31 (omega (arith, sum, short)))
 
 pub names_go : (name text : List ℕ) → IsName (name ++ text) → Goes name_step name text (name ++ text)
 names_go name [] h = sym (append_none name)
 names_go name (byte ∷ text) h =
-    let same : name ++ (byte ∷ text) ≡ (name ++ byte ∷ []) ++ text = append_append name (byte ∷ []) text in
-    (name ++ byte ∷ [], give (goes_on name byte) (name ++ byte ∷ []) (may_go_on name text byte h),
-      subst (λ l. Goes name_step (name ++ byte ∷ []) text l) (sym same) (names_go (name ++ byte ∷ []) text (subst IsName same h)))
+    let same : name ++ (byte ∷ text) ≡ (name ++ byte ∷ []) ++ text = append_append name (byte ∷ []) text in (
+      name ++ byte ∷ [],
+      give (goes_on name byte) (name ++ byte ∷ []) (may_go_on name text byte h),
+      subst (λ l. Goes name_step (name ++ byte ∷ []) text l) (sym same) (names_go (name ++ byte ∷ []) text (subst IsName same h)),
+    )
 
 -- what is no part of a word does not go on with a name
 letter_part : (byte : ℕ) → is_part byte ≡ false → is_letter byte ≡ false
 letter_part byte e = by_letter (is_letter byte) refl
   where
-  by_letter : (b : Bool) → is_letter byte ≡ b → b ≡ false
-  by_letter false e2 = refl
-  by_letter true e2 = let both = sym (ap (λ (b : Bool). b || (nat_le 48 byte && nat_le byte 57) || (byte == 95)) e2) ∙ e in absurd (cc)
+    by_letter : (b : Bool) → is_letter byte ≡ b → b ≡ false
+    by_letter false e2 = refl
+    by_letter true e2 = let both = sym (ap (λ (b : Bool). b || (nat_le 48 byte && nat_le byte 57) || (byte == 95)) e2) ∙ e in absurd (cc)
 
 pub no_further : (name : List ℕ) (byte : ℕ) → is_part byte ≡ false → name_step name byte ≡ None
 no_further [] byte e = give_none (is_letter byte) (byte ∷ []) (letter_part byte e)
@@ -157,11 +159,12 @@ no_count {S = S} step sign none state last (byte ∷ text) (next, e, later) =
     let rest = no_count step sign none next last text later in
     by_same (byte == sign) refl rest
   where
-  wrong : ◌≡◌ {A = Option S} None (Some next) → ⊥
-  wrong e2 = absurd (cc)
-  by_same : (b : Bool) → (byte == sign) ≡ b → count sign text ≡ 0 → count sign (byte ∷ text) ≡ 0
-  by_same false e2 rest = let test = ap {B = ℕ} (λ (b : Bool). if b then 1 else 0) e2 in omega (arith, test, rest)
-  by_same true e2 rest = absurd (wrong (sym (subst (λ (b : ℕ). step state b ≡ None) (sym (same_number byte sign e2)) (none state)) ∙ e))
+    wrong : ◌≡◌ {A = Option S} None (Some next) → ⊥
+    wrong e2 = absurd (cc)
+
+    by_same : (b : Bool) → (byte == sign) ≡ b → count sign text ≡ 0 → count sign (byte ∷ text) ≡ 0
+    by_same false e2 rest = let test = ap {B = ℕ} (λ (b : Bool). if b then 1 else 0) e2 in omega (arith, test, rest)
+    by_same true e2 rest = absurd (wrong (sym (subst (λ (b : ℕ). step state b ≡ None) (sym (same_number byte sign e2)) (none state)) ∙ e))
 
 pub record Plain {S : Type 0} (step : S → ℕ → Option S) : Type 0 where
   pub opens : (state : S) → step state 40 ≡ None
@@ -206,36 +209,36 @@ name_finish (head ∷ others) = record { more = []; goes = sym (append_none (hea
 
 name_sound : (d : ℕ) → Sound name_step name_end [] d d
 name_sound d = record {
-    blank = λ name o found h. let over = name_ended name o found h in
+  blank = λ name o found h. let over = name_ended name o found h in
       (no_further name 32 refl, name_ends name (Some 32) over.0 refl ∙ ap (λ l. Some l) over.2);
-    solid = λ o found h. wrong (name_ended [] o found h).0;
-    finish = λ name. let end = name_finish name in record {
-      more = end.more ++ (32 ∷ []);
-      value = name ++ end.more;
-      ends = λ u tight. ap (λ l. machine name_step name_end name l) (sym (append_append end.more (32 ∷ []) u))
+  solid = λ o found h. wrong (name_ended [] o found h).0;
+  finish = λ name. let end = name_finish name in record {
+    more = end.more ++ (32 ∷ []);
+    value = name ++ end.more;
+    ends = λ u tight. ap (λ l. machine name_step name_end name l) (sym (append_append end.more (32 ∷ []) u))
         ∙ (went name_step name_end name (name ++ end.more) end.more (32 ∷ u) end.goes
         ∙ (halted name_step name_end (name ++ end.more) (32 ∷ u) (no_further (name ++ end.more) 32 refl)
         ∙ (ap (λ (o : Option (List ℕ)). ended o (32 ∷ u)) (name_ends (name ++ end.more) (Some 32) end.some refl) ∙ ap (λ l. read (name ++ end.more) l) tight)));
-    };
-    some = record {
-      byte = 97;
-      others = 32 ∷ [];
-      value = 97 ∷ [];
-      tight = refl;
-      ends = λ u tight. ap (λ l. read (97 ∷ []) l) tight;
-    };
-    level = λ text last o a goes h. plain_level name_step name_plain d [] last text goes;
-    shallow = λ text last goes. plain_shallow name_step name_plain d [] last text goes;
-  }
+  };
+  some = record {
+    byte = 97;
+    others = 32 ∷ [];
+    value = 97 ∷ [];
+    tight = refl;
+    ends = λ u tight. ap (λ l. read (97 ∷ []) l) tight;
+  };
+  level = λ text last o a goes h. plain_level name_step name_plain d [] last text goes;
+  shallow = λ text last goes. plain_shallow name_step name_plain d [] last text goes;
+}
   where
-  wrong : ◌≡◌ {A = Bool} false true → ⊥
-  wrong e = absurd (cc)
+    wrong : ◌≡◌ {A = Bool} false true → ⊥
+    wrong e = absurd (cc)
 
 pub name_of_some : (name : List ℕ) → is_some_text name ≡ true → IsSoFar name → IsName name
 name_of_some [] some h = absurd (wrong some)
   where
-  wrong : ◌≡◌ {A = Bool} false true → ⊥
-  wrong e = absurd (cc)
+    wrong : ◌≡◌ {A = Bool} false true → ⊥
+    wrong e = absurd (cc)
 name_of_some (head ∷ others) some h = h
 
 pub some_of_name : (name : List ℕ) → IsName name → is_some_text name ≡ true
@@ -254,25 +257,25 @@ leaf_named name s t h =
 
 named_leaf : (name s t : List ℕ) → Named name s t → IsLeaf name_step name_end [] name s t
 named_leaf name s t h = record {
-    text = name;
-    after = h.word.after;
-    last = name;
-    parts = h.word.begins;
-    goes = names_go [] name h.spelled;
-    halts = no_next_name name (first h.word.after) h.word.is_apart;
-    ends = name_ends name (first h.word.after) (some_of_name name h.spelled) h.word.is_apart;
-    left = h.word.left_is;
-  }
+  text = name;
+  after = h.word.after;
+  last = name;
+  parts = h.word.begins;
+  goes = names_go [] name h.spelled;
+  halts = no_next_name name (first h.word.after) h.word.is_apart;
+  ends = name_ends name (first h.word.after) (some_of_name name h.spelled) h.word.is_apart;
+  left = h.word.left_is;
+}
 
 pub name_exact : (d n : ℕ) → Exact Named Named any_next d d n name_at
 name_exact d n =
     retell (IsLeaf name_step name_end []) (IsLeaf name_step name_end []) Named Named any_next any_next d d n n name_at
-      (leaf_exact name_step name_end [] d d n (name_sound d))
-      (record {
-        to = λ s t a h. leaf_named a s t h;
-        from = λ s t a may h. named_leaf a s t h;
-        from_wide = λ s t a may h. named_leaf a s t h;
-        wide = λ s t a h. h;
-        allows = λ o may. refl;
-      })
-      (omega (arith))
+    (leaf_exact name_step name_end [] d d n (name_sound d))
+    (record {
+      to = λ s t a h. leaf_named a s t h;
+      from = λ s t a may h. named_leaf a s t h;
+      from_wide = λ s t a may h. named_leaf a s t h;
+      wide = λ s t a h. h;
+      allows = λ o may. refl;
+    })
+    (omega (arith))

@@ -38,26 +38,27 @@ number_of_parts head [] h = h.digit
 number_of_parts head (other ∷ rest) h =
     let short = h.short in
     both_true (is_digit head && nat_lt 48 head && list_all is_digit (other ∷ rest)) (nat_lt (length rest) 14)
-      (both_true (is_digit head && nat_lt 48 head) (list_all is_digit (other ∷ rest))
-        (both_true (is_digit head) (nat_lt 48 head) h.digit (of_less 48 head (h.leads (λ none. wrong none)))) h.digits)
-      (of_less (length rest) 14 (omega (arith, short)))
+    (both_true (is_digit head && nat_lt 48 head) (list_all is_digit (other ∷ rest))
+    (both_true (is_digit head) (nat_lt 48 head) h.digit (of_less 48 head (h.leads (λ none. wrong none)))) h.digits)
+    (of_less (length rest) 14 (omega (arith, short)))
   where
-  wrong : other ∷ rest ≡ [] → ⊥
-  wrong e = absurd (cc)
+    wrong : other ∷ rest ≡ [] → ⊥
+    wrong e = absurd (cc)
 
 digit_bounds : (byte : ℕ) → is_digit byte ≡ true → (48 ≤ byte) × (byte ≤ 57)
 digit_bounds byte e = (low byte (and_parts (nat_le 48 byte) (nat_le byte 57) e).0, high byte (and_parts (nat_le 48 byte) (nat_le byte 57) e).1)
   where
-  low : (b : ℕ) → nat_le 48 b ≡ true → 48 ≤ b
-  low b e2 = grind (arith, nat_tests)
-  high : (b : ℕ) → nat_le b 57 ≡ true → b ≤ 57
-  high b e2 = grind (arith, nat_tests)
+    low : (b : ℕ) → nat_le 48 b ≡ true → 48 ≤ b
+    low b e2 = grind (arith, nat_tests)
+
+    high : (b : ℕ) → nat_le b 57 ≡ true → b ≤ 57
+    high b e2 = grind (arith, nat_tests)
 
 not_zero : (byte : ℕ) → is_digit byte ≡ true → (byte == 48) ≡ false → 48 < byte
 not_zero byte e other = let low = (digit_bounds byte e).0 in apart byte low other
   where
-  apart : (b : ℕ) → 48 ≤ b → (b == 48) ≡ false → 48 < b
-  apart b low2 e2 = grind (arith, nat_tests)
+    apart : (b : ℕ) → 48 ≤ b → (b == 48) ≡ false → 48 < b
+    apart b low2 e2 = grind (arith, nat_tests)
 
 above_zero : (byte : ℕ) → 48 < byte → (byte == 48) ≡ false
 above_zero byte e = grind (arith, nat_tests)
@@ -76,11 +77,11 @@ one_digit negative [] byte h e =
     let test = and_parts (is_digit byte) (not (negative && (byte == 48))) e in
     (test.0, λ minus. positive minus test.0 (not_true (negative && (byte == 48)) test.1))
   where
-  positive : negative ≡ true → is_digit byte ≡ true → (negative && (byte == 48)) ≡ false → 1 ≤ spelled_from 0 (byte ∷ [])
-  positive minus digit zero =
-      let other : (byte == 48) ≡ false = sym (ap (λ (b : Bool). b && (byte == 48)) minus) ∙ zero in
-      let above = not_zero byte digit other in
-      omega (arith, above)
+    positive : negative ≡ true → is_digit byte ≡ true → (negative && (byte == 48)) ≡ false → 1 ≤ spelled_from 0 (byte ∷ [])
+    positive minus digit zero =
+        let other : (byte == 48) ≡ false = sym (ap (λ (b : Bool). b && (byte == 48)) minus) ∙ zero in
+        let above = not_zero byte digit other in
+        omega (arith, above)
 one_digit negative (head ∷ others) byte h e =
     let test = and_parts (is_digit byte && not (head == 48)) (nat_lt (length others) 14) e in
     let digit = and_parts (is_digit byte) (not (head == 48)) test.0 in
@@ -88,45 +89,48 @@ one_digit negative (head ∷ others) byte h e =
     let above = not_zero head was.digit (not_true (head == 48) digit.1) in
     let sum = length-append others (byte ∷ []) in
     let less = less_of (length others) 14 test.1 in
-    let least = spelled_more (0 * 10 + (head - 48)) (others ++ byte ∷ []) in
-    (number_of_parts head (others ++ byte ∷ []) (record {
-      digit = was.digit;
-      digits = last_part is_digit others byte was.digits digit.0;
-      leads = λ some. above;
-      short = omega (arith, sum, less);
-    }), λ minus. omega (arith, above, least))
+    let least = spelled_more (0 * 10 + (head - 48)) (others ++ byte ∷ []) in (
+      number_of_parts head (others ++ byte ∷ []) (record {
+        digit = was.digit;
+        digits = last_part is_digit others byte was.digits digit.0;
+        leads = λ some. above;
+        short = omega (arith, sum, less);
+      }),
+      λ minus. omega (arith, above, least),
+    )
 
 may_take : (negative : Bool) (digits text : List ℕ) (byte : ℕ) → IsDigitsSoFar negative (digits ++ (byte ∷ text)) → takes_digit negative digits byte ≡ true
 may_take negative [] text byte h =
     let was = number_parts byte text h.0 in
     both_true (is_digit byte) (not (negative && (byte == 48))) was.digit (not_false (negative && (byte == 48)) (no_minus_zero negative refl was))
   where
-  zero_alone : (rest : List ℕ) → (byte == 48) ≡ true → NumberParts byte rest → 1 ≤ spelled_from 0 (byte ∷ rest) → ⊥
-  zero_alone [] zero was least = let same = same_number byte 48 zero in omega (arith, same, least)
-  zero_alone (other ∷ rest) zero was least = let same = same_number byte 48 zero in let above = was.leads (λ none. wrong none) in omega (arith, same, above)
-    where
-    wrong : other ∷ rest ≡ [] → ⊥
-    wrong e = absurd (cc)
-  no_minus_zero : (minus : Bool) → negative ≡ minus → NumberParts byte text → (minus && (byte == 48)) ≡ false
-  no_minus_zero false e was = refl
-  no_minus_zero true e was = by_zero (byte == 48) refl
-    where
-    by_zero : (b : Bool) → (byte == 48) ≡ b → b ≡ false
-    by_zero false zero = refl
-    by_zero true zero = absurd (zero_alone text zero was (h.1 e))
+    zero_alone : (rest : List ℕ) → (byte == 48) ≡ true → NumberParts byte rest → 1 ≤ spelled_from 0 (byte ∷ rest) → ⊥
+    zero_alone [] zero was least = let same = same_number byte 48 zero in omega (arith, same, least)
+    zero_alone (other ∷ rest) zero was least = let same = same_number byte 48 zero in let above = was.leads (λ none. wrong none) in omega (arith, same, above)
+      where
+        wrong : other ∷ rest ≡ [] → ⊥
+        wrong e = absurd (cc)
+
+    no_minus_zero : (minus : Bool) → negative ≡ minus → NumberParts byte text → (minus && (byte == 48)) ≡ false
+    no_minus_zero false e was = refl
+    no_minus_zero true e was = by_zero (byte == 48) refl
+      where
+        by_zero : (b : Bool) → (byte == 48) ≡ b → b ≡ false
+        by_zero false zero = refl
+        by_zero true zero = absurd (zero_alone text zero was (h.1 e))
 may_take negative (head ∷ others) text byte h =
     let was = number_parts head (others ++ (byte ∷ text)) h.0 in
     let halves = and_parts (list_all is_digit others) (list_all is_digit (byte ∷ text)) (sym (list_all-append is_digit others (byte ∷ text)) ∙ was.digits) in
     let sum = length-append others (byte ∷ text) in
     let short = was.short in
     both_true (is_digit byte && not (head == 48)) (nat_lt (length others) 14)
-      (both_true (is_digit byte) (not (head == 48)) (and_parts (is_digit byte) (list_all is_digit text) halves.1).0
-        (not_false (head == 48) (above_zero head (was.leads (λ none. no_none others none)))))
-      (of_less (length others) 14 (omega (arith, sum, short)))
+    (both_true (is_digit byte) (not (head == 48)) (and_parts (is_digit byte) (list_all is_digit text) halves.1).0
+    (not_false (head == 48) (above_zero head (was.leads (λ none. no_none others none)))))
+    (of_less (length others) 14 (omega (arith, sum, short)))
   where
-  no_none : (xs : List ℕ) → xs ++ (byte ∷ text) ≡ [] → ⊥
-  no_none [] e = absurd (cc)
-  no_none (x ∷ xs) e = absurd (cc)
+    no_none : (xs : List ℕ) → xs ++ (byte ∷ text) ≡ [] → ⊥
+    no_none [] e = absurd (cc)
+    no_none (x ∷ xs) e = absurd (cc)
 
 -- ---- the states
 
@@ -147,7 +151,7 @@ record Reads_minus (negative : Bool) (digits text : List ℕ) (last : Digits) : 
 
 digit_step : (negative : Bool) (digits : List ℕ) (byte : ℕ) (b : Bool) → takes_digit negative digits byte ≡ b
     → int_step (state_of negative digits) byte
-      ≡ (if b then Some (state_of negative (digits ++ byte ∷ [])) else (if (byte == 45) && not negative && not (is_some_text digits) then Some (state_of true []) else None))
+    ≡ (if b then Some (state_of negative (digits ++ byte ∷ [])) else (if (byte == 45) && not negative && not (is_some_text digits) then Some (state_of true []) else None))
 digit_step negative digits byte b e =
     ap (λ (v : Bool). if v then Some (state_of negative (digits ++ byte ∷ [])) else (if (byte == 45) && not negative && not (is_some_text digits) then Some (state_of true []) else None)) e
 
@@ -170,56 +174,60 @@ digits_only : (digits text : List ℕ) (last : Digits) → Goes int_step (state_
 digits_only digits [] last h = record { is = sym h ∙ ap (state_of true) (sym (append_none digits)); so_far = λ k. subst (IsDigitsSoFar true) (sym (append_none digits)) k }
 digits_only digits (byte ∷ text) last (next, e, later) = by_digit (takes_digit true digits byte) refl (λ digits2 goes. digits_only digits2 text last goes)
   where
-  by_digit : (b : Bool) → takes_digit true digits byte ≡ b → ((digits2 : List ℕ) → Goes int_step (state_of true digits2) text last → Reads_digits true digits2 text last) → Reads_digits true digits (byte ∷ text) last
-  by_digit true took rec =
-      let at = same_Some (state_of true (digits ++ byte ∷ [])) next (sym (digit_step true digits byte true took) ∙ e) in
-      let rest = rec (digits ++ byte ∷ []) (subst (λ s. Goes int_step s text last) (sym at) later) in
-      let whole : (digits ++ byte ∷ []) ++ text ≡ digits ++ (byte ∷ text) = sym (append_append digits (byte ∷ []) text) in
-      record { is = rest.is ∙ ap (state_of true) whole; so_far = λ k. subst (IsDigitsSoFar true) whole (rest.so_far (one_digit true digits byte k took)) }
-  by_digit false took rec = absurd (wrong (given ((byte == 45) && false && not (is_some_text digits)) (state_of true []) next (sym (digit_step true digits byte false took) ∙ e)).0)
-    where
-    wrong : ((byte == 45) && false && not (is_some_text digits)) ≡ true → ⊥
-    wrong e2 = not_both ((minus_parts true digits byte e2).plus)
+    by_digit : (b : Bool) → takes_digit true digits byte ≡ b → ((digits2 : List ℕ) → Goes int_step (state_of true digits2) text last → Reads_digits true digits2 text last) → Reads_digits true digits (byte ∷ text) last
+    by_digit true took rec =
+        let at = same_Some (state_of true (digits ++ byte ∷ [])) next (sym (digit_step true digits byte true took) ∙ e) in
+        let rest = rec (digits ++ byte ∷ []) (subst (λ s. Goes int_step s text last) (sym at) later) in
+        let whole : (digits ++ byte ∷ []) ++ text ≡ digits ++ (byte ∷ text) = sym (append_append digits (byte ∷ []) text) in
+        record { is = rest.is ∙ ap (state_of true) whole; so_far = λ k. subst (IsDigitsSoFar true) whole (rest.so_far (one_digit true digits byte k took)) }
+    by_digit false took rec = absurd (wrong (given ((byte == 45) && false && not (is_some_text digits)) (state_of true []) next (sym (digit_step true digits byte false took) ∙ e)).0)
       where
-      not_both : ◌≡◌ {A = Bool} true false → ⊥
-      not_both e3 = absurd (cc)
+        wrong : ((byte == 45) && false && not (is_some_text digits)) ≡ true → ⊥
+        wrong e2 = not_both ((minus_parts true digits byte e2).plus)
+          where
+            not_both : ◌≡◌ {A = Bool} true false → ⊥
+            not_both e3 = absurd (cc)
 
 digits_of : (digits text : List ℕ) (last : Digits) → Goes int_step (state_of false digits) text last → Reads_digits false digits text last ⊎ Reads_minus false digits text last
 digits_of digits [] last h = inl (record { is = sym h ∙ ap (state_of false) (sym (append_none digits)); so_far = λ k. subst (IsDigitsSoFar false) (sym (append_none digits)) k })
 digits_of digits (byte ∷ text) last (next, e, later) = by_digit (takes_digit false digits byte) refl (λ digits2 goes. digits_of digits2 text last goes)
   where
-  some_now : (xs : List ℕ) → xs ++ byte ∷ [] ≡ [] → ⊥
-  some_now [] e2 = absurd (cc)
-  some_now (x ∷ xs) e2 = absurd (cc)
-  by_rest : takes_digit false digits byte ≡ true → Reads_digits false (digits ++ byte ∷ []) text last ⊎ Reads_minus false (digits ++ byte ∷ []) text last → Reads_digits false digits (byte ∷ text) last ⊎ Reads_minus false digits (byte ∷ text) last
-  by_rest took (inl rest) =
-      let whole : (digits ++ byte ∷ []) ++ text ≡ digits ++ (byte ∷ text) = sym (append_append digits (byte ∷ []) text) in
-      inl (record { is = rest.is ∙ ap (state_of false) whole; so_far = λ k. subst (IsDigitsSoFar false) whole (rest.so_far (one_digit false digits byte k took)) })
-  by_rest took (inr rest) = absurd (some_now digits rest.none)
-  by_digit : (b : Bool) → takes_digit false digits byte ≡ b → ((digits2 : List ℕ) → Goes int_step (state_of false digits2) text last → Reads_digits false digits2 text last ⊎ Reads_minus false digits2 text last)
-      → Reads_digits false digits (byte ∷ text) last ⊎ Reads_minus false digits (byte ∷ text) last
-  by_digit true took rec =
-      let at = same_Some (state_of false (digits ++ byte ∷ [])) next (sym (digit_step false digits byte true took) ∙ e) in
-      by_rest took (rec (digits ++ byte ∷ []) (subst (λ s. Goes int_step s text last) (sym at) later))
-  by_digit false took rec =
-      let step = given ((byte == 45) && true && not (is_some_text digits)) (state_of true []) next (sym (digit_step false digits byte false took) ∙ e) in
-      let sign = minus_parts false digits byte step.0 in
-      let rest = digits_only [] text last (subst (λ s. Goes int_step s text last) (sym step.1) later) in
-      inr (record {
-        behind = text;
-        plus = refl;
-        none = sign.none;
-        parts = ap (λ (b : ℕ). b ∷ text) sign.minus;
-        is = rest.is;
-        so_far = rest.so_far (tt);
-      })
+    some_now : (xs : List ℕ) → xs ++ byte ∷ [] ≡ [] → ⊥
+    some_now [] e2 = absurd (cc)
+    some_now (x ∷ xs) e2 = absurd (cc)
+
+    by_rest : takes_digit false digits byte ≡ true → Reads_digits false (digits ++ byte ∷ []) text last ⊎ Reads_minus false (digits ++ byte ∷ []) text last → Reads_digits false digits (byte ∷ text) last ⊎ Reads_minus false digits (byte ∷ text) last
+    by_rest took (inl rest) =
+        let whole : (digits ++ byte ∷ []) ++ text ≡ digits ++ (byte ∷ text) = sym (append_append digits (byte ∷ []) text) in
+        inl (record { is = rest.is ∙ ap (state_of false) whole; so_far = λ k. subst (IsDigitsSoFar false) whole (rest.so_far (one_digit false digits byte k took)) })
+    by_rest took (inr rest) = absurd (some_now digits rest.none)
+
+    by_digit : (b : Bool) → takes_digit false digits byte ≡ b → ((digits2 : List ℕ) → Goes int_step (state_of false digits2) text last → Reads_digits false digits2 text last ⊎ Reads_minus false digits2 text last)
+        → Reads_digits false digits (byte ∷ text) last ⊎ Reads_minus false digits (byte ∷ text) last
+    by_digit true took rec =
+        let at = same_Some (state_of false (digits ++ byte ∷ [])) next (sym (digit_step false digits byte true took) ∙ e) in
+        by_rest took (rec (digits ++ byte ∷ []) (subst (λ s. Goes int_step s text last) (sym at) later))
+    by_digit false took rec =
+        let step = given ((byte == 45) && true && not (is_some_text digits)) (state_of true []) next (sym (digit_step false digits byte false took) ∙ e) in
+        let sign = minus_parts false digits byte step.0 in
+        let rest = digits_only [] text last (subst (λ s. Goes int_step s text last) (sym step.1) later) in
+        inr (record {
+          behind = text;
+          plus = refl;
+          none = sign.none;
+          parts = ap (λ (b : ℕ). b ∷ text) sign.minus;
+          is = rest.is;
+          so_far = rest.so_far (tt);
+        })
 
 digits_go : (negative : Bool) (digits text : List ℕ) → IsDigitsSoFar negative (digits ++ text) → Goes int_step (state_of negative digits) text (state_of negative (digits ++ text))
 digits_go negative digits [] h = ap (state_of negative) (sym (append_none digits))
 digits_go negative digits (byte ∷ text) h =
-    let same : digits ++ (byte ∷ text) ≡ (digits ++ byte ∷ []) ++ text = append_append digits (byte ∷ []) text in
-    (state_of negative (digits ++ byte ∷ []), digit_step negative digits byte true (may_take negative digits text byte h),
-      subst (λ l. Goes int_step (state_of negative (digits ++ byte ∷ [])) text (state_of negative l)) (sym same) (digits_go negative (digits ++ byte ∷ []) text (subst (IsDigitsSoFar negative) same h)))
+    let same : digits ++ (byte ∷ text) ≡ (digits ++ byte ∷ []) ++ text = append_append digits (byte ∷ []) text in (
+      state_of negative (digits ++ byte ∷ []),
+      digit_step negative digits byte true (may_take negative digits text byte h),
+      subst (λ l. Goes int_step (state_of negative (digits ++ byte ∷ [])) text (state_of negative l)) (sym same) (digits_go negative (digits ++ byte ∷ []) text (subst (IsDigitsSoFar negative) same h)),
+    )
 
 -- ---- the end
 
@@ -237,12 +245,12 @@ no_sign d byte e other =
 digit_is_part : (byte : ℕ) → is_part byte ≡ false → is_digit byte ≡ false
 digit_is_part byte e = by_digit (is_digit byte) refl
   where
-  by_digit : (b : Bool) → is_digit byte ≡ b → b ≡ false
-  by_digit false e2 = refl
-  by_digit true e2 = absurd (wrong byte (digit_bounds byte e2).0 (digit_bounds byte e2).1 e)
-    where
-    wrong : (n : ℕ) → 48 ≤ n → n ≤ 57 → is_part n ≡ false → ⊥
-    wrong n low high e3 = grind (arith, nat_tests)
+    by_digit : (b : Bool) → is_digit byte ≡ b → b ≡ false
+    by_digit false e2 = refl
+    by_digit true e2 = absurd (wrong byte (digit_bounds byte e2).0 (digit_bounds byte e2).1 e)
+      where
+        wrong : (n : ℕ) → 48 ≤ n → n ≤ 57 → is_part n ≡ false → ⊥
+        wrong n low high e3 = grind (arith, nat_tests)
 
 no_next_digit : (negative : Bool) (digits : List ℕ) (o : Option ℕ) → is_some_text digits ≡ true → in_word o ≡ false → next_of int_step (state_of negative digits) o ≡ None
 no_next_digit negative digits None some e = refl
@@ -273,31 +281,31 @@ digit_finish negative (head ∷ others) = record { more = []; goes = ap (state_o
 
 int_sound : (d : ℕ) → Sound int_step int_end (state_of false []) d d
 int_sound d = record {
-    blank = λ state o found h. let over = int_ended state o found h in
+  blank = λ state o found h. let over = int_ended state o found h in
       (no_sign state 32 refl refl, int_ends state (Some 32) over.0 refl ∙ ap (λ (z : ℤ). Some z) over.2);
-    solid = λ o found h. wrong (int_ended (state_of false []) o found h).0;
-    finish = λ state. let end = digit_finish state.negative state.digits in record {
-      more = end.more ++ (32 ∷ []);
-      value = int_of (state_of state.negative (state.digits ++ end.more));
-      ends = λ u tight. ap (λ l. machine int_step int_end state l) (sym (append_append end.more (32 ∷ []) u))
+  solid = λ o found h. wrong (int_ended (state_of false []) o found h).0;
+  finish = λ state. let end = digit_finish state.negative state.digits in record {
+    more = end.more ++ (32 ∷ []);
+    value = int_of (state_of state.negative (state.digits ++ end.more));
+    ends = λ u tight. ap (λ l. machine int_step int_end state l) (sym (append_append end.more (32 ∷ []) u))
         ∙ (went int_step int_end state (state_of state.negative (state.digits ++ end.more)) end.more (32 ∷ u) end.goes
         ∙ (halted int_step int_end (state_of state.negative (state.digits ++ end.more)) (32 ∷ u) (no_sign (state_of state.negative (state.digits ++ end.more)) 32 refl refl)
         ∙ (ap (λ (o : Option ℤ). ended o (32 ∷ u)) (int_ends (state_of state.negative (state.digits ++ end.more)) (Some 32) end.some refl)
         ∙ ap (λ l. read (int_of (state_of state.negative (state.digits ++ end.more))) l) tight)));
-    };
-    some = record {
-      byte = 49;
-      others = 32 ∷ [];
-      value = int_of (state_of false (49 ∷ []));
-      tight = refl;
-      ends = λ u tight. ap (λ l. read (int_of (state_of false (49 ∷ []))) l) tight;
-    };
-    level = λ text last o a goes h. plain_level int_step int_plain d (state_of false []) last text goes;
-    shallow = λ text last goes. plain_shallow int_step int_plain d (state_of false []) last text goes;
-  }
+  };
+  some = record {
+    byte = 49;
+    others = 32 ∷ [];
+    value = int_of (state_of false (49 ∷ []));
+    tight = refl;
+    ends = λ u tight. ap (λ l. read (int_of (state_of false (49 ∷ []))) l) tight;
+  };
+  level = λ text last o a goes h. plain_level int_step int_plain d (state_of false []) last text goes;
+  shallow = λ text last goes. plain_shallow int_step int_plain d (state_of false []) last text goes;
+}
   where
-  wrong : ◌≡◌ {A = Bool} false true → ⊥
-  wrong e = absurd (cc)
+    wrong : ◌≡◌ {A = Bool} false true → ⊥
+    wrong e = absurd (cc)
 
 -- ---- the tie to the grammar
 
@@ -316,30 +324,31 @@ so_far_of negative (head ∷ others) h above = (h, above)
 leaf_int : (z : ℤ) (s t : List ℕ) → IsLeaf int_step int_end (state_of false []) z s t → Int z s t
 leaf_int z s t h = by_state (digits_of [] h.text h.last h.goes)
   where
-  by_state : Reads_digits false [] h.text h.last ⊎ Reads_minus false [] h.text h.last → Int z s t
-  by_state (inl k) =
-      let over = int_ended (state_of false h.text) (first h.after) z (subst (λ d. int_end d (first h.after) ≡ Some z) k.is h.ends) in
-      record {
-        text = h.text;
-        spelled = inl (record { digits = (number_of false h.text over.0 (k.so_far (tt))).0; number_is = sym over.2 });
-        word = record { after = h.after; begins = h.parts; is_apart = over.1; left_is = h.left };
-      }
-  by_state (inr k) =
-      let over = int_ended (state_of true k.behind) (first h.after) z (subst (λ d. int_end d (first h.after) ≡ Some z) k.is h.ends) in
-      let number = number_of true k.behind over.0 k.so_far in
-      record {
-        text = h.text;
-        spelled = inr (record { digits = k.behind; signed = k.parts; are_digits = number.0; not_zero = number.1 refl; number_is = sym over.2 });
-        word = record { after = h.after; begins = h.parts; is_apart = over.1; left_is = h.left };
-      }
+    by_state : Reads_digits false [] h.text h.last ⊎ Reads_minus false [] h.text h.last → Int z s t
+    by_state (inl k) =
+        let over = int_ended (state_of false h.text) (first h.after) z (subst (λ d. int_end d (first h.after) ≡ Some z) k.is h.ends) in
+        record {
+          text = h.text;
+          spelled = inl (record { digits = (number_of false h.text over.0 (k.so_far (tt))).0; number_is = sym over.2 });
+          word = record { after = h.after; begins = h.parts; is_apart = over.1; left_is = h.left };
+        }
+    by_state (inr k) =
+        let over = int_ended (state_of true k.behind) (first h.after) z (subst (λ d. int_end d (first h.after) ≡ Some z) k.is h.ends) in
+        let number = number_of true k.behind over.0 k.so_far in
+        record {
+          text = h.text;
+          spelled = inr (record { digits = k.behind; signed = k.parts; are_digits = number.0; not_zero = number.1 refl; number_is = sym over.2 });
+          word = record { after = h.after; begins = h.parts; is_apart = over.1; left_is = h.left };
+        }
 
 int_leaf : (z : ℤ) (s t : List ℕ) → Int z s t → IsLeaf int_step int_end (state_of false []) z s t
 int_leaf z s t h = by_sign h.spelled
   where
-  not_negative : ◌≡◌ {A = Bool} false true → ⊥
-  not_negative e = absurd (cc)
-  by_sign : IsInt h.text z → IsLeaf int_step int_end (state_of false []) z s t
-  by_sign (inl k) = record {
+    not_negative : ◌≡◌ {A = Bool} false true → ⊥
+    not_negative e = absurd (cc)
+
+    by_sign : IsInt h.text z → IsLeaf int_step int_end (state_of false []) z s t
+    by_sign (inl k) = record {
       text = h.text;
       after = h.word.after;
       last = state_of false h.text;
@@ -349,7 +358,7 @@ int_leaf z s t h = by_sign h.spelled
       ends = int_ends (state_of false h.text) (first h.word.after) (some_number h.text k.digits) h.word.is_apart ∙ ap (λ (w : ℤ). Some w) (sym k.number_is);
       left = h.word.left_is;
     }
-  by_sign (inr k) = record {
+    by_sign (inr k) = record {
       text = 45 ∷ k.digits;
       after = h.word.after;
       last = state_of true k.digits;
@@ -363,12 +372,12 @@ int_leaf z s t h = by_sign h.spelled
 pub int_exact : (d n : ℕ) → Exact Int Int any_next d d n int_at
 int_exact d n =
     retell (IsLeaf int_step int_end (state_of false [])) (IsLeaf int_step int_end (state_of false [])) Int Int any_next any_next d d n n int_at
-      (leaf_exact int_step int_end (state_of false []) d d n (int_sound d))
-      (record {
-        to = λ s t a h. leaf_int a s t h;
-        from = λ s t a may h. int_leaf a s t h;
-        from_wide = λ s t a may h. int_leaf a s t h;
-        wide = λ s t a h. h;
-        allows = λ o may. refl;
-      })
-      (omega (arith))
+    (leaf_exact int_step int_end (state_of false []) d d n (int_sound d))
+    (record {
+      to = λ s t a h. leaf_int a s t h;
+      from = λ s t a may h. int_leaf a s t h;
+      from_wide = λ s t a may h. int_leaf a s t h;
+      wide = λ s t a h. h;
+      allows = λ o may. refl;
+    })
+    (omega (arith))

@@ -43,32 +43,32 @@ action_says s t None h = inr (inr (refl, h))
 action_exact : (d n : ℕ) → Exact IsAction IsAction any_next d d n action_at
 action_exact d n =
     retell (Either Reads (Either Writes Anys)) (Either Reads (Either Writes Anys)) IsAction IsAction any_next any_next d d n n action_at
-      (choice_exact (comes 114) (word_at (codes "read") (Some action.Read)) (choice (comes 119) (word_at (codes "write") (Some action.Write)) (word_at (codes "any") None))
-        Reads Reads (Either Writes Anys) (Either Writes Anys) any_next d d n
-        (plain_token true 114 (101 ∷ 97 ∷ 100 ∷ []) (Some action.Read) any_next d n refl refl refl)
-        (choice_exact (comes 119) (word_at (codes "write") (Some action.Write)) (word_at (codes "any") None) Writes Writes Anys Anys any_next d d n
-          (plain_token true 119 (114 ∷ 105 ∷ 116 ∷ 101 ∷ []) (Some action.Write) any_next d n refl refl refl)
-          (plain_token true 97 (110 ∷ 121 ∷ []) None any_next d n refl refl refl)
-          (record {
-            one = λ s t a h. ap (comes 119) (token_begins true 119 (114 ∷ 105 ∷ 116 ∷ 101 ∷ []) s t h.1);
-            two = λ s t a h. ap (comes 119) (token_begins true 97 (110 ∷ 121 ∷ []) s t h.1);
-          }))
-        (record {
-          one = λ s t a h. ap (comes 114) (token_begins true 114 (101 ∷ 97 ∷ 100 ∷ []) s t h.1);
-          two = λ s t a h. other_begins s t a h;
-        }))
-      (record {
-        to = says_action;
-        from = λ s t a may h. action_says s t a h;
-        from_wide = λ s t a may h. action_says s t a h;
-        wide = λ s t a h. h;
-        allows = λ o may. refl;
-      })
-      (omega (arith))
+    (choice_exact (comes 114) (word_at (codes "read") (Some action.Read)) (choice (comes 119) (word_at (codes "write") (Some action.Write)) (word_at (codes "any") None))
+    Reads Reads (Either Writes Anys) (Either Writes Anys) any_next d d n
+    (plain_token true 114 (101 ∷ 97 ∷ 100 ∷ []) (Some action.Read) any_next d n refl refl refl)
+    (choice_exact (comes 119) (word_at (codes "write") (Some action.Write)) (word_at (codes "any") None) Writes Writes Anys Anys any_next d d n
+    (plain_token true 119 (114 ∷ 105 ∷ 116 ∷ 101 ∷ []) (Some action.Write) any_next d n refl refl refl)
+    (plain_token true 97 (110 ∷ 121 ∷ []) None any_next d n refl refl refl)
+    (record {
+      one = λ s t a h. ap (comes 119) (token_begins true 119 (114 ∷ 105 ∷ 116 ∷ 101 ∷ []) s t h.1);
+      two = λ s t a h. ap (comes 119) (token_begins true 97 (110 ∷ 121 ∷ []) s t h.1);
+    }))
+    (record {
+      one = λ s t a h. ap (comes 114) (token_begins true 114 (101 ∷ 97 ∷ 100 ∷ []) s t h.1);
+      two = λ s t a h. other_begins s t a h;
+    }))
+    (record {
+      to = says_action;
+      from = λ s t a may h. action_says s t a h;
+      from_wide = λ s t a may h. action_says s t a h;
+      wide = λ s t a h. h;
+      allows = λ o may. refl;
+    })
+    (omega (arith))
   where
-  other_begins : (s t : List ℕ) (a : Option Action) → Either Writes Anys a s t → comes 114 (first s) ≡ false
-  other_begins s t a (inl h) = ap (comes 114) (token_begins true 119 (114 ∷ 105 ∷ 116 ∷ 101 ∷ []) s t h.1)
-  other_begins s t a (inr h) = ap (comes 114) (token_begins true 97 (110 ∷ 121 ∷ []) s t h.1)
+    other_begins : (s t : List ℕ) (a : Option Action) → Either Writes Anys a s t → comes 114 (first s) ≡ false
+    other_begins s t a (inl h) = ap (comes 114) (token_begins true 119 (114 ∷ 105 ∷ 116 ∷ 101 ∷ []) s t h.1)
+    other_begins s t a (inr h) = ap (comes 114) (token_begins true 97 (110 ∷ 121 ∷ []) s t h.1)
 
 -- ---- one rule
 
@@ -92,51 +92,49 @@ allows_rule C s t rule h =
     let condition = permits.two in
     let ends = condition.two in
     subst (λ r. IsRule C r s t) (sym (h.is ∙ (after.is ∙ ap (λ p. rule_of after.value p) (on.is ∙ (permits.is ∙ ap (λ c. permitted permits.value c) (condition.is ∙ ends.is))))))
-      (record {
-        allowed = h.between;
-        allow = h.one.1;
-        acted = after.between;
-        acts = after.one;
-        about = on.between;
-        on = on.one.1;
-        matched = permits.between;
-        matching = permits.one;
-        conditioned = condition.between;
-        if_word = condition.one.1;
-        ended = ends.between;
-        condition = ends.one;
-        ends = ends.two.1;
-      })
+    (record {
+      allowed = h.between;
+      allow = h.one.1;
+      acted = after.between;
+      acts = after.one;
+      about = on.between;
+      on = on.one.1;
+      matched = permits.between;
+      matching = permits.one;
+      conditioned = condition.between;
+      if_word = condition.one.1;
+      ended = ends.between;
+      condition = ends.one;
+      ends = ends.two.1;
+    })
 
 rule_allows : (C : Language Cond) (s t : List ℕ) (rule : Rule) → IsRule C rule s t → Allows C rule s t
 rule_allows C s t rule h = record {
-    value = tt;
-    more = rule;
-    between = h.allowed;
-    one = (refl, h.allow);
+  value = tt;
+  more = rule;
+  between = h.allowed;
+  one = (refl, h.allow);
+  two = record {
+    value = rule.action;
+    more = permitted rule.pattern rule.cond;
+    between = h.acted;
+    one = h.acts;
     two = record {
-      value = rule.action;
+      value = tt;
       more = permitted rule.pattern rule.cond;
-      between = h.acted;
-      one = h.acts;
+      between = h.about;
+      one = (refl, h.on);
       two = record {
-        value = tt;
-        more = permitted rule.pattern rule.cond;
-        between = h.about;
-        one = (refl, h.on);
+        value = rule.pattern;
+        more = rule.cond;
+        between = h.matched;
+        one = h.matching;
         two = record {
-          value = rule.pattern;
+          value = tt;
           more = rule.cond;
-          between = h.matched;
-          one = h.matching;
-          two = record {
-            value = tt;
-            more = rule.cond;
-            between = h.conditioned;
-            one = (refl, h.if_word);
-            two = record { value = rule.cond; more = tt; between = h.ended; one = h.condition; two = (refl, h.ends); is = refl };
-            is = refl;
-          };
+          between = h.conditioned;
+          one = (refl, h.if_word);
+          two = record { value = rule.cond; more = tt; between = h.ended; one = h.condition; two = (refl, h.ends); is = refl };
           is = refl;
         };
         is = refl;
@@ -144,57 +142,59 @@ rule_allows C s t rule h = record {
       is = refl;
     };
     is = refl;
-  }
+  };
+  is = refl;
+}
 
 rule_wider : (C D : Language Cond) → ((s t : List ℕ) (c : Cond) → C c s t → D c s t) → (s t : List ℕ) (rule : Rule) → IsRule C rule s t → IsRule D rule s t
 rule_wider C D wide s t rule h = record {
-    allowed = h.allowed;
-    allow = h.allow;
-    acted = h.acted;
-    acts = h.acts;
-    about = h.about;
-    on = h.on;
-    matched = h.matched;
-    matching = h.matching;
-    conditioned = h.conditioned;
-    if_word = h.if_word;
-    ended = h.ended;
-    condition = wide h.conditioned h.ended rule.cond h.condition;
-    ends = h.ends;
-  }
+  allowed = h.allowed;
+  allow = h.allow;
+  acted = h.acted;
+  acts = h.acts;
+  about = h.about;
+  on = h.on;
+  matched = h.matched;
+  matching = h.matching;
+  conditioned = h.conditioned;
+  if_word = h.if_word;
+  ended = h.ended;
+  condition = wide h.conditioned h.ended rule.cond h.condition;
+  ends = h.ends;
+}
 
 pub rule_exact : (turns d : ℕ) → Exact (IsRule (IsCond (suc d))) (IsRule AnyCond) any_next d d turns (rule_at turns d)
 rule_exact turns d =
     retell (Allows (IsCond (suc d))) (Allows AnyCond) (IsRule (IsCond (suc d))) (IsRule AnyCond) any_next any_next d d turns turns (rule_at turns d)
-      (both_exact second (word_at (codes "allow") (tt {0})) (both rule_of action_at (both second (word_at (codes "on") (tt {0})) (permitted_at turns d)))
-        (Says true (codes "allow") (tt {0})) (Says true (codes "allow") (tt {0})) (Both rule_of IsAction (Ons (IsCond (suc d)))) (Both rule_of IsAction (Ons AnyCond)) any_next any_next d d d turns
-        (plain_token true 97 (108 ∷ 108 ∷ 111 ∷ 119 ∷ []) (tt {0}) any_next d turns refl refl refl)
-        (both_exact rule_of action_at (both second (word_at (codes "on") (tt {0})) (permitted_at turns d)) IsAction IsAction (Ons (IsCond (suc d))) (Ons AnyCond) any_next any_next d d d turns
-          (action_exact d turns)
-          (both_exact second (word_at (codes "on") (tt {0})) (permitted_at turns d) (Says true (codes "on") (tt {0})) (Says true (codes "on") (tt {0})) (Permits (IsCond (suc d))) (Permits AnyCond) any_next any_next d d d turns
-            (plain_token true 111 (110 ∷ []) (tt {0}) any_next d turns refl refl refl)
-            (both_exact permitted pattern_at (both second (word_at (codes "if") (tt {0})) (both earlier (cond_at turns d) (sign_at (codes ";") (tt {0})))) IsPattern IsPattern (Ifs (IsCond (suc d))) (Ifs AnyCond) not_star any_next d d d turns
-              (pattern_exact d turns)
-              (both_exact second (word_at (codes "if") (tt {0})) (both earlier (cond_at turns d) (sign_at (codes ";") (tt {0}))) (Says true (codes "if") (tt {0})) (Says true (codes "if") (tt {0}))
-                (Both earlier (IsCond (suc d)) (Says false (codes ";") (tt {0}))) (Both earlier AnyCond (Says false (codes ";") (tt {0}))) any_next any_next d d d turns
-                (plain_token true 105 (102 ∷ []) (tt {0}) any_next d turns refl refl refl)
-                (both_exact earlier (cond_at turns d) (sign_at (codes ";") (tt {0})) (IsCond (suc d)) AnyCond (Says false (codes ";") (tt {0})) (Says false (codes ";") (tt {0})) after_cond any_next d d d turns
-                  (cond_exact turns d)
-                  (plain_token false 59 [] (tt {0}) any_next d turns refl refl refl)
-                  (λ b m t h. ap after_cond (token_begins false 59 [] m t h.1)))
-                (λ b m t h. refl))
-              (λ b m t h. ap not_star (token_begins true 105 (102 ∷ []) m h.between h.one.1)))
-            (λ b m t h. refl))
-          (λ b m t h. refl))
-        (λ b m t h. refl))
-      (record {
-        to = allows_rule (IsCond (suc d));
-        from = λ s t a may h. rule_allows (IsCond (suc d)) s t a h;
-        from_wide = λ s t a may h. rule_allows AnyCond s t a h;
-        wide = rule_wider (IsCond (suc d)) AnyCond (any_of (suc d));
-        allows = λ o may. refl;
-      })
-      (omega (arith))
+    (both_exact second (word_at (codes "allow") (tt {0})) (both rule_of action_at (both second (word_at (codes "on") (tt {0})) (permitted_at turns d)))
+    (Says true (codes "allow") (tt {0})) (Says true (codes "allow") (tt {0})) (Both rule_of IsAction (Ons (IsCond (suc d)))) (Both rule_of IsAction (Ons AnyCond)) any_next any_next d d d turns
+    (plain_token true 97 (108 ∷ 108 ∷ 111 ∷ 119 ∷ []) (tt {0}) any_next d turns refl refl refl)
+    (both_exact rule_of action_at (both second (word_at (codes "on") (tt {0})) (permitted_at turns d)) IsAction IsAction (Ons (IsCond (suc d))) (Ons AnyCond) any_next any_next d d d turns
+    (action_exact d turns)
+    (both_exact second (word_at (codes "on") (tt {0})) (permitted_at turns d) (Says true (codes "on") (tt {0})) (Says true (codes "on") (tt {0})) (Permits (IsCond (suc d))) (Permits AnyCond) any_next any_next d d d turns
+    (plain_token true 111 (110 ∷ []) (tt {0}) any_next d turns refl refl refl)
+    (both_exact permitted pattern_at (both second (word_at (codes "if") (tt {0})) (both earlier (cond_at turns d) (sign_at (codes ";") (tt {0})))) IsPattern IsPattern (Ifs (IsCond (suc d))) (Ifs AnyCond) not_star any_next d d d turns
+    (pattern_exact d turns)
+    (both_exact second (word_at (codes "if") (tt {0})) (both earlier (cond_at turns d) (sign_at (codes ";") (tt {0}))) (Says true (codes "if") (tt {0})) (Says true (codes "if") (tt {0}))
+    (Both earlier (IsCond (suc d)) (Says false (codes ";") (tt {0}))) (Both earlier AnyCond (Says false (codes ";") (tt {0}))) any_next any_next d d d turns
+    (plain_token true 105 (102 ∷ []) (tt {0}) any_next d turns refl refl refl)
+    (both_exact earlier (cond_at turns d) (sign_at (codes ";") (tt {0})) (IsCond (suc d)) AnyCond (Says false (codes ";") (tt {0})) (Says false (codes ";") (tt {0})) after_cond any_next d d d turns
+    (cond_exact turns d)
+    (plain_token false 59 [] (tt {0}) any_next d turns refl refl refl)
+    (λ b m t h. ap after_cond (token_begins false 59 [] m t h.1)))
+    (λ b m t h. refl))
+    (λ b m t h. ap not_star (token_begins true 105 (102 ∷ []) m h.between h.one.1)))
+    (λ b m t h. refl))
+    (λ b m t h. refl))
+    (λ b m t h. refl))
+    (record {
+      to = allows_rule (IsCond (suc d));
+      from = λ s t a may h. rule_allows (IsCond (suc d)) s t a h;
+      from_wide = λ s t a may h. rule_allows AnyCond s t a h;
+      wide = rule_wider (IsCond (suc d)) AnyCond (any_of (suc d));
+      allows = λ o may. refl;
+    })
+    (omega (arith))
 
 -- ---- rules one after another
 
@@ -229,45 +229,45 @@ linked_many C rules s t (inr h) =
 many_linked : (C : Language Cond) (rules : List Rule) (s t : List ℕ) → comes 97 (first t) ≡ false → Many C rules s t → Linked (more_of 97) (IsRule C) (Many C) rules s t
 many_linked C [] s t over h = absurd (h)
 many_linked C (rule ∷ rules) s t over (inl h) = inl (record {
-    value = rule;
-    one = h.1;
-    ends = more_no 97 rule (first t) over ∙ ap (λ (l : List Rule). inl (rule ∷ l)) (sym h.0);
-  })
+  value = rule;
+  one = h.1;
+  ends = more_no 97 rule (first t) over ∙ ap (λ (l : List Rule). inl (rule ∷ l)) (sym h.0);
+})
 many_linked C (rule ∷ rules) s t over (inr h) = inr (record {
-    value = rule;
-    more = rules;
-    with_more = λ others. rule ∷ others;
-    between = h.0;
-    one = h.1;
-    goes = more_yes 97 rule (first h.0) (ap (comes 97) (many_begins C rules h.0 t h.2));
-    two = h.2;
-    is = refl;
-  })
+  value = rule;
+  more = rules;
+  with_more = λ others. rule ∷ others;
+  between = h.0;
+  one = h.1;
+  goes = more_yes 97 rule (first h.0) (ap (comes 97) (many_begins C rules h.0 t h.2));
+  two = h.2;
+  is = refl;
+})
 
 pub rules_exact : (turns d : ℕ) (left : ℕ) → left ≤ turns → Exact (Many (IsCond (suc d))) (Many AnyCond) after_rules d d left (rules_at left turns d)
 rules_exact turns d zero fewer =
     spent_exact (Many (IsCond (suc d))) (Many AnyCond) after_rules d
-      (record {
-        byte = (rule_exact turns d).some.byte;
-        others = (rule_exact turns d).some.others;
-        value = (rule_exact turns d).some.value ∷ [];
-        tight = (rule_exact turns d).some.tight;
-        ends = λ u may. inl (refl, (rule_exact turns d).some.ends u may);
-      })
-      (λ s t rules h. many_wider (IsCond (suc d)) AnyCond (any_of (suc d)) rules s t h)
+    (record {
+      byte = (rule_exact turns d).some.byte;
+      others = (rule_exact turns d).some.others;
+      value = (rule_exact turns d).some.value ∷ [];
+      tight = (rule_exact turns d).some.tight;
+      ends = λ u may. inl (refl, (rule_exact turns d).some.ends u may);
+    })
+    (λ s t rules h. many_wider (IsCond (suc d)) AnyCond (any_of (suc d)) rules s t h)
 rules_exact turns d (suc left) fewer =
     retell (Linked (more_of 97) (IsRule (IsCond (suc d))) (Many (IsCond (suc d)))) (Linked (more_of 97) (IsRule AnyCond) (Many AnyCond))
-      (Many (IsCond (suc d))) (Many AnyCond) after_rules after_rules d d (suc left) (suc left) (rules_at (suc left) turns d)
-      (link_exact (more_of 97) (rule_at turns d) (rules_at left turns d) (IsRule (IsCond (suc d))) (IsRule AnyCond) (Many (IsCond (suc d))) (Many AnyCond) any_next after_rules after_rules d d d (suc left) left
-        (narrowed (IsRule (IsCond (suc d))) (IsRule AnyCond) any_next any_next d d turns (suc left) (rule_at turns d) (rule_exact turns d) (λ o may. may) fewer)
-        (rules_exact turns d left (omega (arith, fewer)))
-        (more_fits 97 (Many AnyCond) any_next d (λ b m t h. many_begins AnyCond b m t h) refl refl)
-        (omega (arith)))
-      (record {
-        to = λ s t rules h. linked_many (IsCond (suc d)) rules s t h;
-        from = λ s t rules may h. many_linked (IsCond (suc d)) rules s t (not_true (comes 97 (first t)) (and_parts true (not (comes 97 (first t))) may).1) h;
-        from_wide = λ s t rules may h. many_linked AnyCond rules s t (not_true (comes 97 (first t)) (and_parts true (not (comes 97 (first t))) may).1) h;
-        wide = λ s t rules h. many_wider (IsCond (suc d)) AnyCond (any_of (suc d)) rules s t h;
-        allows = λ o may. may;
-      })
-      (omega (arith))
+    (Many (IsCond (suc d))) (Many AnyCond) after_rules after_rules d d (suc left) (suc left) (rules_at (suc left) turns d)
+    (link_exact (more_of 97) (rule_at turns d) (rules_at left turns d) (IsRule (IsCond (suc d))) (IsRule AnyCond) (Many (IsCond (suc d))) (Many AnyCond) any_next after_rules after_rules d d d (suc left) left
+    (narrowed (IsRule (IsCond (suc d))) (IsRule AnyCond) any_next any_next d d turns (suc left) (rule_at turns d) (rule_exact turns d) (λ o may. may) fewer)
+    (rules_exact turns d left (omega (arith, fewer)))
+    (more_fits 97 (Many AnyCond) any_next d (λ b m t h. many_begins AnyCond b m t h) refl refl)
+    (omega (arith)))
+    (record {
+      to = λ s t rules h. linked_many (IsCond (suc d)) rules s t h;
+      from = λ s t rules may h. many_linked (IsCond (suc d)) rules s t (not_true (comes 97 (first t)) (and_parts true (not (comes 97 (first t))) may).1) h;
+      from_wide = λ s t rules may h. many_linked AnyCond rules s t (not_true (comes 97 (first t)) (and_parts true (not (comes 97 (first t))) may).1) h;
+      wide = λ s t rules h. many_wider (IsCond (suc d)) AnyCond (any_of (suc d)) rules s t h;
+      allows = λ o may. may;
+    })
+    (omega (arith))

@@ -29,9 +29,9 @@ pub skip_skip : (s : List ℕ) → skip (skip s) ≡ skip s
 skip_skip [] = refl
 skip_skip (byte ∷ others) = by_blank (is_blank byte) byte others refl (skip_skip others)
   where
-  by_blank : (b : Bool) (c : ℕ) (rest : List ℕ) → is_blank c ≡ b → skip (skip rest) ≡ skip rest → skip (if b then skip rest else c ∷ rest) ≡ (if b then skip rest else c ∷ rest)
-  by_blank true c rest e later = later
-  by_blank false c rest e later = ap (λ (d : Bool). if d then skip rest else c ∷ rest) e
+    by_blank : (b : Bool) (c : ℕ) (rest : List ℕ) → is_blank c ≡ b → skip (skip rest) ≡ skip rest → skip (if b then skip rest else c ∷ rest) ≡ (if b then skip rest else c ∷ rest)
+    by_blank true c rest e later = later
+    by_blank false c rest e later = ap (λ (d : Bool). if d then skip rest else c ∷ rest) e
 
 -- a text that begins with no blank
 abbrev pub IsTight : List ℕ → Type 0
@@ -86,9 +86,9 @@ stands_in (b ∷ y) z (c ∷ p) q byte e =
     let same = same_heads b c (y ++ z) (p ++ (byte ∷ q)) e in
     further (stands_in y z p q byte same.1) same.0
   where
-  further : InFirst y p byte ⊎ InSecond y z p q byte → b ≡ c → InFirst (b ∷ y) (c ∷ p) byte ⊎ InSecond (b ∷ y) z (c ∷ p) q byte
-  further (inl i) heads = inl (record { after = i.after; parts = ap (λ h. h ∷ y) heads ∙ ap (λ ys. c ∷ ys) i.parts })
-  further (inr i) heads = inr (record { before = i.before; front = ap (λ ps. c ∷ ps) i.front ∙ ap (λ h. h ∷ (y ++ i.before)) (sym heads); parts = i.parts })
+    further : InFirst y p byte ⊎ InSecond y z p q byte → b ≡ c → InFirst (b ∷ y) (c ∷ p) byte ⊎ InSecond (b ∷ y) z (c ∷ p) q byte
+    further (inl i) heads = inl (record { after = i.after; parts = ap (λ h. h ∷ y) heads ∙ ap (λ ys. c ∷ ys) i.parts })
+    further (inr i) heads = inr (record { before = i.before; front = ap (λ ps. c ∷ ps) i.front ∙ ap (λ h. h ∷ (y ++ i.before)) (sym heads); parts = i.parts })
 
 -- no text but the empty one is a front of the empty one
 pub empty_front : (y z : List ℕ) → [] ≡ y ++ z → y ≡ []

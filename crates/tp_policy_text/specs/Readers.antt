@@ -185,15 +185,15 @@ value_at = choice begins_int (λ s. mapped value.Number (int_at s)) (λ s. mappe
 abbrev pub compared_at : Reader Compared
 compared_at =
     choice (comes 61) (both with_op (sign_at (codes "=") op.Equal) value_at)
-      (choice (comes 62) (both with_number (sign_at (codes ">=") op.AtLeast) int_at) (both with_number (sign_at (codes "<=") op.AtMost) int_at))
+    (choice (comes 62) (both with_number (sign_at (codes ">=") op.AtLeast) int_at) (both with_number (sign_at (codes "<=") op.AtMost) int_at))
 
 abbrev pub atom_of : Option Head → Option ℕ → Cond ⊎ (Compared → Cond)
 atom_of None next = inl cond.True
 atom_of (Some head) next = inr (λ compared. cond.Atom head.issuer (attr_of head.attr) compared.op compared.wanted)
   where
-  attr_of : Option (List ℕ) → List ℕ
-  attr_of None = []
-  attr_of (Some attr) = attr
+    attr_of : Option (List ℕ) → List ℕ
+    attr_of None = []
+    attr_of (Some attr) = attr
 
 abbrev pub atom_at : Reader Cond
 atom_at = link atom_of head_at compared_at

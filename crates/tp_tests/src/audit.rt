@@ -687,13 +687,7 @@ const PUBLISHED: Story = &[
 ];
 
 /// The newest version, where facts are few and the opening version is small.
-fn newest(
-    rt: &impl Abort,
-    admin: u32,
-    opening: u32,
-    facts: &List<Fact>,
-    place: Place,
-) -> Version {
+fn newest(rt: &impl Abort, admin: u32, opening: u32, facts: &List<Fact>, place: Place) -> Version {
     assert!(rt; facts.len() < 1000 && opening < 1000);
     newest_at(AdminId(admin), Version(opening), facts, place)
 }
