@@ -1,5 +1,5 @@
 -- Atoms are read exactly.
-use Rattle.std.proofs.Common.{◌≡◌, ◌⊎◌, inl, inr, ℕ, ◌+◌, ◌<◌, ◌≤◌, ◌==◌, ◌&&◌, ◌||◌, not, nat_le, List, [], ◌∷◌, ◌++◌, length, Bool, true, false, Option, Some, None, refl, sym, ap, subst, ◌∙◌, arith, if◌then◌else◌, codes, ℤ}
+use Rattle.std.proofs.Common.{◌≡◌, ◌⊎◌, inl, inr, ℕ, ◌==◌, ◌||◌, List, [], ◌∷◌, ◌++◌, Bool, true, false, Option, Some, None, refl, sym, ap, subst, ◌∙◌, arith, codes, ℤ}
 use Rattle.std.proofs.lemmas.Bool.Decides.{nat_tests}
 use Rattle.tp_types.specs.declared.policy.Cond.{Cond}
 use Rattle.tp_types.specs.declared.policy.Cond.TheVariants as cond
@@ -7,21 +7,21 @@ use Rattle.tp_types.specs.declared.policy.Op.{Op}
 use Rattle.tp_types.specs.declared.policy.Op.TheVariants as op
 use Rattle.tp_types.specs.declared.policy.Value.{Value}
 use Rattle.tp_types.specs.declared.policy.Value.TheVariants as value
-use Rattle.tp_types.specs.Spelling.{is_letter, is_part}
-use Rattle.tp_policy_text.specs.Grammar.{Int, IsAtom, IsCompared, IsComparison, IsInt, IsValue, Named, Subject, is_digit, is_number}
-use Rattle.tp_policy_text.specs.Lexis.{Sign, Token, Word, first}
+use Rattle.tp_types.specs.Spelling.{is_letter}
+use Rattle.tp_policy_text.specs.Grammar.{Int, IsAtom, IsCompared, IsInt, IsValue, Named, is_digit, is_number}
+use Rattle.tp_policy_text.specs.Lexis.{Token, Word, first}
 use Rattle.tp_policy_text.specs.Readers.{Compared, Head, atom_at, atom_of, begins_int, both, comes, compared_at, head_at, int_at, name_at, sign_at, value_at, with_number, with_op}
-use Rattle.tp_policy_text.specs.Readings.{Reader, choice, link, mapped}
-use Rattle.tp_policy_text.proofs.Choices.{Apart, Either, SameLanguage, choice_exact, retell}
+use Rattle.tp_policy_text.specs.Readings.{choice, mapped}
+use Rattle.tp_policy_text.proofs.Choices.{Either, choice_exact, retell}
 use Rattle.tp_policy_text.proofs.Exact.{Exact, Language}
 use Rattle.tp_policy_text.proofs.Heads.{IsHead, head_exact, not_dot}
 use Rattle.tp_policy_text.proofs.Images.{Image, mapped_exact}
-use Rattle.tp_policy_text.proofs.Leaves.{any_next, same_number}
-use Rattle.tp_policy_text.proofs.Links.{Fits, Leads, Linked, LinkedOne, LinkedTwo, link_exact}
-use Rattle.tp_policy_text.proofs.Names.{and_parts, name_exact, name_parts}
-use Rattle.tp_policy_text.proofs.Numbers.{NumberParts, int_exact, number_parts}
+use Rattle.tp_policy_text.proofs.Leaves.{any_next}
+use Rattle.tp_policy_text.proofs.Links.{Fits, Leads, Linked, link_exact}
+use Rattle.tp_policy_text.proofs.Names.{name_exact}
+use Rattle.tp_policy_text.proofs.Numbers.{int_exact, number_parts}
 use Rattle.tp_policy_text.proofs.Patterns.{name_begins, token_begins}
-use Rattle.tp_policy_text.proofs.Sequences.{Both, both_exact, inr_is, narrowed}
+use Rattle.tp_policy_text.proofs.Sequences.{Both, both_exact, inr_is}
 use Rattle.tp_policy_text.proofs.Texts.{append_none}
 use Rattle.tp_policy_text.proofs.Tokens.{Says, plain_token}
 

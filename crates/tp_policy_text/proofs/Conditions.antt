@@ -1,25 +1,24 @@
 -- Conditions are read exactly, within each depth.
-use Rattle.std.proofs.Common.{◌≡◌, ◌⊎◌, inl, inr, ℕ, zero, suc, ◌+◌, ◌<◌, ◌≤◌, ◌==◌, ◌&&◌, not, List, [], ◌∷◌, ◌++◌, length, Bool, true, false, Option, Some, None, Result, Ok, Err, refl, sym, ap, subst, ◌∙◌, arith, if◌then◌else◌, codes}
+use Rattle.std.proofs.Common.{◌≡◌, ◌⊎◌, inl, inr, ℕ, zero, suc, ◌≤◌, ◌==◌, ◌&&◌, not, List, [], ◌∷◌, ◌++◌, Bool, true, false, Option, Some, Result, Ok, Err, refl, sym, ap, subst, ◌∙◌, arith, if◌then◌else◌, codes}
 use Rattle.tp_types.specs.declared.policy.Cond.{Cond}
-use Rattle.tp_types.specs.declared.policy.Cond.TheVariants as cond
 use Rattle.tp_types.specs.Spelling.{is_letter}
 use Rattle.tp_policy_text.specs.declared.Stop.{Stop}
 use Rattle.tp_policy_text.specs.declared.Stop.TheVariants as stop
-use Rattle.tp_policy_text.specs.Grammar.{AnyCond, IsAtom, IsComparison, IsCond, IsConj, IsDisj, IsInParentheses, IsPart, Joined, and_of, or_of}
-use Rattle.tp_policy_text.specs.Lexis.{Sign, Token, Word, count, first, in_word, is_blank}
+use Rattle.tp_policy_text.specs.Grammar.{AnyCond, IsAtom, IsCond, IsConj, IsDisj, IsInParentheses, IsPart, Joined, and_of, or_of}
+use Rattle.tp_policy_text.specs.Lexis.{Token, count, first, is_blank}
 use Rattle.tp_policy_text.specs.Readers.{atom_at, both, comes, cond_at, conj_at, disj_at, earlier, in_parentheses, joined_at, more_of, part_at, second, sign_at, word_at}
-use Rattle.tp_policy_text.specs.Readings.{Reader, Reading, choice, is_open, link, mapped, read, stopped, unopened}
-use Rattle.tp_policy_text.proofs.Choices.{Apart, Either, Opened, SameLanguage, choice_exact, retell, unopened_exact}
+use Rattle.tp_policy_text.specs.Readings.{Reader, Reading, is_open, stopped}
+use Rattle.tp_policy_text.proofs.Choices.{Either, choice_exact, retell, unopened_exact}
 use Rattle.tp_policy_text.proofs.Comparisons.{atom_exact, same_inl}
-use Rattle.tp_policy_text.proofs.Exact.{Ends, Exact, Front, GivesUp, IsDeep, IsLevel, IsShallow, Language, Starts, left_at}
+use Rattle.tp_policy_text.proofs.Exact.{Exact, IsLevel, IsShallow, Language, Starts, left_at}
 use Rattle.tp_policy_text.proofs.Heads.{not_dot}
 use Rattle.tp_policy_text.proofs.Images.{Image, mapped_exact}
 use Rattle.tp_policy_text.proofs.Leaves.{any_next, same_number}
-use Rattle.tp_policy_text.proofs.Links.{Fits, Leads, Linked, LinkedOne, LinkedTwo, link_exact}
-use Rattle.tp_policy_text.proofs.Names.{and_parts, both_true, not_false, not_true}
+use Rattle.tp_policy_text.proofs.Links.{Fits, Linked, link_exact}
+use Rattle.tp_policy_text.proofs.Names.{and_parts, not_true}
 use Rattle.tp_policy_text.proofs.Sequences.{Both, both_exact, inr_is, narrowed}
 use Rattle.tp_policy_text.proofs.Patterns.{name_begins, token_begins}
-use Rattle.tp_policy_text.proofs.Texts.{IsTight, append_append, append_none, count_append, same_front}
+use Rattle.tp_policy_text.proofs.Texts.{append_append, count_append, same_front}
 use Rattle.tp_policy_text.proofs.Tokens.{Says, plain_token, token_exact}
 
 -- ---- one or more, with a word between

@@ -1,5 +1,5 @@
 -- Exact readers: what is kept of a reader beside the language that it reads.
-use Rattle.std.proofs.Common.{◌≡◌, ◌⊎◌, ℕ, ◌+◌, ◌<◌, List, [], ◌∷◌, ◌++◌, length, Bool, true, false, Option, Some, None, Result, Ok, Err, refl}
+use Rattle.std.proofs.Common.{◌≡◌, ◌⊎◌, ℕ, ◌+◌, ◌<◌, List, ◌∷◌, ◌++◌, length, Bool, true, false, Option, Some, Result, Ok, Err}
 use Rattle.tp_policy_text.specs.declared.Stop.{Stop}
 use Rattle.tp_policy_text.specs.declared.Stop.TheVariants as stop
 use Rattle.tp_policy_text.specs.Lexis.{count, first, is_blank}

@@ -1,15 +1,14 @@
 -- The head of an atom is read exactly: the word true, or an issuer and an attribute.
-use Rattle.std.proofs.Common.{◌≡◌, ◌⊎◌, inl, inr, ℕ, ◌+◌, ◌<◌, ◌≤◌, ◌==◌, ◌&&◌, ◌||◌, not, List, [], ◌∷◌, ◌++◌, length, Bool, true, false, Option, Some, None, refl, sym, ap, subst, ◌∙◌, arith, if◌then◌else◌, codes}
+use Rattle.std.proofs.Common.{◌≡◌, ◌⊎◌, inl, inr, ℕ, ◌==◌, ◌&&◌, not, List, [], ◌∷◌, ◌++◌, Bool, true, false, Option, Some, None, refl, sym, ap, subst, ◌∙◌, arith, if◌then◌else◌, codes}
 use Rattle.std.proofs.lemmas.Option.{same_Some}
-use Rattle.tp_types.specs.Spelling.{IsName}
 use Rattle.tp_policy_text.specs.Grammar.{Subject}
-use Rattle.tp_policy_text.specs.Lexis.{Sign, Token, Word, first, in_word, is_blank, skip}
-use Rattle.tp_policy_text.specs.Readers.{Head, attr_step, comes, goes_on, head_at, head_end, head_step, is_some_text, issuer_step, name_step, same_text}
-use Rattle.tp_policy_text.specs.Readings.{Reading, ended, machine, read}
-use Rattle.tp_policy_text.proofs.Choices.{SameLanguage, retell}
-use Rattle.tp_policy_text.proofs.Exact.{Ends, Exact, IsLevel, IsShallow, Language, Starts}
+use Rattle.tp_policy_text.specs.Lexis.{Word, first, in_word, is_blank, skip}
+use Rattle.tp_policy_text.specs.Readers.{Head, attr_step, comes, head_at, head_end, head_step, is_some_text, issuer_step, name_step, same_text}
+use Rattle.tp_policy_text.specs.Readings.{ended, machine, read}
+use Rattle.tp_policy_text.proofs.Choices.{retell}
+use Rattle.tp_policy_text.proofs.Exact.{Ends, Exact}
 use Rattle.tp_policy_text.proofs.Leaves.{Goes, IsLeaf, Sound, any_next, halted, leaf_exact, next_of, same_number, went}
-use Rattle.tp_policy_text.proofs.Names.{IsSoFar, NameEnd, Named_on, Plain, and_parts, both_true, give, given, name_finish, name_of_some, names_go, names_of, no_further, no_next_name, not_false, not_true, plain_level, plain_shallow, some_of_name}
+use Rattle.tp_policy_text.proofs.Names.{Plain, and_parts, both_true, give, given, name_finish, name_of_some, names_go, names_of, no_further, not_false, not_true, plain_level, plain_shallow, some_of_name}
 use Rattle.tp_policy_text.proofs.Patterns.{given_name, goes_both}
 use Rattle.tp_policy_text.proofs.Texts.{IsTight, append_append, append_none, tight_byte}
 

@@ -1,13 +1,13 @@
 -- Tokens, read byte by byte by a machine of states: where each state can be led to an end, the reader is exact.
-use Rattle.std.proofs.Common.{◌≡◌, ◌⊎◌, inl, inr, ℕ, ◌+◌, ◌<◌, ◌==◌, ◌||◌, List, [], ◌∷◌, ◌++◌, length, Bool, true, false, Option, Some, None, Result, Ok, Err, refl, suc, ◌≤◌, sym, ap, subst, ◌∙◌, arith, if◌then◌else◌}
+use Rattle.std.proofs.Common.{◌≡◌, ◌⊎◌, inl, inr, ℕ, ◌+◌, ◌<◌, ◌==◌, List, [], ◌∷◌, ◌++◌, length, Bool, true, false, Option, Some, None, Result, Ok, Err, refl, ◌≤◌, sym, ap, subst, ◌∙◌, arith, if◌then◌else◌}
 use Rattle.std.proofs.lemmas.Bool.Decides.{nat_tests}
 use Rattle.std.proofs.lemmas.List.{length-append}
 use Rattle.std.proofs.lemmas.Option.{same_Some}
 use Rattle.tp_policy_text.specs.declared.Stop.{Stop}
 use Rattle.tp_policy_text.specs.declared.Stop.TheVariants as stop
 use Rattle.tp_policy_text.specs.Lexis.{count, first, is_blank, skip}
-use Rattle.tp_policy_text.specs.Readings.{Reader, Reading, ended, machine, read, stopped, taken}
-use Rattle.tp_policy_text.proofs.Exact.{Ends, Exact, Front, GivesUp, IsDeep, IsLevel, IsShallow, Language, Starts, left_at}
+use Rattle.tp_policy_text.specs.Readings.{Reading, ended, machine, read, taken}
+use Rattle.tp_policy_text.proofs.Exact.{Ends, Exact, Front, IsDeep, IsLevel, IsShallow, Starts, left_at}
 use Rattle.tp_policy_text.proofs.Texts.{IsTight, append_append, append_none, count_append, first_after, same_front, skip_skip, stands_in, InFirst, InSecond, empty_front, tight_byte}
 
 -- ---- blanks behind a token

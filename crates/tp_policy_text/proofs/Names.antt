@@ -1,20 +1,19 @@
 -- Names are read exactly, by themselves and inside of other tokens.
-use Rattle.std.proofs.Common.{◌≡◌, ◌⊎◌, inl, inr, ℕ, ◌+◌, ◌<◌, ◌≤◌, ◌==◌, ◌&&◌, ◌||◌, not, nat_lt, nat_le, List, [], ◌∷◌, ◌++◌, length, Bool, true, false, Option, Some, None, refl, sym, ap, subst, ◌∙◌, arith, if◌then◌else◌}
-use Rattle.std.specs.Bool.{IsTrue}
+use Rattle.std.proofs.Common.{◌≡◌, ℕ, ◌<◌, ◌==◌, ◌&&◌, ◌||◌, not, nat_lt, nat_le, List, [], ◌∷◌, ◌++◌, length, Bool, true, false, Option, Some, None, refl, sym, ap, subst, ◌∙◌, arith, if◌then◌else◌}
 use Rattle.std.specs.List.{list_all}
 use Rattle.std.proofs.lemmas.Bool.Decides.{nat_tests}
 use Rattle.std.proofs.lemmas.List.{length-append}
 use Rattle.std.proofs.lemmas.List.Folds.{list_all-append}
 use Rattle.std.proofs.lemmas.Option.{same_Some}
-use Rattle.tp_types.specs.Spelling.{IsName, is_letter, is_name, is_part}
+use Rattle.tp_types.specs.Spelling.{IsName, is_letter, is_part}
 use Rattle.tp_policy_text.specs.Grammar.{Named}
-use Rattle.tp_policy_text.specs.Lexis.{Token, count, first, in_word, is_blank, skip}
+use Rattle.tp_policy_text.specs.Lexis.{count, first, in_word}
 use Rattle.tp_policy_text.specs.Readers.{goes_on, is_some_text, name_at, name_end, name_step}
-use Rattle.tp_policy_text.specs.Readings.{Reading, ended, machine, read}
-use Rattle.tp_policy_text.proofs.Choices.{SameLanguage, retell}
-use Rattle.tp_policy_text.proofs.Exact.{Ends, Exact, IsLevel, IsShallow, Language, Starts}
+use Rattle.tp_policy_text.specs.Readings.{ended, machine, read}
+use Rattle.tp_policy_text.proofs.Choices.{retell}
+use Rattle.tp_policy_text.proofs.Exact.{Exact, IsLevel, IsShallow}
 use Rattle.tp_policy_text.proofs.Leaves.{Goes, IsLeaf, Sound, any_next, halted, leaf_exact, next_of, same_number, went}
-use Rattle.tp_policy_text.proofs.Texts.{IsTight, append_append, append_none, count_append}
+use Rattle.tp_policy_text.proofs.Texts.{append_append, append_none, count_append}
 
 -- ---- tests
 

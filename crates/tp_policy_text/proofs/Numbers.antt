@@ -1,20 +1,20 @@
 -- Integers are read exactly.
-use Rattle.std.proofs.Common.{◌≡◌, ◌⊎◌, inl, inr, ℕ, suc, ◌+◌, ◌-◌, ◌*◌, ◌<◌, ◌≤◌, ◌==◌, ◌&&◌, ◌||◌, not, nat_lt, nat_le, List, [], ◌∷◌, ◌++◌, length, Bool, true, false, Option, Some, None, refl, sym, ap, subst, ◌∙◌, arith, if◌then◌else◌, codes, ℤ, pos, neg_ℤ}
+use Rattle.std.proofs.Common.{◌≡◌, ◌⊎◌, inl, inr, ℕ, ◌+◌, ◌-◌, ◌*◌, ◌<◌, ◌≤◌, ◌==◌, ◌&&◌, not, nat_lt, nat_le, List, [], ◌∷◌, ◌++◌, length, Bool, true, false, Option, Some, None, refl, sym, ap, subst, ◌∙◌, arith, if◌then◌else◌, ℤ}
 use Rattle.std.specs.List.{list_all}
 use Rattle.std.proofs.lemmas.Bool.Decides.{nat_tests}
 use Rattle.std.proofs.lemmas.List.{length-append}
 use Rattle.std.proofs.lemmas.List.Folds.{list_all-append}
 use Rattle.std.proofs.lemmas.Option.{same_Some}
 use Rattle.tp_types.specs.Spelling.{is_part}
-use Rattle.tp_policy_text.specs.Grammar.{Int, IsInt, IsNatural, IsNegative, is_digit, is_number, spelled_from}
-use Rattle.tp_policy_text.specs.Lexis.{Token, Word, count, first, in_word, is_blank, skip}
+use Rattle.tp_policy_text.specs.Grammar.{Int, IsInt, is_digit, is_number, spelled_from}
+use Rattle.tp_policy_text.specs.Lexis.{first, in_word}
 use Rattle.tp_policy_text.specs.Readers.{Digits, int_at, int_end, int_of, int_step, is_some_text, takes_digit}
-use Rattle.tp_policy_text.specs.Readings.{Reading, ended, machine, read}
-use Rattle.tp_policy_text.proofs.Choices.{SameLanguage, retell}
-use Rattle.tp_policy_text.proofs.Exact.{Ends, Exact, IsLevel, IsShallow, Language, Starts}
+use Rattle.tp_policy_text.specs.Readings.{ended, machine, read}
+use Rattle.tp_policy_text.proofs.Choices.{retell}
+use Rattle.tp_policy_text.proofs.Exact.{Exact}
 use Rattle.tp_policy_text.proofs.Leaves.{Goes, IsLeaf, Sound, any_next, halted, leaf_exact, next_of, same_number, went}
 use Rattle.tp_policy_text.proofs.Names.{Plain, and_parts, both_true, first_false, give, give_none, given, last_part, less_of, not_false, not_true, of_less, plain_level, plain_shallow, second_false}
-use Rattle.tp_policy_text.proofs.Texts.{IsTight, append_append, append_none}
+use Rattle.tp_policy_text.proofs.Texts.{append_append, append_none}
 
 -- ---- digits so far
 

@@ -1,20 +1,19 @@
 -- Patterns are read exactly.
-use Rattle.std.proofs.Common.{◌≡◌, ◌⊎◌, inl, inr, ℕ, ◌+◌, ◌<◌, ◌≤◌, ◌==◌, ◌&&◌, ◌||◌, not, List, [], ◌∷◌, ◌++◌, length, Bool, true, false, Option, Some, None, refl, sym, ap, subst, ◌∙◌, arith, if◌then◌else◌, codes}
-use Rattle.std.specs.Bool.{IsTrue}
+use Rattle.std.proofs.Common.{◌≡◌, ◌⊎◌, inl, inr, ℕ, ◌==◌, ◌&&◌, not, List, [], ◌∷◌, ◌++◌, Bool, true, false, Option, Some, None, refl, sym, ap, subst, ◌∙◌, arith, if◌then◌else◌, codes}
 use Rattle.std.proofs.lemmas.Option.{same_Some}
 use Rattle.tp_types.specs.declared.policy.Pattern.{Pattern}
 use Rattle.tp_types.specs.declared.policy.Pattern.TheVariants as pattern
 use Rattle.tp_types.specs.Spelling.{IsName, is_letter}
 use Rattle.tp_policy_text.specs.Grammar.{IsPattern, IsPrefix, Named}
-use Rattle.tp_policy_text.specs.Lexis.{Sign, Token, first, in_word, is_blank, skip}
+use Rattle.tp_policy_text.specs.Lexis.{Token, first, in_word, is_blank, skip}
 use Rattle.tp_policy_text.specs.Readers.{Starred, comes, goes_on, pattern_at, sign_at, is_some_text, name_step, starred_at, starred_end, starred_step, unstarred}
-use Rattle.tp_policy_text.specs.Readings.{Reading, ended, machine, read}
-use Rattle.tp_policy_text.proofs.Choices.{Apart, Either, SameLanguage, choice_exact, retell}
-use Rattle.tp_policy_text.proofs.Exact.{Ends, Exact, IsLevel, IsShallow, Language, Starts}
+use Rattle.tp_policy_text.specs.Readings.{ended, machine, read}
+use Rattle.tp_policy_text.proofs.Choices.{Either, choice_exact, retell}
+use Rattle.tp_policy_text.proofs.Exact.{Ends, Exact}
 use Rattle.tp_policy_text.proofs.Leaves.{Goes, IsLeaf, Sound, any_next, halted, leaf_exact, next_of, same_number, went}
-use Rattle.tp_policy_text.proofs.Names.{IsSoFar, NameParts, name_parts, NameEnd, Named_on, Plain, and_parts, both_true, give, given, name_ends, name_finish, name_of_some, names_go, names_of, no_further, no_next_name, not_false, not_true, plain_level, plain_shallow, second_false, some_of_name}
+use Rattle.tp_policy_text.proofs.Names.{name_parts, Plain, and_parts, both_true, give, given, name_finish, name_of_some, names_go, names_of, no_further, not_false, not_true, plain_level, plain_shallow, some_of_name}
 use Rattle.tp_policy_text.proofs.Tokens.{Says, plain_token}
-use Rattle.tp_policy_text.proofs.Texts.{IsTight, append_append, append_none, tight_byte}
+use Rattle.tp_policy_text.proofs.Texts.{append_append, append_none, tight_byte}
 
 -- a name is read, and no `*`
 abbrev pub plain_name : List ℕ → Starred

@@ -1,19 +1,18 @@
 -- Rules are read exactly.
-use Rattle.std.proofs.Common.{◌≡◌, ◌⊎◌, inl, inr, ℕ, zero, suc, ◌+◌, ◌<◌, ◌≤◌, ◌==◌, ◌&&◌, not, List, [], ◌∷◌, ◌++◌, length, Bool, true, false, Option, Some, None, refl, sym, ap, subst, ◌∙◌, arith, codes}
+use Rattle.std.proofs.Common.{◌≡◌, ◌⊎◌, inl, inr, ℕ, zero, suc, ◌≤◌, not, List, [], ◌∷◌, Bool, true, false, Option, Some, None, refl, sym, ap, subst, ◌∙◌, arith, codes}
 use Rattle.tp_types.specs.declared.policy.Action.{Action}
 use Rattle.tp_types.specs.declared.policy.Action.TheVariants as action
 use Rattle.tp_types.specs.declared.policy.Cond.{Cond}
-use Rattle.tp_types.specs.declared.policy.Pattern.{Pattern}
 use Rattle.tp_types.specs.declared.policy.Rule.{Rule}
 use Rattle.tp_policy_text.specs.Grammar.{AnyCond, IsAction, IsCond, IsPattern, IsRule}
-use Rattle.tp_policy_text.specs.Lexis.{Sign, Word, first}
+use Rattle.tp_policy_text.specs.Lexis.{first}
 use Rattle.tp_policy_text.specs.Readers.{Permitted, action_at, both, comes, cond_at, earlier, more_of, pattern_at, permitted, permitted_at, rule_at, rule_of, rules_at, second, sign_at, word_at}
-use Rattle.tp_policy_text.specs.Readings.{Reader, choice, link}
-use Rattle.tp_policy_text.proofs.Choices.{Apart, Either, SameLanguage, choice_exact, retell}
+use Rattle.tp_policy_text.specs.Readings.{choice}
+use Rattle.tp_policy_text.proofs.Choices.{Either, choice_exact, retell}
 use Rattle.tp_policy_text.proofs.Conditions.{after_cond, any_of, cond_exact, more_ends, more_fits, more_goes, more_no, more_yes, not_joined, spent_exact}
 use Rattle.tp_policy_text.proofs.Exact.{Exact, Language}
 use Rattle.tp_policy_text.proofs.Leaves.{any_next}
-use Rattle.tp_policy_text.proofs.Links.{Linked, LinkedOne, LinkedTwo, link_exact}
+use Rattle.tp_policy_text.proofs.Links.{Linked, link_exact}
 use Rattle.tp_policy_text.proofs.Names.{and_parts, not_true}
 use Rattle.tp_policy_text.proofs.Patterns.{not_star, pattern_exact, token_begins}
 use Rattle.tp_policy_text.proofs.Sequences.{Both, both_exact, narrowed}

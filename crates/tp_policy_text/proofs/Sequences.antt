@@ -1,11 +1,11 @@
 -- One reader and then another, whatever comes next.
-use Rattle.std.proofs.Common.{◌≡◌, ◌⊎◌, inl, inr, ℕ, suc, ◌≤◌, List, Bool, true, Option, Some, None, refl, sym, ap, subst, ◌∙◌, arith}
+use Rattle.std.proofs.Common.{◌≡◌, ◌⊎◌, inl, inr, ℕ, ◌≤◌, List, Bool, true, Option, refl, sym, ap, ◌∙◌, arith}
 use Rattle.tp_policy_text.specs.Lexis.{first}
 use Rattle.tp_policy_text.specs.Readers.{both}
-use Rattle.tp_policy_text.specs.Readings.{Reader, link}
-use Rattle.tp_policy_text.proofs.Choices.{SameLanguage, retell}
+use Rattle.tp_policy_text.specs.Readings.{Reader}
+use Rattle.tp_policy_text.proofs.Choices.{retell}
 use Rattle.tp_policy_text.proofs.Exact.{Exact, Language}
-use Rattle.tp_policy_text.proofs.Links.{Fits, Leads, Linked, LinkedOne, LinkedTwo, link_exact}
+use Rattle.tp_policy_text.proofs.Links.{Fits, Linked, link_exact}
 
 pub record Both {A : Type 0} {B : Type 0} {C : Type 0} (f : A → B → C) (L : Language A) (M : Language B) (c : C) (s t : List ℕ) : Type 0 where
   pub value : A

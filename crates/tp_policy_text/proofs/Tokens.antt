@@ -1,12 +1,12 @@
 -- Words and signs are read exactly.
-use Rattle.std.proofs.Common.{◌≡◌, ◌⊎◌, inl, inr, ℕ, ◌+◌, ◌<◌, ◌≤◌, ◌==◌, ◌&&◌, List, [], ◌∷◌, ◌++◌, length, Bool, true, false, Option, Some, None, refl, sym, ap, subst, ◌∙◌, arith, if◌then◌else◌}
+use Rattle.std.proofs.Common.{◌≡◌, ℕ, ◌+◌, ◌<◌, ◌==◌, ◌&&◌, List, [], ◌∷◌, ◌++◌, Bool, true, false, Option, Some, None, refl, sym, ap, subst, ◌∙◌, arith, if◌then◌else◌}
 use Rattle.std.proofs.lemmas.Bool.Decides.{nat_tests}
 use Rattle.std.proofs.lemmas.Option.{same_Some}
-use Rattle.tp_policy_text.specs.Lexis.{Token, count, first, in_word, is_blank, skip}
+use Rattle.tp_policy_text.specs.Lexis.{Token, count, first, in_word, is_blank}
 use Rattle.tp_policy_text.specs.Readers.{token_at, word_end, word_step}
-use Rattle.tp_policy_text.specs.Readings.{Reading, ended, machine, read}
-use Rattle.tp_policy_text.proofs.Choices.{SameLanguage, retell}
-use Rattle.tp_policy_text.proofs.Exact.{Ends, Exact, IsLevel, IsShallow, Language, Starts}
+use Rattle.tp_policy_text.specs.Readings.{ended, machine, read}
+use Rattle.tp_policy_text.proofs.Choices.{retell}
+use Rattle.tp_policy_text.proofs.Exact.{Exact, IsLevel, IsShallow, Language}
 use Rattle.tp_policy_text.proofs.Leaves.{Goes, IsLeaf, Sound, any_next, halted, leaf_exact, next_of, same_number, went}
 use Rattle.tp_policy_text.proofs.Texts.{IsTight, append_append, append_none, count_append}
 

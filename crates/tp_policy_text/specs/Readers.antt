@@ -9,15 +9,14 @@ use Rattle.tp_types.specs.declared.policy.Op.{Op}
 use Rattle.tp_types.specs.declared.policy.Op.TheVariants as op
 use Rattle.tp_types.specs.declared.policy.Pattern.{Pattern}
 use Rattle.tp_types.specs.declared.policy.Pattern.TheVariants as pattern
-use Rattle.tp_types.specs.declared.policy.Policy.{Policy}
 use Rattle.tp_types.specs.declared.policy.Rule.{Rule}
 use Rattle.tp_types.specs.declared.policy.Value.{Value}
 use Rattle.tp_types.specs.declared.policy.Value.TheVariants as value
 use Rattle.tp_types.specs.Spelling.{is_letter, is_part}
 use Rattle.tp_policy_text.specs.declared.Stop.TheVariants as stop
 use Rattle.tp_policy_text.specs.Grammar.{and_of, is_digit, or_of, spelled_from}
-use Rattle.tp_policy_text.specs.Lexis.{first, in_word, skip}
-use Rattle.tp_policy_text.specs.Readings.{Reader, Reading, choice, is_open, link, machine, mapped, read, seq, stopped, unopened}
+use Rattle.tp_policy_text.specs.Lexis.{in_word}
+use Rattle.tp_policy_text.specs.Readings.{Reader, choice, is_open, link, machine, mapped, stopped, unopened}
 
 -- ---- words and signs: the state is what is still to come of the token
 
