@@ -14,6 +14,7 @@ pub record SameLanguage {A : Type 0} (L W L' W' : Language A) (F F' : Option ℕ
   pub to : (s t : List ℕ) (a : A) → L a s t → L' a s t
   pub from : (s t : List ℕ) (a : A) → F' (first t) ≡ true → L' a s t → L a s t
   pub from_wide : (s t : List ℕ) (a : A) → F' (first t) ≡ true → W' a s t → W a s t
+  pub to_wide : (s t : List ℕ) (a : A) → W a s t → W' a s t
   pub wide : (s t : List ℕ) (a : A) → L' a s t → W' a s t
   pub allows : (o : Option ℕ) → F' o ≡ true → F o ≡ true
 
@@ -38,6 +39,7 @@ retell L W L' W' F F' d e n n' r R same fewer = record {
   solid = R.solid;
   level = R.level;
   deep = R.deep;
+  opens = λ x t h. let on = R.opens x t h in record { more = on.more; value = on.value; ends = λ u tight. same.to_wide ((x ++ (40 ∷ [])) ++ (on.more ++ u)) u on.value (on.ends u tight) };
   shallow = R.shallow;
 }
 
@@ -83,6 +85,7 @@ choice_exact {A = A} asks r q L W M V F d e n R Q apart = record {
   solid = λ t a h. solid_by t a (asks (first t)) refl h;
   level = λ x t a h. level_by x t a (asks (first (x ++ t))) refl h;
   deep = λ x t h. deep_by x t (asks (first (x ++ t))) refl h;
+  opens = λ x t h. opens_by x t (asks (first (x ++ t))) refl h;
   shallow = λ x t o h. shallow_by x t o (asks (first (x ++ t))) refl h;
 }
   where
@@ -150,6 +153,14 @@ choice_exact {A = A} asks r q L W M V F d e n R Q apart = record {
     level_by x t a true e2 h = R.level x t a (one (x ++ t) (read a t) e2 h)
     level_by x t a false e2 h = Q.level x t a (two (x ++ t) (read a t) e2 h)
 
+    opens_by : (x t : List ℕ) (b : Bool) → asks (first (x ++ t)) ≡ b → choice asks r q (x ++ t) ≡ stopped stop.Deep t → Ends (Either W V) (x ++ (40 ∷ []))
+    opens_by x t true e2 h =
+        let on = R.opens x t (one (x ++ t) (stopped stop.Deep t) e2 h) in
+        record { more = on.more; value = on.value; ends = λ u tight. inl (on.ends u tight) }
+    opens_by x t false e2 h =
+        let on = Q.opens x t (two (x ++ t) (stopped stop.Deep t) e2 h) in
+        record { more = on.more; value = on.value; ends = λ u tight. inr (on.ends u tight) }
+
     deep_by : (x t : List ℕ) (b : Bool) → asks (first (x ++ t)) ≡ b → choice asks r q (x ++ t) ≡ stopped stop.Deep t → IsDeep d x t
     deep_by x t true e2 h = R.deep x t (one (x ++ t) (stopped stop.Deep t) e2 h)
     deep_by x t false e2 h = Q.deep x t (two (x ++ t) (stopped stop.Deep t) e2 h)
@@ -163,6 +174,7 @@ choice_exact {A = A} asks r q L W M V F d e n R Q apart = record {
 pub record Opened {A : Type 0} (P V : Language A) : Type 0 where
   pub opened : (s t : List ℕ) (a : A) → P a s t → is_open (first s) ≡ true
   pub other : (s t : List ℕ) (a : A) → V a s t → is_open (first s) ≡ false
+  pub some : Ends P (40 ∷ [])
 
 opened_is : (o : Option ℕ) → is_open o ≡ true → o ≡ Some 40
 opened_is None e = absurd (cc)
@@ -183,6 +195,7 @@ unopened_exact {A = A} q M V P F n Q kinds = record {
   solid = λ t a h. Q.solid t a (reads t (read a t) a t refl (is_open (first t)) refl h);
   level = λ x t a h. Q.level x t a (reads (x ++ t) (read a t) a t refl (is_open (first (x ++ t))) refl h);
   deep = λ x t h. deep_by x t (is_open (first (x ++ t))) refl h;
+  opens = λ x t h. opens_by x t (is_open (first (x ++ t))) refl h;
   shallow = λ x t o h. shallow_by x t o (is_open (first (x ++ t))) refl h;
 }
   where
@@ -254,6 +267,18 @@ unopened_exact {A = A} q M V P F n Q kinds = record {
           ends = λ u tight. subst (λ (l : List ℕ). M Q.some.value (l ++ (Q.some.byte ∷ (Q.some.others ++ u))) u) (sym none) (Q.some.ends u tight);
         }
     viable_by x t why false e h = Q.viable x t why (sym (other (x ++ t) e) ∙ h)
+
+    opens_by : (x t : List ℕ) (b : Bool) → is_open (first (x ++ t)) ≡ b → unopened q (x ++ t) ≡ stopped stop.Deep t → Ends (Either P V) (x ++ (40 ∷ []))
+    opens_by x t true e h =
+        let none = (nothing x t (Err stop.Deep) e h).0 in
+        record {
+          more = kinds.some.more;
+          value = kinds.some.value;
+          ends = λ u tight. inl (subst (λ (l : List ℕ). P kinds.some.value ((l ++ (40 ∷ [])) ++ (kinds.some.more ++ u)) u) (sym none) (kinds.some.ends u tight));
+        }
+    opens_by x t false e h =
+        let on = Q.opens x t (sym (other (x ++ t) e) ∙ h) in
+        record { more = on.more; value = on.value; ends = λ u tight. inr (on.ends u tight) }
 
     deep_by : (x t : List ℕ) (b : Bool) → is_open (first (x ++ t)) ≡ b → unopened q (x ++ t) ≡ stopped stop.Deep t → IsDeep 0 x t
     deep_by x t true e h =

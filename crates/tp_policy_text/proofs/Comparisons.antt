@@ -84,6 +84,7 @@ value_exact d n =
       to = λ s t a h. value_says a s t h;
       from = λ s t a may h. says_value a s t h;
       from_wide = λ s t a may h. says_value a s t h;
+      to_wide = λ s t a h. value_says a s t h;
       wide = λ s t a h. h;
       allows = λ o may. refl;
     })
@@ -144,6 +145,7 @@ compared_exact d n =
       to = λ s t a h. comparing_says a s t h;
       from = λ s t a may h. says_by a.op a.wanted s t h;
       from_wide = λ s t a may h. says_by a.op a.wanted s t h;
+      to_wide = λ s t a h. comparing_says a s t h;
       wide = λ s t a h. h;
       allows = λ o may. refl;
     })
@@ -236,6 +238,7 @@ atom_exact d n =
       to = λ s t a h. linked_atom a s t h;
       from = λ s t a may h. atom_linked a s t h;
       from_wide = λ s t a may h. atom_linked a s t h;
+      to_wide = λ s t a h. linked_atom a s t h;
       wide = λ s t a h. h;
       allows = λ o may. may;
     })

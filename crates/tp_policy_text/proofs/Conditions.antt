@@ -1,6 +1,7 @@
 -- Conditions are read exactly, within each depth.
-use Rattle.std.proofs.Common.{◌≡◌, ◌⊎◌, inl, inr, ℕ, zero, suc, ◌≤◌, ◌==◌, ◌&&◌, not, List, [], ◌∷◌, ◌++◌, Bool, true, false, Option, Some, Result, Ok, Err, refl, sym, ap, subst, ◌∙◌, arith, if◌then◌else◌, codes}
+use Rattle.std.proofs.Common.{◌≡◌, ◌⊎◌, inl, inr, ℕ, zero, suc, ◌≤◌, ◌==◌, ◌&&◌, not, List, [], ◌∷◌, ◌++◌, Bool, true, false, Option, Some, Result, Ok, Err, refl, sym, ap, subst, ◌∙◌, arith, if◌then◌else◌, codes, ◌+◌}
 use Rattle.tp_types.specs.declared.policy.Cond.{Cond}
+use Rattle.tp_types.specs.declared.policy.Cond.TheVariants as cond
 use Rattle.tp_types.specs.Spelling.{is_letter}
 use Rattle.tp_policy_text.specs.declared.Stop.{Stop}
 use Rattle.tp_policy_text.specs.declared.Stop.TheVariants as stop
@@ -10,7 +11,7 @@ use Rattle.tp_policy_text.specs.Readers.{atom_at, both, comes, cond_at, conj_at,
 use Rattle.tp_policy_text.specs.Readings.{Reader, Reading, is_open, stopped}
 use Rattle.tp_policy_text.proofs.Choices.{Either, choice_exact, retell, unopened_exact}
 use Rattle.tp_policy_text.proofs.Comparisons.{atom_exact, same_inl}
-use Rattle.tp_policy_text.proofs.Exact.{Exact, IsLevel, IsShallow, Language, Starts, left_at}
+use Rattle.tp_policy_text.proofs.Exact.{Exact, IsLevel, IsShallow, Language, Starts, left_at, Ends}
 use Rattle.tp_policy_text.proofs.Heads.{not_dot}
 use Rattle.tp_policy_text.proofs.Images.{Image, mapped_exact}
 use Rattle.tp_policy_text.proofs.Leaves.{any_next, same_number}
@@ -48,6 +49,7 @@ spent_exact {A = A} L W F d some wide = record {
   solid = λ t a h. wrong a (ap (λ (w : Reading A). w.outcome) h);
   level = λ x t a h. absurd (wrong a (ap (λ (w : Reading A). w.outcome) h));
   deep = λ x t h. absurd (not_deep (ap (λ (w : Reading A). w.outcome) h));
+  opens = λ x t h. absurd (not_deep (ap (λ (w : Reading A). w.outcome) h));
   shallow = λ x t o h. subst (IsShallow d) (sym (nothing x t o h).0) (λ p q parts. absurd (no_parts p q parts));
 }
   where
@@ -170,6 +172,7 @@ joined_exact {A = A} byte others L W F d N r R tight opens closes allows same (s
       to = λ s t xs h. linked_joined byte (byte ∷ others) L xs s t h;
       from = λ s t xs may h. joined_linked byte others L xs s t same (not_true (comes byte (first t)) (and_parts (F (first t)) (not (comes byte (first t))) may).1) h;
       from_wide = λ s t xs may h. joined_linked byte others W xs s t same (not_true (comes byte (first t)) (and_parts (F (first t)) (not (comes byte (first t))) may).1) h;
+      to_wide = λ s t xs h. linked_joined byte (byte ∷ others) W xs s t h;
       wide = λ s t xs h. joined_wider (byte ∷ others) L W R.wide xs s t h;
       allows = λ o may. may;
     })
@@ -231,6 +234,7 @@ parentheses_exact I J F d n r R allows =
       to = λ s t c h. says_parentheses I c s t h;
       from = λ s t c may h. parentheses_say I c s t h;
       from_wide = λ s t c may h. parentheses_say J c s t h;
+      to_wide = λ s t c h. says_parentheses J c s t h;
       wide = λ s t c h. parentheses_wider I J R.wide c s t h;
       allows = λ o may. refl;
     })
@@ -266,15 +270,30 @@ disj_wider I J wide s t c (members, is, h) = (members, is, joined_wider (codes "
 pub any_of : (depth : ℕ) (s t : List ℕ) (c : Cond) → IsCond depth c s t → AnyCond c s t
 any_of depth s t c h = (depth, h)
 
+-- ( true ), after which anything may come
+some_parentheses : Ends (IsInParentheses AnyCond) (40 ∷ [])
+some_parentheses = record {
+  more = codes "true) ";
+  value = cond.True;
+  ends = λ u tight. record {
+    opened = codes "true) " ++ u;
+    closed = codes ") " ++ u;
+    opens = record { after = codes "true) " ++ u; begins = refl; is_apart = refl; left_is = refl };
+    inner = (1, (cond.True ∷ [], refl, inl (refl, (cond.True ∷ [], refl, inl (refl, inr (inl (refl, record { after = codes ") " ++ u; begins = refl; is_apart = refl; left_is = refl })))))));
+    closes = record { after = codes " " ++ u; begins = refl; is_apart = refl; left_is = sym tight };
+  };
+}
+
 no_parts_exact : (n : ℕ) (inner : Reader Cond) → Exact (IsPart (IsCond 0)) (IsPart AnyCond) not_dot 0 0 n (part_at 0 inner)
 no_parts_exact n inner =
     retell IsAtom (Either (IsInParentheses AnyCond) IsAtom) (IsPart (IsCond 0)) (IsPart AnyCond) not_dot not_dot 0 0 n n (part_at 0 inner)
     (unopened_exact atom_at IsAtom IsAtom (IsInParentheses AnyCond) not_dot n (atom_exact 0 n)
-    (record { opened = λ s t c h. parentheses_begin AnyCond c s t h; other = λ s t c h. atom_begins c s t h }))
+    (record { opened = λ s t c h. parentheses_begin AnyCond c s t h; other = λ s t c h. atom_begins c s t h; some = some_parentheses }))
     (record {
       to = λ s t c h. inr h;
       from = λ s t c may h. from s t c h;
       from_wide = λ s t c may h. h;
+      to_wide = λ s t c h. h;
       wide = part_wider (IsCond 0) AnyCond (any_of 0);
       allows = λ o may. may;
     })
@@ -316,6 +335,7 @@ conj_exact I d n inner wide R =
       to = image_conj I;
       from = λ s t c may h. conj_image I s t c h;
       from_wide = λ s t c may h. conj_image AnyCond s t c h;
+      to_wide = image_conj AnyCond;
       wide = conj_wider I AnyCond wide;
       allows = λ o may. may;
     })
@@ -331,6 +351,54 @@ any_disj : (s t : List ℕ) (c : Cond) → AnyCond c s t → IsDisj AnyCond c s 
 any_disj s t c (zero, h) = absurd (h)
 any_disj s t c (suc depth, h) = disj_wider (IsCond depth) AnyCond (any_of depth) s t c h
 
+-- ---- one depth for all members
+
+deeper : (d e : ℕ) → d ≤ e → (s t : List ℕ) (c : Cond) → IsCond d c s t → IsCond e c s t
+deeper zero e le s t c h = absurd (h)
+deeper (suc d) zero le s t c h = absurd (omega (arith, le))
+deeper (suc d) (suc e) le s t c h = disj_wider (IsCond d) (IsCond e) (deeper d e (omega (arith, le))) s t c h
+
+-- languages that grow with a number
+abbrev Grows : {A : Type 0} → (ℕ → Language A) → Type 0
+Grows {A = A} L = (d e : ℕ) → d ≤ e → (s t : List ℕ) (a : A) → L d a s t → L e a s t
+
+joined_common : {A : Type 0} (word : List ℕ) (L : ℕ → Language A) → Grows L → (xs : List A) (s t : List ℕ) → Joined word (λ a s t. (n : ℕ) × L n a s t) xs s t → (n : ℕ) × Joined word (L n) xs s t
+joined_common word L grows [] s t h = absurd (h)
+joined_common word L grows (x ∷ xs) s t (inl h) = (h.1.0, inl (h.0, h.1.1))
+joined_common word L grows (x ∷ xs) s t (inr (between, after, one, and, others)) =
+    let rest = joined_common word L grows xs after t others in (
+      one.0 + rest.0,
+      inr (
+        between,
+        after,
+        grows one.0 (one.0 + rest.0) (omega (arith)) s between x one.1,
+        and,
+        joined_wider word (L rest.0) (L (one.0 + rest.0)) (λ s t a k. grows rest.0 (one.0 + rest.0) (omega (arith)) s t a k) xs after t rest.1,
+      ),
+    )
+
+parts_grow : Grows (λ n. IsPart (IsCond n))
+parts_grow d e le s t c h = part_wider (IsCond d) (IsCond e) (deeper d e le) s t c h
+
+conjs_grow : Grows (λ n. IsConj (IsCond n))
+conjs_grow d e le s t c h = conj_wider (IsCond d) (IsCond e) (deeper d e le) s t c h
+
+part_common : (s t : List ℕ) (c : Cond) → IsPart AnyCond c s t → (n : ℕ) × IsPart (IsCond n) c s t
+part_common s t c (inl h) = (h.inner.0, inl (record { opened = h.opened; closed = h.closed; opens = h.opens; inner = h.inner.1; closes = h.closes }))
+part_common s t c (inr h) = (0, inr h)
+
+conj_common : (s t : List ℕ) (c : Cond) → IsConj AnyCond c s t → (n : ℕ) × IsConj (IsCond n) c s t
+conj_common s t c (members, is, h) =
+    let all = joined_common (codes "and") (λ n. IsPart (IsCond n)) parts_grow members s t
+    (joined_wider (codes "and") (IsPart AnyCond) (λ c s t. (n : ℕ) × IsPart (IsCond n) c s t) part_common members s t h) in
+    (all.0, (members, is, all.1))
+
+disj_any : (s t : List ℕ) (c : Cond) → IsDisj AnyCond c s t → AnyCond c s t
+disj_any s t c (members, is, h) =
+    let all = joined_common (codes "or") (λ n. IsConj (IsCond n)) conjs_grow members s t
+    (joined_wider (codes "or") (IsConj AnyCond) (λ c s t. (n : ℕ) × IsConj (IsCond n) c s t) conj_common members s t h) in
+    (suc all.0, (members, is, all.1))
+
 disj_exact : (d n : ℕ) (inner : Reader Cond) → Exact (IsPart (IsCond d)) (IsPart AnyCond) not_dot d d n (part_at d inner) → Exact (IsCond (suc d)) AnyCond after_cond d d n (disj_at n d inner)
 disj_exact d n inner R =
     retell (Image or_of (Joined (codes "or") (IsConj (IsCond d)))) (Image or_of (Joined (codes "or") (IsConj AnyCond))) (IsCond (suc d)) AnyCond after_cond after_cond d d n n (disj_at n d inner)
@@ -340,6 +408,7 @@ disj_exact d n inner R =
       to = image_disj (IsCond d);
       from = λ s t c may h. disj_image (IsCond d) s t c h;
       from_wide = λ s t c may h. disj_image AnyCond s t c (any_disj s t c h);
+      to_wide = λ s t c h. disj_any s t c (image_disj AnyCond s t c h);
       wide = any_of (suc d);
       allows = λ o may. may;
     })

@@ -1,5 +1,5 @@
 -- Exact readers: what is kept of a reader beside the language that it reads.
-use Rattle.std.proofs.Common.{◌≡◌, ◌⊎◌, ℕ, ◌+◌, ◌<◌, List, ◌∷◌, ◌++◌, length, Bool, true, false, Option, Some, Result, Ok, Err}
+use Rattle.std.proofs.Common.{◌≡◌, ◌⊎◌, ℕ, ◌+◌, ◌<◌, List, ◌∷◌, ◌++◌, length, Bool, true, false, Option, Some, Result, Ok, Err, []}
 use Rattle.tp_policy_text.specs.declared.Stop.{Stop}
 use Rattle.tp_policy_text.specs.declared.Stop.TheVariants as stop
 use Rattle.tp_policy_text.specs.Lexis.{count, first, is_blank}
@@ -69,4 +69,6 @@ pub record Exact {A : Type 0} (L W : Language A) (F : Option ℕ → Bool) (d e 
   pub solid : (t : List ℕ) (a : A) → r t ≡ read a t → ⊥
   pub level : (x t : List ℕ) (a : A) → r (x ++ t) ≡ read a t → IsLevel d e x
   pub deep : (x t : List ℕ) → r (x ++ t) ≡ stopped stop.Deep t → IsDeep d x t
+  -- some text goes on with the parenthesis
+  pub opens : (x t : List ℕ) → r (x ++ t) ≡ stopped stop.Deep t → Ends W (x ++ (40 ∷ []))
   pub shallow : (x t : List ℕ) (o : Result A Stop) → r (x ++ t) ≡ left_at o t → IsShallow d x

@@ -297,6 +297,7 @@ head_exact d n =
       to = λ s t a h. leaf_head a s t h;
       from = λ s t a may h. head_leaf a s t may h;
       from_wide = λ s t a may h. head_leaf a s t may h;
+      to_wide = λ s t a h. leaf_head a s t h;
       wide = λ s t a h. h;
       allows = λ o may. refl;
     })

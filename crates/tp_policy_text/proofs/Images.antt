@@ -53,6 +53,8 @@ mapped_exact {A = A} {B = B} f L W F d e n r R = record {
   solid = λ t b h. let ok = value_of t t b h in R.solid t ok.value ok.ran;
   level = λ x t b h. let ok = value_of (x ++ t) t b h in R.level x t ok.value ok.ran;
   deep = λ x t h. R.deep x t (error_of (x ++ t) t stop.Deep h);
+  opens = λ x t h. let on = R.opens x t (error_of (x ++ t) t stop.Deep h) in
+      record { more = on.more; value = f on.value; ends = λ u tight. record { value = on.value; is = refl; says = on.ends u tight } };
   shallow = λ x t o h. let was = unmapped f (r (x ++ t)) o t h in R.shallow x t was.outcome was.was;
 }
   where

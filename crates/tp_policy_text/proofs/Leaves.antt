@@ -164,7 +164,7 @@ not_blank byte sign h other = by_same (byte == sign) refl
     by_same false e = refl
     by_same true e = let both = sym h ∙ (ap is_blank (same_number byte sign e) ∙ other) in absurd (cc)
 
-no_parens : (blanks : List ℕ) → AreBlank blanks → (count 40 blanks ≡ 0) × (count 41 blanks ≡ 0)
+pub no_parens : (blanks : List ℕ) → AreBlank blanks → (count 40 blanks ≡ 0) × (count 41 blanks ≡ 0)
 no_parens [] h = (refl, refl)
 no_parens (byte ∷ blanks) h =
     let later = no_parens blanks h.1 in
@@ -174,7 +174,7 @@ no_parens (byte ∷ blanks) h =
     let closes = ap {B = ℕ} (λ (b : Bool). if b then 1 else 0) (not_blank byte 41 h.0 refl) in
     (omega (arith, none_opened, opens), omega (arith, none_closed, closes))
 
-no_paren_in : (blanks p q : List ℕ) → AreBlank blanks → blanks ≡ p ++ (40 ∷ q) → ⊥
+pub no_paren_in : (blanks p q : List ℕ) → AreBlank blanks → blanks ≡ p ++ (40 ∷ q) → ⊥
 no_paren_in blanks p q h e =
     let none = (no_parens blanks h).0 in
     let sum = ap (count 40) e ∙ count_append 40 p (40 ∷ q) in
@@ -205,6 +205,7 @@ leaf_exact {S = S} {A = A} step final start d e n K = record {
   solid = λ t a h. solid_by t a (cut [] t (Ok a) h);
   level = λ x t a h. level_by x t a (cut x t (Ok a) h);
   deep = λ x t h. deep_by x t (cut x t (Err stop.Deep) h);
+  opens = λ x t h. absurd (not_deep x t (cut x t (Err stop.Deep) h));
   shallow = λ x t o h. shallow_by x t o (cut x t o h);
 }
   where
@@ -378,6 +379,10 @@ leaf_exact {S = S} {A = A} step final start d e n K = record {
     deep_by : (x t : List ℕ) → Stuck x t (Err stop.Deep) ⊎ Whole x t (Err stop.Deep) → IsDeep d x t
     deep_by x t (inl (last, goes, halts, is, outcome)) = absurd (cc)
     deep_by x t (inr (text, (blanks, (last, (b, (parts, are, goes, halts, is, tight, outcome)))))) = absurd (wrong b stop.Deep (sym outcome))
+
+    not_deep : (x t : List ℕ) → Stuck x t (Err stop.Deep) ⊎ Whole x t (Err stop.Deep) → ⊥
+    not_deep x t (inl (last, goes, halts, is, outcome)) = absurd (cc)
+    not_deep x t (inr (text, (blanks, (last, (b, (parts, are, goes, halts, is, tight, outcome)))))) = wrong b stop.Deep (sym outcome)
 
     shallow_by : (x t : List ℕ) (o : Result A Stop) → Stuck x t o ⊎ Whole x t o → IsShallow d x
     shallow_by x t o (inl (last, goes, halts, is, outcome)) = K.shallow x last goes

@@ -13,3 +13,4 @@ pub mod Rules
 pub mod Sequences
 pub mod Texts
 pub mod Tokens
+pub mod Wholes

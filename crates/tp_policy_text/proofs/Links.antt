@@ -215,6 +215,7 @@ link_exact {A = A} {B = B} {C = C} k r q L W M V F G H d e f n n' R Q fits enoug
   solid = λ t c h. solid_by t c (cut k r q [] t (Ok c) R.front Q.front h);
   level = λ x t c h. level_by x t c (cut k r q x t (Ok c) R.front Q.front h);
   deep = λ x t h. deep_by x t (cut k r q x t (Err stop.Deep) R.front Q.front h);
+  opens = λ x t h. opens_by x t (cut k r q x t (Err stop.Deep) R.front Q.front h);
   shallow = λ x t o h. shallow_by x t o (cut k r q x t o R.front Q.front h);
 }
   where
@@ -464,6 +465,61 @@ link_exact {A = A} {B = B} {C = C} k r q L W M V F G H d e f n n' R Q fits enoug
         let opened = ap (count 40) h.parts ∙ count_append 40 h.one h.two in
         let closed = ap (count 41) h.parts ∙ count_append 41 h.one h.two in
         omega (arith, one, two, opened, closed)
+
+    wide_end : (x : List ℕ) (first_ends : Ends W x) → Leads k first_ends.value (Some Q.some.byte) → Ends (Linked k W V) x
+    wide_end x first_ends (inl (g, goes)) = record {
+      more = first_ends.more ++ (Q.some.byte ∷ Q.some.others);
+      value = g Q.some.value;
+      ends = λ u tight. inr (record {
+        value = first_ends.value;
+        more = Q.some.value;
+        with_more = g;
+        between = Q.some.byte ∷ (Q.some.others ++ u);
+        one = subst (λ (l : List ℕ). W first_ends.value (x ++ l) (Q.some.byte ∷ (Q.some.others ++ u)))
+            (append_append first_ends.more (Q.some.byte ∷ Q.some.others) u)
+            (first_ends.ends (Q.some.byte ∷ (Q.some.others ++ u)) (tight_byte Q.some.byte (Q.some.others ++ u) Q.some.tight));
+        goes = goes;
+        two = Q.wide (Q.some.byte ∷ (Q.some.others ++ u)) u Q.some.value (Q.some.ends u tight);
+        is = refl;
+      });
+    }
+    wide_end x first_ends (inr (c, over)) = record {
+      more = first_ends.more;
+      value = c;
+      ends = λ u tight. inl (record { value = first_ends.value; one = first_ends.ends u tight; ends = over (first u) });
+    }
+
+    opens_by : (x t : List ℕ) → Cut k r q x t (Err stop.Deep) → Ends (Linked k W V) (x ++ (40 ∷ []))
+    opens_by x t (inl h) =
+        let first_ends = R.opens x t (h.ran ∙ ap (λ (w : Result A Stop). left_at w t) (same_err {B = A} {C = C} h.why stop.Deep (sym h.is))) in
+        wide_end (x ++ (40 ∷ [])) first_ends (leads first_ends.value)
+    opens_by x t (inr (inl h)) = absurd (halts_not h.result stop.Deep (sym h.is))
+    opens_by x t (inr (inr h)) =
+        let stuck = h.then_ran ∙ ap (λ (w : Result B Stop). left_at w t) (carried_err h.with_more h.further stop.Deep h.is) in
+        let second_ends = Q.opens h.two t stuck in
+        let next = (Q.deep h.two t stuck).0 in
+        record {
+          more = second_ends.more;
+          value = h.with_more second_ends.value;
+          ends = λ u tight.
+              let rest = second_ends.more ++ u in
+              let same = first_after h.two t (40 ∷ rest) next in
+              let opened : (h.two ++ (40 ∷ [])) ++ rest ≡ h.two ++ (40 ∷ rest) = sym (append_append h.two (40 ∷ []) rest) in
+              let whole : (x ++ (40 ∷ [])) ++ rest ≡ h.one ++ (h.two ++ (40 ∷ rest)) = sym (append_append x (40 ∷ []) rest) ∙ at_end x h.one h.two (40 ∷ rest) h.parts in
+              inr (record {
+                value = h.value;
+                more = second_ends.value;
+                with_more = h.with_more;
+                between = h.two ++ (40 ∷ rest);
+                one = subst (λ (l : List ℕ). W h.value l (h.two ++ (40 ∷ rest))) (sym whole)
+                    (R.wide (h.one ++ (h.two ++ (40 ∷ rest))) (h.two ++ (40 ∷ rest)) h.value
+                    (R.takes (h.one ++ (h.two ++ (40 ∷ rest))) (h.two ++ (40 ∷ rest)) h.value
+                    (R.local h.one (h.two ++ t) (h.two ++ (40 ∷ rest)) (Ok h.value) h.ran same)));
+                goes = subst (λ (b : Option ℕ). k h.value b ≡ inr h.with_more) same h.goes;
+                two = subst (λ (l : List ℕ). V second_ends.value l u) opened (second_ends.ends u tight);
+                is = refl;
+              });
+        }
 
     deep_by : (x t : List ℕ) → Cut k r q x t (Err stop.Deep) → IsDeep d x t
     deep_by x t (inl h) = R.deep x t (h.ran ∙ ap (λ (w : Result A Stop). left_at w t) (same_err {B = A} {C = C} h.why stop.Deep (sym h.is)))

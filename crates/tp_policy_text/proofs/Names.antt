@@ -274,6 +274,7 @@ name_exact d n =
       to = λ s t a h. leaf_named a s t h;
       from = λ s t a may h. named_leaf a s t h;
       from_wide = λ s t a may h. named_leaf a s t h;
+      to_wide = λ s t a h. leaf_named a s t h;
       wide = λ s t a h. h;
       allows = λ o may. refl;
     })

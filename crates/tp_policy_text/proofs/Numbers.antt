@@ -377,6 +377,7 @@ int_exact d n =
       to = λ s t a h. leaf_int a s t h;
       from = λ s t a may h. int_leaf a s t h;
       from_wide = λ s t a may h. int_leaf a s t h;
+      to_wide = λ s t a h. leaf_int a s t h;
       wide = λ s t a h. h;
       allows = λ o may. refl;
     })

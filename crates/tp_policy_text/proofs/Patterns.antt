@@ -250,6 +250,7 @@ starred_exact d n =
       to = λ s t a h. leaf_starred a s t h;
       from = λ s t a may h. starred_leaf a s t may h;
       from_wide = λ s t a may h. starred_leaf a s t may h;
+      to_wide = λ s t a h. leaf_starred a s t h;
       wide = λ s t a h. h;
       allows = λ o may. refl;
     })
@@ -308,6 +309,7 @@ pattern_exact d n =
       to = to;
       from = λ s t a may h. says_either a s t h;
       from_wide = λ s t a may h. says_either a s t h;
+      to_wide = to;
       wide = λ s t a h. h;
       allows = λ o may. may;
     })

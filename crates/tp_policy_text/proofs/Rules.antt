@@ -60,6 +60,7 @@ action_exact d n =
       to = says_action;
       from = λ s t a may h. action_says s t a h;
       from_wide = λ s t a may h. action_says s t a h;
+      to_wide = says_action;
       wide = λ s t a h. h;
       allows = λ o may. refl;
     })
@@ -190,6 +191,7 @@ rule_exact turns d =
       to = allows_rule (IsCond (suc d));
       from = λ s t a may h. rule_allows (IsCond (suc d)) s t a h;
       from_wide = λ s t a may h. rule_allows AnyCond s t a h;
+      to_wide = allows_rule AnyCond;
       wide = rule_wider (IsCond (suc d)) AnyCond (any_of (suc d));
       allows = λ o may. refl;
     })
@@ -210,7 +212,7 @@ many_wider C D wide (rule ∷ rules) s t (inr h) = inr (h.0, rule_wider C D wide
 rule_begins : (C : Language Cond) (rule : Rule) (s t : List ℕ) → IsRule C rule s t → first s ≡ Some 97
 rule_begins C rule s t h = token_begins true 97 (108 ∷ 108 ∷ 111 ∷ 119 ∷ []) s h.allowed h.allow
 
-many_begins : (C : Language Cond) (rules : List Rule) (s t : List ℕ) → Many C rules s t → first s ≡ Some 97
+pub many_begins : (C : Language Cond) (rules : List Rule) (s t : List ℕ) → Many C rules s t → first s ≡ Some 97
 many_begins C [] s t h = absurd (h)
 many_begins C (rule ∷ rules) s t (inl h) = rule_begins C rule s t h.1
 many_begins C (rule ∷ rules) s t (inr h) = rule_begins C rule s h.0 h.1
@@ -266,6 +268,7 @@ rules_exact turns d (suc left) fewer =
       to = λ s t rules h. linked_many (IsCond (suc d)) rules s t h;
       from = λ s t rules may h. many_linked (IsCond (suc d)) rules s t (not_true (comes 97 (first t)) (and_parts true (not (comes 97 (first t))) may).1) h;
       from_wide = λ s t rules may h. many_linked AnyCond rules s t (not_true (comes 97 (first t)) (and_parts true (not (comes 97 (first t))) may).1) h;
+      to_wide = λ s t rules h. linked_many AnyCond rules s t h;
       wide = λ s t rules h. many_wider (IsCond (suc d)) AnyCond (any_of (suc d)) rules s t h;
       allows = λ o may. may;
     })

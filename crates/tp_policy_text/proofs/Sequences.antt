@@ -34,6 +34,7 @@ both_exact {A = A} {B = B} {C = C} f r q L W M V F G d e e' n R Q follows =
       to = λ s t c h. to L M s t c h;
       from = λ s t c may h. from L M s t c h;
       from_wide = λ s t c may h. from W V s t c h;
+      to_wide = λ s t c h. to W V s t c h;
       wide = λ s t c h. record { value = h.value; more = h.more; between = h.between; one = R.wide s h.between h.value h.one; two = Q.wide h.between t h.more h.two; is = h.is };
       allows = λ o may. may;
     })
@@ -65,4 +66,4 @@ both_exact {A = A} {B = B} {C = C} f r q L W M V F G d e e' n R Q follows =
 -- what may come next, said more narrowly
 pub narrowed : {A : Type 0} (L W : Language A) (F F' : Option ℕ → Bool) (d e n n' : ℕ) (r : Reader A) → Exact L W F d e n r → ((o : Option ℕ) → F' o ≡ true → F o ≡ true) → n' ≤ n → Exact L W F' d e n' r
 narrowed L W F F' d e n n' r R allows fewer =
-    retell L W L W F F' d e n n' r R (record { to = λ s t a h. h; from = λ s t a may h. h; from_wide = λ s t a may h. h; wide = R.wide; allows = allows }) fewer
+    retell L W L W F F' d e n n' r R (record { to = λ s t a h. h; from = λ s t a may h. h; from_wide = λ s t a may h. h; to_wide = λ s t a h. h; wide = R.wide; allows = allows }) fewer

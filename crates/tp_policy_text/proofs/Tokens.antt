@@ -121,6 +121,7 @@ token_exact apart byte others known d e n tight level shallow =
       to = λ s t a h. leaf_says apart (byte ∷ others) known a s t h;
       from = λ s t a may h. says_leaf apart (byte ∷ others) known a s t h;
       from_wide = λ s t a may h. says_leaf apart (byte ∷ others) known a s t h;
+      to_wide = λ s t a h. leaf_says apart (byte ∷ others) known a s t h;
       wide = λ s t a h. h;
       allows = λ o may. refl;
     })
@@ -136,6 +137,7 @@ plain_token apart byte others known F d n tight opens closes =
       to = λ s t a h. h;
       from = λ s t a may h. h;
       from_wide = λ s t a may h. h;
+      to_wide = λ s t a h. h;
       wide = λ s t a h. h;
       allows = λ o may. refl;
     })

@@ -1,6 +1,6 @@
 -- The grammar of the policy language, as a relation between a text, what it says, and what is left of the text. Each production is
 -- one definition, and each of its forms one case.
-use Rattle.std.specs.Prelude.{◌≡◌, ◌⊎◌, ℕ, zero, suc, ◌+◌, ◌-◌, ◌*◌, ◌&&◌, ◌≤◌, nat_le, nat_lt, List, [], ◌∷◌, ◌++◌, length, Bool, true, false, Option, Some, None, ℤ, pos, neg_ℤ, codes}
+use Rattle.std.specs.Prelude.{◌≡◌, ◌⊎◌, ℕ, zero, suc, ◌+◌, ◌-◌, ◌*◌, ◌&&◌, ◌≤◌, nat_le, nat_lt, List, [], ◌∷◌, ◌++◌, length, Bool, true, false, Option, Some, None, ℤ, pos, neg_ℤ, codes, ◌<◌}
 use Rattle.std.specs.List.{list_all}
 use Rattle.tp_types.specs.declared.policy.Action.{Action}
 use Rattle.tp_types.specs.declared.policy.Action.TheVariants as action
@@ -15,7 +15,7 @@ use Rattle.tp_types.specs.declared.policy.Rule.{Rule}
 use Rattle.tp_types.specs.declared.policy.Value.{Value}
 use Rattle.tp_types.specs.declared.policy.Value.TheVariants as value
 use Rattle.tp_types.specs.Spelling.{IsName}
-use Rattle.tp_policy_text.specs.Lexis.{Sign, Word, skip}
+use Rattle.tp_policy_text.specs.Lexis.{Sign, Word, skip, count}
 
 -- ---- numbers
 
@@ -202,3 +202,12 @@ pub record Stops (text before : List ℕ) : Type 0 where
   pub begins : Begins before
   pub further : (byte : ℕ) (others : List ℕ) → rest ≡ byte ∷ others → ¬ (Begins (before ++ byte ∷ []))
   pub none : (policy : Policy) → ¬ (Spells policy text)
+
+-- the text goes on behind the beginning with a parenthesis that stands within as many others as may be; it is the first such one, and
+-- some text of the grammar begins so
+pub record IsTooDeep (limit : ℕ) (text before : List ℕ) : Type 0 where
+  pub rest : List ℕ
+  pub parts : text ≡ before ++ (40 ∷ rest)
+  pub begins : Begins (before ++ (40 ∷ []))
+  pub within : count 40 before ≡ count 41 before + limit
+  pub first : (p q : List ℕ) → before ≡ p ++ (40 ∷ q) → count 40 p < count 41 p + limit

@@ -1,5 +1,5 @@
 -- The readers of the policy language, as functions on texts. Each production has one, and the program's readers are promised to be these.
-use Rattle.std.specs.Prelude.{◌⊎◌, ℕ, ◌==◌, ◌&&◌, ◌||◌, not, zero, suc, List, [], ◌∷◌, ◌++◌, length, nat_lt, Bool, true, false, Option, Some, None, if◌then◌else◌, ℤ, pos, neg_ℤ, codes}
+use Rattle.std.specs.Prelude.{◌⊎◌, ℕ, ◌==◌, ◌&&◌, ◌||◌, not, zero, suc, List, [], ◌∷◌, ◌++◌, length, nat_lt, Bool, true, false, Option, Some, None, if◌then◌else◌, ℤ, pos, neg_ℤ, codes, Result, Ok, Err}
 use Rattle.std.proofs.Math.Logic.{inl, inr}
 use Rattle.tp_types.specs.declared.policy.Action.{Action}
 use Rattle.tp_types.specs.declared.policy.Action.TheVariants as action
@@ -13,10 +13,12 @@ use Rattle.tp_types.specs.declared.policy.Rule.{Rule}
 use Rattle.tp_types.specs.declared.policy.Value.{Value}
 use Rattle.tp_types.specs.declared.policy.Value.TheVariants as value
 use Rattle.tp_types.specs.Spelling.{is_letter, is_part}
+use Rattle.tp_types.specs.declared.policy.Policy.{Policy}
+use Rattle.tp_policy_text.specs.declared.Stop.{Stop}
 use Rattle.tp_policy_text.specs.declared.Stop.TheVariants as stop
 use Rattle.tp_policy_text.specs.Grammar.{and_of, is_digit, or_of, spelled_from}
-use Rattle.tp_policy_text.specs.Lexis.{in_word}
-use Rattle.tp_policy_text.specs.Readings.{Reader, choice, is_open, link, machine, mapped, stopped, unopened}
+use Rattle.tp_policy_text.specs.Lexis.{in_word, skip}
+use Rattle.tp_policy_text.specs.Readings.{Reader, choice, is_open, link, machine, mapped, stopped, unopened, Reading, read}
 
 -- ---- words and signs: the state is what is still to come of the token
 
@@ -252,3 +254,18 @@ rule_at turns depth =
 abbrev pub rules_at : ℕ → ℕ → ℕ → Reader (List Rule)
 rules_at zero turns depth = stopped stop.Spent
 rules_at (suc left) turns depth = link (more_of 97) (rule_at turns depth) (rules_at left turns depth)
+
+-- ---- a whole text
+
+abbrev pub whole_of : Result (List Rule) Stop → List ℕ → Reading Policy
+whole_of (Ok rules) [] = read (record { rules = rules }) []
+whole_of (Ok rules) (byte ∷ others) = stopped stop.Syntax (byte ∷ others)
+whole_of (Err why) left = stopped why left
+
+abbrev pub policy_from : ℕ → ℕ → List ℕ → Reading Policy
+policy_from turns depth [] = read (record { rules = [] }) []
+policy_from turns depth (byte ∷ others) = whole_of (rules_at turns turns depth (byte ∷ others)).outcome (rules_at turns turns depth (byte ∷ others)).left
+
+-- blanks, rules, and the end
+abbrev pub policy_at : ℕ → ℕ → Reader Policy
+policy_at turns depth text = policy_from turns depth (skip text)
