@@ -51,7 +51,7 @@ skip_blank others = refl
 no_front : (x : ℕ) (xs ys : List ℕ) → ys ≡ (x ∷ xs) ++ ys → ⊥
 no_front x xs ys e = let same = ap length e in let sum = length-append xs ys in omega (arith, same, sum)
 
-same_heads : (a b : ℕ) (us vs : List ℕ) → a ∷ us ≡ b ∷ vs → (a ≡ b) × (us ≡ vs)
+pub same_heads : (a b : ℕ) (us vs : List ℕ) → a ∷ us ≡ b ∷ vs → (a ≡ b) × (us ≡ vs)
 same_heads a b us vs f = (same_Some a b (ap first f), ap tail f)
 
 -- the same text with the same end has the same beginning
@@ -94,3 +94,8 @@ stands_in (b ∷ y) z (c ∷ p) q byte e =
 pub empty_front : (y z : List ℕ) → [] ≡ y ++ z → y ≡ []
 empty_front [] z e = refl
 empty_front (b ∷ y) z e = absurd (cc)
+
+-- the same text with the same beginning has the same end
+pub same_end : (xs ys zs : List ℕ) → xs ++ ys ≡ xs ++ zs → ys ≡ zs
+same_end [] ys zs e = e
+same_end (x ∷ xs) ys zs e = same_end xs ys zs (ap tail e)

@@ -10,10 +10,10 @@ use Rattle.tp_policy_text.specs.Grammar.{AnyCond, AreRules, Begins, IsCond, IsRu
 use Rattle.tp_policy_text.specs.Lexis.{count, first, skip, is_blank}
 use Rattle.tp_policy_text.specs.Readers.{policy_at, policy_from, rules_at, whole_of}
 use Rattle.tp_policy_text.specs.Readings.{Reading, read, stopped}
-use Rattle.tp_policy_text.proofs.Exact.{GivesUp, Language, left_at}
+use Rattle.tp_policy_text.proofs.Exact.{GivesUp, Language, left_at, IsShallow}
 use Rattle.tp_policy_text.proofs.Leaves.{skip_shorter, skipped, AreBlank, skip_blanks, tight_as, no_parens, no_paren_in}
 use Rattle.tp_policy_text.proofs.Rules.{Many, many_begins, rules_exact}
-use Rattle.tp_policy_text.proofs.Texts.{IsTight, append_append, tight_byte, first_after, count_append, stands_in, InFirst, InSecond, skip_tight}
+use Rattle.tp_policy_text.proofs.Texts.{IsTight, append_append, tight_byte, first_after, count_append, stands_in, InFirst, InSecond, skip_tight, same_heads, same_end, append_none}
 
 -- ---- rules up to the end
 
@@ -111,10 +111,43 @@ begins_of blanks x more rules are h = record {
       (many_are AnyCond rules (x ++ more) h);
 }
 
-pub record StopsAt (text t : List ℕ) : Type 0 where
+-- of two texts behind one another, where a third ends: in the first, or behind it
+record EndsIn (x y w : List ℕ) : Type 0 where
+  pub more : List ℕ
+  pub whole : x ≡ w ++ more
+
+compare_fronts : (x y s t : List ℕ) → x ++ s ≡ y ++ t → EndsIn x y y ⊎ EndsIn y x x
+compare_fronts x [] s t e = inl (record { more = x; whole = refl })
+compare_fronts [] (b ∷ y) s t e = inr (record { more = b ∷ y; whole = refl })
+compare_fronts (a ∷ x) (b ∷ y) s t e = by_rest (compare_fronts x y s t (same_heads a b (x ++ s) (y ++ t) e).1)
+  where
+    by_rest : EndsIn x y y ⊎ EndsIn y x x → EndsIn (a ∷ x) (b ∷ y) (b ∷ y) ⊎ EndsIn (b ∷ y) (a ∷ x) (a ∷ x)
+    by_rest (inl h) = inl (record { more = h.more; whole = ap (λ c. c ∷ x) (same_heads a b (x ++ s) (y ++ t) e).0 ∙ ap (λ l. b ∷ l) h.whole })
+    by_rest (inr h) = inr (record { more = h.more; whole = ap (λ c. c ∷ y) (sym (same_heads a b (x ++ s) (y ++ t) e).0) ∙ ap (λ l. a ∷ l) h.whole })
+
+-- a beginning of a beginning
+begins_shorter : (x y : List ℕ) → Begins (x ++ y) → Begins x
+begins_shorter x y b = record { more = y ++ b.more; policy = b.policy; spells = subst (λ l. Spells b.policy l) (sym (append_append x y b.more)) b.spells }
+
+-- what was read of a text has no parenthesis too many
+read_shallow : (n d : ℕ) (text x l : List ℕ) (o : Result (List Rule) Stop) → skip text ≡ x ++ l → rules_at n n d (x ++ l) ≡ left_at o l → IsShallow d ((skipped text).blanks ++ x)
+read_shallow n d text x l o here ran p q e = by_place (stands_in (skipped text).blanks x p q 40 e)
+  where
+    by_place : InFirst (skipped text).blanks p 40 ⊎ InSecond (skipped text).blanks x p q 40 → count 40 p < count 41 p + d
+    by_place (inl i) = absurd (no_paren_in (skipped text).blanks p i.after (skipped text).are i.parts)
+    by_place (inr i) =
+        let none = no_parens (skipped text).blanks (skipped text).are in
+        let none_opened = none.0 in
+        let inner = (rules_exact n d n (omega (arith))).shallow x l o ran i.before q i.parts in
+        let opens = ap (count 40) i.front ∙ count_append 40 (skipped text).blanks i.before in
+        let closes = ap (count 41) i.front ∙ count_append 41 (skipped text).blanks i.before in
+        omega (arith, inner, none_opened, opens, closes)
+
+pub record StopsAt (d : ℕ) (text t : List ℕ) : Type 0 where
   pub before : List ℕ
   pub parts : text ≡ before ++ t
   pub stops : Stops text before
+  pub shallow : IsShallow d before
 
 pub record TooDeepAt (d : ℕ) (text t : List ℕ) : Type 0 where
   pub before : List ℕ
@@ -163,16 +196,16 @@ same_why a b s t e = (ap why_of (ap (λ (w : Reading Policy). w.outcome) e), ap 
     why_of (Err why) = why
 
 -- the reader stops at the longest beginning of a text of the grammar
-pub stops_at : (n d : ℕ) (text t : List ℕ) → policy_at n d text ≡ stopped stop.Syntax t → StopsAt text t
+pub stops_at : (n d : ℕ) (text t : List ℕ) → policy_at n d text ≡ stopped stop.Syntax t → StopsAt d text t
 stops_at n d text t h = by_text (skip text) refl
   where
     blanks : List ℕ
     blanks = (skipped text).blanks
 
-    build : (x l : List ℕ) (o : Result (List Rule) Stop) → skip text ≡ x ++ l → rules_at n n d (x ++ l) ≡ left_at o l → Sticks o l → Begins (blanks ++ x) → l ≡ t → StopsAt text t
+    build : (x l : List ℕ) (o : Result (List Rule) Stop) → skip text ≡ x ++ l → rules_at n n d (x ++ l) ≡ left_at o l → Sticks o l → Begins (blanks ++ x) → l ≡ t → StopsAt d text t
     build x l o here ran sticks begins same =
         let parts : text ≡ (blanks ++ x) ++ l = (skipped text).parts ∙ (ap (λ r. blanks ++ r) here ∙ append_append blanks x l) in
-        subst (λ r. StopsAt text r) same (record {
+        subst (λ r. StopsAt d text r) same (record {
           before = blanks ++ x;
           parts = parts;
           stops = record {
@@ -182,9 +215,10 @@ stops_at n d text t h = by_text (skip text) refl
             further = no_further n d blanks x l o (skipped text).are (subst IsTight here (skip_tight text)) ran sticks;
             none = λ p k. stuck_no_text n d p text t h k;
           };
+          shallow = read_shallow n d text x l o here ran;
         })
 
-    by_outcome : (x l : List ℕ) (o : Result (List Rule) Stop) → skip text ≡ x ++ l → rules_at n n d (x ++ l) ≡ left_at o l → whole_of o l ≡ stopped stop.Syntax t → StopsAt text t
+    by_outcome : (x l : List ℕ) (o : Result (List Rule) Stop) → skip text ≡ x ++ l → rules_at n n d (x ++ l) ≡ left_at o l → whole_of o l ≡ stopped stop.Syntax t → StopsAt d text t
     by_outcome x l (Err why) here ran e =
         let same = same_why why stop.Syntax l t e in
         let ran2 = ran ∙ ap (λ (w : Stop). stopped w l) same.0 in
@@ -201,7 +235,7 @@ stops_at n d text t h = by_text (skip text) refl
         (R.wide (x ++ (32 ∷ [])) [] rules (R.takes (x ++ (32 ∷ [])) [] rules (R.spaced x (byte ∷ l) [] rules ran refl refl))))
         (same_why stop.Syntax stop.Syntax (byte ∷ l) t e).1
 
-    by_text : (s : List ℕ) → skip text ≡ s → StopsAt text t
+    by_text : (s : List ℕ) → skip text ≡ s → StopsAt d text t
     by_text [] here = absurd (not_read (record { rules = [] }) [] t (sym (at_none n d text here) ∙ h))
     by_text (byte ∷ others) here =
         let found = rules_at n n d (byte ∷ others) in
@@ -342,3 +376,99 @@ never_spent n d text t short h = by_text (skip text) refl
         let shorter = skip_shorter text in
         let same = ap length here in
         by_outcome (byte ∷ others) found.left found.outcome (omega (arith, shorter, same, short)) refl (sym (at_some n d text byte others found.outcome found.left here refl) ∙ h)
+
+-- ---- the answers exclude one another
+
+-- where all is read, no parenthesis is one too many
+reads_shallow : (n d : ℕ) (p : Policy) (text t : List ℕ) → policy_at n d text ≡ read p t → IsShallow d text
+reads_shallow n d p text t h = by_text (skip text) refl
+  where
+    no_error : (why : Stop) (l : List ℕ) → stopped why l ≡ read p t → ⊥
+    no_error why l e = wrong (ap (λ (w : Reading Policy). w.outcome) e)
+      where
+        wrong : ◌≡◌ {A = Result Policy Stop} (Err why) (Ok p) → ⊥
+        wrong e2 = absurd (cc)
+
+    by_outcome : (x l : List ℕ) (o : Result (List Rule) Stop) → skip text ≡ x ++ l → rules_at n n d (x ++ l) ≡ left_at o l → whole_of o l ≡ read p t → IsShallow d text
+    by_outcome x l (Err why) here ran e = absurd (no_error why l e)
+    by_outcome x (byte ∷ l) (Ok rules) here ran e = absurd (no_error stop.Syntax (byte ∷ l) e)
+    by_outcome x [] (Ok rules) here ran e =
+        subst (IsShallow d) (sym ((skipped text).parts ∙ (ap (λ r. (skipped text).blanks ++ r) (here ∙ append_none x)))) (read_shallow n d text x [] (Ok rules) here ran)
+
+    by_text : (s : List ℕ) → skip text ≡ s → IsShallow d text
+    by_text [] here = λ p2 q e. absurd (no_paren_in (skipped text).blanks p2 q (skipped text).are
+        (sym ((skipped text).parts ∙ (ap (λ r. (skipped text).blanks ++ r) here ∙ append_none (skipped text).blanks)) ∙ e))
+    by_text (byte ∷ others) here =
+        let found = rules_at n n d (byte ∷ others) in
+        let front = (rules_exact n d n (omega (arith))).front (byte ∷ others) in
+        by_outcome front.before found.left found.outcome (here ∙ front.parts)
+        (ap (rules_at n n d) (sym front.parts))
+        (sym (at_some n d text byte others found.outcome found.left here refl) ∙ h)
+
+-- a text that goes on with a parenthesis too many stops there
+pub deep_is : (n d : ℕ) (text before : List ℕ) (h : IsTooDeep d text before) → length text < n → policy_at n d text ≡ stopped stop.Deep (40 ∷ h.rest)
+deep_is n d text before h short = by_reading (policy_at n d text).outcome (policy_at n d text).left refl
+  where
+    within : count 40 before ≡ count 41 before + d
+    within = h.within
+
+    not_shallow : (x q : List ℕ) → IsShallow d x → x ≡ before ++ (40 ∷ q) → ⊥
+    not_shallow x q shallow e = let less = shallow before q e in let same = h.within in omega (arith, less, same)
+
+    -- nothing stops before the parenthesis
+    no_stop : (t : List ℕ) (k : StopsAt d text t) → EndsIn before k.before k.before ⊎ EndsIn k.before before before → ⊥
+    no_stop t k (inl e) = by_more e.more e.whole
+      where
+        left_is : (more : List ℕ) → before ≡ k.before ++ more → k.stops.rest ≡ more ++ (40 ∷ h.rest)
+        left_is more whole = same_end k.before k.stops.rest (more ++ (40 ∷ h.rest))
+            (sym k.stops.parts ∙ (h.parts ∙ (ap (λ l. l ++ (40 ∷ h.rest)) whole ∙ sym (append_append k.before more (40 ∷ h.rest)))))
+
+        by_more : (more : List ℕ) → before ≡ k.before ++ more → ⊥
+        by_more [] whole = k.stops.further 40 h.rest (left_is [] whole) (subst (λ l. Begins (l ++ (40 ∷ []))) (whole ∙ append_none k.before) h.begins)
+        by_more (c ∷ more) whole = k.stops.further c (more ++ (40 ∷ h.rest)) (left_is (c ∷ more) whole)
+            (begins_shorter (k.before ++ c ∷ []) (more ++ (40 ∷ []))
+            (subst Begins (ap (λ l. l ++ (40 ∷ [])) whole ∙ (sym (append_append k.before (c ∷ more) (40 ∷ [])) ∙ append_append k.before (c ∷ []) (more ++ (40 ∷ [])))) h.begins))
+    no_stop t k (inr e) = by_more e.more e.whole
+      where
+        by_more : (more : List ℕ) → k.before ≡ before ++ more → ⊥
+        by_more [] whole =
+            k.stops.further 40 h.rest
+            (same_end k.before k.stops.rest (40 ∷ h.rest) (sym k.stops.parts ∙ (h.parts ∙ ap (λ l. l ++ (40 ∷ h.rest)) (sym (whole ∙ append_none before)))))
+            (subst (λ l. Begins (l ++ (40 ∷ []))) (sym (whole ∙ append_none before)) h.begins)
+        by_more (c ∷ more) whole =
+            let same = same_end before (40 ∷ h.rest) ((c ∷ more) ++ k.stops.rest)
+            (sym h.parts ∙ (k.stops.parts ∙ (ap (λ l. l ++ k.stops.rest) whole ∙ sym (append_append before (c ∷ more) k.stops.rest)))) in
+            let head = (same_heads 40 c h.rest (more ++ k.stops.rest) same).0 in
+            not_shallow k.before more k.shallow (whole ∙ ap (λ b. before ++ (b ∷ more)) (sym head))
+
+    same_deep : (t : List ℕ) (k : TooDeepAt d text t) → EndsIn before k.before k.before ⊎ EndsIn k.before before before → t ≡ 40 ∷ h.rest
+    same_deep t k (inl e) = by_more e.more e.whole
+      where
+        by_more : (more : List ℕ) → before ≡ k.before ++ more → t ≡ 40 ∷ h.rest
+        by_more [] whole = same_end k.before t (40 ∷ h.rest) (sym k.parts ∙ (h.parts ∙ ap (λ l. l ++ (40 ∷ h.rest)) (whole ∙ append_none k.before)))
+        by_more (c ∷ more) whole =
+            let same = same_end k.before (40 ∷ k.deep.rest) ((c ∷ more) ++ (40 ∷ h.rest))
+            (sym k.deep.parts ∙ (h.parts ∙ (ap (λ l. l ++ (40 ∷ h.rest)) whole ∙ sym (append_append k.before (c ∷ more) (40 ∷ h.rest))))) in
+            let head = (same_heads 40 c k.deep.rest (more ++ (40 ∷ h.rest)) same).0 in
+            let less = h.first k.before more (whole ∙ ap (λ b. k.before ++ (b ∷ more)) (sym head)) in
+            let exact = k.deep.within in
+            absurd (omega (arith, less, exact))
+    same_deep t k (inr e) = by_more e.more e.whole
+      where
+        by_more : (more : List ℕ) → k.before ≡ before ++ more → t ≡ 40 ∷ h.rest
+        by_more [] whole = same_end before t (40 ∷ h.rest) (ap (λ l. l ++ t) (sym (whole ∙ append_none before)) ∙ (sym k.parts ∙ h.parts))
+        by_more (c ∷ more) whole =
+            let same = same_end before (40 ∷ h.rest) ((c ∷ more) ++ t)
+            (sym h.parts ∙ (k.parts ∙ (ap (λ l. l ++ t) whole ∙ sym (append_append before (c ∷ more) t)))) in
+            let head = (same_heads 40 c h.rest (more ++ t) same).0 in
+            let less = k.deep.first before more (whole ∙ ap (λ b. before ++ (b ∷ more)) (sym head)) in
+            let exact = h.within in
+            absurd (omega (arith, less, exact))
+
+    by_reading : (o : Result Policy Stop) (t : List ℕ) → policy_at n d text ≡ left_at o t → policy_at n d text ≡ stopped stop.Deep (40 ∷ h.rest)
+    by_reading (Ok p) t e = absurd (not_shallow text h.rest (reads_shallow n d p text t e) h.parts)
+    by_reading (Err stop.Spent) t e = absurd (never_spent n d text t short e)
+    by_reading (Err stop.Syntax) t e =
+        let k = stops_at n d text t e in absurd (no_stop t k (compare_fronts before k.before (40 ∷ h.rest) t (sym h.parts ∙ k.parts)))
+    by_reading (Err stop.Deep) t e =
+        let k = too_deep_at n d text t e in e ∙ ap (λ l. stopped stop.Deep l) (same_deep t k (compare_fronts before k.before (40 ∷ h.rest) t (sym h.parts ∙ k.parts)))
