@@ -3,8 +3,8 @@ use Rattle.std.proofs.Common.{◌≡◌, ◌⊎◌, inl, inr, ℕ, zero, suc, �
 use Rattle.tp_types.specs.declared.policy.Cond.{Cond}
 use Rattle.tp_types.specs.declared.policy.Cond.TheVariants as cond
 use Rattle.tp_types.specs.Spelling.{is_letter}
-use Rattle.tp_policy_text.specs.declared.Stop.{Stop}
-use Rattle.tp_policy_text.specs.declared.Stop.TheVariants as stop
+use Rattle.tp_policy_text.specs.declared.halt.Stop.{Stop}
+use Rattle.tp_policy_text.specs.declared.halt.Stop.TheVariants as stop
 use Rattle.tp_policy_text.specs.Grammar.{AnyCond, IsAtom, IsCond, IsConj, IsDisj, IsInParentheses, IsPart, Joined, and_of, or_of}
 use Rattle.tp_policy_text.specs.Lexis.{Token, count, first, is_blank}
 use Rattle.tp_policy_text.specs.Readers.{atom_at, both, comes, cond_at, conj_at, disj_at, earlier, in_parentheses, joined_at, more_of, part_at, second, sign_at, word_at}

@@ -1,7 +1,8 @@
 -- Exact readers: what is kept of a reader beside the language that it reads.
 use Rattle.std.proofs.Common.{◌≡◌, ◌⊎◌, ℕ, ◌+◌, ◌<◌, List, ◌∷◌, ◌++◌, length, Bool, true, false, Option, Some, Result, Ok, Err, []}
-use Rattle.tp_policy_text.specs.declared.Stop.{Stop}
-use Rattle.tp_policy_text.specs.declared.Stop.TheVariants as stop
+use Rattle.tp_policy_text.specs.declared.halt.Stop.{Stop}
+use Rattle.tp_policy_text.specs.declared.halt.Stop.TheVariants as stop
+use Rattle.tp_policy_text.specs.Grammar.{IsWithin}
 use Rattle.tp_policy_text.specs.Lexis.{count, first, is_blank}
 use Rattle.tp_policy_text.specs.Readings.{Reader, Reading, read, stopped}
 use Rattle.tp_policy_text.proofs.Texts.{IsTight}
@@ -37,7 +38,7 @@ IsLevel d e x = count 40 x + e ≡ count 41 x + d
 
 -- no parenthesis of the text is one too many
 abbrev pub IsShallow : ℕ → List ℕ → Type 0
-IsShallow d x = (p q : List ℕ) → x ≡ p ++ (40 ∷ q) → count 40 p < count 41 p + d
+IsShallow = IsWithin
 
 -- the parenthesis that comes next is one too many
 abbrev pub IsDeep : ℕ → List ℕ → List ℕ → Type 0

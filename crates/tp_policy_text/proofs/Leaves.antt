@@ -3,8 +3,8 @@ use Rattle.std.proofs.Common.{◌≡◌, ◌⊎◌, inl, inr, ℕ, ◌+◌, ◌<
 use Rattle.std.proofs.lemmas.Bool.Decides.{nat_tests}
 use Rattle.std.proofs.lemmas.List.{length-append}
 use Rattle.std.proofs.lemmas.Option.{same_Some}
-use Rattle.tp_policy_text.specs.declared.Stop.{Stop}
-use Rattle.tp_policy_text.specs.declared.Stop.TheVariants as stop
+use Rattle.tp_policy_text.specs.declared.halt.Stop.{Stop}
+use Rattle.tp_policy_text.specs.declared.halt.Stop.TheVariants as stop
 use Rattle.tp_policy_text.specs.Lexis.{count, first, is_blank, skip}
 use Rattle.tp_policy_text.specs.Readings.{Reading, ended, machine, read, taken}
 use Rattle.tp_policy_text.proofs.Exact.{Ends, Exact, Front, IsDeep, IsLevel, IsShallow, Starts, left_at}

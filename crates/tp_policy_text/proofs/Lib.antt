@@ -1,3 +1,4 @@
+pub mod Answering
 pub mod Choices
 pub mod Comparisons
 pub mod Conditions
@@ -9,7 +10,9 @@ pub mod Links
 pub mod Names
 pub mod Numbers
 pub mod Patterns
+pub mod Productions
 pub mod Rules
+pub mod Scans
 pub mod Sequences
 pub mod Texts
 pub mod Tokens

@@ -6,7 +6,8 @@ use Rattle.tp_types.specs.declared.policy.Cond.{Cond}
 use Rattle.tp_types.specs.declared.policy.Rule.{Rule}
 use Rattle.tp_policy_text.specs.Grammar.{AnyCond, IsAction, IsCond, IsPattern, IsRule}
 use Rattle.tp_policy_text.specs.Lexis.{first}
-use Rattle.tp_policy_text.specs.Readers.{Permitted, action_at, both, comes, cond_at, earlier, more_of, pattern_at, permitted, permitted_at, rule_at, rule_of, rules_at, second, sign_at, word_at}
+use Rattle.tp_policy_text.specs.declared.production.Permitted.{Permitted}
+use Rattle.tp_policy_text.specs.Readers.{action_at, both, comes, cond_at, earlier, more_of, pattern_at, permitted, permitted_at, rule_at, rule_of, rules_at, second, sign_at, word_at}
 use Rattle.tp_policy_text.specs.Readings.{choice}
 use Rattle.tp_policy_text.proofs.Choices.{Either, choice_exact, retell}
 use Rattle.tp_policy_text.proofs.Conditions.{after_cond, any_of, cond_exact, more_ends, more_fits, more_goes, more_no, more_yes, not_joined, spent_exact}
@@ -146,7 +147,7 @@ rule_allows C s t rule h = record {
   is = refl;
 }
 
-rule_wider : (C D : Language Cond) → ((s t : List ℕ) (c : Cond) → C c s t → D c s t) → (s t : List ℕ) (rule : Rule) → IsRule C rule s t → IsRule D rule s t
+pub rule_wider : (C D : Language Cond) → ((s t : List ℕ) (c : Cond) → C c s t → D c s t) → (s t : List ℕ) (rule : Rule) → IsRule C rule s t → IsRule D rule s t
 rule_wider C D wide s t rule h = record {
   allowed = h.allowed;
   allow = h.allow;

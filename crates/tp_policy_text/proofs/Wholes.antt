@@ -4,8 +4,8 @@ use Rattle.std.proofs.Common.{◌≡◌, ◌⊎◌, inl, inr, ℕ, suc, ◌+◌,
 use Rattle.tp_types.specs.declared.policy.Cond.{Cond}
 use Rattle.tp_types.specs.declared.policy.Policy.{Policy}
 use Rattle.tp_types.specs.declared.policy.Rule.{Rule}
-use Rattle.tp_policy_text.specs.declared.Stop.{Stop}
-use Rattle.tp_policy_text.specs.declared.Stop.TheVariants as stop
+use Rattle.tp_policy_text.specs.declared.halt.Stop.{Stop}
+use Rattle.tp_policy_text.specs.declared.halt.Stop.TheVariants as stop
 use Rattle.tp_policy_text.specs.Grammar.{AnyCond, AreRules, Begins, IsCond, IsRule, IsTooDeep, Spells, SpellsBy, Stops}
 use Rattle.tp_policy_text.specs.Lexis.{count, first, skip, is_blank}
 use Rattle.tp_policy_text.specs.Readers.{policy_at, policy_from, rules_at, whole_of}
@@ -112,11 +112,11 @@ begins_of blanks x more rules are h = record {
 }
 
 -- of two texts behind one another, where a third ends: in the first, or behind it
-record EndsIn (x y w : List ℕ) : Type 0 where
+pub record EndsIn (x y w : List ℕ) : Type 0 where
   pub more : List ℕ
   pub whole : x ≡ w ++ more
 
-compare_fronts : (x y s t : List ℕ) → x ++ s ≡ y ++ t → EndsIn x y y ⊎ EndsIn y x x
+pub compare_fronts : (x y s t : List ℕ) → x ++ s ≡ y ++ t → EndsIn x y y ⊎ EndsIn y x x
 compare_fronts x [] s t e = inl (record { more = x; whole = refl })
 compare_fronts [] (b ∷ y) s t e = inr (record { more = b ∷ y; whole = refl })
 compare_fronts (a ∷ x) (b ∷ y) s t e = by_rest (compare_fronts x y s t (same_heads a b (x ++ s) (y ++ t) e).1)
@@ -126,7 +126,7 @@ compare_fronts (a ∷ x) (b ∷ y) s t e = by_rest (compare_fronts x y s t (same
     by_rest (inr h) = inr (record { more = h.more; whole = ap (λ c. c ∷ y) (sym (same_heads a b (x ++ s) (y ++ t) e).0) ∙ ap (λ l. a ∷ l) h.whole })
 
 -- a beginning of a beginning
-begins_shorter : (x y : List ℕ) → Begins (x ++ y) → Begins x
+pub begins_shorter : (x y : List ℕ) → Begins (x ++ y) → Begins x
 begins_shorter x y b = record { more = y ++ b.more; policy = b.policy; spells = subst (λ l. Spells b.policy l) (sym (append_append x y b.more)) b.spells }
 
 -- what was read of a text has no parenthesis too many
@@ -188,7 +188,7 @@ no_further n d blanks x t o are tight ran sticks byte others next b =
     no_end [] e = absurd (cc)
     no_end (c ∷ y) e = absurd (cc)
 
-same_why : (a b : Stop) (s t : List ℕ) → stopped {A = Policy} a s ≡ stopped b t → (a ≡ b) × (s ≡ t)
+pub same_why : (a b : Stop) (s t : List ℕ) → stopped {A = Policy} a s ≡ stopped b t → (a ≡ b) × (s ≡ t)
 same_why a b s t e = (ap why_of (ap (λ (w : Reading Policy). w.outcome) e), ap (λ (w : Reading Policy). w.left) e)
   where
     why_of : Result Policy Stop → Stop
@@ -405,42 +405,39 @@ reads_shallow n d p text t h = by_text (skip text) refl
         (ap (rules_at n n d) (sym front.parts))
         (sym (at_some n d text byte others found.outcome found.left here refl) ∙ h)
 
+not_shallow : (d : ℕ) (text before : List ℕ) (h : IsTooDeep d text before) (x q : List ℕ) → IsShallow d x → x ≡ before ++ (40 ∷ q) → ⊥
+not_shallow d text before h x q shallow e = let less = shallow before q e in let same = h.within in omega (arith, less, same)
+
+-- no text stops before a parenthesis too many, nor behind it
+pub not_both : (d : ℕ) (text before t : List ℕ) (h : IsTooDeep d text before) (k : StopsAt d text t) → EndsIn before k.before k.before ⊎ EndsIn k.before before before → ⊥
+not_both d text before t h k (inl e) = by_more e.more e.whole
+  where
+    left_is : (more : List ℕ) → before ≡ k.before ++ more → k.stops.rest ≡ more ++ (40 ∷ h.rest)
+    left_is more whole = same_end k.before k.stops.rest (more ++ (40 ∷ h.rest))
+        (sym k.stops.parts ∙ (h.parts ∙ (ap (λ l. l ++ (40 ∷ h.rest)) whole ∙ sym (append_append k.before more (40 ∷ h.rest)))))
+
+    by_more : (more : List ℕ) → before ≡ k.before ++ more → ⊥
+    by_more [] whole = k.stops.further 40 h.rest (left_is [] whole) (subst (λ l. Begins (l ++ (40 ∷ []))) (whole ∙ append_none k.before) h.begins)
+    by_more (c ∷ more) whole = k.stops.further c (more ++ (40 ∷ h.rest)) (left_is (c ∷ more) whole)
+        (begins_shorter (k.before ++ c ∷ []) (more ++ (40 ∷ []))
+        (subst Begins (ap (λ l. l ++ (40 ∷ [])) whole ∙ (sym (append_append k.before (c ∷ more) (40 ∷ [])) ∙ append_append k.before (c ∷ []) (more ++ (40 ∷ [])))) h.begins))
+not_both d text before t h k (inr e) = by_more e.more e.whole
+  where
+    by_more : (more : List ℕ) → k.before ≡ before ++ more → ⊥
+    by_more [] whole =
+        k.stops.further 40 h.rest
+        (same_end k.before k.stops.rest (40 ∷ h.rest) (sym k.stops.parts ∙ (h.parts ∙ ap (λ l. l ++ (40 ∷ h.rest)) (sym (whole ∙ append_none before)))))
+        (subst (λ l. Begins (l ++ (40 ∷ []))) (sym (whole ∙ append_none before)) h.begins)
+    by_more (c ∷ more) whole =
+        let same = same_end before (40 ∷ h.rest) ((c ∷ more) ++ k.stops.rest)
+        (sym h.parts ∙ (k.stops.parts ∙ (ap (λ l. l ++ k.stops.rest) whole ∙ sym (append_append before (c ∷ more) k.stops.rest)))) in
+        let head = (same_heads 40 c h.rest (more ++ k.stops.rest) same).0 in
+        not_shallow d text before h k.before more k.shallow (whole ∙ ap (λ b. before ++ (b ∷ more)) (sym head))
+
 -- a text that goes on with a parenthesis too many stops there
 pub deep_is : (n d : ℕ) (text before : List ℕ) (h : IsTooDeep d text before) → length text < n → policy_at n d text ≡ stopped stop.Deep (40 ∷ h.rest)
 deep_is n d text before h short = by_reading (policy_at n d text).outcome (policy_at n d text).left refl
   where
-    within : count 40 before ≡ count 41 before + d
-    within = h.within
-
-    not_shallow : (x q : List ℕ) → IsShallow d x → x ≡ before ++ (40 ∷ q) → ⊥
-    not_shallow x q shallow e = let less = shallow before q e in let same = h.within in omega (arith, less, same)
-
-    -- nothing stops before the parenthesis
-    no_stop : (t : List ℕ) (k : StopsAt d text t) → EndsIn before k.before k.before ⊎ EndsIn k.before before before → ⊥
-    no_stop t k (inl e) = by_more e.more e.whole
-      where
-        left_is : (more : List ℕ) → before ≡ k.before ++ more → k.stops.rest ≡ more ++ (40 ∷ h.rest)
-        left_is more whole = same_end k.before k.stops.rest (more ++ (40 ∷ h.rest))
-            (sym k.stops.parts ∙ (h.parts ∙ (ap (λ l. l ++ (40 ∷ h.rest)) whole ∙ sym (append_append k.before more (40 ∷ h.rest)))))
-
-        by_more : (more : List ℕ) → before ≡ k.before ++ more → ⊥
-        by_more [] whole = k.stops.further 40 h.rest (left_is [] whole) (subst (λ l. Begins (l ++ (40 ∷ []))) (whole ∙ append_none k.before) h.begins)
-        by_more (c ∷ more) whole = k.stops.further c (more ++ (40 ∷ h.rest)) (left_is (c ∷ more) whole)
-            (begins_shorter (k.before ++ c ∷ []) (more ++ (40 ∷ []))
-            (subst Begins (ap (λ l. l ++ (40 ∷ [])) whole ∙ (sym (append_append k.before (c ∷ more) (40 ∷ [])) ∙ append_append k.before (c ∷ []) (more ++ (40 ∷ [])))) h.begins))
-    no_stop t k (inr e) = by_more e.more e.whole
-      where
-        by_more : (more : List ℕ) → k.before ≡ before ++ more → ⊥
-        by_more [] whole =
-            k.stops.further 40 h.rest
-            (same_end k.before k.stops.rest (40 ∷ h.rest) (sym k.stops.parts ∙ (h.parts ∙ ap (λ l. l ++ (40 ∷ h.rest)) (sym (whole ∙ append_none before)))))
-            (subst (λ l. Begins (l ++ (40 ∷ []))) (sym (whole ∙ append_none before)) h.begins)
-        by_more (c ∷ more) whole =
-            let same = same_end before (40 ∷ h.rest) ((c ∷ more) ++ k.stops.rest)
-            (sym h.parts ∙ (k.stops.parts ∙ (ap (λ l. l ++ k.stops.rest) whole ∙ sym (append_append before (c ∷ more) k.stops.rest)))) in
-            let head = (same_heads 40 c h.rest (more ++ k.stops.rest) same).0 in
-            not_shallow k.before more k.shallow (whole ∙ ap (λ b. before ++ (b ∷ more)) (sym head))
-
     same_deep : (t : List ℕ) (k : TooDeepAt d text t) → EndsIn before k.before k.before ⊎ EndsIn k.before before before → t ≡ 40 ∷ h.rest
     same_deep t k (inl e) = by_more e.more e.whole
       where
@@ -466,9 +463,9 @@ deep_is n d text before h short = by_reading (policy_at n d text).outcome (polic
             absurd (omega (arith, less, exact))
 
     by_reading : (o : Result Policy Stop) (t : List ℕ) → policy_at n d text ≡ left_at o t → policy_at n d text ≡ stopped stop.Deep (40 ∷ h.rest)
-    by_reading (Ok p) t e = absurd (not_shallow text h.rest (reads_shallow n d p text t e) h.parts)
+    by_reading (Ok p) t e = absurd (not_shallow d text before h text h.rest (reads_shallow n d p text t e) h.parts)
     by_reading (Err stop.Spent) t e = absurd (never_spent n d text t short e)
     by_reading (Err stop.Syntax) t e =
-        let k = stops_at n d text t e in absurd (no_stop t k (compare_fronts before k.before (40 ∷ h.rest) t (sym h.parts ∙ k.parts)))
+        let k = stops_at n d text t e in absurd (not_both d text before t h k (compare_fronts before k.before (40 ∷ h.rest) t (sym h.parts ∙ k.parts)))
     by_reading (Err stop.Deep) t e =
         let k = too_deep_at n d text t e in e ∙ ap (λ l. stopped stop.Deep l) (same_deep t k (compare_fronts before k.before (40 ∷ h.rest) t (sym h.parts ∙ k.parts)))

@@ -203,6 +203,10 @@ pub record Stops (text before : List ℕ) : Type 0 where
   pub further : (byte : ℕ) (others : List ℕ) → rest ≡ byte ∷ others → ¬ (Begins (before ++ byte ∷ []))
   pub none : (policy : Policy) → ¬ (Spells policy text)
 
+-- no parenthesis of the text stands within as many others as may be
+abbrev pub IsWithin : ℕ → List ℕ → Type 0
+IsWithin limit text = (p q : List ℕ) → text ≡ p ++ (40 ∷ q) → count 40 p < count 41 p + limit
+
 -- the text goes on behind the beginning with a parenthesis that stands within as many others as may be; it is the first such one, and
 -- some text of the grammar begins so
 pub record IsTooDeep (limit : ℕ) (text before : List ℕ) : Type 0 where
@@ -210,4 +214,4 @@ pub record IsTooDeep (limit : ℕ) (text before : List ℕ) : Type 0 where
   pub parts : text ≡ before ++ (40 ∷ rest)
   pub begins : Begins (before ++ (40 ∷ []))
   pub within : count 40 before ≡ count 41 before + limit
-  pub first : (p q : List ℕ) → before ≡ p ++ (40 ∷ q) → count 40 p < count 41 p + limit
+  pub first : IsWithin limit before

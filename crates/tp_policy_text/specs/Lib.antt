@@ -1,4 +1,7 @@
+pub mod Gives
 pub mod Grammar
 pub mod Lexis
+pub mod Parses
 pub mod Readers
 pub mod Readings
+pub mod Scans

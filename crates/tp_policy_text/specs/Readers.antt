@@ -14,8 +14,9 @@ use Rattle.tp_types.specs.declared.policy.Value.{Value}
 use Rattle.tp_types.specs.declared.policy.Value.TheVariants as value
 use Rattle.tp_types.specs.Spelling.{is_letter, is_part}
 use Rattle.tp_types.specs.declared.policy.Policy.{Policy}
-use Rattle.tp_policy_text.specs.declared.Stop.{Stop}
-use Rattle.tp_policy_text.specs.declared.Stop.TheVariants as stop
+use Rattle.tp_policy_text.specs.declared.halt.Stop.{Stop}
+use Rattle.tp_policy_text.specs.declared.production.Permitted.{Permitted}
+use Rattle.tp_policy_text.specs.declared.halt.Stop.TheVariants as stop
 use Rattle.tp_policy_text.specs.Grammar.{and_of, is_digit, or_of, spelled_from}
 use Rattle.tp_policy_text.specs.Lexis.{in_word, skip}
 use Rattle.tp_policy_text.specs.Readings.{Reader, choice, is_open, link, machine, mapped, stopped, unopened, Reading, read}
@@ -183,10 +184,14 @@ begins_int (Some byte) = is_digit byte || (byte == 45)
 abbrev pub value_at : Reader Value
 value_at = choice begins_int (λ s. mapped value.Number (int_at s)) (λ s. mapped value.Word (name_at s))
 
+abbrev pub equal_at : Reader Compared
+equal_at = both with_op (sign_at (codes "=") op.Equal) value_at
+
+abbrev pub bound_at : List ℕ → Op → Reader Compared
+bound_at sign compares = both with_number (sign_at sign compares) int_at
+
 abbrev pub compared_at : Reader Compared
-compared_at =
-    choice (comes 61) (both with_op (sign_at (codes "=") op.Equal) value_at)
-    (choice (comes 62) (both with_number (sign_at (codes ">=") op.AtLeast) int_at) (both with_number (sign_at (codes "<=") op.AtMost) int_at))
+compared_at = choice (comes 61) equal_at (choice (comes 62) (bound_at (codes ">=") op.AtLeast) (bound_at (codes "<=") op.AtMost))
 
 abbrev pub atom_of : Option Head → Option ℕ → Cond ⊎ (Compared → Cond)
 atom_of None next = inl cond.True
@@ -225,6 +230,11 @@ abbrev pub cond_at : ℕ → ℕ → Reader Cond
 cond_at turns zero = disj_at turns zero (stopped stop.Deep)
 cond_at turns (suc depth) = disj_at turns (suc depth) (cond_at turns depth)
 
+-- what may stand in parentheses, where so many may be opened
+abbrev pub inner_at : ℕ → ℕ → Reader Cond
+inner_at turns zero = stopped stop.Deep
+inner_at turns (suc depth) = cond_at turns depth
+
 -- ---- rules
 
 abbrev pub action_at : Reader (Option Action)
@@ -234,10 +244,6 @@ abbrev pub pattern_at : Reader Pattern
 pattern_at = choice (comes 42) (sign_at (codes "*") pattern.All) starred_at
 
 -- what a rule says behind its `on`
-pub record Permitted : Type 0 where
-  pub pattern : Pattern
-  pub cond : Cond
-
 abbrev pub permitted : Pattern → Cond → Permitted
 permitted matching c = record { pattern = matching; cond = c }
 
@@ -262,9 +268,12 @@ whole_of (Ok rules) [] = read (record { rules = rules }) []
 whole_of (Ok rules) (byte ∷ others) = stopped stop.Syntax (byte ∷ others)
 whole_of (Err why) left = stopped why left
 
+abbrev pub rules_only : ℕ → ℕ → Reader Policy
+rules_only turns depth text = whole_of (rules_at turns turns depth text).outcome (rules_at turns turns depth text).left
+
 abbrev pub policy_from : ℕ → ℕ → List ℕ → Reading Policy
 policy_from turns depth [] = read (record { rules = [] }) []
-policy_from turns depth (byte ∷ others) = whole_of (rules_at turns turns depth (byte ∷ others)).outcome (rules_at turns turns depth (byte ∷ others)).left
+policy_from turns depth (byte ∷ others) = rules_only turns depth (byte ∷ others)
 
 -- blanks, rules, and the end
 abbrev pub policy_at : ℕ → ℕ → Reader Policy

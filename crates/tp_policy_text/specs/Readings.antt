@@ -1,8 +1,8 @@
 -- Readings: what a reader makes of a text. A reading is an outcome and what is left of the text, whatever the outcome.
 use Rattle.std.specs.Prelude.{◌⊎◌, ℕ, ◌==◌, false, List, [], ◌∷◌, Bool, Option, Some, None, Result, Ok, Err, if◌then◌else◌}
 use Rattle.std.proofs.Math.Logic.{inl, inr}
-use Rattle.tp_policy_text.specs.declared.Stop.{Stop}
-use Rattle.tp_policy_text.specs.declared.Stop.TheVariants as stop
+use Rattle.tp_policy_text.specs.declared.halt.Stop.{Stop}
+use Rattle.tp_policy_text.specs.declared.halt.Stop.TheVariants as stop
 use Rattle.tp_policy_text.specs.Lexis.{first, skip}
 
 pub record Reading (A : Type 0) : Type 0 where
