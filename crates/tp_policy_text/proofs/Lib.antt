@@ -9,6 +9,8 @@ pub mod Links
 pub mod Names
 pub mod Numbers
 pub mod Patterns
+pub mod PrintLemmas
+pub mod PrintedWholes
 pub mod Rules
 pub mod Sequences
 pub mod Texts

@@ -1,4 +1,5 @@
 pub mod Grammar
 pub mod Lexis
+pub mod Printed
 pub mod Readers
 pub mod Readings

@@ -4,6 +4,10 @@
 ghost use Rattle.std.specs.Prelude.{◌≡◌};
 ghost use Rattle.tp_policy_text.specs.Lexis as lexis;
 
+mod printer;
+
+pub use printer::print;
+
 /// Why a reader stops before its end.
 pub enum Stop {
     /// A parenthesis stands within too many others.
