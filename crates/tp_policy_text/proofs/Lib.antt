@@ -10,6 +10,11 @@ pub mod Names
 pub mod Numbers
 pub mod Patterns
 pub mod PrintLemmas
+pub mod PrintedAtoms
+pub mod PrintedConditions
+pub mod PrintedGrammar
+pub mod PrintedNumbers
+pub mod PrintedRules
 pub mod PrintedWholes
 pub mod Rules
 pub mod Sequences

@@ -6,7 +6,7 @@ ghost use Rattle.tp_policy_text.specs.Lexis as lexis;
 
 mod printer;
 
-pub use printer::print;
+pub use printer::{print, printed_is_exact};
 
 /// Why a reader stops before its end.
 pub enum Stop {

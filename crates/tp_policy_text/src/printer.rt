@@ -1,7 +1,8 @@
 //! The printed form of policies.
-ghost use Rattle.std.specs.Prelude.{◌≡◌, ◌++◌, OnOk, IfOk, codes};
+ghost use Rattle.std.specs.Prelude.{◌≡◌, ◌++◌, List, ℕ, OnOk, IfOk, codes};
 ghost use Rattle.std.specs.List.{flat_map, join_by};
-ghost use Rattle.tp_policy_text.specs.Printed.{action_text, atom_text, cond_text, enclosed, in_and, in_or, op_text, pattern_text, printed, rule_line, shown, value_text};
+ghost use Rattle.tp_policy_text.specs.Grammar.{Spells};
+ghost use Rattle.tp_policy_text.specs.Printed.{IsOfGrammar, action_text, atom_text, cond_text, enclosed, in_and, in_or, op_text, pattern_text, printed, rule_line, shown, value_text};
 
 use itoa::Buffer;
 use std::alloc::Global;
@@ -182,9 +183,19 @@ fn put_rules(out: &mut Vec<u8>, rules: &[Rule]) -> Result<(), NoMemory>
 
 /// The policy's printed form: each rule on a line of its own, with parentheses only where a member would be read otherwise without.
 pub fn print(alloc: Global, policy: &Policy) -> Result<Text, NoMemory>
+    requires { IsOfGrammar policy.now }
     ensures printed { IfOk result (λ text. text.0 ≡ printed policy.now) }
+    ensures spelled { IfOk result (λ text. Spells policy.now text.0) }
+    ensures alone { IfOk result (λ text. (other : Policy) → Spells other text.0 → other ≡ policy.now) }
 {
     let mut out = Vec::new(alloc);
     put_rules(&mut out, policy.rules.as_slice())?;
     Ok(Text(tp_types::List::from_vec(out)))
 }
+
+/// The printed form of a policy says it, a text says one policy at most, and what a text says can be printed.
+pub fn printed_is_exact()
+    ensures spelled { (policy : Policy) → IsOfGrammar policy → Spells policy (printed policy) }
+    ensures alone { (one other : Policy) (text : List ℕ) → Spells one text → Spells other text → one ≡ other }
+    ensures of_grammar { (policy : Policy) (text : List ℕ) → Spells policy text → IsOfGrammar policy }
+{}
