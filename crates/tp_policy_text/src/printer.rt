@@ -88,10 +88,8 @@ fn put_in_and(out: &mut Vec<u8>, member: &Cond) -> Result<(), NoMemory>
     ensures { OnOk result (out.new.items ≡ out.old.items ++ in_and (shown member.now)) }
 {
     match member {
-        Cond::True => put_cond(out, member),
-        Cond::Atom { .. } => put_cond(out, member),
-        Cond::And(_) => put_enclosed(out, member),
-        Cond::Or(_) => put_enclosed(out, member),
+        Cond::And(_) | Cond::Or(_) => put_enclosed(out, member),
+        Cond::True | Cond::Atom { .. } => put_cond(out, member),
     }
 }
 
@@ -102,10 +100,8 @@ fn put_in_or(out: &mut Vec<u8>, member: &Cond) -> Result<(), NoMemory>
     ensures { OnOk result (out.new.items ≡ out.old.items ++ in_or (shown member.now)) }
 {
     match member {
-        Cond::True => put_cond(out, member),
-        Cond::Atom { .. } => put_cond(out, member),
-        Cond::And(_) => put_cond(out, member),
         Cond::Or(_) => put_enclosed(out, member),
+        Cond::True | Cond::Atom { .. } | Cond::And(_) => put_cond(out, member),
     }
 }
 
