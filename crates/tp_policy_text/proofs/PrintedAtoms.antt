@@ -80,7 +80,7 @@ atom_prints issuer attr compares wanted h = record { tight = λ r. subst IsTight
     later : List ℕ → List ℕ
     later r = 32 ∷ (op_text compares ++ (32 ∷ (value_text wanted ++ r)))
 
-    front : (r : List ℕ) → atom_text issuer attr compares wanted ++ r ≡ issuer ++ (46 ∷ (attr ++ (32 ∷ (op_text compares ++ (32 ∷ (value_text wanted ++ r))))))
+    front : (r : List ℕ) → atom_text issuer attr compares wanted ++ r ≡ issuer ++ (46 ∷ (attr ++ later r))
     front r = simp append_assoc
 
     says : (r : List ℕ) → in_word (first r) ≡ false → IsAtom (cond.Atom issuer attr compares wanted) (atom_text issuer attr compares wanted ++ r) (skip r)

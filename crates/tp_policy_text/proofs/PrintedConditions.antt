@@ -58,19 +58,16 @@ joined_prints L word f tight x xs all = record {
 
 -- ---- one level
 
-abbrev Inner : Type 1
-Inner = Cond → List ℕ → List ℕ → Type 0
-
-part_of_atom : (I : Inner) (c : Cond) (text : List ℕ) → Prints IsAtom c text → Prints (IsPart I) c text
+part_of_atom : (I : Language Cond) (c : Cond) (text : List ℕ) → Prints IsAtom c text → Prints (IsPart I) c text
 part_of_atom I c text h = record { tight = h.tight; says = λ r free. inr (h.says r free) }
 
-conj_of_part : (I : Inner) (c : Cond) (text : List ℕ) → Prints (IsPart I) c text → Prints (IsConj I) c text
+conj_of_part : (I : Language Cond) (c : Cond) (text : List ℕ) → Prints (IsPart I) c text → Prints (IsConj I) c text
 conj_of_part I c text h = record { tight = h.tight; says = λ r free. (c ∷ [], refl, inl (refl, h.says r free)) }
 
 cond_of_conj : (d : ℕ) (c : Cond) (text : List ℕ) → Prints (IsConj (IsCond d)) c text → Prints (IsCond (suc d)) c text
 cond_of_conj d c text h = record { tight = h.tight; says = λ r free. (c ∷ [], refl, inl (refl, h.says r free)) }
 
-part_of_inner : (I : Inner) (c : Cond) (text : List ℕ) → Prints I c text → Prints (IsPart I) c (enclosed text)
+part_of_inner : (I : Language Cond) (c : Cond) (text : List ℕ) → Prints I c text → Prints (IsPart I) c (enclosed text)
 part_of_inner I c text h = record {
   tight = λ r. refl;
   says = λ r free. inl (record {

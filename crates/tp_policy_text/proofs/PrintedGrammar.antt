@@ -52,10 +52,8 @@ joined_can_be word L each (c ∷ cs) s t (inr h) =
 two_or_more : (n : ℕ) → nat_le 2 (suc (suc n)) ≡ true
 two_or_more n = grind (arith, nat_tests)
 
-abbrev Inner : Type 1
-Inner = Cond → List ℕ → List ℕ → Type 0
-
-module _ (I : Inner) (each : (c : Cond) (s t : List ℕ) → I c s t → can_be_cond c ≡ true) where
+-- I is what stands in parentheses
+module _ (I : Language Cond) (each : (c : Cond) (s t : List ℕ) → I c s t → can_be_cond c ≡ true) where
   part_can_be : (c : Cond) (s t : List ℕ) → IsPart I c s t → can_be_cond c ≡ true
   part_can_be c s t (inl h) = each c h.opened h.closed h.inner
   part_can_be c s t (inr h) = atom_can_be c s t h
