@@ -10,6 +10,13 @@ pub mod Links
 pub mod Names
 pub mod Numbers
 pub mod Patterns
+pub mod PrintLemmas
+pub mod PrintedAtoms
+pub mod PrintedConditions
+pub mod PrintedGrammar
+pub mod PrintedNumbers
+pub mod PrintedRules
+pub mod PrintedWholes
 pub mod Productions
 pub mod Rules
 pub mod Scans

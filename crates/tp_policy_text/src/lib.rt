@@ -3,8 +3,10 @@
 
 mod halt;
 mod parsing;
+mod printer;
 mod production;
 mod reader;
 mod scan;
 
 pub use parsing::{DEPTH_MAX, ParseError, TEXT_MAX, parse};
+pub use printer::{print, printed_is_exact};
