@@ -1,6 +1,6 @@
 -- What a reading of a whole text answers, and that no text has two answers.
 use Rattle.std.proofs.lemmas.List.{length-append}
-use Rattle.std.proofs.Common.{◌≡◌, ◌⊎◌, inl, inr, ℕ, ◌-◌, ◌<◌, ◌≤◌, List, [], ◌∷◌, ◌++◌, length, Result, Ok, Err, refl, sym, ap, subst, ◌∙◌, arith}
+use Rattle.std.proofs.Common.{◌≡◌, ◌⊎◌, inl, inr, ℕ, suc, ◌-◌, ◌<◌, ◌≤◌, List, [], ◌∷◌, ◌++◌, length, Result, Ok, Err, refl, sym, ap, subst, ◌∙◌, arith}
 use Rattle.tp_types.specs.declared.policy.Cond.{Cond}
 use Rattle.tp_types.specs.declared.policy.Policy.{Policy}
 use Rattle.tp_types.specs.declared.policy.Rule.{Rule}
@@ -8,13 +8,16 @@ use Rattle.tp_policy_text.specs.declared.halt.Stop.{Stop}
 use Rattle.tp_policy_text.specs.declared.halt.Stop.TheVariants as stop
 use Rattle.tp_policy_text.specs.declared.parsing.ParseError.{ParseError}
 use Rattle.tp_policy_text.specs.declared.parsing.ParseError.TheVariants as refusal
-use Rattle.tp_policy_text.specs.Grammar.{AnyCond, AreRules, Begins, IsCond, Spells, SpellsBy, Stops}
+use Rattle.tp_policy_text.specs.Grammar.{AnyCond, AreRules, Begins, IsCond, IsWithin, Spells, SpellsBy, SpellsWithin, Stops}
 use Rattle.tp_policy_text.specs.Lexis.{skip}
 use Rattle.tp_policy_text.specs.Parses.{Answers, StandsTooDeep, StopsAtPlace, refused}
+use Rattle.tp_policy_text.specs.Printed.{IsOfGrammar}
 use Rattle.tp_policy_text.specs.Readers.{policy_at}
 use Rattle.tp_policy_text.specs.Readings.{Reading, read, stopped}
 use Rattle.tp_policy_text.proofs.Exact.{Language}
 use Rattle.tp_policy_text.proofs.Conditions.{any_of}
+use Rattle.tp_policy_text.proofs.PrintedGrammar.{spelled_of_grammar}
+use Rattle.tp_policy_text.proofs.PrintedWholes.{shallow_reads}
 use Rattle.tp_policy_text.proofs.Rules.{rule_wider}
 use Rattle.tp_policy_text.proofs.Texts.{append_append, append_none, same_end}
 use Rattle.tp_policy_text.proofs.Wholes.{EndsIn, begins_shorter, compare_fronts, deep_is, never_spent, not_both, reads_within, same_why, says_within, stops_at, too_deep_at}
@@ -119,3 +122,14 @@ only_stop n text t stop.Deep fits short h (Err (refusal.Syntax place)) (_, k) =
     absurd (never_both text (length here.before) place (record { before = here.before; is = here.deep; place_is = refl }) k)
 only_stop n text t stop.Spent fits short h (Err (refusal.Syntax place)) k = absurd (never_spent n 16 text t short h)
 only_stop n text t why fits short h (Err refusal.NoMemory) k = absurd (k)
+
+-- ---- what is printed
+
+-- what a text within the depth says can be printed
+pub read_of_grammar : (n d : ℕ) (text t : List ℕ) (p : Policy) → policy_at n d text ≡ read p t → IsOfGrammar p
+read_of_grammar n d text t p h = spelled_of_grammar p text (within_spells (suc d) p text (says_within n d p text t h))
+
+-- a text of some policy, within the depth as a text, says it within the depth
+pub shallow_within : (text : List ℕ) (p : Policy) → Spells p text → IsWithin 16 text → SpellsWithin 16 p text
+shallow_within text p h shallow =
+    says_within (suc (length text)) 16 p text [] (shallow_reads (suc (length text)) 16 p text (omega (arith)) h shallow)

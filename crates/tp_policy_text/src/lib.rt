@@ -6,7 +6,9 @@ mod parsing;
 mod printer;
 mod production;
 mod reader;
+mod rereading;
 mod scan;
 
 pub use parsing::{DEPTH_MAX, ParseError, TEXT_MAX, parse};
 pub use printer::{print, printed_is_exact};
+pub use rereading::print_and_parse;

@@ -1,13 +1,14 @@
 //! Reading a policy's text.
-ghost use Rattle.std.specs.Prelude.{◌≡◌, ◌≢◌, ◌⊎◌, ◌≤◌, ◌<◌, length, Result, Err};
+ghost use Rattle.std.specs.Prelude.{◌≡◌, ◌≢◌, ◌⊎◌, ◌≤◌, ◌<◌, length, Result, Err, IfOk};
 ghost use Rattle.tp_types.specs.declared.policy.Policy.{Policy};
 ghost use Rattle.tp_policy_text.specs.Parses as parses;
 ghost use Rattle.tp_policy_text.specs.Parses.{Answers, IsOutOfMemory};
+ghost use Rattle.tp_policy_text.specs.Printed.{IsOfGrammar};
 
 use crate::halt::{Halt, Stop};
 use crate::reader::Reader;
 use std::alloc::Global;
-use tp_types::Policy;
+use tp_types::{NoMemory, Policy};
 
 /// The most bytes of a policy's text.
 pub const TEXT_MAX: usize = 4096;
@@ -28,6 +29,17 @@ pub enum ParseError {
     NoMemory,
 }
 
+impl From<NoMemory> for ParseError {
+    ghost use Rattle.std.specs.Prelude.{◌≡◌};
+    ghost use Rattle.tp_policy_text.specs.declared.parsing.ParseError.TheVariants.{NoMemory as OutOfMemory};
+
+    ghost from_gives = { λ _ error. error ≡ OutOfMemory };
+
+    fn from(_error: NoMemory) -> ParseError {
+        ParseError::NoMemory
+    }
+}
+
 fn refused(stop: Stop, place: usize) -> ParseError
     requires { stop ≢ Stop.Spent }
     ensures { result ≡ parses.refused stop place }
@@ -44,6 +56,7 @@ fn refused(stop: Stop, place: usize) -> ParseError
 pub fn parse(alloc: Global, text: &[u8]) -> Result<Policy, ParseError>
     ensures answer { IsOutOfMemory result ⊎ Answers text.now result }
     ensures only { (answer : Result Policy ParseError) → Answers text.now answer → IsOutOfMemory result ⊎ (result ≡ answer) }
+    ensures of_grammar { IfOk result (λ policy. IsOfGrammar policy) }
     ensures too_long { TEXT_MAX < length text.now → result ≡ Err ParseError.TooLong }
 {
     if text.len() > TEXT_MAX {

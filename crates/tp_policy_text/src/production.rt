@@ -8,6 +8,9 @@ use crate::halt::{Halt, Stop};
 use crate::reader::Reader;
 use tp_types::{Action, Cond, List, Pattern, Policy, Rule};
 
+/// The first byte of each rule.
+const RULE_FIRST: u8 = b'a';
+
 /// One member is itself.
 fn and_of(mut members: List<Cond>) -> Cond
     ensures { result ≡ grammar.and_of members }
@@ -163,7 +166,7 @@ impl<'a> Reader<'a> {
         let mut rules = List::new(self.alloc);
         for _turn in 0..turns {
             rules.push(self.rule(turns, depth)?)?;
-            if !self.comes(b'a') {
+            if !self.comes(RULE_FIRST) {
                 return Ok(rules);
             }
         }

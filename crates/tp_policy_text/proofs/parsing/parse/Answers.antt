@@ -1,6 +1,6 @@
 use Rattle.std.proofs.Common.{inr, ◌+◌, Err, length, sym, ap, subst, ◌∙◌, arith}
 use Rattle.tp_policy_text.specs.Parses.{Answers}
-use Rattle.tp_policy_text.proofs.Answering.{answers_read, answers_stop, left_within, not_spent, only_read, only_stop}
+use Rattle.tp_policy_text.proofs.Answering.{answers_read, answers_stop, left_within, not_spent, only_read, only_stop, read_of_grammar}
 use Rattle.tp_policy_text.proofs.parsing.parse.Goals as goal
 
 pub overflow_sub-text : goal.overflow_sub-text
@@ -31,3 +31,6 @@ returns-in-Err-Stopped-clause-only c a k =
     let h = rw c.in-Err-Stopped.field-0-is at c.in-Err-Stopped.ensures in
     inr (ap (λ e. Err e) c.refused.ensures
     ∙ only_stop (length c.args.text.now + 1) c.args.text.now c.policy.new.self.rest.now c.in-Err-Stopped.stop c.if-text-gt-TEXT_MAX.false (omega arith) h a k)
+
+pub returns-in-Ok-clause-of_grammar : goal.returns-in-Ok-clause-of_grammar
+returns-in-Ok-clause-of_grammar c = read_of_grammar (length c.args.text.now + 1) 16 c.args.text.now c.policy.new.self.rest.now c.in-Ok.policy c.in-Ok.ensures
