@@ -1,4 +1,5 @@
 -- Agreement, actor by actor: what an act of a server or a coordinator leaves agrees.
+use Rattle.std.proofs.lemmas.Bool.{eqb-true}
 use Rattle.std.proofs.Common.{◌≡◌, ℕ, ◌+◌, ◌==◌, ◌&&◌, ◌||◌, List, [], ◌∷◌, ◌++◌, length, flat_map, drop, slice_get, slice_set, Bool, true, false, Option, Some, None, is_some, IfSome, option_map, option_and_then, if◌then◌else◌, refl, sym, ap, subst, ◌∙◌, arith}
 use Rattle.std.specs.List.{cons_option, list_any}
 use Rattle.std.specs.Option.{option_map_or}
@@ -39,9 +40,6 @@ use Rattle.tp_machine.proofs.SoundLists.{at_set}
 
 -- ---- numbers
 
-pub same_number : (n m : ℕ) → (n == m) ≡ true → n ≡ m
-same_number n m e = grind (arith, nat_tests)
-
 pub number_itself : (n : ℕ) → (n == n) ≡ true
 number_itself n = grind (arith, nat_tests)
 
@@ -49,7 +47,7 @@ abbrev pub txn_number : ℕ → TxnId
 txn_number n = record { 0 = n }
 
 pub same_txn_is : (one other : TxnId) → same_txn one other ≡ true → one ≡ other
-same_txn_is one other e = ap txn_number (same_number one.0 other.0 e)
+same_txn_is one other e = ap txn_number (eqb-true one.0 other.0 e)
 
 -- ---- what the facts tell
 
@@ -205,7 +203,7 @@ settled_turn : (V : TxnId → Outcome → Type 0) (servers : List (Part Server))
     → slice_get servers at.0 ≡ Some part → next.log ≡ log_with part.log append → IfSome append (RecordRests V part.log)
     → listed (settled_outcome servers other txn) ++ settlements other txn (told_by at append) ≡ listed (settled_outcome (slice_set servers at.0 next) other txn)
 settled_turn V servers at other part next append txn true same found grown h =
-    let old : settled_at servers other.0 txn ≡ settled_in txn part.log = ap (option_and_then (settled_by txn)) (subst (λ (n : ℕ). slice_get servers n ≡ Some part) (same_number at.0 other.0 same) found) in
+    let old : settled_at servers other.0 txn ≡ settled_in txn part.log = ap (option_and_then (settled_by txn)) (subst (λ (n : ℕ). slice_get servers n ≡ Some part) (eqb-true at.0 other.0 same) found) in
     let new : settled_at (slice_set servers at.0 next) other.0 txn ≡ settled_in txn (log_with part.log append) =
     look_set (settled_by txn) servers at.0 other.0 part next found
     ∙ (ap (λ (c : Bool). if c then settled_by txn next else settled_at servers other.0 txn) same ∙ ap (settled_in txn) grown) in

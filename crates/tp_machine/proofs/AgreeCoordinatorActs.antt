@@ -1,4 +1,5 @@
 -- Agreement, actor by actor: what an act of a coordinator leaves agrees.
+use Rattle.std.proofs.lemmas.Bool.{eqb-true}
 use Rattle.std.proofs.Common.{◌≡◌, ℕ, ◌+◌, ◌==◌, List, [], ◌∷◌, ◌++◌, length, flat_map, drop, slice_get, slice_set, Bool, true, false, Option, Some, None, is_some, IfSome, option_map, option_and_then, if◌then◌else◌, refl, sym, ap, subst, ◌∙◌, arith}
 use Rattle.std.specs.List.{cons_option, list_any}
 use Rattle.std.specs.Option.{option_map_or}
@@ -26,7 +27,7 @@ use Rattle.tp_machine.specs.Logs.{decided_at, decided_by, decided_in, decision_i
 use Rattle.tp_machine.specs.Machine.{State, acts_by, coordinator_acted, coordinator_fact, log_with}
 use Rattle.tp_machine.specs.Sound.{Each}
 use Rattle.tp_machine.proofs.AgreeWorld.{Agrees, BodyRests, CoordinatorPartAgrees, DecidedAs, LetterRests, StaysDecided, TurnAgrees, WhatFollows, age_count, decided_stays, settled_outcome, submitted_count, submitted_up}
-use Rattle.tp_machine.proofs.AgreeActs.{begun_count, none_more, number_itself, same_number, submitted_told}
+use Rattle.tp_machine.proofs.AgreeActs.{begun_count, none_more, number_itself, submitted_told}
 use Rattle.tp_machine.proofs.AgreeCoordinator.{BodyAgrees, CoordinatorAgrees, CoordinatorLawful, IsFirst, LetterAgrees, SubmissionLawful, decided_begun}
 use Rattle.tp_machine.proofs.FactLemmas.{append_none, decisions, filter_map_append, settlements, submissions, submitted_what, decided_what, settled_what}
 use Rattle.tp_machine.proofs.LogLemmas.{IsFresh, appended, decided_with, first_stays, gained, get_set, listed, listed_first, look_set}
@@ -102,7 +103,7 @@ elsewhere coordinators txn other part next found e =
 
 was_at : (coordinators : List (Part Coordinator)) (txn other : TxnId) (part : Part Coordinator) → slice_get coordinators txn.0 ≡ Some part → same_txn txn other ≡ true
     → slice_get coordinators other.0 ≡ Some part
-was_at coordinators txn other part found e = subst (λ (n : ℕ). slice_get coordinators n ≡ Some part) (same_number txn.0 other.0 e) found
+was_at coordinators txn other part found e = subst (λ (n : ℕ). slice_get coordinators n ≡ Some part) (eqb-true txn.0 other.0 e) found
 
 -- what was decided stays, as the log only grows
 stays_by : (coordinators : List (Part Coordinator)) (txn other : TxnId) (part next : Part Coordinator) (append : Option Record) (d : Decision) (b : Bool) → same_txn txn other ≡ b

@@ -1,6 +1,6 @@
 -- Agreement, the server's rows: a transaction is settled once, as it was decided.
-use Rattle.std.proofs.Common.{◌≡◌, ℕ, ◌==◌, List, slice_get, Bool, true, false, Option, Some, None, is_none, IfSome, if◌then◌else◌, refl, sym, ap, subst, ◌∙◌, arith}
-use Rattle.std.proofs.lemmas.Bool.Decides.{nat_tests}
+use Rattle.std.proofs.lemmas.Bool.{eqb-true}
+use Rattle.std.proofs.Common.{◌≡◌, ℕ, ◌==◌, List, slice_get, Bool, true, false, Option, Some, None, is_none, IfSome, if◌then◌else◌, refl, sym, ap, subst, ◌∙◌}
 use Rattle.tp_types.specs.declared.ids.TxnId.{TxnId}
 use Rattle.tp_types.specs.declared.mail.Body.{Body}
 use Rattle.tp_types.specs.declared.mail.Body.TheVariants as body
@@ -118,9 +118,6 @@ settled_here : (b : Bool) (order : Settled) (other : Option (Option Settled)) (o
 settled_here true order other old e fresh = sym (ap (λ (x : Option Settled). first_of x (Some order)) (fresh refl))
 settled_here false order other old e fresh = e ∙ sym (first_none old)
 
-same_number : (n m : ℕ) → (n == m) ≡ true → n ≡ m
-same_number n m e = grind (arith, nat_tests)
-
 -- an order to end a transaction that is open is forced as it is
 settles_lawful : (V : TxnId → Outcome → Type 0) (s : Server) (kept : List Record) (d : DecideRequest) → ServerAgrees s kept → is_open s d.txn ≡ true → V d.txn d.outcome
     → ServerLawful V s kept (settles s d)
@@ -133,7 +130,7 @@ settles_lawful V s kept d h unsettled decided =
         settled = λ txn.
             ap flattened (get_set s.settled d.txn.0 txn.0 None (Some (settled_as d)) empty)
             ∙ (settled_here (d.txn.0 == txn.0) (settled_as d) (slice_get s.settled txn.0) (settled_in txn kept) (h.settled txn)
-            (λ same. sym (h.settled txn) ∙ ap flattened (subst (λ (n : ℕ). slice_get s.settled n ≡ Some None) (same_number d.txn.0 txn.0 same) empty))
+            (λ same. sym (h.settled txn) ∙ ap flattened (subst (λ (n : ℕ). slice_get s.settled n ≡ Some None) (eqb-true d.txn.0 txn.0 same) empty))
             ∙ sym (settled_with txn kept forced));
       };
       rests = record { fresh = fresh; no_why = refl; decided = decided };

@@ -1,4 +1,5 @@
 -- Epochs, the actors' rows: what a server does it does in its epoch, and a coordinator keeps and names the epoch that the server told.
+use Rattle.std.proofs.lemmas.Bool.{and_parts}
 use Rattle.std.proofs.Common.{◌≡◌, ℕ, ◌+◌, ◌≤◌, ◌==◌, ◌&&◌, List, [], ◌∷◌, ◌++◌, map, slice_get, true, Option, Some, None, is_none, IfSome, unwrap_or, ℤ, refl, sym, ap, subst, arith}
 use Rattle.tp_types.specs.declared.ids.ServerId.{ServerId}
 use Rattle.tp_types.specs.declared.mail.Body.{Body}
@@ -39,7 +40,7 @@ use Rattle.tp_machine.specs.Sound.{Each, EachPlaced}
 use Rattle.tp_machine.specs.Table.{flattened}
 use Rattle.tp_machine.specs.coord.Row as coord
 use Rattle.tp_machine.specs.server.Row as server
-use Rattle.tp_machine.proofs.SoundBuilt.{and_parts, number_is}
+use Rattle.tp_machine.proofs.SoundBuilt.{number_is}
 use Rattle.tp_machine.proofs.SoundLists.{by_cond, placed_emptied, placed_set}
 use Rattle.tp_machine.proofs.ViewsTurns.{stage, stage_most}
 

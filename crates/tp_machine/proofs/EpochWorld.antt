@@ -1,5 +1,6 @@
 -- Epochs over every list of steps: all that mails and coordinators name of epochs is what servers had, and all requests to prepare a
 -- transaction at a server name the one epoch that its coordinator keeps.
+use Rattle.std.proofs.lemmas.Bool.{eqb-true}
 use Rattle.std.proofs.Common.{◌≡◌, ℕ, ◌+◌, ◌≤◌, ◌==◌, List, [], ◌∷◌, length, slice_get, slice_set, Bool, true, false, Option, Some, None, IfSome, option_and_then, if◌then◌else◌, refl, sym, ap, subst, ◌∙◌, arith}
 use Rattle.std.specs.Option.{option_map_or}
 use Rattle.tp_types.specs.declared.fact.What.{What}
@@ -33,7 +34,7 @@ use Rattle.tp_machine.specs.coord.Row.{coordinator_row, submit_row}
 use Rattle.tp_machine.specs.offices.Authority as office
 use Rattle.tp_machine.specs.server.Opened as server_opened
 use Rattle.tp_machine.specs.server.Row.{server_row}
-use Rattle.tp_machine.proofs.AgreeActs.{number_itself, same_number}
+use Rattle.tp_machine.proofs.AgreeActs.{number_itself}
 use Rattle.tp_machine.proofs.AgreeCoordinator.{CoordinatorAgrees, HasBegun}
 use Rattle.tp_machine.proofs.AgreeSteps.{no_age, not_refused, own_txn}
 use Rattle.tp_machine.proofs.AgreeWorld.{Agrees}
@@ -128,7 +129,7 @@ chosen_epoch false part next other same e = refl
 epoch_set : (servers : List (Part Server)) (at n : ℕ) (part next : Part Server) → slice_get servers at ≡ Some part → epoch_by next ≡ epoch_by part → epoch_at (slice_set servers at next) n ≡ epoch_at servers n
 epoch_set servers at n part next found e =
     ap (λ (x : Option (Part Server)). option_map_or epoch_by x 0) (get_set servers at n part next found)
-    ∙ chosen_epoch (at == n) part next (slice_get servers n) (λ same. subst (λ (m : ℕ). slice_get servers m ≡ Some part) (same_number at n same) found) e
+    ∙ chosen_epoch (at == n) part next (slice_get servers n) (λ same. subst (λ (m : ℕ). slice_get servers m ≡ Some part) (eqb-true at n same) found) e
 
 records_with : (epoch : ℕ) (kept : List Record) (append : Option Record) → Each (RecordMade epoch) kept → IfSome append (RecordMade epoch) → Each (RecordMade epoch) (log_with kept append)
 records_with epoch kept None h f = h
@@ -175,7 +176,7 @@ prepare_stays : (coordinators : List (Part Coordinator)) (txn : TxnId) (part nex
     → slice_get coordinators txn.0 ≡ Some part → part.up ≡ Some c → next.up ≡ Some state → (IsNamed p at c → IsNamed p at state) → IfSome (up_at coordinators p.txn.0) (IsNamed p at)
     → IfSome (up_at (slice_set coordinators txn.0 next) p.txn.0) (IsNamed p at)
 prepare_stays coordinators txn part next c state p at true same found up up_next stays h =
-    let was : up_at coordinators p.txn.0 ≡ Some c = ap (option_and_then up_of) (subst (λ (n : ℕ). slice_get coordinators n ≡ Some part) (same_number txn.0 p.txn.0 same) found) ∙ up in
+    let was : up_at coordinators p.txn.0 ≡ Some c = ap (option_and_then up_of) (subst (λ (n : ℕ). slice_get coordinators n ≡ Some part) (eqb-true txn.0 p.txn.0 same) found) ∙ up in
     let now : up_at (slice_set coordinators txn.0 next) p.txn.0 ≡ Some state =
     look_set up_of coordinators txn.0 p.txn.0 part next found ∙ (ap (λ (d : Bool). if d then up_of next else up_at coordinators p.txn.0) same ∙ up_next) in
     subst (λ (u : Option Coordinator). IfSome u (IsNamed p at)) (sym now) (stays (subst (λ (u : Option Coordinator). IfSome u (IsNamed p at)) was h))

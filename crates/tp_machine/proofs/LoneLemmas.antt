@@ -1,4 +1,5 @@
 -- Every commit is the only one of its place: a step makes at most one.
+use Rattle.std.proofs.lemmas.Bool.{eqb-true}
 use Rattle.std.proofs.Common.{◌≡◌, ℕ, ◌+◌, ◌≤◌, ◌<◌, ◌==◌, ◌&&◌, List, [], ◌∷◌, length, slice_get, Bool, true, false, cond, Option, Some, None, is_some, refl, sym, ap, subst, ◌∙◌, arith}
 use Rattle.std.specs.List.{count_by}
 use Rattle.std.proofs.lemmas.Bool.Decides.{nat_tests}
@@ -91,13 +92,10 @@ past_none place [] h = refl
 past_none place (fact ∷ facts) h =
     sum_by-cons (λ z. cond (is_commit_at place z) 1 0) fact facts ∙ none_of (fact.place == place) (is_commit_what fact.what) _ (apart fact.place place h.0) (past_none place facts h.1)
 
-same_number : (n m : ℕ) → (n == m) ≡ true → n ≡ m
-same_number n m e = grind (arith, nat_tests)
-
 noted_lone : (place : ℕ) (facts : List Fact) (happened : List What) (k : ℕ) (b : Bool) → (place == k) ≡ b → ArePast place facts → AreLone facts → commits happened ≤ 1
     → count_by (is_commit_at k) facts + count_by (is_commit_at k) (noted place happened) ≤ 1
 noted_lone place facts happened k true e past h one =
-    let none : count_by (is_commit_at k) facts ≡ 0 = subst (λ (p : ℕ). count_by (is_commit_at p) facts ≡ 0) (same_number place k e) (past_none place facts past) in
+    let none : count_by (is_commit_at k) facts ≡ 0 = subst (λ (p : ℕ). count_by (is_commit_at p) facts ≡ 0) (eqb-true place k e) (past_none place facts past) in
     let most = noted_most k place happened in
     omega (arith, none, most, one)
 noted_lone place facts happened k false e past h one =

@@ -1,4 +1,5 @@
 -- Serial data, actor by actor: what an act of a server or a coordinator leaves keeps to the plans.
+use Rattle.std.proofs.lemmas.Bool.{eqb-true}
 use Rattle.std.proofs.Common.{◌≡◌, ℕ, ◌==◌, List, [], ◌∷◌, ◌++◌, length, flat_map, drop, fold, slice_get, slice_set, Bool, true, false, Option, Some, None, is_some, IfSome, option_map, option_and_then, ℤ, if◌then◌else◌, refl, sym, ap, subst, ◌∙◌}
 use Rattle.std.specs.Option.{option_map_or}
 use Rattle.std.proofs.lemmas.Option.{IfSome_then, same_Some}
@@ -35,7 +36,7 @@ use Rattle.tp_machine.specs.Sound.{Each, EachAt, IsTxn}
 use Rattle.tp_machine.specs.coord.Opened.{servers_at}
 use Rattle.tp_machine.specs.coord.Row.{is_awaited}
 use Rattle.tp_machine.proofs.AgreeWorld.{Agrees, DecidedAs}
-use Rattle.tp_machine.proofs.AgreeActs.{MaySettle, number_itself, same_number, same_txn_is, told_by}
+use Rattle.tp_machine.proofs.AgreeActs.{MaySettle, number_itself, same_txn_is, told_by}
 use Rattle.tp_machine.proofs.AgreeCoordinatorActs.{told_of}
 use Rattle.tp_machine.proofs.AgreeServer.{RecordRests}
 use Rattle.tp_machine.proofs.FactLemmas.{commit_found, first_commit}
@@ -183,10 +184,10 @@ apart_items : (sc : Scenario) (at other : ServerId) (deed : Deed) (n : ℕ) (ite
     → is_at sc at deed ≡ true → b ≡ false
 apart_items sc at other deed n item false e found here apart there = refl
 apart_items sc at other deed n item true e found here apart there =
-    let item_is : slice_get sc.items deed.item.0 ≡ Some item = subst (λ (m : ℕ). slice_get sc.items m ≡ Some item) (sym (same_number deed.item.0 n e)) found in
+    let item_is : slice_get sc.items deed.item.0 ≡ Some item = subst (λ (m : ℕ). slice_get sc.items m ≡ Some item) (sym (eqb-true deed.item.0 n e)) found in
     let same : same_server other at ≡ true =
     sym (ap (λ (x : Option Item). option_map_or (λ (i : Item). same_server i.server at) x false) item_is ∙ ap (λ (s : ServerId). same_server s at) here) ∙ there in
-    let turned : (at.0 == other.0) ≡ true = ap (λ (m : ℕ). m == other.0) (sym (same_number other.0 at.0 same)) ∙ number_itself other.0 in
+    let turned : (at.0 == other.0) ≡ true = ap (λ (m : ℕ). m == other.0) (sym (eqb-true other.0 at.0 same)) ∙ number_itself other.0 in
     absurd (cc)
 
 overlaid_apart : (sc : Scenario) (at other : ServerId) (deed : Deed) (n : ℕ) (item : Item) (store : List ℤ) → slice_get sc.items n ≡ Some item → item.server ≡ other → (at.0 == other.0) ≡ false
@@ -231,7 +232,7 @@ stays_by servers at part next append found grown txn other p = stayed (at.0 == o
   where
     stayed : (b : Bool) → (at.0 == other.0) ≡ b → IsPrepared (slice_set servers at.0 next) txn other
     stayed true same =
-        let old : prepared_at servers other.0 txn ≡ prepared_in txn part.log = ap (option_and_then (prepared_by txn)) (subst (λ (n : ℕ). slice_get servers n ≡ Some part) (same_number at.0 other.0 same) found) in
+        let old : prepared_at servers other.0 txn ≡ prepared_in txn part.log = ap (option_and_then (prepared_by txn)) (subst (λ (n : ℕ). slice_get servers n ≡ Some part) (eqb-true at.0 other.0 same) found) in
         ap is_some (look_set (prepared_by txn) servers at.0 other.0 part next found
         ∙ (ap (λ (c : Bool). if c then prepared_by txn next else prepared_at servers other.0 txn) same ∙ (ap (prepared_in txn) grown ∙ prepared_with txn part.log append)))
         ∙ is_some_later (appended (preparation_in txn) append) (prepared_in txn part.log) (sym (ap is_some old) ∙ p)

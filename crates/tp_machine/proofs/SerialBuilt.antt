@@ -1,10 +1,10 @@
 -- What the proofs of serial data take from the form of scenarios that is built: one server, and one transaction that writes one
 -- constant. Here alone they lean on that form; each lemma says so by its name.
+use Rattle.std.proofs.lemmas.Bool.{and_parts}
 use Rattle.std.proofs.Common.{◌≡◌, ℕ, zero, suc, ◌==◌, ◌&&◌, ◌||◌, List, [], ◌∷◌, length, map, slice_get, Bool, true, false, Option, Some, None, option_and_then, ℤ, refl, sym, ap, subst, ◌∙◌, arith}
 use Rattle.std.specs.List.{list_any}
 use Rattle.std.specs.Option.{option_map_or}
 use Rattle.std.proofs.Math.IntN.{+ℤ_idl}
-use Rattle.std.proofs.lemmas.Bool.Decides.{nat_tests}
 use Rattle.std.proofs.lemmas.Option.{same_Some}
 use Rattle.tp_types.specs.declared.ids.ItemId.{ItemId}
 use Rattle.tp_types.specs.declared.ids.ServerId.{ServerId}
@@ -27,13 +27,10 @@ use Rattle.tp_model.specs.Queries.{is_at_server, item_of, only, operand_value, q
 use Rattle.tp_model.specs.SerialRun.{are_in_range, cleared_registers, deeds_from, opening_store, operand_in, serial_run, term_in}
 use Rattle.tp_machine.specs.Sound.{Each, query_in}
 use Rattle.tp_machine.specs.coord.Row.{deed_of}
-use Rattle.tp_machine.proofs.SerialLists.{and_parts}
+use Rattle.tp_machine.proofs.SoundBuilt.{number_is}
 use Rattle.tp_machine.proofs.SerialPlan.{is_at, planned}
 
 -- ---- the form that is built
-
-number_is : (a b : ℕ) → (a == b) ≡ true → a ≡ b
-number_is a b e = grind (arith, nat_tests)
 
 only_is : {A : Type 0} (xs : List A) (x : A) → only xs ≡ Some x → xs ≡ x ∷ []
 only_is [] x e = absurd (cc)

@@ -1,5 +1,6 @@
 -- Serial data, the coordinator's rows: what a coordinator keeps and sends is its transaction's plan, and it commits where all of
 -- its servers have prepared.
+use Rattle.std.proofs.lemmas.Bool.{and_parts, eqb-true}
 use Rattle.std.proofs.Common.{◌≡◌, ℕ, ◌-◌, ◌==◌, ◌&&◌, ◌||◌, List, [], ◌∷◌, ◌++◌, map, take, Bool, true, false, not, cond, Option, Some, None, is_some, IfSome, ℤ, refl, sym, ap, subst, ◌∙◌, arith}
 use Rattle.std.proofs.lemmas.Bool.Decides.{nat_tests}
 use Rattle.std.proofs.lemmas.Option.{same_Some}
@@ -37,7 +38,6 @@ use Rattle.tp_machine.specs.coord.Opened.{servers_at}
 use Rattle.tp_machine.specs.coord.Row.{ack_from, answered, are_agreed, asks, asks_first, awaits_query, awaits_vote, begins, commits, coordinator_row, deed_of, done_of, is_awaited, is_from, is_last_write, judged, on_ack, on_body, on_done, on_tell, on_vote, plain_value, prepare_letter, query_of, ran, replied, request, sends_first, server_of, staple_of, submit_row, told, vote_at, voted, without}
 use Rattle.tp_machine.proofs.AgreeCoordinator.{HasBegun}
 use Rattle.tp_machine.proofs.SerialBuilt.{IsAllPlanned, one_query_is_planned}
-use Rattle.tp_machine.proofs.SerialLists.{and_parts}
 use Rattle.tp_machine.proofs.SerialPlan.{BodySerial, IsPlannedAnswer, IsPlannedValue, LetterSerial, RecordSerial, VoteRests, planned}
 use Rattle.tp_machine.proofs.SoundLists.{by_cond, each_as}
 
@@ -139,13 +139,10 @@ done_of_keeps sc V c from done None built h s asked_is before m = silent_keeps s
 done_of_keeps sc V c from done (Some asked) built h s asked_is before m =
     answered_keeps sc V c from done asked (server_of sc asked) (plain_value done.answer) built h s asked_is before (plain_planned sc c.txn done.query done.answer m)
 
-same_number : (n m : ℕ) → (n == m) ≡ true → n ≡ m
-same_number n m e = grind (arith, nat_tests)
-
 -- the deeds before the query that is awaited
 awaited_deeds : (c : Coordinator) (awaited : Phase) (done : DoneReply) (deeds plan : List Deed) → awaits_query c awaited done ≡ true → PhaseDeeds awaited deeds plan → deeds ≡ take (done.query - 1) plan
 awaited_deeds c (phase.Querying number None) done deeds plan e h =
-    h ∙ ap (λ (n : ℕ). take (n - 1) plan) (sym (same_number done.query number (and_parts (done.turn == c.turn) (done.query == number) e).1))
+    h ∙ ap (λ (n : ℕ). take (n - 1) plan) (sym (eqb-true done.query number (and_parts (done.turn == c.turn) (done.query == number) e).1))
 awaited_deeds c (phase.Querying number (Some staple)) done deeds plan e h = absurd (cc)
 awaited_deeds c _ done deeds plan e h = absurd (cc)
 
@@ -182,7 +179,7 @@ abbrev server_number : ℕ → ServerId
 server_number n = record { 0 = n }
 
 same_server_is : (one other : ServerId) → (one.0 == other.0) ≡ true → one ≡ other
-same_server_is one other e = ap server_number (same_number one.0 other.0 e)
+same_server_is one other e = ap server_number (eqb-true one.0 other.0 e)
 
 neither : (a b : Bool) → (a || b) ≡ false → b ≡ false
 neither a b e = grind arith

@@ -1,5 +1,6 @@
 -- Serial data, what it comes to: every commit is serial, each item has what settled commits leave, and once the transaction has
 -- ended everywhere that is what all commits leave.
+use Rattle.std.proofs.lemmas.Bool.{and_parts}
 use Rattle.std.proofs.Common.{◌≡◌, ℕ, suc, ◌+◌, ◌<◌, ◌&&◌, ◌||◌, List, [], ◌∷◌, length, fold, slice_get, Bool, true, false, Option, Some, None, is_some, IfSome, option_map, unwrap_or, ℤ, if◌then◌else◌, refl, sym, ap, subst, ◌∙◌, arith}
 use Rattle.std.specs.List.{cons_option, list_any}
 use Rattle.std.specs.Option.{option_map_or}
@@ -41,7 +42,7 @@ use Rattle.tp_machine.proofs.AgreeEnd.{each_found}
 use Rattle.tp_machine.proofs.LoneLemmas.{AreLone, lone_fact}
 use Rattle.tp_machine.proofs.SerialActs.{IsServedCommit, commit_serves}
 use Rattle.tp_machine.proofs.SerialBuilt.{IsOneTransaction, first_server, has_item_at_one_server, one_server, one_transaction, only_one_of_each, only_transaction, planned_at_one_server}
-use Rattle.tp_machine.proofs.SerialLists.{and_parts, each_of_all, fold_as, fold_keeps}
+use Rattle.tp_machine.proofs.SerialLists.{each_of_all, fold_as, fold_keeps}
 use Rattle.tp_machine.proofs.SerialPlan.{is_at, planned}
 use Rattle.tp_machine.proofs.SerialSteps.{among_servers}
 use Rattle.tp_machine.proofs.SoundBuilt.{IsValidItem, valid_built}

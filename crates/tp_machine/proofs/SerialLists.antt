@@ -61,11 +61,11 @@ pub at_changed : {A : Type 0} (P : ℕ → A → Type 0) (xs : List A) (k : ℕ)
     → EachAt P (slice_set xs k new)
 at_changed P xs k old new here others p n found e = changed (k == n) refl (sym (get_set xs k n old new here) ∙ e)
   where
-    same_number : (a b : ℕ) → (a == b) ≡ true → a ≡ b
-    same_number a b f = grind (arith, nat_tests)
+    eqb-true : (a b : ℕ) → (a == b) ≡ true → a ≡ b
+    eqb-true a b f = grind (arith, nat_tests)
 
     changed : (b : Bool) → (k == n) ≡ b → (if b then Some new else slice_get xs n) ≡ Some found → P n found
-    changed true same f = subst (λ (m : ℕ). P m found) (same_number k n same) (subst (P k) (same_Some new found f) p)
+    changed true same f = subst (λ (m : ℕ). P m found) (eqb-true k n same) (subst (P k) (same_Some new found f) p)
     changed false apart f = others n found f apart
 
 -- ---- tables
@@ -103,7 +103,3 @@ and_both a b e f = grind arith
 pub pointwise_itself : {A : Type 0} (same : A → A → Bool) → ((x : A) → same x x ≡ true) → (xs : List A) → pointwise same xs xs ≡ true
 pointwise_itself same h [] = refl
 pointwise_itself same h (x ∷ xs) = and_both (same x x) (pointwise same xs xs) (h x) (pointwise_itself same h xs)
-
-pub and_parts : (a b : Bool) → (a && b) ≡ true → (a ≡ true) × (b ≡ true)
-and_parts true b e = (refl, e)
-and_parts false b e = absurd (cc)

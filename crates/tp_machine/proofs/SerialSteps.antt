@@ -1,4 +1,5 @@
 -- Serial data, step by step: it holds before the first step, and each step keeps it.
+use Rattle.std.proofs.lemmas.Bool.{eqb-true}
 use Rattle.std.proofs.Common.{◌≡◌, ℕ, zero, suc, ◌+◌, ◌<◌, ◌≤◌, ◌==◌, List, [], ◌∷◌, length, slice_get, Bool, true, false, Option, Some, None, is_some, IfSome, option_and_then, if◌then◌else◌, refl, sym, ap, subst, ◌∙◌, arith}
 use Rattle.std.specs.List.{list_any}
 use Rattle.std.specs.Option.{option_map_or}
@@ -39,7 +40,7 @@ use Rattle.tp_machine.specs.offices.Authority as office
 use Rattle.tp_machine.specs.server.Opened as server
 use Rattle.tp_machine.specs.server.Row.{server_row}
 use Rattle.tp_machine.proofs.AgreeWorld.{Agrees, BodyRests, DecidedAs, MailRests}
-use Rattle.tp_machine.proofs.AgreeActs.{MaySettle, same_number}
+use Rattle.tp_machine.proofs.AgreeActs.{MaySettle}
 use Rattle.tp_machine.proofs.AgreeCoordinator.{CoordinatorAgrees}
 use Rattle.tp_machine.proofs.AgreeServer.{OrderRests, ServerAgrees, server_row_lawful}
 use Rattle.tp_machine.proofs.LogLemmas.{set_same}
@@ -63,7 +64,7 @@ next_above low k above apart = grind (arith, nat_tests)
 among_next : (P : ServerId → Type 0) (test : ℕ → Bool) (low k : ℕ) (b : Bool) → (low == k) ≡ b → low ≤ k → test k ≡ true → (test low ≡ true → P (record { 0 = low })) → (low + 1 ≤ k → P (record { 0 = k }))
     → P (record { 0 = k })
 among_next P test low k true same above here first later =
-    let number : low ≡ k = same_number low k same in
+    let number : low ≡ k = eqb-true low k same in
     subst (λ (n : ℕ). P (record { 0 = n })) number (first (subst (λ (n : ℕ). test n ≡ true) (sym number) here))
 among_next P test low k false apart above here first later = later (next_above low k above apart)
 

@@ -1,4 +1,5 @@
 -- Serial data over every list of steps: each commit has the deeds of its transaction run by itself, and servers apply them.
+use Rattle.std.proofs.lemmas.Bool.{and_parts}
 use Rattle.std.proofs.Common.{◌≡◌, ℕ, zero, suc, ◌+◌, ◌==◌, ◌&&◌, ◌||◌, List, [], ◌∷◌, ◌++◌, length, fold, slice_get, slice_set, Bool, true, false, Option, Some, None, is_some, IfSome, ℤ, if◌then◌else◌, refl, sym, ap, subst, ◌∙◌, arith}
 use Rattle.std.specs.Cmp.Lexicographic.{pointwise}
 use Rattle.std.specs.List.{list_any}
@@ -42,7 +43,7 @@ use Rattle.tp_machine.proofs.FactLemmas.{ArePast, Grows, before_past, grows_note
 use Rattle.tp_machine.proofs.LogLemmas.{first_first, first_stays}
 use Rattle.tp_machine.proofs.SerialBuilt.{IsInRange, constants_run_anywhere, planned_in_range}
 use Rattle.tp_machine.proofs.SerialCoordinator.{CoordinatorSerial}
-use Rattle.tp_machine.proofs.SerialLists.{and_parts, any_filtered, fold_as, fold_keeps, pointwise_itself}
+use Rattle.tp_machine.proofs.SerialLists.{any_filtered, fold_as, fold_keeps, pointwise_itself}
 use Rattle.tp_machine.proofs.SerialPlan.{DecisionSerial, LetterSerial, MailSerial, mails_stay, planned, planned_at, planned_what}
 use Rattle.tp_machine.proofs.SerialServer.{ServerSerial}
 use Rattle.tp_machine.proofs.SoundLists.{each_append, each_as, missing}

@@ -1,5 +1,6 @@
 -- What the proofs of soundness take from a scenario. Here alone they lean on the form of scenarios that is built: where it
 -- widens, each field of IsValid is to be shown anew, and the last of them goes.
+use Rattle.std.proofs.lemmas.Bool.{and_parts}
 use Rattle.std.proofs.Common.{◌≡◌, ℕ, ◌<ℤ◌, ◌≤ℤ◌, List, [], ◌∷◌, length, Bool, true, false, not, ◌&&◌, ◌==◌, Option, Some, None, ℤ, pos, neg_ℤ, ◌^◌, Ordering, Less, Equal, Greater, is_gt, int_cmp, refl, sym, subst, ap, arith}
 use Rattle.std.specs.Cmp.Lexicographic.{pointwise}
 use Rattle.std.specs.Ordering.{MatchOrdering}
@@ -43,10 +44,6 @@ pub record IsValid (sc : Scenario) : Type 0 where
   pub deferred : Each (λ (declared : Transaction). proves_each declared.scheme ≡ false) sc.txns
 
 -- ---- tests
-
-pub and_parts : (a b : Bool) → (a && b) ≡ true → (a ≡ true) × (b ≡ true)
-and_parts true b e = (refl, e)
-and_parts false b e = absurd (cc)
 
 -- a number that is tested for being 1 or 0 is that number
 pub number_is : (a b : ℕ) → (a == b) ≡ true → a ≡ b

@@ -1,4 +1,5 @@
 -- Trust, actor by actor: what an act leaves fits.
+use Rattle.std.proofs.lemmas.Bool.{eqb-true}
 use Rattle.std.proofs.Common.{◌≡◌, ℕ, ◌+◌, List, [], ◌∷◌, ◌++◌, length, flat_map, drop, slice_get, slice_set, Bool, true, false, Option, Some, None, IfSome, option_and_then, if◌then◌else◌, refl, sym, ap, subst, ◌∙◌, arith}
 use Rattle.std.specs.List.{list_any, sum_by}
 use Rattle.tp_types.specs.declared.fact.Fact.{Fact}
@@ -24,7 +25,7 @@ use Rattle.tp_machine.specs.Machine.{State, acts_by, coordinator_acted, coordina
 use Rattle.tp_machine.specs.Sound.{Each}
 use Rattle.tp_machine.specs.offices.Authority as office
 use Rattle.tp_machine.proofs.AgreeWorld.{Agrees}
-use Rattle.tp_machine.proofs.AgreeActs.{number_itself, same_number, told_by}
+use Rattle.tp_machine.proofs.AgreeActs.{number_itself, told_by}
 use Rattle.tp_machine.proofs.AgreeCoordinatorActs.{told_of}
 use Rattle.tp_machine.proofs.FactLemmas.{before_past}
 use Rattle.tp_machine.proofs.LogLemmas.{gained, look_set}
@@ -146,7 +147,7 @@ stamp_stays : (coordinators : List (Part Coordinator)) (txn : TxnId) (part next 
     → slice_get coordinators txn.0 ≡ Some part → part.up ≡ Some c → next.up ≡ Some state → (IsTimely c.phase c.turn stamped.turn said → IsTimely state.phase state.turn stamped.turn said)
     → StampFits coordinators said stamped → StampFits (slice_set coordinators txn.0 next) said stamped
 stamp_stays coordinators txn part next c state said stamped true same found up up_next old h =
-    let was : up_at coordinators stamped.txn.0 ≡ Some c = ap (option_and_then up_of) (subst (λ (n : ℕ). slice_get coordinators n ≡ Some part) (same_number txn.0 stamped.txn.0 same) found) ∙ up in
+    let was : up_at coordinators stamped.txn.0 ≡ Some c = ap (option_and_then up_of) (subst (λ (n : ℕ). slice_get coordinators n ≡ Some part) (eqb-true txn.0 stamped.txn.0 same) found) ∙ up in
     let now : up_at (slice_set coordinators txn.0 next) stamped.txn.0 ≡ Some state =
     look_set up_of coordinators txn.0 stamped.txn.0 part next found ∙ (ap (λ (d : Bool). if d then up_of next else up_at coordinators stamped.txn.0) same ∙ up_next) in
     subst (λ (u : Option Coordinator). IfSome u (TurnFits stamped.turn said)) (sym now) (old (subst (λ (u : Option Coordinator). IfSome u (TurnFits stamped.turn said)) was h))

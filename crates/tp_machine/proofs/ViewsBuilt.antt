@@ -1,5 +1,6 @@
 -- What trust takes from the form that is built: the one policy text allows all by its first rule, a transaction has one query, and
 -- a deferred commit reads no master. Here alone the proofs of trust lean on that form.
+use Rattle.std.proofs.lemmas.Bool.{and_parts}
 use Rattle.std.proofs.Common.{◌≡◌, ℕ, zero, suc, ◌<◌, ◌==◌, ◌&&◌, ◌||◌, List, [], ◌∷◌, length, not, Bool, true, false, slice_get, Option, Some, None, is_none, option_map, unwrap_or, refl, sym, ap, subst, ◌∙◌, arith}
 use Rattle.std.specs.List.{list_any}
 use Rattle.std.specs.Option.{option_map_or}
@@ -29,7 +30,7 @@ use Rattle.tp_model.specs.Levels.{is_global, reads_master}
 use Rattle.tp_model.specs.Policies.{Triple, allows, holds, is_about_action, is_about_item, level, matches, rule_allows}
 use Rattle.tp_model.specs.Versions.{opening_of}
 use Rattle.tp_machine.specs.Sound.{Each, IsAdmin}
-use Rattle.tp_machine.proofs.SoundBuilt.{HasForm, IsOnly, and_parts, count_of, each_of_one, has_form, number_is, second_and_last, single_is}
+use Rattle.tp_machine.proofs.SoundBuilt.{HasForm, IsOnly, count_of, each_of_one, has_form, number_is, second_and_last, single_is}
 
 -- ---- the one policy
 

@@ -1,4 +1,5 @@
 -- Trust, the coordinator's rows: it commits on one instance whose proofs are right, true and of one version.
+use Rattle.std.proofs.lemmas.Bool.{and_parts}
 use Rattle.std.proofs.Common.{◌≡◌, ℕ, ◌+◌, ◌≤◌, ◌==◌, ◌&&◌, List, [], ◌∷◌, ◌++◌, map, true, Option, Some, None, IfSome, ℤ, refl, sym, ap, subst, arith}
 use Rattle.tp_types.specs.declared.fact.Fact.{Fact}
 use Rattle.tp_types.specs.declared.ids.ServerId.{ServerId}
@@ -38,7 +39,6 @@ use Rattle.tp_machine.specs.Machine.{with_age}
 use Rattle.tp_machine.specs.Sound.{Each, IsSoundBody}
 use Rattle.tp_machine.specs.coord.Row.{ack_from, answered, are_agreed, asks_first, awaits_query, awaits_vote, begins, commits, coordinator_row, done_of, first_round, is_from, is_last_write, judged, next_turn, on_ack, on_body, on_done, on_tell, on_vote, plain_value, prepare_letter, query_of, ran, replied, requests, sends_first, server_of, staple_of, submit_row, told, vote_at, voted, with_reply, without}
 use Rattle.tp_machine.proofs.AgreeCoordinator.{HasBegun}
-use Rattle.tp_machine.proofs.SoundBuilt.{and_parts}
 use Rattle.tp_machine.proofs.SoundLists.{by_cond, each_more}
 use Rattle.tp_machine.proofs.ViewsFit.{BodyFits, IsSubmitted, PhaseFits, Right, StapleFits, VerdictsFit, VoteFits}
 use Rattle.tp_machine.proofs.ViewsTurns.{IsTimely, Now, raised, stage, stage_most, stamp_of, Stamp, turn_rises}

@@ -1,4 +1,5 @@
 -- Trust of the facts: where the invariant holds, every commit is trusted and every abort has its cause.
+use Rattle.std.proofs.lemmas.Bool.{and_parts}
 use Rattle.std.proofs.Common.{◌≡◌, ℕ, ◌≤◌, ◌<◌, ◌==◌, ◌&&◌, nat_le, nat_lt, List, [], ◌∷◌, length, slice_get, Bool, true, false, Option, Some, None, is_some, if◌then◌else◌, refl, ap, ◌∙◌, arith}
 use Rattle.std.specs.Cmp.Lexicographic.{pointwise}
 use Rattle.std.specs.List.{list_all, range_with_len}
@@ -29,7 +30,6 @@ use Rattle.tp_machine.specs.coord.Row.{are_agreed}
 use Rattle.tp_machine.proofs.AgreeActs.{number_itself}
 use Rattle.tp_machine.proofs.AgreeEnd.{each_found}
 use Rattle.tp_machine.proofs.FactLemmas.{all_from_each}
-use Rattle.tp_machine.proofs.SoundBuilt.{and_parts}
 use Rattle.tp_machine.proofs.SoundLists.{each_get, missing}
 use Rattle.tp_machine.proofs.ViewsFit.{IsRight, Right, VerdictsFit}
 use Rattle.tp_machine.proofs.ViewsBuilt.{IsFirstForm, both_true, first_form}

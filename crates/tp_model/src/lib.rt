@@ -4,6 +4,7 @@
 mod audit;
 mod built;
 mod level;
+mod policy;
 mod query;
 
 pub use audit::{
@@ -12,4 +13,5 @@ pub use audit::{
 };
 pub use built::is_built;
 pub use level::{level_of, reads_master};
+pub use policy::{matches, meets, rule_in};
 pub use query::{item_of, only, query_at, servers_of, written_constant};

@@ -76,7 +76,8 @@ fn is_at_server(scenario: &Scenario, server: u32, query: &Query) -> bool
     }
 }
 
-fn has_query_at(scenario: &Scenario, server: u32, asked: &[Query]) -> bool
+/// Some of the queries is on an item of the server.
+pub fn has_query_at(scenario: &Scenario, server: u32, asked: &[Query]) -> bool
     ensures { result ≡ list_any (queries.is_at_server scenario.now server) asked.now }
 {
     asked

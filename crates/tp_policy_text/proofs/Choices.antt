@@ -1,11 +1,11 @@
 -- Exact readers in other words: another language, one of two by the next byte, and a parenthesis that is one too many.
+use Rattle.std.proofs.lemmas.Bool.{eqb-true}
 use Rattle.std.proofs.Common.{◌≡◌, ◌⊎◌, inl, inr, ℕ, ◌<◌, ◌≤◌, List, [], ◌∷◌, ◌++◌, length, Bool, true, false, Option, Some, None, Result, Ok, Err, refl, sym, ap, subst, ◌∙◌, arith, if◌then◌else◌}
 use Rattle.tp_policy_text.specs.declared.halt.Stop.{Stop}
 use Rattle.tp_policy_text.specs.declared.halt.Stop.TheVariants as stop
 use Rattle.tp_policy_text.specs.Lexis.{count, first}
 use Rattle.tp_policy_text.specs.Readings.{Reader, Reading, choice, is_open, read, stopped, unopened}
 use Rattle.tp_policy_text.proofs.Exact.{Ends, Exact, Front, GivesUp, IsDeep, IsLevel, IsShallow, Language, left_at}
-use Rattle.tp_policy_text.proofs.Leaves.{same_number}
 use Rattle.tp_policy_text.proofs.Texts.{IsTight, first_after, same_front}
 
 -- ---- the same in other words
@@ -178,7 +178,7 @@ pub record Opened {A : Type 0} (P V : Language A) : Type 0 where
 
 opened_is : (o : Option ℕ) → is_open o ≡ true → o ≡ Some 40
 opened_is None e = absurd (cc)
-opened_is (Some byte) e = ap (λ (b : ℕ). Some b) (same_number byte 40 e)
+opened_is (Some byte) e = ap (λ (b : ℕ). Some b) (eqb-true byte 40 e)
 
 pub unopened_exact : {A : Type 0} (q : Reader A) (M V P : Language A) (F : Option ℕ → Bool) (n : ℕ) → Exact M V F 0 0 n q → Opened P V → Exact M (Either P V) F 0 0 n (unopened q)
 unopened_exact {A = A} q M V P F n Q kinds = record {

@@ -1,4 +1,5 @@
 -- Conditions are read exactly, within each depth.
+use Rattle.std.proofs.lemmas.Bool.{and_parts, eqb-true}
 use Rattle.std.proofs.Common.{◌≡◌, ◌⊎◌, inl, inr, ℕ, zero, suc, ◌≤◌, ◌==◌, ◌&&◌, not, List, [], ◌∷◌, ◌++◌, Bool, true, false, Option, Some, Result, Ok, Err, refl, sym, ap, subst, ◌∙◌, arith, if◌then◌else◌, codes, ◌+◌}
 use Rattle.tp_types.specs.declared.policy.Cond.{Cond}
 use Rattle.tp_types.specs.declared.policy.Cond.TheVariants as cond
@@ -14,9 +15,9 @@ use Rattle.tp_policy_text.proofs.Comparisons.{atom_exact, same_inl}
 use Rattle.tp_policy_text.proofs.Exact.{Exact, IsLevel, IsShallow, Language, Starts, left_at, Ends}
 use Rattle.tp_policy_text.proofs.Heads.{not_dot}
 use Rattle.tp_policy_text.proofs.Images.{Image, mapped_exact}
-use Rattle.tp_policy_text.proofs.Leaves.{any_next, same_number}
+use Rattle.tp_policy_text.proofs.Leaves.{any_next}
 use Rattle.tp_policy_text.proofs.Links.{Fits, Linked, link_exact}
-use Rattle.tp_policy_text.proofs.Names.{and_parts, not_true}
+use Rattle.tp_policy_text.proofs.Names.{not_true}
 use Rattle.tp_policy_text.proofs.Sequences.{Both, both_exact, inr_is, narrowed}
 use Rattle.tp_policy_text.proofs.Patterns.{name_begins, token_begins}
 use Rattle.tp_policy_text.proofs.Texts.{append_append, count_append, same_front}
@@ -245,7 +246,7 @@ letter_not_open byte e = by_open (byte == 40) refl
   where
     by_open : (b : Bool) → (byte == 40) ≡ b → b ≡ false
     by_open false e2 = refl
-    by_open true e2 = let both = sym e ∙ ap is_letter (same_number byte 40 e2) in absurd (cc)
+    by_open true e2 = let both = sym e ∙ ap is_letter (eqb-true byte 40 e2) in absurd (cc)
 
 atom_begins : (c : Cond) (s t : List ℕ) → IsAtom c s t → is_open (first s) ≡ false
 atom_begins c s t (inl h) = ap is_open (ap first h.1.begins)

@@ -1,4 +1,5 @@
 -- The head of an atom is read exactly: the word true, or an issuer and an attribute.
+use Rattle.std.proofs.lemmas.Bool.{and_parts, eqb-true}
 use Rattle.std.proofs.Common.{◌≡◌, ◌⊎◌, inl, inr, ℕ, ◌==◌, ◌&&◌, not, List, [], ◌∷◌, ◌++◌, Bool, true, false, Option, Some, None, refl, sym, ap, subst, ◌∙◌, arith, if◌then◌else◌, codes}
 use Rattle.std.proofs.lemmas.Option.{same_Some}
 use Rattle.tp_policy_text.specs.Grammar.{Subject}
@@ -7,8 +8,8 @@ use Rattle.tp_policy_text.specs.Readers.{Head, attr_step, comes, head_at, head_e
 use Rattle.tp_policy_text.specs.Readings.{ended, machine, read}
 use Rattle.tp_policy_text.proofs.Choices.{retell}
 use Rattle.tp_policy_text.proofs.Exact.{Ends, Exact}
-use Rattle.tp_policy_text.proofs.Leaves.{Goes, IsLeaf, Sound, any_next, halted, leaf_exact, next_of, same_number, went}
-use Rattle.tp_policy_text.proofs.Names.{Plain, and_parts, both_true, give, given, name_finish, name_of_some, names_go, names_of, no_further, not_false, not_true, plain_level, plain_shallow, some_of_name}
+use Rattle.tp_policy_text.proofs.Leaves.{Goes, IsLeaf, Sound, any_next, halted, leaf_exact, next_of, went}
+use Rattle.tp_policy_text.proofs.Names.{Plain, both_true, give, given, name_finish, name_of_some, names_go, names_of, no_further, not_false, not_true, plain_level, plain_shallow, some_of_name}
 use Rattle.tp_policy_text.proofs.Patterns.{given_name, goes_both}
 use Rattle.tp_policy_text.proofs.Texts.{IsTight, append_append, append_none, tight_byte}
 
@@ -92,7 +93,7 @@ head_of issuer (byte ∷ text) last (next, e, later) = by_dot ((byte == 46) && i
         inr (record {
           before = [];
           attr = text;
-          parts = ap (λ (b : ℕ). b ∷ text) (same_number byte 46 test.0);
+          parts = ap (λ (b : ℕ). b ∷ text) (eqb-true byte 46 test.0);
           goes = sym (append_none issuer);
           some = ap is_some_text (append_none issuer) ∙ test.1;
           then_goes = over.0;
@@ -111,7 +112,7 @@ issuer_lifted issuer byte next e = dot_step issuer byte false (by_dot (byte == 4
 
     by_dot : (b : Bool) → (byte == 46) ≡ b → ((byte == 46) && is_some_text issuer) ≡ false
     by_dot false e2 = ap (λ (b : Bool). b && is_some_text issuer) e2
-    by_dot true e2 = absurd (wrong (sym (subst (λ (b : ℕ). name_step issuer b ≡ None) (sym (same_number byte 46 e2)) (no_further issuer 46 refl)) ∙ e))
+    by_dot true e2 = absurd (wrong (sym (subst (λ (b : ℕ). name_step issuer b ≡ None) (sym (eqb-true byte 46 e2)) (no_further issuer 46 refl)) ∙ e))
 
 issuer_goes : (issuer text last : List ℕ) → Goes name_step issuer text last → Goes head_step (in_issuer issuer) text (in_issuer last)
 issuer_goes issuer [] last h = ap in_issuer h
@@ -211,7 +212,7 @@ same_text_is [] (y ∷ ys) e = absurd (cc)
 same_text_is (x ∷ xs) [] e = absurd (cc)
 same_text_is (x ∷ xs) (y ∷ ys) e =
     let parts = and_parts (x == y) (same_text xs ys) e in
-    ap (λ b. b ∷ xs) (same_number x y parts.0) ∙ ap (λ l. y ∷ l) (same_text_is xs ys parts.1)
+    ap (λ b. b ∷ xs) (eqb-true x y parts.0) ∙ ap (λ l. y ∷ l) (same_text_is xs ys parts.1)
 
 leaf_head : (a : Option Head) (s t : List ℕ) → IsLeaf head_step head_end (in_issuer []) a s t → IsHead a s t
 leaf_head a s t h = by_state (head_of [] h.text h.last h.goes)
@@ -246,7 +247,7 @@ no_dot (byte ∷ others) t e may = by_dot (byte == 46) refl
     by_dot : (b : Bool) → (byte == 46) ≡ b → not b ≡ true
     by_dot false e2 = refl
     by_dot true e2 =
-        let here : skip (byte ∷ others) ≡ byte ∷ others = tight_byte byte others (ap is_blank (same_number byte 46 e2)) in
+        let here : skip (byte ∷ others) ≡ byte ∷ others = tight_byte byte others (ap is_blank (eqb-true byte 46 e2)) in
         let is : not_dot (first t) ≡ not (byte == 46) = ap (λ l. not_dot (first l)) (e ∙ here) in
         sym (ap not e2) ∙ (sym is ∙ may)
 

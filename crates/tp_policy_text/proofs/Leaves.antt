@@ -1,6 +1,6 @@
 -- Tokens, read byte by byte by a machine of states: where each state can be led to an end, the reader is exact.
+use Rattle.std.proofs.lemmas.Bool.{eqb-true}
 use Rattle.std.proofs.Common.{◌≡◌, ◌⊎◌, inl, inr, ℕ, ◌+◌, ◌<◌, ◌==◌, List, [], ◌∷◌, ◌++◌, length, Bool, true, false, Option, Some, None, Result, Ok, Err, refl, ◌≤◌, sym, ap, subst, ◌∙◌, arith, if◌then◌else◌}
-use Rattle.std.proofs.lemmas.Bool.Decides.{nat_tests}
 use Rattle.std.proofs.lemmas.List.{length-append}
 use Rattle.std.proofs.lemmas.Option.{same_Some}
 use Rattle.tp_policy_text.specs.declared.halt.Stop.{Stop}
@@ -153,16 +153,13 @@ pub record Sound {S : Type 0} {A : Type 0} (step : S → ℕ → Option S) (fina
   pub level : (text : List ℕ) (last : S) (o : Option ℕ) (a : A) → Goes step start text last → final last o ≡ Some a → IsLevel d e text
   pub shallow : (text : List ℕ) (last : S) → Goes step start text last → IsShallow d text
 
-pub same_number : (n m : ℕ) → (n == m) ≡ true → n ≡ m
-same_number n m e = grind (arith, nat_tests)
-
 -- a blank is no other byte
 not_blank : (byte sign : ℕ) → is_blank byte ≡ true → is_blank sign ≡ false → (byte == sign) ≡ false
 not_blank byte sign h other = by_same (byte == sign) refl
   where
     by_same : (b : Bool) → (byte == sign) ≡ b → b ≡ false
     by_same false e = refl
-    by_same true e = let both = sym h ∙ (ap is_blank (same_number byte sign e) ∙ other) in absurd (cc)
+    by_same true e = let both = sym h ∙ (ap is_blank (eqb-true byte sign e) ∙ other) in absurd (cc)
 
 pub no_parens : (blanks : List ℕ) → AreBlank blanks → (count 40 blanks ≡ 0) × (count 41 blanks ≡ 0)
 no_parens [] h = (refl, refl)

@@ -1,4 +1,5 @@
 -- Names are read exactly, by themselves and inside of other tokens.
+use Rattle.std.proofs.lemmas.Bool.{and_parts, eqb-true}
 use Rattle.std.proofs.Common.{◌≡◌, ℕ, ◌<◌, ◌==◌, ◌&&◌, ◌||◌, not, nat_lt, nat_le, List, [], ◌∷◌, ◌++◌, length, Bool, true, false, Option, Some, None, refl, sym, ap, subst, ◌∙◌, arith, if◌then◌else◌}
 use Rattle.std.specs.List.{list_all}
 use Rattle.std.proofs.lemmas.Bool.Decides.{nat_tests}
@@ -12,14 +13,10 @@ use Rattle.tp_policy_text.specs.Readers.{goes_on, is_some_text, name_at, name_en
 use Rattle.tp_policy_text.specs.Readings.{ended, machine, read}
 use Rattle.tp_policy_text.proofs.Choices.{retell}
 use Rattle.tp_policy_text.proofs.Exact.{Exact, IsLevel, IsShallow}
-use Rattle.tp_policy_text.proofs.Leaves.{Goes, IsLeaf, Sound, any_next, halted, leaf_exact, next_of, same_number, went}
+use Rattle.tp_policy_text.proofs.Leaves.{Goes, IsLeaf, Sound, any_next, halted, leaf_exact, next_of, went}
 use Rattle.tp_policy_text.proofs.Texts.{append_append, append_none, count_append}
 
 -- ---- tests
-
-pub and_parts : (a b : Bool) → (a && b) ≡ true → (a ≡ true) × (b ≡ true)
-and_parts true b e = (refl, e)
-and_parts false b e = absurd (cc)
 
 pub both_true : (a b : Bool) → a ≡ true → b ≡ true → (a && b) ≡ true
 both_true true b e f = f
@@ -163,7 +160,7 @@ no_count {S = S} step sign none state last (byte ∷ text) (next, e, later) =
 
     by_same : (b : Bool) → (byte == sign) ≡ b → count sign text ≡ 0 → count sign (byte ∷ text) ≡ 0
     by_same false e2 rest = let test = ap {B = ℕ} (λ (b : Bool). if b then 1 else 0) e2 in omega (arith, test, rest)
-    by_same true e2 rest = absurd (wrong (sym (subst (λ (b : ℕ). step state b ≡ None) (sym (same_number byte sign e2)) (none state)) ∙ e))
+    by_same true e2 rest = absurd (wrong (sym (subst (λ (b : ℕ). step state b ≡ None) (sym (eqb-true byte sign e2)) (none state)) ∙ e))
 
 pub record Plain {S : Type 0} (step : S → ℕ → Option S) : Type 0 where
   pub opens : (state : S) → step state 40 ≡ None

@@ -1,4 +1,5 @@
 -- Integers are read exactly.
+use Rattle.std.proofs.lemmas.Bool.{and_parts, eqb-true}
 use Rattle.std.proofs.Common.{◌≡◌, ◌⊎◌, inl, inr, ℕ, ◌+◌, ◌-◌, ◌*◌, ◌<◌, ◌≤◌, ◌==◌, ◌&&◌, not, nat_lt, nat_le, List, [], ◌∷◌, ◌++◌, length, Bool, true, false, Option, Some, None, refl, sym, ap, subst, ◌∙◌, arith, if◌then◌else◌, ℤ}
 use Rattle.std.specs.List.{list_all}
 use Rattle.std.proofs.lemmas.Bool.Decides.{nat_tests}
@@ -12,8 +13,8 @@ use Rattle.tp_policy_text.specs.Readers.{Digits, int_at, int_end, int_of, int_st
 use Rattle.tp_policy_text.specs.Readings.{ended, machine, read}
 use Rattle.tp_policy_text.proofs.Choices.{retell}
 use Rattle.tp_policy_text.proofs.Exact.{Exact}
-use Rattle.tp_policy_text.proofs.Leaves.{Goes, IsLeaf, Sound, any_next, halted, leaf_exact, next_of, same_number, went}
-use Rattle.tp_policy_text.proofs.Names.{Plain, and_parts, both_true, first_false, give, give_none, given, last_part, less_of, not_false, not_true, of_less, plain_level, plain_shallow, second_false}
+use Rattle.tp_policy_text.proofs.Leaves.{Goes, IsLeaf, Sound, any_next, halted, leaf_exact, next_of, went}
+use Rattle.tp_policy_text.proofs.Names.{Plain, both_true, first_false, give, give_none, given, last_part, less_of, not_false, not_true, of_less, plain_level, plain_shallow, second_false}
 use Rattle.tp_policy_text.proofs.Texts.{append_append, append_none}
 
 -- ---- digits so far
@@ -105,8 +106,8 @@ may_take negative [] text byte h =
     both_true (is_digit byte) (not (negative && (byte == 48))) was.digit (not_false (negative && (byte == 48)) (no_minus_zero negative refl was))
   where
     zero_alone : (rest : List ℕ) → (byte == 48) ≡ true → NumberParts byte rest → 1 ≤ spelled_from 0 (byte ∷ rest) → ⊥
-    zero_alone [] zero was least = let same = same_number byte 48 zero in omega (arith, same, least)
-    zero_alone (other ∷ rest) zero was least = let same = same_number byte 48 zero in let above = was.leads (λ none. wrong none) in omega (arith, same, above)
+    zero_alone [] zero was least = let same = eqb-true byte 48 zero in omega (arith, same, least)
+    zero_alone (other ∷ rest) zero was least = let same = eqb-true byte 48 zero in let above = was.leads (λ none. wrong none) in omega (arith, same, above)
       where
         wrong : other ∷ rest ≡ [] → ⊥
         wrong e = absurd (cc)
@@ -168,7 +169,7 @@ minus_parts : (negative : Bool) (digits : List ℕ) (byte : ℕ) → ((byte == 4
 minus_parts negative digits byte e =
     let one = and_parts ((byte == 45) && not negative) (not (is_some_text digits)) e in
     let two = and_parts (byte == 45) (not negative) one.0 in
-    record { minus = same_number byte 45 two.0; plus = not_true negative two.1; none = no_text digits (not_true (is_some_text digits) one.1) }
+    record { minus = eqb-true byte 45 two.0; plus = not_true negative two.1; none = no_text digits (not_true (is_some_text digits) one.1) }
 
 digits_only : (digits text : List ℕ) (last : Digits) → Goes int_step (state_of true digits) text last → Reads_digits true digits text last
 digits_only digits [] last h = record { is = sym h ∙ ap (state_of true) (sym (append_none digits)); so_far = λ k. subst (IsDigitsSoFar true) (sym (append_none digits)) k }

@@ -1,4 +1,5 @@
 -- Patterns are read exactly.
+use Rattle.std.proofs.lemmas.Bool.{and_parts, eqb-true}
 use Rattle.std.proofs.Common.{◌≡◌, ◌⊎◌, inl, inr, ℕ, ◌==◌, ◌&&◌, not, List, [], ◌∷◌, ◌++◌, Bool, true, false, Option, Some, None, refl, sym, ap, subst, ◌∙◌, arith, if◌then◌else◌, codes}
 use Rattle.std.proofs.lemmas.Option.{same_Some}
 use Rattle.tp_types.specs.declared.policy.Pattern.{Pattern}
@@ -10,8 +11,8 @@ use Rattle.tp_policy_text.specs.Readers.{Starred, comes, goes_on, pattern_at, si
 use Rattle.tp_policy_text.specs.Readings.{ended, machine, read}
 use Rattle.tp_policy_text.proofs.Choices.{Either, choice_exact, retell}
 use Rattle.tp_policy_text.proofs.Exact.{Ends, Exact}
-use Rattle.tp_policy_text.proofs.Leaves.{Goes, IsLeaf, Sound, any_next, halted, leaf_exact, next_of, same_number, went}
-use Rattle.tp_policy_text.proofs.Names.{name_parts, Plain, and_parts, both_true, give, given, name_finish, name_of_some, names_go, names_of, no_further, not_false, not_true, plain_level, plain_shallow, some_of_name}
+use Rattle.tp_policy_text.proofs.Leaves.{Goes, IsLeaf, Sound, any_next, halted, leaf_exact, next_of, went}
+use Rattle.tp_policy_text.proofs.Names.{name_parts, Plain, both_true, give, given, name_finish, name_of_some, names_go, names_of, no_further, not_false, not_true, plain_level, plain_shallow, some_of_name}
 use Rattle.tp_policy_text.proofs.Tokens.{Says, plain_token}
 use Rattle.tp_policy_text.proofs.Texts.{append_append, append_none, tight_byte}
 
@@ -82,7 +83,7 @@ starred_of name (byte ∷ text) last (next, e, later) = by_star ((byte == 42) &&
         let test = and_parts (byte == 42) (is_some_text name) star in
         inr (record {
           before = [];
-          parts = ap (λ l. byte ∷ l) over.0 ∙ ap (λ (b : ℕ). b ∷ []) (same_number byte 42 test.0);
+          parts = ap (λ l. byte ∷ l) over.0 ∙ ap (λ (b : ℕ). b ∷ []) (eqb-true byte 42 test.0);
           goes = sym (append_none name);
           some = ap is_some_text (append_none name) ∙ test.1;
           is = over.1 ∙ ap with_star (sym (append_none name));
@@ -104,7 +105,7 @@ lifted name byte next e = star_step name byte false (by_star (byte == 42) refl) 
 
     by_star : (b : Bool) → (byte == 42) ≡ b → ((byte == 42) && is_some_text name) ≡ false
     by_star false e2 = ap (λ (b : Bool). b && is_some_text name) e2
-    by_star true e2 = absurd (wrong (sym (subst (λ (b : ℕ). name_step name b ≡ None) (sym (same_number byte 42 e2)) (no_further name 42 refl)) ∙ e))
+    by_star true e2 = absurd (wrong (sym (subst (λ (b : ℕ). name_step name b ≡ None) (sym (eqb-true byte 42 e2)) (no_further name 42 refl)) ∙ e))
 
 lift_goes : (name text last : List ℕ) → Goes name_step name text last → Goes starred_step (plain_name name) text (plain_name last)
 lift_goes name [] last h = ap plain_name h
@@ -207,7 +208,7 @@ no_star (byte ∷ others) t e may = by_star (byte == 42) refl
     by_star : (b : Bool) → (byte == 42) ≡ b → not b ≡ true
     by_star false e2 = refl
     by_star true e2 =
-        let here : skip (byte ∷ others) ≡ byte ∷ others = tight_byte byte others (ap is_blank (same_number byte 42 e2)) in
+        let here : skip (byte ∷ others) ≡ byte ∷ others = tight_byte byte others (ap is_blank (eqb-true byte 42 e2)) in
         let is : not_star (first t) ≡ not (byte == 42) = ap (λ l. not_star (first l)) (e ∙ here) in
         sym (ap not e2) ∙ (sym is ∙ may)
 
@@ -284,7 +285,7 @@ letter_no_star byte e = by_star (byte == 42) refl
   where
     by_star : (b : Bool) → (byte == 42) ≡ b → b ≡ false
     by_star false e2 = refl
-    by_star true e2 = let both = sym e ∙ ap is_letter (same_number byte 42 e2) in absurd (cc)
+    by_star true e2 = let both = sym e ∙ ap is_letter (eqb-true byte 42 e2) in absurd (cc)
 
 starred_begins : (a : Pattern) (s t : List ℕ) → IsStarred a s t → comes 42 (first s) ≡ false
 starred_begins pattern.All s t h = absurd (h)

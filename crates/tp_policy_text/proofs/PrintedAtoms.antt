@@ -1,4 +1,5 @@
 -- The printed form of an atom says it.
+use Rattle.std.proofs.lemmas.Bool.{and_parts}
 use Rattle.std.proofs.Common.{◌≡◌, inl, inr, ℕ, ◌&&◌, List, [], ◌∷◌, ◌++◌, true, false, refl, sym, subst, arith, append_assoc, codes}
 use Rattle.std.proofs.lemmas.Bool.Decides.{nat_tests}
 use Rattle.tp_types.specs.declared.policy.Cond.TheVariants as cond
@@ -12,7 +13,7 @@ use Rattle.tp_policy_text.specs.Grammar.{IsAtom, IsCompared, IsValue}
 use Rattle.tp_policy_text.specs.Lexis.{Token, first, in_word, is_blank, skip}
 use Rattle.tp_policy_text.specs.Printed.{atom_text, can_be_value, can_compare, op_text, value_text}
 use Rattle.tp_policy_text.proofs.Exact.{Language}
-use Rattle.tp_policy_text.proofs.Names.{and_parts, name_parts}
+use Rattle.tp_policy_text.proofs.Names.{name_parts}
 use Rattle.tp_policy_text.proofs.PrintedNumbers.{int_tight, prints_int}
 use Rattle.tp_policy_text.proofs.Texts.{IsTight, tight_byte}
 

@@ -1,4 +1,5 @@
 -- The printed form of a condition says it.
+use Rattle.std.proofs.lemmas.Bool.{and_parts}
 use Rattle.std.proofs.Common.{◌≡◌, inl, inr, ℕ, zero, suc, ◌+◌, ◌≤◌, nat_le, List, [], ◌∷◌, ◌++◌, length, map, true, false, refl, sym, ap, subst, ◌∙◌, arith, append_assoc, codes}
 use Rattle.std.specs.List.{flat_map, join_by, list_all}
 use Rattle.tp_types.specs.declared.policy.Cond.{Cond, map-Cond, roll-Cond}
@@ -9,7 +10,6 @@ use Rattle.tp_policy_text.specs.Grammar.{AnyCond, IsAtom, IsCond, IsConj, IsPart
 use Rattle.tp_policy_text.specs.Lexis.{first, in_word, skip}
 use Rattle.tp_policy_text.specs.Printed.{can_be_cond, cond_text, enclosed, in_and, in_or, shown}
 use Rattle.tp_policy_text.proofs.Exact.{Language}
-use Rattle.tp_policy_text.proofs.Names.{and_parts}
 use Rattle.tp_policy_text.proofs.PrintLemmas.{and_and, and_atom, and_or, and_true, can_be_and, can_be_atom, can_be_or, or_and, or_atom, or_or, or_true, text_and, text_atom, text_or, text_true}
 use Rattle.tp_policy_text.proofs.PrintedAtoms.{Prints, atom_prints, true_prints}
 use Rattle.tp_policy_text.proofs.Texts.{IsTight, append_none}

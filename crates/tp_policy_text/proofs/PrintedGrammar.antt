@@ -1,4 +1,5 @@
 -- What a text of the grammar says is of the grammar.
+use Rattle.std.proofs.lemmas.Bool.{and_parts}
 use Rattle.std.proofs.Common.{◌≡◌, inl, inr, ℕ, zero, suc, ◌&&◌, nat_le, List, [], ◌∷◌, length, true, refl, ap, ◌∙◌, arith, codes}
 use Rattle.std.specs.List.{list_all}
 use Rattle.std.proofs.lemmas.Bool.Decides.{nat_tests}
@@ -16,7 +17,7 @@ use Rattle.tp_policy_text.specs.Grammar.{AnyCond, AreRules, IsAtom, IsCompared, 
 use Rattle.tp_policy_text.specs.Lexis.{skip}
 use Rattle.tp_policy_text.specs.Printed.{IsOfGrammar, can_be_cond, can_be_pattern, can_be_rule, can_be_value, can_compare}
 use Rattle.tp_policy_text.proofs.Exact.{Language}
-use Rattle.tp_policy_text.proofs.Names.{and_parts, both_true}
+use Rattle.tp_policy_text.proofs.Names.{both_true}
 use Rattle.tp_policy_text.proofs.PrintLemmas.{can_be_and, can_be_atom, can_be_or, can_be_true}
 use Rattle.tp_policy_text.proofs.PrintedNumbers.{int_short}
 

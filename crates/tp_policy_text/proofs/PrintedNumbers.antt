@@ -1,4 +1,5 @@
 -- A number's decimal digits spell it, and at most fifteen digits spell a number of the grammar.
+use Rattle.std.proofs.lemmas.Bool.{and_parts}
 use Rattle.std.proofs.Common.{◌≡◌, inl, inr, ℕ, zero, suc, ◌^◌, ◌<◌, ◌≤◌, ◌&&◌, nat_lt, List, [], ◌∷◌, ◌++◌, length, get_or, true, false, refl, sym, ap, subst, arith, rules, ℤ, pos, negsuc, neg_ℤ}
 use Rattle.std.specs.Fmt.{decimal, signed_decimal}
 use Rattle.std.specs.List.{list_all}
@@ -10,7 +11,7 @@ use Rattle.std.proofs.lemmas.Str.Parse.{IsNumeralModel, numerals_by_fold}
 use Rattle.tp_policy_text.specs.Grammar.{IsInt, is_digit, is_number, spelled_from}
 use Rattle.tp_policy_text.specs.Lexis.{is_blank}
 use Rattle.tp_policy_text.specs.Printed.{distance}
-use Rattle.tp_policy_text.proofs.Names.{and_parts, both_true, less_of, of_less}
+use Rattle.tp_policy_text.proofs.Names.{both_true, less_of, of_less}
 use Rattle.tp_policy_text.proofs.Numbers.{number_parts}
 use Rattle.tp_policy_text.proofs.Texts.{IsTight, tight_byte}
 

@@ -1,4 +1,5 @@
 -- The printed form of a policy is a text that says it.
+use Rattle.std.proofs.lemmas.Bool.{and_parts}
 use Rattle.std.proofs.Common.{◌≡◌, ℕ, List, [], ◌∷◌, ◌++◌, true, Option, Some, None, refl, sym, ap, ◌∙◌, append_assoc, codes}
 use Rattle.std.specs.List.{flat_map, list_all}
 use Rattle.tp_types.specs.declared.policy.Action.{Action}
@@ -10,7 +11,6 @@ use Rattle.tp_types.specs.declared.policy.Rule.{Rule}
 use Rattle.tp_policy_text.specs.Grammar.{AnyCond, AreRules, IsAction, IsPattern, IsRule, Spells}
 use Rattle.tp_policy_text.specs.Lexis.{skip}
 use Rattle.tp_policy_text.specs.Printed.{IsOfGrammar, action_text, can_be_cond, can_be_pattern, can_be_rule, cond_text, pattern_text, printed, rule_line}
-use Rattle.tp_policy_text.proofs.Names.{and_parts}
 use Rattle.tp_policy_text.proofs.PrintedAtoms.{Prints, name_tight, word_says}
 use Rattle.tp_policy_text.proofs.PrintedConditions.{cond_prints}
 

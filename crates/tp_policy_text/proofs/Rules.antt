@@ -1,4 +1,5 @@
 -- Rules are read exactly.
+use Rattle.std.proofs.lemmas.Bool.{and_parts}
 use Rattle.std.proofs.Common.{◌≡◌, ◌⊎◌, inl, inr, ℕ, zero, suc, ◌≤◌, not, List, [], ◌∷◌, Bool, true, false, Option, Some, None, refl, sym, ap, subst, ◌∙◌, arith, codes}
 use Rattle.tp_types.specs.declared.policy.Action.{Action}
 use Rattle.tp_types.specs.declared.policy.Action.TheVariants as action
@@ -14,7 +15,7 @@ use Rattle.tp_policy_text.proofs.Conditions.{after_cond, any_of, cond_exact, mor
 use Rattle.tp_policy_text.proofs.Exact.{Exact, Language}
 use Rattle.tp_policy_text.proofs.Leaves.{any_next}
 use Rattle.tp_policy_text.proofs.Links.{Linked, link_exact}
-use Rattle.tp_policy_text.proofs.Names.{and_parts, not_true}
+use Rattle.tp_policy_text.proofs.Names.{not_true}
 use Rattle.tp_policy_text.proofs.Patterns.{not_star, pattern_exact, token_begins}
 use Rattle.tp_policy_text.proofs.Sequences.{Both, both_exact, narrowed}
 use Rattle.tp_policy_text.proofs.Tokens.{Says, plain_token}

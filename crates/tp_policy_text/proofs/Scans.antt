@@ -1,4 +1,5 @@
 -- What a token takes of a text, by how far its bytes reach.
+use Rattle.std.proofs.lemmas.Bool.{and_parts, eqb-true}
 use Rattle.std.proofs.Common.{◌≡◌, ℕ, suc, add-zero, ◌+◌, ◌^◌, ◌<◌, ◌≤◌, ◌==◌, ◌&&◌, not, nat_lt, List, [], ◌∷◌, ◌++◌, length, take, drop, Bool, true, false, Option, Some, None, Result, Ok, Err, refl, sym, ap, subst, ◌∙◌, arith, lit<, ℤ, if◌then◌else◌}
 use Rattle.std.proofs.Math.Nat.{pow-le-pow_right}
 use Rattle.std.proofs.lemmas.Bool.Decides.{nat_tests}
@@ -18,8 +19,8 @@ use Rattle.tp_policy_text.specs.Lexis.{first, skip}
 use Rattle.tp_policy_text.specs.Readers.{Digits, Head, atom_at, atom_of, compared_at, Starred, attr_step, comes, issuer_step, unstarred, goes_on, head_at, same_text, head_of, int_at, name_at, starred_at, head_end, head_step, int_end, int_step, is_some_text, name_end, name_step, starred_end, starred_step, takes_digit}
 use Rattle.tp_policy_text.specs.Readings.{Reader, Reading, carried, ended, go_on, machine, mapped, pick, read, seq, taken}
 use Rattle.tp_policy_text.specs.Scans.{attr_at, compared_to, subject_of, digit_front, digits_at, follows, head_after, is_next_digit, name_front, name_rest, reach, starred_after}
-use Rattle.tp_policy_text.proofs.Leaves.{Goes, halted, next_of, same_number, went}
-use Rattle.tp_policy_text.proofs.Names.{IsSoFar, and_parts, both_true, first_false, give, give_none, less_of, not_false, not_true, second_false, name_of_some, names_of}
+use Rattle.tp_policy_text.proofs.Leaves.{Goes, halted, next_of, went}
+use Rattle.tp_policy_text.proofs.Names.{IsSoFar, both_true, first_false, give, give_none, less_of, not_false, not_true, second_false, name_of_some, names_of}
 use Rattle.tp_policy_text.proofs.Texts.{append_append, append_none}
 
 pub value_below : (value count most : ℕ) → value < 10 ^ count → count ≤ most → value < 10 ^ most
@@ -169,7 +170,7 @@ no_sign sign byte count part letter e = by_same (byte == sign) refl
 
     by_same : (b : Bool) → (byte == sign) ≡ b → b ≡ false
     by_same false e2 = refl
-    by_same true e2 = absurd (wrong (count == 0) (subst (λ c. follows count c ≡ true) (same_number byte sign e2) e))
+    by_same true e2 = absurd (wrong (count == 0) (subst (λ c. follows count c ≡ true) (eqb-true byte sign e2) e))
 
 issuers_grow : Grows head_step (λ l. record { issuer = l; attr = None }) follows (λ l. Unit {0})
 issuers_grow issuer byte h e = (
@@ -346,7 +347,7 @@ digits_read negative (byte ∷ others) h = by_zero (byte == 48) refl
     at_zero false = halted int_step int_end (int_state false (48 ∷ [])) others (after_zero (first others))
 
     by_zero : (b : Bool) → (byte == 48) ≡ b → machine int_step int_end (int_state negative []) (byte ∷ others) ≡ digits_at negative (byte ∷ others)
-    by_zero true e = subst (λ c. machine int_step int_end (int_state negative []) (c ∷ others) ≡ digits_at negative (c ∷ others)) (sym (same_number byte 48 e)) (at_zero negative)
+    by_zero true e = subst (λ c. machine int_step int_end (int_state negative []) (c ∷ others) ≡ digits_at negative (c ∷ others)) (sym (eqb-true byte 48 e)) (at_zero negative)
     by_zero false e =
         let n = reach is_next_digit 0 (byte ∷ others) in
         runs int_step int_end (int_state negative) is_next_digit LeadsOn (digits_grow negative) tt (byte ∷ others)
@@ -372,7 +373,7 @@ int_plain s e = digits_read false s (first_false (comes 45 (first s)) true e)
 pub int_signed : (s : List ℕ) → comes 45 (first s) ≡ true → int_at s ≡ digits_at true (drop 1 s)
 int_signed [] e = absurd (cc)
 int_signed (byte ∷ others) e =
-    ap (λ c. machine int_step int_end (int_state false []) (c ∷ others)) (same_number byte 45 e) ∙ digits_read true others (second_false (comes 45 (first others)) false refl)
+    ap (λ c. machine int_step int_end (int_state false []) (c ∷ others)) (eqb-true byte 45 e) ∙ digits_read true others (second_false (comes 45 (first others)) false refl)
 
 -- ---- what is taken of digits
 
@@ -399,7 +400,7 @@ next_is_short : (count byte : ℕ) → is_next_digit count byte ≡ true → cou
 next_is_short count byte e = by_zero (count == 0) refl (and_parts (is_digit byte) (if count == 0 then not (byte == 48) else nat_lt count 15) e).1
   where
     by_zero : (b : Bool) → (count == 0) ≡ b → (if b then not (byte == 48) else nat_lt count 15) ≡ true → count < 15
-    by_zero true same h = let none = same_number count 0 same in omega (arith, none)
+    by_zero true same h = let none = eqb-true count 0 same in omega (arith, none)
     by_zero false same h = less_of count 15 h
 
 pub front_digits : (negative : Bool) (s : List ℕ) → list_all is_digit (digit_front negative s) ≡ true
@@ -411,7 +412,7 @@ front_digits negative (byte ∷ others) = by_zero (byte == 48) refl
     at_zero false = refl
 
     by_zero : (b : Bool) → (byte == 48) ≡ b → list_all is_digit (take (if b then (if negative then 0 else 1) else reach is_next_digit 0 (byte ∷ others)) (byte ∷ others)) ≡ true
-    by_zero true e = subst (λ c. list_all is_digit (take (if negative then 0 else 1) (c ∷ others)) ≡ true) (sym (same_number byte 48 e)) (at_zero negative)
+    by_zero true e = subst (λ c. list_all is_digit (take (if negative then 0 else 1) (c ∷ others)) ≡ true) (sym (eqb-true byte 48 e)) (at_zero negative)
     by_zero false e = reach_all is_next_digit is_digit next_is_digit (byte ∷ others) 0
 
 pub front_short : (negative : Bool) (s : List ℕ) → length (digit_front negative s) ≤ 15

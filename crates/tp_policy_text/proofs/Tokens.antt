@@ -1,4 +1,5 @@
 -- Words and signs are read exactly.
+use Rattle.std.proofs.lemmas.Bool.{eqb-true}
 use Rattle.std.proofs.Common.{◌≡◌, ℕ, ◌+◌, ◌<◌, ◌==◌, ◌&&◌, List, [], ◌∷◌, ◌++◌, Bool, true, false, Option, Some, None, refl, sym, ap, subst, ◌∙◌, arith, if◌then◌else◌}
 use Rattle.std.proofs.lemmas.Bool.Decides.{nat_tests}
 use Rattle.std.proofs.lemmas.Option.{same_Some}
@@ -7,7 +8,7 @@ use Rattle.tp_policy_text.specs.Readers.{token_at, word_end, word_step}
 use Rattle.tp_policy_text.specs.Readings.{ended, machine, read}
 use Rattle.tp_policy_text.proofs.Choices.{retell}
 use Rattle.tp_policy_text.proofs.Exact.{Exact, IsLevel, IsShallow, Language}
-use Rattle.tp_policy_text.proofs.Leaves.{Goes, IsLeaf, Sound, any_next, halted, leaf_exact, next_of, same_number, went}
+use Rattle.tp_policy_text.proofs.Leaves.{Goes, IsLeaf, Sound, any_next, halted, leaf_exact, next_of, went}
 use Rattle.tp_policy_text.proofs.Texts.{IsTight, append_append, append_none, count_append}
 
 -- the token stands there, with this value
@@ -18,7 +19,7 @@ same_step : (wanted byte : ℕ) (others next : List ℕ) → word_step (wanted �
 same_step wanted byte others next e = by_same (byte == wanted) refl
   where
     by_same : (b : Bool) → (byte == wanted) ≡ b → (byte ≡ wanted) × (others ≡ next)
-    by_same true e2 = (same_number byte wanted e2, same_Some others next (sym (ap (λ (b : Bool). if b then Some others else None) e2) ∙ e))
+    by_same true e2 = (eqb-true byte wanted e2, same_Some others next (sym (ap (λ (b : Bool). if b then Some others else None) e2) ∙ e))
     by_same false e2 = let wrong : None ≡ Some next = sym (ap (λ (b : Bool). if b then Some others else None) e2) ∙ e in absurd (cc)
 
 -- a state is what is left of the token

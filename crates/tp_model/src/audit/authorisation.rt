@@ -12,6 +12,7 @@ ghost use Rattle.tp_model.specs.Queries as queries;
 
 use crate::audit::credentials::{Held, is_presented, is_valid};
 use crate::audit::policies::{allows, rule_allows};
+use crate::policy::rule_in;
 use crate::query::{item_of, query_at};
 use tp_types::{
     Action, AdminId, CredId, Fact, Item, List, Place, Policy, Query, Rule, Scenario, ServerId,
@@ -150,15 +151,6 @@ pub fn is_allowed(
         None => false,
         Some(case) => allows_case(&held, &case),
     }
-}
-
-fn rule_in(policy: &Policy, number: u32) -> Option<&Rule>
-    ensures { option_copied result ≡ authorisation.rule_in policy.now number }
-{
-    if number == 0 {
-        return None;
-    }
-    policy.rules.get(number as usize - 1)
 }
 
 fn rule_of(policy: &Policy, number: Option<u32>) -> Option<&Rule>

@@ -2,11 +2,10 @@
 ghost use Rattle.std.specs.Prelude.{◌≡◌};
 ghost use Rattle.tp_model.specs.Agreement as agreement;
 ghost use Rattle.tp_model.specs.Facts as history;
-ghost use Rattle.tp_model.specs.Queries as queries;
 
-use crate::query::item_of;
+use crate::query::has_query_at;
 use tp_types::{
-    Decision, Fact, List, Outcome, Place, Query, Scenario, ServerId, Transaction, TxnId, What,
+    Decision, Fact, List, Outcome, Place, Scenario, ServerId, Transaction, TxnId, What,
 };
 
 /// The fact is a submission of the transaction.
@@ -79,20 +78,9 @@ pub fn was_submitted(txn: TxnId, place: Place, facts: &List<Fact>) -> bool
         .any(|fact| is_submission(txn, fact))
 }
 
-fn is_query_on(scenario: &Scenario, at: ServerId, query: &Query) -> bool
-    ensures { result ≡ queries.is_at_server scenario.now at.0 query.now }
-{
-    match scenario.items.get(item_of(query).0 as usize) {
-        None => false,
-        Some(item) => item.server == at,
-    }
-}
-
 /// The transaction has a query on an item of the server.
 pub fn has_query_on(scenario: &Scenario, at: ServerId, txn: &Transaction) -> bool
     ensures { result ≡ agreement.has_item scenario.now at txn.now }
 {
-    txn.queries
-        .iter()
-        .any(|query| is_query_on(scenario, at, query))
+    has_query_at(scenario, at.0, txn.queries.as_slice())
 }

@@ -6,61 +6,8 @@ ghost use Rattle.tp_model.specs.Audit as audit;
 ghost use Rattle.tp_model.specs.Policies as policies;
 
 use crate::audit::credentials::{Held, is_valid};
-use tp_types::{Action, Cond, CredId, Credential, Name, Op, Pattern, Policy, Rule, Value};
-
-fn is_number(value: &Value, wanted: i64) -> bool
-    ensures { result ≡ policies.same_value (Value.Number wanted) value.now }
-{
-    match value {
-        Value::Number(number) => *number == wanted,
-        Value::Word(_) => false,
-    }
-}
-
-fn is_word(value: &Value, wanted: &Name) -> bool
-    ensures { result ≡ policies.same_value (Value.Word wanted.now) value.now }
-{
-    match value {
-        Value::Number(_) => false,
-        Value::Word(word) => wanted == word,
-    }
-}
-
-fn same_value(one: &Value, other: &Value) -> bool
-    ensures { result ≡ policies.same_value one.now other.now }
-{
-    match one {
-        Value::Number(number) => is_number(other, *number),
-        Value::Word(word) => is_word(other, word),
-    }
-}
-
-fn is_at_most(one: &Value, other: &Value) -> bool
-    ensures { result ≡ policies.is_at_most one.now other.now }
-{
-    match (one, other) {
-        (Value::Number(low), Value::Number(high)) => *low <= *high,
-        _ => false,
-    }
-}
-
-fn satisfies(op: Op, wanted: &Value, found: &Value) -> bool
-    ensures { result ≡ policies.satisfies op wanted.now found.now }
-{
-    match op {
-        Op::Equal => same_value(found, wanted),
-        Op::AtLeast => is_at_most(wanted, found),
-        Op::AtMost => is_at_most(found, wanted),
-    }
-}
-
-fn meets(credential: &Credential, issuer: &Name, attr: &Name, op: Op, wanted: &Value) -> bool
-    ensures { result ≡ policies.meets issuer.now attr.now op wanted.now (audit.said_by credential.now) }
-{
-    credential.issuer == *issuer
-        && credential.attr == *attr
-        && satisfies(op, wanted, &credential.value)
-}
+use crate::policy::{matches, meets};
+use tp_types::{Action, Cond, CredId, Credential, Name, Op, Policy, Rule, Value};
 
 fn says(
     held: &Held<'_>,
@@ -147,32 +94,6 @@ fn any_holds(held: &Held<'_>, members: &[Cond]) -> bool
         }
     }
     false
-}
-
-fn is_about_action(named: Option<Action>, asked: Action) -> bool
-    ensures { result ≡ policies.is_about_action named asked }
-{
-    match named {
-        None => true,
-        Some(action) => action == asked,
-    }
-}
-
-fn is_about_item(pattern: &Pattern, item: &Name) -> bool
-    ensures { result ≡ policies.is_about_item pattern.now item.now }
-{
-    match pattern {
-        Pattern::All => true,
-        Pattern::Exact(name) => item == name,
-        Pattern::Prefix(name) => item.bytes().starts_with(name.bytes()),
-    }
-}
-
-/// The rule is about the action on the item.
-pub fn matches(asked: Action, item: &Name, rule: &Rule) -> bool
-    ensures { result ≡ policies.matches asked item.now rule.now }
-{
-    is_about_action(rule.action, asked) && is_about_item(&rule.pattern, item)
 }
 
 /// The rule is about the action on the item, and its condition is true of what is held.
