@@ -4,7 +4,7 @@ ghost use Rattle.std.specs.Prelude.{◌≤◌};
 use std::alloc::{AllocError, Global};
 use std::io::{self, ErrorKind, Read, Write};
 use std::test::Fail;
-use tp_top::io::{
+use tp_io::{
     Failed, MemorySink, MemorySource, ReadError, ReadSource, Sink, Source, StdSink, StdSource,
     SteadySink, SteadySource, WriteSink, read_to_end, write_all,
 };

@@ -5,7 +5,7 @@ use std::alloc::Global;
 use std::process::Abort;
 use std::str;
 use std::test::Fail;
-use tp_top::io::{MemorySink, MemorySource, SteadySink, SteadySource};
+use tp_io::{MemorySink, MemorySource, SteadySink, SteadySource};
 use tp_top::{Status, tpvc};
 use tp_types::{List, Text};
 

@@ -6,7 +6,8 @@ use Rattle.std.specs.Io.KnownBytes.{Appends}
 use Rattle.serde_json.specs.Data.{Data}
 use Rattle.serde_json.specs.Read.{read}
 use Rattle.tp_types.specs.declared.scenario.Scenario.{Scenario}
-use Rattle.tp_top.specs.declared.io.whole.TheConstants.{INPUT_MAX}
+use Rattle.tp_io.specs.declared.whole.TheConstants.{INPUT_MAX}
+use Rattle.tp_io.specs.Whole.{TakesExactly}
 use Rattle.tp_top.specs.declared.scenario.from_json.ScenarioError.{ScenarioError}
 use Rattle.tp_top.specs.declared.scenario.from_json.ScenarioError.TheVariants as error
 use Rattle.tp_top.specs.declared.status.Status.{Status}
@@ -16,7 +17,6 @@ use Rattle.tp_top.specs.Reads.{Reads, IsNoJson, IsNotBuilt}
 use Rattle.tp_top.specs.Refusals.{refusal_line}
 use Rattle.tp_top.specs.Run.{IsRefusedFor, RunsOut, RunsTo, TakesAll, final}
 use Rattle.tp_top.specs.Top.{EndsRightly}
-use Rattle.tp_top.specs.Whole.{TakesExactly}
 
 -- what was taken whole of a told input is the input
 whole_input : (input : List ℕ) (new : Option (List ℕ)) (bytes : List ℕ) → TakesAll (Some input) new bytes → bytes ≡ input

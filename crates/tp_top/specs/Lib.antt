@@ -1,8 +1,5 @@
-pub mod Adapters
 pub mod Auto
 pub mod Chain
-pub mod Fakes
-pub mod Faults
 pub mod Gives
 pub mod Numerals
 pub mod QueryText
@@ -14,4 +11,3 @@ pub mod Shape
 pub mod Status
 pub mod Top
 pub mod Walk
-pub mod Whole

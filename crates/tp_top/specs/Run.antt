@@ -4,18 +4,18 @@ use Rattle.std.specs.Io.KnownBytes.{Consumes, IsAtEnd}
 use Rattle.tp_types.specs.declared.name.Text.{Text}
 use Rattle.tp_types.specs.declared.scenario.Scenario.{Scenario}
 use Rattle.tp_types.specs.declared.scenario.Step.{Step}
+use Rattle.tp_io.specs.declared.whole.TheConstants.{INPUT_MAX}
+use Rattle.tp_io.specs.Faults.{Rose}
+use Rattle.tp_io.specs.Whole.{TakesAtMost, TakesExactly}
 use Rattle.tp_model.specs.TrustedHistory.{TrustedHistory}
 use Rattle.tp_machine.specs.Machine.{Machine, after, after_steps, ending_of}
 use Rattle.tp_top.specs.declared.answer.Answer.{Answer}
 use Rattle.tp_top.specs.declared.answer.Answer.TheVariants as answer
-use Rattle.tp_top.specs.declared.io.whole.TheConstants.{INPUT_MAX}
 use Rattle.tp_top.specs.declared.scenario.from_json.ScenarioError.{ScenarioError}
 use Rattle.tp_top.specs.declared.scenario.from_json.ScenarioError.TheVariants.{TooLong, BadJson, NotYet, NoMemory}
 use Rattle.tp_top.specs.Auto.{automatic_steps, bound, is_quiet}
-use Rattle.tp_top.specs.Faults.{Rose}
 use Rattle.tp_top.specs.Reads.{Reads, IsNoJson, IsNotBuilt, IsWhole}
 use Rattle.tp_top.specs.ReportText.{report_text}
-use Rattle.tp_top.specs.Whole.{TakesAtMost, TakesExactly}
 
 -- the words are the one word run
 abbrev pub IsRun : List Text → Type 0

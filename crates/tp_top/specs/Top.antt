@@ -3,17 +3,17 @@ use Rattle.std.specs.Prelude.{◌≡◌, ◌⊎◌, ◌<◌, ℕ, ◌+◌, List,
 use Rattle.std.specs.Io.KnownBytes.{Appends}
 use Rattle.tp_types.specs.declared.name.Text.{Text}
 use Rattle.tp_types.specs.declared.scenario.Scenario.{Scenario}
-use Rattle.tp_top.specs.declared.io.whole.TheConstants.{INPUT_MAX}
+use Rattle.tp_io.specs.declared.whole.TheConstants.{INPUT_MAX}
+use Rattle.tp_io.specs.Faults.{Rose}
+use Rattle.tp_io.specs.Whole.{AppendsFront, TakesAtMost}
 use Rattle.tp_top.specs.declared.scenario.from_json.ScenarioError.{ScenarioError}
 use Rattle.tp_top.specs.declared.scenario.from_json.ScenarioError.TheVariants as error
 use Rattle.tp_top.specs.declared.status.Status.{Status}
 use Rattle.tp_top.specs.declared.status.Status.TheVariants.{Done, Refused, NoMemory, Budget}
 use Rattle.tp_top.specs.Auto.{is_quiet}
-use Rattle.tp_top.specs.Faults.{Rose}
 use Rattle.tp_top.specs.Reads.{Reads, IsNoJson, IsNotBuilt}
 use Rattle.tp_top.specs.Refusals.{refusal_line, usage_line}
 use Rattle.tp_top.specs.Run.{IsRun, IsRefusedFor, RunsOut, RunsTo, final}
-use Rattle.tp_top.specs.Whole.{AppendsFront, TakesAtMost}
 
 -- nothing was written
 abbrev pub Untouched : Option (List ℕ) → Option (List ℕ) → Type 0

@@ -7,10 +7,10 @@ ghost use Rattle.tp_top.specs.ReportText.{report_text};
 ghost use Rattle.tp_top.specs.Run.{Answers, IsReported, IsRunOf};
 
 use crate::auto::{Drained, bound, drain};
-use crate::io::{ReadError, Source, read_to_end};
 use crate::report::print;
 use crate::scenario::{ScenarioError, read};
 use std::alloc::Global;
+use tp_io::{ReadError, Source, read_to_end};
 use tp_machine::World;
 use tp_types::{List, NoMemory, Scenario, Text};
 

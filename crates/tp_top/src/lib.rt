@@ -1,10 +1,9 @@
-//! The top call of the cluster's program, and what stands directly under it: reading scenarios, the automatic phase, printing
-//! reports, and the input and outputs.
+//! The top call of the cluster's program, and what stands directly under it: reading scenarios, the automatic phase, and
+//! printing reports.
 #![tactic(auto)]
 
 mod answer;
 pub mod auto;
-pub mod io;
 pub mod report;
 pub mod scenario;
 mod status;

@@ -1,18 +1,18 @@
 //! The top call of the program.
 ghost use Rattle.std.specs.Prelude.{◌≡◌, ◌≢◌, ◌⊎◌, ◌↔◌, [], IsTrue, IfOk, IfSome};
 ghost use Rattle.std.specs.Io.KnownBytes.{Appends};
+ghost use Rattle.tp_io.specs.Faults.{Rose};
 ghost use Rattle.tp_top.specs.declared.status.Status.TheVariants as Status;
-ghost use Rattle.tp_top.specs.Faults.{Rose};
 ghost use Rattle.tp_top.specs.Refusals.{usage_line};
 ghost use Rattle.tp_top.specs.Run.{IsRun, IsRefusedFor, RunsTo};
 ghost use Rattle.tp_top.specs.Top as top;
 ghost use Rattle.tp_top.specs.Top.{IsDone, IsRefused, IsUsage, IsReadFault, IsBudget, IsNoMemory, IsOutFault, IsRefusalFault, IsUsageFault, EndsRightly};
 
 use crate::answer::{Answer, answer_to, refusal_line};
-use crate::io::{Sink, Source, write_all};
 use crate::scenario::ScenarioError;
 use crate::status::Status;
 use std::alloc::Global;
+use tp_io::{Sink, Source, write_all};
 use tp_model::only;
 use tp_types::Text;
 

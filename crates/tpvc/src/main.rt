@@ -6,7 +6,7 @@ use std::env;
 use std::io::ErrorKind;
 use std::process::ExitCode;
 use std::rt::Env;
-use tp_top::io::{StdNotes, StdSink, StdSource};
+use tp_io::{StdNotes, StdSink, StdSource};
 use tp_top::{Status, tpvc};
 use tp_types::{List, NoMemory, Text};
 

@@ -1,7 +1,7 @@
 -- What the sources and sinks in memory do at each call.
 use Rattle.std.specs.Prelude.{ℕ, ◌≡◌, ◌==◌, ◌++◌, min, List, length, take, drop, Bool, true, false, Result, Ok, Err}
 use Rattle.std.specs.List.{list_any}
-use Rattle.tp_top.specs.Faults.{counted}
+use Rattle.tp_io.specs.Faults.{counted}
 
 -- a source: the bytes still to come, the calls that fail counted from 0, the most bytes of one call,
 -- how many calls there were, and how many faults

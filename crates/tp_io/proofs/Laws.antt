@@ -2,7 +2,7 @@
 use Rattle.std.proofs.Common.{◌≡◌, ℕ, ◌+◌, ◌-◌, ◌≤◌, List, [], ◌++◌, Option, length, take, drop, sym, ap, ◌∙◌, subst, arith, length-append, take-append-drop, drop-drop, take-add, drop_of_length-le}
 use Rattle.std.proofs.KnownBytes.{Appends-trans, Consumes-trans}
 use Rattle.std.specs.Io.KnownBytes.{Appends, Consumes}
-use Rattle.tp_top.specs.Whole.{TakesAtMost}
+use Rattle.tp_io.specs.Whole.{TakesAtMost}
 
 -- what is left is what was copied to the buffer's front, and what is left after that
 pub reads_on : (bytes buf left : List ℕ) (at n : ℕ) → left ≡ drop at bytes → take n buf ≡ take n left

@@ -2,10 +2,10 @@
 ghost use Rattle.std.specs.Prelude.{ℕ, ◌≡◌, ◌≢◌, ◌<◌, ◌≤◌, min, Some, None, length, drop, IfOk, IsOkAnd, OnErr};
 ghost use Rattle.std.specs.Io.{ReadsAtMost, WritesAtMost};
 ghost use Rattle.std.specs.Io.KnownBytes.{ReadConsumes, WriteAppends};
-ghost use Rattle.tp_top.specs.Faults.{Rose};
+ghost use Rattle.tp_io.specs.Faults.{Rose};
 
-use super::copy::copy_front;
-use super::{Failed, Sink, Source};
+use crate::copy::copy_front;
+use crate::{Failed, Sink, Source};
 use std::marker::Model;
 use tp_types::List;
 
@@ -39,7 +39,7 @@ impl Source for SteadySource {
 
     ghost faults = { λ _. 0 };
 
-    #[tactic(auto, using(crate::proofs::IoLemmas::reads_on, crate::proofs::IoLemmas::stays_empty))]
+    #[tactic(auto, using(crate::proofs::Laws::reads_on, crate::proofs::Laws::stays_empty))]
     fn read(&mut self, buf: &mut [u8]) -> Result<usize, Failed>
         ensures bound { ReadsAtMost result buf.new }
         ensures bytes { ReadConsumes (Some self.old) (Some self.new) result buf.new }

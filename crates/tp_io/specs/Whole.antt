@@ -1,9 +1,9 @@
 -- Reading to the end, and writing whole texts.
 use Rattle.std.specs.Prelude.{ℕ, ◌≡◌, ◌+◌, ◌++◌, ◌<◌, ◌≤◌, ⊤, Some, None, List, length, take, Bool, true, false, Option, Result, Ok, Err}
 use Rattle.std.specs.Io.KnownBytes.{Consumes, Appends, IsAtEnd}
-use Rattle.tp_top.specs.declared.io.whole.ReadError.{ReadError}
-use Rattle.tp_top.specs.declared.io.whole.ReadError.TheVariants.{TooLong, Fault, NoMemory}
-use Rattle.tp_top.specs.declared.io.whole.TheConstants.{INPUT_MAX}
+use Rattle.tp_io.specs.declared.whole.ReadError.{ReadError}
+use Rattle.tp_io.specs.declared.whole.ReadError.TheVariants.{TooLong, Fault, NoMemory}
+use Rattle.tp_io.specs.declared.whole.TheConstants.{INPUT_MAX}
 
 -- some bytes were taken, at most so many
 pub record TakesAtMost (most : ℕ) (old new : Option (List ℕ)) : Type 0 where

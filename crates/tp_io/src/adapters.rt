@@ -2,11 +2,11 @@
 ghost use Rattle.std.specs.Prelude.{◌≡◌, ◌<◌, ◌≤◌, length, drop, is_ok, if◌then◌else◌, IfOk, OnErr};
 ghost use Rattle.std.specs.Io.{ReadsAtMost, WritesAtMost};
 ghost use Rattle.std.specs.Io.KnownBytes.{ReadConsumes, WriteAppends};
-ghost use Rattle.tp_top.specs.Faults.{Rose, counted};
-ghost use Rattle.tp_top.specs.Adapters as adapters;
+ghost use Rattle.tp_io.specs.Faults.{Rose, counted};
+ghost use Rattle.tp_io.specs.Adapters as adapters;
 
-use super::copy::copy_front;
-use super::{Failed, Sink, Source};
+use crate::copy::copy_front;
+use crate::{Failed, Sink, Source};
 use std::io::{self, Read, Stderr, Stdin, Stdout, Write};
 use std::marker::Model;
 
@@ -22,7 +22,7 @@ pub struct ReadSource<R> {
 }
 
 impl<R> Model for ReadSource<R> {
-    ghost use Rattle.tp_top.specs.Adapters.{Counting, counting_code};
+    ghost use Rattle.tp_io.specs.Adapters.{Counting, counting_code};
 
     ghost Value = { Counting R };
 
@@ -82,7 +82,7 @@ pub struct WriteSink<W> {
 }
 
 impl<W> Model for WriteSink<W> {
-    ghost use Rattle.tp_top.specs.Adapters.{Counting, counting_code};
+    ghost use Rattle.tp_io.specs.Adapters.{Counting, counting_code};
 
     ghost Value = { Counting W };
 

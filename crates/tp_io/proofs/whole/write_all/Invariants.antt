@@ -1,6 +1,6 @@
 use Rattle.std.proofs.Common.{◌-◌, ◌≤◌, length, take}
 use Rattle.std.specs.Io.KnownBytes.{Appends}
-use Rattle.tp_top.proofs.io.whole.write_all.Given as goal
+use Rattle.tp_io.proofs.whole.write_all.Given as goal
 
 -- what was written so far is the text's front
 abbrev pub invariant-loop-done : goal.invariant-loop-done

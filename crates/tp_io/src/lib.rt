@@ -1,8 +1,10 @@
 //! Where bytes come from and go to, with a count of the faults that each source and sink has met.
+#![tactic(auto)]
+
 ghost use Rattle.std.specs.Prelude.{ℕ, ◌≡◌, ◌<◌, ◌≤◌, length, take, drop, List, Option, IfOk, OnErr};
 ghost use Rattle.std.specs.Io.{ReadsAtMost, WritesAtMost};
 ghost use Rattle.std.specs.Io.KnownBytes.{ReadConsumes, WriteAppends};
-ghost use Rattle.tp_top.specs.Faults.{Rose};
+ghost use Rattle.tp_io.specs.Faults.{Rose};
 
 mod adapters;
 mod copy;

@@ -2,11 +2,11 @@
 ghost use Rattle.std.specs.Prelude.{ℕ, ◌≡◌, ◌<◌, ◌≤◌, [], Some, length, drop, true, false, IfOk, OnOk, OnErr};
 ghost use Rattle.std.specs.Io.{ReadsAtMost, WritesAtMost};
 ghost use Rattle.std.specs.Io.KnownBytes.{ReadConsumes, WriteAppends};
-ghost use Rattle.tp_top.specs.Faults.{Rose, counted};
-ghost use Rattle.tp_top.specs.Fakes.{Supplies, Stores, is_due};
+ghost use Rattle.tp_io.specs.Faults.{Rose, counted};
+ghost use Rattle.tp_io.specs.Fakes.{Supplies, Stores, is_due};
 
-use super::copy::copy_front;
-use super::{Failed, Sink, Source};
+use crate::copy::copy_front;
+use crate::{Failed, Sink, Source};
 use std::alloc::Global;
 use std::marker::Model;
 use tp_types::List;
@@ -77,7 +77,7 @@ pub struct MemorySource {
 
 impl Model for MemorySource {
     ghost use Rattle.std.specs.Prelude.{◌≤◌, length, drop};
-    ghost use Rattle.tp_top.specs.Fakes.{Supply};
+    ghost use Rattle.tp_io.specs.Fakes.{Supply};
 
     ghost Value = { Supply };
 
@@ -112,7 +112,7 @@ impl Source for MemorySource {
 
     ghost faults = { λ s. s.faults };
 
-    #[tactic(auto, using(crate::proofs::IoLemmas::reads_on, crate::proofs::IoLemmas::stays_empty))]
+    #[tactic(auto, using(crate::proofs::Laws::reads_on, crate::proofs::Laws::stays_empty))]
     fn read(&mut self, buf: &mut [u8]) -> Result<usize, Failed>
         ensures bound { ReadsAtMost result buf.new }
         ensures bytes { ReadConsumes (Some self.old.left) (Some self.new.left) result buf.new }
@@ -141,7 +141,7 @@ pub struct MemorySink {
 
 impl Model for MemorySink {
     ghost use Rattle.std.specs.Prelude.{◌≤◌};
-    ghost use Rattle.tp_top.specs.Fakes.{Store};
+    ghost use Rattle.tp_io.specs.Fakes.{Store};
 
     ghost Value = { Store };
 

@@ -1,10 +1,10 @@
 //! Reading an input to its end, and writing a whole text.
 ghost use Rattle.std.specs.Prelude.{ℕ, ◌≡◌, ◌+◌, ◌-◌, ◌<◌, ◌≤◌, length, IfOk, OnOk, OnErr, IsErrOf};
 ghost use Rattle.std.specs.Io.KnownBytes.{Consumes, Appends, IsAtEnd};
-ghost use Rattle.tp_top.specs.Faults.{Rose};
-ghost use Rattle.tp_top.specs.Whole.{Took, TakesAtMost, TakesExactly, ReadsAll, AppendsFront};
+ghost use Rattle.tp_io.specs.Faults.{Rose};
+ghost use Rattle.tp_io.specs.Whole.{Took, TakesAtMost, TakesExactly, ReadsAll, AppendsFront};
 
-use super::{Failed, Sink, Source};
+use crate::{Failed, Sink, Source};
 use std::alloc::{AllocError, Global};
 use tp_types::List;
 
@@ -27,7 +27,7 @@ pub enum ReadError {
 
 impl From<Failed> for ReadError {
     ghost use Rattle.std.specs.Prelude.{◌≡◌};
-    ghost use Rattle.tp_top.specs.declared.io.whole.ReadError.TheVariants.{Fault};
+    ghost use Rattle.tp_io.specs.declared.whole.ReadError.TheVariants.{Fault};
 
     ghost from_gives = { λ _ e. e ≡ Fault };
 
@@ -38,7 +38,7 @@ impl From<Failed> for ReadError {
 
 impl From<AllocError> for ReadError {
     ghost use Rattle.std.specs.Prelude.{◌≡◌};
-    ghost use Rattle.tp_top.specs.declared.io.whole.ReadError.TheVariants.{NoMemory};
+    ghost use Rattle.tp_io.specs.declared.whole.ReadError.TheVariants.{NoMemory};
 
     ghost from_gives = { λ _ e. e ≡ NoMemory };
 
@@ -69,7 +69,7 @@ fn read_piece<I: Source>(source: &mut I, bytes: &mut Vec<u8>) -> Result<bool, Re
 }
 
 /// Reads an input to its end, or until it has more bytes than an input may have.
-#[tactic(auto, using(crate::proofs::IoLemmas::takes_on))]
+#[tactic(auto, using(crate::proofs::Laws::takes_on))]
 pub fn read_to_end<I: Source>(alloc: Global, source: &mut I) -> Result<List<u8>, ReadError>
     ensures whole { IfOk result (λ bytes. Consumes (I.left source.old) (I.left source.new) bytes
         × IsAtEnd (I.left source.new) × (length bytes ≤ INPUT_MAX)) }
@@ -91,7 +91,7 @@ pub fn read_to_end<I: Source>(alloc: Global, source: &mut I) -> Result<List<u8>,
 }
 
 /// Writes the whole text, or a part of its front where the sink fails. It takes no memory.
-#[tactic(auto, using(crate::proofs::IoLemmas::appends_on))]
+#[tactic(auto, using(crate::proofs::Laws::appends_on))]
 pub fn write_all<O: Sink>(sink: &mut O, text: &[u8]) -> Result<(), Failed>
     ensures whole { OnOk result (Appends (O.written sink.old) (O.written sink.new) text.now) }
     ensures front { OnErr result (AppendsFront (O.written sink.old) (O.written sink.new) text.now) }

@@ -1,7 +1,7 @@
 use Rattle.std.proofs.Common.{◌+◌, ◌-◌, ◌≤◌, length}
 use Rattle.std.specs.Io.KnownBytes.{Consumes}
-use Rattle.tp_top.specs.declared.io.whole.TheConstants.{INPUT_MAX}
-use Rattle.tp_top.proofs.io.whole.read_to_end.Given as goal
+use Rattle.tp_io.specs.declared.whole.TheConstants.{INPUT_MAX}
+use Rattle.tp_io.proofs.whole.read_to_end.Given as goal
 
 -- what was taken so far is what is kept, and it is no longer than an input that is too long
 abbrev pub invariant-loop-source : goal.invariant-loop-source

@@ -1,0 +1,4 @@
+pub mod Adapters
+pub mod Fakes
+pub mod Faults
+pub mod Whole
