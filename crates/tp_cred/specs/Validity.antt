@@ -8,9 +8,13 @@ use Rattle.tp_model.specs.Credentials.{is_current, triple_of}
 use Rattle.tp_model.specs.Ids.{same_cred}
 use Rattle.tp_model.specs.Policies.{Triple}
 
+-- the credential is one of these
+abbrev pub is_among : List CredId → CredId → Bool
+is_among creds cred = list_any (same_cred cred) creds
+
 -- the clock is within the credential's interval, and it is not among those revoked
 abbrev pub is_valid_in : List Credential → ℕ → List CredId → CredId → Bool
-is_valid_in store now revoked cred = option_map_or (is_current now) (slice_get store cred.0) false && not (list_any (same_cred cred) revoked)
+is_valid_in store now revoked cred = option_map_or (is_current now) (slice_get store cred.0) false && not (is_among revoked cred)
 
 -- what a credential says of the subject
 abbrev pub said_in : List Credential → List ℕ → CredId → Option Triple

@@ -8,4 +8,4 @@ mod values;
 
 pub use held::{Held, shows};
 pub use policies::matches;
-pub use store::{CredError, CredStore};
+pub use store::{CredError, CredStore, is_among};

@@ -1,9 +1,9 @@
 //! A store of credentials, whose ids are their places.
 ghost use Rattle.std.specs.Prelude.{◌≡◌, ◌^◌, ◌<◌, ◌++◌, [], ◌∷◌, ◌↔◌, length, slice_get, false, IfOk, OnErr, IsTrue};
-ghost use Rattle.std.specs.List.{list_any, position, IsDistinct};
+ghost use Rattle.std.specs.List.{position, IsDistinct};
 ghost use Rattle.std.specs.Option.{option_copied, option_map_or};
 ghost use Rattle.tp_model.specs.Credentials as credentials;
-ghost use Rattle.tp_model.specs.Ids.{same_cred, same_name};
+ghost use Rattle.tp_model.specs.Ids.{same_name};
 ghost use Rattle.tp_cred.specs.Names as names;
 ghost use Rattle.tp_cred.specs.Store as store;
 ghost use Rattle.tp_cred.specs.Validity as validity;
@@ -49,8 +49,9 @@ impl Model for CredStore {
     ghost invariant = { λ s. IsStore s.creds };
 }
 
-fn is_among(creds: &[CredId], cred: CredId) -> bool
-    ensures { result ≡ list_any (same_cred cred) creds.now }
+/// Whether the credential is one of these.
+pub fn is_among(creds: &[CredId], cred: CredId) -> bool
+    ensures { result ≡ validity.is_among creds.now cred }
 {
     creds.iter().any(|other| *other == cred)
 }
