@@ -14,6 +14,10 @@ mod audit_trust;
 #[cfg(test)]
 mod clones;
 #[cfg(test)]
+mod credentials;
+#[cfg(test)]
+mod evaluation;
+#[cfg(test)]
 mod io;
 #[cfg(test)]
 mod report;
