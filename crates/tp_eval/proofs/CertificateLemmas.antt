@@ -2,7 +2,10 @@
 use Rattle.std.proofs.Common.{◌≡◌, ◌+◌, ℕ, suc, Bool, true, false, ◌&&◌, cond as if_so, List, [], ◌∷◌, ◌++◌, option_map, Option, Some, None, IfSome, slice_get, arith, refl, ap, sym, subst, ◌∙◌}
 use Rattle.std.proofs.lemmas.Bool.{and_parts}
 use Rattle.std.proofs.lemmas.List.Folds.{list_any-append}
-use Rattle.std.specs.List.{list_all, list_any}
+use Rattle.std.proofs.lemmas.Map.Keys.{IsDistinct-push}
+use Rattle.std.specs.Cmp.{IsEquivalence}
+use Rattle.std.proofs.lemmas.Cmp.{nat_eq_equiv, on_equiv}
+use Rattle.std.specs.List.{IsDistinct, list_all, list_any}
 use Rattle.std.specs.Option.{is_some, option_map_or, option_or}
 use Rattle.tp_types.specs.declared.ids.CredId.{CredId}
 use Rattle.tp_types.specs.declared.policy.Action.{Action}
@@ -37,6 +40,23 @@ all_once test uses [] all others = all
 all_once test uses (cred ∷ creds) all others =
     let parts = and_parts (test cred) (list_all test creds) others in
     all_once test (with_cred uses cred) creds (all_with test uses cred (is_among uses cred) all parts.0) parts.1
+
+same_cred_is_equivalence : IsEquivalence same_cred
+same_cred_is_equivalence = on_equiv (λ (cred : CredId). cred.0) nat_eq_equiv
+
+none_twice : IsDistinct same_cred []
+unfolding IsDistinct
+none_twice = tt
+
+distinct_with : (uses : List CredId) (cred : CredId) (there : Bool) → is_among uses cred ≡ there → IsDistinct same_cred uses
+    → IsDistinct same_cred (if_so there uses (uses ++ cred ∷ []))
+distinct_with uses cred true e distinct = distinct
+distinct_with uses cred false e distinct = IsDistinct-push same_cred_is_equivalence uses cred distinct e
+
+-- none stands twice
+distinct_once : (uses creds : List CredId) → IsDistinct same_cred uses → IsDistinct same_cred (once uses creds)
+distinct_once uses [] distinct = distinct
+distinct_once uses (cred ∷ creds) distinct = distinct_once (with_cred uses cred) creds (distinct_with uses cred (is_among uses cred) refl distinct)
 
 any_before : (test : CredId → Bool) (uses more : List CredId) → list_any test uses ≡ true → list_any test (uses ++ more) ≡ true
 any_before test uses more any = list_any-append test uses more ∙ rw any refl
@@ -93,6 +113,7 @@ record IsFirst (asked : Asked) (action : Action) (item : List ℕ) (rules : List
   numbered : found.rule ≡ number + at
   shown : option_map_or (λ rule. is_allowed_by asked action item rule found.uses) (slice_get rules at) false ≡ true
   usable : list_all (is_usable asked) found.uses ≡ true
+  distinct : IsDistinct same_cred found.uses
 
 abbrev IsAnswer : Asked → Action → List ℕ → List Rule → ℕ → Option Certificate → Type 0
 IsAnswer asked action item rules number None = list_any (λ rule. is_allowed_by asked action item rule asked.presented) rules ≡ false
@@ -108,6 +129,7 @@ rule_answers asked action item rule rules number None (Some found) decides answe
   numbered = omega (arith, answer.numbered);
   shown = answer.shown;
   usable = answer.usable;
+  distinct = answer.distinct;
 }
 rule_answers asked action item rule rules number (Some creds) later decides answer = record {
   allowed = rw (decides.enough asked.presented (all_first (is_among asked.presented) (is_valid_in asked.store asked.now asked.revoked) creds decides.usable)) refl;
@@ -115,6 +137,7 @@ rule_answers asked action item rule rules number (Some creds) later decides answ
   numbered = omega arith;
   shown = decides.enough (once [] creds) (has_all [] creds);
   usable = all_once (is_usable asked) [] creds refl decides.usable;
+  distinct = distinct_once [] creds none_twice;
 }
 
 rules_answer : (asked : Asked) (action : Action) (item : List ℕ) (rules : List Rule) (number : ℕ)
@@ -168,3 +191,9 @@ presented_where asked policy action item found e =
 pub some_where : {A : Type 0} (found : Option A) (is : A → Type 0) → ((x : A) → found ≡ Some x → is x) → IfSome found is
 some_where None is each = tt
 some_where (Some x) is each = each x refl
+
+pub distinct_where : (asked : Asked) (policy : Policy) (action : Action) (item : List ℕ) (found : Certificate) → certificate_for asked policy action item ≡ Some found
+    → IsDistinct same_cred found.uses
+distinct_where asked policy action item found e =
+    let first : IsFirst asked action item policy.rules 1 found = subst (IsAnswer asked action item policy.rules 1) e (rules_answer asked action item policy.rules 1) in
+    first.distinct

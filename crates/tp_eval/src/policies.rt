@@ -1,7 +1,8 @@
 //! The evaluation of a policy.
 ghost use Rattle.std.specs.Prelude.{◌≡◌, ◌<◌, ◌^◌, [], length, option_map, true, IfOk, IfSome};
-ghost use Rattle.std.specs.List.{list_all};
+ghost use Rattle.std.specs.List.{list_all, IsDistinct};
 ghost use Rattle.std.specs.Option.{is_some};
+ghost use Rattle.tp_model.specs.Ids.{same_cred};
 ghost use Rattle.tp_model.specs.Policies as policies;
 ghost use Rattle.tp_cred.specs.Certificates.{is_checked};
 ghost use Rattle.tp_cred.specs.Validity.{held_in, is_among};
@@ -93,6 +94,7 @@ pub fn evaluate(
     ensures truth { IfOk result (λ found. is_some found ≡ policies.allows policy.now action item.now (held_in store.now subject.now now revoked.now presented.now)) }
     ensures passes { IfOk result (λ found. IfSome found (λ certificate. is_checked policy.now action item.now store.now subject.now now revoked.now certificate.rule certificate.uses ≡ true)) }
     ensures presented { IfOk result (λ found. IfSome found (λ certificate. list_all (is_among presented.now) certificate.uses ≡ true)) }
+    ensures each_once { IfOk result (λ found. IfSome found (λ certificate. IsDistinct same_cred certificate.uses)) }
 {
     let held = Held {
         store,

@@ -2,7 +2,7 @@ use Rattle.std.proofs.Common.{◌≡◌, ◌∙◌, ap, sym, IfOk}
 use Rattle.std.proofs.lemmas.Result.{IfOk-weaker}
 use Rattle.std.specs.Option.{is_some}
 use Rattle.tp_eval.specs.Taken.{certificate}
-use Rattle.tp_eval.proofs.CertificateLemmas.{exists_where_allowed, passes_where, presented_where, some_where}
+use Rattle.tp_eval.proofs.CertificateLemmas.{distinct_where, exists_where_allowed, passes_where, presented_where, some_where}
 use Rattle.tp_eval.proofs.SoundLemmas.{Asked}
 use Rattle.tp_eval.proofs.policies.evaluate.Goals as goal
 
@@ -33,4 +33,10 @@ pub returns-clause-presented : goal.returns-clause-presented
 returns-clause-presented c =
     IfOk-weaker c.found_by.result _ _
     (λ found is. some_where found _ (λ given e. presented_where (asked_by c) c.args.policy.now c.args.action c.args.item.now given (sym is ∙ e)))
+    (exact c)
+
+pub returns-clause-each_once : goal.returns-clause-each_once
+returns-clause-each_once c =
+    IfOk-weaker c.found_by.result _ _
+    (λ found is. some_where found _ (λ given e. distinct_where (asked_by c) c.args.policy.now c.args.action c.args.item.now given (sym is ∙ e)))
     (exact c)
