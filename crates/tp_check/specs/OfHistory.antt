@@ -1,0 +1,64 @@
+-- A store of credentials with a clock and revocations, beside a history.
+use Rattle.std.specs.Prelude.{◌≡◌, ℕ, ◌&&◌, List, Bool, false, Option, Some, None}
+use Rattle.std.specs.List.{filter_map, list_all, list_any}
+use Rattle.tp_types.specs.declared.fact.Fact.{Fact}
+use Rattle.tp_types.specs.declared.fact.What.{What}
+use Rattle.tp_types.specs.declared.fact.What.TheVariants as what
+use Rattle.tp_types.specs.declared.ids.CredId.{CredId}
+use Rattle.tp_types.specs.declared.policy.Action.{Action}
+use Rattle.tp_types.specs.declared.policy.Policy.{Policy}
+use Rattle.tp_types.specs.declared.records.Verdict.{Verdict}
+use Rattle.tp_types.specs.declared.scenario.Scenario.{Scenario}
+use Rattle.tp_types.specs.declared.scenario.Transaction.{Transaction}
+use Rattle.tp_model.specs.Authorisation.{is_certified, policy_at, tests_version}
+use Rattle.tp_model.specs.Credentials.{clock_at, held, is_presented, is_valid, was_revoked}
+use Rattle.tp_model.specs.Facts.{before}
+use Rattle.tp_model.specs.Ids.{same_cred}
+use Rattle.tp_cred.specs.Certificates.{is_checked}
+use Rattle.tp_cred.specs.Validity.{held_in, is_valid_in}
+
+-- the clock is that of the place, and those are revoked that were revoked before it
+pub record IsAt (sc : Scenario) (place : ℕ) (facts : List Fact) (now : ℕ) (revoked : List CredId) : Type 0 where
+  pub clock : now ≡ clock_at sc place facts
+  pub revocations : (cred : CredId) → list_any (same_cred cred) revoked ≡ was_revoked cred place facts
+
+abbrev pub revoked_what : What → Option CredId
+revoked_what (what.Revoked cred) = Some cred
+revoked_what _ = None
+
+abbrev pub revoked_by : Fact → Option CredId
+revoked_by fact = revoked_what fact.what
+
+-- the credentials that were revoked before the place
+abbrev pub revoked_at : ℕ → List Fact → List CredId
+revoked_at place facts = filter_map revoked_by (before place facts)
+
+-- each place has its clock and its revocations
+abbrev pub IsAtEachPlace : Type 0
+IsAtEachPlace = (sc : Scenario) (place : ℕ) (facts : List Fact) → IsAt sc place facts (clock_at sc place facts) (revoked_at place facts)
+
+-- a credential is valid exactly where it is valid at the place
+abbrev pub IsValidThere : Type 0
+IsValidThere = (sc : Scenario) (place : ℕ) (facts : List Fact) (now : ℕ) (revoked : List CredId) → IsAt sc place facts now revoked
+    → (cred : CredId) → is_valid_in sc.creds now revoked cred ≡ is_valid sc place facts cred
+
+-- a transaction holds what it holds at the place
+abbrev pub IsHeldThere : Type 0
+IsHeldThere = (sc : Scenario) (place : ℕ) (facts : List Fact) (now : ℕ) (revoked : List CredId) → IsAt sc place facts now revoked
+    → (txn : Transaction) → held_in sc.creds txn.subject now revoked txn.creds ≡ held sc place facts txn
+
+-- the certificate of a rule, where a verdict names one, passes the check
+abbrev pub is_checked_of : Scenario → Transaction → ℕ → List CredId → Option ℕ → List CredId → Action → List ℕ → Policy → Bool
+is_checked_of sc txn now revoked None uses asked item policy = false
+is_checked_of sc txn now revoked (Some rule) uses asked item policy = is_checked policy asked item sc.creds txn.subject now revoked rule uses
+
+-- a verdict's certificate passes the check, at its query and its version, and uses only what the transaction presents
+abbrev pub is_verdict_checked : Scenario → Transaction → ℕ → List CredId → Verdict → Bool
+is_verdict_checked sc txn now revoked verdict =
+    tests_version (is_checked_of sc txn now revoked verdict.rule verdict.uses) sc txn verdict.query (policy_at sc verdict.admin verdict.version)
+    && list_all (is_presented txn) verdict.uses
+
+-- exactly the certified verdicts are checked with the clock and the revocations of their places
+abbrev pub IsCertifiedThere : Type 0
+IsCertifiedThere = (sc : Scenario) (facts : List Fact) (now : ℕ) (revoked : List CredId) (txn : Transaction) (verdict : Verdict)
+    → IsAt sc verdict.place facts now revoked → is_verdict_checked sc txn now revoked verdict ≡ is_certified sc facts txn verdict

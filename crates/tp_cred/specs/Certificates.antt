@@ -1,0 +1,18 @@
+-- What a certificate shows: a rule of the policy that is true of the credentials alone that the certificate uses.
+use Rattle.std.specs.Prelude.{ℕ, ◌&&◌, List, Bool, false}
+use Rattle.std.specs.List.{list_all}
+use Rattle.std.specs.Option.{option_map_or}
+use Rattle.tp_types.specs.declared.ids.CredId.{CredId}
+use Rattle.tp_types.specs.declared.policy.Action.{Action}
+use Rattle.tp_types.specs.declared.policy.Policy.{Policy}
+use Rattle.tp_types.specs.declared.scenario.Credential.{Credential}
+use Rattle.tp_model.specs.Authorisation.{rule_in}
+use Rattle.tp_model.specs.Policies.{rule_allows}
+use Rattle.tp_cred.specs.Validity.{held_in, is_valid_in}
+
+-- the rule exists, counted from 1, matches, and is true of what the used credentials alone say of the subject; each of these exists
+-- and is valid
+abbrev pub is_checked : Policy → Action → List ℕ → List Credential → List ℕ → ℕ → List CredId → ℕ → List CredId → Bool
+is_checked policy asked item store subject now revoked rule uses =
+    option_map_or (rule_allows asked item (held_in store subject now revoked uses)) (rule_in policy rule) false
+    && list_all (is_valid_in store now revoked) uses

@@ -1,0 +1,66 @@
+//! What a subject holds.
+ghost use Rattle.std.specs.Prelude.{◌≡◌, false};
+ghost use Rattle.std.specs.Option.{option_map_or};
+ghost use Rattle.tp_model.specs.Policies as policies;
+ghost use Rattle.tp_model.specs.Credentials as credentials;
+ghost use Rattle.tp_cred.specs.HeldBy as held_by;
+ghost use Rattle.tp_cred.specs.Validity as validity;
+
+use crate::store::CredStore;
+use tp_model::meets;
+use tp_types::{CredId, Credential, Name, Op, Value};
+
+/// Credentials that a subject presents, with the clock and the revocations that decide which of them are valid.
+#[derive(Clone, Copy)]
+pub struct Held<'a> {
+    pub store: &'a CredStore,
+    pub subject: &'a Name,
+    pub creds: &'a [CredId],
+    pub clock: u64,
+    pub revoked: &'a [CredId],
+}
+
+#[tactic(auto, using(crate::proofs::HeldLemmas::said))]
+fn says(
+    credential: &Credential,
+    subject: &Name,
+    issuer: &Name,
+    attr: &Name,
+    op: Op,
+    wanted: &Value,
+) -> bool
+    ensures { result ≡ option_map_or (policies.meets issuer.now attr.now op wanted.now) (credentials.triple_of subject.now credential.now) false }
+{
+    credential.subject == *subject && meets(credential, issuer, attr, op, wanted)
+}
+
+fn is_said(
+    held: &Held<'_>,
+    cred: CredId,
+    issuer: &Name,
+    attr: &Name,
+    op: Op,
+    wanted: &Value,
+) -> bool
+    ensures { result ≡ option_map_or (policies.meets issuer.now attr.now op wanted.now) (validity.said_in held.now.store.now held.now.subject.now cred) false }
+{
+    match held.store.get(cred) {
+        None => false,
+        Some(credential) => says(credential, held.subject, issuer, attr, op, wanted),
+    }
+}
+
+/// Whether a credential is the subject's and valid, and what it says satisfies an atom.
+pub fn shows(
+    held: &Held<'_>,
+    cred: CredId,
+    issuer: &Name,
+    attr: &Name,
+    op: Op,
+    wanted: &Value,
+) -> bool
+    ensures { result ≡ held_by.shows held.now (policies.meets issuer.now attr.now op wanted.now) cred }
+{
+    is_said(held, cred, issuer, attr, op, wanted)
+        && held.store.valid(cred, held.clock, held.revoked)
+}

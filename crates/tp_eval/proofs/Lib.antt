@@ -1,0 +1,4 @@
+pub mod CertificateLemmas
+pub mod OnceLemmas
+pub mod SoundLemmas
+pub mod TakenLemmas

@@ -1,0 +1,42 @@
+use Rattle.std.proofs.Common.{◌≡◌, ◌∙◌, ap, sym, IfOk}
+use Rattle.std.proofs.lemmas.Result.{IfOk-weaker}
+use Rattle.std.specs.Option.{is_some}
+use Rattle.tp_eval.specs.Taken.{certificate}
+use Rattle.tp_eval.proofs.CertificateLemmas.{distinct_where, exists_where_allowed, passes_where, presented_where, some_where}
+use Rattle.tp_eval.proofs.SoundLemmas.{Asked}
+use Rattle.tp_eval.proofs.policies.evaluate.Goals as goal
+
+abbrev asked_by : goal.After-found_by → Asked
+asked_by c = record {
+  store = c.args.store.now;
+  subject = c.args.subject.now;
+  now = c.args.now;
+  revoked = c.args.revoked.now;
+  presented = c.args.presented.now;
+}
+
+exact : (c : goal.After-found_by) → IfOk c.found_by.result
+    (λ found. found ≡ certificate c.args.policy.now c.args.action c.args.item.now c.args.store.now c.args.subject.now c.args.presented.now c.args.now c.args.revoked.now)
+exact c = rw c.as_slice.ensures at c.found_by.ensures
+
+pub returns-clause-truth : goal.returns-clause-truth
+returns-clause-truth c =
+    IfOk-weaker c.found_by.result _ _ (λ found is. ap is_some is ∙ exists_where_allowed (asked_by c) c.args.policy.now c.args.action c.args.item.now) (exact c)
+
+pub returns-clause-passes : goal.returns-clause-passes
+returns-clause-passes c =
+    IfOk-weaker c.found_by.result _ _
+    (λ found is. some_where found _ (λ given e. passes_where (asked_by c) c.args.policy.now c.args.action c.args.item.now given (sym is ∙ e)))
+    (exact c)
+
+pub returns-clause-presented : goal.returns-clause-presented
+returns-clause-presented c =
+    IfOk-weaker c.found_by.result _ _
+    (λ found is. some_where found _ (λ given e. presented_where (asked_by c) c.args.policy.now c.args.action c.args.item.now given (sym is ∙ e)))
+    (exact c)
+
+pub returns-clause-each_once : goal.returns-clause-each_once
+returns-clause-each_once c =
+    IfOk-weaker c.found_by.result _ _
+    (λ found is. some_where found _ (λ given e. distinct_where (asked_by c) c.args.policy.now c.args.action c.args.item.now given (sym is ∙ e)))
+    (exact c)

@@ -1,0 +1,70 @@
+-- The certificate of an evaluation: the first rule in the order of the text that matches and is true, and the credentials that make it so.
+use Rattle.std.specs.Prelude.{ℕ, ◌+◌, List, [], ◌∷◌, ◌++◌, Bool, Option, Some, None, option_map, option_and_then, if◌then◌else◌}
+use Rattle.std.specs.List.{find}
+use Rattle.std.specs.Option.{option_or}
+use Rattle.tp_types.specs.declared.ids.CredId.{CredId}
+use Rattle.tp_types.specs.declared.policy.Action.{Action}
+use Rattle.tp_types.specs.declared.policy.Cond.{Cond, fold-Cond}
+use Rattle.tp_types.specs.declared.policy.Cond.TheOpen.{Cond-F, True, Atom, And, Or}
+use Rattle.tp_types.specs.declared.policy.Policy.{Policy}
+use Rattle.tp_types.specs.declared.policy.Rule.{Rule}
+use Rattle.tp_types.specs.declared.scenario.Credential.{Credential}
+use Rattle.tp_model.specs.Policies.{Triple, matches, meets}
+use Rattle.tp_cred.specs.Validity.{is_among, shows_in}
+use Rattle.tp_eval.specs.declared.policies.Certificate.{Certificate}
+
+-- ---- a condition
+
+-- all that members take, one after another, where each takes some
+abbrev pub taken_by_all : List (Option (List CredId)) → Option (List CredId)
+taken_by_all [] = Some []
+taken_by_all (member ∷ members) = option_and_then (λ first. option_map (λ others. first ++ others) (taken_by_all members)) member
+
+-- what the first member takes that takes some
+abbrev pub taken_by_first : List (Option (List CredId)) → Option (List CredId)
+taken_by_first [] = None
+taken_by_first (member ∷ members) = option_or member (taken_by_first members)
+
+abbrev pub only : CredId → List CredId
+only cred = cred ∷ []
+
+-- one level of a condition, where it is known what its members take
+abbrev pub level : ((Triple → Bool) → CredId → Bool) → List CredId → Cond-F (Option (List CredId)) → Option (List CredId)
+level shows presented True = Some []
+level shows presented (Atom issuer attr op wanted) = option_map only (find (shows (meets issuer attr op wanted)) presented)
+level shows presented (And members) = taken_by_all members
+level shows presented (Or members) = taken_by_first members
+
+-- the credentials that make a condition true, or None where it is false: for an atom the first presented that shows it, for And
+-- those of all members from the left, for Or those of the first member that is true
+abbrev pub taken : ((Triple → Bool) → CredId → Bool) → List CredId → Cond → Option (List CredId)
+taken shows presented condition = fold-Cond (Option (List CredId)) (level shows presented) condition
+
+-- ---- each once
+
+abbrev pub with_cred : List CredId → CredId → List CredId
+with_cred creds cred = if is_among creds cred then creds else creds ++ cred ∷ []
+
+-- adds each that is not there yet, so that one stands at its first use
+abbrev pub once : List CredId → List CredId → List CredId
+once creds [] = creds
+once creds (cred ∷ others) = once (with_cred creds cred) others
+
+-- ---- a policy
+
+-- what the condition of a rule takes that matches
+abbrev pub taken_by_rule : ((Triple → Bool) → CredId → Bool) → List CredId → Action → List ℕ → Rule → Option (List CredId)
+taken_by_rule shows presented asked item rule = if matches asked item rule then taken shows presented rule.cond else None
+
+abbrev pub certificate_of : ℕ → List CredId → Certificate
+certificate_of number creds = record { rule = number; uses = once [] creds }
+
+-- the certificate of the first rule that is true, where rules are counted from this number
+abbrev pub first_certificate : (Rule → Option (List CredId)) → ℕ → List Rule → Option Certificate
+first_certificate takes number [] = None
+first_certificate takes number (rule ∷ rules) = option_or (option_map (certificate_of number) (takes rule)) (first_certificate takes (number + 1) rules)
+
+-- the certificate of the first rule that matches and is true of the valid credentials of the subject that are presented
+abbrev pub certificate : Policy → Action → List ℕ → List Credential → List ℕ → List CredId → ℕ → List CredId → Option Certificate
+certificate policy asked item store subject presented now revoked =
+    first_certificate (taken_by_rule (shows_in store subject now revoked) presented asked item) 1 policy.rules

@@ -1,0 +1,108 @@
+//! The credentials that make a condition true.
+ghost use Rattle.std.specs.Prelude.{◌≡◌, map, option_map, IfOk};
+ghost use Rattle.std.specs.List.{find};
+ghost use Rattle.std.specs.Option.{is_some};
+ghost use Rattle.tp_model.specs.Policies.{meets};
+ghost use Rattle.tp_cred.specs.HeldBy as held_by;
+ghost use Rattle.tp_eval.specs.Gathered.{gathered, takes};
+ghost use Rattle.tp_eval.specs.Taken as taken;
+
+use tp_cred::{Held, is_among, shows};
+use tp_types::{Cond, CredId, List, Name, NoMemory, Op, Value};
+
+fn add_once(uses: &mut List<CredId>, cred: CredId) -> Result<(), NoMemory>
+    ensures { IfOk result (λ _. uses.new ≡ taken.with_cred uses.old cred) }
+{
+    if !is_among(uses.as_slice(), cred) {
+        uses.push(cred)?;
+    }
+    Ok(())
+}
+
+fn first_shown(
+    held: &Held<'_>,
+    issuer: &Name,
+    attr: &Name,
+    op: Op,
+    wanted: &Value,
+) -> Option<CredId>
+    ensures { result ≡ find (held_by.shows held.now (meets issuer.now attr.now op wanted.now)) held.now.creds.now }
+{
+    held.creds
+        .iter()
+        .copied()
+        .find(|cred| shows(held, *cred, issuer, attr, op, wanted))
+}
+
+fn gather_atom(
+    held: &Held<'_>,
+    issuer: &Name,
+    attr: &Name,
+    op: Op,
+    wanted: &Value,
+    uses: &mut List<CredId>,
+) -> Result<bool, NoMemory>
+    ensures truth { IfOk result (λ found. found ≡ is_some (find (held_by.shows held.now (meets issuer.now attr.now op wanted.now)) held.now.creds.now)) }
+    ensures added { IfOk result (λ _. uses.new ≡ gathered uses.old (option_map taken.only (find (held_by.shows held.now (meets issuer.now attr.now op wanted.now)) held.now.creds.now))) }
+{
+    match first_shown(held, issuer, attr, op, wanted) {
+        None => Ok(false),
+        Some(cred) => {
+            add_once(uses, cred)?;
+            Ok(true)
+        }
+    }
+}
+
+/// Whether the condition is true of what is held. Where it is, the credentials that make it so are added, each once; where
+/// it is not, the list stays.
+#[cycle(evaluation)]
+#[tactic(auto, using(crate::proofs::TakenLemmas::taken_atom, crate::proofs::TakenLemmas::taken_and, crate::proofs::TakenLemmas::taken_or))]
+pub fn gather(held: &Held<'_>, cond: &Cond, uses: &mut List<CredId>) -> Result<bool, NoMemory>
+    ensures truth { IfOk result (λ found. found ≡ is_some (takes held.now cond.now)) }
+    ensures added { IfOk result (λ _. uses.new ≡ gathered uses.old (takes held.now cond.now)) }
+{
+    match cond {
+        Cond::True => Ok(true),
+        Cond::Atom {
+            issuer,
+            attr,
+            op,
+            value,
+        } => gather_atom(held, issuer, attr, *op, value, uses),
+        Cond::And(members) => gather_all(held, members.as_slice(), uses),
+        Cond::Or(members) => gather_first(held, members.as_slice(), uses),
+    }
+}
+
+#[cycle(evaluation)]
+fn gather_all(held: &Held<'_>, members: &[Cond], uses: &mut List<CredId>) -> Result<bool, NoMemory>
+    ensures truth { IfOk result (λ found. found ≡ is_some (taken.taken_by_all (map (takes held.now) members.now))) }
+    ensures added { IfOk result (λ _. uses.new ≡ gathered uses.old (taken.taken_by_all (map (takes held.now) members.now))) }
+{
+    let before = uses.len();
+    for member in members {
+        if !gather(held, member, uses)? {
+            uses.truncate(before);
+            return Ok(false);
+        }
+    }
+    Ok(true)
+}
+
+#[cycle(evaluation)]
+fn gather_first(
+    held: &Held<'_>,
+    members: &[Cond],
+    uses: &mut List<CredId>,
+) -> Result<bool, NoMemory>
+    ensures truth { IfOk result (λ found. found ≡ is_some (taken.taken_by_first (map (takes held.now) members.now))) }
+    ensures added { IfOk result (λ _. uses.new ≡ gathered uses.old (taken.taken_by_first (map (takes held.now) members.now))) }
+{
+    for member in members {
+        if gather(held, member, uses)? {
+            return Ok(true);
+        }
+    }
+    Ok(false)
+}

@@ -1,0 +1,108 @@
+//! The evaluation of a policy.
+ghost use Rattle.std.specs.Prelude.{◌≡◌, ◌<◌, ◌^◌, [], length, option_map, true, IfOk, IfSome};
+ghost use Rattle.std.specs.List.{list_all, IsDistinct};
+ghost use Rattle.std.specs.Option.{is_some};
+ghost use Rattle.tp_model.specs.Ids.{same_cred};
+ghost use Rattle.tp_model.specs.Policies as policies;
+ghost use Rattle.tp_cred.specs.Certificates.{is_checked};
+ghost use Rattle.tp_cred.specs.Validity.{held_in, is_among};
+ghost use Rattle.tp_eval.specs.Gathered as gathered;
+ghost use Rattle.tp_eval.specs.Taken as taken;
+
+use crate::gather::gather;
+use std::alloc::Global;
+use tp_cred::{CredStore, Held};
+use tp_model::matches;
+use tp_types::{Action, CredId, List, Name, NoMemory, Policy, Rule};
+
+/// What shows that a policy allows an action: one of its rules, and the credentials that make its condition true.
+#[derive(Debug, Drop)]
+pub struct Certificate {
+    /// The place of the rule in the policy, counted from 1.
+    pub rule: u32,
+    pub uses: List<CredId>,
+}
+
+fn gather_rule(
+    held: &Held<'_>,
+    action: Action,
+    item: &Name,
+    rule: &Rule,
+    uses: &mut List<CredId>,
+) -> Result<bool, NoMemory>
+    ensures truth { IfOk result (λ found. found ≡ is_some (gathered.takes_by_rule held.now action item.now rule.now)) }
+    ensures added { IfOk result (λ _. uses.new ≡ gathered.gathered uses.old (gathered.takes_by_rule held.now action item.now rule.now)) }
+{
+    if !matches(action, item, rule) {
+        return Ok(false);
+    }
+    gather(held, &rule.cond, uses)
+}
+
+fn first_rule(
+    held: &Held<'_>,
+    action: Action,
+    item: &Name,
+    rules: &[Rule],
+    uses: &mut List<CredId>,
+) -> Result<Option<u32>, NoMemory>
+    requires empty { uses.old ≡ [] }
+    requires few { length rules.now < 2 ^ 32 }
+    ensures number { IfOk result (λ found. found ≡ option_map gathered.rule_of (taken.first_certificate (gathered.takes_by_rule held.now action item.now) 1 rules.now)) }
+    ensures uses { IfOk result (λ _. uses.new ≡ gathered.uses_in (taken.first_certificate (gathered.takes_by_rule held.now action item.now) 1 rules.now)) }
+{
+    for (before, rule) in rules.iter().enumerate() {
+        if gather_rule(held, action, item, rule, uses)? {
+            return Ok(Some(before as u32 + 1));
+        }
+    }
+    Ok(None)
+}
+
+fn found_by(
+    alloc: Global,
+    held: &Held<'_>,
+    action: Action,
+    item: &Name,
+    rules: &[Rule],
+) -> Result<Option<Certificate>, NoMemory>
+    requires { length rules.now < 2 ^ 32 }
+    ensures { IfOk result (λ found. found ≡ taken.first_certificate (gathered.takes_by_rule held.now action item.now) 1 rules.now) }
+{
+    let mut uses = List::new(alloc);
+    let found = first_rule(held, action, item, rules, &mut uses)?;
+    match found {
+        None => Ok(None),
+        Some(rule) => Ok(Some(Certificate { rule, uses })),
+    }
+}
+
+/// Evaluates a policy for an action on an item, on the credentials that a subject presents: those count that are the
+/// subject's and valid. The only memory that is taken is the certificate's.
+pub fn evaluate(
+    alloc: Global,
+    policy: &Policy,
+    action: Action,
+    item: &Name,
+    store: &CredStore,
+    subject: &Name,
+    presented: &[CredId],
+    now: u64,
+    revoked: &[CredId],
+) -> Result<Option<Certificate>, NoMemory>
+    requires { length policy.now.rules < 2 ^ 32 }
+    ensures exact { IfOk result (λ found. found ≡ taken.certificate policy.now action item.now store.now subject.now presented.now now revoked.now) }
+    ensures truth { IfOk result (λ found. is_some found ≡ policies.allows policy.now action item.now (held_in store.now subject.now now revoked.now presented.now)) }
+    ensures passes { IfOk result (λ found. IfSome found (λ certificate. is_checked policy.now action item.now store.now subject.now now revoked.now certificate.rule certificate.uses ≡ true)) }
+    ensures presented { IfOk result (λ found. IfSome found (λ certificate. list_all (is_among presented.now) certificate.uses ≡ true)) }
+    ensures each_once { IfOk result (λ found. IfSome found (λ certificate. IsDistinct same_cred certificate.uses)) }
+{
+    let held = Held {
+        store,
+        subject,
+        creds: presented,
+        clock: now,
+        revoked,
+    };
+    found_by(alloc, &held, action, item, policy.rules.as_slice())
+}
