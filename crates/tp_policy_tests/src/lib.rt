@@ -6,3 +6,7 @@
 mod credentials;
 #[cfg(test)]
 mod evaluation;
+#[cfg(test)]
+mod policy_tables;
+#[cfg(test)]
+mod policy_text;
