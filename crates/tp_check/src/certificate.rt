@@ -8,11 +8,11 @@ ghost use Rattle.tp_cred.specs.Certificates.{is_checked};
 ghost use Rattle.tp_cred.specs.HeldBy.{held_by};
 ghost use Rattle.tp_cred.specs.Validity.{is_valid_in};
 
-use tp_cred::{CredStore, Held, shows};
+use tp_cred::{CredStore, Presented, shows};
 use tp_model::{matches, rule_in};
 use tp_types::{Action, Cond, CredId, Name, Op, Policy, Rule, Value};
 
-fn is_met(held: &Held<'_>, issuer: &Name, attr: &Name, op: Op, wanted: &Value) -> bool
+fn is_met(held: &Presented<'_>, issuer: &Name, attr: &Name, op: Op, wanted: &Value) -> bool
     ensures { result ≡ list_any (policies.meets issuer.now attr.now op wanted.now) (held_by held.now) }
 {
     held.creds
@@ -22,7 +22,7 @@ fn is_met(held: &Held<'_>, issuer: &Name, attr: &Name, op: Op, wanted: &Value) -
 
 #[cycle(evaluation)]
 #[tactic(auto, using(tp_model::proofs::ConditionLemmas::holds_atom, tp_model::proofs::ConditionLemmas::holds_and, tp_model::proofs::ConditionLemmas::holds_or))]
-fn holds(held: &Held<'_>, cond: &Cond) -> bool
+fn holds(held: &Presented<'_>, cond: &Cond) -> bool
     ensures { result ≡ policies.holds (held_by held.now) cond.now }
 {
     match cond {
@@ -39,7 +39,7 @@ fn holds(held: &Held<'_>, cond: &Cond) -> bool
 }
 
 #[cycle(evaluation)]
-fn all_hold(held: &Held<'_>, members: &[Cond]) -> bool
+fn all_hold(held: &Presented<'_>, members: &[Cond]) -> bool
     ensures { result ≡ list_all (policies.holds (held_by held.now)) members.now }
 {
     for member in members {
@@ -51,7 +51,7 @@ fn all_hold(held: &Held<'_>, members: &[Cond]) -> bool
 }
 
 #[cycle(evaluation)]
-fn any_holds(held: &Held<'_>, members: &[Cond]) -> bool
+fn any_holds(held: &Presented<'_>, members: &[Cond]) -> bool
     ensures { result ≡ list_any (policies.holds (held_by held.now)) members.now }
 {
     for member in members {
@@ -62,7 +62,7 @@ fn any_holds(held: &Held<'_>, members: &[Cond]) -> bool
     false
 }
 
-fn allows(action: Action, item: &Name, held: &Held<'_>, policy: &Policy, number: u32) -> bool
+fn allows(action: Action, item: &Name, held: &Presented<'_>, policy: &Policy, number: u32) -> bool
     ensures { result ≡ option_map_or (policies.rule_allows action item.now (held_by held.now)) (authorisation.rule_in policy.now number) false }
 {
     match rule_in(policy, number) {
@@ -78,8 +78,8 @@ fn are_valid(store: &CredStore, now: u64, revoked: &[CredId], uses: &[CredId]) -
 }
 
 /// Whether a certificate shows that the policy allows the action on the item: its rule, counted from 1, is one of the policy,
-/// matches, and is true of what the used credentials alone say of the subject, and each of these is in the store and valid.
-/// A credential is looked at once for each atom.
+/// matches, and is true of what the used credentials alone say of the subject, and each of these is in the store and valid. That the
+/// subject presented them is for the caller to test.
 pub fn check(
     policy: &Policy,
     action: Action,
@@ -93,7 +93,7 @@ pub fn check(
 ) -> bool
     ensures { result ≡ is_checked policy.now action item.now store.now subject.now now revoked.now rule uses.now }
 {
-    let held = Held {
+    let held = Presented {
         store,
         subject,
         creds: uses,

@@ -2,11 +2,11 @@
 use Rattle.std.specs.Prelude.{List, Bool}
 use Rattle.tp_types.specs.declared.ids.CredId.{CredId}
 use Rattle.tp_model.specs.Policies.{Triple}
-use Rattle.tp_cred.specs.declared.held.Held.{Held}
+use Rattle.tp_cred.specs.declared.presented.Presented.{Presented}
 use Rattle.tp_cred.specs.Validity.{held_in, shows_in}
 
-abbrev pub held_by : Held → List Triple
+abbrev pub held_by : Presented → List Triple
 held_by held = held_in held.store.now held.subject.now held.clock held.revoked.now held.creds.now
 
-abbrev pub shows : Held → (Triple → Bool) → CredId → Bool
+abbrev pub shows : Presented → (Triple → Bool) → CredId → Bool
 shows held test cred = shows_in held.store.now held.subject.now held.clock held.revoked.now test cred

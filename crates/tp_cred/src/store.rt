@@ -17,6 +17,7 @@ use tp_types::{CredId, Credential, List, Name, NoMemory};
 pub enum CredError {
     /// The store has one of this name, with this id.
     Duplicate { id: CredId },
+    /// Memory was refused.
     NoMemory,
 }
 
@@ -74,6 +75,7 @@ impl CredStore {
         self.creds.len()
     }
 
+    /// Whether there is no credential.
     pub fn is_empty(&self) -> bool
         ensures { IsTrue result ↔ (self.now ≡ []) }
     {

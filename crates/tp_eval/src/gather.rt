@@ -7,7 +7,7 @@ ghost use Rattle.tp_cred.specs.HeldBy as held_by;
 ghost use Rattle.tp_eval.specs.Gathered.{gathered, takes};
 ghost use Rattle.tp_eval.specs.Taken as taken;
 
-use tp_cred::{Held, is_among, shows};
+use tp_cred::{Presented, is_among, shows};
 use tp_types::{Cond, CredId, List, Name, NoMemory, Op, Value};
 
 fn add_once(uses: &mut List<CredId>, cred: CredId) -> Result<(), NoMemory>
@@ -20,7 +20,7 @@ fn add_once(uses: &mut List<CredId>, cred: CredId) -> Result<(), NoMemory>
 }
 
 fn first_shown(
-    held: &Held<'_>,
+    held: &Presented<'_>,
     issuer: &Name,
     attr: &Name,
     op: Op,
@@ -35,7 +35,7 @@ fn first_shown(
 }
 
 fn gather_atom(
-    held: &Held<'_>,
+    held: &Presented<'_>,
     issuer: &Name,
     attr: &Name,
     op: Op,
@@ -58,7 +58,7 @@ fn gather_atom(
 /// it is not, the list stays.
 #[cycle(evaluation)]
 #[tactic(auto, using(crate::proofs::TakenLemmas::taken_atom, crate::proofs::TakenLemmas::taken_and, crate::proofs::TakenLemmas::taken_or))]
-pub fn gather(held: &Held<'_>, cond: &Cond, uses: &mut List<CredId>) -> Result<bool, NoMemory>
+pub fn gather(held: &Presented<'_>, cond: &Cond, uses: &mut List<CredId>) -> Result<bool, NoMemory>
     ensures truth { IfOk result (λ found. found ≡ is_some (takes held.now cond.now)) }
     ensures added { IfOk result (λ _. uses.new ≡ gathered uses.old (takes held.now cond.now)) }
 {
@@ -76,7 +76,11 @@ pub fn gather(held: &Held<'_>, cond: &Cond, uses: &mut List<CredId>) -> Result<b
 }
 
 #[cycle(evaluation)]
-fn gather_all(held: &Held<'_>, members: &[Cond], uses: &mut List<CredId>) -> Result<bool, NoMemory>
+fn gather_all(
+    held: &Presented<'_>,
+    members: &[Cond],
+    uses: &mut List<CredId>,
+) -> Result<bool, NoMemory>
     ensures truth { IfOk result (λ found. found ≡ is_some (taken.taken_by_all (map (takes held.now) members.now))) }
     ensures added { IfOk result (λ _. uses.new ≡ gathered uses.old (taken.taken_by_all (map (takes held.now) members.now))) }
 {
@@ -92,7 +96,7 @@ fn gather_all(held: &Held<'_>, members: &[Cond], uses: &mut List<CredId>) -> Res
 
 #[cycle(evaluation)]
 fn gather_first(
-    held: &Held<'_>,
+    held: &Presented<'_>,
     members: &[Cond],
     uses: &mut List<CredId>,
 ) -> Result<bool, NoMemory>

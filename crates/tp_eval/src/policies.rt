@@ -11,20 +11,21 @@ ghost use Rattle.tp_eval.specs.Taken as taken;
 
 use crate::gather::gather;
 use std::alloc::Global;
-use tp_cred::{CredStore, Held};
+use tp_cred::{CredStore, Presented};
 use tp_model::matches;
 use tp_types::{Action, CredId, List, Name, NoMemory, Policy, Rule};
 
 /// What shows that a policy allows an action: one of its rules, and the credentials that make its condition true.
 #[derive(Debug, Drop)]
 pub struct Certificate {
-    /// The place of the rule in the policy, counted from 1.
+    /// The number of the rule in the policy, counted from 1.
     pub rule: u32,
+    /// The credentials that make its condition true, each at its first use.
     pub uses: List<CredId>,
 }
 
 fn gather_rule(
-    held: &Held<'_>,
+    held: &Presented<'_>,
     action: Action,
     item: &Name,
     rule: &Rule,
@@ -40,7 +41,7 @@ fn gather_rule(
 }
 
 fn first_rule(
-    held: &Held<'_>,
+    held: &Presented<'_>,
     action: Action,
     item: &Name,
     rules: &[Rule],
@@ -61,7 +62,7 @@ fn first_rule(
 
 fn found_by(
     alloc: Global,
-    held: &Held<'_>,
+    held: &Presented<'_>,
     action: Action,
     item: &Name,
     rules: &[Rule],
@@ -78,7 +79,7 @@ fn found_by(
 }
 
 /// Evaluates a policy for an action on an item, on the credentials that a subject presents: those count that are the
-/// subject's and valid. The only memory that is taken is the certificate's.
+/// subject's and valid. A policy of a text has far fewer rules than the number that a certificate can count.
 pub fn evaluate(
     alloc: Global,
     policy: &Policy,
@@ -97,7 +98,7 @@ pub fn evaluate(
     ensures presented { IfOk result (λ found. IfSome found (λ certificate. list_all (is_among presented.now) certificate.uses ≡ true)) }
     ensures each_once { IfOk result (λ found. IfSome found (λ certificate. IsDistinct same_cred certificate.uses)) }
 {
-    let held = Held {
+    let held = Presented {
         store,
         subject,
         creds: presented,

@@ -3,7 +3,10 @@ use Rattle.std.specs.Prelude.{ℕ, ◌≡◌, ◌+◌, ◌++◌, ◌<◌, ◌≤
 use Rattle.std.specs.Io.KnownBytes.{Consumes, Appends, IsAtEnd}
 use Rattle.tp_io.specs.declared.whole.ReadError.{ReadError}
 use Rattle.tp_io.specs.declared.whole.ReadError.TheVariants.{TooLong, Fault, NoMemory}
-use Rattle.tp_io.specs.declared.whole.TheConstants.{INPUT_MAX}
+
+-- the most bytes of an input, 16 MiB
+abbrev pub input_max : ℕ
+input_max = 16777216
 
 -- some bytes were taken, at most so many
 pub record TakesAtMost (most : ℕ) (old new : Option (List ℕ)) : Type 0 where
@@ -22,15 +25,15 @@ pub record Took (left left' : Option (List ℕ)) (bytes bytes' : List ℕ) (more
   pub piece : List ℕ
   pub appended : bytes' ≡ bytes ++ piece
   pub consumed : Consumes left left' piece
-  pub limit : length bytes' ≤ INPUT_MAX + 1
+  pub limit : length bytes' ≤ input_max + 1
   pub longer : more ≡ true → length bytes < length bytes'
   pub ended : more ≡ false → (bytes' ≡ bytes) × IsAtEnd left'
 
 -- where the input is told: Ok gives the whole of it, and TooLong comes only where it is too long
 abbrev pub ReadsAll : Option (List ℕ) → Result (List ℕ) ReadError → Type 0
 ReadsAll None result = ⊤
-ReadsAll (Some input) (Ok bytes) = (bytes ≡ input) × (length input ≤ INPUT_MAX)
-ReadsAll (Some input) (Err TooLong) = INPUT_MAX < length input
+ReadsAll (Some input) (Ok bytes) = (bytes ≡ input) × (length input ≤ input_max)
+ReadsAll (Some input) (Err TooLong) = input_max < length input
 ReadsAll (Some input) (Err Fault) = ⊤
 ReadsAll (Some input) (Err NoMemory) = ⊤
 

@@ -13,7 +13,7 @@ use std::marker::Model;
 /// The most bytes that one read asks of the reader.
 const PIECE_MAX: usize = 4096;
 
-/// A reader of std as a source. Each error of the reader is a fault. It tells the bytes that the
+/// A reader of std as a source. Each error that it answers is a fault. It tells the bytes that the
 /// reader tells.
 #[derive(Drop)]
 pub struct ReadSource<R> {
@@ -32,6 +32,7 @@ impl<R> Model for ReadSource<R> {
 }
 
 impl<R: Read + Drop> ReadSource<R> {
+    /// No fault has been met yet.
     pub fn new(reader: R) -> ReadSource<R>
         ensures { result ≡ record { inner = reader; faults = 0 } }
     {
@@ -73,7 +74,7 @@ impl<R: Read + Drop> Source for ReadSource<R> {
 /// Standard input. It tells no bytes.
 pub type StdSource = ReadSource<Stdin>;
 
-/// A writer of std as a sink. Each error of the writer is a fault, and so is a call that takes
+/// A writer of std as a sink. Each error that it answers is a fault, and so is a call that takes
 /// nothing of a piece that is not empty. It tells the bytes that the writer tells.
 #[derive(Drop)]
 pub struct WriteSink<W> {
@@ -92,6 +93,7 @@ impl<W> Model for WriteSink<W> {
 }
 
 impl<W: Write + Drop> WriteSink<W> {
+    /// No fault has been met yet.
     pub fn new(writer: W) -> WriteSink<W>
         ensures { result ≡ record { inner = writer; faults = 0 } }
     {

@@ -17,7 +17,8 @@ pub use memory::{MemorySink, MemorySource};
 pub use steady::{SteadySink, SteadySource};
 pub use whole::{INPUT_MAX, ReadError, read_to_end, write_all};
 
-/// A read or a write failed. What the call was asked for did not happen.
+/// A read or a write failed. A call of a source has then taken nothing, and a call of a sink written
+/// nothing; of a whole text a front may have been written.
 #[derive(Debug, Drop, PartialEq)]
 pub struct Failed;
 

@@ -93,6 +93,7 @@ impl Model for MemorySource {
 }
 
 impl MemorySource {
+    /// No call has been made yet.
     pub fn new(bytes: List<u8>, fails: List<u64>, most: usize) -> MemorySource
         requires { 1 ≤ most }
         ensures { result
@@ -157,6 +158,7 @@ impl Model for MemorySink {
 }
 
 impl MemorySink {
+    /// No call has been made yet, and nothing written.
     pub fn new(alloc: Global, fails: List<u64>, most: usize) -> MemorySink
         requires { 1 ≤ most }
         ensures { result

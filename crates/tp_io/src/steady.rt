@@ -27,6 +27,7 @@ impl Model for SteadySource {
 }
 
 impl SteadySource {
+    /// All bytes are still to come.
     pub fn new(bytes: List<u8>) -> SteadySource
         ensures { result ≡ bytes }
     {
@@ -60,6 +61,7 @@ impl Source for SteadySource {
 pub struct SteadySink;
 
 impl SteadySink {
+    /// It has no state, so each is like any other.
     pub fn new() -> SteadySink {
         SteadySink
     }

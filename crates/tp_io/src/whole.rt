@@ -2,7 +2,7 @@
 ghost use Rattle.std.specs.Prelude.{ℕ, ◌≡◌, ◌+◌, ◌-◌, ◌<◌, ◌≤◌, length, IfOk, OnOk, OnErr, IsErrOf};
 ghost use Rattle.std.specs.Io.KnownBytes.{Consumes, Appends, IsAtEnd};
 ghost use Rattle.tp_io.specs.Faults.{Rose};
-ghost use Rattle.tp_io.specs.Whole.{Took, TakesAtMost, TakesExactly, ReadsAll, AppendsFront};
+ghost use Rattle.tp_io.specs.Whole.{Took, TakesAtMost, TakesExactly, ReadsAll, AppendsFront, input_max};
 
 use crate::{Failed, Sink, Source};
 use std::alloc::{AllocError, Global};
@@ -49,10 +49,10 @@ impl From<AllocError> for ReadError {
 
 /// One read, appended to the bytes. The answer is whether there was something to read.
 fn read_piece<I: Source>(source: &mut I, bytes: &mut Vec<u8>) -> Result<bool, ReadError>
-    requires { length bytes.old.items ≤ INPUT_MAX }
+    requires { length bytes.old.items ≤ input_max }
     ensures took { IfOk result
         (Took (I.left source.old) (I.left source.new) bytes.old.items bytes.new.items) }
-    ensures limit { OnErr result (TakesAtMost (INPUT_MAX + 1 - length bytes.old.items)
+    ensures limit { OnErr result (TakesAtMost (input_max + 1 - length bytes.old.items)
         (I.left source.old) (I.left source.new)) }
     ensures fault { IsErrOf result ReadError.Fault
         → Rose (I.faults source.old) (I.faults source.new) }
@@ -72,10 +72,10 @@ fn read_piece<I: Source>(source: &mut I, bytes: &mut Vec<u8>) -> Result<bool, Re
 #[tactic(auto, using(crate::proofs::Laws::takes_on))]
 pub fn read_to_end<I: Source>(alloc: Global, source: &mut I) -> Result<List<u8>, ReadError>
     ensures whole { IfOk result (λ bytes. Consumes (I.left source.old) (I.left source.new) bytes
-        × IsAtEnd (I.left source.new) × (length bytes ≤ INPUT_MAX)) }
+        × IsAtEnd (I.left source.new) × (length bytes ≤ input_max)) }
     ensures too_long { IsErrOf result ReadError.TooLong
-        → TakesExactly (INPUT_MAX + 1) (I.left source.old) (I.left source.new) }
-    ensures limit { TakesAtMost (INPUT_MAX + 1) (I.left source.old) (I.left source.new) }
+        → TakesExactly (input_max + 1) (I.left source.old) (I.left source.new) }
+    ensures limit { TakesAtMost (input_max + 1) (I.left source.old) (I.left source.new) }
     ensures fault { IsErrOf result ReadError.Fault
         → Rose (I.faults source.old) (I.faults source.new) }
     ensures later { I.faults source.old ≤ I.faults source.new }

@@ -209,7 +209,7 @@ linked_atom c s t (inr h) = by_head h.value h.one h.goes
       wanted = h.more.wanted;
       says = h.is ∙ ap (λ (g : Compared → Cond). g h.more) (sym (inr_is (λ (compared : Compared). cond.Atom issuer attr compared.op compared.wanted) h.with_more goes));
       between = h.between;
-      subject = one;
+      claim = one;
       compared = h.two;
     })
 
@@ -224,7 +224,7 @@ atom_linked c s t (inr h) = inr (record {
   more = record { op = h.compares; wanted = h.wanted };
   with_more = λ compared. cond.Atom h.issuer h.attr compared.op compared.wanted;
   between = h.between;
-  one = h.subject;
+  one = h.claim;
   goes = refl;
   two = h.compared;
   is = h.says;

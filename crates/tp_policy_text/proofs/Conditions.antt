@@ -251,8 +251,8 @@ letter_not_open byte e = by_open (byte == 40) refl
 atom_begins : (c : Cond) (s t : List ℕ) → IsAtom c s t → is_open (first s) ≡ false
 atom_begins c s t (inl h) = ap is_open (ap first h.1.begins)
 atom_begins c s t (inr h) =
-    let at = name_begins true h.issuer (codes "." ++ h.attr) s h.between h.subject.issuer_is
-    (subst (λ l. Token true l s h.between) (sym (append_append h.issuer (codes ".") h.attr)) h.subject.word) in
+    let at = name_begins true h.issuer (codes "." ++ h.attr) s h.between h.claim.issuer_is
+    (subst (λ l. Token true l s h.between) (sym (append_append h.issuer (codes ".") h.attr)) h.claim.word) in
     ap is_open at.1.0 ∙ letter_not_open at.0 at.1.1
 
 parentheses_begin : (I : Language Cond) (c : Cond) (s t : List ℕ) → IsInParentheses I c s t → is_open (first s) ≡ true

@@ -2,7 +2,7 @@
 use Rattle.std.proofs.lemmas.Bool.{and_parts, eqb-true}
 use Rattle.std.proofs.Common.{◌≡◌, ◌⊎◌, inl, inr, ℕ, ◌==◌, ◌&&◌, not, List, [], ◌∷◌, ◌++◌, Bool, true, false, Option, Some, None, refl, sym, ap, subst, ◌∙◌, arith, if◌then◌else◌, codes}
 use Rattle.std.proofs.lemmas.Option.{same_Some}
-use Rattle.tp_policy_text.specs.Grammar.{Subject}
+use Rattle.tp_policy_text.specs.Grammar.{Claim}
 use Rattle.tp_policy_text.specs.Lexis.{Word, first, in_word, is_blank, skip}
 use Rattle.tp_policy_text.specs.Readers.{Head, attr_step, comes, head_at, head_end, head_step, is_some_text, issuer_step, name_step, same_text}
 use Rattle.tp_policy_text.specs.Readings.{ended, machine, read}
@@ -22,11 +22,11 @@ in_attr issuer attr = record { issuer = issuer; attr = Some attr }
 -- None stands for the word true
 abbrev pub IsHead : Option Head → List ℕ → List ℕ → Type 0
 IsHead None s t = Word (codes "true") s t
-IsHead (Some head) s t = IsSubject head.issuer head.attr s t
+IsHead (Some head) s t = IsClaim head.issuer head.attr s t
   where
-    IsSubject : List ℕ → Option (List ℕ) → List ℕ → List ℕ → Type 0
-    IsSubject issuer None s t = ⊥
-    IsSubject issuer (Some attr) s t = Subject issuer attr s t
+    IsClaim : List ℕ → Option (List ℕ) → List ℕ → List ℕ → Type 0
+    IsClaim issuer None s t = ⊥
+    IsClaim issuer (Some attr) s t = Claim issuer attr s t
 
 -- ---- the states
 
@@ -149,28 +149,28 @@ true_ended issuer o found h =
     let parts = and_parts (same_text issuer (codes "true")) (not (in_word o)) step.0 in
     (parts.0, not_true (in_word o) parts.1, step.1)
 
-subject_ended : (issuer attr : List ℕ) (o : Option ℕ) (found : Option Head) → head_end (in_attr issuer attr) o ≡ Some found → (is_some_text attr ≡ true) × (in_word o ≡ false) × (Some (in_attr issuer attr) ≡ found)
-subject_ended issuer attr o found h =
+claim_ended : (issuer attr : List ℕ) (o : Option ℕ) (found : Option Head) → head_end (in_attr issuer attr) o ≡ Some found → (is_some_text attr ≡ true) × (in_word o ≡ false) × (Some (in_attr issuer attr) ≡ found)
+claim_ended issuer attr o found h =
     let step = given (is_some_text attr && not (in_word o)) (Some (in_attr issuer attr)) found h in
     let parts = and_parts (is_some_text attr) (not (in_word o)) step.0 in
     (parts.0, not_true (in_word o) parts.1, step.1)
 
-subject_ends : (issuer attr : List ℕ) (o : Option ℕ) → is_some_text attr ≡ true → in_word o ≡ false → head_end (in_attr issuer attr) o ≡ Some (Some (in_attr issuer attr))
-subject_ends issuer attr o some free = give (is_some_text attr && not (in_word o)) (Some (in_attr issuer attr)) (both_true (is_some_text attr) (not (in_word o)) some (not_false (in_word o) free))
+claim_ends : (issuer attr : List ℕ) (o : Option ℕ) → is_some_text attr ≡ true → in_word o ≡ false → head_end (in_attr issuer attr) o ≡ Some (Some (in_attr issuer attr))
+claim_ends issuer attr o some free = give (is_some_text attr && not (in_word o)) (Some (in_attr issuer attr)) (both_true (is_some_text attr) (not (in_word o)) some (not_false (in_word o) free))
 
 before_blank : (issuer : List ℕ) (attr : Option (List ℕ)) (o : Option ℕ) (found : Option Head) → head_end (record { issuer = issuer; attr = attr }) o ≡ Some found → head_end (record { issuer = issuer; attr = attr }) (Some 32) ≡ Some found
 before_blank issuer None o found h =
     let over = true_ended issuer o found h in
     give (same_text issuer (codes "true") && true) None (both_true (same_text issuer (codes "true")) true over.0 refl) ∙ ap (λ (v : Option Head). Some v) over.2
-before_blank issuer (Some attr) o found h = let over = subject_ended issuer attr o found h in subject_ends issuer attr (Some 32) over.0 refl ∙ ap (λ (v : Option Head). Some v) over.2
+before_blank issuer (Some attr) o found h = let over = claim_ended issuer attr o found h in claim_ends issuer attr (Some 32) over.0 refl ∙ ap (λ (v : Option Head). Some v) over.2
 
--- a text that leads to a subject, and a blank
+-- a text that leads to a claim, and a blank
 led : (h : Head) (text issuer attr u : List ℕ) → Goes head_step h text (in_attr issuer attr) → is_some_text attr ≡ true → IsTight u → machine head_step head_end h ((text ++ (32 ∷ [])) ++ u) ≡ read (Some (in_attr issuer attr)) u
 led h text issuer attr u goes some tight =
     ap (λ l. machine head_step head_end h l) (sym (append_append text (32 ∷ []) u))
     ∙ (went head_step head_end h (in_attr issuer attr) text (32 ∷ u) goes
     ∙ (halted head_step head_end (in_attr issuer attr) (32 ∷ u) (no_step (in_attr issuer attr) 32 refl (λ name. no_further name 32 refl))
-    ∙ (ap (λ (o : Option (Option Head)). ended o (32 ∷ u)) (subject_ends issuer attr (Some 32) some refl) ∙ ap (λ l. read (Some (in_attr issuer attr)) l) tight)))
+    ∙ (ap (λ (o : Option (Option Head)). ended o (32 ∷ u)) (claim_ends issuer attr (Some 32) some refl) ∙ ap (λ l. read (Some (in_attr issuer attr)) l) tight)))
 
 finished : (issuer : List ℕ) (attr : Option (List ℕ)) → Ends (λ (a : Option Head) s t. machine head_step head_end (record { issuer = issuer; attr = attr }) s ≡ read a t) []
 finished issuer None = let end = name_finish issuer in record {
@@ -227,7 +227,7 @@ leaf_head a s t h = by_state (head_of [] h.text h.last h.goes)
           left_is = h.left;
         })
     by_state (inr k) =
-        let over = subject_ended k.before k.attr (first h.after) a (subst (λ p. head_end p (first h.after) ≡ Some a) k.is h.ends) in
+        let over = claim_ended k.before k.attr (first h.after) a (subst (λ p. head_end p (first h.after) ≡ Some a) k.is h.ends) in
         let issuer_on = names_of [] k.before k.before k.goes in
         let attr_on = names_of [] k.attr k.attr k.then_goes in
         subst (λ p. IsHead p s t) over.2 (record {
@@ -236,7 +236,7 @@ leaf_head a s t h = by_state (head_of [] h.text h.last h.goes)
           word = record { after = h.after; begins = h.parts ∙ ap (λ l. l ++ h.after) (k.parts ∙ append_append k.before (codes ".") k.attr); is_apart = over.1; left_is = h.left };
         })
 
--- a dot right behind the word true makes a subject of it
+-- a dot right behind the word true makes a claim of it
 abbrev pub not_dot : Option ℕ → Bool
 not_dot o = not (comes 46 o)
 
@@ -274,7 +274,7 @@ head_leaf (Some head) s t may h = by_attr head.attr refl
     by_attr : (attr : Option (List ℕ)) → head.attr ≡ attr → IsLeaf head_step head_end (in_issuer []) (Some head) s t
     by_attr None e = absurd (wrong (subst (λ (a : Option (List ℕ)). IsHead (Some (record { issuer = head.issuer; attr = a })) s t) e h))
     by_attr (Some attr) e =
-        let k : Subject head.issuer attr s t = subst (λ (a : Option (List ℕ)). IsHead (Some (record { issuer = head.issuer; attr = a })) s t) e h in
+        let k : Claim head.issuer attr s t = subst (λ (a : Option (List ℕ)). IsHead (Some (record { issuer = head.issuer; attr = a })) s t) e h in
         subst (λ (a : Option (List ℕ)). IsLeaf head_step head_end (in_issuer []) (Some (record { issuer = head.issuer; attr = a })) s t) (sym e) (record {
           text = head.issuer ++ (46 ∷ attr);
           after = k.word.after;
@@ -282,7 +282,7 @@ head_leaf (Some head) s t may h = by_attr head.attr refl
           parts = k.word.begins ∙ ap (λ l. l ++ k.word.after) (sym (append_append head.issuer (codes ".") attr));
           goes = both_go [] head.issuer head.issuer attr attr (names_go [] head.issuer k.issuer_is) (some_of_name head.issuer k.issuer_is) (names_go [] attr k.attr_is);
           halts = no_next attr (first k.word.after) k.word.is_apart;
-          ends = subject_ends head.issuer attr (first k.word.after) (some_of_name attr k.attr_is) k.word.is_apart;
+          ends = claim_ends head.issuer attr (first k.word.after) (some_of_name attr k.attr_is) k.word.is_apart;
           left = k.word.left_is;
         })
       where

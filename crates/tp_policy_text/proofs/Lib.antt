@@ -3,6 +3,7 @@ pub mod Choices
 pub mod Comparisons
 pub mod Conditions
 pub mod Exact
+pub mod Few
 pub mod Heads
 pub mod Images
 pub mod Leaves

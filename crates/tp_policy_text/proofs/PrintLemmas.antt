@@ -8,7 +8,7 @@ use Rattle.tp_types.specs.declared.policy.Cond.TheVariants as cond
 use Rattle.tp_types.specs.declared.policy.Op.{Op}
 use Rattle.tp_types.specs.declared.policy.Value.{Value}
 use Rattle.tp_types.specs.Spelling.{is_name}
-use Rattle.tp_policy_text.specs.Printed.{Shown, atom_text, can_be_cond, can_be_level, can_be_value, can_compare, cond_text, conjunction, disjunction, enclosed, in_and, in_or, is_held, plain, shown, shown_level}
+use Rattle.tp_policy_text.specs.Printed.{Shown, atom_text, can_be_cond, can_be_level, can_be_value, can_compare, cond_text, conjunction, disjunction, enclosed, in_and, in_or, can_be_member, plain, shown, shown_level}
 
 -- ---- the printed form
 
@@ -77,7 +77,7 @@ or_or members = ap in_or (shown_or members) ∙ ap enclosed (sym (text_or member
 
 -- ---- what the grammar can say
 
-members_can_be : (members : List Cond) → list_all is_held (map can_be_cond members) ≡ list_all can_be_cond members
+members_can_be : (members : List Cond) → list_all can_be_member (map can_be_cond members) ≡ list_all can_be_cond members
 members_can_be [] = refl
 members_can_be (member ∷ members) = ap (λ b. can_be_cond member && b) (members_can_be members)
 
@@ -85,9 +85,9 @@ members_many : (members : List Cond) → length (map can_be_cond members) ≡ le
 members_many [] = refl
 members_many (member ∷ members) = ap (λ n. suc n) (members_many members)
 
-both_can_be : (members : List Cond) → (nat_le 2 (length (map can_be_cond members)) && list_all is_held (map can_be_cond members)) ≡ (nat_le 2 (length members) && list_all can_be_cond members)
+both_can_be : (members : List Cond) → (nat_le 2 (length (map can_be_cond members)) && list_all can_be_member (map can_be_cond members)) ≡ (nat_le 2 (length members) && list_all can_be_cond members)
 both_can_be members =
-    ap (λ n. nat_le 2 n && list_all is_held (map can_be_cond members)) (members_many members)
+    ap (λ n. nat_le 2 n && list_all can_be_member (map can_be_cond members)) (members_many members)
     ∙ ap (λ b. nat_le 2 (length members) && b) (members_can_be members)
 
 pub can_be_true : can_be_cond cond.True ≡ true

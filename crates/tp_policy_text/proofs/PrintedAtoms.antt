@@ -92,7 +92,7 @@ atom_prints issuer attr compares wanted h = record { tight = λ r. subst IsTight
       wanted = wanted;
       says = refl;
       between = op_text compares ++ (32 ∷ (value_text wanted ++ r));
-      subject = record {
+      claim = record {
         issuer_is = names.0;
         attr_is = names.1;
         word = record {

@@ -39,7 +39,7 @@ atom_can_be c s t (inr h) =
     ap can_be_cond h.says ∙ (can_be_atom h.issuer h.attr h.compares h.wanted
     ∙ both_true (is_name h.issuer && is_name h.attr && can_compare h.compares h.wanted) (can_be_value h.wanted)
     (both_true (is_name h.issuer && is_name h.attr) (can_compare h.compares h.wanted)
-    (both_true (is_name h.issuer) (is_name h.attr) h.subject.issuer_is h.subject.attr_is) compared.0) compared.1)
+    (both_true (is_name h.issuer) (is_name h.attr) h.claim.issuer_is h.claim.attr_is) compared.0) compared.1)
 
 -- ---- members
 

@@ -10,7 +10,7 @@ use Rattle.std.specs.List.{list_all}
 use Rattle.tp_types.specs.declared.policy.Cond.{Cond}
 use Rattle.tp_types.specs.declared.policy.Cond.TheVariants as cond
 use Rattle.tp_policy_text.specs.declared.halt.Stop.{Stop}
-use Rattle.tp_policy_text.specs.declared.reader.Subject.{Subject}
+use Rattle.tp_policy_text.specs.declared.reader.Claim.{Claim}
 use Rattle.tp_types.specs.declared.policy.Pattern.{Pattern}
 use Rattle.tp_types.specs.declared.policy.Pattern.TheVariants as pattern
 use Rattle.tp_types.specs.Spelling.{IsName, is_letter, is_part}
@@ -18,7 +18,7 @@ use Rattle.tp_policy_text.specs.Grammar.{is_digit}
 use Rattle.tp_policy_text.specs.Lexis.{first, skip}
 use Rattle.tp_policy_text.specs.Readers.{Digits, Head, atom_at, atom_of, compared_at, Starred, attr_step, comes, issuer_step, unstarred, goes_on, head_at, same_text, head_of, int_at, name_at, starred_at, head_end, head_step, int_end, int_step, is_some_text, name_end, name_step, starred_end, starred_step, takes_digit}
 use Rattle.tp_policy_text.specs.Readings.{Reader, Reading, carried, ended, go_on, machine, mapped, pick, read, seq, taken}
-use Rattle.tp_policy_text.specs.Scans.{attr_at, compared_to, subject_of, digit_front, digits_at, follows, head_after, is_next_digit, name_front, name_rest, reach, starred_after}
+use Rattle.tp_policy_text.specs.Scans.{attr_at, compared_to, claim_of, digit_front, digits_at, follows, head_after, is_next_digit, name_front, name_rest, reach, starred_after}
 use Rattle.tp_policy_text.proofs.Leaves.{Goes, halted, next_of, went}
 use Rattle.tp_policy_text.proofs.Names.{IsSoFar, both_true, first_false, give, give_none, less_of, not_false, not_true, second_false, name_of_some, names_of}
 use Rattle.tp_policy_text.proofs.Texts.{append_append, append_none}
@@ -433,19 +433,19 @@ front_short negative (byte ∷ others) = by_zero (byte == 48) refl
 -- ---- atoms
 
 -- an atom behind what it begins with
-abbrev pub atom_from : Option Subject → Reader Cond
+abbrev pub atom_from : Option Claim → Reader Cond
 atom_from None s = read cond.True s
-atom_from (Some subject) s = mapped (compared_to subject) (compared_at s)
+atom_from (Some claim) s = mapped (compared_to claim) (compared_at s)
 
-pub atom_reads : (s : List ℕ) → atom_at s ≡ seq (mapped subject_of (head_at s)) atom_from
+pub atom_reads : (s : List ℕ) → atom_at s ≡ seq (mapped claim_of (head_at s)) atom_from
 atom_reads s = by_outcome (head_at s).outcome (head_at s).left
   where
     by_head : (issuer : List ℕ) (attr : Option (List ℕ)) (m : List ℕ)
-        → pick compared_at (atom_of (Some (record { issuer = issuer; attr = attr })) (first m)) m ≡ atom_from (subject_of (Some (record { issuer = issuer; attr = attr }))) m
+        → pick compared_at (atom_of (Some (record { issuer = issuer; attr = attr })) (first m)) m ≡ atom_from (claim_of (Some (record { issuer = issuer; attr = attr }))) m
     by_head issuer None m = refl
     by_head issuer (Some attr) m = refl
 
-    by_outcome : (o : Result (Option Head) Stop) (m : List ℕ) → go_on (λ a l. pick compared_at (atom_of a (first l)) l) o m ≡ go_on atom_from (carried subject_of o) m
+    by_outcome : (o : Result (Option Head) Stop) (m : List ℕ) → go_on (λ a l. pick compared_at (atom_of a (first l)) l) o m ≡ go_on atom_from (carried claim_of o) m
     by_outcome (Err why) m = refl
     by_outcome (Ok None) m = refl
     by_outcome (Ok (Some head)) m = by_head head.issuer head.attr m

@@ -28,10 +28,10 @@ are_many C rule (other ∷ rules) s (left, one, later) = inr (left, one, are_man
 
 -- ---- the reading of a text
 
-at_none : (n d : ℕ) (text : List ℕ) → skip text ≡ [] → policy_at n d text ≡ read (record { rules = [] }) []
+pub at_none : (n d : ℕ) (text : List ℕ) → skip text ≡ [] → policy_at n d text ≡ read (record { rules = [] }) []
 at_none n d text e = ap (policy_from n d) e
 
-at_some : (n d : ℕ) (text : List ℕ) (byte : ℕ) (others : List ℕ) (o : Result (List Rule) Stop) (t : List ℕ) → skip text ≡ byte ∷ others → rules_at n n d (byte ∷ others) ≡ left_at o t → policy_at n d text ≡ whole_of o t
+pub at_some : (n d : ℕ) (text : List ℕ) (byte : ℕ) (others : List ℕ) (o : Result (List Rule) Stop) (t : List ℕ) → skip text ≡ byte ∷ others → rules_at n n d (byte ∷ others) ≡ left_at o t → policy_at n d text ≡ whole_of o t
 at_some n d text byte others o t e ran = ap (policy_from n d) e ∙ ap (λ (w : Reading (List Rule)). whole_of w.outcome w.left) ran
 
 -- a text within the depth is read

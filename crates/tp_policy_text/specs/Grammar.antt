@@ -61,8 +61,8 @@ pub record Named (name before left : List ℕ) : Type 0 where
 
 -- ---- atoms
 
--- issuer.attribute, with nothing around the dot
-pub record Subject (issuer attr before left : List ℕ) : Type 0 where
+-- issuer.attribute, with nothing around the dot: what an issuer says of a subject
+pub record Claim (issuer attr before left : List ℕ) : Type 0 where
   pub issuer_is : IsName issuer
   pub attr_is : IsName attr
   pub word : Word (issuer ++ codes "." ++ attr) before left
@@ -87,7 +87,7 @@ pub record IsComparison (c : Cond) (before left : List ℕ) : Type 0 where
   pub wanted : Value
   pub says : c ≡ cond.Atom issuer attr compares wanted
   pub between : List ℕ
-  pub subject : Subject issuer attr before between
+  pub claim : Claim issuer attr before between
   pub compared : IsCompared compares wanted between left
 
 abbrev pub IsAtom : Cond → List ℕ → List ℕ → Type 0

@@ -116,14 +116,14 @@ can_compare op.AtLeast (value.Number z) = true
 can_compare op.AtMost (value.Number z) = true
 can_compare _ _ = false
 
-abbrev pub is_held : Bool → Bool
-is_held member = member
+abbrev pub can_be_member : Bool → Bool
+can_be_member member = member
 
 abbrev pub can_be_level : Cond-F Bool → Bool
 can_be_level True = true
 can_be_level (Atom issuer attr compares wanted) = is_name issuer && is_name attr && can_compare compares wanted && can_be_value wanted
-can_be_level (And members) = nat_le 2 (length members) && list_all is_held members
-can_be_level (Or members) = nat_le 2 (length members) && list_all is_held members
+can_be_level (And members) = nat_le 2 (length members) && list_all can_be_member members
+can_be_level (Or members) = nat_le 2 (length members) && list_all can_be_member members
 
 -- each And and each Or has two members or more, and each atom can be said
 abbrev pub can_be_cond : Cond → Bool

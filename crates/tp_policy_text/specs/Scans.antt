@@ -5,7 +5,7 @@ use Rattle.tp_types.specs.declared.policy.Cond.TheVariants as cond
 use Rattle.tp_types.specs.declared.policy.Pattern.{Pattern}
 use Rattle.tp_types.specs.declared.policy.Pattern.TheVariants as pattern
 use Rattle.tp_types.specs.Spelling.{is_letter, is_part}
-use Rattle.tp_policy_text.specs.declared.reader.Subject.{Subject}
+use Rattle.tp_policy_text.specs.declared.reader.Claim.{Claim}
 use Rattle.tp_policy_text.specs.Grammar.{is_digit}
 use Rattle.tp_policy_text.specs.Lexis.{first, in_word, skip}
 use Rattle.tp_policy_text.specs.Readers.{Compared, Head, comes, head_of, int_end, is_some_text}
@@ -68,9 +68,9 @@ abbrev pub said_attr : Option (List ℕ) → List ℕ
 said_attr None = []
 said_attr (Some attr) = attr
 
-abbrev pub subject_of : Option Head → Option Subject
-subject_of None = None
-subject_of (Some head) = Some (record { issuer = head.issuer; attr = said_attr head.attr })
+abbrev pub claim_of : Option Head → Option Claim
+claim_of None = None
+claim_of (Some head) = Some (record { issuer = head.issuer; attr = said_attr head.attr })
 
-abbrev pub compared_to : Subject → Compared → Cond
-compared_to subject compared = cond.Atom subject.issuer subject.attr compared.op compared.wanted
+abbrev pub compared_to : Claim → Compared → Cond
+compared_to claim compared = cond.Atom claim.issuer claim.attr compared.op compared.wanted

@@ -3,6 +3,7 @@
 
 mod halt;
 mod parsing;
+mod printable;
 mod printer;
 mod production;
 mod reader;
@@ -10,5 +11,6 @@ mod rereading;
 mod scan;
 
 pub use parsing::{DEPTH_MAX, ParseError, TEXT_MAX, parse};
+pub use printable::can_be_printed;
 pub use printer::{print, printed_is_exact};
 pub use rereading::print_and_parse;

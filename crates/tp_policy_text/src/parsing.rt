@@ -52,12 +52,13 @@ fn refused(stop: Stop, place: usize) -> ParseError
 }
 
 /// The policy that a text says. The refusals come in the order in which the text meets them, and a text that is too long is
-/// refused before anything of it is read.
+/// refused as such, whatever else is wrong with it.
 pub fn parse(alloc: Global, text: &[u8]) -> Result<Policy, ParseError>
     ensures answer { IsOutOfMemory result ⊎ Answers text.now result }
     ensures only { (answer : Result Policy ParseError) → Answers text.now answer → IsOutOfMemory result ⊎ (result ≡ answer) }
     ensures of_grammar { IfOk result (λ policy. IsOfGrammar policy) }
-    ensures too_long { TEXT_MAX < length text.now → result ≡ Err ParseError.TooLong }
+    ensures few { IfOk result (λ policy. length policy.rules ≤ length text.now) }
+    ensures too_long { parses.length_max < length text.now → result ≡ Err ParseError.TooLong }
 {
     if text.len() > TEXT_MAX {
         return Err(ParseError::TooLong);

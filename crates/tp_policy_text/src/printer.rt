@@ -1,7 +1,8 @@
 //! The printed form of policies.
-ghost use Rattle.std.specs.Prelude.{◌≡◌, ◌++◌, List, ℕ, OnOk, IfOk, codes};
+ghost use Rattle.std.specs.Prelude.{◌≡◌, ◌≤◌, ◌↔◌, ◌++◌, List, ℕ, length, Ok, OnOk, IfOk, IsTrue, codes};
 ghost use Rattle.std.specs.List.{flat_map, join_by};
-ghost use Rattle.tp_policy_text.specs.Grammar.{Spells};
+ghost use Rattle.tp_policy_text.specs.Grammar.{IsWithin, Spells};
+ghost use Rattle.tp_policy_text.specs.Parses.{Answers, depth_max, length_max};
 ghost use Rattle.tp_policy_text.specs.Printed.{IsOfGrammar, action_text, atom_text, cond_text, enclosed, in_and, in_or, op_text, pattern_text, printed, rule_line, shown, value_text};
 
 use itoa::Buffer;
@@ -189,9 +190,12 @@ pub fn print(alloc: Global, policy: &Policy) -> Result<Text, NoMemory>
     Ok(Text(tp_types::List::from_vec(out)))
 }
 
-/// The printed form of a policy says it, a text says one policy at most, and what a text says can be printed.
+/// The printed form of a policy says it, also within the limits of a text where it is within them; a text says one policy at most;
+/// and what a text says can be printed.
 pub fn printed_is_exact()
     ensures spelled { (policy : Policy) → IsOfGrammar policy → Spells policy (printed policy) }
     ensures alone { (one other : Policy) (text : List ℕ) → Spells one text → Spells other text → one ≡ other }
+    ensures within { (policy : Policy) → IsOfGrammar policy → length (printed policy) ≤ length_max → IsWithin depth_max (printed policy)
+        → Answers (printed policy) (Ok policy) }
     ensures of_grammar { (policy : Policy) (text : List ℕ) → Spells policy text → IsOfGrammar policy }
 {}

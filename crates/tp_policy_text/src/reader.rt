@@ -27,9 +27,9 @@ fn is_word_true(word: &[u8]) -> bool
     word == b"true".as_slice()
 }
 
-/// What an atom compares: an attribute, as its issuer says it.
+/// What an atom compares: an attribute that an issuer says.
 #[derive(Drop)]
-struct Subject {
+struct Claim {
     issuer: Name,
     attr: Name,
 }
@@ -196,16 +196,16 @@ impl<'a> Reader<'a> {
 
     /// Takes an attribute, behind its issuer and the dot.
     #[tactic(auto, using(crate::proofs::Scans::front_is_name))]
-    fn attribute(&mut self, issuer: &[u8]) -> Result<Option<Subject>, Halt>
+    fn attribute(&mut self, issuer: &[u8]) -> Result<Option<Claim>, Halt>
         requires { IsName issuer.now }
-        ensures { Gives result self.new.rest.now (mapped scans.subject_of (scans.attr_at issuer.now self.old.rest.now)) }
+        ensures { Gives result self.new.rest.now (mapped scans.claim_of (scans.attr_at issuer.now self.old.rest.now)) }
     {
         let attr = self.name_bytes();
         if !self.ends(attr) {
             return Err(Halt::Stopped(Stop::Syntax));
         }
         self.skip_blanks();
-        Ok(Some(Subject {
+        Ok(Some(Claim {
             issuer: self.named(issuer)?,
             attr: self.named(attr)?,
         }))
@@ -213,8 +213,8 @@ impl<'a> Reader<'a> {
 
     /// Takes the word true, for which there is None, or an issuer and an attribute.
     #[tactic(auto, using(crate::proofs::Scans::head_reads, crate::proofs::Scans::front_is_name))]
-    fn head(&mut self) -> Result<Option<Subject>, Halt>
-        ensures { Gives result self.new.rest.now (mapped scans.subject_of (readers.head_at self.old.rest.now)) }
+    fn head(&mut self) -> Result<Option<Claim>, Halt>
+        ensures { Gives result self.new.rest.now (mapped scans.claim_of (readers.head_at self.old.rest.now)) }
     {
         let issuer = self.name_bytes();
         if self.comes_behind(b'.', issuer) {
@@ -250,44 +250,44 @@ impl<'a> Reader<'a> {
     }
 
     /// Takes `=` and what is compared to.
-    fn equal_to(&mut self, subject: Subject) -> Result<Cond, Halt>
-        ensures { Gives result self.new.rest.now (mapped (scans.compared_to subject) (readers.equal_at self.old.rest.now)) }
+    fn equal_to(&mut self, claim: Claim) -> Result<Cond, Halt>
+        ensures { Gives result self.new.rest.now (mapped (scans.compared_to claim) (readers.equal_at self.old.rest.now)) }
     {
         let op = self.token(b"=", false, Op::Equal)?;
         let value = self.value()?;
         Ok(Cond::Atom {
-            issuer: subject.issuer,
-            attr: subject.attr,
+            issuer: claim.issuer,
+            attr: claim.attr,
             op,
             value,
         })
     }
 
     /// Takes the sign of a bound and the integer that is the bound.
-    fn bounded_by(&mut self, subject: Subject, sign: &[u8], op: Op) -> Result<Cond, Halt>
-        ensures { Gives result self.new.rest.now (mapped (scans.compared_to subject) (readers.bound_at sign.now op self.old.rest.now)) }
+    fn bounded_by(&mut self, claim: Claim, sign: &[u8], op: Op) -> Result<Cond, Halt>
+        ensures { Gives result self.new.rest.now (mapped (scans.compared_to claim) (readers.bound_at sign.now op self.old.rest.now)) }
     {
         let op = self.token(sign, false, op)?;
         let bound = self.int()?;
         Ok(Cond::Atom {
-            issuer: subject.issuer,
-            attr: subject.attr,
+            issuer: claim.issuer,
+            attr: claim.attr,
             op,
             value: Value::Number(bound),
         })
     }
 
-    /// Takes a comparison of the subject.
-    fn comparison(&mut self, subject: Subject) -> Result<Cond, Halt>
-        ensures { Gives result self.new.rest.now (mapped (scans.compared_to subject) (readers.compared_at self.old.rest.now)) }
+    /// Takes a comparison of what an issuer says.
+    fn comparison(&mut self, claim: Claim) -> Result<Cond, Halt>
+        ensures { Gives result self.new.rest.now (mapped (scans.compared_to claim) (readers.compared_at self.old.rest.now)) }
     {
         if self.comes(b'=') {
-            return self.equal_to(subject);
+            return self.equal_to(claim);
         }
         if self.comes(b'>') {
-            return self.bounded_by(subject, b">=", Op::AtLeast);
+            return self.bounded_by(claim, b">=", Op::AtLeast);
         }
-        self.bounded_by(subject, b"<=", Op::AtMost)
+        self.bounded_by(claim, b"<=", Op::AtMost)
     }
 
     /// Takes the word true, or a comparison.
@@ -297,7 +297,7 @@ impl<'a> Reader<'a> {
     {
         match self.head()? {
             None => Ok(Cond::True),
-            Some(subject) => self.comparison(subject),
+            Some(claim) => self.comparison(claim),
         }
     }
 }

@@ -1,8 +1,7 @@
 //! A policy that is printed is read as itself.
 ghost use Rattle.std.specs.Prelude.{◌≡◌, ◌⊎◌, ◌≤◌, length, Ok};
-ghost use Rattle.tp_policy_text.specs.declared.parsing.TheConstants.{DEPTH_MAX, TEXT_MAX};
 ghost use Rattle.tp_policy_text.specs.Grammar.{IsWithin};
-ghost use Rattle.tp_policy_text.specs.Parses.{IsOutOfMemory};
+ghost use Rattle.tp_policy_text.specs.Parses.{Answers, IsOutOfMemory, depth_max, length_max};
 ghost use Rattle.tp_policy_text.specs.Printed.{IsOfGrammar, printed};
 
 use crate::parsing::{ParseError, parse};
@@ -10,10 +9,11 @@ use crate::printer::print;
 use std::alloc::Global;
 use tp_types::Policy;
 
-/// Prints the policy and reads its text. Where the printed form is within the limits of a text, that gives the policy again.
+/// Prints the policy and reads its printed form. Where that is within the limits of a text, it gives the policy again.
 pub fn print_and_parse(alloc: Global, policy: &Policy) -> Result<Policy, ParseError>
     requires { IsOfGrammar policy.now }
-    ensures same { length (printed policy.now) ≤ TEXT_MAX → IsWithin DEPTH_MAX (printed policy.now)
+    ensures answer { IsOutOfMemory result ⊎ Answers (printed policy.now) result }
+    ensures same { length (printed policy.now) ≤ length_max → IsWithin depth_max (printed policy.now)
         → IsOutOfMemory result ⊎ (result ≡ Ok policy.now) }
 {
     let text = print(alloc, policy)?;

@@ -6,8 +6,7 @@ use Rattle.std.specs.Io.KnownBytes.{Appends}
 use Rattle.serde_json.specs.Data.{Data}
 use Rattle.serde_json.specs.Read.{read}
 use Rattle.tp_types.specs.declared.scenario.Scenario.{Scenario}
-use Rattle.tp_io.specs.declared.whole.TheConstants.{INPUT_MAX}
-use Rattle.tp_io.specs.Whole.{TakesExactly}
+use Rattle.tp_io.specs.Whole.{TakesExactly, input_max}
 use Rattle.tp_top.specs.declared.scenario.from_json.ScenarioError.{ScenarioError}
 use Rattle.tp_top.specs.declared.scenario.from_json.ScenarioError.TheVariants as error
 use Rattle.tp_top.specs.declared.status.Status.{Status}
@@ -24,7 +23,7 @@ whole_input input None bytes t = absurd t.consumed
 whole_input input (Some rest) bytes t = sym (t.consumed ∙ (ap (λ left. bytes ++ left) t.at_end ∙ append-nil bytes))
 
 -- an input of which too many bytes were taken is too long
-long_input : (input : List ℕ) (new : Option (List ℕ)) → TakesExactly (INPUT_MAX + 1) (Some input) new → INPUT_MAX < length input
+long_input : (input : List ℕ) (new : Option (List ℕ)) → TakesExactly (input_max + 1) (Some input) new → input_max < length input
 long_input input None t = absurd t.consumed
 long_input input (Some rest) t = omega (arith, t.exact, ap length t.consumed, length-append t.bytes rest)
 

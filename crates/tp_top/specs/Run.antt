@@ -4,9 +4,8 @@ use Rattle.std.specs.Io.KnownBytes.{Consumes, IsAtEnd}
 use Rattle.tp_types.specs.declared.name.Text.{Text}
 use Rattle.tp_types.specs.declared.scenario.Scenario.{Scenario}
 use Rattle.tp_types.specs.declared.scenario.Step.{Step}
-use Rattle.tp_io.specs.declared.whole.TheConstants.{INPUT_MAX}
 use Rattle.tp_io.specs.Faults.{Rose}
-use Rattle.tp_io.specs.Whole.{TakesAtMost, TakesExactly}
+use Rattle.tp_io.specs.Whole.{TakesAtMost, TakesExactly, input_max}
 use Rattle.tp_model.specs.TrustedHistory.{TrustedHistory}
 use Rattle.tp_machine.specs.Machine.{Machine, after, after_steps, ending_of}
 use Rattle.tp_top.specs.declared.answer.Answer.{Answer}
@@ -85,7 +84,7 @@ pub record TakesNotBuilt (old new : Option (List ℕ)) (path : Text) : Type 0 wh
 
 -- why the scenario was refused
 abbrev pub IsRefusedFor : Option (List ℕ) → Option (List ℕ) → ScenarioError → Type 0
-IsRefusedFor old new TooLong = TakesExactly (INPUT_MAX + 1) old new
+IsRefusedFor old new TooLong = TakesExactly (input_max + 1) old new
 IsRefusedFor old new BadJson = TakesNoJson old new
 IsRefusedFor old new (NotYet path) = TakesNotBuilt old new path
 IsRefusedFor old new NoMemory = ⊥
@@ -94,7 +93,7 @@ IsRefusedFor old new NoMemory = ⊥
 abbrev pub Answers : Option (List ℕ) → Option (List ℕ) → ℕ → ℕ → Answer → Type 0
 Answers old new faults faults' (answer.Report text) = RunsTo old new text.0
 Answers old new faults faults' (answer.Refused why) = IsRefusedFor old new why
-Answers old new faults faults' answer.ReadFault = Rose faults faults' × TakesAtMost (INPUT_MAX + 1) old new
+Answers old new faults faults' answer.ReadFault = Rose faults faults' × TakesAtMost (input_max + 1) old new
 Answers old new faults faults' answer.Budget = RunsOut old new
 Answers old new faults faults' answer.NoMemory = Unit {0}
 

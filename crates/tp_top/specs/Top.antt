@@ -3,9 +3,8 @@ use Rattle.std.specs.Prelude.{◌≡◌, ◌⊎◌, ◌<◌, ℕ, ◌+◌, List,
 use Rattle.std.specs.Io.KnownBytes.{Appends}
 use Rattle.tp_types.specs.declared.name.Text.{Text}
 use Rattle.tp_types.specs.declared.scenario.Scenario.{Scenario}
-use Rattle.tp_io.specs.declared.whole.TheConstants.{INPUT_MAX}
 use Rattle.tp_io.specs.Faults.{Rose}
-use Rattle.tp_io.specs.Whole.{AppendsFront, TakesAtMost}
+use Rattle.tp_io.specs.Whole.{AppendsFront, TakesAtMost, input_max}
 use Rattle.tp_top.specs.declared.scenario.from_json.ScenarioError.{ScenarioError}
 use Rattle.tp_top.specs.declared.scenario.from_json.ScenarioError.TheVariants as error
 use Rattle.tp_top.specs.declared.status.Status.{Status}
@@ -74,7 +73,7 @@ pub record IsUsage (words : List Text) (out out' notes notes' : Option (List ℕ
 pub record IsReadFault (words : List Text) (left left' out out' notes notes' : Option (List ℕ)) (faults faults' : ℕ) : Type 0 where
   pub words_are : IsRun words
   pub rose : Rose faults faults'
-  pub taken : TakesAtMost (INPUT_MAX + 1) left left'
+  pub taken : TakesAtMost (input_max + 1) left left'
   pub out_kept : Untouched out out'
   pub notes_kept : Untouched notes notes'
 
@@ -120,7 +119,7 @@ Ends status wanted = (status ≡ wanted) ⊎ (status ≡ NoMemory)
 
 -- each cause in the input has its status, and its line where it is a refusal
 pub record EndsRightly (input : List ℕ) (status : Status) (notes notes' : Option (List ℕ)) : Type 0 where
-  pub too_long : INPUT_MAX < length input → Says status notes notes' error.TooLong
+  pub too_long : input_max < length input → Says status notes notes' error.TooLong
   pub no_json : IsNoJson input → Says status notes notes' error.BadJson
   pub not_built : IsNotBuilt input → Says status notes notes' (error.NotYet (record { 0 = codes "$" }))
   pub at_rest : (sc : Scenario) → Reads input sc → is_quiet sc (final sc) ≡ true → Ends status Done

@@ -1,6 +1,7 @@
 use Rattle.std.proofs.Common.{inr, ◌+◌, Err, length, sym, ap, subst, ◌∙◌, arith}
 use Rattle.tp_policy_text.specs.Parses.{Answers}
 use Rattle.tp_policy_text.proofs.Answering.{answers_read, answers_stop, left_within, not_spent, only_read, only_stop, read_of_grammar}
+use Rattle.tp_policy_text.proofs.Few.{read_few}
 use Rattle.tp_policy_text.proofs.parsing.parse.Goals as goal
 
 pub overflow_sub-text : goal.overflow_sub-text
@@ -34,3 +35,6 @@ returns-in-Err-Stopped-clause-only c a k =
 
 pub returns-in-Ok-clause-of_grammar : goal.returns-in-Ok-clause-of_grammar
 returns-in-Ok-clause-of_grammar c = read_of_grammar (length c.args.text.now + 1) 16 c.args.text.now c.policy.new.self.rest.now c.in-Ok.policy c.in-Ok.ensures
+
+pub returns-in-Ok-clause-few : goal.returns-in-Ok-clause-few
+returns-in-Ok-clause-few c = read_few (length c.args.text.now + 1) 16 c.args.text.now c.policy.new.self.rest.now c.in-Ok.policy c.in-Ok.ensures

@@ -1,3 +1,5 @@
+use Rattle.tp_policy_text.specs.Printed.{printed}
+use Rattle.tp_policy_text.proofs.Answering.{shallow_within}
 use Rattle.tp_policy_text.proofs.PrintedGrammar.{spelled_of_grammar}
 use Rattle.tp_policy_text.proofs.PrintedRules.{printed_spells}
 use Rattle.tp_policy_text.proofs.PrintedWholes.{spells_alone}
@@ -11,3 +13,6 @@ returns-clause-alone c = spells_alone
 
 pub returns-clause-of_grammar : goal.returns-clause-of_grammar
 returns-clause-of_grammar c = spelled_of_grammar
+
+pub returns-clause-within : goal.returns-clause-within
+returns-clause-within c = λ policy h fits within. (fits, shallow_within (printed policy) policy (printed_spells policy h) within)

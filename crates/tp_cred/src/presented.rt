@@ -1,4 +1,4 @@
-//! What a subject holds.
+//! What a subject presents.
 ghost use Rattle.std.specs.Prelude.{◌≡◌, false};
 ghost use Rattle.std.specs.Option.{option_map_or};
 ghost use Rattle.tp_model.specs.Policies as policies;
@@ -10,13 +10,17 @@ use crate::store::CredStore;
 use tp_model::meets;
 use tp_types::{CredId, Credential, Name, Op, Value};
 
-/// Credentials that a subject presents, with the clock and the revocations that decide which of them are valid.
+/// Credentials that a subject presents, with what decides which of them count: those are held that are the subject's and valid.
 #[derive(Clone, Copy)]
-pub struct Held<'a> {
+pub struct Presented<'a> {
     pub store: &'a CredStore,
+    /// Of whom the credentials are to speak.
     pub subject: &'a Name,
+    /// Those presented, in the subject's order.
     pub creds: &'a [CredId],
+    /// The clock at which they are to be valid.
     pub clock: u64,
+    /// Those revoked by then.
     pub revoked: &'a [CredId],
 }
 
@@ -35,7 +39,7 @@ fn says(
 }
 
 fn is_said(
-    held: &Held<'_>,
+    held: &Presented<'_>,
     cred: CredId,
     issuer: &Name,
     attr: &Name,
@@ -50,9 +54,9 @@ fn is_said(
     }
 }
 
-/// Whether a credential is the subject's and valid, and what it says satisfies an atom.
+/// Whether a credential is the subject's and valid, and what it says satisfies an atom. It may be any of the store, presented or not.
 pub fn shows(
-    held: &Held<'_>,
+    held: &Presented<'_>,
     cred: CredId,
     issuer: &Name,
     attr: &Name,
