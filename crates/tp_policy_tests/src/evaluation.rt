@@ -5,7 +5,7 @@ use std::test::Fail;
 use tp_check::check;
 use tp_cred::CredStore;
 use tp_eval::{Certificate, evaluate};
-use tp_types::{Action, Cond, List, Name, Op, Pattern, Policy, Rule};
+use tp_types::{Action, Cond, CredId, List, Op, Pattern, Policy, Rule};
 
 // ---- policies
 
@@ -139,12 +139,11 @@ fn passes(
     store: &CredStore,
     ask: &Ask,
     rule: u32,
-    uses: &[u32],
+    uses: &[CredId],
 ) -> bool {
     let item = name(rt, ask.item);
     let subject = name(rt, ask.subject);
     let revoked = ids(rt, ask.revoked);
-    let uses = ids(rt, uses);
     check(
         policy,
         ask.action,
@@ -154,7 +153,7 @@ fn passes(
         ask.now,
         revoked.as_slice(),
         rule,
-        uses.as_slice(),
+        uses,
     )
 }
 
@@ -199,6 +198,14 @@ const ANSWERS: &[(Ask, Option<(u32, &[u32])>)] = &[
             ..ANN
         },
         None,
+    ),
+    // of no credential
+    (
+        Ask {
+            presented: &[9, 0, u32::MAX, 1],
+            ..ANN
+        },
+        Some((1, &[0, 1])),
     ),
     // another's credential, presented by ann and by its subject
     (
@@ -330,7 +337,8 @@ fn checks_for_the_clinic(rt: HostRuntime) -> Result<(), Fail> {
     let policy = clinic(&rt);
     let store = store(&rt, CLINIC);
     for (at, (ask, rule, uses, wanted)) in CHECKS.iter().enumerate() {
-        let found = passes(&rt, &policy, &store, ask, *rule, uses);
+        let uses = ids(&rt, uses);
+        let found = passes(&rt, &policy, &store, ask, *rule, uses.as_slice());
         assert_eq!(rt; found, *wanted, "case {at}");
     }
     Ok(())
@@ -544,7 +552,7 @@ fn allows_nothing_without_rules(rt: HostRuntime) -> Result<(), Fail> {
     };
     let store = store(&rt, CLINIC);
     assert!(rt; answer(&rt, &policy, &store, &ANN).is_none());
-    assert!(rt; !passes(&rt, &policy, &store, &ANN, 1, &[0, 1]));
+    assert!(rt; !passes(&rt, &policy, &store, &ANN, 1, &[CredId(0), CredId(1)]));
     Ok(())
 }
 
@@ -708,30 +716,11 @@ fn agrees(
 ) -> bool {
     match answer(rt, policy, store, ask) {
         None => !wanted,
-        Some(certificate) => wanted && passes_again(rt, policy, store, ask, &certificate),
+        Some(certificate) => {
+            let uses = certificate.uses.as_slice();
+            wanted && passes(rt, policy, store, ask, certificate.rule, uses)
+        }
     }
-}
-
-fn passes_again(
-    rt: &(impl Abort + AllocGlobal),
-    policy: &Policy,
-    store: &CredStore,
-    ask: &Ask,
-    certificate: &Certificate,
-) -> bool {
-    let item = name(rt, ask.item);
-    let subject: Name = name(rt, ask.subject);
-    check(
-        policy,
-        ask.action,
-        &item,
-        store,
-        &subject,
-        ask.now,
-        &[],
-        certificate.rule,
-        certificate.uses.as_slice(),
-    )
 }
 
 #[test]

@@ -12,3 +12,5 @@ mod names;
 mod policy_tables;
 #[cfg(test)]
 mod policy_text;
+#[cfg(test)]
+mod printable;
