@@ -1,4 +1,4 @@
-//! The tests of policies: names, their language, credentials, evaluation and the check of certificates, by tables of cases whose expected
+//! The tests of policies: their language, credentials, evaluation and the check of certificates, by tables of cases whose expected
 //! values were worked out by hand. They need no machine, so they are proved beside it.
 #![tactic(auto)]
 
@@ -6,8 +6,6 @@
 mod credentials;
 #[cfg(test)]
 mod evaluation;
-#[cfg(test)]
-mod names;
 #[cfg(test)]
 mod policy_tables;
 #[cfg(test)]

@@ -1,18 +1,7 @@
-//! The tests of the public calls, by tables of cases whose expected values were worked out by hand.
+//! The tests of runs: reading scenarios, worlds, reports, input and output, and the top call, by tables of cases whose expected
+//! values were worked out by hand.
 #![tactic(auto)]
 
-#[cfg(test)]
-mod audit;
-#[cfg(test)]
-mod audit_agreement;
-#[cfg(test)]
-mod audit_causes;
-#[cfg(test)]
-mod audit_serial;
-#[cfg(test)]
-mod audit_trust;
-#[cfg(test)]
-mod clones;
 #[cfg(test)]
 mod io;
 #[cfg(test)]
