@@ -1,4 +1,5 @@
 -- A built scenario is of one shape: all but names, an item's bounds and value, and one constant is fixed.
+use Rattle.std.proofs.lemmas.Bool.{and_parts}
 use Rattle.std.proofs.Common.{◌≡◌, ℕ, ◌==◌, List, [], ◌∷◌, Bool, true, ℤ, refl, ap, ◌∙◌}
 use Rattle.tp_types.specs.declared.ids.ItemId.{ItemId}
 use Rattle.tp_types.specs.declared.ids.TxnId.{TxnId}
@@ -23,7 +24,7 @@ use Rattle.tp_types.specs.declared.scenario.Transaction.{Transaction}
 use Rattle.tp_model.specs.Built.{is_built, is_built_item, is_built_query, is_built_server, is_built_term, is_built_txn, is_constant, is_deferred, is_empty, is_view}
 use Rattle.tp_model.specs.Limits.{is_between}
 use Rattle.tp_model.specs.Queries.{signed, term_value}
-use Rattle.tp_machine.proofs.SoundBuilt.{HasForm, IsOnly, and_parts, has_form, number_is, single_is}
+use Rattle.tp_machine.proofs.SoundBuilt.{HasForm, IsOnly, has_form, number_is, single_is}
 
 -- ---- the shape
 
