@@ -79,7 +79,7 @@ IsCompared op.AtLeast (value.Number z) before left = (between : List ℕ) × Sig
 IsCompared op.AtMost (value.Number z) before left = (between : List ℕ) × Sign (codes "<=") before between × Int z between left
 IsCompared _ _ before left = ⊥
 
--- the word true, or a comparison
+-- what an issuer says, and what it is compared to
 pub record IsComparison (c : Cond) (before left : List ℕ) : Type 0 where
   pub issuer : List ℕ
   pub attr : List ℕ
@@ -90,6 +90,7 @@ pub record IsComparison (c : Cond) (before left : List ℕ) : Type 0 where
   pub claim : Claim issuer attr before between
   pub compared : IsCompared compares wanted between left
 
+-- the word true, or a comparison
 abbrev pub IsAtom : Cond → List ℕ → List ℕ → Type 0
 IsAtom c before left = ((c ≡ cond.True) × Word (codes "true") before left) ⊎ IsComparison c before left
 

@@ -11,7 +11,7 @@ use tp_types::{Action, Cond, List, Pattern, Policy, Rule};
 /// The first byte of each rule.
 const RULE_FIRST: u8 = b'a';
 
-/// One member is itself.
+/// The And of the members; one member is itself.
 fn and_of(mut members: List<Cond>) -> Cond
     ensures { result ≡ grammar.and_of members }
 {
@@ -24,7 +24,7 @@ fn and_of(mut members: List<Cond>) -> Cond
     }
 }
 
-/// One member is itself.
+/// The Or of the members; one member is itself.
 fn or_of(mut members: List<Cond>) -> Cond
     ensures { result ≡ grammar.or_of members }
 {
