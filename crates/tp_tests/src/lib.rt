@@ -1,11 +1,9 @@
-//! The tests of runs: reading scenarios, worlds, reports, input and output, and the top call, by tables of cases whose expected
+//! The tests of runs: reading scenarios, worlds, input and output, and the top call, by tables of cases whose expected
 //! values were worked out by hand.
 #![tactic(auto)]
 
 #[cfg(test)]
 mod io;
-#[cfg(test)]
-mod report;
 #[cfg(test)]
 mod run;
 #[cfg(test)]
