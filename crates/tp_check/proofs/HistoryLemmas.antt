@@ -1,12 +1,9 @@
 -- A check beside a history.
 use Rattle.std.proofs.Common.{◌≡◌, ℕ, Bool, true, false, ◌&&◌, ◌||◌, List, [], ◌∷◌, filter, Option, Some, None, slice_get, refl, ap, sym, ◌∙◌}
 use Rattle.std.proofs.lemmas.Bool.{and_parts}
-use Rattle.std.proofs.lemmas.Cmp.{nat_eq_equiv}
-use Rattle.std.specs.List.{cons_option, filter_map, list_all, list_any}
+use Rattle.std.specs.List.{list_all}
 use Rattle.std.specs.Option.{option_map_or}
 use Rattle.tp_types.specs.declared.fact.Fact.{Fact}
-use Rattle.tp_types.specs.declared.fact.What.{What}
-use Rattle.tp_types.specs.declared.fact.What.TheVariants as what
 use Rattle.tp_types.specs.declared.ids.CredId.{CredId}
 use Rattle.tp_types.specs.declared.policy.Action.{Action}
 use Rattle.tp_types.specs.declared.policy.Policy.{Policy}
@@ -16,37 +13,14 @@ use Rattle.tp_types.specs.declared.scenario.Query.{Query}
 use Rattle.tp_types.specs.declared.scenario.Scenario.{Scenario}
 use Rattle.tp_types.specs.declared.scenario.Transaction.{Transaction}
 use Rattle.tp_model.specs.Authorisation.{is_certified, is_usable, policy_at, rule_in, rule_proves, tests_item, tests_query, tests_version}
-use Rattle.tp_model.specs.Credentials.{clock_at, held, is_presented, is_revocation, is_revocation_what, is_valid}
-use Rattle.tp_model.specs.Facts.{before}
-use Rattle.tp_model.specs.Ids.{same_cred}
+use Rattle.tp_model.specs.Credentials.{held, held_in, is_presented, is_valid, is_valid_in, triples_in}
 use Rattle.tp_model.specs.Policies.{rule_allows}
 use Rattle.tp_model.specs.Queries.{item_of, query_at}
-use Rattle.tp_cred.specs.Validity.{held_in, is_valid_in, triples_in}
-use Rattle.tp_check.specs.OfHistory.{IsAt, is_checked_of, is_verdict_checked, revoked_at, revoked_by, revoked_what}
+use Rattle.tp_check.specs.OfHistory.{IsAt, is_checked_of, is_verdict_checked}
 
 and_false : (b : Bool) → (b && false) ≡ false
 and_false true = refl
 and_false false = refl
-
-one_shown : {B : Type 0} (test : B → Bool) (shown : Option B) (ys : List B) → list_any test (cons_option shown ys) ≡ (option_map_or test shown false || list_any test ys)
-one_shown test None ys = refl
-one_shown test (Some y) ys = refl
-
-any_shown : {A B : Type 0} (test : B → Bool) (shown : A → Option B) (passes : A → Bool) → ((x : A) → option_map_or test (shown x) false ≡ passes x) → (xs : List A)
-    → list_any test (filter_map shown xs) ≡ list_any passes xs
-any_shown test shown passes same [] = refl
-any_shown test shown passes same (x ∷ xs) =
-    one_shown test (shown x) (filter_map shown xs) ∙ ap (λ b. b || list_any test (filter_map shown xs)) (same x) ∙ ap (λ b. passes x || b) (any_shown test shown passes same xs)
-
-is_shown : (cred : CredId) (said : What) → option_map_or (same_cred cred) (revoked_what said) false ≡ is_revocation_what cred said
-is_shown cred (what.Revoked other) = nat_eq_equiv.symm cred.0 other.0
-is_shown cred _ = refl
-
-pub at_each_place : (sc : Scenario) (place : ℕ) (facts : List Fact) → IsAt sc place facts (clock_at sc place facts) (revoked_at place facts)
-at_each_place sc place facts = record {
-  clock = refl;
-  revocations = λ cred. any_shown (same_cred cred) revoked_by (is_revocation cred) (λ fact. is_shown cred fact.what) (before place facts);
-}
 
 pub valid_there : (sc : Scenario) (place : ℕ) (facts : List Fact) (now : ℕ) (revoked : List CredId) → IsAt sc place facts now revoked
     → (cred : CredId) → is_valid_in sc.creds now revoked cred ≡ is_valid sc place facts cred

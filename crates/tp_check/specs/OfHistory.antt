@@ -1,9 +1,7 @@
 -- A store of credentials with a clock and revocations, beside a history.
 use Rattle.std.specs.Prelude.{◌≡◌, ℕ, ◌&&◌, List, Bool, false, Option, Some, None}
-use Rattle.std.specs.List.{filter_map, list_all}
+use Rattle.std.specs.List.{list_all}
 use Rattle.tp_types.specs.declared.fact.Fact.{Fact}
-use Rattle.tp_types.specs.declared.fact.What.{What}
-use Rattle.tp_types.specs.declared.fact.What.TheVariants as what
 use Rattle.tp_types.specs.declared.ids.CredId.{CredId}
 use Rattle.tp_types.specs.declared.policy.Action.{Action}
 use Rattle.tp_types.specs.declared.policy.Policy.{Policy}
@@ -11,30 +9,13 @@ use Rattle.tp_types.specs.declared.records.Verdict.{Verdict}
 use Rattle.tp_types.specs.declared.scenario.Scenario.{Scenario}
 use Rattle.tp_types.specs.declared.scenario.Transaction.{Transaction}
 use Rattle.tp_model.specs.Authorisation.{is_certified, policy_at, tests_version}
-use Rattle.tp_model.specs.Credentials.{clock_at, held, is_presented, is_valid, was_revoked}
-use Rattle.tp_model.specs.Facts.{before}
+use Rattle.tp_model.specs.Credentials.{clock_at, held, held_in, is_among, is_presented, is_valid, is_valid_in, revoked_at}
 use Rattle.tp_cred.specs.Certificates.{is_checked}
-use Rattle.tp_cred.specs.Validity.{held_in, is_among, is_valid_in}
 
--- the clock is that of the place, and those are revoked that were revoked before it
+-- the clock is that of the place, and those are revoked, in whatever order, that were revoked before it
 pub record IsAt (sc : Scenario) (place : ℕ) (facts : List Fact) (now : ℕ) (revoked : List CredId) : Type 0 where
   pub clock : now ≡ clock_at sc place facts
-  pub revocations : (cred : CredId) → is_among revoked cred ≡ was_revoked cred place facts
-
-abbrev pub revoked_what : What → Option CredId
-revoked_what (what.Revoked cred) = Some cred
-revoked_what _ = None
-
-abbrev pub revoked_by : Fact → Option CredId
-revoked_by fact = revoked_what fact.what
-
--- the credentials that were revoked before the place
-abbrev pub revoked_at : ℕ → List Fact → List CredId
-revoked_at place facts = filter_map revoked_by (before place facts)
-
--- each place has its clock and its revocations; a clock that no call can count is of no place that a run comes to
-abbrev pub IsAtEachPlace : Type 0
-IsAtEachPlace = (sc : Scenario) (place : ℕ) (facts : List Fact) → IsAt sc place facts (clock_at sc place facts) (revoked_at place facts)
+  pub revocations : (cred : CredId) → is_among revoked cred ≡ is_among (revoked_at place facts) cred
 
 -- a credential is valid exactly where it is valid at the place
 abbrev pub IsValidThere : Type 0

@@ -4,9 +4,9 @@ ghost use Rattle.std.specs.List.{list_all, list_any};
 ghost use Rattle.std.specs.Option.{option_map_or};
 ghost use Rattle.tp_model.specs.Authorisation as authorisation;
 ghost use Rattle.tp_model.specs.Policies as policies;
+ghost use Rattle.tp_model.specs.Credentials.{is_valid_in};
 ghost use Rattle.tp_cred.specs.Certificates.{is_checked};
 ghost use Rattle.tp_cred.specs.HeldBy.{held_by};
-ghost use Rattle.tp_cred.specs.Validity.{is_valid_in};
 
 use tp_cred::{CredStore, Presented, shows};
 use tp_model::{matches, rule_in};

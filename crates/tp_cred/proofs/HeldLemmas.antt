@@ -4,11 +4,10 @@ use Rattle.std.specs.List.{cons_option, filter_map, list_any}
 use Rattle.std.specs.Option.{option_map_or}
 use Rattle.tp_types.specs.declared.ids.CredId.{CredId}
 use Rattle.tp_types.specs.declared.scenario.Credential.{Credential}
-use Rattle.tp_model.specs.Audit.{said_by}
-use Rattle.tp_model.specs.Credentials.{triple_of}
+use Rattle.tp_model.specs.Credentials.{held_in, is_valid_in, said_by, said_in, triple_of}
 use Rattle.tp_model.specs.Ids.{same_name}
 use Rattle.tp_model.specs.Policies.{Triple}
-use Rattle.tp_cred.specs.Validity.{held_in, is_valid_in, said_in, shows_in}
+use Rattle.tp_cred.specs.Validity.{shows_in}
 
 and_true : (b : Bool) → (b && true) ≡ b
 and_true true = refl

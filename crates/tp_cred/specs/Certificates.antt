@@ -6,9 +6,9 @@ use Rattle.tp_types.specs.declared.ids.CredId.{CredId}
 use Rattle.tp_types.specs.declared.policy.Action.{Action}
 use Rattle.tp_types.specs.declared.policy.Policy.{Policy}
 use Rattle.tp_types.specs.declared.scenario.Credential.{Credential}
+use Rattle.tp_model.specs.Credentials.{held_in, is_valid_in}
 use Rattle.tp_model.specs.Authorisation.{rule_in}
 use Rattle.tp_model.specs.Policies.{rule_allows}
-use Rattle.tp_cred.specs.Validity.{held_in, is_valid_in}
 
 -- the rule exists, counted from 1, matches, and is true of what the used credentials alone say of the subject; each of these exists
 -- and is valid

@@ -2,8 +2,9 @@
 use Rattle.std.specs.Prelude.{List, Bool}
 use Rattle.tp_types.specs.declared.ids.CredId.{CredId}
 use Rattle.tp_model.specs.Policies.{Triple}
+use Rattle.tp_model.specs.Credentials.{held_in}
 use Rattle.tp_cred.specs.declared.presented.Presented.{Presented}
-use Rattle.tp_cred.specs.Validity.{held_in, shows_in}
+use Rattle.tp_cred.specs.Validity.{shows_in}
 
 abbrev pub held_by : Presented → List Triple
 held_by held = held_in held.store.now held.subject.now held.clock held.revoked.now held.creds.now

@@ -4,7 +4,6 @@ ghost use Rattle.std.specs.Option.{option_map_or};
 ghost use Rattle.tp_model.specs.Policies as policies;
 ghost use Rattle.tp_model.specs.Credentials as credentials;
 ghost use Rattle.tp_cred.specs.HeldBy as held_by;
-ghost use Rattle.tp_cred.specs.Validity as validity;
 
 use crate::store::CredStore;
 use tp_model::meets;
@@ -46,7 +45,7 @@ fn is_said(
     op: Op,
     wanted: &Value,
 ) -> bool
-    ensures { result ≡ option_map_or (policies.meets issuer.now attr.now op wanted.now) (validity.said_in held.now.store.now held.now.subject.now cred) false }
+    ensures { result ≡ option_map_or (policies.meets issuer.now attr.now op wanted.now) (credentials.said_in held.now.store.now held.now.subject.now cred) false }
 {
     match held.store.get(cred) {
         None => false,

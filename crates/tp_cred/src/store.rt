@@ -6,7 +6,7 @@ ghost use Rattle.tp_model.specs.Credentials as credentials;
 ghost use Rattle.tp_model.specs.Ids.{same_name};
 ghost use Rattle.tp_cred.specs.Names as names;
 ghost use Rattle.tp_cred.specs.Store as store;
-ghost use Rattle.tp_cred.specs.Validity as validity;
+ghost use Rattle.tp_model.specs.Credentials as credentials;
 
 use std::alloc::Global;
 use std::marker::Model;
@@ -52,7 +52,7 @@ impl Model for CredStore {
 
 /// Whether the credential is one of these.
 pub fn is_among(creds: &[CredId], cred: CredId) -> bool
-    ensures { result ≡ validity.is_among creds.now cred }
+    ensures { result ≡ credentials.is_among creds.now cred }
 {
     creds.iter().any(|other| *other == cred)
 }
@@ -141,7 +141,7 @@ impl CredStore {
     /// Whether the clock is within the credential's interval, both ends included, and it is not among those revoked.
     /// A credential that is not there is not valid.
     pub fn valid(&self, id: CredId, now: u64, revoked: &[CredId]) -> bool
-        ensures { result ≡ validity.is_valid_in self.now now revoked.now id }
+        ensures { result ≡ credentials.is_valid_in self.now now revoked.now id }
     {
         self.is_current(id, now) && !is_among(revoked, id)
     }

@@ -14,8 +14,9 @@ use Rattle.tp_types.specs.declared.policy.Rule.{Rule}
 use Rattle.tp_model.specs.Authorisation.{rule_in}
 use Rattle.tp_model.specs.Ids.{same_cred}
 use Rattle.tp_model.specs.Policies.{allows, matches, rule_allows}
+use Rattle.tp_model.specs.Credentials.{held_in, is_among, is_valid_in}
 use Rattle.tp_cred.specs.Certificates.{is_checked}
-use Rattle.tp_cred.specs.Validity.{held_in, is_among, is_valid_in, shows_in}
+use Rattle.tp_cred.specs.Validity.{shows_in}
 use Rattle.tp_eval.specs.declared.policies.Certificate.{Certificate}
 use Rattle.tp_eval.specs.Taken.{certificate, certificate_of, first_certificate, once, taken_by_rule, with_cred}
 use Rattle.tp_eval.proofs.OnceLemmas.{begins_itself, begins_once}

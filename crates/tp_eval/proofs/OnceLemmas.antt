@@ -4,7 +4,7 @@ use Rattle.std.proofs.Math.Seq.{drop-cons, take-append_seam}
 use Rattle.std.specs.Option.{is_some, option_or}
 use Rattle.tp_types.specs.declared.ids.CredId.{CredId}
 use Rattle.tp_types.specs.declared.policy.Cond.{Cond}
-use Rattle.tp_cred.specs.Validity.{is_among}
+use Rattle.tp_model.specs.Credentials.{is_among}
 use Rattle.tp_cred.specs.declared.presented.Presented.{Presented}
 use Rattle.tp_eval.specs.Gathered.{gathered, takes}
 use Rattle.tp_eval.specs.Taken.{once, taken_by_all, with_cred}

@@ -15,7 +15,8 @@ use Rattle.tp_types.specs.declared.scenario.Credential.{Credential}
 use Rattle.tp_model.specs.Ids.{same_cred}
 use Rattle.tp_model.specs.Policies.{Triple, holds, level, meets}
 use Rattle.tp_model.proofs.ConditionLemmas.{holds_and, holds_atom, holds_or}
-use Rattle.tp_cred.specs.Validity.{held_in, is_among, is_valid_in, said_in, shows_in}
+use Rattle.tp_model.specs.Credentials.{held_in, is_among, is_valid_in, said_in}
+use Rattle.tp_cred.specs.Validity.{shows_in}
 use Rattle.tp_cred.proofs.HeldLemmas.{any_held}
 use Rattle.tp_eval.specs.Taken as taken
 use Rattle.tp_eval.specs.Taken.{only, taken, taken_by_all, taken_by_first}

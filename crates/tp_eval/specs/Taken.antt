@@ -10,7 +10,8 @@ use Rattle.tp_types.specs.declared.policy.Policy.{Policy}
 use Rattle.tp_types.specs.declared.policy.Rule.{Rule}
 use Rattle.tp_types.specs.declared.scenario.Credential.{Credential}
 use Rattle.tp_model.specs.Policies.{Triple, matches, meets}
-use Rattle.tp_cred.specs.Validity.{is_among, shows_in}
+use Rattle.tp_model.specs.Credentials.{is_among}
+use Rattle.tp_cred.specs.Validity.{shows_in}
 use Rattle.tp_eval.specs.declared.policies.Certificate.{Certificate}
 
 -- ---- a condition

@@ -4,8 +4,8 @@ ghost use Rattle.std.specs.List.{list_all, IsDistinct};
 ghost use Rattle.std.specs.Option.{is_some};
 ghost use Rattle.tp_model.specs.Ids.{same_cred};
 ghost use Rattle.tp_model.specs.Policies as policies;
+ghost use Rattle.tp_model.specs.Credentials.{held_in, is_among};
 ghost use Rattle.tp_cred.specs.Certificates.{is_checked};
-ghost use Rattle.tp_cred.specs.Validity.{held_in, is_among};
 ghost use Rattle.tp_eval.specs.Gathered as gathered;
 ghost use Rattle.tp_eval.specs.Taken as taken;
 

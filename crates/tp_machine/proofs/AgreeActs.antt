@@ -27,7 +27,7 @@ use Rattle.tp_model.specs.Ids.{same_server, same_txn}
 use Rattle.tp_machine.specs.declared.coord.Coordinator.{Coordinator}
 use Rattle.tp_machine.specs.declared.part.Part.{Part}
 use Rattle.tp_machine.specs.declared.server.Server.{Server}
-use Rattle.tp_machine.specs.Effect.{Effect}
+use Rattle.tp_types.specs.Effect.{Effect}
 use Rattle.tp_machine.specs.Logs.{decided_at, decided_by, decided_in, settled_at, settled_by, settled_in, settlement_in}
 use Rattle.tp_machine.specs.Machine.{State, acts_by, log_with, server_acted, server_fact}
 use Rattle.tp_machine.specs.Sound.{Each, EachAt}

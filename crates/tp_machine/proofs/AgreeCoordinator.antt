@@ -27,14 +27,14 @@ use Rattle.tp_types.specs.declared.scenario.Query.{Query}
 use Rattle.tp_types.specs.declared.scenario.Scenario.{Scenario}
 use Rattle.tp_types.specs.declared.scenario.Transaction.{Transaction}
 use Rattle.tp_model.specs.Agreement.{has_item, has_item_at}
-use Rattle.tp_model.specs.Built.{is_empty}
+use Rattle.tp_model.specs.Stage.{is_empty}
 use Rattle.tp_model.specs.Facts.{first_of, outcome_of}
 use Rattle.tp_model.specs.Queries.{is_at_server, servers_from, servers_of, written_constant}
 use Rattle.tp_machine.specs.declared.coord.Coordinator.{Coordinator}
 use Rattle.tp_machine.specs.declared.coord.Phase.{Phase}
 use Rattle.tp_machine.specs.declared.coord.Phase.TheVariants as phase
 use Rattle.tp_machine.specs.declared.coord.Round.{Round}
-use Rattle.tp_machine.specs.Effect.{Effect, silent}
+use Rattle.tp_types.specs.Effect.{Effect, silent}
 use Rattle.tp_machine.specs.Logs.{decided_in, decision_in}
 use Rattle.tp_machine.specs.Machine.{log_with, with_age}
 use Rattle.tp_machine.specs.Sound.{Each}

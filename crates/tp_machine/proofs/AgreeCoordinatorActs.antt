@@ -22,7 +22,7 @@ use Rattle.tp_model.specs.Facts.{first_of, is_submission, outcome_of}
 use Rattle.tp_model.specs.Ids.{same_txn}
 use Rattle.tp_machine.specs.declared.coord.Coordinator.{Coordinator}
 use Rattle.tp_machine.specs.declared.part.Part.{Part}
-use Rattle.tp_machine.specs.Effect.{Effect}
+use Rattle.tp_types.specs.Effect.{Effect}
 use Rattle.tp_machine.specs.Logs.{decided_at, decided_by, decided_in, decision_in}
 use Rattle.tp_machine.specs.Machine.{State, acts_by, coordinator_acted, coordinator_fact, log_with}
 use Rattle.tp_machine.specs.Sound.{Each}

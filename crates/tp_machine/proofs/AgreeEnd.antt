@@ -1,5 +1,5 @@
 -- Agreement of the facts: where the invariant holds, every fact keeps agreement.
-use Rattle.std.proofs.Common.{◌≡◌, ℕ, zero, suc, ◌+◌, ◌≤◌, ◌==◌, ◌&&◌, ◌||◌, List, [], ◌∷◌, length, slice_get, Bool, true, false, cond, not, Option, Some, None, option_map, option_and_then, refl, sym, ap, subst, ◌∙◌, arith}
+use Rattle.std.proofs.Common.{Bool, List, None, Option, Some, [], add-zero, ap, arith, cond, false, length, not, option_and_then, option_map, refl, slice_get, subst, suc, sym, take, true, zero, zero-add, ℕ, ◌&&◌, ◌+◌, ◌==◌, ◌||◌, ◌∙◌, ◌∷◌, ◌≡◌, ◌≤◌}
 use Rattle.std.specs.List.{count_by, list_any}
 use Rattle.std.proofs.lemmas.List.Sums.{sum_by-cons}
 use Rattle.std.proofs.lemmas.Option.{same_Some}
@@ -13,7 +13,7 @@ use Rattle.tp_types.specs.declared.records.Outcome.{Outcome}
 use Rattle.tp_types.specs.declared.records.Outcome.TheVariants as outcome
 use Rattle.tp_types.specs.declared.records.Settled.{Settled}
 use Rattle.tp_types.specs.declared.scenario.Scenario.{Scenario}
-use Rattle.tp_model.specs.Agreement.{follows_decision, is_agreed, is_only, keeps_agreement, keeps_agreement_what}
+use Rattle.tp_model.specs.Agreement.{agree_from, follows_decision, is_agreed, keeps_agreement, keeps_agreement_what}
 use Rattle.tp_model.specs.Facts.{before, is_decided_as, is_decision, is_settled_as, is_settlement, is_submission, outcome_of, same_outcome}
 use Rattle.tp_model.specs.Ids.{same_server, same_txn}
 use Rattle.tp_machine.specs.declared.coord.Coordinator.{Coordinator}
@@ -82,11 +82,21 @@ listed_at_most : {A : Type 0} (found : Option A) → length (listed found) ≤ 1
 listed_at_most None = omega arith
 listed_at_most (Some x) = omega arith
 
-only_one : (test : Fact → Bool) (facts : List Fact) (n : ℕ) (fact : Fact) → slice_get facts n ≡ Some fact → test fact ≡ true → count_by test facts ≤ 1 → is_only test facts ≡ true
-only_one test facts n fact e p most =
-    let least : 1 ≤ count_by test facts = member_counted test facts n fact e p in
-    let exact : count_by test facts ≡ 1 = omega (arith, most, least) in
-    ap (λ (k : ℕ). k == 1) exact
+ahead_of : (b rest : Bool) (others : ℕ) → cond b 1 0 + others ≤ 1 → 1 ≤ others → rest ≡ false → (b || rest) ≡ false
+ahead_of true rest others most least e = absurd (omega (arith, most, least))
+ahead_of false rest others most least e = e
+
+none_ahead : (test : Fact → Bool) (facts : List Fact) (n : ℕ) (fact : Fact) → slice_get facts n ≡ Some fact → test fact ≡ true → count_by test facts ≤ 1 → list_any test (take n facts) ≡ false
+none_ahead test [] n fact e p most = absurd (cc)
+none_ahead test (y ∷ facts) zero fact e p most = refl
+none_ahead test (y ∷ facts) (suc n) fact e p most =
+    let whole : count_by test (y ∷ facts) ≡ cond (test y) 1 0 + count_by test facts = sum_by-cons (λ z. cond (test z) 1 0) y facts in
+    ahead_of (test y) (list_any test (take n facts)) (count_by test facts) (omega (arith, whole, most)) (member_counted test facts n fact e p)
+    (none_ahead test facts n fact e p (omega (arith, whole, most)))
+
+-- of facts of a kind of which there is at most one, none stands before another
+first_one : (test : Fact → Bool) (facts : List Fact) (n : ℕ) (fact : Fact) → slice_get facts n ≡ Some fact → test fact ≡ true → count_by test facts ≤ 1 → not (list_any test (take n facts)) ≡ true
+first_one test facts n fact e p most = ap not (none_ahead test facts n fact e p most)
 
 both : (a b : Bool) → a ≡ true → b ≡ true → (a && b) ≡ true
 both a b e f = grind arith
@@ -155,20 +165,20 @@ settled_so : (at : ServerId) (txn : TxnId) (ended : Outcome) → (same_server at
 settled_so at txn ended = three (same_server at at) (same_txn txn txn) (same_outcome ended ended) (number_itself at.0) (number_itself txn.0) (outcome_itself ended)
 
 what_keeps : (sc : Scenario) (w : State) (n place : ℕ) (w_is : What) → Agrees sc w → slice_get w.facts n ≡ Some (record { place = place; what = w_is }) → WhatFollows sc (before place w.facts) w_is
-    → keeps_agreement_what sc w.facts place w_is ≡ true
+    → keeps_agreement_what sc w.facts (take n w.facts) place w_is ≡ true
 what_keeps sc w n place (what.Submitted txn) h e f =
-    only_one (is_submission txn) w.facts n (record { place = place; what = what.Submitted txn }) e (number_itself txn.0)
+    first_one (is_submission txn) w.facts n (record { place = place; what = what.Submitted txn }) e (number_itself txn.0)
     (let most = submitted_at_most (slice_get w.actors.coordinators txn.0) in omega (arith, count_submissions txn w.facts, h.submitted txn, most))
 what_keeps sc w n place (what.Decided txn decided) h e f =
     both _ _
-    (only_one (is_decision txn) w.facts n (record { place = place; what = what.Decided txn decided }) e (number_itself txn.0)
+    (first_one (is_decision txn) w.facts n (record { place = place; what = what.Decided txn decided }) e (number_itself txn.0)
     (let most = listed_at_most (decided_at w.actors.coordinators txn.0) in
     let same : length (decisions txn (said w.facts)) ≡ length (listed (decided_at w.actors.coordinators txn.0)) = ap length (h.decided txn) in
     omega (arith, count_decisions txn w.facts, same, most)))
     f
 what_keeps sc w n place (what.Settled at txn ended) h e f =
     three _ _ _
-    (only_one (is_settlement at txn) w.facts n (record { place = place; what = what.Settled at txn ended }) e (settled_itself at txn)
+    (first_one (is_settlement at txn) w.facts n (record { place = place; what = what.Settled at txn ended }) e (settled_itself at txn)
     (let most = listed_at_most (settled_outcome w.actors.servers at txn) in
     let same : length (settlements at txn (said w.facts)) ≡ length (listed (settled_outcome w.actors.servers at txn)) = ap length (h.settled at txn) in
     omega (arith, count_settlements at txn w.facts, same, most)))
@@ -177,9 +187,18 @@ what_keeps sc w n place (what.Settled at txn ended) h e f =
     (member_any (is_settled_as at txn ended) w.facts n (record { place = place; what = what.Settled at txn ended }) e (settled_so at txn ended)) f.follows)
 what_keeps sc w n place _ h e f = refl
 
+-- facts of which each keeps agreement agree
+agree_each : (sc : Scenario) (facts : List Fact) (number : ℕ) (later : List Fact)
+    → ((n : ℕ) (fact : Fact) → slice_get later n ≡ Some fact → keeps_agreement sc facts (take (number + n) facts) fact ≡ true) → agree_from sc facts number later ≡ true
+agree_each sc facts number [] h = refl
+agree_each sc facts number (fact ∷ later) h =
+    both _ _ (subst (λ (k : ℕ). keeps_agreement sc facts (take k facts) fact ≡ true) (add-zero number) (h 0 fact refl))
+    (agree_each sc facts (number + 1) later
+    (λ n other e. let k : number + suc n ≡ number + 1 + n = omega arith in subst (λ (m : ℕ). keeps_agreement sc facts (take m facts) other ≡ true) k (h (suc n) other e)))
+
 -- the facts of a world that agrees agree
 pub facts_agreed : (sc : Scenario) (w : State) → Agrees sc w → is_agreed sc w.facts ≡ true
 facts_agreed sc w h =
-    all_from_each (λ (fact : Fact). keeps_agreement sc w.facts fact ≡ true) (keeps_agreement sc w.facts) (λ fact k. k) w.facts
-    (each_found (λ (fact : Fact). keeps_agreement sc w.facts fact ≡ true) w.facts
-    (λ n fact e. what_keeps sc w n fact.place fact.what h e (each_get (FactFollows sc w.facts) w.facts n fact h.facts e)))
+    agree_each sc w.facts 0 w.facts
+    (λ n fact e. subst (λ (k : ℕ). keeps_agreement sc w.facts (take k w.facts) fact ≡ true) (sym (zero-add n))
+    (what_keeps sc w n fact.place fact.what h e (each_get (FactFollows sc w.facts) w.facts n fact h.facts e)))

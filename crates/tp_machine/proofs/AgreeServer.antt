@@ -19,11 +19,11 @@ use Rattle.tp_types.specs.declared.scenario.Scenario.{Scenario}
 use Rattle.tp_model.specs.Facts.{first_of}
 use Rattle.tp_machine.specs.declared.server.Entry.{Entry}
 use Rattle.tp_machine.specs.declared.server.Server.{Server}
-use Rattle.tp_machine.specs.Effect.{Effect, silent}
+use Rattle.tp_types.specs.Effect.{Effect, silent}
 use Rattle.tp_machine.specs.Logs.{settled_in}
 use Rattle.tp_machine.specs.Machine.{log_with}
 use Rattle.tp_machine.specs.Sound.{Each}
-use Rattle.tp_machine.specs.Table.{flattened, is_unset}
+use Rattle.tp_types.specs.Table.{flattened, is_unset}
 use Rattle.tp_machine.specs.server.Row.{asked_item, asked_to_vote, begins, entry_at, is_open, may_prepare, on_body, on_decide, on_prepare, on_query, plain_write, queried, server_row, settled_as, settles, votes}
 use Rattle.tp_machine.proofs.LogLemmas.{first_none, get_set, settled_with}
 use Rattle.tp_machine.proofs.SoundLists.{by_cond}

@@ -23,7 +23,7 @@ use Rattle.tp_machine.specs.declared.server.Server.{Server}
 use Rattle.tp_machine.specs.Logs.{decided_by, decided_in, settled_by, settled_in}
 use Rattle.tp_machine.specs.Machine.{Machine, State, coordinator_submits_up, coordinator_takes_up, delivered, done, idles, is_part_submitted, is_submitted, opened_actors, opened_part, opening_state, received, refusal, server_takes_up, submitted, submitted_by, to_coordinator, to_server, with_age, server_acted, coordinator_acted}
 use Rattle.tp_machine.specs.Sound.{Each, EachAt, IsSound, IsSoundCoordinatorUp, IsStepOf, IsTxn}
-use Rattle.tp_machine.specs.Table.{flattened}
+use Rattle.tp_types.specs.Table.{flattened}
 use Rattle.tp_machine.specs.coord.Opened as coord
 use Rattle.tp_machine.specs.coord.Row.{coordinator_row, submit_row}
 use Rattle.tp_machine.specs.offices.Authority as office

@@ -25,7 +25,7 @@ use Rattle.tp_types.specs.declared.scenario.Actor.{Actor}
 use Rattle.tp_types.specs.declared.scenario.Actor.TheVariants as actor
 use Rattle.tp_types.specs.declared.scenario.Query.{Query}
 use Rattle.tp_types.specs.declared.scenario.Scenario.{Scenario}
-use Rattle.tp_model.specs.Built.{is_empty}
+use Rattle.tp_model.specs.Stage.{is_empty}
 use Rattle.tp_model.specs.Queries.{written_constant}
 use Rattle.tp_machine.specs.declared.coord.Coordinator.{Coordinator}
 use Rattle.tp_machine.specs.declared.coord.Phase.{Phase}
@@ -33,11 +33,11 @@ use Rattle.tp_machine.specs.declared.coord.Phase.TheVariants as phase
 use Rattle.tp_machine.specs.declared.coord.Round.{Round}
 use Rattle.tp_machine.specs.declared.server.Entry.{Entry}
 use Rattle.tp_machine.specs.declared.server.Server.{Server}
-use Rattle.tp_machine.specs.Effect.{Effect, silent}
+use Rattle.tp_types.specs.Effect.{Effect, silent}
 use Rattle.tp_machine.specs.Logs.{boots_in, epoch_in}
 use Rattle.tp_machine.specs.Machine.{log_with, with_age}
 use Rattle.tp_machine.specs.Sound.{Each, EachPlaced}
-use Rattle.tp_machine.specs.Table.{flattened}
+use Rattle.tp_types.specs.Table.{flattened}
 use Rattle.tp_machine.specs.coord.Row as coord
 use Rattle.tp_machine.specs.server.Row as server
 use Rattle.tp_machine.proofs.SoundBuilt.{number_is}

@@ -25,7 +25,7 @@ use Rattle.tp_machine.specs.declared.offices.Authority.{Authority}
 use Rattle.tp_machine.specs.declared.part.Part.{Part}
 use Rattle.tp_machine.specs.declared.server.Entry.{Entry}
 use Rattle.tp_machine.specs.declared.server.Server.{Server}
-use Rattle.tp_machine.specs.Effect.{Effect}
+use Rattle.tp_types.specs.Effect.{Effect}
 use Rattle.tp_machine.specs.Logs.{epoch_at, epoch_by, epoch_in}
 use Rattle.tp_machine.specs.Machine.{Machine, State, Turn, acts_by, concluded, coordinator_acted, coordinator_fact, coordinator_submits_up, coordinator_takes_up, delivered, done, idles, is_part_submitted, is_submitted, log_with, opened_part, opening_state, posted, received, refusal, server_acted, server_fact, server_takes_up, submitted, submitted_by, to_coordinator, to_server, with_age}
 use Rattle.tp_machine.specs.Sound.{Each, EachAt, IsSound, IsSoundServerUp, IsStepOf, IsTxn}

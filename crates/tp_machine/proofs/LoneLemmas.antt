@@ -19,7 +19,7 @@ use Rattle.tp_types.specs.declared.scenario.Scenario.{Scenario}
 use Rattle.tp_types.specs.declared.scenario.Step.{Step}
 use Rattle.tp_types.specs.declared.scenario.Step.TheVariants as step
 use Rattle.tp_model.specs.Facts.{record_of}
-use Rattle.tp_model.specs.SerialRun.{is_commit_at, is_commit_what, is_lone_what}
+use Rattle.tp_model.specs.Commits.{are_lone, is_commit_at, is_commit_what, is_lone, is_lone_what}
 use Rattle.tp_machine.specs.declared.actors.Actors.{Actors}
 use Rattle.tp_machine.specs.declared.coord.Coordinator.{Coordinator}
 use Rattle.tp_machine.specs.declared.part.Part.{Part}
@@ -29,8 +29,8 @@ use Rattle.tp_machine.specs.coord.Row.{coordinator_row, submit_row}
 use Rattle.tp_machine.specs.server.Row.{server_row}
 use Rattle.tp_machine.proofs.AgreeActs.{told_by}
 use Rattle.tp_machine.proofs.AgreeCoordinatorActs.{told_of}
-use Rattle.tp_machine.proofs.AgreeEnd.{member_counted}
-use Rattle.tp_machine.proofs.FactLemmas.{ArePast, count_append}
+use Rattle.tp_machine.proofs.AgreeEnd.{each_found, member_counted}
+use Rattle.tp_machine.proofs.FactLemmas.{ArePast, all_from_each, count_append}
 use Rattle.tp_machine.proofs.LogLemmas.{gained}
 use Rattle.tp_machine.proofs.ViewsBuilt.{both_true}
 
@@ -54,6 +54,12 @@ lone_fact facts n place (what.Decided txn (decision.Commit committed)) h e =
     ap (λ (k : ℕ). k == 1) exact
 lone_fact facts n place (what.Decided txn (decision.Abort why)) h e = refl
 lone_fact facts n place _ h e = refl
+
+-- so all commits stand apart
+pub facts_lone : (facts : List Fact) → AreLone facts → are_lone facts ≡ true
+facts_lone facts h =
+    all_from_each (λ (fact : Fact). is_lone facts fact ≡ true) (is_lone facts) (λ fact e. e) facts
+    (each_found (λ (fact : Fact). is_lone facts fact ≡ true) facts (λ n fact e. lone_fact facts n fact.place fact.what h e))
 
 fewer : (a b : Bool) (us vs : ℕ) → us ≤ vs → cond (a && b) 1 0 + us ≤ cond b 1 0 + vs
 fewer true true us vs le = omega (arith, le)

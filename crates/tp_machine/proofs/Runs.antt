@@ -7,20 +7,22 @@ use Rattle.tp_model.specs.Agreement.{is_agreed}
 use Rattle.tp_model.specs.Built.{is_built}
 use Rattle.tp_model.specs.Causes.{is_caused}
 use Rattle.tp_model.specs.Outside.{IsOutside}
-use Rattle.tp_model.specs.SerialRun.{is_serial, overlaid}
+use Rattle.tp_model.specs.Commits.{are_lone}
+use Rattle.tp_model.specs.SerialRun.{is_serial}
 use Rattle.tp_model.specs.Trust.{is_trusted}
 use Rattle.tp_model.specs.TrustedHistory.{TrustedSoFar}
 use Rattle.tp_machine.specs.declared.error.StepError.{StepError}
 use Rattle.tp_machine.specs.Machine.{Machine, State, after, after_step, after_steps, done, ending_of, opening, opening_state, refusal}
+use Rattle.tp_machine.specs.Laws.{HasAllCommits, IsTrustedState}
 use Rattle.tp_machine.specs.Sound.{Each, IsSound, IsStepOf}
 use Rattle.tp_machine.proofs.AgreeWorld.{Agrees}
 use Rattle.tp_machine.proofs.AgreeEnd.{facts_agreed}
 use Rattle.tp_machine.proofs.AgreeSteps.{agrees_done, agrees_opening}
 use Rattle.tp_machine.proofs.EpochWorld.{Epochs, epochs_done, epochs_opening}
-use Rattle.tp_machine.proofs.LoneLemmas.{AreLone, lone_done, lone_opening}
+use Rattle.tp_machine.proofs.LoneLemmas.{AreLone, facts_lone, lone_done, lone_opening}
 use Rattle.tp_machine.proofs.OutsideLemmas.{outside_done, outside_opening}
 use Rattle.tp_machine.proofs.Sound.{sound_done, sound_opening}
-use Rattle.tp_machine.proofs.SerialEnd.{serial_facts, serial_values}
+use Rattle.tp_machine.proofs.SerialEnd.{serial_facts, serial_values, values_at_end}
 use Rattle.tp_machine.proofs.SerialSteps.{serial_done, serial_opening}
 use Rattle.tp_machine.proofs.SerialWorld.{Serial}
 use Rattle.tp_machine.proofs.ViewsEnd.{facts_caused, facts_trusted}
@@ -71,37 +73,50 @@ holds_after sc steps built exist = steps_hold sc (opening sc) steps built exist 
 
 -- ---- what the facts show
 
-pub agreed_after : (sc : Scenario) (steps : List Step) (facts : List Fact) → is_built sc ≡ true → Each (IsStepOf sc) steps → facts ≡ (after sc steps).state.facts → is_agreed sc facts ≡ true
-agreed_after sc steps facts built exist e = ap (is_agreed sc) e ∙ facts_agreed sc (after sc steps).state (holds_after sc steps built exist).agrees
-
-pub trusted_after : (sc : Scenario) (steps : List Step) (facts : List Fact) → is_built sc ≡ true → Each (IsStepOf sc) steps → facts ≡ (after sc steps).state.facts → is_trusted sc facts ≡ true
-trusted_after sc steps facts built exist e =
-    let h = holds_after sc steps built exist in
-    ap (is_trusted sc) e ∙ facts_trusted sc (after sc steps).state built h.sound h.trusts
-
-pub caused_after : (sc : Scenario) (steps : List Step) (facts : List Fact) → is_built sc ≡ true → Each (IsStepOf sc) steps → facts ≡ (after sc steps).state.facts → is_caused sc facts ≡ true
-caused_after sc steps facts built exist e = ap (is_caused sc) e ∙ facts_caused sc (after sc steps).state (holds_after sc steps built exist).trusts
-
-pub serial_after : (sc : Scenario) (steps : List Step) (facts : List Fact) → is_built sc ≡ true → Each (IsStepOf sc) steps → facts ≡ (after sc steps).state.facts → is_serial sc facts ≡ true
-serial_after sc steps facts built exist e =
-    let h = holds_after sc steps built exist in
-    ap (is_serial sc) e ∙ serial_facts sc (after sc steps).state h.lone h.serial
-
--- the values of a world are those that its servers have settled
-pub overlaid_after : (sc : Scenario) (steps : List Step) (w : State) → is_built sc ≡ true → Each (IsStepOf sc) steps → w ≡ (after sc steps).state → (ending_of sc w).values ≡ overlaid sc w.facts
-overlaid_after sc steps w built exist e =
-    let h = holds_after sc steps built exist in
-    subst (λ (v : State). (ending_of sc v).values ≡ overlaid sc v.facts) (sym e) (serial_values sc (after sc steps).state built h.sound h.agrees h.serial)
-
--- the history of a world so far is trusted
-pub so_far_after : (sc : Scenario) (w : State) → is_built sc ≡ true → Each (IsStepOf sc) w.steps → w ≡ (after sc w.steps).state → TrustedSoFar sc w.steps w.facts (ending_of sc w).values
-so_far_after sc w built exist e =
-    let h : Holds sc w = subst (Holds sc) (sym e) (holds_after sc w.steps built exist) in
+shows : (sc : Scenario) (w : State) → is_built sc ≡ true → Holds sc w → IsTrustedState sc w
+shows sc w built h =
     record {
       outside = h.outside;
       agreed = facts_agreed sc w h.agrees;
       trusted = facts_trusted sc w built h.sound h.trusts;
       caused = facts_caused sc w h.trusts;
-      serial = serial_facts sc w h.lone h.serial;
+      serial = serial_facts sc w h.serial;
+      lone = facts_lone w.facts h.lone;
       values_are = serial_values sc w built h.sound h.agrees h.serial;
     }
+
+-- after every list of steps the history is trusted so far
+pub always_trusted : (sc : Scenario) (steps : List Step) → is_built sc ≡ true → Each (IsStepOf sc) steps → IsTrustedState sc (after sc steps).state
+always_trusted sc steps built exist = shows sc (after sc steps).state built (holds_after sc steps built exist)
+
+-- and where all transactions have ended the values are those of all commits
+pub has_all_commits : (sc : Scenario) (steps : List Step) → is_built sc ≡ true → Each (IsStepOf sc) steps → HasAllCommits sc (after sc steps).state
+has_all_commits sc steps built exist ended =
+    let w = (after sc steps).state in
+    let h = holds_after sc steps built exist in
+    serial_values sc w built h.sound h.agrees h.serial ∙ values_at_end sc w built h.agrees h.serial ended
+
+-- ---- the same of a world that the steps give
+
+pub so_far_after : (sc : Scenario) (steps : List Step) (w : State) → is_built sc ≡ true → Each (IsStepOf sc) steps → w ≡ (after sc steps).state → IsTrustedState sc w
+so_far_after sc steps w built exist e = subst (IsTrustedState sc) (sym e) (always_trusted sc steps built exist)
+
+pub whole_after : (sc : Scenario) (steps : List Step) (w : State) → is_built sc ≡ true → Each (IsStepOf sc) steps → w ≡ (after sc steps).state → HasAllCommits sc w
+whole_after sc steps w built exist e = subst (HasAllCommits sc) (sym e) (has_all_commits sc steps built exist)
+
+-- of facts, which stand when a world is given up
+
+pub agreed_after : (sc : Scenario) (steps : List Step) (facts : List Fact) → is_built sc ≡ true → Each (IsStepOf sc) steps → facts ≡ (after sc steps).state.facts → is_agreed sc facts ≡ true
+agreed_after sc steps facts built exist e = ap (is_agreed sc) e ∙ (always_trusted sc steps built exist).agreed
+
+pub trusted_after : (sc : Scenario) (steps : List Step) (facts : List Fact) → is_built sc ≡ true → Each (IsStepOf sc) steps → facts ≡ (after sc steps).state.facts → is_trusted sc facts ≡ true
+trusted_after sc steps facts built exist e = ap (is_trusted sc) e ∙ (always_trusted sc steps built exist).trusted
+
+pub caused_after : (sc : Scenario) (steps : List Step) (facts : List Fact) → is_built sc ≡ true → Each (IsStepOf sc) steps → facts ≡ (after sc steps).state.facts → is_caused sc facts ≡ true
+caused_after sc steps facts built exist e = ap (is_caused sc) e ∙ (always_trusted sc steps built exist).caused
+
+pub serial_after : (sc : Scenario) (steps : List Step) (facts : List Fact) → is_built sc ≡ true → Each (IsStepOf sc) steps → facts ≡ (after sc steps).state.facts → is_serial sc facts ≡ true
+serial_after sc steps facts built exist e = ap (is_serial sc) e ∙ (always_trusted sc steps built exist).serial
+
+pub lone_after : (sc : Scenario) (steps : List Step) (facts : List Fact) → is_built sc ≡ true → Each (IsStepOf sc) steps → facts ≡ (after sc steps).state.facts → are_lone facts ≡ true
+lone_after sc steps facts built exist e = ap are_lone e ∙ (always_trusted sc steps built exist).lone

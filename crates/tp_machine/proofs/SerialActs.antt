@@ -29,7 +29,7 @@ use Rattle.tp_machine.specs.declared.coord.Phase.{Phase}
 use Rattle.tp_machine.specs.declared.coord.Phase.TheVariants as phase
 use Rattle.tp_machine.specs.declared.part.Part.{Part}
 use Rattle.tp_machine.specs.declared.server.Server.{Server}
-use Rattle.tp_machine.specs.Effect.{Effect}
+use Rattle.tp_types.specs.Effect.{Effect}
 use Rattle.tp_machine.specs.Logs.{decided_by, decided_in, decision_in, preparation_in, prepared_at, prepared_by, prepared_in}
 use Rattle.tp_machine.specs.Machine.{State, acts_by, coordinator_acted, coordinator_fact, log_with, server_acted, server_fact}
 use Rattle.tp_machine.specs.Sound.{Each, EachAt, IsTxn}

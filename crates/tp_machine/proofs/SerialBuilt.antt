@@ -20,7 +20,10 @@ use Rattle.tp_types.specs.declared.scenario.ServerDecl.{ServerDecl}
 use Rattle.tp_types.specs.declared.scenario.Term.{Term}
 use Rattle.tp_types.specs.declared.scenario.Transaction.{Transaction}
 use Rattle.tp_model.specs.Agreement.{has_item, has_item_at}
-use Rattle.tp_model.specs.Built.{has_valid_bounds, has_valid_range, is_built, is_built_admin, is_built_item, is_built_parts, is_built_query, is_built_term, is_built_txn, is_constant, is_deferred, is_empty, is_single, is_view}
+use Rattle.tp_model.specs.Built.{is_built}
+use Rattle.tp_model.specs.Stage.{is_deferred, is_empty, is_single, is_view}
+use Rattle.tp_model.specs.Valid.{has_valid_bounds, has_valid_range}
+use Rattle.tp_model.proofs.FirstForm.{are_first_parts, form_built, is_first_admin, is_first_constant, is_first_item, is_first_query, is_first_term, is_first_txn}
 use Rattle.tp_model.specs.Ids.{same_server}
 use Rattle.tp_model.specs.Limits.{is_between}
 use Rattle.tp_model.specs.Queries.{is_at_server, item_of, only, operand_value, query_at, signed, term_value, written_constant}
@@ -56,11 +59,11 @@ record HasParts (sc : Scenario) : Type 0 where
   pub items_are : sc.items ≡ item ∷ []
   pub txn : Transaction
   pub txns_are : sc.txns ≡ txn ∷ []
-  pub item_fits : is_built_item item ≡ true
-  pub txn_fits : is_built_txn server item txn ≡ true
+  pub item_fits : is_first_item item ≡ true
+  pub txn_fits : is_first_txn server item txn ≡ true
 
 parts_of : (sc : Scenario) (servers : Option ServerDecl) (items : Option Item) (txns : Option Transaction) → only sc.servers ≡ servers → only sc.items ≡ items → only sc.txns ≡ txns
-    → is_built_parts servers items txns ≡ true → HasParts sc
+    → are_first_parts servers items txns ≡ true → HasParts sc
 parts_of sc (Some server) (Some item) (Some txn) a b c e =
     record {
       server = server;
@@ -78,8 +81,8 @@ parts_of sc None items txns a b c e = absurd (cc)
 
 has_parts : (sc : Scenario) → is_built sc ≡ true → HasParts sc
 has_parts sc e =
-    let front : (is_single is_built_admin sc.admins && is_built_parts (only sc.servers) (only sc.items) (only sc.txns)) ≡ true = grind arith in
-    parts_of sc (only sc.servers) (only sc.items) (only sc.txns) refl refl refl (and_parts (is_single is_built_admin sc.admins) _ front).1
+    let front = (and_parts (is_single is_first_admin sc.admins && are_first_parts (only sc.servers) (only sc.items) (only sc.txns)) _ (form_built sc e)).0 in
+    parts_of sc (only sc.servers) (only sc.items) (only sc.txns) refl refl refl (and_parts (is_single is_first_admin sc.admins) _ front).1
 
 -- the one query is a write of a constant to the one item, within its range
 record IsConstantWrite (item : Item) (asked : Query) : Type 0 where
@@ -91,13 +94,13 @@ record IsConstantWrite (item : Item) (asked : Query) : Type 0 where
   pub operand_is : term.operand ≡ Constant constant
   pub within : is_between item.min item.max (term_value term) ≡ true
 
-constant_is : (operand : Operand) → is_constant operand ≡ true → (c : ℤ) × (operand ≡ Constant c)
+constant_is : (operand : Operand) → is_first_constant operand ≡ true → (c : ℤ) × (operand ≡ Constant c)
 constant_is (Constant c) e = (c, refl)
 constant_is (Register r) e = absurd (cc)
 
-write_is : (item : Item) (id : ItemId) (expr : List Term) → (id.0 == 0) ≡ true → IsOnly (is_built_term item) expr → IsConstantWrite item (Write id expr)
+write_is : (item : Item) (id : ItemId) (expr : List Term) → (id.0 == 0) ≡ true → IsOnly (is_first_term item) expr → IsConstantWrite item (Write id expr)
 write_is item id expr first one =
-    let tests = and_parts (is_constant one.member.operand) (is_between item.min item.max (term_value one.member)) one.passes in
+    let tests = and_parts (is_first_constant one.member.operand) (is_between item.min item.max (term_value one.member)) one.passes in
     let operand = constant_is one.member.operand tests.0 in
     record {
       id = id;
@@ -109,18 +112,18 @@ write_is item id expr first one =
       within = tests.1;
     }
 
-built_query_is : (item : Item) (asked : Query) → is_built_query item asked ≡ true → IsConstantWrite item asked
+built_query_is : (item : Item) (asked : Query) → is_first_query item asked ≡ true → IsConstantWrite item asked
 built_query_is item (Write id expr) e =
-    let tests = and_parts (id.0 == 0) (is_single (is_built_term item) expr) e in
-    write_is item id expr tests.0 (single_is (is_built_term item) expr tests.1)
+    let tests = and_parts (id.0 == 0) (is_single (is_first_term item) expr) e in
+    write_is item id expr tests.0 (single_is (is_first_term item) expr tests.1)
 built_query_is item (Read id into) e = absurd (cc)
 
 -- of six tests that all pass, the last
 last_test : (a b c d e f : Bool) → (a && b && c && (d && e && f)) ≡ true → f ≡ true
 last_test a b c d e f all = grind arith
 
-built_queries : (server : ServerDecl) (item : Item) (txn : Transaction) → is_built_txn server item txn ≡ true → IsOnly (is_built_query item) txn.queries
-built_queries server item txn e = single_is (is_built_query item) txn.queries (last_test _ (is_deferred txn.scheme) (is_view txn.level) (txn.rounds == 8) (is_empty txn.creds) _ e)
+built_queries : (server : ServerDecl) (item : Item) (txn : Transaction) → is_first_txn server item txn ≡ true → IsOnly (is_first_query item) txn.queries
+built_queries server item txn e = single_is (is_first_query item) txn.queries (last_test _ (is_deferred txn.scheme) (is_view txn.level) (txn.rounds == 8) (is_empty txn.creds) _ e)
 
 -- ---- one of each
 
@@ -145,7 +148,7 @@ only_at : {A : Type 0} (xs : List A) (x found : A) (n : ℕ) → xs ≡ x ∷ []
 only_at xs x found zero e f = (refl, same_Some x found (sym (ap (λ ys. slice_get ys 0) e) ∙ f))
 only_at xs x found (suc n) e f = let none : slice_get xs (suc n) ≡ None = ap (λ ys. slice_get ys (suc n)) e in absurd (cc)
 
-server_zero : (item : Item) → is_built_item item ≡ true → (item.server.0 == 0) ≡ true
+server_zero : (item : Item) → is_first_item item ≡ true → (item.server.0 == 0) ≡ true
 server_zero item e = grind arith
 
 abbrev pub first_server : ServerId
@@ -328,7 +331,7 @@ planned_in_range sc txn built = planned_from sc txn (slice_get sc.txns txn.0) bu
 third_test : (a b c : Bool) → (a && b && c) ≡ true → c ≡ true
 third_test a b c all = grind arith
 
-value_within : (item : Item) → is_built_item item ≡ true → is_between item.min item.max item.value ≡ true
+value_within : (item : Item) → is_first_item item ≡ true → is_between item.min item.max item.value ≡ true
 value_within item e = (and_parts (has_valid_bounds item) (is_between item.min item.max item.value) (third_test (item.server.0 == 0) (item.admin.0 == 0) (has_valid_range item) e)).1
 
 one_in_range : (item : Item) → is_between item.min item.max item.value ≡ true → are_in_range (item ∷ []) (item.value ∷ []) ≡ true

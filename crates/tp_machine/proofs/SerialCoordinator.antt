@@ -25,13 +25,14 @@ use Rattle.tp_types.specs.declared.scenario.Actor.{Actor}
 use Rattle.tp_types.specs.declared.scenario.Actor.TheVariants as actor
 use Rattle.tp_types.specs.declared.scenario.Query.{Query}
 use Rattle.tp_types.specs.declared.scenario.Scenario.{Scenario}
-use Rattle.tp_model.specs.Built.{is_built, is_empty}
+use Rattle.tp_model.specs.Built.{is_built}
+use Rattle.tp_model.specs.Stage.{is_empty}
 use Rattle.tp_model.specs.Queries.{written_constant}
 use Rattle.tp_machine.specs.declared.coord.Coordinator.{Coordinator}
 use Rattle.tp_machine.specs.declared.coord.Phase.{Phase}
 use Rattle.tp_machine.specs.declared.coord.Phase.TheVariants as phase
 use Rattle.tp_machine.specs.declared.coord.Round.{Round}
-use Rattle.tp_machine.specs.Effect.{Effect, silent}
+use Rattle.tp_types.specs.Effect.{Effect, silent}
 use Rattle.tp_machine.specs.Machine.{with_age}
 use Rattle.tp_machine.specs.Sound.{Each, IsSoundBody, query_in}
 use Rattle.tp_machine.specs.coord.Opened.{servers_at}

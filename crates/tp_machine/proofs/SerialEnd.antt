@@ -26,7 +26,7 @@ use Rattle.tp_model.specs.Built.{is_built}
 use Rattle.tp_model.specs.Facts.{commit_of, is_decided_as, is_settled_as, is_submission, outcome_of, same_outcome}
 use Rattle.tp_model.specs.Ids.{same_server, same_txn}
 use Rattle.tp_model.specs.Queries.{servers_of}
-use Rattle.tp_model.specs.SerialRun.{is_lone_what, is_serial, is_serial_commit, keeps_serial, ran_alone, ran_alone_what, opening_store, opening_value, overlaid, overlaid_at, overlaid_deeds, overlaid_fact, overlaid_what, store_at, store_of, stored, stored_all, stored_by, stored_fact, stored_what}
+use Rattle.tp_model.specs.SerialRun.{is_serial, is_serial_commit, keeps_serial, keeps_serial_what, opening_store, opening_value, overlaid, overlaid_at, overlaid_deeds, overlaid_fact, overlaid_what, store_at, store_of, stored, stored_all, stored_by, stored_fact, stored_what}
 use Rattle.tp_model.specs.TrustedHistory.{ended_as, have_ended, is_settled_everywhere}
 use Rattle.tp_machine.specs.declared.part.Part.{Part}
 use Rattle.tp_machine.specs.declared.server.Server.{Server}
@@ -38,8 +38,6 @@ use Rattle.tp_machine.proofs.AgreeWorld.{Agrees, FactFollows, settled_outcome}
 use Rattle.tp_machine.proofs.FactLemmas.{all_from_each, any_decided, any_settled, commit_found, decided_what, decisions, each_from_all, first_commit, said, settled_what, settlements}
 use Rattle.tp_machine.proofs.LogLemmas.{listed}
 use Rattle.tp_machine.proofs.SerialWorld.{Serial, ServerUpSerial}
-use Rattle.tp_machine.proofs.AgreeEnd.{each_found}
-use Rattle.tp_machine.proofs.LoneLemmas.{AreLone, lone_fact}
 use Rattle.tp_machine.proofs.SerialActs.{IsServedCommit, commit_serves}
 use Rattle.tp_machine.proofs.SerialBuilt.{IsOneTransaction, first_server, has_item_at_one_server, one_server, one_transaction, only_one_of_each, only_transaction, planned_at_one_server}
 use Rattle.tp_machine.proofs.SerialLists.{each_of_all, fold_as, fold_keeps}
@@ -51,13 +49,9 @@ use Rattle.tp_machine.proofs.ViewsBuilt.{both_true}
 
 -- ---- commits
 
--- every commit is the only one of its place, and did what its transaction does by itself
-pub serial_facts : (sc : Scenario) (w : State) → AreLone w.facts → Serial sc w → is_serial sc w.facts ≡ true
-serial_facts sc w lone h =
-    all_from_each (λ (fact : Fact). keeps_serial sc w.facts fact ≡ true) (keeps_serial sc w.facts) (λ fact e. e) w.facts
-    (each_found (λ (fact : Fact). keeps_serial sc w.facts fact ≡ true) w.facts
-    (λ n fact e. both_true (is_lone_what w.facts fact.place fact.what) (ran_alone sc w.facts fact) (lone_fact w.facts n fact.place fact.what lone e)
-    (each_get (λ (f : Fact). ran_alone sc w.facts f ≡ true) w.facts n fact h.facts e)))
+-- every commit did what its transaction does by itself
+pub serial_facts : (sc : Scenario) (w : State) → Serial sc w → is_serial sc w.facts ≡ true
+serial_facts sc w h = all_from_each (λ (fact : Fact). keeps_serial sc w.facts fact ≡ true) (keeps_serial sc w.facts) (λ fact e. e) w.facts h.facts
 
 -- ---- values
 
@@ -161,7 +155,7 @@ serial_of_one sc store committed txn (Some declared) built found e =
     let one = one_transaction sc built in
     txn_is_first txn (omega (arith, within, one))
 
-fact_of_one : (sc : Scenario) (facts : List Fact) (place : ℕ) (w : What) → is_built sc ≡ true → ran_alone_what sc facts place w ≡ true → IsOfOne w
+fact_of_one : (sc : Scenario) (facts : List Fact) (place : ℕ) (w : What) → is_built sc ≡ true → keeps_serial_what sc facts place w ≡ true → IsOfOne w
 fact_of_one sc facts place (what.Decided txn (decision.Commit committed)) built e = serial_of_one sc (store_at sc place facts) committed txn (slice_get sc.txns txn.0) built refl e
 fact_of_one sc facts place _ built e = tt
 
@@ -270,7 +264,7 @@ ended_so sc w declared ended built agrees txns_are e =
 store_is : (sc : Scenario) (w : State) → is_built sc ≡ true → Agrees sc w → Serial sc w → store_of sc w.facts ≡ fold stored_decision (opening_store sc) (listed (decided_at w.actors.coordinators 0))
 store_is sc w built agrees h =
     store_by_decisions w.facts (opening_store sc)
-    (each_as (λ (fact : Fact). ran_alone sc w.facts fact ≡ true) (λ (fact : Fact). IsOfOne fact.what) (λ fact e. fact_of_one sc w.facts fact.place fact.what built e) w.facts h.facts)
+    (each_as (λ (fact : Fact). keeps_serial sc w.facts fact ≡ true) (λ (fact : Fact). IsOfOne fact.what) (λ fact e. fact_of_one sc w.facts fact.place fact.what built e) w.facts h.facts)
     ∙ ap (fold stored_decision (opening_store sc)) (agrees.decided first_txn)
 
 overlaid_is : (sc : Scenario) (w : State) → is_built sc ≡ true → Agrees sc w

@@ -5,7 +5,7 @@ use Rattle.std.specs.List.{list_any}
 use Rattle.std.proofs.lemmas.Bool.Decides.{nat_tests}
 use Rattle.std.proofs.lemmas.Option.{same_Some}
 use Rattle.tp_machine.specs.Sound.{Each, EachAt}
-use Rattle.tp_machine.specs.Table.{flattened}
+use Rattle.tp_types.specs.Table.{flattened}
 use Rattle.tp_machine.proofs.LogLemmas.{get_set}
 
 -- ---- each member

@@ -33,11 +33,11 @@ use Rattle.tp_model.specs.Queries.{item_of}
 use Rattle.tp_model.specs.SerialRun.{overlaid_at, stored, stored_by}
 use Rattle.tp_machine.specs.declared.server.Entry.{Entry}
 use Rattle.tp_machine.specs.declared.server.Server.{Server}
-use Rattle.tp_machine.specs.Effect.{Effect, silent}
+use Rattle.tp_types.specs.Effect.{Effect, silent}
 use Rattle.tp_machine.specs.Logs.{prepared_in, settled_in}
 use Rattle.tp_machine.specs.Machine.{log_with}
 use Rattle.tp_machine.specs.Sound.{Each, EachPlaced, IsItemOf, IsSoundBody, IsSoundQuery}
-use Rattle.tp_machine.specs.Table.{flattened}
+use Rattle.tp_types.specs.Table.{flattened}
 use Rattle.tp_machine.specs.coord.Row.{deed_of}
 use Rattle.tp_machine.specs.server.Row.{applied, applied_deed, asked_item, asked_to_vote, begins, committed, entry_at, first_entry, is_open, is_write, may_prepare, on_body, on_decide, on_prepare, on_query, plain_write, prepared, queried, server_row, settled_as, settles, verdict_on, votes}
 use Rattle.tp_machine.proofs.AgreeActs.{number_itself, same_txn_is, told_by}

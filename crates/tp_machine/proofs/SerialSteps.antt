@@ -29,7 +29,7 @@ use Rattle.tp_machine.specs.declared.error.StepError.TheVariants as error
 use Rattle.tp_machine.specs.declared.offices.Authority.{Authority}
 use Rattle.tp_machine.specs.declared.part.Part.{Part}
 use Rattle.tp_machine.specs.declared.server.Server.{Server}
-use Rattle.tp_machine.specs.Effect.{Effect}
+use Rattle.tp_types.specs.Effect.{Effect}
 use Rattle.tp_machine.specs.Logs.{prepared_by}
 use Rattle.tp_machine.specs.Machine.{Machine, State, coordinator_acted, coordinator_submits_up, coordinator_takes_up, delivered, done, idles, is_part_submitted, is_submitted, opened_actors, opened_part, opening_state, received, refusal, server_acted, server_takes_up, submitted, submitted_by, to_coordinator, to_server, with_age}
 use Rattle.tp_machine.specs.Sound.{Each, IsServer, IsSound, IsSoundBody, IsSoundCoordinatorUp, IsSoundLetter, IsSoundMail, IsSoundServerUp, IsStepOf, IsTxn}

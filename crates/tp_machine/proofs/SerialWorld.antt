@@ -30,7 +30,7 @@ use Rattle.tp_model.specs.Facts.{before, commit_in_what, commit_of, first_of, is
 use Rattle.tp_model.specs.Ids.{same_item, same_txn}
 use Rattle.tp_model.specs.Limits.{is_between}
 use Rattle.tp_model.specs.Policies.{same_action}
-use Rattle.tp_model.specs.SerialRun.{are_in_range, is_serial_commit, ran_alone, ran_alone_what, opening_store, overlaid, overlaid_at, overlaid_deeds, overlaid_fact, overlaid_what, same_deed, serial_run, store_of, stored, stored_all, stored_by, stored_fact, stored_what}
+use Rattle.tp_model.specs.SerialRun.{are_in_range, is_serial_commit, keeps_serial, keeps_serial_what, opening_store, overlaid, overlaid_at, overlaid_deeds, overlaid_fact, overlaid_what, same_deed, serial_run, store_of, stored, stored_all, stored_by, stored_fact, stored_what}
 use Rattle.tp_machine.specs.declared.coord.Coordinator.{Coordinator}
 use Rattle.tp_machine.specs.declared.part.Part.{Part}
 use Rattle.tp_machine.specs.declared.server.Server.{Server}
@@ -84,7 +84,7 @@ pub record Serial (sc : Scenario) (w : State) : Type 0 where
   -- every mail ever sent has planned values, and each vote YES was prepared
   pub mails : Each (MailSerial sc (IsPrepared w.actors.servers)) w.mails
   -- each commit is serial
-  pub facts : Each (λ (fact : Fact). ran_alone sc w.facts fact ≡ true) w.facts
+  pub facts : Each (λ (fact : Fact). keeps_serial sc w.facts fact ≡ true) w.facts
   -- what all commits leave is in range
   pub range : are_in_range sc.items (store_of sc w.facts) ≡ true
 
@@ -173,27 +173,27 @@ planned_is_serial sc store txn committed (Some declared) built found exists e h 
 -- ---- facts
 
 -- a fact keeps its rule as later facts come
-keeps_same : (sc : Scenario) (old new : List Fact) (place : ℕ) (w : What) → before place new ≡ before place old → ran_alone_what sc old place w ≡ true → ran_alone_what sc new place w ≡ true
+keeps_same : (sc : Scenario) (old new : List Fact) (place : ℕ) (w : What) → before place new ≡ before place old → keeps_serial_what sc old place w ≡ true → keeps_serial_what sc new place w ≡ true
 keeps_same sc old new place (what.Decided txn (decision.Commit committed)) e h =
     subst (λ (earlier : List Fact). option_map_or (is_serial_commit sc (store_of sc earlier) committed) (slice_get sc.txns txn.0) false ≡ true) (sym e) h
 keeps_same sc old new place _ e h = refl
 
-facts_stay : (sc : Scenario) (old new : List Fact) (place : ℕ) (facts : List Fact) → Grows old new place → ArePast place facts → Each (λ (fact : Fact). ran_alone sc old fact ≡ true) facts
-    → Each (λ (fact : Fact). ran_alone sc new fact ≡ true) facts
+facts_stay : (sc : Scenario) (old new : List Fact) (place : ℕ) (facts : List Fact) → Grows old new place → ArePast place facts → Each (λ (fact : Fact). keeps_serial sc old fact ≡ true) facts
+    → Each (λ (fact : Fact). keeps_serial sc new fact ≡ true) facts
 facts_stay sc old new place [] g past h = tt
 facts_stay sc old new place (fact ∷ facts) g past h =
     (keeps_same sc old new fact.place fact.what (g.same fact.place (omega (arith, past.0))) h.0, facts_stay sc old new place facts g past.1 h.1)
 
 -- a new fact keeps its rule
 new_serial : (sc : Scenario) (old new : List Fact) (place : ℕ) (w : What) → is_built sc ≡ true → before place new ≡ old → are_in_range sc.items (store_of sc old) ≡ true → WhatSerial sc old w
-    → ran_alone_what sc new place w ≡ true
+    → keeps_serial_what sc new place w ≡ true
 new_serial sc old new place (what.Decided txn (decision.Commit committed)) built e range h =
     subst (λ (earlier : List Fact). option_map_or (is_serial_commit sc (store_of sc earlier) committed) (slice_get sc.txns txn.0) false ≡ true) (sym e)
     (planned_is_serial sc (store_of sc old) txn committed (slice_get sc.txns txn.0) built refl h.0 h.1 range)
 new_serial sc old new place _ built e range h = refl
 
 noted_serial : (sc : Scenario) (old new : List Fact) (place : ℕ) (happened : List What) → is_built sc ≡ true → before place new ≡ old → are_in_range sc.items (store_of sc old) ≡ true → Each (WhatSerial sc old) happened
-    → Each (λ (fact : Fact). ran_alone sc new fact ≡ true) (noted place happened)
+    → Each (λ (fact : Fact). keeps_serial sc new fact ≡ true) (noted place happened)
 noted_serial sc old new place [] built e range h = tt
 noted_serial sc old new place (w ∷ happened) built e range h = (new_serial sc old new place w built e range h.0, noted_serial sc old new place happened built e range h.1)
 
@@ -311,7 +311,7 @@ concluded_serial sc w taken turn built agrees h t =
       mails = each_append (MailSerial sc (IsPrepared turn.actors.servers)) w.mails (posted place (length w.mails) turn.letters)
           (mails_stay sc (IsPrepared w.actors.servers) (IsPrepared turn.actors.servers) w.mails t.stays h.mails)
           (posted_serial sc (IsPrepared turn.actors.servers) place (length w.mails) turn.letters t.letters);
-      facts = each_append (λ (fact : Fact). ran_alone sc now fact ≡ true) w.facts (noted place turn.happened)
+      facts = each_append (λ (fact : Fact). keeps_serial sc now fact ≡ true) w.facts (noted place turn.happened)
           (facts_stay sc w.facts now place w.facts g agrees.past h.facts)
           (noted_serial sc w.facts now place turn.happened built all h.range t.happened);
       range = store_in_range sc w.facts place turn.happened built t.happened h.range;

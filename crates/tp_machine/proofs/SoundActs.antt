@@ -26,7 +26,7 @@ use Rattle.tp_machine.specs.declared.offices.Authority.{Authority}
 use Rattle.tp_machine.specs.declared.part.Part.{Part}
 use Rattle.tp_machine.specs.declared.server.Entry.{Entry}
 use Rattle.tp_machine.specs.declared.server.Server.{Server}
-use Rattle.tp_machine.specs.Effect.{Effect}
+use Rattle.tp_types.specs.Effect.{Effect}
 use Rattle.tp_machine.specs.Machine.{Acted, acts_by, coordinator_fact, coordinator_submits, coordinator_submits_up, coordinator_takes, coordinator_takes_up, log_with, opened_part, server_fact, server_takes, server_takes_up, with_age}
 use Rattle.tp_machine.specs.Sound.{AreVersions, Each, IsActor, IsBounded, IsServer, IsSoundAuthority, IsSoundBody, IsSoundCoordinatorPart, IsSoundCoordinatorRecord, IsSoundCoordinatorUp, IsSoundDecision, IsSoundEntry, IsSoundLetter, IsSoundServerPart, IsSoundServerRecord, IsSoundServerUp, IsSoundSettled, IsSoundWhat, IsTxn}
 use Rattle.tp_machine.specs.coord.Opened as coord

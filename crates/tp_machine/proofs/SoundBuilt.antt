@@ -19,7 +19,10 @@ use Rattle.tp_types.specs.declared.scenario.Scheme.TheVariants as scheme
 use Rattle.tp_types.specs.declared.scenario.ServerDecl.{ServerDecl}
 use Rattle.tp_types.specs.declared.scenario.Term.{Term}
 use Rattle.tp_types.specs.declared.scenario.Transaction.{Transaction}
-use Rattle.tp_model.specs.Built.{is_built, is_built_admin, is_built_item, is_built_parts, is_built_query, is_built_server, is_built_term, is_built_txn, is_constant, is_deferred, is_empty, is_open_policy, is_single, is_view, has_valid_range}
+use Rattle.tp_model.specs.Built.{is_built}
+use Rattle.tp_model.specs.Stage.{is_deferred, is_empty, is_open_policy, is_single, is_view}
+use Rattle.tp_model.specs.Valid.{has_valid_range}
+use Rattle.tp_model.proofs.FirstForm.{are_first_parts, form_built, is_first_admin, is_first_constant, is_first_item, is_first_query, is_first_server, is_first_term, is_first_txn}
 use Rattle.tp_model.specs.Limits.{int_le, is_between, is_value}
 use Rattle.tp_model.specs.Queries.{only, term_value, written_constant}
 use Rattle.tp_machine.specs.Sound.{AreVersions, AreVersionsOf, Each, IsAdmin, IsBounded, IsServer, IsVersionOf, proves_each}
@@ -98,19 +101,19 @@ count_of xs x e = ap length e
 
 -- one administrator, one server, one item and one transaction, each of its form
 pub record HasForm (sc : Scenario) : Type 0 where
-  pub admins : IsOnly is_built_admin sc.admins
+  pub admins : IsOnly is_first_admin sc.admins
   pub server : ServerDecl
   pub servers_are : sc.servers ≡ server ∷ []
   pub item : Item
   pub items_are : sc.items ≡ item ∷ []
   pub txn : Transaction
   pub txns_are : sc.txns ≡ txn ∷ []
-  pub server_fits : is_built_server server ≡ true
-  pub item_fits : is_built_item item ≡ true
-  pub txn_fits : is_built_txn server item txn ≡ true
+  pub server_fits : is_first_server server ≡ true
+  pub item_fits : is_first_item item ≡ true
+  pub txn_fits : is_first_txn server item txn ≡ true
 
 form_of : (sc : Scenario) (servers : Option ServerDecl) (items : Option Item) (txns : Option Transaction) → only sc.servers ≡ servers → only sc.items ≡ items → only sc.txns ≡ txns
-    → IsOnly is_built_admin sc.admins → is_built_parts servers items txns ≡ true → HasForm sc
+    → IsOnly is_first_admin sc.admins → are_first_parts servers items txns ≡ true → HasForm sc
 form_of sc (Some server) (Some item) (Some txn) a b c admins e =
     record {
       admins = admins;
@@ -130,14 +133,14 @@ form_of sc None items txns a b c admins e = absurd (cc)
 
 pub has_form : (sc : Scenario) → is_built sc ≡ true → HasForm sc
 has_form sc e =
-    let front : (is_single is_built_admin sc.admins && is_built_parts (only sc.servers) (only sc.items) (only sc.txns)) ≡ true = grind arith in
-    let parts = and_parts (is_single is_built_admin sc.admins) (is_built_parts (only sc.servers) (only sc.items) (only sc.txns)) front in
-    form_of sc (only sc.servers) (only sc.items) (only sc.txns) refl refl refl (single_is is_built_admin sc.admins parts.0) parts.1
+    let front = (and_parts (is_single is_first_admin sc.admins && are_first_parts (only sc.servers) (only sc.items) (only sc.txns)) _ (form_built sc e)).0 in
+    let parts = and_parts (is_single is_first_admin sc.admins) (are_first_parts (only sc.servers) (only sc.items) (only sc.txns)) front in
+    form_of sc (only sc.servers) (only sc.items) (only sc.txns) refl refl refl (single_is is_first_admin sc.admins parts.0) parts.1
 
 -- ---- the scenario is valid
 
 -- one administrator and a server that knows its version
-knows_valid : (admins : List Admin) (server : ServerDecl) → IsOnly is_built_admin admins → is_built_server server ≡ true → AreVersionsOf admins server.knows
+knows_valid : (admins : List Admin) (server : ServerDecl) → IsOnly is_first_admin admins → is_first_server server ≡ true → AreVersionsOf admins server.knows
 knows_valid admins server one e =
     let known : is_single (λ (version : Version). version.0 == 1) server.knows ≡ true = grind arith in
     let only_known : IsOnly (λ (version : Version). version.0 == 1) server.knows = single_is (λ (version : Version). version.0 == 1) server.knows known in
@@ -151,7 +154,7 @@ knows_valid admins server one e =
     (subst (λ (vs : List Version). AreVersionsOf (one.member ∷ []) vs) (sym only_known.is_list) made)
 
 -- an item of the one server and the one administrator
-item_valid : (sc : Scenario) (item : Item) → length sc.servers ≡ 1 → length sc.admins ≡ 1 → is_built_item item ≡ true → IsValidItem sc item
+item_valid : (sc : Scenario) (item : Item) → length sc.servers ≡ 1 → length sc.admins ≡ 1 → is_first_item item ≡ true → IsValidItem sc item
 item_valid sc item one_server one_admin e =
     let server_is : (item.server.0 == 0) ≡ true = grind arith in
     let admin_is : (item.admin.0 == 0) ≡ true = grind arith in
@@ -164,11 +167,11 @@ item_valid sc item one_server one_admin e =
       value = bounded_between item.min item.max item.value low high within;
     }
 
-term_parts : (item : Item) (term : Term) → is_built_term item term ≡ true → is_between item.min item.max (term_value term) ≡ true
-term_parts item term e = (and_parts (is_constant term.operand) (is_between item.min item.max (term_value term)) e).1
+term_parts : (item : Item) (term : Term) → is_first_term item term ≡ true → is_between item.min item.max (term_value term) ≡ true
+term_parts item term e = (and_parts (is_first_constant term.operand) (is_between item.min item.max (term_value term)) e).1
 
 -- a write of one constant within an item's range
-write_valid : (item : Item) (id : ItemId) (expr : List Term) → has_valid_range item ≡ true → IsOnly (is_built_term item) expr → IsValidQuery (query.Write id expr)
+write_valid : (item : Item) (id : ItemId) (expr : List Term) → has_valid_range item ≡ true → IsOnly (is_first_term item) expr → IsValidQuery (query.Write id expr)
 write_valid item id expr range only_term value e =
     let low : is_value item.min ≡ true = grind arith in
     let high : is_value item.max ≡ true = grind arith in
@@ -177,13 +180,13 @@ write_valid item id expr range only_term value e =
     let same : term_value only_term.member ≡ value = grind arith in
     subst IsBounded same (bounded_between item.min item.max (term_value only_term.member) low high within)
 
-query_valid : (item : Item) (asked : Query) → has_valid_range item ≡ true → is_built_query item asked ≡ true → IsValidQuery asked
+query_valid : (item : Item) (asked : Query) → has_valid_range item ≡ true → is_first_query item asked ≡ true → IsValidQuery asked
 query_valid item (query.Write id expr) range e =
-    let terms : is_single (is_built_term item) expr ≡ true = grind arith in
-    write_valid item id expr range (single_is (is_built_term item) expr terms)
+    let terms : is_single (is_first_term item) expr ≡ true = grind arith in
+    write_valid item id expr range (single_is (is_first_term item) expr terms)
 query_valid item (query.Read id into) range e = absurd (cc)
 
-queries_valid : (item : Item) (queries : List Query) → has_valid_range item ≡ true → IsOnly (is_built_query item) queries → Each IsValidQuery queries
+queries_valid : (item : Item) (queries : List Query) → has_valid_range item ≡ true → IsOnly (is_first_query item) queries → Each IsValidQuery queries
 queries_valid item queries range one =
     let made : Each IsValidQuery (one.member ∷ []) = (query_valid item one.member range one.passes, tt) in
     subst (Each IsValidQuery) (sym one.is_list) made
@@ -201,7 +204,7 @@ each_of_one P xs x e h = let made : Each P (x ∷ []) = (h, tt) in subst (Each P
 third_test : (a b c : Bool) → (a && b && c) ≡ true → c ≡ true
 third_test a b c all = grind arith
 
-range_valid : (item : Item) → is_built_item item ≡ true → has_valid_range item ≡ true
+range_valid : (item : Item) → is_first_item item ≡ true → has_valid_range item ≡ true
 range_valid item e = third_test (item.server.0 == 0) (item.admin.0 == 0) (has_valid_range item) e
 
 -- of six tests that all pass, the second and the last
@@ -209,11 +212,11 @@ pub second_and_last : (a b c d e f : Bool) → (a && b && c && (d && e && f)) �
 second_and_last a b c d e f all = grind arith
 
 -- the transaction is deferred, and has one query of the form
-pub txn_parts : (server : ServerDecl) (item : Item) (txn : Transaction) → is_built_txn server item txn ≡ true
-    → (is_deferred txn.scheme ≡ true) × (is_single (is_built_query item) txn.queries ≡ true)
+pub txn_parts : (server : ServerDecl) (item : Item) (txn : Transaction) → is_first_txn server item txn ≡ true
+    → (is_deferred txn.scheme ≡ true) × (is_single (is_first_query item) txn.queries ≡ true)
 txn_parts server item txn e =
     second_and_last (not (pointwise ◌==◌ txn.name server.name)) (is_deferred txn.scheme) (is_view txn.level) (txn.rounds == 8) (is_empty txn.creds)
-    (is_single (is_built_query item) txn.queries) e
+    (is_single (is_first_query item) txn.queries) e
 
 valid_form : (sc : Scenario) → HasForm sc → IsValid sc
 valid_form sc form =
@@ -225,7 +228,7 @@ valid_form sc form =
       items = each_of_one (IsValidItem sc) sc.items form.item form.items_are (item_valid sc form.item one_server one_admin form.item_fits);
       servers = each_of_one (λ (declared : ServerDecl). AreVersions sc declared.knows) sc.servers form.server form.servers_are (knows_valid sc.admins form.server form.admins form.server_fits);
       txns = each_of_one (λ (declared : Transaction). Each IsValidQuery declared.queries) sc.txns form.txn form.txns_are
-          (queries_valid form.item form.txn.queries range (single_is (is_built_query form.item) form.txn.queries parts.1));
+          (queries_valid form.item form.txn.queries range (single_is (is_first_query form.item) form.txn.queries parts.1));
       deferred = each_of_one (λ (declared : Transaction). proves_each declared.scheme ≡ false) sc.txns form.txn form.txns_are (deferred_proves form.txn.scheme parts.0);
     }
 

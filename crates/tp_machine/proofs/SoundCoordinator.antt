@@ -24,13 +24,13 @@ use Rattle.tp_types.specs.declared.scenario.Query.{Query}
 use Rattle.tp_types.specs.declared.scenario.Query.TheVariants as query
 use Rattle.tp_types.specs.declared.scenario.Scenario.{Scenario}
 use Rattle.tp_types.specs.declared.scenario.Transaction.{Transaction}
-use Rattle.tp_model.specs.Built.{is_empty}
+use Rattle.tp_model.specs.Stage.{is_empty}
 use Rattle.tp_model.specs.Queries.{item_of, query_at, written_constant}
 use Rattle.tp_machine.specs.declared.coord.Coordinator.{Coordinator}
 use Rattle.tp_machine.specs.declared.coord.Phase.{Phase}
 use Rattle.tp_machine.specs.declared.coord.Phase.TheVariants as phase
 use Rattle.tp_machine.specs.declared.coord.Round.{Round}
-use Rattle.tp_machine.specs.Effect.{Effect, silent}
+use Rattle.tp_types.specs.Effect.{Effect, silent}
 use Rattle.tp_machine.specs.Sound.{AreSoundVerdicts, Each, HasValue, IsActor, IsBounded, IsItemOf, IsServer, IsSoundAnswer, IsSoundBallot, IsSoundBody, IsSoundCoordinator, IsSoundCoordinatorRecord, IsSoundDeed, IsSoundInstance, IsSoundLetter, IsSoundPhase, IsSoundProof, IsSoundQuery, IsSoundReply, IsSoundRound, IsSoundStaple, IsSoundVerdict, ProvesEach, proves_each, query_in}
 use Rattle.tp_machine.specs.coord.Row.{ack_from, answered, are_agreed, asks, asks_first, awaits_query, awaits_vote, begins, closed, commits, coordinator_row, deed_of, done_of, first_round, is_from, is_last_write, is_true_verdict, judged, next_turn, on_ack, on_body, on_done, on_tell, on_vote, placed, plain_value, prepare_letter, prepares, query_of, ran, replied, request, sends_first, server_of, staple_of, submit_row, told, vote_at, voted, with_reply, without}
 use Rattle.tp_machine.proofs.SoundBuilt.{IsValid, IsValidItem, IsValidQuery}

@@ -25,7 +25,7 @@ use Rattle.tp_types.specs.declared.scenario.Scenario.{Scenario}
 use Rattle.tp_model.specs.Queries.{item_of}
 use Rattle.tp_machine.specs.declared.server.Entry.{Entry}
 use Rattle.tp_machine.specs.declared.server.Server.{Server}
-use Rattle.tp_machine.specs.Effect.{Effect, silent}
+use Rattle.tp_types.specs.Effect.{Effect, silent}
 use Rattle.tp_machine.specs.Sound.{AreSoundVerdicts, AreVersionsOf, Each, IsAdmin, IsBounded, IsItemOf, IsSoundBody, IsSoundDeedAt, IsSoundDone, IsSoundEntry, IsSoundLetter, IsSoundQuery, IsSoundServer, IsSoundServerRecord, IsSoundSettled, IsSoundVerdict, IsTxn, IsVersion, IsVersionOf, query_in}
 use Rattle.tp_machine.specs.server.Row.{admin_of, applied, applied_deed, asked_item, begins, committed, done, entry_at, first_entry, is_open, is_write, may_prepare, on_body, on_decide, on_prepare, on_query, plain_write, queried, reply, server_row, settled_as, settles, verdict_on, version_known, votes, asked_to_vote}
 use Rattle.tp_machine.proofs.SoundBuilt.{IsValid, IsValidItem}

@@ -1,7 +1,7 @@
 -- Trust, actor by actor: what an act leaves fits.
 use Rattle.std.proofs.lemmas.Bool.{eqb-true}
 use Rattle.std.proofs.Common.{◌≡◌, ℕ, ◌+◌, List, [], ◌∷◌, ◌++◌, length, flat_map, drop, slice_get, slice_set, Bool, true, false, Option, Some, None, IfSome, option_and_then, if◌then◌else◌, refl, sym, ap, subst, ◌∙◌, arith}
-use Rattle.std.specs.List.{list_any, sum_by}
+use Rattle.std.specs.List.{filter_map, list_any, sum_by}
 use Rattle.tp_types.specs.declared.fact.Fact.{Fact}
 use Rattle.tp_types.specs.declared.fact.What.{What}
 use Rattle.tp_types.specs.declared.ids.ServerId.{ServerId}
@@ -14,13 +14,13 @@ use Rattle.tp_types.specs.declared.mail.Mail.{Mail}
 use Rattle.tp_types.specs.declared.records.Record.{Record}
 use Rattle.tp_types.specs.declared.records.Record.TheVariants as log
 use Rattle.tp_types.specs.declared.scenario.Scenario.{Scenario}
-use Rattle.tp_model.specs.Credentials.{is_revocation, ticks}
+use Rattle.tp_model.specs.Credentials.{is_among, revoked_by, ticks}
 use Rattle.tp_model.specs.Facts.{before, is_submission}
 use Rattle.tp_model.specs.Ids.{same_txn}
 use Rattle.tp_machine.specs.declared.coord.Coordinator.{Coordinator}
 use Rattle.tp_machine.specs.declared.part.Part.{Part}
 use Rattle.tp_machine.specs.declared.server.Server.{Server}
-use Rattle.tp_machine.specs.Effect.{Effect}
+use Rattle.tp_types.specs.Effect.{Effect}
 use Rattle.tp_machine.specs.Machine.{State, acts_by, coordinator_acted, coordinator_fact, log_with, server_acted, server_fact}
 use Rattle.tp_machine.specs.Sound.{Each}
 use Rattle.tp_machine.specs.offices.Authority as office
@@ -255,7 +255,7 @@ tell_fits sc w ask happened a h submitted =
     let same : before place (facts_after w happened) ≡ before place w.facts = l.grows.same place (omega arith) in
     record {
       clock_is = h.clock_is ∙ ap (λ (earlier : List Fact). sc.clock + sum_by ticks earlier) (sym same);
-      revoked_is = λ cred. h.revoked_is cred ∙ ap (list_any (is_revocation cred)) (sym same);
+      revoked_is = λ cred. h.revoked_is cred ∙ ap (λ (earlier : List Fact). is_among (filter_map revoked_by earlier) cred) (sym same);
       begun = ap (list_any (is_submission ask.txn)) (same ∙ before_past place w.facts a.past) ∙ submitted;
       past = omega arith;
     }

@@ -16,7 +16,9 @@ use Rattle.tp_types.specs.declared.policy.Pattern.TheVariants.{All, Exact, Prefi
 use Rattle.tp_types.specs.declared.policy.Policy.{Policy}
 use Rattle.tp_types.specs.declared.policy.Rule.{Rule}
 use Rattle.tp_types.specs.declared.scenario.Admin.{Admin}
+use Rattle.tp_types.specs.declared.scenario.Item.{Item}
 use Rattle.tp_types.specs.declared.scenario.Level.{Level}
+use Rattle.tp_types.specs.declared.scenario.Query.{Query}
 use Rattle.tp_types.specs.declared.scenario.Level.TheVariants.{View, Global}
 use Rattle.tp_types.specs.declared.scenario.Scenario.{Scenario}
 use Rattle.tp_types.specs.declared.scenario.Scheme.{Scheme}
@@ -24,9 +26,12 @@ use Rattle.tp_types.specs.declared.scenario.Scheme.TheVariants as scheme
 use Rattle.tp_types.specs.declared.scenario.ServerDecl.{ServerDecl}
 use Rattle.tp_types.specs.declared.scenario.Transaction.{Transaction}
 use Rattle.tp_model.specs.Authorisation.{rule_fits, rule_proves}
-use Rattle.tp_model.specs.Built.{allows_all, is_all, is_built, is_built_query, is_deferred, is_empty, is_open_policy, is_single, is_true_cond, is_true_shape, is_view}
-use Rattle.tp_model.specs.Credentials.{triples_of}
-use Rattle.tp_model.specs.Levels.{is_global, reads_master}
+use Rattle.tp_model.specs.Built.{is_built}
+use Rattle.tp_model.specs.Queries.{item_of}
+use Rattle.tp_model.specs.Stage.{allows_all, is_all, is_deferred, is_empty, is_open_policy, is_single, is_true_cond, is_true_shape, is_view}
+use Rattle.tp_model.proofs.FirstForm.{is_first_query}
+use Rattle.tp_model.specs.Credentials.{triples_in}
+use Rattle.tp_model.specs.Levels.{is_global, is_global_item, is_global_query, reads_master}
 use Rattle.tp_model.specs.Policies.{Triple, allows, holds, is_about_action, is_about_item, level, matches, rule_allows}
 use Rattle.tp_model.specs.Versions.{opening_of}
 use Rattle.tp_machine.specs.Sound.{Each, IsAdmin}
@@ -78,7 +83,7 @@ pub open_policy_proves : (sc : Scenario) (txn : Transaction) (policy : Policy) (
 open_policy_proves sc txn policy asked item e =
     let one : IsOnly allows_all policy.rules = single_is allows_all policy.rules e in
     ap (λ (rules : List Rule). option_map_or (rule_fits sc txn [] asked item) (slice_get rules 0) false) one.is_list
-    ∙ open_rule one.member asked item (triples_of sc txn.subject []) one.passes
+    ∙ open_rule one.member asked item (triples_in sc.creds txn.subject []) one.passes
 
 -- ---- the form
 
@@ -88,7 +93,7 @@ pub record IsFirstForm (sc : Scenario) : Type 0 where
   pub policies : Each (λ (admin : Admin). Each (λ (policy : Policy). is_open_policy policy ≡ true) admin.library) sc.admins
   pub one_query : Each (λ (txn : Transaction). length txn.queries ≡ 1) sc.txns
   pub deferred : Each (λ (txn : Transaction). txn.scheme ≡ scheme.Deferred) sc.txns
-  pub view : Each (λ (txn : Transaction). reads_master txn ≡ false) sc.txns
+  pub view : Each (λ (txn : Transaction). reads_master sc txn ≡ false) sc.txns
   pub admin_count : length sc.admins ≡ 1
   pub opening : (admin : AdminId) → IsAdmin sc admin → (opening_of sc admin).0 ≡ 1
   pub known : Each (λ (server : ServerDecl). Each (λ (version : Version). version.0 ≡ 1) server.knows) sc.servers
@@ -106,6 +111,18 @@ deferred_is scheme.Deferred e = refl
 deferred_is scheme.Continuous e = absurd (cc)
 deferred_is scheme.Punctual e = absurd (cc)
 deferred_is scheme.Incremental e = absurd (cc)
+
+-- a transaction of the level view reads no master
+view_reads_none : (sc : Scenario) (txn : Transaction) → is_global txn.level ≡ false → reads_master sc txn ≡ false
+view_reads_none sc txn view = none txn.queries
+  where
+    one : (item : Option Item) → option_map_or (is_global_item txn) item false ≡ false
+    one None = refl
+    one (Some item) = view
+
+    none : (queries : List Query) → list_any (is_global_query sc txn) queries ≡ false
+    none [] = refl
+    none (asked ∷ queries) = ap (λ (b : Bool). b || list_any (is_global_query sc txn) queries) (one (slice_get sc.items (item_of asked).0)) ∙ none queries
 
 view_not_global : (l : Level) → is_view l ≡ true → is_global l ≡ false
 view_not_global View e = refl
@@ -135,16 +152,16 @@ first_form sc built =
     let admin_parts = and_parts (is_single is_open_policy member.library) (member.opening.0 == 1) form.admins.passes in
     let txn = form.txn in
     let parts = second_and_last (not (pointwise ◌==◌ txn.name form.server.name)) (is_deferred txn.scheme) (is_view txn.level) (txn.rounds == 8) (is_empty txn.creds)
-    (is_single (is_built_query form.item) txn.queries) form.txn_fits in
+    (is_single (is_first_query form.item) txn.queries) form.txn_fits in
     let view_is = second_of_six (not (pointwise ◌==◌ txn.name form.server.name)) (is_deferred txn.scheme) (is_view txn.level) (txn.rounds == 8) (is_empty txn.creds)
-    (is_single (is_built_query form.item) txn.queries) form.txn_fits in
+    (is_single (is_first_query form.item) txn.queries) form.txn_fits in
     let server_parts = and_parts (is_single (λ (version : Version). version.0 == 1) form.server.knows) _ form.server_fits in
     record {
       policies = each_of_one (λ (admin : Admin). Each (λ (policy : Policy). is_open_policy policy ≡ true) admin.library) sc.admins member form.admins.is_list
           (each_one (λ (policy : Policy). is_open_policy policy ≡ true) is_open_policy member.library (λ policy e. e) admin_parts.0);
-      one_query = each_of_one (λ (t : Transaction). length t.queries ≡ 1) sc.txns txn form.txns_are (single_count (is_built_query form.item) txn.queries parts.1);
+      one_query = each_of_one (λ (t : Transaction). length t.queries ≡ 1) sc.txns txn form.txns_are (single_count (is_first_query form.item) txn.queries parts.1);
       deferred = each_of_one (λ (t : Transaction). t.scheme ≡ scheme.Deferred) sc.txns txn form.txns_are (deferred_is txn.scheme parts.0);
-      view = each_of_one (λ (t : Transaction). reads_master t ≡ false) sc.txns txn form.txns_are (view_not_global txn.level view_is);
+      view = each_of_one (λ (t : Transaction). reads_master sc t ≡ false) sc.txns txn form.txns_are (view_reads_none sc txn (view_not_global txn.level view_is));
       admin_count = count_of sc.admins member form.admins.is_list;
       opening = opening_is sc form;
       known = each_of_one (λ (server : ServerDecl). Each (λ (version : Version). version.0 ≡ 1) server.knows) sc.servers form.server form.servers_are

@@ -27,14 +27,14 @@ use Rattle.tp_types.specs.declared.scenario.Actor.{Actor}
 use Rattle.tp_types.specs.declared.scenario.Actor.TheVariants as actor
 use Rattle.tp_types.specs.declared.scenario.Query.{Query}
 use Rattle.tp_types.specs.declared.scenario.Scenario.{Scenario}
-use Rattle.tp_model.specs.Built.{is_empty}
+use Rattle.tp_model.specs.Stage.{is_empty}
 use Rattle.tp_model.specs.Queries.{written_constant}
 use Rattle.tp_machine.specs.declared.coord.Coordinator.{Coordinator}
 use Rattle.tp_machine.specs.declared.coord.Phase.{Phase}
 use Rattle.tp_machine.specs.declared.coord.Phase.TheVariants as phase
 use Rattle.tp_machine.specs.declared.coord.Reply.{Reply}
 use Rattle.tp_machine.specs.declared.coord.Round.{Round}
-use Rattle.tp_machine.specs.Effect.{Effect, silent}
+use Rattle.tp_types.specs.Effect.{Effect, silent}
 use Rattle.tp_machine.specs.Machine.{with_age}
 use Rattle.tp_machine.specs.Sound.{Each, IsSoundBody}
 use Rattle.tp_machine.specs.coord.Row.{ack_from, answered, are_agreed, asks_first, awaits_query, awaits_vote, begins, commits, coordinator_row, done_of, first_round, is_from, is_last_write, judged, next_turn, on_ack, on_body, on_done, on_tell, on_vote, plain_value, prepare_letter, query_of, ran, replied, requests, sends_first, server_of, staple_of, submit_row, told, vote_at, voted, with_reply, without}

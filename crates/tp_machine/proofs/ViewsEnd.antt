@@ -71,30 +71,30 @@ same_numbers [] = refl
 same_numbers (n ∷ numbers) = both_true (n == n) (pointwise ◌==◌ numbers numbers) (number_itself n) (same_numbers numbers)
 
 -- proofs that are right, true and of one version close the instance of a deferred commit that reads no master
-closes_instance : (sc : Scenario) (txn : TxnId) (declared : Transaction) (place : ℕ) (facts : List Fact) (proofs : List Verdict) → reads_master declared ≡ false → slice_get sc.txns txn.0 ≡ Some declared
+closes_instance : (sc : Scenario) (txn : TxnId) (declared : Transaction) (place : ℕ) (facts : List Fact) (proofs : List Verdict) → reads_master sc declared ≡ false → slice_get sc.txns txn.0 ≡ Some declared
     → VerdictsFit sc facts place txn proofs → are_agreed proofs ≡ true
     → (is_final_instance sc facts declared (record { reading = None; proofs = proofs }) ≡ true) × (is_trusted_instance sc txn declared place facts (record { reading = None; proofs = proofs }) ≡ true)
 closes_instance sc txn declared place facts proofs view e fit agreed =
     let parts = and_parts (list_all row.is_true_verdict proofs) (is_one_version proofs) agreed in
     let over : is_over (length declared.queries) proofs ≡ true = ap (λ (numbers : List ℕ). pointwise ◌==◌ numbers (range_with_len 1 (length declared.queries))) (fit.all declared e) ∙ same_numbers (range_with_len 1 (length declared.queries)) in
-    let reading : (if reads_master declared then meets_readings sc declared None facts proofs else true) ≡ true = ap (λ (b : Bool). if b then meets_readings sc declared None facts proofs else true) view in
+    let reading : (if reads_master sc declared then meets_readings sc declared None facts proofs else true) ≡ true = ap (λ (b : Bool). if b then meets_readings sc declared None facts proofs else true) view in
     (both_true _ _ over (both_true _ _ parts.1 reading), both_true _ true (trusted_proofs sc txn declared place facts proofs e fit.right parts.0) refl)
 
 -- ---- a commit
 
-round_count : (declared : Transaction) (rounds : ℕ) → reads_master declared ≡ false → rounds ≡ 1 → is_round_count declared rounds ≡ true
-round_count declared rounds view one =
-    ap (λ (n : ℕ). nat_le 1 n && nat_le n (most_rounds declared)) one ∙ ap (λ (b : Bool). nat_le 1 1 && nat_le 1 (if b then declared.rounds else 2)) view
+round_count : (sc : Scenario) (declared : Transaction) (rounds : ℕ) → reads_master sc declared ≡ false → rounds ≡ 1 → is_round_count sc declared rounds ≡ true
+round_count sc declared rounds view one =
+    ap (λ (n : ℕ). nat_le 1 n && nat_le n (most_rounds sc declared)) one ∙ ap (λ (b : Bool). nat_le 1 1 && nat_le 1 (if b then declared.rounds else 2)) view
 
 trusted_commit : (sc : Scenario) (txn : TxnId) (place : ℕ) (facts : List Fact) (committed : CommitRecord) (declared : Transaction) → IsFirstForm sc → slice_get sc.txns txn.0 ≡ Some declared
     → CommitFits sc facts place txn committed → is_trusted_commit sc txn place facts committed declared ≡ true
 trusted_commit sc txn place facts committed declared form e h =
     let deferred : declared.scheme ≡ scheme.Deferred = each_get (λ (t : Transaction). t.scheme ≡ scheme.Deferred) sc.txns txn.0 declared form.deferred e in
-    let view : reads_master declared ≡ false = each_get (λ (t : Transaction). reads_master t ≡ false) sc.txns txn.0 declared form.view e in
+    let view : reads_master sc declared ≡ false = each_get (λ (t : Transaction). reads_master sc t ≡ false) sc.txns txn.0 declared form.view e in
     let closed = closes_instance sc txn declared place facts h.proofs view e h.fit h.agreed in
     both_true _ _
     (ap (λ (s : Scheme). meets_scheme s sc facts declared committed) deferred
-    ∙ both_true _ _ (ap (is_deferred_demand sc facts declared) h.instances ∙ closed.0) (round_count declared committed.rounds view h.rounds))
+    ∙ both_true _ _ (ap (is_deferred_demand sc facts declared) h.instances ∙ closed.0) (round_count sc declared committed.rounds view h.rounds))
     (ap (list_all (is_trusted_instance sc txn declared place facts)) h.instances ∙ both_true _ true closed.1 refl)
 
 exists_txn : (sc : Scenario) (txn : TxnId) (found : Option Transaction) → slice_get sc.txns txn.0 ≡ found → IsTxn sc txn → (declared : Transaction) × (slice_get sc.txns txn.0 ≡ Some declared)

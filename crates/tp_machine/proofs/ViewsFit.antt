@@ -1,6 +1,6 @@
 -- Trust: what staples, verdicts, records, mails and actors rest on, and that it stays as facts are added.
 use Rattle.std.proofs.Common.{◌≡◌, ℕ, ◌+◌, ◌≤◌, ◌<◌, ◌&&◌, List, [], ◌∷◌, length, map, filter, slice_get, Bool, true, false, cond, not, Option, Some, None, is_some, IfSome, refl, sym, ap, ◌∙◌, arith}
-use Rattle.std.specs.List.{count_by, list_all, list_any, range_with_len, sum_by}
+use Rattle.std.specs.List.{count_by, filter_map, list_all, list_any, range_with_len, sum_by}
 use Rattle.std.specs.Option.{option_map_or}
 use Rattle.std.proofs.lemmas.Bool.Decides.{nat_tests}
 use Rattle.std.proofs.lemmas.List.Sums.{sum_by-cons}
@@ -26,7 +26,7 @@ use Rattle.tp_types.specs.declared.records.Verdict.{Verdict}
 use Rattle.tp_types.specs.declared.scenario.Scenario.{Scenario}
 use Rattle.tp_types.specs.declared.scenario.Transaction.{Transaction}
 use Rattle.tp_model.specs.Authorisation.{is_allowed, is_certified, is_own_query, policy_at, rule_proves, tests_version}
-use Rattle.tp_model.specs.Credentials.{clock_at, is_current, is_presented, is_revocation, ticks, triples_of, was_revoked}
+use Rattle.tp_model.specs.Credentials.{clock_at, is_among, is_presented, is_valid_in, revoked_at, revoked_by, ticks, triples_in}
 use Rattle.tp_model.specs.Facts.{before, is_earlier, is_submission, was_submitted}
 use Rattle.tp_model.specs.Ids.{same_cred}
 use Rattle.tp_model.specs.Policies.{allows}
@@ -50,7 +50,7 @@ use Rattle.tp_machine.proofs.SoundLists.{each_as}
 -- a staple is the authority's answer of its place, which came after the submission
 pub record StapleFits (sc : Scenario) (facts : List Fact) (place : ℕ) (txn : TxnId) (staple : Staple) : Type 0 where
   pub clock_is : staple.clock ≡ clock_at sc staple.place facts
-  pub revoked_is : (cred : CredId) → list_any (same_cred cred) staple.revoked ≡ was_revoked cred staple.place facts
+  pub revoked_is : (cred : CredId) → is_among staple.revoked cred ≡ is_among (revoked_at staple.place facts) cred
   pub begun : was_submitted txn staple.place facts ≡ true
   pub past : staple.place < place
 
@@ -125,7 +125,7 @@ pub record ServerFits (sc : Scenario) (facts : List Fact) (place : ℕ) (s : Ser
 -- the authority's clock and revocations are those of the facts
 pub record AuthorityFits (sc : Scenario) (facts : List Fact) (place : ℕ) (authority : Authority) : Type 0 where
   pub clock_is : authority.clock ≡ clock_at sc place facts
-  pub revoked_is : (cred : CredId) → list_any (same_cred cred) authority.revoked ≡ was_revoked cred place facts
+  pub revoked_is : (cred : CredId) → is_among authority.revoked cred ≡ is_among (revoked_at place facts) cred
 
 -- a round is the first, and the replies that it keeps fit
 pub record RoundFits (sc : Scenario) (facts : List Fact) (place : ℕ) (txn : TxnId) (round : Round) : Type 0 where
@@ -177,11 +177,11 @@ newest_rises sc admin old new low high l =
 
 -- definitions by the list of facts before their place
 abbrev valid_by : Scenario → List Fact → CredId → Bool
-valid_by sc earlier cred = option_map_or (is_current (sc.clock + sum_by ticks earlier)) (slice_get sc.creds cred.0) false && not (list_any (is_revocation cred) earlier)
+valid_by sc earlier cred = is_valid_in sc.creds (sc.clock + sum_by ticks earlier) (filter_map revoked_by earlier) cred
 
 abbrev allowed_by : Scenario → List Fact → Transaction → ℕ → AdminId → Version → Bool
 allowed_by sc earlier txn number admin version =
-    tests_version (λ (asked : Action) (item : List ℕ) (policy : Policy). allows policy asked item (triples_of sc txn.subject (filter (valid_by sc earlier) txn.creds))) sc txn number (policy_at sc admin version)
+    tests_version (λ (asked : Action) (item : List ℕ) (policy : Policy). allows policy asked item (triples_in sc.creds txn.subject (filter (valid_by sc earlier) txn.creds))) sc txn number (policy_at sc admin version)
 
 abbrev certified_by : Scenario → List Fact → Transaction → Verdict → Bool
 certified_by sc earlier txn verdict =
@@ -204,7 +204,7 @@ staple_stays sc old new low high txn staple l h =
     let same : before staple.place new ≡ before staple.place old = l.grows.same staple.place (omega (arith, h.past)) in
     record {
       clock_is = h.clock_is ∙ ap (λ (earlier : List Fact). sc.clock + sum_by ticks earlier) (sym same);
-      revoked_is = λ cred. h.revoked_is cred ∙ ap (list_any (is_revocation cred)) (sym same);
+      revoked_is = λ cred. h.revoked_is cred ∙ ap (λ (earlier : List Fact). is_among (filter_map revoked_by earlier) cred) (sym same);
       begun = submitted_stays old new txn staple.place same h.begun;
       past = omega (arith, h.past, l.le);
     }

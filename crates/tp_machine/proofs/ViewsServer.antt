@@ -29,7 +29,7 @@ use Rattle.tp_types.specs.declared.scenario.Query.{Query}
 use Rattle.tp_types.specs.declared.scenario.Scenario.{Scenario}
 use Rattle.tp_types.specs.declared.scenario.Transaction.{Transaction}
 use Rattle.tp_model.specs.Authorisation.{action_of, allows_held, is_item_at, is_own_query, is_query_at, policy_at, rule_proves, tests_item, tests_query, tests_version, version_in, version_of}
-use Rattle.tp_model.specs.Built.{is_open_policy}
+use Rattle.tp_model.specs.Stage.{is_open_policy}
 use Rattle.tp_model.specs.Credentials.{held}
 use Rattle.tp_model.specs.Queries.{query_at}
 use Rattle.tp_types.specs.declared.mail.Vote.TheVariants as vote
@@ -37,7 +37,7 @@ use Rattle.tp_machine.specs.declared.coord.Phase.{Phase}
 use Rattle.tp_machine.specs.declared.coord.Phase.TheVariants as phase
 use Rattle.tp_machine.specs.declared.server.Entry.{Entry}
 use Rattle.tp_machine.specs.declared.server.Server.{Server}
-use Rattle.tp_machine.specs.Effect.{Effect, silent}
+use Rattle.tp_types.specs.Effect.{Effect, silent}
 use Rattle.tp_machine.specs.Sound.{Each, IsQueryAt, IsSoundBody, IsSoundDeedAt, IsSoundEntry, IsSoundQuery, IsSoundServer, IsSoundVerdict, IsVersion, query_in}
 use Rattle.tp_machine.specs.server.Row.{asked_item, asked_to_vote, begins, entry_at, first_entry, is_open, may_prepare, on_body, on_decide, on_prepare, on_query, plain_write, queried, server_row, settles, verdict_on, votes}
 use Rattle.tp_machine.proofs.AgreeActs.{number_itself}

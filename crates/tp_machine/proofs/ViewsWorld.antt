@@ -1,6 +1,6 @@
 -- Trust over every list of steps: what is kept of a world, and what a step has to leave.
 use Rattle.std.proofs.Common.{◌≡◌, ℕ, ◌+◌, ◌≤◌, ◌<◌, ◌||◌, List, [], ◌∷◌, ◌++◌, length, slice_get, Bool, true, false, Option, Some, None, IfSome, option_and_then, refl, sym, ap, subst, ◌∙◌, arith}
-use Rattle.std.specs.List.{list_any, sum_by}
+use Rattle.std.specs.List.{cons_option, filter_map, sum_by}
 use Rattle.std.proofs.lemmas.List.Sums.{sum_by-append, sum_by-cons}
 use Rattle.tp_types.specs.declared.fact.Fact.{Fact}
 use Rattle.tp_types.specs.declared.fact.What.{What}
@@ -14,7 +14,7 @@ use Rattle.tp_types.specs.declared.records.Decision.{Decision}
 use Rattle.tp_types.specs.declared.records.Decision.TheVariants as decision
 use Rattle.tp_types.specs.declared.scenario.Scenario.{Scenario}
 use Rattle.tp_types.specs.declared.scenario.Step.{Step}
-use Rattle.tp_model.specs.Credentials.{is_revocation, is_revocation_what, ticks, ticks_what}
+use Rattle.tp_model.specs.Credentials.{is_among, revoked_by, revoked_what, ticks, ticks_what}
 use Rattle.tp_model.specs.Facts.{before, is_submission}
 use Rattle.tp_machine.specs.declared.actors.Actors.{Actors}
 use Rattle.tp_machine.specs.declared.coord.Coordinator.{Coordinator}
@@ -24,7 +24,7 @@ use Rattle.tp_machine.specs.declared.server.Server.{Server}
 use Rattle.tp_machine.specs.Machine.{State, Turn, concluded, noted, posted}
 use Rattle.tp_machine.specs.Sound.{Each, EachAt}
 use Rattle.tp_machine.proofs.AgreeWorld.{Agrees, steps_more}
-use Rattle.tp_machine.proofs.FactLemmas.{ArePast, any_append, before_past, grows_noted, noted_past, past_as}
+use Rattle.tp_machine.proofs.FactLemmas.{ArePast, any_append, append_none, before_past, filter_map_append, grows_noted, noted_past, past_as}
 use Rattle.tp_machine.proofs.SoundLists.{each_append, each_as}
 use Rattle.tp_machine.proofs.ViewsFit.{AuthorityFits, BodyFits, Later, MailFits, RecordFits, ServerFits, body_stays, phase_stays, record_stays, server_stays, verdicts_stay}
 use Rattle.tp_machine.proofs.ViewsCoordinator.{CoordinatorFits, DecisionFits}
@@ -182,22 +182,14 @@ no_ticks place (w ∷ happened) h =
     still (what.Ticked by) n = absurd n
     still _ n = refl
 
-no_revocation : (cred : CredId) (place : ℕ) (happened : List What) → Each IsStill happened → list_any (is_revocation cred) (noted place happened) ≡ false
-no_revocation cred place [] h = refl
-no_revocation cred place (w ∷ happened) h =
-    let later : list_any (is_revocation cred) (noted place happened) ≡ false = no_revocation cred place happened h.1 in
-    let here : is_revocation cred (record { place = place; what = w }) ≡ false = still w h.0 in
-    neither _ _ here later
+no_revocation : (place : ℕ) (happened : List What) → Each IsStill happened → filter_map revoked_by (noted place happened) ≡ []
+no_revocation place [] h = refl
+no_revocation place (w ∷ happened) h =
+    ap (λ (found : Option CredId). cons_option found (filter_map revoked_by (noted place happened))) (still w h.0) ∙ no_revocation place happened h.1
   where
-    still : (v : What) → IsStill v → is_revocation_what cred v ≡ false
+    still : (v : What) → IsStill v → revoked_what v ≡ None
     still (what.Revoked other) n = absurd n
     still _ n = refl
-
-    neither : (a b : Bool) → a ≡ false → b ≡ false → (a || b) ≡ false
-    neither a b e f = grind arith
-
-or_false : (a b : Bool) → b ≡ false → a ≡ (a || b)
-or_false a b e = grind arith
 
 -- an authority that stays fits the facts after a turn
 authority_stays : (sc : Scenario) (w : State) (happened : List What) (authority : Authority) → ArePast (length w.steps) w.facts → ArePast (length w.steps + 1) (facts_after w happened) → Each IsStill happened
@@ -213,9 +205,11 @@ authority_stays sc w happened authority past past_now still h =
     record {
       clock_is = h.clock_is ∙ ap (λ (n : ℕ). sc.clock + n) (ap (sum_by ticks) was ∙ (same ∙ ap (sum_by ticks) (sym all)));
       revoked_is = λ cred. h.revoked_is cred
-          ∙ (ap (list_any (is_revocation cred)) was
-          ∙ (or_false (list_any (is_revocation cred) w.facts) (list_any (is_revocation cred) (noted place happened)) (no_revocation cred place happened still)
-          ∙ (sym (any_append (is_revocation cred) w.facts (noted place happened)) ∙ ap (list_any (is_revocation cred)) (sym all))));
+          ∙ (ap (λ (earlier : List Fact). is_among (filter_map revoked_by earlier) cred) was
+          ∙ ap (λ (revoked : List CredId). is_among revoked cred)
+          (sym (filter_map_append revoked_by w.facts (noted place happened)
+          ∙ (ap (λ (more : List CredId). filter_map revoked_by w.facts ++ more) (no_revocation place happened still) ∙ append_none (filter_map revoked_by w.facts)))
+          ∙ ap (filter_map revoked_by) (sym all)));
     }
 
 -- ---- a step

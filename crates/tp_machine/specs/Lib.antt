@@ -1,12 +1,11 @@
 pub mod Acts
-pub mod Effect
 pub mod Flags
 pub mod History
+pub mod Laws
 pub mod Logs
 pub mod Machine
 pub mod Seen
 pub mod Sound
-pub mod Table
 pub mod coord
 pub mod offices
 pub mod server

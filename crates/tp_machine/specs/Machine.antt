@@ -24,7 +24,7 @@ use Rattle.tp_machine.specs.declared.error.StepError.{StepError}
 use Rattle.tp_machine.specs.declared.error.StepError.TheVariants as error
 use Rattle.tp_machine.specs.declared.part.Part.{Part}
 use Rattle.tp_machine.specs.declared.server.Server.{Server}
-use Rattle.tp_machine.specs.Effect.{Effect}
+use Rattle.tp_types.specs.Effect.{Effect}
 use Rattle.tp_machine.specs.coord.Opened as coord
 use Rattle.tp_machine.specs.coord.Row.{coordinator_row, submit_row, placed}
 use Rattle.tp_machine.specs.offices.Authority as office

@@ -4,14 +4,14 @@ use Rattle.tp_types.specs.declared.scenario.Scenario.{Scenario}
 use Rattle.tp_types.specs.declared.scenario.Step.{Step}
 use Rattle.tp_types.specs.declared.scenario.Step.TheVariants as step
 use Rattle.tp_model.specs.Built.{is_built}
-use Rattle.tp_model.specs.TrustedHistory.{TrustedSoFar}
 use Rattle.tp_machine.specs.declared.actors.Actors.{Actors}
 use Rattle.tp_machine.specs.declared.history.History.{History}
 use Rattle.tp_machine.specs.declared.error.StepError.{StepError}
 use Rattle.tp_machine.specs.Acts.{SameUp}
 use Rattle.tp_machine.specs.Flags.{marked}
 use Rattle.tp_machine.specs.Sound.{Each, IsSound, IsStepOf}
-use Rattle.tp_machine.specs.Machine.{State, Machine, after, done, ending_of, opening, refusal}
+use Rattle.tp_machine.specs.Laws.{IsTrustedState}
+use Rattle.tp_machine.specs.Machine.{State, Machine, after, done, opening, refusal}
 
 -- the state of these actors with this history
 abbrev pub state_of : Actors → History → State
@@ -49,8 +49,7 @@ pub record IsWorld (world : Seen) : Type 0 where
 
 -- what a world shows at any moment is a trusted history
 abbrev pub IsTrustedSoFar : Seen → Type 0
-IsTrustedSoFar world =
-    TrustedSoFar world.scenario world.machine.state.steps world.machine.state.facts (ending_of world.scenario world.machine.state).values
+IsTrustedSoFar world = IsTrustedState world.scenario world.machine.state
 
 -- a step of a kind that is built: a submission, or the delivery of a mail
 abbrev pub IsTaken : Step → Type 0

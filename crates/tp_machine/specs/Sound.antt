@@ -60,7 +60,7 @@ use Rattle.tp_types.specs.declared.scenario.Step.{Step}
 use Rattle.tp_types.specs.declared.scenario.Step.TheVariants as step
 use Rattle.tp_types.specs.declared.scenario.Transaction.{Transaction}
 use Rattle.tp_model.specs.Queries.{item_of, query_at}
-use Rattle.tp_machine.specs.Table.{flattened}
+use Rattle.tp_types.specs.Table.{flattened}
 use Rattle.tp_machine.specs.declared.actors.Actors.{Actors}
 use Rattle.tp_machine.specs.declared.coord.Coordinator.{Coordinator}
 use Rattle.tp_machine.specs.declared.coord.Phase.{Phase}

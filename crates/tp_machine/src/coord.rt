@@ -6,12 +6,10 @@ ghost use Rattle.tp_types.specs.declared.ids.ServerId.{ServerId};
 ghost use Rattle.tp_types.specs.declared.records.Verdict.{Verdict};
 ghost use Rattle.tp_machine.specs.declared.coord.Phase.TheVariants as Phase;
 ghost use Rattle.tp_types.specs.declared.mail.Vote.TheVariants as vote;
-ghost use Rattle.tp_machine.specs.Effect.{Gives};
+ghost use Rattle.tp_types.specs.Effect.{Gives};
 ghost use Rattle.tp_machine.specs.coord.Opened as opened;
 ghost use Rattle.tp_machine.specs.coord.Row as row;
 
-use crate::reaction::{nothing, sent_alone};
-use crate::table::none_for_each;
 use std::alloc::Global;
 use std::mem;
 use tp_model::{item_of, query_at, servers_of, written_constant};
@@ -19,7 +17,7 @@ use tp_types::{
     Action, Actor, Answer, AskRequest, Body, CommitRecord, DecideRequest, Decided, Decision, Deed,
     DoneReply, Instance, ItemId, Letter, List, Mail, Met, NoMemory, Outcome, Place, PrepareRequest,
     Query, QueryRequest, Reaction, Record, Scenario, ServerId, Staple, TellReply, TryClone, TxnId,
-    Verdict, Version, Vote, VoteReply,
+    Verdict, Version, Vote, VoteReply, none_for_each, nothing, sent_alone,
 };
 
 /// A server's reply in a round.

@@ -7,12 +7,11 @@ pub mod agree;
 mod coord;
 mod error;
 mod history;
+pub mod laws;
 mod offices;
 mod part;
-mod reaction;
 pub mod serial;
 mod server;
-mod table;
 pub mod views;
 mod world;
 

@@ -1,13 +1,12 @@
 //! The offices: the authority, which tells the clock and the revocations.
 ghost use Rattle.std.specs.Prelude.{◌≡◌, IfOk};
-ghost use Rattle.tp_machine.specs.Effect.{Gives};
+ghost use Rattle.tp_types.specs.Effect.{Gives};
 ghost use Rattle.tp_machine.specs.offices.Authority as office;
 
-use crate::reaction::{nothing, sent_alone};
 use std::alloc::Global;
 use tp_types::{
     Actor, AskRequest, Body, CredId, Letter, List, Mail, NoMemory, Reaction, Scenario, TellReply,
-    TryClone,
+    TryClone, nothing, sent_alone,
 };
 
 /// The authority's state. It never crashes.

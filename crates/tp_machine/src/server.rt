@@ -5,20 +5,18 @@ ghost use Rattle.std.specs.Option.{option_copied};
 ghost use Rattle.tp_types.specs.declared.records.Outcome.TheVariants as Outcome;
 ghost use Rattle.tp_types.specs.declared.scenario.Item.{Item};
 ghost use Rattle.tp_machine.specs.declared.server.Entry.{Entry};
-ghost use Rattle.tp_machine.specs.Effect.{Gives};
-ghost use Rattle.tp_machine.specs.Table.{flattened};
+ghost use Rattle.tp_types.specs.Effect.{Gives};
+ghost use Rattle.tp_types.specs.Table.{flattened};
 ghost use Rattle.tp_machine.specs.server.Row as row;
 ghost use Rattle.tp_machine.specs.server.Opened as opened;
 
-use crate::reaction::{forced_and_sent, nothing, sent_alone};
-use crate::table::{none_for_each, taken};
 use std::alloc::Global;
 use tp_model::{item_of, query_at};
 use tp_types::{
     AckReply, Action, Actor, AdminId, Answer, Body, DecideRequest, Deed, DoneReply, Item, ItemId,
     Letter, List, Mail, NoMemory, Outcome, Place, PrepareRequest, Prepared, QueryRequest, Reaction,
     Record, Scenario, ServerId, Settled, Staple, TryClone, TxnId, Verdict, Version, Vote,
-    VoteReply,
+    VoteReply, forced_and_sent, none_for_each, nothing, sent_alone, taken,
 };
 
 /// What a server voted YES on: the turn of the request, and its verdicts.

@@ -2,7 +2,8 @@
 ghost use Rattle.std.specs.Prelude.{◌≡◌, ◌≢◌, ℕ, ◌==◌, ◌<◌, length, true, false, Some, None, IfOk, IfErr, IfSome, OnOk, OnErr, IsErrOf, IsErr, slice_get};
 ghost use Rattle.std.specs.List.{list_any};
 ghost use Rattle.tp_model.specs.Built as built;
-ghost use Rattle.tp_model.specs.SerialRun.{overlaid};
+ghost use Rattle.tp_model.specs.SerialRun.{overlaid, store_of};
+ghost use Rattle.tp_model.specs.TrustedHistory.{have_ended};
 ghost use Rattle.tp_machine.specs.declared.error.StepError.{StepError};
 ghost use Rattle.tp_machine.specs.Seen.{started, IsReached, IsTaken, IsTold, IsTrustedSoFar, Does, Refuses, GivesUp};
 ghost use Rattle.tp_machine.specs.Machine as machine;
@@ -158,10 +159,11 @@ impl World {
     }
 
     /// How many steps and mails there were, and the value of each item: its opening value, overlaid by the commits that its
-    /// server has settled.
+    /// server has settled. Where every transaction has ended at all its servers these are the values that all commits leave.
     pub fn ending(&self, alloc: Global) -> Result<Ending, NoMemory>
         ensures value { IfOk result (λ ending. ending ≡ machine.ending_of self.now.scenario self.now.machine.state) }
         ensures overlaid { IfOk result (λ ending. ending.values ≡ overlaid self.now.scenario self.now.machine.state.facts) }
+        ensures whole { IfOk result (λ ending. have_ended self.now.scenario self.now.machine.state.facts 0 self.now.scenario.txns ≡ true → ending.values ≡ store_of self.now.scenario self.now.machine.state.facts) }
         ensures given_up { self.now.given_up ≡ true → IsErr result }
     {
         if self.given_up {

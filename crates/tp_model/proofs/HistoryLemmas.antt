@@ -3,7 +3,6 @@ use Rattle.std.proofs.Common.{◌≡◌, ℕ, ◌+◌, ◌≤◌, Bool, true, fa
 use Rattle.std.specs.List.{count_by, sum_by}
 use Rattle.std.proofs.lemmas.List.Sums.{sum_by-cons}
 use Rattle.tp_types.specs.declared.fact.Fact.{Fact}
-use Rattle.tp_model.specs.Credentials.{ticks}
 use Rattle.tp_model.specs.Facts.{before, is_earlier}
 
 one_kept : {A : Type 0} (f : A → ℕ) (x : A) (xs : List A) (b : Bool) → sum_by f (cond b (x ∷ xs) xs) ≡ cond b (f x) 0 + sum_by f xs
@@ -54,11 +53,3 @@ fewer_before test place facts =
     let some = count_before test place facts in
     let all = fewer_pass_both (is_earlier place) test facts in
     omega arith
-
--- by how much a fact moves the clock of a place
-abbrev pub ticks_by : ℕ → Fact → ℕ
-ticks_by place fact = cond (is_earlier place fact) (ticks fact) 0
-
--- the clock sums what each fact moves it by
-pub clock_sums : (place : ℕ) (facts : List Fact) → sum_by ticks (before place facts) ≡ sum_by (ticks_by place) facts
-clock_sums place facts = sum_filter ticks (is_earlier place) facts

@@ -1,9 +1,8 @@
 pub mod BuiltLemmas
-pub mod CauseLemmas
 pub mod ConditionLemmas
-pub mod DemandLemmas
-pub mod HeldLemmas
+pub mod FirstForm
 pub mod HistoryLemmas
-pub mod SerialLemmas
+pub mod RuleLemmas
 pub mod ServersLemmas
+pub mod ValidLemmas
 pub mod WorkLemmas

@@ -1,6 +1,6 @@
 -- Agreement: no two actors decide a transaction differently.
-use Rattle.std.specs.Prelude.{ℕ, ◌==◌, ◌&&◌, List, slice_get, Bool, true, false, not}
-use Rattle.std.specs.List.{count_by, list_all, list_any}
+use Rattle.std.specs.Prelude.{ℕ, ◌+◌, ◌&&◌, List, [], ◌∷◌, slice_get, take, Bool, true, false, not}
+use Rattle.std.specs.List.{list_any}
 use Rattle.std.specs.Option.{option_map_or}
 use Rattle.tp_types.specs.declared.fact.Fact.{Fact}
 use Rattle.tp_types.specs.declared.fact.What.{What}
@@ -13,10 +13,6 @@ use Rattle.tp_types.specs.declared.scenario.Scenario.{Scenario}
 use Rattle.tp_types.specs.declared.scenario.Transaction.{Transaction}
 use Rattle.tp_model.specs.Facts.{before, is_decided_as, is_decision, is_settlement, is_submission, was_submitted}
 use Rattle.tp_model.specs.Queries.{is_at_server}
-
--- one fact and no more
-abbrev pub is_only : (Fact → Bool) → List Fact → Bool
-is_only test facts = count_by test facts == 1
 
 abbrev pub has_item : Scenario → ServerId → Transaction → Bool
 has_item sc at declared = list_any (is_at_server sc at.0) declared.queries
@@ -31,18 +27,24 @@ follows_decision txn place facts outcome.Commit = list_any (is_decided_as txn ou
 follows_decision txn place facts outcome.Abort = not (list_any (is_decided_as txn outcome.Commit) facts)
 
 -- a transaction is submitted at most once, and decided at most once and after that; a server settles it at most once, after its
--- submission, where it has an item there, and as it was decided
-abbrev pub keeps_agreement_what : Scenario → List Fact → ℕ → What → Bool
-keeps_agreement_what sc facts place (what.Submitted txn) = is_only (is_submission txn) facts
-keeps_agreement_what sc facts place (what.Decided txn decided) = is_only (is_decision txn) facts && was_submitted txn place facts
-keeps_agreement_what sc facts place (what.Settled at txn ended) =
-    is_only (is_settlement at txn) facts && (was_submitted txn place facts && has_item_at sc at txn) && follows_decision txn place facts ended
-keeps_agreement_what sc facts place _ = true
+-- submission, where it has an item there, and as it was decided. Of two that may not both be, the second in the list fails: `earlier`
+-- are the facts that stand before this one in the list of all facts
+abbrev pub keeps_agreement_what : Scenario → List Fact → List Fact → ℕ → What → Bool
+keeps_agreement_what sc facts earlier place (what.Submitted txn) = not (list_any (is_submission txn) earlier)
+keeps_agreement_what sc facts earlier place (what.Decided txn decided) = not (list_any (is_decision txn) earlier) && was_submitted txn place facts
+keeps_agreement_what sc facts earlier place (what.Settled at txn ended) =
+    not (list_any (is_settlement at txn) earlier) && (was_submitted txn place facts && has_item_at sc at txn) && follows_decision txn place facts ended
+keeps_agreement_what sc facts earlier place _ = true
 
--- the rule of a fact beside all facts
-abbrev pub keeps_agreement : Scenario → List Fact → Fact → Bool
-keeps_agreement sc facts fact = keeps_agreement_what sc facts fact.place fact.what
+-- the rule of a fact beside all facts, and beside those that stand before it in the list
+abbrev pub keeps_agreement : Scenario → List Fact → List Fact → Fact → Bool
+keeps_agreement sc facts earlier fact = keeps_agreement_what sc facts earlier fact.place fact.what
+
+-- all facts from this number on keep agreement
+abbrev pub agree_from : Scenario → List Fact → ℕ → List Fact → Bool
+agree_from sc facts number [] = true
+agree_from sc facts number (fact ∷ later) = keeps_agreement sc facts (take number facts) fact && agree_from sc facts (number + 1) later
 
 -- every fact keeps agreement
 abbrev pub is_agreed : Scenario → List Fact → Bool
-is_agreed sc facts = list_all (keeps_agreement sc facts) facts
+is_agreed sc facts = agree_from sc facts 0 facts

@@ -18,7 +18,7 @@ use Rattle.tp_types.specs.declared.scenario.Query.{Query}
 use Rattle.tp_types.specs.declared.scenario.Query.TheVariants.{Read, Write}
 use Rattle.tp_types.specs.declared.scenario.Scenario.{Scenario}
 use Rattle.tp_types.specs.declared.scenario.Transaction.{Transaction}
-use Rattle.tp_model.specs.Credentials.{held, is_presented, is_valid, triples_of}
+use Rattle.tp_model.specs.Credentials.{held, is_presented, is_valid, triples_in}
 use Rattle.tp_model.specs.Ids.{same_admin, same_server}
 use Rattle.tp_model.specs.Policies.{allows, holds, matches}
 use Rattle.tp_model.specs.Queries.{item_of, query_at}
@@ -87,7 +87,7 @@ rule_of policy None = None
 rule_of policy (Some number) = rule_in policy number
 
 abbrev pub rule_fits : Scenario → Transaction → List CredId → Action → List ℕ → Rule → Bool
-rule_fits sc txn uses asked item rule = matches asked item rule && holds (triples_of sc txn.subject uses) rule.cond
+rule_fits sc txn uses asked item rule = matches asked item rule && holds (triples_in sc.creds txn.subject uses) rule.cond
 
 abbrev pub rule_proves : Scenario → Transaction → List CredId → Option ℕ → Action → List ℕ → Policy → Bool
 rule_proves sc txn uses rule asked item policy = option_map_or (rule_fits sc txn uses asked item) (rule_of policy rule) false

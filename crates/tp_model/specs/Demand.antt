@@ -31,15 +31,15 @@ is_deferred_demand sc facts txn (instance ∷ []) = is_final_instance sc facts t
 is_deferred_demand sc facts txn _ = false
 
 -- as many rounds as the master may be read in, where it is read; else one, and one more to bring versions together
-abbrev pub most_rounds : Transaction → ℕ
-most_rounds txn = if reads_master txn then txn.rounds else 2
+abbrev pub most_rounds : Scenario → Transaction → ℕ
+most_rounds sc txn = if reads_master sc txn then txn.rounds else 2
 
 -- so many rounds of evaluation at commit are at least one and at most the most
-abbrev pub is_round_count : Transaction → ℕ → Bool
-is_round_count txn rounds = nat_le 1 rounds && nat_le rounds (most_rounds txn)
+abbrev pub is_round_count : Scenario → Transaction → ℕ → Bool
+is_round_count sc txn rounds = nat_le 1 rounds && nat_le rounds (most_rounds sc txn)
 
 abbrev pub meets_scheme : Scheme → Scenario → List Fact → Transaction → CommitRecord → Bool
-meets_scheme scheme.Deferred sc facts txn committed = is_deferred_demand sc facts txn committed.instances && is_round_count txn committed.rounds
+meets_scheme scheme.Deferred sc facts txn committed = is_deferred_demand sc facts txn committed.instances && is_round_count sc txn committed.rounds
 meets_scheme _ sc facts txn committed = false
 
 -- the commit is what the transaction's scheme demands

@@ -1,9 +1,15 @@
--- What level of consistency a transaction asks of an administrator's versions.
-use Rattle.std.specs.Prelude.{Bool, true, false}
+-- What level of consistency a transaction asks of an administrator's versions, and whether it reads the master.
+use Rattle.std.specs.Prelude.{List, slice_get, Bool, true, false}
+use Rattle.std.specs.List.{list_any}
+use Rattle.std.specs.Option.{option_map_or}
 use Rattle.tp_types.specs.declared.ids.AdminId.{AdminId}
+use Rattle.tp_types.specs.declared.scenario.Item.{Item}
 use Rattle.tp_types.specs.declared.scenario.Level.{Level}
 use Rattle.tp_types.specs.declared.scenario.Level.TheVariants.{Global}
+use Rattle.tp_types.specs.declared.scenario.Query.{Query}
+use Rattle.tp_types.specs.declared.scenario.Scenario.{Scenario}
 use Rattle.tp_types.specs.declared.scenario.Transaction.{Transaction}
+use Rattle.tp_model.specs.Queries.{item_of}
 
 abbrev pub is_global : Level → Bool
 is_global Global = true
@@ -13,6 +19,15 @@ is_global _ = false
 abbrev pub level_of : Transaction → AdminId → Level
 level_of txn admin = txn.level
 
--- the transaction reads the newest versions from the master
-abbrev pub reads_master : Transaction → Bool
-reads_master txn = is_global txn.level
+-- the level is global for the administrator of the item
+abbrev pub is_global_item : Transaction → Item → Bool
+is_global_item txn item = is_global (level_of txn item.admin)
+
+-- the query is on an item whose administrator has the level global
+abbrev pub is_global_query : Scenario → Transaction → Query → Bool
+is_global_query sc txn query = option_map_or (is_global_item txn) (slice_get sc.items (item_of query).0) false
+
+-- the transaction reads the newest versions from the master: one of its queries is on an item whose administrator has the level
+-- global for it
+abbrev pub reads_master : Scenario → Transaction → Bool
+reads_master sc txn = list_any (is_global_query sc txn) txn.queries

@@ -1,8 +1,8 @@
 pub mod Agreement
-pub mod Audit
 pub mod Authorisation
 pub mod Built
 pub mod Causes
+pub mod Commits
 pub mod Credentials
 pub mod Demand
 pub mod Facts
@@ -13,6 +13,8 @@ pub mod Outside
 pub mod Policies
 pub mod Queries
 pub mod SerialRun
+pub mod Stage
 pub mod Trust
 pub mod TrustedHistory
+pub mod Valid
 pub mod Versions

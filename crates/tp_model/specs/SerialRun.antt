@@ -1,7 +1,7 @@
 -- Serial data: each commit did what its transaction does by itself on the data of the commits before it.
-use Rattle.std.specs.Prelude.{ℕ, ◌+◌, ◌==◌, ◌&&◌, List, [], ◌∷◌, map, fold, replicate, slice_get, slice_set, Bool, true, false, Option, Some, None, is_some, unwrap_or, ℤ, pos, ◌+ℤ◌, if◌then◌else◌}
+use Rattle.std.specs.Prelude.{ℕ, ◌+◌, ◌==◌, ◌&&◌, List, [], ◌∷◌, map, fold, replicate, slice_get, slice_set, Bool, true, false, Option, Some, None, unwrap_or, ℤ, pos, ◌+ℤ◌, if◌then◌else◌}
 use Rattle.std.specs.Cmp.Lexicographic.{pointwise}
-use Rattle.std.specs.List.{count_by, list_all}
+use Rattle.std.specs.List.{list_all}
 use Rattle.std.specs.Option.{option_map_or}
 use Rattle.std.specs.Ordering.{int_eq}
 use Rattle.tp_types.specs.declared.fact.Fact.{Fact}
@@ -22,7 +22,7 @@ use Rattle.tp_types.specs.declared.scenario.Query.TheVariants.{Read, Write}
 use Rattle.tp_types.specs.declared.scenario.Scenario.{Scenario}
 use Rattle.tp_types.specs.declared.scenario.Term.{Term}
 use Rattle.tp_types.specs.declared.scenario.Transaction.{Transaction}
-use Rattle.tp_model.specs.Facts.{before, commit_of, record_of}
+use Rattle.tp_model.specs.Facts.{before, commit_of}
 use Rattle.tp_model.specs.Ids.{same_item, same_server}
 use Rattle.tp_model.specs.Limits.{is_between}
 use Rattle.tp_model.specs.Policies.{same_action}
@@ -119,32 +119,12 @@ abbrev pub is_serial_commit : Scenario → List ℤ → CommitRecord → Transac
 is_serial_commit sc store committed txn =
     pointwise same_deed committed.deeds (serial_run txn store) && are_in_range sc.items (stored_all store committed.deeds)
 
-abbrev pub ran_alone_what : Scenario → List Fact → ℕ → What → Bool
-ran_alone_what sc facts place (what.Decided txn (decision.Commit committed)) =
-    option_map_or (is_serial_commit sc (store_at sc place facts) committed) (slice_get sc.txns txn.0) false
-ran_alone_what sc facts place _ = true
-
--- a commit did what its transaction does by itself on the data before it
-abbrev pub ran_alone : Scenario → List Fact → Fact → Bool
-ran_alone sc facts fact = ran_alone_what sc facts fact.place fact.what
-
-abbrev pub is_commit_what : What → Bool
-is_commit_what (what.Decided txn decided) = is_some (record_of decided)
-is_commit_what _ = false
-
--- the fact is a commit of the place
-abbrev pub is_commit_at : ℕ → Fact → Bool
-is_commit_at place fact = (fact.place == place) && is_commit_what fact.what
-
--- a commit is the only one of its place, so that one of any two is before the other
-abbrev pub is_lone_what : List Fact → ℕ → What → Bool
-is_lone_what facts place (what.Decided txn (decision.Commit committed)) = count_by (is_commit_at place) facts == 1
-is_lone_what facts place _ = true
-
 abbrev pub keeps_serial_what : Scenario → List Fact → ℕ → What → Bool
-keeps_serial_what sc facts place w = is_lone_what facts place w && ran_alone_what sc facts place w
+keeps_serial_what sc facts place (what.Decided txn (decision.Commit committed)) =
+    option_map_or (is_serial_commit sc (store_at sc place facts) committed) (slice_get sc.txns txn.0) false
+keeps_serial_what sc facts place _ = true
 
--- the rule of a fact beside all facts: a commit is serial
+-- the rule of a fact beside all facts: a commit did what its transaction does by itself on the data of the commits before it
 abbrev pub keeps_serial : Scenario → List Fact → Fact → Bool
 keeps_serial sc facts fact = keeps_serial_what sc facts fact.place fact.what
 

@@ -12,6 +12,7 @@ use Rattle.tp_types.specs.declared.scenario.Step.{Step}
 use Rattle.tp_types.specs.declared.scenario.Transaction.{Transaction}
 use Rattle.tp_model.specs.Agreement.{is_agreed}
 use Rattle.tp_model.specs.Causes.{is_caused}
+use Rattle.tp_model.specs.Commits.{are_lone}
 use Rattle.tp_model.specs.Facts.{is_decided_as, is_settled_as, is_submission}
 use Rattle.tp_model.specs.Outside.{IsOutside}
 use Rattle.tp_model.specs.Queries.{servers_of}
@@ -20,14 +21,15 @@ use Rattle.tp_model.specs.Trust.{is_trusted}
 
 -- ---- at any moment
 
--- the history agrees, its commits are trusted and serial, and its aborts have causes; each item has its opening value, overlaid
--- by the commits that its server has settled
+-- the history agrees, its commits are trusted and serial and stand apart, and its aborts have causes; each item has its opening
+-- value, overlaid by the commits that its server has settled
 pub record TrustedSoFar (sc : Scenario) (steps : List Step) (facts : List Fact) (values : List ℤ) : Type 0 where
   pub outside : IsOutside sc steps facts
   pub agreed : is_agreed sc facts ≡ true
   pub trusted : is_trusted sc facts ≡ true
   pub caused : is_caused sc facts ≡ true
   pub serial : is_serial sc facts ≡ true
+  pub lone : are_lone facts ≡ true
   pub values_are : values ≡ overlaid sc facts
 
 -- ---- at a quiet end

@@ -64,4 +64,4 @@ meets_readings sc txn (Some place) facts proofs = list_all (meets_reading sc txn
 abbrev pub is_consistent : Scenario → Transaction → List Fact → Instance → Bool
 is_consistent sc txn facts instance =
     is_one_version instance.proofs
-    && (if reads_master txn then meets_readings sc txn instance.reading facts instance.proofs else is_none instance.reading)
+    && (if reads_master sc txn then meets_readings sc txn instance.reading facts instance.proofs else is_none instance.reading)

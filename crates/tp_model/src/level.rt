@@ -1,8 +1,16 @@
-//! What level of consistency a transaction asks of an administrator's versions.
+//! What level of consistency a transaction asks of an administrator's versions, and whether it reads the master.
 ghost use Rattle.std.specs.Prelude.{◌≡◌};
 ghost use Rattle.tp_model.specs.Levels as levels;
 
-use tp_types::{AdminId, Level, Transaction};
+use crate::query::item_of;
+use tp_types::{AdminId, Level, Query, Scenario, Transaction};
+
+/// The level is global consistency.
+pub fn is_global(level: Level) -> bool
+    ensures { result ≡ levels.is_global level }
+{
+    matches!(level, Level::Global)
+}
 
 /// The level that a transaction asks for an administrator.
 pub fn level_of(txn: &Transaction, _admin: AdminId) -> Level
@@ -11,9 +19,21 @@ pub fn level_of(txn: &Transaction, _admin: AdminId) -> Level
     txn.level
 }
 
-/// Whether a transaction reads the newest versions from the master.
-pub fn reads_master(txn: &Transaction) -> bool
-    ensures { result ≡ levels.reads_master txn.now }
+fn is_global_query(scenario: &Scenario, txn: &Transaction, query: &Query) -> bool
+    ensures { result ≡ levels.is_global_query scenario.now txn.now query.now }
 {
-    matches!(txn.level, Level::Global)
+    match scenario.items.get(item_of(query).0 as usize) {
+        None => false,
+        Some(item) => is_global(level_of(txn, item.admin)),
+    }
+}
+
+/// Whether a transaction reads the newest versions from the master: one of its queries is on an item whose administrator has the
+/// level global for it.
+pub fn reads_master(scenario: &Scenario, txn: &Transaction) -> bool
+    ensures { result ≡ levels.reads_master scenario.now txn.now }
+{
+    txn.queries
+        .iter()
+        .any(|query| is_global_query(scenario, txn, query))
 }

@@ -1,17 +1,18 @@
 //! The definitions that every layer is judged by, and the plain helpers that compute them.
 #![tactic(auto)]
 
-mod audit;
 mod built;
 mod level;
 mod policy;
 mod query;
+mod stage;
+mod valid;
+mod versions;
 
-pub use audit::{
-    is_agreed, is_caused, is_serial, is_trusted, keeps_agreement, keeps_causes, keeps_serial,
-    keeps_trust, newest_at,
-};
 pub use built::is_built;
-pub use level::{level_of, reads_master};
+pub use level::{is_global, level_of, reads_master};
 pub use policy::{matches, meets, rule_in};
-pub use query::{item_of, only, query_at, servers_of, written_constant};
+pub use query::{has_query_at, item_of, only, query_at, servers_of, written_constant};
+pub use stage::is_stage;
+pub use valid::is_valid;
+pub use versions::{newest_at, publications};

@@ -1,8 +1,8 @@
 //! What a rule of a policy is about, and what satisfies an atom of its condition.
 ghost use Rattle.std.specs.Prelude.{◌≡◌};
 ghost use Rattle.std.specs.Option.{option_copied};
-ghost use Rattle.tp_model.specs.Audit as audit;
 ghost use Rattle.tp_model.specs.Authorisation as authorisation;
+ghost use Rattle.tp_model.specs.Credentials as credentials;
 ghost use Rattle.tp_model.specs.Policies as policies;
 
 use tp_types::{Action, Credential, Name, Op, Pattern, Policy, Rule, Value};
@@ -55,7 +55,7 @@ fn satisfies(op: Op, wanted: &Value, found: &Value) -> bool
 
 /// What the credential says is of the issuer and the attribute, and satisfies the comparison. Whose it is plays no part.
 pub fn meets(credential: &Credential, issuer: &Name, attr: &Name, op: Op, wanted: &Value) -> bool
-    ensures { result ≡ policies.meets issuer.now attr.now op wanted.now (audit.said_by credential.now) }
+    ensures { result ≡ policies.meets issuer.now attr.now op wanted.now (credentials.said_by credential.now) }
 {
     credential.issuer == *issuer
         && credential.attr == *attr

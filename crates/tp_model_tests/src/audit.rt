@@ -1,7 +1,8 @@
 //! Histories over one scenario, by tables, and the whole of a trusted one.
 use std::process::Abort;
 use std::test::Fail;
-use tp_model::{is_agreed, is_caused, is_serial, is_trusted, newest_at};
+use tp_audit::{is_agreed, is_caused, is_serial, is_trusted};
+use tp_model::newest_at;
 use tp_types::{
     Action, Actor, Admin, AdminId, Cause, CommitRecord, Cond, CredId, Credential, Decision, Deed,
     Denied, Died, Fact, Instance, Item, ItemId, Level, List, Name, Newer, Op, Operand, OutOfRange,

@@ -1,7 +1,7 @@
 //! Each way to break agreement, and histories that keep it.
 use crate::audit::{BACK, Case, EVES, NOTHING, PAY, Said, Why, history, scenario};
 use std::test::Fail;
-use tp_model::{is_agreed, keeps_agreement};
+use tp_audit::{is_agreed, keeps_agreement};
 use tp_types::{Actor, Fact, List, Outcome, Scenario};
 
 const CASES: &[Case] = &[
@@ -54,15 +54,16 @@ const CASES: &[Case] = &[
         ],
         None,
     ),
-    // submitted twice, at two places or at one
-    (&[(0, Said::Submit(PAY)), (1, Said::Submit(PAY))], Some(0)),
+    // submitted twice, at two places or at one: the second in the list is blamed
+    (&[(0, Said::Submit(PAY)), (1, Said::Submit(PAY))], Some(1)),
+    (&[(1, Said::Submit(PAY)), (0, Said::Submit(PAY))], Some(1)),
     (
         &[
             (0, Said::Submit(BACK)),
             (1, Said::Submit(PAY)),
             (1, Said::Submit(PAY)),
         ],
-        Some(1),
+        Some(2),
     ),
     // decided twice, so or so
     (
@@ -71,7 +72,7 @@ const CASES: &[Case] = &[
             (4, Said::Commit(PAY, NOTHING)),
             (5, Said::Commit(PAY, NOTHING)),
         ],
-        Some(1),
+        Some(2),
     ),
     (
         &[
@@ -79,7 +80,7 @@ const CASES: &[Case] = &[
             (4, Said::Commit(PAY, NOTHING)),
             (5, Said::Abort(PAY, Why::Halted)),
         ],
-        Some(1),
+        Some(2),
     ),
     // decided before the submission, at its place, or without one
     (
@@ -103,7 +104,7 @@ const CASES: &[Case] = &[
             (6, Said::Settle(0, PAY, Outcome::Commit)),
             (7, Said::Settle(0, PAY, Outcome::Commit)),
         ],
-        Some(2),
+        Some(3),
     ),
     (
         &[
@@ -111,7 +112,7 @@ const CASES: &[Case] = &[
             (5, Said::Settle(0, PAY, Outcome::Abort)),
             (7, Said::Settle(0, PAY, Outcome::Abort)),
         ],
-        Some(1),
+        Some(2),
     ),
     // settled at a server without an item of it, or at none that is declared
     (
@@ -184,7 +185,7 @@ const CASES: &[Case] = &[
         ],
         Some(3),
     ),
-    // a commit is settled of an abort, and an abort beside a commit, which may come later
+    // a commit is settled of an abort; an abort beside a commit, which may come later: the abort is blamed, and not the commit
     (
         &[
             (0, Said::Submit(PAY)),
@@ -214,7 +215,8 @@ const CASES: &[Case] = &[
 /// The first fact that does not keep agreement.
 fn first_breach(scenario: &Scenario, facts: &List<Fact>) -> Option<usize> {
     for (at, fact) in facts.as_slice().iter().enumerate() {
-        if !keeps_agreement(scenario, facts, fact) {
+        let (earlier, _) = facts.as_slice().split_at(at);
+        if !keeps_agreement(scenario, facts, earlier, fact) {
             return Some(at);
         }
     }

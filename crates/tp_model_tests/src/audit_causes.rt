@@ -3,7 +3,7 @@ use crate::audit::{
     BACK, BOBS, Case, EVES, HR, IT, NOTHING, PAY, SURE, Said, Why, history, scenario,
 };
 use std::test::Fail;
-use tp_model::{is_caused, keeps_causes};
+use tp_audit::{is_caused, keeps_causes};
 use tp_types::{Actor, AdminId, Denied, Fact, List, Scenario, ServerId, TxnId, Version};
 
 /// A denial of the first query at s0, under version 1 of HR.

@@ -4,7 +4,7 @@ use crate::audit::{
 };
 use std::process::Abort;
 use std::test::Fail;
-use tp_model::{is_serial, keeps_serial};
+use tp_audit::{are_lone, is_serial, keeps_serial};
 use tp_types::{Action, CommitRecord, Decision, Deed, Fact, ItemId, List, TxnId, What};
 
 /// Commits, each with its place and its transaction, and which of them is the first that is not serial.
@@ -186,11 +186,11 @@ const RUNS: &[Run] = &[
     (&[(4, BACK, WENT_BACK), (5, PAY, PAID_LATER)], None),
     (&[(4, BACK, WENT_BACK), (5, PAY, PAID)], Some(1)),
     (&[(4, PAY, PAID), (5, BACK, WENT_BACK)], None),
-    // two at one place, of which neither is before the other
-    (&[(5, BACK, WENT_BACK), (5, PAY, PAID)], Some(0)),
+    // two at one place, of which neither is before the other: each ran on the data before the place
+    (&[(5, BACK, WENT_BACK), (5, PAY, PAID)], None),
     (
         &[(4, PAY, PAID), (5, BACK, WENT_BACK), (5, PAY, PAID_LATER)],
-        Some(1),
+        Some(2),
     ),
     // what is at a later place is not before it, wherever it stands
     (&[(5, BACK, WENT_BACK), (4, PAY, PAID)], None),
@@ -397,6 +397,25 @@ fn after(rt: &(impl Abort + AllocGlobal), sum: &Sum) -> List<Fact> {
     made.push(decided(rt, 5, txn, deeds))
         .expect(rt, "memory for a list");
     made
+}
+
+/// Commits with their places, and whether no two have one place.
+const APART: &[(&[(u64, u32, &[Deed])], bool)] = &[
+    (&[], true),
+    (&[(5, PAY, PAID)], true),
+    (&[(5, BACK, WENT_BACK), (4, PAY, PAID)], true),
+    (&[(5, BACK, WENT_BACK), (5, PAY, PAID)], false),
+    (
+        &[(5, PAY, PAID), (4, BACK, WENT_BACK), (5, PAY, PAID)],
+        false,
+    ),
+];
+
+#[test]
+fn stand_apart(rt: HostRuntime) {
+    for (at, (done, apart)) in APART.iter().enumerate() {
+        assert_eq!(rt; are_lone(&commits(&rt, done)), *apart, "commits {at}");
+    }
 }
 
 #[test]

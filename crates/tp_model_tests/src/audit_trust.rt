@@ -5,7 +5,7 @@ use crate::audit::{
 };
 use std::process::Abort;
 use std::test::Fail;
-use tp_model::{is_trusted, keeps_trust};
+use tp_audit::{is_trusted, keeps_trust};
 use tp_types::{Fact, List};
 
 /// A commit at 5 of a transaction that was submitted at 0, between other facts, and whether it is trusted.

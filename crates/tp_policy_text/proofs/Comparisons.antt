@@ -7,8 +7,8 @@ use Rattle.tp_types.specs.declared.policy.Op.{Op}
 use Rattle.tp_types.specs.declared.policy.Op.TheVariants as op
 use Rattle.tp_types.specs.declared.policy.Value.{Value}
 use Rattle.tp_types.specs.declared.policy.Value.TheVariants as value
-use Rattle.tp_types.specs.Spelling.{is_letter}
-use Rattle.tp_policy_text.specs.Grammar.{Int, IsAtom, IsCompared, IsInt, IsValue, Named, is_digit, is_number}
+use Rattle.tp_types.specs.Spelling.{is_digit, is_letter, is_number}
+use Rattle.tp_policy_text.specs.Grammar.{Int, IsAtom, IsCompared, IsInt, IsValue, Named}
 use Rattle.tp_policy_text.specs.Lexis.{Token, Word, first}
 use Rattle.tp_policy_text.specs.Readers.{Compared, Head, atom_at, atom_of, begins_int, both, comes, compared_at, head_at, int_at, name_at, sign_at, value_at, with_number, with_op}
 use Rattle.tp_policy_text.specs.Readings.{choice, mapped}

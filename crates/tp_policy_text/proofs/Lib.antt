@@ -1,3 +1,4 @@
+pub mod AnswerLaws
 pub mod Answering
 pub mod Choices
 pub mod Comparisons

@@ -6,8 +6,8 @@ use Rattle.std.proofs.lemmas.Bool.Decides.{nat_tests}
 use Rattle.std.proofs.lemmas.List.{length-append}
 use Rattle.std.proofs.lemmas.List.Folds.{list_all-append}
 use Rattle.std.proofs.lemmas.Option.{same_Some}
-use Rattle.tp_types.specs.Spelling.{is_part}
-use Rattle.tp_policy_text.specs.Grammar.{Int, IsInt, is_digit, is_number, spelled_from}
+use Rattle.tp_types.specs.Spelling.{is_digit, is_number, is_part, spelled_from}
+use Rattle.tp_policy_text.specs.Grammar.{Int, IsInt}
 use Rattle.tp_policy_text.specs.Lexis.{first, in_word}
 use Rattle.tp_policy_text.specs.Readers.{Digits, int_at, int_end, int_of, int_step, is_some_text, takes_digit}
 use Rattle.tp_policy_text.specs.Readings.{ended, machine, read}

@@ -8,7 +8,8 @@ use Rattle.std.proofs.lemmas.Bool.Decides.{nat_tests}
 use Rattle.std.proofs.lemmas.Fmt.{decimal_digit, decimal_nonempty, digits_decimal, digits_value-decimal, first_decimal, length-decimal-le}
 use Rattle.std.proofs.lemmas.Int.Digits.{digits_value-lt}
 use Rattle.std.proofs.lemmas.Str.Parse.{IsNumeralModel, numerals_by_fold}
-use Rattle.tp_policy_text.specs.Grammar.{IsInt, is_digit, is_number, spelled_from}
+use Rattle.tp_types.specs.Spelling.{is_digit, is_number, spelled_from}
+use Rattle.tp_policy_text.specs.Grammar.{IsInt}
 use Rattle.tp_policy_text.specs.Lexis.{is_blank}
 use Rattle.tp_policy_text.specs.Printed.{distance}
 use Rattle.tp_policy_text.proofs.Names.{both_true, less_of, of_less}

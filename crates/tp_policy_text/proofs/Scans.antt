@@ -13,8 +13,7 @@ use Rattle.tp_policy_text.specs.declared.halt.Stop.{Stop}
 use Rattle.tp_policy_text.specs.declared.reader.Claim.{Claim}
 use Rattle.tp_types.specs.declared.policy.Pattern.{Pattern}
 use Rattle.tp_types.specs.declared.policy.Pattern.TheVariants as pattern
-use Rattle.tp_types.specs.Spelling.{IsName, is_letter, is_part}
-use Rattle.tp_policy_text.specs.Grammar.{is_digit}
+use Rattle.tp_types.specs.Spelling.{IsName, is_digit, is_letter, is_part}
 use Rattle.tp_policy_text.specs.Lexis.{first, skip}
 use Rattle.tp_policy_text.specs.Readers.{Digits, Head, atom_at, atom_of, compared_at, Starred, attr_step, comes, issuer_step, unstarred, goes_on, head_at, same_text, head_of, int_at, name_at, starred_at, head_end, head_step, int_end, int_step, is_some_text, name_end, name_step, starred_end, starred_step, takes_digit}
 use Rattle.tp_policy_text.specs.Readings.{Reader, Reading, carried, ended, go_on, machine, mapped, pick, read, seq, taken}

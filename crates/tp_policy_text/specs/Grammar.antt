@@ -14,24 +14,10 @@ use Rattle.tp_types.specs.declared.policy.Policy.{Policy}
 use Rattle.tp_types.specs.declared.policy.Rule.{Rule}
 use Rattle.tp_types.specs.declared.policy.Value.{Value}
 use Rattle.tp_types.specs.declared.policy.Value.TheVariants as value
-use Rattle.tp_types.specs.Spelling.{IsName}
+use Rattle.tp_types.specs.Spelling.{IsName, is_number, spelled_from}
 use Rattle.tp_policy_text.specs.Lexis.{Sign, Word, skip, count}
 
 -- ---- numbers
-
-abbrev pub is_digit : ℕ → Bool
-is_digit byte = nat_le 48 byte && nat_le byte 57
-
--- the number that digits spell, after one that stands before them
-abbrev pub spelled_from : ℕ → List ℕ → ℕ
-spelled_from number [] = number
-spelled_from number (digit ∷ digits) = spelled_from (number * 10 + (digit - 48)) digits
-
--- one to fifteen digits, of which the first is 0 only where it is the only one
-abbrev pub is_number : List ℕ → Bool
-is_number [] = false
-is_number (digit ∷ []) = is_digit digit
-is_number (digit ∷ other ∷ digits) = is_digit digit && nat_lt 48 digit && list_all is_digit (other ∷ digits) && nat_lt (length digits) 14
 
 -- a number, or a `-` and a number that is not 0
 pub record IsNatural (text : List ℕ) (z : ℤ) : Type 0 where

@@ -45,3 +45,11 @@ abbrev pub refused : Stop → ℕ → ParseError
 refused stop.Deep place = refusal.TooDeep place
 refused stop.Syntax place = refusal.Syntax place
 refused stop.Spent place = refusal.TooLong
+
+-- every text has an answer
+abbrev pub HasAnswer : Type 0
+HasAnswer = (text : List ℕ) → (answer : Result Policy ParseError) × Answers text answer
+
+-- and no text has two
+abbrev pub HasOneAnswer : Type 0
+HasOneAnswer = (text : List ℕ) (one other : Result Policy ParseError) → Answers text one → Answers text other → one ≡ other

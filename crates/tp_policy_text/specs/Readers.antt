@@ -12,12 +12,12 @@ use Rattle.tp_types.specs.declared.policy.Pattern.TheVariants as pattern
 use Rattle.tp_types.specs.declared.policy.Rule.{Rule}
 use Rattle.tp_types.specs.declared.policy.Value.{Value}
 use Rattle.tp_types.specs.declared.policy.Value.TheVariants as value
-use Rattle.tp_types.specs.Spelling.{is_letter, is_part}
+use Rattle.tp_types.specs.Spelling.{is_digit, is_letter, is_part, spelled_from}
 use Rattle.tp_types.specs.declared.policy.Policy.{Policy}
 use Rattle.tp_policy_text.specs.declared.halt.Stop.{Stop}
 use Rattle.tp_policy_text.specs.declared.production.Permitted.{Permitted}
 use Rattle.tp_policy_text.specs.declared.halt.Stop.TheVariants as stop
-use Rattle.tp_policy_text.specs.Grammar.{and_of, is_digit, or_of, spelled_from}
+use Rattle.tp_policy_text.specs.Grammar.{and_of, or_of}
 use Rattle.tp_policy_text.specs.Lexis.{in_word, skip}
 use Rattle.tp_policy_text.specs.Readings.{Reader, choice, is_open, link, machine, mapped, stopped, unopened, Reading, read}
 

@@ -4,9 +4,8 @@ use Rattle.tp_types.specs.declared.policy.Cond.{Cond}
 use Rattle.tp_types.specs.declared.policy.Cond.TheVariants as cond
 use Rattle.tp_types.specs.declared.policy.Pattern.{Pattern}
 use Rattle.tp_types.specs.declared.policy.Pattern.TheVariants as pattern
-use Rattle.tp_types.specs.Spelling.{is_letter, is_part}
+use Rattle.tp_types.specs.Spelling.{is_digit, is_letter, is_part}
 use Rattle.tp_policy_text.specs.declared.reader.Claim.{Claim}
-use Rattle.tp_policy_text.specs.Grammar.{is_digit}
 use Rattle.tp_policy_text.specs.Lexis.{first, in_word, skip}
 use Rattle.tp_policy_text.specs.Readers.{Compared, Head, comes, head_of, int_end, is_some_text}
 use Rattle.tp_policy_text.specs.Readings.{Reader, ended, read}

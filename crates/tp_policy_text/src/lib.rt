@@ -10,7 +10,7 @@ mod reader;
 mod rereading;
 mod scan;
 
-pub use parsing::{DEPTH_MAX, ParseError, TEXT_MAX, parse};
+pub use parsing::{DEPTH_MAX, ParseError, TEXT_MAX, parse, texts_have_one_answer};
 pub use printable::can_be_printed;
 pub use printer::{print, printed_is_exact};
 pub use rereading::print_and_parse;

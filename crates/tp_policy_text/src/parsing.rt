@@ -2,7 +2,7 @@
 ghost use Rattle.std.specs.Prelude.{◌≡◌, ◌≢◌, ◌⊎◌, ◌≤◌, ◌<◌, length, Result, Err, IfOk};
 ghost use Rattle.tp_types.specs.declared.policy.Policy.{Policy};
 ghost use Rattle.tp_policy_text.specs.Parses as parses;
-ghost use Rattle.tp_policy_text.specs.Parses.{Answers, IsOutOfMemory};
+ghost use Rattle.tp_policy_text.specs.Parses.{Answers, HasAnswer, HasOneAnswer, IsOutOfMemory};
 ghost use Rattle.tp_policy_text.specs.Printed.{IsOfGrammar};
 
 use crate::halt::{Halt, Stop};
@@ -70,3 +70,10 @@ pub fn parse(alloc: Global, text: &[u8]) -> Result<Policy, ParseError>
         Err(Halt::Stopped(stop)) => Err(refused(stop, text.len() - reader.rest.len())),
     }
 }
+
+/// Every text has an answer, and one alone: it says one policy within the limits, or is too long, or stops or goes too deep at one
+/// place. This holds of the definition, whatever memory there is.
+pub fn texts_have_one_answer()
+    ensures some { HasAnswer }
+    ensures alone { HasOneAnswer }
+{}

@@ -2,7 +2,6 @@
 ghost use Rattle.std.specs.Prelude.{◌≡◌, ◌^◌, ◌≤◌, ◌<◌, length, pos, true};
 ghost use Rattle.std.specs.List.{list_all};
 ghost use Rattle.tp_types.specs.Spelling as spelling;
-ghost use Rattle.tp_policy_text.specs.Grammar as grammar;
 ghost use Rattle.tp_policy_text.specs.Lexis as lexis;
 ghost use Rattle.tp_policy_text.specs.Scans as scans;
 
@@ -26,7 +25,7 @@ fn is_letter(byte: u8) -> bool
 }
 
 pub(crate) fn is_digit(byte: u8) -> bool
-    ensures { result ≡ grammar.is_digit byte }
+    ensures { result ≡ spelling.is_digit byte }
 {
     b'0' <= byte && byte <= b'9'
 }
@@ -113,8 +112,8 @@ pub(crate) fn digit_reach(negative: bool, text: &[u8]) -> usize
 
 fn value_of(digits: &[u8]) -> u64
     requires short { length digits.now ≤ 15 }
-    requires are_digits { list_all grammar.is_digit digits.now ≡ true }
-    ensures value { result ≡ grammar.spelled_from 0 digits.now }
+    requires are_digits { list_all spelling.is_digit digits.now ≡ true }
+    ensures value { result ≡ spelling.spelled_from 0 digits.now }
     ensures small { result < 10 ^ 15 }
 {
     let mut value: u64 = 0;
@@ -127,9 +126,9 @@ fn value_of(digits: &[u8]) -> u64
 /// The number that at most 15 digits spell.
 pub(crate) fn number_of(digits: &[u8]) -> i64
     requires short { length digits.now ≤ 15 }
-    requires are_digits { list_all grammar.is_digit digits.now ≡ true }
-    ensures value { result ≡ pos (grammar.spelled_from 0 digits.now) }
-    ensures small { grammar.spelled_from 0 digits.now < 10 ^ 15 }
+    requires are_digits { list_all spelling.is_digit digits.now ≡ true }
+    ensures value { result ≡ pos (spelling.spelled_from 0 digits.now) }
+    ensures small { spelling.spelled_from 0 digits.now < 10 ^ 15 }
 {
     value_of(digits) as i64
 }

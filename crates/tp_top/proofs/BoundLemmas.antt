@@ -3,8 +3,16 @@ use Rattle.std.proofs.Common.{◌≡◌, ℕ, ◌+◌, ◌*◌, ◌≤◌, max, 
 use Rattle.std.proofs.lemmas.Nat.{mul-le}
 use Rattle.tp_types.specs.declared.scenario.Scenario.{Scenario}
 use Rattle.tp_model.specs.Built.{is_built}
+use Rattle.tp_model.proofs.RuleLemmas.{few_servers, few_txns, valid_built}
 use Rattle.tp_model.proofs.WorkLemmas.{txn_built}
 use Rattle.tp_top.specs.Auto.{most_queries, most_rounds}
+
+-- a built scenario has few transactions and few servers
+pub few_txns_built : (sc : Scenario) → is_built sc ≡ true → length sc.txns ≤ 128
+few_txns_built sc h = few_txns sc (valid_built sc h)
+
+pub few_servers_built : (sc : Scenario) → is_built sc ≡ true → length sc.servers ≤ 16
+few_servers_built sc h = few_servers sc (valid_built sc h)
 
 -- a built scenario's transaction has one query
 pub most_queries_built : (sc : Scenario) → is_built sc ≡ true → most_queries sc.txns ≡ 1

@@ -21,7 +21,9 @@ use Rattle.tp_types.specs.declared.scenario.ServerDecl.{ServerDecl}
 use Rattle.tp_types.specs.declared.scenario.Step.{Step}
 use Rattle.tp_types.specs.declared.scenario.Term.{Term}
 use Rattle.tp_types.specs.declared.scenario.Transaction.{Transaction}
-use Rattle.tp_model.specs.Built.{is_built, is_built_item, is_built_query, is_built_server, is_built_term, is_built_txn, is_constant, is_deferred, is_empty, is_view}
+use Rattle.tp_model.specs.Built.{is_built}
+use Rattle.tp_model.specs.Stage.{is_deferred, is_empty, is_view}
+use Rattle.tp_model.proofs.FirstForm.{form_built, is_first_constant, is_first_item, is_first_query, is_first_server, is_first_term, is_first_txn}
 use Rattle.tp_model.specs.Limits.{is_between}
 use Rattle.tp_model.specs.Queries.{signed, term_value}
 use Rattle.tp_machine.proofs.SoundBuilt.{HasForm, IsOnly, has_form, number_is, single_is}
@@ -111,7 +113,7 @@ record HasDefaults (sc : Scenario) : Type 0 where
 
 has_defaults : (sc : Scenario) → is_built sc ≡ true → HasDefaults sc
 has_defaults sc e =
-    let plain = and_parts _ _ (and_parts _ _ e).1 in
+    let plain = and_parts _ _ (and_parts _ _ (form_built sc e)).1 in
     let front = and_parts _ _ plain.0 in
     let officers = and_parts _ _ plain.1 in
     let publishers = and_parts _ _ officers.0 in
@@ -131,7 +133,7 @@ first_version n = record { 0 = n }
 abbrev first_item : ℕ → ItemId
 first_item n = record { 0 = n }
 
-server_is : (server : ServerDecl) → is_built_server server ≡ true → server ≡ record { name = server.name; knows = record { 0 = 1 } ∷ []; items = record { 0 = 0 } ∷ [] }
+server_is : (server : ServerDecl) → is_first_server server ≡ true → server ≡ record { name = server.name; knows = record { 0 = 1 } ∷ []; items = record { 0 = 0 } ∷ [] }
 server_is server e =
     let parts = and_parts _ _ e in
     let knows : IsOnly (λ (version : Version). version.0 == 1) server.knows = single_is (λ (version : Version). version.0 == 1) server.knows parts.0 in
@@ -143,7 +145,7 @@ server_is server e =
     server_with : List ℕ → List Version → List ItemId → ServerDecl
     server_with name knows items = record { name = name; knows = knows; items = items }
 
-item_is : (item : Item) → is_built_item item ≡ true
+item_is : (item : Item) → is_first_item item ≡ true
     → item ≡ record { name = item.name; server = record { 0 = 0 }; admin = record { 0 = 0 }; min = item.min; max = item.max; value = item.value }
 item_is item e =
     let ids = and_parts _ _ (and_parts _ _ e).0 in
@@ -160,7 +162,7 @@ record IsWrite (item : Item) (asked : Query) : Type 0 where
   pub in_range : is_between item.min item.max (signed minus constant) ≡ true
 
 term_is : (item : Item) (minus : Bool) (operand : Operand) (id : ItemId) (expr : List Term) → id.0 ≡ 0 → expr ≡ record { minus = minus; operand = operand } ∷ []
-    → is_constant operand ≡ true → is_between item.min item.max (term_value (record { minus = minus; operand = operand })) ≡ true → IsWrite item (Write id expr)
+    → is_first_constant operand ≡ true → is_between item.min item.max (term_value (record { minus = minus; operand = operand })) ≡ true → IsWrite item (Write id expr)
 term_is item minus (Constant c) id expr zero shape constant within =
     record {
       minus = minus;
@@ -170,11 +172,11 @@ term_is item minus (Constant c) id expr zero shape constant within =
     }
 term_is item minus (Register r) id expr zero shape constant within = absurd (cc)
 
-write_is : (item : Item) (asked : Query) → is_built_query item asked ≡ true → IsWrite item asked
+write_is : (item : Item) (asked : Query) → is_first_query item asked ≡ true → IsWrite item asked
 write_is item (Read id into) e = absurd (cc)
 write_is item (Write id expr) e =
     let parts = and_parts _ _ e in
-    let one : IsOnly (is_built_term item) expr = single_is (is_built_term item) expr parts.1 in
+    let one : IsOnly (is_first_term item) expr = single_is (is_first_term item) expr parts.1 in
     let term = and_parts _ _ one.passes in
     term_is item one.member.minus one.member.operand id expr (number_is id.0 0 parts.0) one.is_list term.0 term.1
 
@@ -194,14 +196,14 @@ record IsOneWrite (item : Item) (txn : Transaction) : Type 0 where
   pub is_write : IsWrite item write
   pub shape : txn ≡ record { name = txn.name; subject = txn.subject; scheme = scheme.Deferred; level = View; rounds = 8; creds = []; queries = write ∷ [] }
 
-txn_is : (server : ServerDecl) (item : Item) (txn : Transaction) → is_built_txn server item txn ≡ true → IsOneWrite item txn
+txn_is : (server : ServerDecl) (item : Item) (txn : Transaction) → is_first_txn server item txn ≡ true → IsOneWrite item txn
 txn_is server item txn e =
     let halves = and_parts _ _ e in
     let level = and_parts _ _ halves.0 in
     let kind = and_parts _ _ level.0 in
     let work = and_parts _ _ halves.1 in
     let limits = and_parts _ _ work.0 in
-    let one : IsOnly (is_built_query item) txn.queries = single_is (is_built_query item) txn.queries work.1 in
+    let one : IsOnly (is_first_query item) txn.queries = single_is (is_first_query item) txn.queries work.1 in
     record {
       write = one.member;
       is_write = write_is item one.member one.passes;

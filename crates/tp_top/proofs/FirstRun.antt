@@ -17,7 +17,7 @@ use Rattle.tp_model.specs.TrustedHistory.{have_ended}
 use Rattle.tp_machine.specs.declared.part.Part.{Part}
 use Rattle.tp_machine.specs.declared.server.Entry.{Entry}
 use Rattle.tp_machine.specs.declared.server.Server.{Server}
-use Rattle.tp_machine.specs.Effect.{Effect, silent}
+use Rattle.tp_types.specs.Effect.{Effect, silent}
 use Rattle.tp_machine.specs.Machine.{Machine, acts_by, after_steps, concluded, opening, server_acted, server_fact, with_new, without_number}
 use Rattle.tp_machine.specs.server.Opened as server
 use Rattle.tp_machine.specs.server.Row.{entry_at, may_prepare, votes}

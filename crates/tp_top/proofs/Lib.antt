@@ -2,7 +2,6 @@ pub mod AutoLemmas
 pub mod BoundLemmas
 pub mod FirstForm
 pub mod FirstRun
-pub mod Numbers
 pub mod Objects
 pub mod RunLemmas
 pub mod TopLemmas

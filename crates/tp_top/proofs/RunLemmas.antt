@@ -1,11 +1,11 @@
 -- What the run of a built scenario gives: no steps are listed, so the automatic ones begin at the opening world.
-use Rattle.std.proofs.Common.{◌≡◌, ℕ, zero, suc, ◌≤◌, List, [], ◌∷◌, length, Bool, true, Option, Some, None, sym, ap, ◌∙◌, arith}
+use Rattle.std.proofs.Common.{◌≡◌, ℕ, zero, suc, ◌≤◌, List, [], ◌∷◌, length, Bool, true, Option, Some, None, sym, ap, subst, ◌∙◌, arith}
 use Rattle.std.specs.Option.{option_map_or}
 use Rattle.tp_types.specs.declared.scenario.Scenario.{Scenario}
 use Rattle.tp_types.specs.declared.scenario.Step.{Step}
 use Rattle.tp_model.specs.Built.{is_built}
 use Rattle.tp_model.proofs.BuiltLemmas.{steps_built}
-use Rattle.tp_machine.specs.Machine.{Machine, after, after_step, after_steps, ending_of, opening}
+use Rattle.tp_machine.specs.Machine.{Machine, State, after, after_step, after_steps, ending_of, opening}
 use Rattle.tp_machine.specs.Seen.{Seen, started}
 use Rattle.tp_top.proofs.TrustedRun.{trusted_run}
 use Rattle.tp_top.proofs.Walks.{reads_built}
@@ -62,6 +62,13 @@ text_final sc old new budget text built old_is budget_is drains same e =
     ∙ (ap (λ (x : Scenario). report_text x new.machine.state.facts (ending_of x new.machine.state)) (same ∙ ap (λ (w : Seen). w.scenario) old_is)
     ∙ ap (λ (m : Machine). report_text sc m.state.facts (ending_of sc m.state)) (drained_final sc old new budget built old_is budget_is drains))
 
+-- what holds of the drained world holds of the last state of the run
+pub state_final : (P : Scenario → State → Type 0) (sc : Scenario) (old new : Seen) (budget : ℕ) → is_built sc ≡ true → old ≡ started sc → budget ≡ bound sc 0
+    → Drains old new budget → new.scenario ≡ old.scenario → P new.scenario new.machine.state → P sc (final sc).state
+state_final P sc old new budget built old_is budget_is drains same h =
+    subst (λ (m : Machine). P sc m.state) (drained_final sc old new budget built old_is budget_is drains)
+    (subst (λ (x : Scenario). P x new.machine.state) (same ∙ ap (λ (w : Seen). w.scenario) old_is) h)
+
 length-next : (sc : Scenario) (left cursor : ℕ) (m : Machine) (next : Option Step)
     → ((taken : Step) → length (automatic_from sc left cursor (after_step sc m taken)) ≤ left)
     → length (option_map_or (λ (taken : Step). taken ∷ automatic_from sc left cursor (after_step sc m taken)) next []) ≤ suc left
@@ -83,10 +90,10 @@ answers_reported old new faults faults' bytes sc (answer.Report text) taken read
       scenario = sc;
       taken = taken;
       reads = reads;
-      quiet = h.0;
+      quiet = h.quiet;
       within = length-automatic_from sc (automatic_bound sc) 0 (listed sc);
-      trusted = trusted_run sc (reads_built bytes sc reads);
-      text_is = h.1;
+      trusted = trusted_run sc (reads_built bytes sc reads) h.so_far h.whole;
+      text_is = h.text_is;
     }
 answers_reported old new faults faults' bytes sc answer.Budget taken reads h =
     record { bytes = bytes; scenario = sc; taken = taken; reads = reads; restless = h.0; used_up = h.1 }

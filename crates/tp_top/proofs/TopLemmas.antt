@@ -1,12 +1,12 @@
 -- Each cause in a told input has its status.
-use Rattle.std.proofs.Common.{◌≡◌, inl, inr, ℕ, ◌+◌, ◌<◌, List, ◌++◌, length, true, false, Option, Some, None, refl, sym, ap, subst, ◌∙◌, arith, codes}
+use Rattle.std.proofs.Common.{◌≡◌, inl, inr, ℕ, ◌+◌, ◌<◌, List, [], ◌++◌, length, true, false, Option, Some, None, refl, sym, ap, subst, ◌∙◌, arith, codes}
 use Rattle.std.proofs.lemmas.List.{length-append, append-nil}
 use Rattle.std.specs.Prelude.{IfSome}
-use Rattle.std.specs.Io.KnownBytes.{Appends}
+use Rattle.std.specs.Io.KnownBytes.{Appends, Consumes}
 use Rattle.serde_json.specs.Data.{Data}
 use Rattle.serde_json.specs.Read.{read}
 use Rattle.tp_types.specs.declared.scenario.Scenario.{Scenario}
-use Rattle.tp_io.specs.Whole.{TakesExactly, input_max}
+use Rattle.tp_io.specs.Whole.{TakesAtMost, TakesExactly, input_max}
 use Rattle.tp_top.specs.declared.scenario.from_json.ScenarioError.{ScenarioError}
 use Rattle.tp_top.specs.declared.scenario.from_json.ScenarioError.TheVariants as error
 use Rattle.tp_top.specs.declared.status.Status.{Status}
@@ -16,6 +16,14 @@ use Rattle.tp_top.specs.Reads.{Reads, IsNoJson, IsNotBuilt}
 use Rattle.tp_top.specs.Refusals.{refusal_line}
 use Rattle.tp_top.specs.Run.{IsRefusedFor, RunsOut, RunsTo, TakesAll, final}
 use Rattle.tp_top.specs.Top.{EndsRightly}
+
+nothing_consumed : (left : Option (List ℕ)) → Consumes left left []
+nothing_consumed None = tt
+nothing_consumed (Some bytes) = refl
+
+-- where nothing is read nothing is taken
+pub none_taken : (left : Option (List ℕ)) → TakesAtMost (input_max + 1) left left
+none_taken left = record { bytes = []; consumed = nothing_consumed left; limit = omega arith }
 
 -- what was taken whole of a told input is the input
 whole_input : (input : List ℕ) (new : Option (List ℕ)) (bytes : List ℕ) → TakesAll (Some input) new bytes → bytes ≡ input

@@ -10,20 +10,16 @@ use Rattle.tp_types.specs.declared.scenario.Scenario.{Scenario}
 use Rattle.tp_types.specs.declared.scenario.Step.{Step}
 use Rattle.tp_types.specs.declared.scenario.Step.TheVariants as step
 use Rattle.tp_model.specs.Built.{is_built}
-use Rattle.tp_model.specs.Outside.{IsOutside}
-use Rattle.tp_model.specs.TrustedHistory.{TrustedHistory, have_ended}
+use Rattle.tp_model.specs.TrustedHistory.{TrustedHistory, TrustedSoFar, have_ended}
 use Rattle.tp_model.proofs.BuiltLemmas.{steps_built}
 use Rattle.tp_machine.specs.declared.error.StepError.{StepError}
 use Rattle.tp_machine.specs.declared.error.StepError.TheVariants as error
+use Rattle.tp_machine.specs.Laws.{HasAllCommits, IsTrustedState}
 use Rattle.tp_machine.specs.Machine.{Machine, State, Turn, after, after_step, after_steps, concluded, delivered, done, ending_of, idles, is_submitted, opening, posted, refusal, submitted, with_new, without_number}
 use Rattle.tp_machine.specs.Seen.{IsTaken}
 use Rattle.tp_machine.specs.Sound.{Each, IsStepOf, IsTxn}
-use Rattle.tp_machine.proofs.AgreeEnd.{facts_agreed}
 use Rattle.tp_machine.proofs.MachineLemmas.{steps_done}
-use Rattle.tp_machine.proofs.Runs.{Holds, holds_after}
-use Rattle.tp_machine.proofs.SerialEnd.{serial_facts, serial_values, values_at_end}
 use Rattle.tp_machine.proofs.SoundLists.{each_append, each_as, each_filter, each_map}
-use Rattle.tp_machine.proofs.ViewsEnd.{facts_caused, facts_trusted}
 use Rattle.tp_top.specs.Auto.{automatic_from, lowest_unsubmitted, next_by, next_of, txns_of}
 use Rattle.tp_top.specs.Run.{all_steps, automatic, automatic_bound, final, listed}
 use Rattle.tp_top.proofs.AutoLemmas.{after_done, automatic-none, automatic-some}
@@ -169,24 +165,18 @@ all_done sc built =
     ap (λ (steps : List Step). steps ++ automatic sc) (steps_built sc built) ∙ ap (λ (m : Machine). automatic_from sc (automatic_bound sc) 0 m) (listed_built sc built) in
     subst (AreDone sc (opening sc)) (sym same) own
 
--- the run of a built scenario leaves a trusted history
-pub trusted_run : (sc : Scenario) → is_built sc ≡ true → TrustedHistory sc (all_steps sc) (final sc).state.facts (ending_of sc (final sc).state)
-trusted_run sc built =
-    let done_all : AreDone sc (opening sc) (all_steps sc) = all_done sc built in
-    let w = (after sc (all_steps sc)).state in
-    let h : Holds sc w = holds_after sc (all_steps sc) built done_all.exist in
-    let ended : have_ended sc w.facts 0 sc.txns ≡ true = ap (λ (m : Machine). have_ended sc m.state.facts 0 sc.txns) (sym (final_after sc)) ∙ first_run_ends sc built in
-    let made : TrustedHistory sc (all_steps sc) w.facts (ending_of sc w) = record {
-      so_far = record {
-        outside = subst (λ (steps : List Step). IsOutside sc steps w.facts) done_all.steps_are h.outside;
-        agreed = facts_agreed sc w h.agrees;
-        trusted = facts_trusted sc w built h.sound h.trusts;
-        caused = facts_caused sc w h.trusts;
-        serial = serial_facts sc w h.lone h.serial;
-        values_are = serial_values sc w built h.sound h.agrees h.serial;
-      };
+steps_of : (sc : Scenario) → is_built sc ≡ true → (final sc).state.steps ≡ all_steps sc
+steps_of sc built = ap (λ (m : Machine). m.state.steps) (final_after sc) ∙ (all_done sc built).steps_are
+
+-- the run of a built scenario leaves a trusted history, where its last state is trusted
+pub trusted_run : (sc : Scenario) → is_built sc ≡ true → IsTrustedState sc (final sc).state → HasAllCommits sc (final sc).state
+    → TrustedHistory sc (all_steps sc) (final sc).state.facts (ending_of sc (final sc).state)
+trusted_run sc built so_far whole =
+    let w = (final sc).state in
+    let ended : have_ended sc w.facts 0 sc.txns ≡ true = first_run_ends sc built in
+    record {
+      so_far = subst (λ (steps : List Step). TrustedSoFar sc steps w.facts (ending_of sc w).values) (steps_of sc built) so_far;
       ended = ended;
-      values_are = serial_values sc w built h.sound h.agrees h.serial ∙ values_at_end sc w built h.agrees h.serial ended;
-      steps_are = ap length done_all.steps_are;
-    } in
-    subst (λ (m : Machine). TrustedHistory sc (all_steps sc) m.state.facts (ending_of sc m.state)) (sym (final_after sc)) made
+      values_are = whole ended;
+      steps_are = ap length (steps_of sc built);
+    }

@@ -1,7 +1,6 @@
 pub mod Auto
 pub mod Chain
 pub mod Gives
-pub mod Numerals
 pub mod QueryText
 pub mod Reads
 pub mod Refusals

@@ -5,7 +5,7 @@ use Rattle.tp_types.specs.declared.scenario.Term.{Term}
 use Rattle.tp_types.specs.declared.scenario.Operand.TheVariants.{Constant}
 use Rattle.tp_top.specs.declared.scenario.query.Assignment.{Assignment}
 use Rattle.tp_top.specs.Chain.{◌>>=◌}
-use Rattle.tp_top.specs.Numerals.{number_of}
+use Rattle.tp_types.specs.Spelling.{number_of}
 
 abbrev pub is_same : List ℕ → List ℕ → Bool
 is_same xs ys = pointwise ◌==◌ xs ys

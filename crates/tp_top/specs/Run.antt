@@ -7,6 +7,7 @@ use Rattle.tp_types.specs.declared.scenario.Step.{Step}
 use Rattle.tp_io.specs.Faults.{Rose}
 use Rattle.tp_io.specs.Whole.{TakesAtMost, TakesExactly, input_max}
 use Rattle.tp_model.specs.TrustedHistory.{TrustedHistory}
+use Rattle.tp_machine.specs.Laws.{HasAllCommits, IsTrustedState}
 use Rattle.tp_machine.specs.Machine.{Machine, after, after_steps, ending_of}
 use Rattle.tp_top.specs.declared.answer.Answer.{Answer}
 use Rattle.tp_top.specs.declared.answer.Answer.TheVariants as answer
@@ -97,9 +98,15 @@ Answers old new faults faults' answer.ReadFault = Rose faults faults' × TakesAt
 Answers old new faults faults' answer.Budget = RunsOut old new
 Answers old new faults faults' answer.NoMemory = Unit {0}
 
--- what comes of a scenario's run: its report, or no end within the bound
+-- what comes of a scenario's run: its report, with what holds of its history, or no end within the bound
+pub record IsRunTo (sc : Scenario) (text : List ℕ) : Type 0 where
+  pub quiet : is_quiet sc (final sc) ≡ true
+  pub so_far : IsTrustedState sc (final sc).state
+  pub whole : HasAllCommits sc (final sc).state
+  pub text_is : text ≡ report_of sc
+
 abbrev pub IsRunOf : Scenario → Option Text → Type 0
-IsRunOf sc (Some text) = (is_quiet sc (final sc) ≡ true) × (text.0 ≡ report_of sc)
+IsRunOf sc (Some text) = IsRunTo sc text.0
 IsRunOf sc None = (is_quiet sc (final sc) ≡ false) × (length (automatic sc) ≡ automatic_bound sc)
 
 -- the same, as an answer

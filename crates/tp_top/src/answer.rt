@@ -1,6 +1,13 @@
 //! The answer to the word `run`, made whole before anything is written.
-ghost use Rattle.std.specs.Prelude.{◌≡◌, ◌++◌, true, IfOk, codes};
+ghost use Rattle.std.specs.Prelude.{◌≡◌, ◌+◌, ◌++◌, true, false, IfOk, OnOk, codes};
+ghost use Rattle.tp_model.specs.Agreement.{is_agreed};
 ghost use Rattle.tp_model.specs.Built as built;
+ghost use Rattle.tp_model.specs.Causes.{is_caused};
+ghost use Rattle.tp_model.specs.Commits.{are_lone};
+ghost use Rattle.tp_model.specs.SerialRun.{is_serial};
+ghost use Rattle.tp_model.specs.Trust.{is_trusted};
+ghost use Rattle.tp_io.specs.Whole.{TakesAtMost, input_max};
+ghost use Rattle.tp_machine.specs.Laws.{HasAllCommits, IsTrustedState};
 ghost use Rattle.tp_machine.specs.Machine.{ending_of};
 ghost use Rattle.tp_top.specs.Refusals as refusals;
 ghost use Rattle.tp_top.specs.ReportText.{report_text};
@@ -12,7 +19,10 @@ use crate::scenario::{ScenarioError, read};
 use std::alloc::Global;
 use tp_io::{ReadError, Source, read_to_end};
 use tp_machine::World;
-use tp_types::{List, NoMemory, Scenario, Text};
+use tp_machine::agree::agreed;
+use tp_machine::serial::serial;
+use tp_machine::views::trusted;
+use tp_types::{Fact, List, NoMemory, Scenario, Text};
 
 /// What comes of an input.
 #[derive(Drop)]
@@ -32,6 +42,7 @@ pub enum Answer {
 /// Reads an input to its end and runs its scenario.
 pub fn answer_to<I: Source>(alloc: Global, input: &mut I) -> Answer
     ensures cause { Answers (I.left input.old) (I.left input.new) (I.faults input.old) (I.faults input.new) result }
+    ensures taken { TakesAtMost (input_max + 1) (I.left input.old) (I.left input.new) }
 {
     match read_to_end(alloc, input) {
         Err(ReadError::TooLong) => Answer::Refused(ScenarioError::TooLong),
@@ -71,12 +82,30 @@ fn run(alloc: Global, scenario: &Scenario) -> Result<Option<Text>, NoMemory>
     }
 }
 
-/// The report of a world.
+/// The facts of a world, with what is promised of each: they agree, commits are trusted, serial and apart, and aborts have causes.
+fn proved_facts(world: &World) -> &List<Fact>
+    ensures value { result.now ≡ world.now.machine.state.facts }
+    ensures agreement { is_agreed world.now.scenario result.now ≡ true }
+    ensures trust { is_trusted world.now.scenario result.now ≡ true }
+    ensures causes { is_caused world.now.scenario result.now ≡ true }
+    ensures data { is_serial world.now.scenario result.now ≡ true }
+    ensures lone { are_lone result.now ≡ true }
+    ensures so_far { world.now.given_up ≡ false → IsTrustedState world.now.scenario world.now.machine.state }
+{
+    let _so_far = world.facts();
+    let _trusted = trusted(world);
+    let _serial = serial(world);
+    agreed(world)
+}
+
+/// The report of a world, of whose history all that holds at this moment is told.
 fn text_of(alloc: Global, world: &World) -> Result<Text, NoMemory>
-    ensures { IfOk result (λ text. text.0 ≡ report_text world.now.scenario world.now.machine.state.facts (ending_of world.now.scenario world.now.machine.state)) }
+    ensures text { IfOk result (λ text. text.0 ≡ report_text world.now.scenario world.now.machine.state.facts (ending_of world.now.scenario world.now.machine.state)) }
+    ensures so_far { OnOk result (IsTrustedState world.now.scenario world.now.machine.state) }
+    ensures whole { OnOk result (HasAllCommits world.now.scenario world.now.machine.state) }
 {
     let ending = world.ending(alloc)?;
-    print(alloc, world.scenario(), world.facts(), &ending)
+    print(alloc, world.scenario(), proved_facts(world), &ending)
 }
 
 /// The line that says why a scenario was refused.

@@ -23,6 +23,7 @@ pub enum Drained {
 }
 
 /// The lowest transaction that is not submitted.
+#[tactic(auto, using(crate::proofs::BoundLemmas::few_txns_built))]
 fn lowest_unsubmitted(world: &World) -> Option<TxnId>
     ensures value { result ≡ lowest_unsubmitted world.now.scenario world.now.machine.state.actors }
     ensures unsubmitted { IfSome result (λ txn. is_submitted world.now.machine.state.actors txn ≡ false) }
@@ -107,7 +108,7 @@ fn bound_by(txns: u64, queries: u64, rounds: u64, servers: u64, undelivered: u64
 }
 
 /// How many automatic steps a run allows from a world with so many undelivered mails on.
-#[tactic(auto, using(crate::proofs::BoundLemmas::most_queries_built, crate::proofs::BoundLemmas::most_rounds_built))]
+#[tactic(auto, using(crate::proofs::BoundLemmas::few_servers_built, crate::proofs::BoundLemmas::few_txns_built, crate::proofs::BoundLemmas::most_queries_built, crate::proofs::BoundLemmas::most_rounds_built))]
 pub fn bound(scenario: &Scenario, undelivered: u64) -> u64
     requires built { built.is_built scenario.now ≡ true }
     requires few { undelivered < 2 ^ 32 }

@@ -1,7 +1,8 @@
 //! The top call of the program.
-ghost use Rattle.std.specs.Prelude.{◌≡◌, ◌≢◌, ◌⊎◌, ◌↔◌, [], IsTrue, IfOk, IfSome};
+ghost use Rattle.std.specs.Prelude.{◌≡◌, ◌+◌, ◌≢◌, ◌⊎◌, ◌↔◌, [], IsTrue, IfOk, IfSome};
 ghost use Rattle.std.specs.Io.KnownBytes.{Appends};
 ghost use Rattle.tp_io.specs.Faults.{Rose};
+ghost use Rattle.tp_io.specs.Whole.{TakesAtMost, input_max};
 ghost use Rattle.tp_top.specs.declared.status.Status.TheVariants as Status;
 ghost use Rattle.tp_top.specs.Refusals.{usage_line};
 ghost use Rattle.tp_top.specs.Run.{IsRun, IsRefusedFor, RunsTo};
@@ -48,7 +49,8 @@ pub fn tpvc<I: Source, O: Sink, N: Sink>(
         → ¬ (Rose (O.faults out.old) (O.faults out.new)) → ¬ (Rose (N.faults notes.old) (N.faults notes.new))
         → IfSome (I.left input.old) (λ bytes. EndsRightly bytes result (N.written notes.old) (N.written notes.new)) }
 
-    // Where the words are another command nothing is read.
+    // At every status at most one byte more than an input may have is read, and where the words are another command none is.
+    ensures taken { TakesAtMost (input_max + 1) (I.left input.old) (I.left input.new) }
     ensures unread { ¬ (IsRun words.now) → input.new ≡ input.old }
 {
     if !is_run(words) {

@@ -6,9 +6,12 @@ mod ids;
 mod list;
 mod mail;
 mod name;
+mod number;
 mod policy;
+mod reaction;
 mod records;
 mod scenario;
+mod table;
 
 pub use fact::{Ending, Fact, What};
 pub use ids::{AdminId, CredId, ItemId, Place, ServerId, TxnId, Version};
@@ -19,7 +22,9 @@ pub use mail::{
     ValidateRequest, VerdictsReply, Vote, VoteReply,
 };
 pub use name::{Name, Text};
+pub use number::number_of;
 pub use policy::{Action, Cond, Op, Pattern, Policy, Rule, Value};
+pub use reaction::{forced_and_sent, nothing, sent_alone};
 pub use records::{
     Cause, CommitRecord, Decided, Decision, Deed, Denied, Died, Instance, Met, Newer, No,
     OutOfRange, Outcome, Prepared, Reading, Record, Settled, Staple, Told, Verdict,
@@ -28,3 +33,4 @@ pub use scenario::{
     Actor, Admin, Credential, Cut, Item, Level, Operand, Query, Scenario, Scheme, ServerDecl, Step,
     Term, Transaction,
 };
+pub use table::{none_for_each, taken};

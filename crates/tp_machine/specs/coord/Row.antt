@@ -31,14 +31,14 @@ use Rattle.tp_types.specs.declared.mail.TellReply.{TellReply}
 use Rattle.tp_types.specs.declared.mail.Vote.{Vote}
 use Rattle.tp_types.specs.declared.mail.Vote.TheVariants as vote
 use Rattle.tp_types.specs.declared.mail.VoteReply.{VoteReply}
-use Rattle.tp_model.specs.Built.{is_empty}
+use Rattle.tp_model.specs.Stage.{is_empty}
 use Rattle.tp_model.specs.Queries.{item_of, query_at, written_constant}
 use Rattle.tp_machine.specs.declared.coord.Coordinator.{Coordinator}
 use Rattle.tp_machine.specs.declared.coord.Phase.{Phase}
 use Rattle.tp_machine.specs.declared.coord.Phase.TheVariants as phase
 use Rattle.tp_machine.specs.declared.coord.Round.{Round}
-use Rattle.tp_machine.specs.Effect.{Effect, silent, sends, logs}
-use Rattle.tp_machine.specs.Table.{flattened}
+use Rattle.tp_types.specs.Effect.{Effect, silent, sends, logs}
+use Rattle.tp_types.specs.Table.{flattened}
 
 -- the turn of the next request; at the greatest number it stays
 abbrev pub next_turn : Coordinator → ℕ

@@ -7,7 +7,7 @@ use Rattle.tp_types.specs.declared.mail.Mail.{Mail}
 use Rattle.tp_types.specs.declared.scenario.Actor.TheVariants as actor
 use Rattle.tp_types.specs.declared.scenario.Scenario.{Scenario}
 use Rattle.tp_machine.specs.declared.offices.Authority.{Authority}
-use Rattle.tp_machine.specs.Effect.{Effect, silent, sends}
+use Rattle.tp_types.specs.Effect.{Effect, silent, sends}
 
 -- the authority as it stands before the first step
 abbrev pub opened : Scenario → Authority

@@ -31,11 +31,11 @@ use Rattle.tp_types.specs.declared.mail.Vote.TheVariants as vote
 use Rattle.tp_machine.specs.declared.server.Entry.{Entry}
 use Rattle.tp_machine.specs.declared.server.Server.{Server}
 use Rattle.tp_types.specs.declared.policy.Action.{Action}
-use Rattle.tp_model.specs.Built.{is_empty}
+use Rattle.tp_model.specs.Stage.{is_empty}
 use Rattle.tp_model.specs.Limits.{is_between}
 use Rattle.tp_model.specs.Queries.{item_of, query_at}
-use Rattle.tp_machine.specs.Table.{is_unset, flattened}
-use Rattle.tp_machine.specs.Effect.{Effect, silent, sends, logs}
+use Rattle.tp_types.specs.Table.{is_unset, flattened}
+use Rattle.tp_types.specs.Effect.{Effect, silent, sends, logs}
 
 -- a transaction of the scenario that the server has not settled
 abbrev pub is_open : Server → TxnId → Bool

@@ -1,13 +1,9 @@
 //! The text of a query: words between spaces.
-ghost use Rattle.std.specs.Prelude.{◌≡◌, ◌^◌, ◌<◌, ◌≤◌, length, pos, option_map, position, IsTrue, IfSome};
-ghost use Rattle.tp_top.specs.Numerals as numerals;
+ghost use Rattle.std.specs.Prelude.{◌≡◌, ◌<◌, ◌≤◌, length, option_map, position, IfSome};
 ghost use Rattle.tp_top.specs.QueryText as text;
 ghost use Rattle.tp_top.specs.QueryText.{parts_of};
 
-use tp_types::{Operand, Term};
-
-/// The most digits of a number.
-const DIGITS_MAX: usize = 15;
+use tp_types::{Operand, Term, number_of};
 
 /// A query that writes one constant.
 #[derive(Clone, Copy)]
@@ -17,51 +13,6 @@ pub(crate) struct Assignment<'a> {
     pub term: Term,
 }
 
-fn is_digit(byte: u8) -> bool
-    ensures { result ≡ numerals.is_digit byte }
-{
-    b'0' <= byte && byte <= b'9'
-}
-
-fn has_number_length(digits: &[u8]) -> bool
-    ensures value { result ≡ numerals.has_number_length digits.now }
-    ensures short { IsTrue result → length digits.now ≤ 15 }
-{
-    match digits.split_first() {
-        None => false,
-        Some((first, others)) => {
-            (others.is_empty() || *first != b'0') && others.len() < DIGITS_MAX
-        }
-    }
-}
-
-fn value_of(digits: &[u8]) -> Option<u64>
-    requires { length digits.now ≤ 15 }
-    ensures value { result ≡ numerals.value_after 0 digits.now }
-    ensures small { IfSome result (λ value. value < 10 ^ 15) }
-{
-    let mut value: u64 = 0;
-    for digit in digits {
-        if !is_digit(*digit) {
-            return None;
-        }
-        value = value * 10 + u64::from(*digit - b'0');
-    }
-    Some(value)
-}
-
-/// The number that the bytes spell: `0`, or 1 to 15 digits of which the first is not `0`.
-#[tactic(auto, unfolding(crate::specs::Numerals::number_of))]
-fn number_of(digits: &[u8]) -> Option<i64>
-    ensures { result ≡ option_map pos (numerals.number_of digits.now) }
-{
-    if !has_number_length(digits) {
-        return None;
-    }
-    let value = value_of(digits)?;
-    Some(value as i64)
-}
-
 #[tactic(auto, unfolding(crate::specs::QueryText::constant))]
 fn constant(minus: bool, digits: &[u8]) -> Option<Term>
     ensures { result ≡ text.constant minus digits.now }
@@ -69,7 +20,7 @@ fn constant(minus: bool, digits: &[u8]) -> Option<Term>
     let number = number_of(digits)?;
     Some(Term {
         minus,
-        operand: Operand::Constant(number),
+        operand: Operand::Constant(number as i64),
     })
 }
 

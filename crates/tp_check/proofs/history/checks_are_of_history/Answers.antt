@@ -1,8 +1,5 @@
-use Rattle.tp_check.proofs.HistoryLemmas.{at_each_place, certified_there, held_there, valid_there}
+use Rattle.tp_check.proofs.HistoryLemmas.{certified_there, held_there, valid_there}
 use Rattle.tp_check.proofs.history.checks_are_of_history.Goals as goal
-
-pub returns-clause-places : goal.returns-clause-places
-returns-clause-places c = at_each_place
 
 pub returns-clause-valid : goal.returns-clause-valid
 returns-clause-valid c = valid_there

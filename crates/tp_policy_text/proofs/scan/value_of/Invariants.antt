@@ -1,6 +1,6 @@
 use Rattle.std.proofs.Common.{◌≡◌, ◌^◌, ◌<◌, ◌≤◌, length, drop, true}
 use Rattle.std.specs.List.{list_all}
-use Rattle.tp_policy_text.specs.Grammar.{is_digit, spelled_from}
+use Rattle.tp_types.specs.Spelling.{is_digit, spelled_from}
 use Rattle.tp_policy_text.proofs.scan.value_of.Given as goal
 
 abbrev pub invariant-loop-digit : goal.invariant-loop-digit

@@ -27,3 +27,26 @@ returns-in-Ok-write_all-clause-complete g c = λ _ _ _ _. report_complete _ _ _ 
 
 pub returns-in-Budget-clause-complete : goal.returns-in-Budget-clause-complete
 returns-in-Budget-clause-complete g c = λ _ _ _ _. budget_complete _ _ _ _ c.in-Budget.ensures.cause
+
+pub returns-in-Ok-write_all-clause-done : goal.returns-in-Ok-write_all-clause-done
+returns-in-Ok-write_all-clause-done g c = λ _. record {
+  words_are = search rules;
+  report = record {
+    text = c.in-Report.text.0;
+    runs = c.in-Report.ensures.cause;
+    written = rw c.as_slice.ensures at c.in-Ok-write_all.ensures.whole;
+  };
+  notes_kept = Appends-nil _;
+}
+
+pub returns-in-Report-clause-write_fault : goal.returns-in-Report-clause-write_fault
+returns-in-Report-clause-write_fault g c = λ _. inl (record {
+  words_are = search rules;
+  report = record {
+    text = c.in-Report.text.0;
+    runs = c.in-Report.ensures.cause;
+    front = rw c.as_slice.ensures at c.in-Err-write_all.ensures.front;
+    rose = c.in-Err-write_all.ensures.cause;
+  };
+  notes_kept = Appends-nil _;
+})

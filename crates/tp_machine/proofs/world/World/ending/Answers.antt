@@ -1,8 +1,9 @@
-use Rattle.std.proofs.Common.{◌≡◌, ap, subst, ◌∙◌}
-use Rattle.tp_model.specs.SerialRun.{overlaid}
+use Rattle.std.proofs.Common.{◌≡◌, List, ℤ, true, ap, subst, ◌∙◌}
+use Rattle.tp_model.specs.SerialRun.{overlaid, store_of}
+use Rattle.tp_model.specs.TrustedHistory.{have_ended}
 use Rattle.tp_machine.specs.Machine.{Machine, item_values}
 use Rattle.tp_machine.specs.Seen.{Seen, state_of}
-use Rattle.tp_machine.proofs.Runs.{overlaid_after}
+use Rattle.tp_machine.proofs.Runs.{so_far_after, whole_after}
 use Rattle.tp_machine.proofs.world.World.ending.Goals as goal
 
 pub returns-clause-overlaid : goal.returns-clause-overlaid
@@ -12,4 +13,13 @@ returns-clause-overlaid c =
     subst (λ (w : Seen). c.in_ok-values.field-0 ≡ overlaid w.scenario w.machine.state.facts) c.self.view_is
     (c.in_ok-values.ensures
     ∙ (ap (item_values c.self.inside.actors.servers 0) c.as_slice.ensures
-    ∙ overlaid_after sc state.steps state c.self.invariant.built c.self.invariant.named (ap (λ (m : Machine). m.state) (c.self.invariant.reached c.if-self.false))))
+    ∙ (so_far_after sc state.steps state c.self.invariant.built c.self.invariant.named (ap (λ (m : Machine). m.state) (c.self.invariant.reached c.if-self.false))).values_are))
+
+pub returns-clause-whole : goal.returns-clause-whole
+returns-clause-whole c =
+    let sc = c.self.inside.scenario in
+    let state = state_of c.self.inside.actors c.self.inside.history in
+    subst (λ (w : Seen). have_ended w.scenario w.machine.state.facts 0 w.scenario.txns ≡ true → c.in_ok-values.field-0 ≡ store_of w.scenario w.machine.state.facts) c.self.view_is
+    (λ ended. c.in_ok-values.ensures
+    ∙ (ap (item_values c.self.inside.actors.servers 0) c.as_slice.ensures
+    ∙ whole_after sc state.steps state c.self.invariant.built c.self.invariant.named (ap (λ (m : Machine). m.state) (c.self.invariant.reached c.if-self.false)) ended))

@@ -11,5 +11,5 @@ returns-clause-named c = subst (λ (w : Seen). Each (IsStepOf w.scenario) w.mach
 pub returns-clause-so_far : goal.returns-clause-so_far
 returns-clause-so_far c =
     subst (λ (w : Seen). w.given_up ≡ false → IsTrustedSoFar w) c.self.view_is
-    (λ up. so_far_after c.self.inside.scenario (state_of c.self.inside.actors c.self.inside.history) c.self.invariant.built c.self.invariant.named
+    (λ up. so_far_after c.self.inside.scenario (state_of c.self.inside.actors c.self.inside.history).steps (state_of c.self.inside.actors c.self.inside.history) c.self.invariant.built c.self.invariant.named
     (ap (λ (m : Machine). m.state) (c.self.invariant.reached up)))

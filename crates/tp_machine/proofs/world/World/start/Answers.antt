@@ -1,3 +1,5 @@
+use Rattle.std.proofs.Common.{arith}
+use Rattle.tp_model.proofs.RuleLemmas.{few_servers, few_txns, valid_built}
 use Rattle.tp_machine.proofs.WorldLemmas.{machine_opened, world_started}
 use Rattle.tp_machine.proofs.world.World.start.Goals as goal
 
@@ -7,3 +9,9 @@ invariant_of-result c =
     let history = c.new.ensures in
     world_started sc _ _ c.requires c.in_ok-try_clone.ensures
     (machine_opened sc c.in_ok-actors.actors c.new.result c.in_ok-actors.ensures history.steps history.facts history.mails history.pending)
+
+pub opened-requires-clause-servers : goal.opened-requires-clause-servers
+opened-requires-clause-servers c = let few = few_servers c.args.scenario.now (valid_built c.args.scenario.now c.requires) in omega (arith, few)
+
+pub opened-requires-clause-txns : goal.opened-requires-clause-txns
+opened-requires-clause-txns c = let few = few_txns c.args.scenario.now (valid_built c.args.scenario.now c.requires) in omega (arith, few)

@@ -1,0 +1,92 @@
+-- A test of what is held is a test of the credentials.
+use Rattle.std.proofs.Common.{◌≡◌, Bool, true, false, ◌&&◌, ◌||◌, cond, List, [], ◌∷◌, filter, Option, Some, None, slice_get, refl, ap, sym, ◌∙◌}
+use Rattle.std.proofs.lemmas.Bool.{and_parts}
+use Rattle.std.specs.List.{cons_option, filter_map, list_all, list_any}
+use Rattle.std.specs.Option.{option_map_or}
+use Rattle.tp_types.specs.declared.fact.Fact.{Fact}
+use Rattle.tp_types.specs.declared.ids.CredId.{CredId}
+use Rattle.tp_types.specs.declared.records.Verdict.{Verdict}
+use Rattle.tp_types.specs.declared.scenario.Credential.{Credential}
+use Rattle.tp_types.specs.declared.scenario.Scenario.{Scenario}
+use Rattle.tp_types.specs.declared.scenario.Transaction.{Transaction}
+use Rattle.tp_audit.specs.declared.credentials.Held.{Held}
+use Rattle.tp_audit.specs.mirrors.Programs.{held_by, is_proved, says, shows}
+use Rattle.tp_model.specs.Authorisation.{is_certified, is_usable, policy_at, rule_proves, tests_version}
+use Rattle.tp_model.specs.Credentials.{is_presented, is_valid, said_by, said_in, triple_of}
+use Rattle.tp_model.specs.Ids.{same_name}
+use Rattle.tp_model.specs.Policies.{Triple}
+
+and_true : (b : Bool) → (b && true) ≡ b
+and_true true = refl
+and_true false = refl
+
+and_false : (b : Bool) → (b && false) ≡ false
+and_false true = refl
+and_false false = refl
+
+one_shown : {B : Type 0} (test : B → Bool) (shown : Option B) (ys : List B) → list_any test (cons_option shown ys) ≡ ((option_map_or test shown false && true) || list_any test ys)
+one_shown test None ys = refl
+one_shown test (Some y) ys = rw (and_true (test y)) refl
+
+one_kept : {A B : Type 0} (test : B → Bool) (shown : A → Option B) (x : A) (xs : List A) (b : Bool)
+    → list_any test (filter_map shown (cond b (x ∷ xs) xs)) ≡ ((option_map_or test (shown x) false && b) || list_any test (filter_map shown xs))
+one_kept test shown x xs true = one_shown test (shown x) (filter_map shown xs)
+one_kept test shown x xs false = rw (and_false (option_map_or test (shown x) false)) refl
+
+-- what is shown passes a test where a member shows it
+pub any_shown : {A B : Type 0} (test : B → Bool) (shown : A → Option B) (xs : List A) → list_any test (filter_map shown xs) ≡ list_any (λ x. option_map_or test (shown x) false) xs
+any_shown test shown [] = refl
+any_shown test shown (x ∷ xs) =
+    one_shown test (shown x) (filter_map shown xs)
+    ∙ (ap (λ b. b || list_any test (filter_map shown xs)) (and_true (option_map_or test (shown x) false))
+    ∙ ap (λ b. option_map_or test (shown x) false || b) (any_shown test shown xs))
+
+-- what is shown by those that are kept passes a test where a member is kept and passes
+any_kept : {A B : Type 0} (test : B → Bool) (shown : A → Option B) (keeps passes : A → Bool)
+    → ((x : A) → option_map_or test (shown x) false ≡ passes x) → (xs : List A)
+    → list_any test (filter_map shown (filter keeps xs)) ≡ list_any (λ x. passes x && keeps x) xs
+any_kept test shown keeps passes same [] = refl
+any_kept test shown keeps passes same (x ∷ xs) =
+    one_kept test shown x (filter keeps xs) (keeps x)
+    ∙ ap (λ b. (option_map_or test (shown x) false && keeps x) || b) (any_kept test shown keeps passes same xs)
+    ∙ ap (λ b. (b && keeps x) || list_any (λ y. passes y && keeps y) xs) (same x)
+
+said : (test : Triple → Bool) (triple : Triple) (b : Bool) → option_map_or test (cond b (Some triple) None) false ≡ (b && test triple)
+said test triple true = refl
+said test triple false = refl
+
+said_at : (test : Triple → Bool) (held : Held) (found : Option Credential)
+    → option_map_or test (option_map_or (triple_of held.subject.now) found None) false ≡ option_map_or (says test held) found false
+said_at test held None = refl
+said_at test held (Some credential) = said test (said_by credential) (same_name credential.subject held.subject.now)
+
+-- what is held passes a test where a credential shows it
+pub any_held : (test : Triple → Bool) (held : Held) → list_any test (held_by held) ≡ list_any (shows test held) held.creds.now
+any_held test held =
+    any_kept test (said_in held.scenario.now.creds held.subject.now) (is_valid held.scenario.now held.place held.facts.now)
+    (λ cred. option_map_or (says test held) (slice_get held.scenario.now.creds cred.0) false)
+    (λ cred. said_at test held (slice_get held.scenario.now.creds cred.0))
+    held.creds.now
+
+filter_all : {A : Type 0} (also keeps : A → Bool) (xs : List A) → list_all (λ x. also x && keeps x) xs ≡ true → filter keeps xs ≡ xs
+filter_all also keeps [] h = refl
+filter_all also keeps (x ∷ xs) h =
+    let parts = and_parts (also x && keeps x) (list_all (λ y. also y && keeps y) xs) h in
+    let kept = (and_parts (also x) (keeps x) parts.0).1 in
+    rw kept (ap (λ ys. x ∷ ys) (filter_all also keeps xs parts.1))
+
+-- where all credentials are usable, leaving out those that are not valid leaves out none
+certified_where : (sc : Scenario) (facts : List Fact) (txn : Transaction) (verdict : Verdict) (usable : Bool)
+    → list_all (is_usable sc verdict.place facts txn) verdict.uses ≡ usable
+    → (usable && is_proved sc facts txn verdict)
+    ≡ (tests_version (rule_proves sc txn verdict.uses verdict.rule) sc txn verdict.query (policy_at sc verdict.admin verdict.version) && usable)
+certified_where sc facts txn verdict true h =
+    let same = filter_all (is_presented txn) (is_valid sc verdict.place facts) verdict.uses h in
+    let proves : List CredId → Bool = λ creds. tests_version (rule_proves sc txn creds verdict.rule) sc txn verdict.query (policy_at sc verdict.admin verdict.version) in
+    ap proves same ∙ sym (and_true (proves verdict.uses))
+certified_where sc facts txn verdict false h = sym (and_false _)
+
+pub certified_by_valid : (sc : Scenario) (facts : List Fact) (txn : Transaction) (verdict : Verdict)
+    → (list_all (is_usable sc verdict.place facts txn) verdict.uses && is_proved sc facts txn verdict) ≡ is_certified sc facts txn verdict
+certified_by_valid sc facts txn verdict =
+    certified_where sc facts txn verdict (list_all (is_usable sc verdict.place facts txn) verdict.uses) refl

@@ -1,0 +1,5 @@
+mod CauseLemmas
+mod ClockLemmas
+mod DemandLemmas
+mod HeldLemmas
+mod SerialLemmas

@@ -1,0 +1,12 @@
+use Rattle.std.proofs.Common.{◌≡◌, length}
+use Rattle.tp_model.specs.Demand.{is_over}
+use Rattle.tp_audit.proofs.DemandLemmas.{are_over}
+use Rattle.tp_audit.proofs.demand.is_over.Given as goal
+
+-- the proofs that are left decide
+abbrev pub invariant-loop-at : goal.invariant-loop-at
+invariant-loop-at l =
+    record {
+      complete : length l.proofs ≡ l.count;
+      same : are_over l.at l.count l.proofs ≡ is_over l.count l.proofs;
+    }

@@ -1,0 +1,81 @@
+-- What the plain programs for the definitions speak of in their contracts.
+use Rattle.std.specs.Prelude.{ℕ, ◌^◌, ◌&&◌, List, filter, slice_get, slice_set, Bool, false, Option, Some, None, ℤ, pos, neg_ℤ, ◌+ℤ◌, ◌*ℤ◌, ◌≤ℤ◌}
+use Rattle.std.specs.Option.{option_map_or}
+use Rattle.tp_types.specs.declared.fact.Fact.{Fact}
+use Rattle.tp_types.specs.declared.ids.CredId.{CredId}
+use Rattle.tp_types.specs.declared.policy.Action.{Action}
+use Rattle.tp_types.specs.declared.policy.Action.TheVariants as action
+use Rattle.tp_types.specs.declared.policy.Policy.{Policy}
+use Rattle.tp_types.specs.declared.records.Deed.{Deed}
+use Rattle.tp_types.specs.declared.records.Verdict.{Verdict}
+use Rattle.tp_types.specs.declared.scenario.Credential.{Credential}
+use Rattle.tp_types.specs.declared.scenario.Query.{Query}
+use Rattle.tp_types.specs.declared.scenario.Query.TheVariants.{Read, Write}
+use Rattle.tp_types.specs.declared.scenario.Scenario.{Scenario}
+use Rattle.tp_types.specs.declared.scenario.Transaction.{Transaction}
+use Rattle.tp_audit.specs.declared.authorisation.Case.{Case}
+use Rattle.tp_audit.specs.declared.credentials.Held.{Held}
+use Rattle.tp_audit.specs.declared.total.Total.{Total}
+use Rattle.tp_model.specs.Authorisation.{action_of, policy_at, rule_proves, tests_version}
+use Rattle.tp_model.specs.Credentials.{is_valid, said_by, triples_in}
+use Rattle.tp_model.specs.Ids.{same_name}
+use Rattle.tp_model.specs.Policies.{Triple}
+use Rattle.tp_model.specs.SerialRun.{number_at, sum_in}
+
+-- ---- what is held
+
+-- what those of the credentials say of the subject that are valid at the place
+abbrev pub held_by : Held → List Triple
+held_by held = triples_in held.scenario.now.creds held.subject.now (filter (is_valid held.scenario.now held.place held.facts.now) held.creds.now)
+
+-- the credential is the subject's, and what it says passes the test
+abbrev pub says : (Triple → Bool) → Held → Credential → Bool
+says test held credential = same_name credential.subject held.subject.now && test (said_by credential)
+
+-- the credential of this number is the subject's, is valid at the place, and what it says passes the test
+abbrev pub shows : (Triple → Bool) → Held → CredId → Bool
+shows test held cred =
+    option_map_or (says test held) (slice_get held.scenario.now.creds cred.0) false
+    && is_valid held.scenario.now held.place held.facts.now cred
+
+-- ---- authorisation
+
+-- a test of a query's action, its item's name and a policy, where there is one of each
+abbrev pub tests_case : (Action → List ℕ → Policy → Bool) → Option Case → Bool
+tests_case test None = false
+tests_case test (Some case) = test (action_of case.query.now) case.item.now.name case.policy.now
+
+-- the verdict's rule matches the query, and is true of those credentials alone that it uses and that are valid at its place
+abbrev pub is_proved : Scenario → List Fact → Transaction → Verdict → Bool
+is_proved sc facts txn verdict =
+    tests_version (rule_proves sc txn (filter (is_valid sc verdict.place facts) verdict.uses) verdict.rule) sc txn verdict.query
+    (policy_at sc verdict.admin verdict.version)
+
+-- ---- exact sums
+
+-- the sum that a total stands for
+abbrev pub value_of : Total → ℤ
+value_of total = total.part +ℤ (total.wraps *ℤ pos (2 ^ 128))
+
+-- it has wrapped at most so often
+abbrev pub HasWrapped : ℕ → Total → Type 0
+HasWrapped most total = (neg_ℤ (pos most) ≤ℤ total.wraps) × (total.wraps ≤ℤ pos most)
+
+-- ---- one query of a serial run
+
+-- what the query of this number does, on these registers and this store
+abbrev pub deed_of : ℕ → Query → List ℤ → List ℤ → Deed
+deed_of number (Read item into) registers store =
+    record { query = number; item = item; action = action.Read; value = number_at store item.0 }
+deed_of number (Write item expr) registers store =
+    record { query = number; item = item; action = action.Write; value = sum_in registers expr }
+
+-- the registers after it
+abbrev pub registers_after : Query → List ℤ → List ℤ → List ℤ
+registers_after (Read item into) registers store = slice_set registers into (number_at store item.0)
+registers_after (Write item expr) registers store = registers
+
+-- the store after it
+abbrev pub store_after : Query → List ℤ → List ℤ → List ℤ
+store_after (Read item into) registers store = store
+store_after (Write item expr) registers store = slice_set store item.0 (sum_in registers expr)

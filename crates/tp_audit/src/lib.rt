@@ -1,0 +1,22 @@
+//! A plain program that judges histories: for each definition of a trusted history one call, which has the definition as its contract.
+//! It knows a scenario and a flat list of facts, and nothing of how they came.
+#![tactic(auto)]
+
+mod agreement;
+mod authorisation;
+mod causes;
+mod commits;
+mod credentials;
+mod demand;
+mod facts;
+mod policies;
+mod serial;
+mod total;
+mod trust;
+mod versions;
+
+pub use agreement::{is_agreed, keeps_agreement};
+pub use causes::{is_caused, keeps_causes};
+pub use commits::are_lone;
+pub use serial::{is_serial, keeps_serial};
+pub use trust::{is_trusted, keeps_trust};

@@ -1,0 +1,69 @@
+-- The rules of a valid scenario, and the conditions of the present stage, one by one.
+use Rattle.std.proofs.Common.{◌≡◌, ℕ, ◌≤◌, ◌==◌, Bool, true, false, ◌&&◌, nat_le, length, refl, arith}
+use Rattle.std.proofs.lemmas.Bool.{and_parts}
+use Rattle.std.proofs.lemmas.Bool.Decides.{nat_tests}
+use Rattle.std.specs.List.{list_all}
+use Rattle.tp_types.specs.declared.scenario.Scenario.{Scenario}
+use Rattle.tp_model.specs.Built.{is_built}
+use Rattle.tp_model.specs.Limits.{has_count, is_from_to}
+use Rattle.tp_model.specs.Queries.{only}
+use Rattle.tp_model.specs.Stage.{are_plain_parts, is_empty, is_open_admin, is_single, is_stage, is_unscripted}
+use Rattle.tp_model.specs.Valid.{IsValid, are_distinct, are_valid_from, is_valid_txn, same_server_name, same_txn_name, are_valid_admins, are_valid_clients, are_valid_creds, are_valid_items, are_valid_officers, are_valid_publishers, are_valid_servers, are_valid_steps, are_valid_txns, clock_limit, has_valid_data, has_valid_policies, has_valid_scripts, is_valid}
+
+three_parts : (a b c : Bool) → (a && b && c) ≡ true → (a ≡ true) × (b ≡ true) × (c ≡ true)
+three_parts true b c e = let later = and_parts b c e in (refl, later.0, later.1)
+three_parts false b c e = absurd (cc)
+
+-- what a valid scenario keeps
+pub rules_of : (sc : Scenario) → is_valid sc ≡ true → IsValid sc
+rules_of sc h =
+    let whole = three_parts (has_valid_policies sc) (has_valid_data sc) (has_valid_scripts sc) h in
+    let policies = three_parts (are_valid_admins sc.admins) (nat_le sc.clock clock_limit) (are_valid_creds sc.creds) whole.0 in
+    let data_kept = three_parts (are_valid_servers sc) (are_valid_items sc) (are_valid_txns sc) whole.1 in
+    let scripts = three_parts (are_valid_steps sc sc.steps) (are_valid_clients sc) (are_valid_publishers sc && are_valid_officers sc) whole.2 in
+    let race = and_parts (are_valid_publishers sc) (are_valid_officers sc) scripts.2 in
+    record {
+      admins = policies.0;
+      clock = policies.1;
+      creds = policies.2;
+      servers = data_kept.0;
+      items = data_kept.1;
+      txns = data_kept.2;
+      steps = scripts.0;
+      clients = scripts.1;
+      publishers = race.0;
+      officers = race.1;
+    }
+
+count_most : (least most n : ℕ) → is_from_to least most n ≡ true → n ≤ most
+count_most least most n h = grind (arith, nat_tests)
+
+-- there are few servers and few transactions
+pub few_servers : (sc : Scenario) → IsValid sc → length sc.servers ≤ 16
+few_servers sc h = count_most 1 16 (length sc.servers) (three_parts (has_count 1 16 sc.servers) (are_valid_from sc 0 sc.servers) (are_distinct same_server_name sc.servers) h.servers).0
+
+pub few_txns : (sc : Scenario) → IsValid sc → length sc.txns ≤ 128
+few_txns sc h = count_most 0 128 (length sc.txns) (three_parts (has_count 0 128 sc.txns) (list_all (is_valid_txn sc) sc.txns) (are_distinct same_txn_name sc.txns) h.txns).0
+
+-- the conditions of the present stage
+pub record IsStage (sc : Scenario) : Type 0 where
+  pub admins : is_single is_open_admin sc.admins ≡ true
+  pub parts : are_plain_parts (only sc.servers) (only sc.items) (only sc.txns) ≡ true
+  pub clock : (sc.clock == 0) ≡ true
+  pub creds : is_empty sc.creds ≡ true
+  pub unscripted : is_unscripted sc ≡ true
+
+pub stage_of : (sc : Scenario) → is_stage sc ≡ true → IsStage sc
+stage_of sc h =
+    let whole = three_parts (is_single is_open_admin sc.admins) (are_plain_parts (only sc.servers) (only sc.items) (only sc.txns)) ((sc.clock == 0) && is_empty sc.creds && is_unscripted sc) h in
+    let rest = three_parts (sc.clock == 0) (is_empty sc.creds) (is_unscripted sc) whole.2 in
+    record { admins = whole.0; parts = whole.1; clock = rest.0; creds = rest.1; unscripted = rest.2 }
+
+-- a built scenario is valid, and of the present stage
+pub valid_built : (sc : Scenario) → is_built sc ≡ true → IsValid sc
+unfolding is_built
+valid_built sc h = rules_of sc (and_parts (is_valid sc) (is_stage sc) h).0
+
+pub stage_built : (sc : Scenario) → is_built sc ≡ true → IsStage sc
+unfolding is_built
+stage_built sc h = stage_of sc (and_parts (is_valid sc) (is_stage sc) h).1

@@ -1,0 +1,37 @@
+//! The reactions that most rows give.
+ghost use Rattle.std.specs.Prelude.{◌≡◌, Some, None, [], ◌∷◌, IfOk};
+
+use crate::list::{List, NoMemory};
+use crate::mail::{Letter, Reaction};
+use crate::records::Record;
+use std::alloc::Global;
+
+/// Nothing is done.
+pub fn nothing(alloc: Global) -> Reaction
+    ensures { result ≡ record { append = None; letters = [] } }
+{
+    Reaction {
+        append: None,
+        letters: List::new(alloc),
+    }
+}
+
+/// One letter is sent.
+pub fn sent_alone(alloc: Global, letter: Letter) -> Result<Reaction, NoMemory>
+    ensures { IfOk result (λ reaction. reaction ≡ record { append = None; letters = letter ∷ [] }) }
+{
+    Ok(Reaction {
+        append: None,
+        letters: List::of_one(alloc, letter)?,
+    })
+}
+
+/// A record is forced, and then one letter is sent.
+pub fn forced_and_sent(alloc: Global, forced: Record, letter: Letter) -> Result<Reaction, NoMemory>
+    ensures { IfOk result (λ reaction. reaction ≡ record { append = Some forced; letters = letter ∷ [] }) }
+{
+    Ok(Reaction {
+        append: Some(forced),
+        letters: List::of_one(alloc, letter)?,
+    })
+}
