@@ -1,2 +1,5 @@
-pub mod ShownLemmas
+pub mod OrderLemmas
+pub mod ReleaseLaws
+pub mod RequestLaws
+mod ShownLemmas
 mod SlotLemmas

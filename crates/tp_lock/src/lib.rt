@@ -5,11 +5,13 @@ ghost use Rattle.std.specs.Prelude.{◌≡◌, IfOk, OnOk, OnErr};
 ghost use Rattle.tp_lock.specs.Rule as rule;
 
 mod entry;
+mod laws;
 mod lists;
 mod plain;
 mod slots;
 
 pub use entry::{Asked, Grant, LockEntry};
+pub use laws::{releases_grant, requests_are_answered, tables_are_orderly};
 pub use plain::PlainLocks;
 use std::alloc::Global;
 use tp_types::{Action, ItemId, NoMemory, Place, TxnId};
