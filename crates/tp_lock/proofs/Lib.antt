@@ -1,3 +1,4 @@
+pub mod HoldsLemmas
 pub mod OrderLemmas
 pub mod ReleaseLaws
 pub mod RequestLaws

@@ -1,5 +1,5 @@
 -- The laws of a table of locks.
-use Rattle.std.specs.Prelude.{◌≡◌, ℕ, ◌++◌, ◌&&◌, not, List, [], ◌∷◌, true, false, if◌then◌else◌, filter, Option, Some, None}
+use Rattle.std.specs.Prelude.{◌≡◌, ◌≢◌, ℕ, ◌++◌, ◌&&◌, not, List, [], ◌∷◌, true, false, if◌then◌else◌, filter, Option, Some, None}
 use Rattle.std.specs.List.{enumerate_from, filter_map, find, flat_map, list_any, zip}
 use Rattle.tp_types.specs.declared.ids.ItemId.{ItemId}
 use Rattle.tp_types.specs.declared.ids.TxnId.{TxnId}
@@ -39,6 +39,25 @@ pub record IsAnswered (owner : TxnId) (age : ℕ) (mode : Action) (entries : Lis
 
 abbrev pub RequestsAreAnswered : Type 0
 RequestsAreAnswered = (owner : TxnId) (age : ℕ) (mode : Action) (entries : List LockEntry) → IsAnswered owner age mode entries
+
+-- an owner holds a lock that serves it in this mode
+abbrev pub Holds : TxnId → Action → List LockEntry → Type 0
+Holds owner mode entries = list_any (serves owner mode) entries ≡ true
+
+-- who is granted a lock holds one that serves
+abbrev pub GrantedIsHeld : Type 0
+GrantedIsHeld = (owner : TxnId) (age : ℕ) (mode : Action) (entries : List LockEntry) → answer owner age mode entries ≡ Granted
+    → Holds owner mode (with_lock owner age mode entries)
+
+-- what an owner holds it keeps through every request
+abbrev pub KeptByRequests : Type 0
+KeptByRequests = (holder : TxnId) (held : Action) (owner : TxnId) (age : ℕ) (mode : Action) (entries : List LockEntry)
+    → Holds holder held entries → Holds holder held (with_lock owner age mode entries)
+
+-- and through the releases of others
+abbrev pub KeptByReleases : Type 0
+KeptByReleases = (holder : TxnId) (held : Action) (owner : TxnId) (entries : List LockEntry) → holder.0 ≢ owner.0
+    → Holds holder held entries → Holds holder held (left_by owner entries)
 
 -- ---- order
 
