@@ -4,3 +4,4 @@ pub mod ReleaseLaws
 pub mod RequestLaws
 mod ShownLemmas
 mod SlotLemmas
+mod TakenLemmas

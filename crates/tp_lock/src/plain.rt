@@ -15,18 +15,19 @@ use tp_types::{Action, ItemId, List, NoMemory, Place, TxnId};
 pub struct PlainLocks {
     alloc: Global,
     lists: Vec<List<Slot>>,
+    /// No list before this place has a grant that nobody took, so that all grants are found in one walk.
+    next: usize,
 }
 
 impl Model for PlainLocks {
-    ghost use Rattle.std.specs.Prelude.{◌≤◌, ◌^◌, length};
     ghost use Rattle.tp_lock.specs.Table.{Table};
-    ghost use Rattle.tp_lock.specs.mirrors.Slots.{shown};
+    ghost use Rattle.tp_lock.specs.mirrors.Slots.{AreKept, shown};
 
     ghost Value = { Table };
 
     ghost view = { λ l. shown l.lists.items };
 
-    ghost invariant = { λ l. length l.lists.items ≤ 2 ^ 32 };
+    ghost invariant = { λ l. AreKept l.lists.items l.next };
 }
 
 impl PlainLocks {
@@ -38,7 +39,11 @@ impl PlainLocks {
         for _item in 0..items {
             lists.push(List::new(alloc))?;
         }
-        Ok(PlainLocks { alloc, lists })
+        Ok(PlainLocks {
+            alloc,
+            lists,
+            next: 0,
+        })
     }
 }
 
@@ -63,15 +68,18 @@ impl LockTable for PlainLocks {
         for at in 0..self.lists.len() {
             leave(self.alloc, &mut self.lists[at], owner);
         }
+        self.next = 0;
     }
 
     fn take_granted(&mut self) -> Option<Grant> {
-        for at in 0..self.lists.len() {
+        for at in self.next..self.lists.len() {
             if let Some(owner) = tell(&mut self.lists[at]) {
+                self.next = at;
                 let item = ItemId(at as u32);
                 return Some(Grant { owner, item });
             }
         }
+        self.next = self.lists.len();
         None
     }
 }

@@ -4,8 +4,19 @@ use Rattle.std.proofs.lemmas.Result.{IfOk-weaker}
 use Rattle.tp_lock.specs.Rule.{asked, requested}
 use Rattle.tp_lock.specs.mirrors.Slots.{shown}
 use Rattle.tp_lock.proofs.ShownLemmas.{nothing_there, slots_there}
+use Rattle.tp_lock.proofs.TakenLemmas.{requested_kept}
 use Rattle.tp_lock.proofs.plain.PlainLocksLockTable.request.Goals as goal
 use Rattle.tp_lock.proofs.plain.PlainLocksLockTable.request.Goals.{in-None, in-Some}
+
+pub invariant_of-self : goal.invariant_of-self
+invariant_of-self c = elim c.match-get_mut.branch [
+  | in-None w ↦ rw w.self-inside-is c.self.invariant
+  | in-Some w ↦
+      let here : w.in-Some.slots.now ≡ get_or c.self.inside.lists.items c.args.item.0 [] = w.in-Some.ensures.item.4 (search rules) [] in
+      rw w.self-inside-is
+      (requested_kept c.args.owner c.args.age c.args.mode c.self.inside.next c.args.item.0 c.self.inside.lists.items w.in-Some.slots.now w.ask.new.slots w.ask.result here
+      w.ask.ensures.ok w.ask.ensures.err c.self.invariant)
+]
 
 pub returns-clause-answer : goal.returns-clause-answer
 returns-clause-answer c = elim c.match-get_mut.branch [
