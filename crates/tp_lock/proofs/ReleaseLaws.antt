@@ -9,7 +9,7 @@ use Rattle.tp_lock.specs.declared.entry.Grant.{Grant}
 use Rattle.tp_lock.specs.declared.entry.LockEntry.{LockEntry}
 use Rattle.tp_lock.specs.Laws.{AreGrown, IsUntouched, grant_between}
 use Rattle.tp_lock.specs.Order.{AreOrderly, EachAfter, IsOrderly, IsRight, WaitsForYounger, all_let_wait, lets_wait}
-use Rattle.tp_lock.specs.Rule.{conflicts, grant_of, grants_from, grants_in, grants_of, is_clear, is_granted, is_of, is_of_other, left_by, released, settled, settled_from}
+use Rattle.tp_lock.specs.Rule.{conflicts, grant_of, grants_from, grants_in, grants_of, is_clear, is_granted, is_of, is_of_other, left_by, released, settled, settled_from, without_grant}
 use Rattle.tp_lock.specs.Table.{Table}
 use Rattle.tp_lock.proofs.OrderLemmas.{both_parts, or_parts}
 
@@ -204,3 +204,7 @@ left_by_orderly owner entries order = record {
 pub released_orderly : (owner : TxnId) (table : Table) → AreOrderly table → AreOrderly (released owner table)
 released_orderly owner table order =
     All-map IsOrderly (left_by owner) table.lists (All-weaker IsOrderly (λ entries. IsOrderly (left_by owner entries)) (left_by_orderly owner) table.lists order)
+
+-- and so is a table of which a grant is taken
+pub taken_orderly : (table : Table) → AreOrderly table → AreOrderly (without_grant table)
+taken_orderly table order = order

@@ -3,7 +3,7 @@ use Rattle.std.proofs.Common.{◌≡◌, ℕ, Bool, true, false, not, ◌&&◌, 
 use Rattle.std.proofs.lemmas.Bool.{cases_lt}
 use Rattle.std.proofs.lemmas.Bool.Decides.{nat_tests}
 use Rattle.std.proofs.lemmas.List.{get_or_past}
-use Rattle.std.proofs.lemmas.List.Elements.{All-set}
+use Rattle.std.proofs.lemmas.List.Elements.{All-replicate, All-set}
 use Rattle.std.specs.List.{All, find, list_any}
 use Rattle.tp_types.specs.declared.ids.ItemId.{ItemId}
 use Rattle.tp_types.specs.declared.ids.TxnId.{TxnId}
@@ -12,7 +12,7 @@ use Rattle.tp_lock.specs.declared.entry.Asked.TheVariants.{Granted, Dies}
 use Rattle.tp_lock.specs.declared.entry.LockEntry.{LockEntry}
 use Rattle.tp_lock.specs.Laws.{AgesAreOrdered, Gives, IsAnswered}
 use Rattle.tp_lock.specs.Order.{AreOrderly, IsOrderly, IsRight, WaitsForYounger, all_let_wait, is_younger, lets_wait}
-use Rattle.tp_lock.specs.Rule.{added, conflicts, is_elder, is_of_other, is_older, is_write, lock_of, requested, serves, waits_or_dies, with_lock}
+use Rattle.tp_lock.specs.Rule.{added, conflicts, is_elder, is_of_other, is_older, is_write, lock_of, opened, requested, serves, waits_or_dies, with_lock}
 use Rattle.tp_lock.specs.Table.{Table}
 use Rattle.tp_lock.proofs.OrderLemmas.{both_parts, each_push, or_parts}
 
@@ -114,6 +114,10 @@ with_lock_orderly owner age mode entries =
 
 pub no_entry_orderly : IsOrderly []
 no_entry_orderly = record { right = tt; younger = tt }
+
+-- a table that is opened is orderly
+pub opened_orderly : (items : ℕ) → AreOrderly (opened items)
+opened_orderly items = All-replicate IsOrderly items [] no_entry_orderly
 
 pub orderly_at : (item : ℕ) (lists : List (List LockEntry)) → All IsOrderly lists → IsOrderly (get_or lists item [])
 orderly_at item lists all = elim (cases_lt item (length lists)) [

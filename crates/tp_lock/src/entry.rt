@@ -24,7 +24,7 @@ pub struct Grant {
 pub enum Asked {
     /// The owner has the lock.
     Granted,
-    /// The owner waits for the lock, and there will be a grant.
+    /// The owner waits for the lock. There is a grant once it has it.
     Waits,
     /// The owner is to give up, since an older one stands in its way: the first of the list.
     Dies { other: TxnId },
