@@ -21,9 +21,9 @@ pub fn tables_are_orderly()
     ensures exclusive { laws.OrderExcludes }
 {}
 
-/// After a release the owner has no entry, and others hold what they held. Theirs keep owner, age, mode and order, and only an entry that waited may
-/// be held now: each that is clear is, and these are the grants, by item and then in the order of the list. A list in
-/// which the owner had no entry stays as it was.
+/// After a release the owner has no entry, and others hold what they held. Their entries keep owner, age, mode and order,
+/// and only one that waited may be held now: each that is clear is, and these are the grants, by item and then in the
+/// order of the list. A list in which the owner had no entry stays as it was.
 pub fn releases_grant()
     ensures gone { laws.OwnersAreGone }
     ensures kept { laws.KeptByReleases }
