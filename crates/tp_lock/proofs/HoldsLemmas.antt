@@ -1,16 +1,19 @@
 -- Who is granted a lock holds one that serves, and keeps it until its own release.
-use Rattle.std.proofs.Common.{◌≡◌, ℕ, Bool, true, false, not, ◌&&◌, ◌||◌, cond, List, [], ◌∷◌, ◌++◌, filter, refl, ap, sym, ◌∙◌}
+use Rattle.std.proofs.Common.{◌≡◌, ℕ, Bool, true, false, not, ◌&&◌, ◌||◌, cond, List, [], ◌∷◌, ◌++◌, filter, refl, ap, sym, ◌∙◌, arith}
 use Rattle.std.proofs.lemmas.Bool.{eq-eqb, eqb-true}
 use Rattle.std.proofs.lemmas.List.Folds.{list_any-append}
+use Rattle.std.proofs.lemmas.List.Elements.{All-append, All-cons, All-nil, All-weaker, Contains-append_right}
 use Rattle.std.proofs.lemmas.Map.Views.{any-filter_same}
-use Rattle.std.specs.List.{list_any}
+use Rattle.std.specs.List.{All, Contains, list_any}
 use Rattle.tp_types.specs.declared.ids.TxnId.{TxnId}
 use Rattle.tp_types.specs.declared.policy.Action.{Action}
 use Rattle.tp_types.specs.declared.policy.Action.TheVariants.{Read, Write}
 use Rattle.tp_lock.specs.declared.entry.Asked.{Asked}
 use Rattle.tp_lock.specs.declared.entry.Asked.TheVariants.{Granted, Waits, Dies}
+use Rattle.tp_lock.specs.declared.entry.Grant.{Grant}
 use Rattle.tp_lock.specs.declared.entry.LockEntry.{LockEntry}
-use Rattle.tp_lock.specs.Rule.{added, answer, answer_to_new, is_granted, is_of, is_of_other, is_write, left_by, lock_of, serves, settled, settled_from, with_lock}
+use Rattle.tp_lock.specs.Laws.{IsGrantFor}
+use Rattle.tp_lock.specs.Rule.{added, answer, answer_to_new, grant_of, grants_from, grants_in, is_clear, is_granted, is_of, is_of_other, is_write, left_by, lock_of, serves, settled, settled_from, with_lock}
 use Rattle.tp_lock.proofs.OrderLemmas.{both_parts}
 
 -- ---- tests
@@ -108,3 +111,51 @@ kept_by_release holder held owner entries apart e =
     (λ entry serving. other_where holder owner entry (is_of owner entry) refl apart
     (both_parts (is_of holder entry) (is_write entry.mode || not (is_write held)) (both_parts entry.held (is_of holder entry && (is_write entry.mode || not (is_write held))) serving).1).0)
     entries ∙ e)
+
+-- ---- a grant
+
+contains_next : (entries : List LockEntry) (first entry : LockEntry) → Contains entries entry → Contains (first ∷ entries) entry
+contains_next entries first entry has = Contains-append_right (first ∷ []) entries entry has
+
+grant_next : (item : ℕ) (old new : List LockEntry) (first grown : LockEntry) (grant : Grant) → IsGrantFor item old new grant → IsGrantFor item (first ∷ old) (grown ∷ new) grant
+grant_next item old new first grown grant is = record {
+  entry = is.entry;
+  waited = is.waited;
+  stood = contains_next old first is.entry is.stood;
+  stands = contains_next new grown (record is.entry { held = true }) is.stands;
+  names = is.names;
+}
+
+waits_where : (held clear : Bool) → (not held && clear) ≡ true → held ≡ false
+waits_where true clear e = cc
+waits_where false clear e = refl
+
+grant_here : (item : ℕ) (earlier entries : List LockEntry) (entry : LockEntry) (granted : Bool) → is_granted earlier entry ≡ granted
+    → All (IsGrantFor item (entry ∷ entries) (settled_from earlier (entry ∷ entries))) (cond granted (grant_of entry.owner item ∷ []) [])
+grant_here item earlier entries entry true e =
+    let P : Grant → Type 0 = IsGrantFor item (entry ∷ entries) (settled_from earlier (entry ∷ entries)) in
+    let grown : settled earlier entry ≡ record entry { held = true } = ap (λ b. let new : LockEntry = record entry { held = b } in new) (or_right entry.held (is_granted earlier entry) e) in
+    let is : P (grant_of entry.owner item) = record {
+      entry = entry;
+      waited = waits_where entry.held (is_clear earlier entry) e;
+      stood = (0, omega arith, refl);
+      stands = (0, omega arith, grown);
+      names = refl;
+    } in
+    All-cons P (grant_of entry.owner item) [] is (All-nil P)
+grant_here item earlier entries entry false e = All-nil (IsGrantFor item (entry ∷ entries) (settled_from earlier (entry ∷ entries)))
+
+grants_stand : (item : ℕ) (earlier entries : List LockEntry) → All (IsGrantFor item entries (settled_from earlier entries)) (grants_from item earlier entries)
+grants_stand item earlier [] = All-nil (IsGrantFor item [] [])
+grants_stand item earlier (entry ∷ entries) =
+    let before : List LockEntry = earlier ++ settled earlier entry ∷ [] in
+    let P : Grant → Type 0 = IsGrantFor item (entry ∷ entries) (settled_from earlier (entry ∷ entries)) in
+    let Q : Grant → Type 0 = IsGrantFor item entries (settled_from before entries) in
+    All-append P (cond (is_granted earlier entry) (grant_of entry.owner item ∷ []) []) (grants_from item before entries)
+    (grant_here item earlier entries entry (is_granted earlier entry) refl)
+    (All-weaker Q P (grant_next item entries (settled_from before entries) entry (settled earlier entry)) (grants_from item before entries) (grants_stand item before entries))
+
+-- each grant is for an entry that waited and is held now
+pub grants_are_held : (owner : TxnId) (item : ℕ) (entries : List LockEntry)
+    → All (IsGrantFor item (filter (is_of_other owner) entries) (left_by owner entries)) (grants_in owner item entries)
+grants_are_held owner item entries = grants_stand item [] (filter (is_of_other owner) entries)

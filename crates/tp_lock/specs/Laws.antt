@@ -1,6 +1,6 @@
 -- The laws of a table of locks.
 use Rattle.std.specs.Prelude.{◌≡◌, ◌≢◌, ℕ, ◌++◌, ◌&&◌, not, List, [], ◌∷◌, true, false, if◌then◌else◌, filter, Option, Some, None}
-use Rattle.std.specs.List.{enumerate_from, filter_map, find, flat_map, list_any, zip}
+use Rattle.std.specs.List.{All, Contains, enumerate_from, filter_map, find, flat_map, list_any, zip}
 use Rattle.tp_types.specs.declared.ids.ItemId.{ItemId}
 use Rattle.tp_types.specs.declared.ids.TxnId.{TxnId}
 use Rattle.tp_types.specs.declared.policy.Action.{Action}
@@ -111,6 +111,18 @@ grant_between item pair = if not pair.0.held && pair.1.held then Some (grant_of 
 abbrev pub GrantsAreThose : Type 0
 GrantsAreThose = (owner : TxnId) (item : ℕ) (entries : List LockEntry)
     → grants_in owner item entries ≡ filter_map (grant_between item) (zip (filter (is_of_other owner) entries) (left_by owner entries))
+
+-- a grant is for an entry that stood there and waited, and that is held now with nothing else changed
+pub record IsGrantFor (item : ℕ) (old new : List LockEntry) (grant : Grant) : Type 0 where
+  pub entry : LockEntry
+  pub waited : entry.held ≡ false
+  pub stood : Contains old entry
+  pub stands : Contains new (record entry { held = true })
+  pub names : grant ≡ grant_of entry.owner item
+
+abbrev pub GrantsAreHeld : Type 0
+GrantsAreHeld = (owner : TxnId) (item : ℕ) (entries : List LockEntry)
+    → All (IsGrantFor item (filter (is_of_other owner) entries) (left_by owner entries)) (grants_in owner item entries)
 
 -- the grants of a release are those of the items, by number
 abbrev pub GrantsGoByItem : Type 0

@@ -30,6 +30,7 @@ pub fn releases_grant()
     ensures others { laws.OthersStay }
     ensures clear { laws.ClearIsHeld }
     ensures grants { laws.GrantsAreThose }
+    ensures held { laws.GrantsAreHeld }
     ensures by_item { laws.GrantsGoByItem }
     ensures absent { laws.AbsentChangesNothing }
 {}

@@ -1,4 +1,4 @@
-use Rattle.tp_lock.proofs.HoldsLemmas.{kept_by_release}
+use Rattle.tp_lock.proofs.HoldsLemmas.{grants_are_held, kept_by_release}
 use Rattle.tp_lock.proofs.ReleaseLaws.{clear_is_held, grants_are_those, grants_go_by_item, others_stay, owner_is_gone, untouched}
 use Rattle.tp_lock.proofs.laws.releases_grant.Goals as goal
 
@@ -22,3 +22,6 @@ returns-clause-absent c = untouched
 
 pub returns-clause-kept : goal.returns-clause-kept
 returns-clause-kept c = kept_by_release
+
+pub returns-clause-held : goal.returns-clause-held
+returns-clause-held c = grants_are_held
