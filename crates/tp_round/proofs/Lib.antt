@@ -1,0 +1,5 @@
+pub mod JudgeLemmas
+pub mod PlaceLemmas
+pub mod QueryLemmas
+pub mod RenewLemmas
+pub mod ReplyLemmas

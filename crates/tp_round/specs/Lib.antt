@@ -1,0 +1,3 @@
+pub mod Judge
+pub mod Replies
+pub mod mirrors
