@@ -1,5 +1,10 @@
+pub mod AdminLemmas
+pub mod AgainLemmas
 pub mod JudgeLemmas
+pub mod NamesLemmas
 pub mod PlaceLemmas
 pub mod QueryLemmas
 pub mod RenewLemmas
 pub mod ReplyLemmas
+pub mod RoundsLemmas
+pub mod SpentLemmas

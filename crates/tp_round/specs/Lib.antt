@@ -1,3 +1,4 @@
 pub mod Judge
+pub mod Laws
 pub mod Replies
 pub mod mirrors

@@ -2,7 +2,11 @@
 #![tactic(auto)]
 
 mod aim;
+mod laws;
 mod replies;
 mod round;
 
+pub use laws::{
+    judging_again_is_safe, proofs_go_by_query, update_names_the_outdated, view_takes_two_rounds,
+};
 pub use round::{Judged, Round, Target, Wanted};
