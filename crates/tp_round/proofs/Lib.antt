@@ -1,5 +1,6 @@
 pub mod AdminLemmas
 pub mod AgainLemmas
+pub mod AgreedLemmas
 pub mod JudgeLemmas
 pub mod NamesLemmas
 pub mod PlaceLemmas
@@ -8,3 +9,4 @@ pub mod RenewLemmas
 pub mod ReplyLemmas
 pub mod RoundsLemmas
 pub mod SpentLemmas
+pub mod VersionLemmas

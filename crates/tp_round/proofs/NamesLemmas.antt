@@ -29,13 +29,12 @@ any_alike_where : (p q rest others : Bool) → p ≡ q → rest ≡ others → (
 any_alike_where p q rest others e on = ap (λ b. b || rest) e ∙ ap (λ b. q || b) on
 
 -- two tests agree on a list where they agree on those that pass a third, and all do
-pub any_alike : (one other within : Verdict → Bool) → ((verdict : Verdict) → within verdict ≡ true → one verdict ≡ other verdict)
-    → (verdicts : List Verdict) → list_all within verdicts ≡ true → list_any one verdicts ≡ list_any other verdicts
+pub any_alike : {X : Type 0} (one other within : X → Bool) → ((x : X) → within x ≡ true → one x ≡ other x)
+    → (xs : List X) → list_all within xs ≡ true → list_any one xs ≡ list_any other xs
 any_alike one other within same [] all = refl
-any_alike one other within same (verdict ∷ verdicts) all =
-    let parts = and_parts (within verdict) (list_all within verdicts) all in
-    any_alike_where (one verdict) (other verdict) (list_any one verdicts) (list_any other verdicts) (same verdict parts.0)
-    (any_alike one other within same verdicts parts.1)
+any_alike one other within same (x ∷ xs) all =
+    let parts = and_parts (within x) (list_all within xs) all in
+    any_alike_where (one x) (other x) (list_any one xs) (list_any other xs) (same x parts.0) (any_alike one other within same xs parts.1)
 
 -- ---- servers that are out of date
 
@@ -55,6 +54,11 @@ outdated_is round reading target all =
     any_alike (λ (verdict : Verdict). not (is_aimed (aim_in round reading) verdict))
     (λ (verdict : Verdict). not (target_in round reading verdict.admin == verdict.version.0)) (has_its_admin (admins_in round))
     (λ verdict here. ap not (aimed_is (target_in round reading) (admins_in round) verdict here)) (verdicts_in target) all
+
+-- a server is out of date where one of them is behind
+pub any_outdated_is : (round : Round) (reading : Option Reading) → list_any (is_outdated (aim_in round reading)) round.targets ≡ list_any (is_behind round reading) round.targets
+any_outdated_is round reading =
+    any_alike (is_outdated (aim_in round reading)) (is_behind round reading) (is_covered round) (outdated_is round reading) round.targets (all_covered round)
 
 -- ---- the names
 

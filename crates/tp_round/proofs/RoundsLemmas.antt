@@ -22,16 +22,9 @@ use Rattle.tp_round.specs.Laws.{AreAsNamed, Call, HasTwoRounds, Judges, Replies,
 use Rattle.tp_round.proofs.AdminLemmas.{aimed_at, any_admin, has_its_admin, same_ids, same_self}
 use Rattle.tp_round.proofs.AgainLemmas.{updated}
 use Rattle.tp_round.proofs.NamesLemmas.{admins_in, all_covered, all_of_each, is_covered, outdated_is}
+use Rattle.tp_round.proofs.VersionLemmas.{are_at, is_at, not_out}
 
 -- ---- proofs at given versions
-
--- the proof has the version that is given for its administrator
-abbrev pub is_at : (AdminId → ℕ) → Verdict → Bool
-is_at f verdict = f verdict.admin == verdict.version.0
-
--- so have all proofs of a server
-abbrev pub are_at : (AdminId → ℕ) → Target → Bool
-are_at f target = list_all (is_at f) (verdicts_in target)
 
 -- what is wanted are the versions that are given
 abbrev pub is_wanted_at : (AdminId → ℕ) → AdminId × Version → Bool
@@ -149,10 +142,6 @@ all_wanted f aim [] all = refl
 all_wanted f aim (target ∷ targets) all =
     and_from (are_wanted_at f (wanted aim target)) (list_all (are_wanted_at f) (map (wanted aim) targets)) (part (is_wanted_at f) (is_proved_by target) aim all)
     (all_wanted f aim targets all)
-
-not_out : (b : Bool) → not b ≡ false → b ≡ true
-not_out true e = refl
-not_out false e = cc
 
 current : (f : AdminId → ℕ) (aim : List (AdminId × Version)) (verdicts : List Verdict) → list_all (is_wanted_at f) aim ≡ true
     → list_any (λ (verdict : Verdict). not (is_aimed aim verdict)) verdicts ≡ false → list_all (is_at f) verdicts ≡ true

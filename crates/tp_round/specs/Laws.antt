@@ -1,6 +1,7 @@
 -- What follows from the judgement of rounds.
-use Rattle.std.specs.Prelude.{◌≡◌, ℕ, ◌≤◌, ◌==◌, List, [], ◌∷◌, filter, find, length, map, Bool, true, false, not, nat_le, Option, Some, None, option_map, if◌then◌else◌}
+use Rattle.std.specs.Prelude.{◌≡◌, ℕ, ◌&&◌, ◌≤◌, ◌==◌, List, [], ◌∷◌, filter, find, length, map, Bool, true, false, not, nat_le, nat_lt, slice_get, Option, Some, None, option_map, if◌then◌else◌}
 use Rattle.std.specs.List.{list_all, list_any, range_with_len}
+use Rattle.std.specs.Option.{is_none}
 use Rattle.tp_types.specs.declared.ids.AdminId.{AdminId}
 use Rattle.tp_types.specs.declared.ids.ServerId.{ServerId}
 use Rattle.tp_types.specs.declared.ids.Version.{Version}
@@ -10,8 +11,9 @@ use Rattle.tp_types.specs.declared.records.Verdict.{Verdict}
 use Rattle.tp_types.specs.declared.scenario.Level.{Level}
 use Rattle.tp_model.specs.Ids.{same_admin, same_server}
 use Rattle.tp_model.specs.Levels.{is_global}
+use Rattle.tp_model.specs.Versions.{is_one_version}
 use Rattle.tp_round.specs.declared.round.Judged.{Judged}
-use Rattle.tp_round.specs.declared.round.Judged.TheVariants.{Waiting, Spent, Update}
+use Rattle.tp_round.specs.declared.round.Judged.TheVariants.{Waiting, AllTrue, False, Spent, Update}
 use Rattle.tp_round.specs.declared.round.Round.{Round}
 use Rattle.tp_round.specs.declared.round.Target.{Target}
 use Rattle.tp_round.specs.declared.round.Wanted.{Wanted}
@@ -55,6 +57,37 @@ AreNamed round reading (server ∷ servers) (one ∷ named) = IsNamed round read
 abbrev pub UpdateNamesTheOutdated : Type 0
 UpdateNamesTheOutdated = (round : Round) (reading : Option Reading) (named : List Wanted) → judge round reading ≡ Update named
     → AreNamed round reading (filter (is_behind round reading) round.targets) named
+
+-- ---- what an agreed round shows
+
+abbrev pub is_true : Verdict → Bool
+is_true verdict = not (is_none verdict.rule)
+
+-- every proof has its administrator's target, and is true; so the proofs by query have one version of each administrator
+pub record AllAgree (round : Round) (reading : Option Reading) : Type 0 where
+  pub current : list_any (is_behind round reading) round.targets ≡ false
+  pub all_true : list_all is_true (proofs_in round.targets) ≡ true
+  pub one_version : is_one_version (by_query (proofs_in round.targets)) ≡ true
+
+-- where the answer is that all is true, it is
+abbrev pub AgreesWhereAllTrue : Type 0
+AgreesWhereAllTrue = (round : Round) (reading : Option Reading) → judge round reading ≡ AllTrue → AllAgree round reading
+
+-- a false proof of a smaller query
+abbrev pub is_sooner : Verdict → Verdict → Bool
+is_sooner verdict other = is_none other.rule && nat_lt other.query verdict.query
+
+-- every proof has its administrator's target, and the verdict is one of the proofs, is false, and no false one has a smaller query
+pub record IsLeastFalse (round : Round) (reading : Option Reading) (verdict : Verdict) : Type 0 where
+  pub current : list_any (is_behind round reading) round.targets ≡ false
+  pub place : ℕ
+  pub there : slice_get (proofs_in round.targets) place ≡ Some verdict
+  pub untrue : is_none verdict.rule ≡ true
+  pub least : list_any (is_sooner verdict) (proofs_in round.targets) ≡ false
+
+-- where the answer is a false proof, it is the false proof of least query
+abbrev pub FalseIsLeast : Type 0
+FalseIsLeast = (round : Round) (reading : Option Reading) (verdict : Verdict) → judge round reading ≡ False verdict → IsLeastFalse round reading verdict
 
 -- ---- without global consistency
 

@@ -132,11 +132,11 @@ pub fn named_by(
 fn renew_at(aim: &[(AdminId, Version)], targets: &mut List<Target>, at: usize)
     ensures { targets.new ≡ renewals.with_renewed aim.now targets.old at }
 {
-    let Some(target) = targets.get(at) else {
+    let Some(old) = targets.get(at) else {
         return;
     };
-    if is_outdated(aim, target) {
-        let server = target.server;
+    if is_outdated(aim, old) {
+        let server = old.server;
         targets.put(
             at,
             Target {

@@ -7,6 +7,13 @@ pub fn update_names_the_outdated()
     ensures { laws.UpdateNamesTheOutdated }
 {}
 
+/// Where all is true, every proof is true and has its administrator's target, so the proofs of an administrator have one version. Where a
+/// proof is false, the versions are so too, and of the false proofs it is the one of least query.
+pub fn agreed_rounds_agree()
+    ensures all_true { laws.AgreesWhereAllTrue }
+    ensures least_false { laws.FalseIsLeast }
+{}
+
 /// Without proofs under global consistency rounds are never spent. Where every administrator is under view consistency, and each
 /// reply after an update has the versions that were named for its server, there are at most two rounds, and only the first is
 /// updated.
