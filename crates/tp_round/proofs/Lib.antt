@@ -2,6 +2,7 @@ pub mod AdminLemmas
 pub mod AgainLemmas
 pub mod AgreedLemmas
 pub mod JudgeLemmas
+pub mod KeptLemmas
 pub mod NamesLemmas
 pub mod PlaceLemmas
 pub mod QueryLemmas

@@ -53,7 +53,7 @@ greatest_from f admin (verdict ∷ verdicts) most all =
     raised_where f admin verdict verdicts most (is_of admin verdict) (list_any (is_of admin) verdicts) refl parts.0 (λ n. greatest_from f admin verdicts n parts.1)
 
 -- where all proofs have the given versions, the greatest of an administrator is the given one
-greatest_is : (f : AdminId → ℕ) (admin : AdminId) (proofs : List Verdict) → list_all (is_at f) proofs ≡ true → list_any (is_of admin) proofs ≡ true
+pub greatest_is : (f : AdminId → ℕ) (admin : AdminId) (proofs : List Verdict) → list_all (is_at f) proofs ≡ true → list_any (is_of admin) proofs ≡ true
     → greatest admin proofs ≡ f admin
 greatest_is f admin proofs all some =
     let zero_least : max 0 (f admin) ≡ f admin = omega arith in
@@ -75,7 +75,7 @@ aimed_where f aimed rest verdict true e at on some = wanted_where f aimed verdic
 aimed_where f aimed rest verdict false e at on some = on some
 
 -- what is aimed at wanted versions has them
-aimed_has : (f : AdminId → ℕ) (aim : List (AdminId × Version)) (verdict : Verdict) → list_all (is_wanted_at f) aim ≡ true → is_aimed aim verdict ≡ true → is_at f verdict ≡ true
+pub aimed_has : (f : AdminId → ℕ) (aim : List (AdminId × Version)) (verdict : Verdict) → list_all (is_wanted_at f) aim ≡ true → is_aimed aim verdict ≡ true → is_at f verdict ≡ true
 aimed_has f [] verdict all some = cc
 aimed_has f (aimed ∷ rest) verdict all some =
     let parts = and_parts (is_wanted_at f aimed) (list_all (is_wanted_at f) rest) all in
@@ -112,7 +112,8 @@ kept_where : (f : AdminId → ℕ) (target : Target) (targets more : List Target
 kept_where f target targets more server verdicts true at all as_named on = and_from (list_all (is_at f) verdicts) (list_all (are_at f) targets) (as_named refl) all
 kept_where f target targets more server verdicts false at all as_named on = and_from (are_at f target) (list_all (are_at f) more) at (on as_named)
 
-reply_keeps : (f : AdminId → ℕ) (targets : List Target) (server : ServerId) (verdicts : List Verdict) → list_all (are_at f) targets ≡ true
+-- where the replies that are kept have the given versions, a new one that has them keeps it so
+pub reply_keeps : (f : AdminId → ℕ) (targets : List Target) (server : ServerId) (verdicts : List Verdict) → list_all (are_at f) targets ≡ true
     → (is_awaited targets server ≡ true → list_all (is_at f) verdicts ≡ true) → list_all (are_at f) (with_reply targets server verdicts) ≡ true
 reply_keeps f [] server verdicts all as_named = refl
 reply_keeps f (target ∷ targets) server verdicts all as_named =
@@ -122,7 +123,8 @@ reply_keeps f (target ∷ targets) server verdicts all as_named =
 
 -- ---- an update
 
-aim_at : (f : AdminId → ℕ) (admins : List AdminId) → list_all (is_wanted_at f) (map (aimed_at f) admins) ≡ true
+-- what is aimed at the versions of a function has them
+pub aim_at : (f : AdminId → ℕ) (admins : List AdminId) → list_all (is_wanted_at f) (map (aimed_at f) admins) ≡ true
 aim_at f [] = refl
 aim_at f (admin ∷ admins) = and_from (f admin == f admin) (list_all (is_wanted_at f) (map (aimed_at f) admins)) (same_self (f admin)) (aim_at f admins)
 
@@ -154,7 +156,8 @@ renewed_where : (f : AdminId → ℕ) (target : Target) (b : Bool) → (b ≡ fa
 renewed_where f target true at = refl
 renewed_where f target false at = at refl
 
-renewed_at : (f : AdminId → ℕ) (aim : List (AdminId × Version)) (targets : List Target) → list_all (is_wanted_at f) aim ≡ true
+-- after an update the replies that stay have the targets
+pub renewed_at : (f : AdminId → ℕ) (aim : List (AdminId × Version)) (targets : List Target) → list_all (is_wanted_at f) aim ≡ true
     → list_all (are_at f) (map (renewed aim) targets) ≡ true
 renewed_at f aim [] all = refl
 renewed_at f aim (target ∷ targets) all =

@@ -130,7 +130,8 @@ fn with_met(alloc: Global, mets: &List<Met>, met: Option<Met>) -> Result<List<Me
 }
 
 impl Round {
-    /// The first round over these servers, whose replies are awaited. The room of their replies is made here.
+    /// The first round over these servers, none of which stands twice. Their replies are awaited, and the room for them is made here.
+    /// Of rounds that read the master at most `limit` may meet a newer version, from 1 to 16. The level is view consistency so far.
     pub fn start(
         alloc: Global,
         targets: &[ServerId],

@@ -19,7 +19,7 @@ fn read<R: Files + AllocGlobal>(rt: &R, name: &str) -> io::Result<String> {
 }
 
 fn played(alloc: Global, text: &str) -> Result<Player, NoMemory> {
-    let mut player = Player::new(alloc);
+    let mut player = Player::new();
     for line in text.lines() {
         player.play(alloc, line)?;
     }

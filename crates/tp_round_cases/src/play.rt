@@ -128,7 +128,7 @@ fn goes(
 
 impl Player {
     /// A player that has played nothing.
-    pub fn new(_alloc: Global) -> Player {
+    pub fn new() -> Player {
         Player {
             round: None,
             reading: None,
