@@ -1,0 +1,24 @@
+-- The judgement where its tests are known.
+use Rattle.std.proofs.Common.{◌≡◌, true, false, List, Option, ap, sym, ◌∙◌}
+use Rattle.std.specs.List.{list_any}
+use Rattle.tp_types.specs.declared.ids.AdminId.{AdminId}
+use Rattle.tp_types.specs.declared.ids.Version.{Version}
+use Rattle.tp_types.specs.declared.records.Met.{Met}
+use Rattle.tp_types.specs.declared.records.Reading.{Reading}
+use Rattle.tp_round.specs.declared.round.Round.{Round}
+use Rattle.tp_round.specs.Judge.{after, aim_in, is_outdated, is_waiting, judge, judged, met_in, outdated}
+
+pub judge_outdated : (round : Round) (reading : Option Reading) (aim : List (AdminId × Version)) (met : Option Met) → is_waiting round reading ≡ false
+    → aim ≡ aim_in round reading → met ≡ met_in round reading → list_any (is_outdated aim) round.targets ≡ true
+    → outdated round aim met ≡ judge round reading
+judge_outdated round reading aim met goes_on is_aim is_met is_out =
+    let out : list_any (is_outdated (aim_in round reading)) round.targets ≡ true = ap (λ one. list_any (is_outdated one) round.targets) (sym is_aim) ∙ is_out in
+    rw (goes_on, out) (ap (λ one. outdated round one met) is_aim ∙ ap (outdated round (aim_in round reading)) is_met)
+
+pub judged_outdated : (round : Round) (reading : Option Reading) (aim : List (AdminId × Version)) (met : Option Met) → is_waiting round reading ≡ false
+    → aim ≡ aim_in round reading → met ≡ met_in round reading → list_any (is_outdated aim) round.targets ≡ true
+    → after round aim met (outdated round aim met) ≡ judged round reading
+judged_outdated round reading aim met goes_on is_aim is_met is_out =
+    ap (λ one. after round one met (outdated round aim met)) is_aim
+    ∙ ap (λ one. after round (aim_in round reading) one (outdated round aim met)) is_met
+    ∙ ap (after round (aim_in round reading) (met_in round reading)) (judge_outdated round reading aim met goes_on is_aim is_met is_out)

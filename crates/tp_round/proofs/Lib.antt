@@ -1,0 +1,13 @@
+pub mod AdminLemmas
+pub mod AgainLemmas
+pub mod AgreedLemmas
+pub mod JudgeLemmas
+pub mod KeptLemmas
+pub mod NamesLemmas
+pub mod PlaceLemmas
+pub mod QueryLemmas
+pub mod RenewLemmas
+pub mod ReplyLemmas
+pub mod RoundsLemmas
+pub mod SpentLemmas
+pub mod VersionLemmas

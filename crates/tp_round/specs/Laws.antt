@@ -1,0 +1,172 @@
+-- What follows from the judgement of rounds.
+use Rattle.std.specs.Prelude.{◌≡◌, ℕ, ◌&&◌, ◌≤◌, ◌==◌, List, [], ◌∷◌, filter, find, length, map, Bool, true, false, not, nat_le, nat_lt, slice_get, Option, Some, None, option_map, if◌then◌else◌}
+use Rattle.std.specs.List.{list_all, list_any, range_with_len}
+use Rattle.std.specs.Option.{is_none}
+use Rattle.tp_types.specs.declared.ids.AdminId.{AdminId}
+use Rattle.tp_types.specs.declared.ids.ServerId.{ServerId}
+use Rattle.tp_types.specs.declared.ids.Version.{Version}
+use Rattle.tp_types.specs.declared.records.Met.{Met}
+use Rattle.tp_types.specs.declared.records.Reading.{Reading}
+use Rattle.tp_types.specs.declared.records.Verdict.{Verdict}
+use Rattle.tp_types.specs.declared.scenario.Level.{Level}
+use Rattle.tp_model.specs.Ids.{same_admin, same_server}
+use Rattle.tp_model.specs.Levels.{is_global}
+use Rattle.tp_model.specs.Versions.{is_one_version}
+use Rattle.tp_round.specs.declared.round.Judged.{Judged}
+use Rattle.tp_round.specs.declared.round.Judged.TheVariants.{Waiting, AllTrue, False, Spent, Update}
+use Rattle.tp_round.specs.declared.round.Round.{Round}
+use Rattle.tp_round.specs.declared.round.Target.{Target}
+use Rattle.tp_round.specs.declared.round.Wanted.{Wanted}
+use Rattle.tp_round.specs.Judge.{is_aimed, is_awaited, is_global_at, judge, judged, replied, started, target}
+use Rattle.tp_round.specs.Replies.{by_query, is_at_query, is_of, proofs_in, verdicts_in}
+
+-- ---- what an update names
+
+-- the target of an administrator in a round that is judged with this reading
+abbrev pub target_in : Round → Option Reading → AdminId → ℕ
+target_in round reading admin = target round.levels reading (proofs_in round.targets) admin
+
+-- a proof of the server has another version than its administrator's target
+abbrev pub is_behind : Round → Option Reading → Target → Bool
+is_behind round reading server = list_any (λ (verdict : Verdict). not (target_in round reading verdict.admin == verdict.version.0)) (verdicts_in server)
+
+abbrev pub is_for : AdminId → AdminId × Version → Bool
+is_for admin one = same_admin one.0 admin
+
+abbrev pub version_in : AdminId × Version → ℕ
+version_in one = one.1.0
+
+-- the version that is wanted of an administrator, if any is
+abbrev pub wanted_of : List (AdminId × Version) → AdminId → Option ℕ
+wanted_of want admin = option_map version_in (find (is_for admin) want)
+
+-- the server is named, and of it the target of each administrator is wanted of which it has a proof, and of no other
+pub record IsNamed (round : Round) (reading : Option Reading) (server : Target) (named : Wanted) : Type 0 where
+  pub same : named.server ≡ server.server
+  pub targets : (admin : AdminId) → wanted_of named.want admin
+      ≡ (if list_any (is_of admin) (verdicts_in server) then Some (target_in round reading admin) else None)
+
+-- these servers are named one by one, in their order, and no other
+abbrev pub AreNamed : Round → Option Reading → List Target → List Wanted → Type 0
+AreNamed round reading [] [] = Unit {0}
+AreNamed round reading [] (one ∷ named) = ⊥
+AreNamed round reading (server ∷ servers) [] = ⊥
+AreNamed round reading (server ∷ servers) (one ∷ named) = IsNamed round reading server one × AreNamed round reading servers named
+
+-- an update names exactly the servers of which a proof has another version than the target
+abbrev pub UpdateNamesTheOutdated : Type 0
+UpdateNamesTheOutdated = (round : Round) (reading : Option Reading) (named : List Wanted) → judge round reading ≡ Update named
+    → AreNamed round reading (filter (is_behind round reading) round.targets) named
+
+-- ---- what an agreed round shows
+
+abbrev pub is_true : Verdict → Bool
+is_true verdict = not (is_none verdict.rule)
+
+-- every proof has its administrator's target, and is true; so the proofs by query have one version of each administrator
+pub record AllAgree (round : Round) (reading : Option Reading) : Type 0 where
+  pub current : list_any (is_behind round reading) round.targets ≡ false
+  pub all_true : list_all is_true (proofs_in round.targets) ≡ true
+  pub one_version : is_one_version (by_query (proofs_in round.targets)) ≡ true
+
+-- where the answer is that all is true, it is
+abbrev pub AgreesWhereAllTrue : Type 0
+AgreesWhereAllTrue = (round : Round) (reading : Option Reading) → judge round reading ≡ AllTrue → AllAgree round reading
+
+-- a false proof of a smaller query
+abbrev pub is_sooner : Verdict → Verdict → Bool
+is_sooner verdict other = is_none other.rule && nat_lt other.query verdict.query
+
+-- every proof has its administrator's target, and the verdict is one of the proofs, is false, and no false one has a smaller query
+pub record IsLeastFalse (round : Round) (reading : Option Reading) (verdict : Verdict) : Type 0 where
+  pub current : list_any (is_behind round reading) round.targets ≡ false
+  pub place : ℕ
+  pub there : slice_get (proofs_in round.targets) place ≡ Some verdict
+  pub untrue : is_none verdict.rule ≡ true
+  pub least : list_any (is_sooner verdict) (proofs_in round.targets) ≡ false
+
+-- where the answer is a false proof, it is the false proof of least query
+abbrev pub FalseIsLeast : Type 0
+FalseIsLeast = (round : Round) (reading : Option Reading) (verdict : Verdict) → judge round reading ≡ False verdict → IsLeastFalse round reading verdict
+
+-- ---- without global consistency
+
+abbrev pub is_of_global : List Level → Verdict → Bool
+is_of_global levels verdict = is_global_at levels verdict.admin
+
+-- where no proof is of an administrator under global consistency, the rounds are never spent
+abbrev pub NeverSpentUnderView : Type 0
+NeverSpentUnderView = (round : Round) (reading : Option Reading) (mets : List Met) → list_any (is_of_global round.levels) (proofs_in round.targets) ≡ false
+    → judge round reading ≡ Spent mets → ⊥
+
+-- what is done with a round
+pub data Call : Type 0 where
+  Replies : ServerId → List Verdict → Call
+  Judges : Option Reading → Call
+
+abbrev pub called : Call → Round → Round
+called (Replies server verdicts) round = replied round server verdicts
+called (Judges reading) round = judged round reading
+
+abbrev pub after_calls : List Call → Round → Round
+after_calls [] round = round
+after_calls (call ∷ calls) round = after_calls calls (called call round)
+
+-- the last update named for the server the verdict's administrator, with the verdict's version
+abbrev pub was_named : Round → ServerId → Verdict → Bool
+was_named round server verdict = list_any (λ (one : Wanted). if same_server one.server server then is_aimed one.want verdict else false) round.named
+
+-- a reply that is kept after an update has the versions that were named for its server, and is of no other administrator
+abbrev pub is_as_named : Call → Round → Bool
+is_as_named (Replies server verdicts) round =
+    if round.number == 1 then true else if is_awaited round.targets server then list_all (was_named round server) verdicts else true
+is_as_named (Judges reading) round = true
+
+abbrev pub AreAsNamed : List Call → Round → Type 0
+AreAsNamed [] round = Unit {0}
+AreAsNamed (call ∷ calls) round = (is_as_named call round ≡ true) × AreAsNamed calls (called call round)
+
+-- the round's number is at most 2, and it is updated only while it is 1
+pub record HasTwoRounds (round : Round) : Type 0 where
+  pub few : round.number ≤ 2
+  pub first : (reading : Option Reading) (named : List Wanted) → judge round reading ≡ Update named → round.number ≡ 1
+
+-- where every administrator is under view consistency and replies are as they were named, there are at most two rounds
+abbrev pub TwoRoundsUnderView : Type 0
+TwoRoundsUnderView = (servers : List ServerId) (limit : ℕ) (levels : List Level) (reads : Bool) → list_any is_global levels ≡ false
+    → (calls : List Call) → AreAsNamed calls (started servers limit levels reads) → HasTwoRounds (after_calls calls (started servers limit levels reads))
+
+-- ---- judging again
+
+abbrev pub is_update : Judged → Bool
+is_update (Update named) = true
+is_update _ = false
+
+-- a round that is judged again with the same reading answers the same, where the first answer was no update
+abbrev pub JudgesTheSameAgain : Type 0
+JudgesTheSameAgain = (round : Round) (reading : Option Reading) → is_update (judge round reading) ≡ false
+    → judge (judged round reading) reading ≡ judge round reading
+
+-- after an update replies are missing, whatever is read
+abbrev pub WaitsAfterUpdate : Type 0
+WaitsAfterUpdate = (round : Round) (reading again : Option Reading) (named : List Wanted) → judge round reading ≡ Update named
+    → judge (judged round reading) again ≡ Waiting
+
+-- ---- proofs by query
+
+-- of each query the proofs are there that were replied, in their order
+abbrev pub KeepsEachQuery : Type 0
+KeepsEachQuery = (proofs : List Verdict) (query : ℕ) → 1 ≤ query → query ≤ 16
+    → filter (is_at_query query) (by_query proofs) ≡ filter (is_at_query query) proofs
+
+-- there is one proof of each query up to the number, and none of another
+abbrev pub HasOneForEach : ℕ → List Verdict → Type 0
+HasOneForEach count proofs = (query : ℕ) → 1 ≤ query → query ≤ 16 → length (filter (is_at_query query) proofs) ≡ (if nat_le query count then 1 else 0)
+
+abbrev pub query_of : Verdict → ℕ
+query_of verdict = verdict.query
+
+-- where there is one proof of each query up to a number, the proofs are of just these queries, in order
+abbrev pub GoesByQuery : Type 0
+GoesByQuery = (proofs : List Verdict) (count : ℕ) → count ≤ 16 → HasOneForEach count proofs
+    → map query_of (by_query proofs) ≡ range_with_len 1 count

@@ -1,0 +1,4 @@
+pub mod Judge
+pub mod Laws
+pub mod Replies
+pub mod mirrors

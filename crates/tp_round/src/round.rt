@@ -1,0 +1,284 @@
+//! A round: which servers are asked, what they replied, and what is judged of it.
+ghost use Rattle.std.specs.Prelude.{◌≡◌, ◌≤◌, ◌++◌, [], map, option_to_list, IfOk, OnOk, OnErr, false};
+ghost use Rattle.std.specs.List.{list_any, IsDistinct};
+ghost use Rattle.std.specs.Option.{option_copied};
+ghost use Rattle.tp_types.specs.declared.scenario.Level.TheVariants as level_of;
+ghost use Rattle.tp_model.specs.Ids.{same_server};
+ghost use Rattle.tp_round.specs.declared.round.Judged.TheVariants as judged;
+ghost use Rattle.tp_round.specs.Judge as rule;
+ghost use Rattle.tp_round.specs.Replies as replies;
+ghost use Rattle.tp_round.specs.mirrors.Places as places;
+
+use crate::aim::{aim_of, any_outdated, met_by, named_by, renew};
+use crate::replies::{least_false, proofs_of};
+use std::alloc::Global;
+use tp_types::{
+    AdminId, Level, List, Met, NoMemory, Reading, ServerId, TryClone, Verdict, Version,
+};
+
+/// A server of a round.
+#[derive(Drop)]
+pub struct Target {
+    pub server: ServerId,
+    /// Its verdicts; None while its reply is awaited.
+    pub reply: Option<List<Verdict>>,
+}
+
+/// What an update wants of a server that is out of date.
+#[derive(Drop)]
+pub struct Wanted {
+    pub server: ServerId,
+    /// The version of each administrator of which it has a proof, in order of the administrators' numbers.
+    pub want: List<(AdminId, Version)>,
+}
+
+impl TryClone for Wanted {
+    fn try_clone(&self, alloc: Global) -> Result<Self, NoMemory> {
+        Ok(Wanted {
+            server: self.server,
+            want: self.want.try_clone(alloc)?,
+        })
+    }
+}
+
+/// What is judged of a round's replies.
+#[derive(Drop)]
+pub enum Judged {
+    /// A reply is missing, or the master is to be read first.
+    Waiting,
+    /// No server is out of date, and all proofs are true.
+    AllTrue,
+    /// No server is out of date, and of the false proofs this is the one of least query.
+    False { verdict: Verdict },
+    /// As many rounds as may be met a newer version at the master: what each of them met.
+    Spent(List<Met>),
+    /// These servers are to evaluate again, at these versions. The next round has begun.
+    Update(List<Wanted>),
+}
+
+/// A round of validation. Servers evaluate the proofs of their queries and reply; those whose versions are not the targets are
+/// asked again, at the targets, while the others' replies stay.
+#[derive(Drop)]
+pub struct Round {
+    /// The level of each administrator, by its number. One that the list lacks is under view consistency.
+    pub levels: List<Level>,
+    /// Whether the master is read in each round.
+    pub reads: bool,
+    /// How many rounds may meet a newer version at the master.
+    pub limit: u32,
+    /// Counted from 1. One that stands at the greatest number stays there.
+    pub number: u32,
+    /// The servers, in the order in which they were given.
+    pub targets: List<Target>,
+    /// The target of each administrator at the last update, in order of number; empty in the first round.
+    pub aim: List<(AdminId, Version)>,
+    /// What the last update wanted; empty in the first round.
+    pub named: List<Wanted>,
+    /// What earlier rounds met at the master.
+    pub mets: List<Met>,
+}
+
+fn awaited(alloc: Global, servers: &[ServerId]) -> Result<List<Target>, NoMemory>
+    ensures { IfOk result (λ made. made ≡ map rule.awaited servers.now) }
+{
+    let mut made = List::new(alloc);
+    for server in servers {
+        made.push(Target {
+            server: *server,
+            reply: None,
+        })?;
+    }
+    Ok(made)
+}
+
+fn place_awaited(targets: &[Target], server: ServerId) -> usize
+    ensures { result ≡ places.place_awaited targets.now server }
+{
+    for (at, target) in targets.iter().enumerate() {
+        if target.server == server && target.reply.is_none() {
+            return at;
+        }
+    }
+    targets.len()
+}
+
+fn is_missing(targets: &[Target]) -> bool
+    ensures { result ≡ list_any rule.is_missing targets.now }
+{
+    targets.iter().any(|target| target.reply.is_none())
+}
+
+fn agreed(alloc: Global, targets: &[Target]) -> Result<Judged, NoMemory>
+    ensures { IfOk result (λ made. made ≡ rule.agreed (replies.least_false (replies.proofs_in targets.now))) }
+{
+    match least_false(targets) {
+        None => Ok(Judged::AllTrue),
+        Some(verdict) => Ok(Judged::False {
+            verdict: verdict.try_clone(alloc)?,
+        }),
+    }
+}
+
+fn with_met(alloc: Global, mets: &List<Met>, met: Option<Met>) -> Result<List<Met>, NoMemory>
+    ensures { IfOk result (λ made. made ≡ mets.now ++ option_to_list met) }
+{
+    let mut made = mets.try_clone(alloc)?;
+    if let Some(met) = met {
+        made.push(met)?;
+    }
+    Ok(made)
+}
+
+impl Round {
+    /// The first round over these servers, none of which stands twice. Their replies are awaited, and the room for them is made here.
+    /// Of rounds that read the master at most `limit` may meet a newer version, from 1 to 16. The level is view consistency so far.
+    pub fn start(
+        alloc: Global,
+        targets: &[ServerId],
+        limit: u32,
+        level: Level,
+    ) -> Result<Round, NoMemory>
+        requires distinct { IsDistinct same_server targets.now }
+        requires some { 1 ≤ limit }
+        requires few { limit ≤ 16 }
+        requires view { level ≡ level_of.View }
+        ensures { IfOk result (λ made. made ≡ rule.started targets.now limit [] false) }
+    {
+        Ok(Round {
+            levels: List::new(alloc),
+            reads: matches!(level, Level::Global),
+            limit,
+            number: 1,
+            targets: awaited(alloc, targets)?,
+            aim: List::new(alloc),
+            named: List::new(alloc),
+            mets: List::new(alloc),
+        })
+    }
+
+    /// Keeps a server's reply where it was awaited, and says whether it was. Else nothing changes, and the reply is dropped.
+    /// It takes no memory.
+    pub fn reply(&mut self, server: ServerId, verdicts: List<Verdict>) -> bool
+        ensures awaited { result ≡ rule.is_awaited self.old.targets server }
+        ensures kept { self.new ≡ rule.replied self.old server verdicts }
+    {
+        let at = place_awaited(self.targets.as_slice(), server);
+        if at == self.targets.len() {
+            return false;
+        }
+        let kept = Target {
+            server,
+            reply: Some(verdicts),
+        };
+        self.targets.put(at, kept);
+        true
+    }
+
+    fn is_waiting(&self, reading: Option<&Reading>) -> bool
+        ensures { result ≡ rule.is_waiting self.now (option_copied reading.entry) }
+    {
+        is_missing(self.targets.as_slice()) || (self.reads && reading.is_none())
+    }
+
+    fn aim_in(
+        &self,
+        alloc: Global,
+        reading: Option<&Reading>,
+    ) -> Result<List<(AdminId, Version)>, NoMemory>
+        ensures { IfOk result (λ made. made ≡ rule.aim_in self.now (option_copied reading.entry)) }
+    {
+        aim_of(
+            alloc,
+            self.levels.as_slice(),
+            reading,
+            self.targets.as_slice(),
+        )
+    }
+
+    fn has_outdated(&self, aim: &[(AdminId, Version)]) -> bool
+        ensures { result ≡ list_any (rule.is_outdated aim.now) self.now.targets }
+    {
+        any_outdated(aim, self.targets.as_slice())
+    }
+
+    fn met_in(&self, reading: Option<&Reading>, aim: &[(AdminId, Version)]) -> Option<Met>
+        ensures { result ≡ rule.met_by self.now.levels (option_copied reading.entry) (replies.proofs_in self.now.targets) aim.now }
+    {
+        met_by(
+            self.levels.as_slice(),
+            reading,
+            self.targets.as_slice(),
+            aim,
+        )
+    }
+
+    fn update(
+        &mut self,
+        alloc: Global,
+        aim: List<(AdminId, Version)>,
+        mets: List<Met>,
+    ) -> Result<Judged, NoMemory>
+        ensures answer { IfOk result (λ made. made ≡ judged.Update (rule.named_by aim self.old.targets)) }
+        ensures next { OnOk result (self.new ≡ rule.next_round self.old aim (rule.named_by aim self.old.targets) mets) }
+        ensures memory { OnErr result (self.new ≡ self.old) }
+    {
+        let named = named_by(alloc, aim.as_slice(), self.targets.as_slice())?;
+        let answer = named.try_clone(alloc)?;
+        renew(aim.as_slice(), &mut self.targets);
+        self.number = self.number.saturating_add(1);
+        self.aim = aim;
+        self.named = named;
+        self.mets = mets;
+        Ok(Judged::Update(answer))
+    }
+
+    fn outdated(
+        &mut self,
+        alloc: Global,
+        aim: List<(AdminId, Version)>,
+        met: Option<Met>,
+    ) -> Result<Judged, NoMemory>
+        ensures answer { IfOk result (λ made. made ≡ rule.outdated self.old aim met) }
+        ensures next { OnOk result (self.new ≡ rule.after self.old aim met (rule.outdated self.old aim met)) }
+        ensures memory { OnErr result (self.new ≡ self.old) }
+    {
+        let mets = with_met(alloc, &self.mets, met)?;
+        if met.is_some() && mets.len() == self.limit as usize {
+            return Ok(Judged::Spent(mets));
+        }
+        self.update(alloc, aim, mets)
+    }
+
+    /// Judges the replies, with the master's reading where the round reads it. After an update the next round has begun, in which
+    /// the replies of the named servers are awaited; after another answer, or where memory is refused, the round is as before.
+    pub fn judge(&mut self, alloc: Global, reading: Option<&Reading>) -> Result<Judged, NoMemory>
+        ensures answer { IfOk result (λ made. made ≡ rule.judge self.old (option_copied reading.entry)) }
+        ensures next { OnOk result (self.new ≡ rule.judged self.old (option_copied reading.entry)) }
+        ensures memory { OnErr result (self.new ≡ self.old) }
+    {
+        if self.is_waiting(reading) {
+            return Ok(Judged::Waiting);
+        }
+        let aim = self.aim_in(alloc, reading)?;
+        if self.has_outdated(aim.as_slice()) {
+            let met = self.met_in(reading, aim.as_slice());
+            self.outdated(alloc, aim, met)
+        } else {
+            agreed(alloc, self.targets.as_slice())
+        }
+    }
+
+    /// The number of the present round, counted from 1.
+    pub fn rounds(&self) -> u32
+        ensures { result ≡ self.now.number }
+    {
+        self.number
+    }
+
+    /// The proofs of the kept replies, in order of their queries; those of one query stay in the order of the servers.
+    pub fn proofs(&self, alloc: Global) -> Result<List<Verdict>, NoMemory>
+        ensures { IfOk result (λ made. made ≡ replies.by_query (replies.proofs_in self.now.targets)) }
+    {
+        proofs_of(alloc, self.targets.as_slice())
+    }
+}
