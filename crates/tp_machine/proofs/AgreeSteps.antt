@@ -15,14 +15,12 @@ use Rattle.tp_types.specs.declared.scenario.Scenario.{Scenario}
 use Rattle.tp_types.specs.declared.scenario.Step.{Step}
 use Rattle.tp_types.specs.declared.scenario.Step.TheVariants as step
 use Rattle.tp_machine.specs.declared.coord.Coordinator.{Coordinator}
-use Rattle.tp_machine.specs.declared.error.StepError.{StepError}
-use Rattle.tp_machine.specs.declared.error.StepError.TheVariants as error
 use Rattle.tp_machine.specs.declared.offices.Authority.{Authority}
 use Rattle.tp_machine.specs.declared.part.Part.{Part}
 use Rattle.tp_machine.specs.declared.server.Server.{Server}
 use Rattle.tp_machine.specs.Logs.{decided_by, decided_in, settled_by, settled_in}
-use Rattle.tp_machine.specs.Machine.{Machine, State, coordinator_submits_up, coordinator_takes_up, delivered, done, idles, is_part_submitted, is_submitted, opened_actors, opened_part, opening_state, received, refusal, server_takes_up, submitted, submitted_by, to_coordinator, to_server, with_age, server_acted, coordinator_acted}
-use Rattle.tp_machine.specs.Sound.{Each, EachAt, IsSound, IsSoundCoordinatorUp, IsStepOf, IsTxn}
+use Rattle.tp_machine.specs.Machine.{Machine, State, acts_by, coordinator_acted, coordinator_fact, done, idles, is_part_submitted, opened_actors, opened_part, opening_state, refusal, submitted, with_age}
+use Rattle.tp_machine.specs.Sound.{Each, EachAt, IsSound, IsSoundCoordinatorUp, IsStepOf}
 use Rattle.tp_types.specs.Table.{flattened}
 use Rattle.tp_machine.specs.coord.Opened as coord
 use Rattle.tp_machine.specs.coord.Row.{coordinator_row, submit_row}
@@ -34,113 +32,88 @@ use Rattle.tp_machine.proofs.AgreeActs.{MaySettle, SaysOnly, server_acts_agrees,
 use Rattle.tp_machine.proofs.AgreeCoordinator.{CoordinatorAgrees, coordinator_row_lawful, submit_row_lawful}
 use Rattle.tp_machine.proofs.AgreeCoordinatorActs.{coordinator_acts_agrees, received_lawful, submission_lawful}
 use Rattle.tp_machine.proofs.AgreeServer.{IsReply, OrderRests, ServerAgrees, server_row_lawful}
-use Rattle.tp_machine.proofs.LogLemmas.{listed, set_same}
-use Rattle.tp_machine.proofs.SoundLists.{at_made, each_get, missing}
+use Rattle.tp_machine.proofs.LogLemmas.{listed}
+use Rattle.tp_machine.proofs.SoundLists.{at_made, each_get}
+use Rattle.tp_machine.proofs.Cases.{Cases, IsCoordinatorUp, IsServerUp, SaysIdle, WasSent, done_by}
+use Rattle.tp_types.specs.declared.fact.What.{What}
 
--- ---- turns
+-- ---- what a step says by itself
 
 silent_says : (sc : Scenario) (w : State) → SaysOnly sc w.facts []
 silent_says sc w = record { follows = tt; no_submission = λ txn. refl; no_decision = λ txn. refl; no_settlement = λ at txn. refl }
 
--- nothing happens
-quiet_agrees : (sc : Scenario) (w : State) → Agrees sc w → TurnAgrees sc w (idles w.actors [])
-quiet_agrees sc w h = unmoved_agrees sc w [] [] h (silent_says sc w) tt
+lost_says : (sc : Scenario) (w : State) (mail : ℕ) → SaysOnly sc w.facts (what.Lost mail ∷ [])
+lost_says sc w mail = record { follows = (tt, tt); no_submission = λ txn. refl; no_decision = λ txn. refl; no_settlement = λ at txn. refl }
 
-order_rests : (sc : Scenario) (w : State) (at : ServerId) (said : Body) → BodyRests sc w.actors.coordinators (actor.Server at) said → OrderRests (MaySettle sc w.actors.coordinators at) said
+idle_agrees : (sc : Scenario) (w : State) → Agrees sc w → (taken : Step) (happened : List What) → SaysIdle taken happened → TurnAgrees sc w (idles w.actors happened)
+idle_agrees sc w h (step.Deliver mail) happened e = subst (λ (hs : List What). TurnAgrees sc w (idles w.actors hs)) (sym e) (unmoved_agrees sc w [] [] h (silent_says sc w) tt)
+idle_agrees sc w h (step.Lose mail) happened e = subst (λ (hs : List What). TurnAgrees sc w (idles w.actors hs)) (sym e) (unmoved_agrees sc w (what.Lost mail ∷ []) [] h (lost_says sc w mail) tt)
+idle_agrees sc w h _ happened e = absurd e
+
+-- ---- what is known of actors that are up
+
+pub order_rests : (sc : Scenario) (w : State) (at : ServerId) (said : Body) → BodyRests sc w.actors.coordinators (actor.Server at) said → OrderRests (MaySettle sc w.actors.coordinators at) said
 order_rests sc w at (body.Decide order) h = record { decided = h.decided; item = h.item }
 order_rests sc w at _ h = tt
-
-server_part_agrees : (sc : Scenario) (w : State) (mail : Mail) (at : ServerId) (part : Part Server) (up : Option Server) → Agrees sc w → slice_get w.actors.servers at.0 ≡ Some part → part.up ≡ up
-    → BodyRests sc w.actors.coordinators (actor.Server at) mail.letter.body → TurnAgrees sc w (server_acted w.actors at (server_takes_up sc at part mail up))
-server_part_agrees sc w mail at part None h found e m =
-    subst (λ (servers : List (Part Server)). TurnAgrees sc w (record { actors = record w.actors { servers = servers }; happened = []; letters = [] }))
-    (sym (set_same w.actors.servers at.0 part found)) (quiet_agrees sc w h)
-server_part_agrees sc w mail at part (Some s) h found e m =
-    let here = h.servers at.0 part found in
-    let agrees : ServerAgrees s part.log = subst (λ (up : Option Server). IfSome up (λ (t : Server). ServerAgrees t part.log)) e here.state in
-    server_acts_agrees sc w at part s (server_row sc s mail) h found (server_row_lawful (MaySettle sc w.actors.coordinators at) sc s part.log mail agrees (order_rests sc w at mail.letter.body m))
-
-to_server_agrees : (sc : Scenario) (w : State) (mail : Mail) (at : ServerId) (part : Option (Part Server)) → Agrees sc w → slice_get w.actors.servers at.0 ≡ part
-    → BodyRests sc w.actors.coordinators (actor.Server at) mail.letter.body → TurnAgrees sc w (to_server sc w.actors mail at part)
-to_server_agrees sc w mail at None h e m = quiet_agrees sc w h
-to_server_agrees sc w mail at (Some part) h e m = server_part_agrees sc w mail at part part.up h e refl m
 
 -- the state of a coordinator that is up is its transaction's
 pub own_txn : (sc : Scenario) (w : State) (txn : TxnId) (part : Part Coordinator) (c : Coordinator) → IsSound sc w → slice_get w.actors.coordinators txn.0 ≡ Some part → part.up ≡ Some c → c.txn ≡ txn
 own_txn sc w txn part c sound found up = (subst (λ (u : Option Coordinator). IfSome u (IsSoundCoordinatorUp sc txn)) up (sound.actors_are.coordinators txn.0 part found).state).txn_is
 
-coordinator_part_agrees : (sc : Scenario) (w : State) (mail : Mail) (txn : TxnId) (part : Part Coordinator) (up : Option Coordinator) → Agrees sc w → IsSound sc w
-    → slice_get w.actors.coordinators txn.0 ≡ Some part → part.up ≡ up → TurnAgrees sc w (coordinator_acted w.actors txn (coordinator_takes_up sc part mail up))
-coordinator_part_agrees sc w mail txn part None h sound found e =
-    subst (λ (coordinators : List (Part Coordinator)). TurnAgrees sc w (record { actors = record w.actors { coordinators = coordinators }; happened = []; letters = [] }))
-    (sym (set_same w.actors.coordinators txn.0 part found)) (quiet_agrees sc w h)
-coordinator_part_agrees sc w mail txn part (Some c) h sound found e =
-    let agrees : CoordinatorAgrees sc c part.log = subst (λ (up : Option Coordinator). IfSome up (λ (d : Coordinator). CoordinatorAgrees sc d part.log)) e (h.coordinators txn.0 part found).state in
-    coordinator_acts_agrees sc w txn part c [] (coordinator_row sc c mail) h found e
-    (received_lawful sc w txn part c (coordinator_row sc c mail) h found e (own_txn sc w txn part c sound found e) (coordinator_row_lawful sc c part.log mail agrees))
+-- an actor that is up agrees with its log
+pub server_agrees : (sc : Scenario) (w : State) (at : ServerId) (part : Part Server) (s : Server) → Agrees sc w → IsServerUp w at part s → ServerAgrees s part.log
+server_agrees sc w at part s h up = subst (λ (u : Option Server). IfSome u (λ (t : Server). ServerAgrees t part.log)) up.up (h.servers at.0 part up.found).state
 
-to_coordinator_agrees : (sc : Scenario) (w : State) (mail : Mail) (txn : TxnId) (part : Option (Part Coordinator)) → Agrees sc w → IsSound sc w → slice_get w.actors.coordinators txn.0 ≡ part
-    → TurnAgrees sc w (to_coordinator sc w.actors mail txn part)
-to_coordinator_agrees sc w mail txn None h sound e = quiet_agrees sc w h
-to_coordinator_agrees sc w mail txn (Some part) h sound e = coordinator_part_agrees sc w mail txn part part.up h sound e refl
+pub coordinator_agrees : (sc : Scenario) (w : State) (txn : TxnId) (part : Part Coordinator) (c : Coordinator) → Agrees sc w → IsCoordinatorUp w txn part c → CoordinatorAgrees sc c part.log
+coordinator_agrees sc w txn part c h up = subst (λ (u : Option Coordinator). IfSome u (λ (d : Coordinator). CoordinatorAgrees sc d part.log)) up.up (h.coordinators txn.0 part up.found).state
+
+-- what a mail that was sent to an actor rests on
+pub mail_rests : (sc : Scenario) (w : State) (n : ℕ) (mail : Mail) (to : Actor) → Agrees sc w → WasSent w n mail to → BodyRests sc w.actors.coordinators to mail.letter.body
+mail_rests sc w n mail to h sent =
+    subst (λ (t : Actor). BodyRests sc w.actors.coordinators t mail.letter.body) sent.goes_to (each_get (MailRests sc w.actors.coordinators) w.mails n mail h.mails sent.sent)
 
 -- the authority orders nothing
 tells_reply : (authority : Authority) (said : Body) → Each IsReply (office.on_body authority said).reaction.letters
 tells_reply authority (body.Ask ask) = (tt, tt)
 tells_reply authority _ = tt
 
-received_agrees : (sc : Scenario) (w : State) (mail : Mail) (to : Actor) → Agrees sc w → IsSound sc w → BodyRests sc w.actors.coordinators to mail.letter.body → TurnAgrees sc w (received sc w.actors mail to)
-received_agrees sc w mail (actor.Server at) h sound m = to_server_agrees sc w mail at (slice_get w.actors.servers at.0) h refl m
-received_agrees sc w mail (actor.Coordinator txn) h sound m = to_coordinator_agrees sc w mail txn (slice_get w.actors.coordinators txn.0) h sound refl
-received_agrees sc w mail actor.Authority h sound m =
-    unmoved_agrees sc w [] (office.authority_row w.actors.authority mail).reaction.letters h (silent_says sc w) (tells_reply w.actors.authority mail.letter.body)
-received_agrees sc w mail actor.Master h sound m = quiet_agrees sc w h
-
-delivered_agrees : (sc : Scenario) (w : State) (number : ℕ) (found : Option Mail) → Agrees sc w → IsSound sc w → slice_get w.mails number ≡ found → TurnAgrees sc w (delivered sc w.actors found)
-delivered_agrees sc w number None h sound e = quiet_agrees sc w h
-delivered_agrees sc w number (Some mail) h sound e =
-    received_agrees sc w mail mail.letter.to h sound (each_get (MailRests sc w.actors.coordinators) w.mails number mail h.mails e)
-
 -- ---- submissions
-
-pub not_refused : (b : Bool) (why : StepError) → (if b then Some why else None) ≡ None → b ≡ false
-not_refused true why e = absurd (cc)
-not_refused false why e = refl
 
 pub no_age : (age : Option ℕ) → is_some age ≡ false → age ≡ None
 no_age None e = refl
 no_age (Some place) e = absurd (cc)
 
-submission_agrees : (sc : Scenario) (w : State) (txn : TxnId) (part : Part Coordinator) (up : Option Coordinator) → Agrees sc w → IsSound sc w → slice_get w.actors.coordinators txn.0 ≡ Some part → part.up ≡ up
-    → is_part_submitted up ≡ false → TurnAgrees sc w (coordinator_acted w.actors txn (coordinator_submits_up sc part txn (length w.steps) up))
-submission_agrees sc w txn part None h sound found e new = absurd (cc)
-submission_agrees sc w txn part (Some c) h sound found e new =
-    let agrees : CoordinatorAgrees sc c part.log = subst (λ (up : Option Coordinator). IfSome up (λ (d : Coordinator). CoordinatorAgrees sc d part.log)) e (h.coordinators txn.0 part found).state in
+begun_agrees : (sc : Scenario) (w : State) → IsSound sc w → Agrees sc w → (txn : TxnId) (part : Part Coordinator) (c : Coordinator) → IsCoordinatorUp w txn part c → is_part_submitted (Some c) ≡ false
+    → TurnAgrees sc w (coordinator_acted w.actors txn (acts_by coordinator_fact (what.Submitted txn ∷ []) part.log (with_age (submit_row sc c) (length w.steps))))
+begun_agrees sc w sound h txn part c up new =
     let unborn : c.age ≡ None = no_age c.age new in
-    coordinator_acts_agrees sc w txn part c (what.Submitted txn ∷ []) (with_age (submit_row sc c) (length w.steps)) h found e
-    (submission_lawful sc w txn part c (length w.steps) (with_age (submit_row sc c) (length w.steps)) (own_txn sc w txn part c sound found e) unborn (submit_row_lawful sc c part.log (length w.steps) agrees unborn))
-
-submitted_agrees : (sc : Scenario) (w : State) (txn : TxnId) (part : Option (Part Coordinator)) → Agrees sc w → IsSound sc w → IsTxn sc txn → slice_get w.actors.coordinators txn.0 ≡ part
-    → option_map_or (λ (p : Part Coordinator). is_part_submitted p.up) part false ≡ false → TurnAgrees sc w (submitted_by sc w.actors txn (length w.steps) part)
-submitted_agrees sc w txn None h sound exists e new = absurd (missing w.actors.coordinators txn.0 (omega (arith, exists, h.coordinator_count)) e)
-submitted_agrees sc w txn (Some part) h sound exists e new = submission_agrees sc w txn part part.up h sound e refl new
+    coordinator_acts_agrees sc w txn part c (what.Submitted txn ∷ []) (with_age (submit_row sc c) (length w.steps)) h up.found up.up
+    (submission_lawful sc w txn part c (length w.steps) (with_age (submit_row sc c) (length w.steps)) (own_txn sc w txn part c sound up.found up.up) unborn
+    (submit_row_lawful sc c part.log (length w.steps) (coordinator_agrees sc w txn part c h up) unborn))
 
 -- ---- steps
 
-lost_says : (sc : Scenario) (w : State) (mail : ℕ) → SaysOnly sc w.facts (what.Lost mail ∷ [])
-lost_says sc w mail = record { follows = (tt, tt); no_submission = λ txn. refl; no_decision = λ txn. refl; no_settlement = λ at txn. refl }
+agrees_cases : (sc : Scenario) (w : State) → IsSound sc w → Agrees sc w → Cases sc w (λ taken turn. TurnAgrees sc w turn)
+agrees_cases sc w sound h =
+    record {
+      idle = idle_agrees sc w h;
+      server_received = λ n mail at part s sent up.
+          server_acts_agrees sc w at part s (server_row sc s mail) h up.found
+          (server_row_lawful (MaySettle sc w.actors.coordinators at) sc s part.log mail (server_agrees sc w at part s h up) (order_rests sc w at mail.letter.body (mail_rests sc w n mail (actor.Server at) h sent)));
+      coordinator_received = λ n mail txn part c sent up.
+          coordinator_acts_agrees sc w txn part c [] (coordinator_row sc c mail) h up.found up.up
+          (received_lawful sc w txn part c (coordinator_row sc c mail) h up.found up.up (own_txn sc w txn part c sound up.found up.up)
+          (coordinator_row_lawful sc c part.log mail (coordinator_agrees sc w txn part c h up)));
+      authority_told = λ n mail sent.
+          unmoved_agrees sc w [] (office.authority_row w.actors.authority mail).reaction.letters h (silent_says sc w) (tells_reply w.actors.authority mail.letter.body);
+      begun = λ txn part c exists up new. begun_agrees sc w sound h txn part c up new;
+    }
 
 -- a step that is not refused keeps agreement
 pub agrees_done : (sc : Scenario) (m : Machine) (taken : Step) → IsStepOf sc taken → refusal m.state taken ≡ None → IsSound sc m.state → Agrees sc m.state → Agrees sc (done sc m taken).state
-agrees_done sc m (step.Submit txn) exists allowed sound h =
-    concluded_agrees sc m.state (step.Submit txn) (submitted sc m.state.actors txn (length m.state.steps)) h
-    (submitted_agrees sc m.state txn (slice_get m.state.actors.coordinators txn.0) h sound exists refl (not_refused (is_submitted m.state.actors txn) (error.AlreadySubmitted txn) allowed))
-agrees_done sc m (step.Deliver mail) exists allowed sound h =
-    concluded_agrees sc m.state (step.Deliver mail) (delivered sc m.state.actors (slice_get m.state.mails mail)) h
-    (delivered_agrees sc m.state mail (slice_get m.state.mails mail) h sound refl)
-agrees_done sc m (step.Lose mail) exists allowed sound h =
-    concluded_agrees sc m.state (step.Lose mail) (idles m.state.actors (what.Lost mail ∷ [])) h (unmoved_agrees sc m.state (what.Lost mail ∷ []) [] h (lost_says sc m.state mail) tt)
-agrees_done sc m _ exists allowed sound h = h
+agrees_done sc m taken exists allowed sound h =
+    done_by sc m (λ taken turn. TurnAgrees sc m.state turn) (Agrees sc) (agrees_cases sc m.state sound h) h.coordinator_count
+    (λ taken turn t. concluded_agrees sc m.state taken turn h t) h taken exists allowed
 
 -- ---- before the first step
 

@@ -17,33 +17,32 @@ use Rattle.tp_types.specs.declared.scenario.Actor.{Actor}
 use Rattle.tp_types.specs.declared.scenario.Actor.TheVariants as actor
 use Rattle.tp_types.specs.declared.scenario.Scenario.{Scenario}
 use Rattle.tp_types.specs.declared.scenario.Step.{Step}
-use Rattle.tp_types.specs.declared.scenario.Step.TheVariants as step
 use Rattle.tp_model.specs.Ids.{same_txn}
 use Rattle.tp_machine.specs.declared.coord.Coordinator.{Coordinator}
-use Rattle.tp_machine.specs.declared.error.StepError.TheVariants as error
 use Rattle.tp_machine.specs.declared.offices.Authority.{Authority}
 use Rattle.tp_machine.specs.declared.part.Part.{Part}
 use Rattle.tp_machine.specs.declared.server.Entry.{Entry}
 use Rattle.tp_machine.specs.declared.server.Server.{Server}
 use Rattle.tp_types.specs.Effect.{Effect}
 use Rattle.tp_machine.specs.Logs.{epoch_at, epoch_by, epoch_in}
-use Rattle.tp_machine.specs.Machine.{Machine, State, Turn, acts_by, concluded, coordinator_acted, coordinator_fact, coordinator_submits_up, coordinator_takes_up, delivered, done, idles, is_part_submitted, is_submitted, log_with, opened_part, opening_state, posted, received, refusal, server_acted, server_fact, server_takes_up, submitted, submitted_by, to_coordinator, to_server, with_age}
-use Rattle.tp_machine.specs.Sound.{Each, EachAt, IsSound, IsSoundServerUp, IsStepOf, IsTxn}
+use Rattle.tp_machine.specs.Machine.{Machine, State, Turn, acts_by, concluded, coordinator_acted, coordinator_fact, done, idles, is_part_submitted, log_with, opened_part, opening_state, posted, refusal, server_acted, server_fact, with_age}
+use Rattle.tp_machine.specs.Sound.{Each, EachAt, IsSound, IsSoundServerUp, IsStepOf}
 use Rattle.tp_machine.specs.coord.Opened as coord_opened
 use Rattle.tp_machine.specs.coord.Row.{coordinator_row, submit_row}
 use Rattle.tp_machine.specs.offices.Authority as office
 use Rattle.tp_machine.specs.server.Opened as server_opened
 use Rattle.tp_machine.specs.server.Row.{server_row}
 use Rattle.tp_machine.proofs.AgreeActs.{number_itself}
-use Rattle.tp_machine.proofs.AgreeCoordinator.{CoordinatorAgrees, HasBegun}
-use Rattle.tp_machine.proofs.AgreeSteps.{no_age, not_refused, own_txn}
+use Rattle.tp_machine.proofs.AgreeCoordinator.{HasBegun}
+use Rattle.tp_machine.proofs.AgreeSteps.{coordinator_agrees, no_age, own_txn}
 use Rattle.tp_machine.proofs.AgreeWorld.{Agrees}
 use Rattle.tp_machine.proofs.EpochActors.{BodyTold, CoordinatorEpochs, CoordinatorKeeps, DoneTold, EntryMade, IsNamed, LetterMade, RecordMade, ReplyMade, RequestNamed, ServerEpochs, ServerMade, coordinator_row_keeps, epoch_same, server_row_made, submit_row_keeps}
-use Rattle.tp_machine.proofs.LogLemmas.{get_set, look_set, set_same}
-use Rattle.tp_machine.proofs.SoundLists.{at_made, at_set, each_append, each_as, each_get, each_more, missing, placed_none}
+use Rattle.tp_machine.proofs.LogLemmas.{get_set, look_set}
+use Rattle.tp_machine.proofs.SoundLists.{at_made, at_set, each_append, each_as, each_get, each_more, placed_none}
 use Rattle.tp_machine.proofs.ViewsCoordinator.{idle_is}
 use Rattle.tp_machine.proofs.ViewsTurns.{stage}
 use Rattle.tp_machine.proofs.ViewsWorld.{up_at, up_of}
+use Rattle.tp_machine.proofs.Cases.{Cases, IsCoordinatorUp, IsServerUp, SaysIdle, WasSent, done_by}
 
 -- ---- the invariant
 
@@ -228,89 +227,61 @@ coordinator_acts_epochs w txn part c own effect h found up same t =
           (λ letter k. request_epochs w.actors.servers coordinators effect.state letter.from letter.to letter.body itself k) effect.reaction.letters t.letters;
     }
 
--- ---- receipts
+-- ---- what is known of actors that are up
 
-quiet_epochs : (w : State) → Epochs w → TurnEpochs w (idles w.actors [])
-quiet_epochs w h = unmoved_epochs w [] [] h tt
-
-server_part_epochs : (sc : Scenario) (w : State) (mail : Mail) (at : ServerId) (part : Part Server) (up : Option Server) → IsSound sc w → Epochs w → slice_get w.actors.servers at.0 ≡ Some part → part.up ≡ up
-    → TurnEpochs w (server_acted w.actors at (server_takes_up sc at part mail up))
-server_part_epochs sc w mail at part None sound h found e =
-    subst (λ (servers : List (Part Server)). TurnEpochs w (record { actors = record w.actors { servers = servers }; happened = []; letters = [] })) (sym (set_same w.actors.servers at.0 part found)) (quiet_epochs w h)
-server_part_epochs sc w mail at part (Some s) sound h found e =
-    let here : IsSoundServerUp sc at s = subst (λ (up : Option Server). IfSome up (IsSoundServerUp sc at)) e (sound.actors_are.servers at.0 part found).state in
-    let made : ServerMade s part.log = subst (λ (up : Option Server). IfSome up (λ (t : Server). ServerMade t part.log)) e (h.servers at.0 part found).state in
-    server_acts_epochs w at part s (server_row sc s mail) h found here.server_is made (server_row_made sc s part.log mail made)
-
-to_server_epochs : (sc : Scenario) (w : State) (mail : Mail) (at : ServerId) (part : Option (Part Server)) → IsSound sc w → Epochs w → slice_get w.actors.servers at.0 ≡ part → TurnEpochs w (to_server sc w.actors mail at part)
-to_server_epochs sc w mail at None sound h e = quiet_epochs w h
-to_server_epochs sc w mail at (Some part) sound h e = server_part_epochs sc w mail at part part.up sound h e refl
+idle_epochs : (w : State) → Epochs w → (taken : Step) (happened : List What) → SaysIdle taken happened → TurnEpochs w (idles w.actors happened)
+idle_epochs w h taken happened e = unmoved_epochs w happened [] h tt
 
 told_of_mail : (servers : List (Part Server)) (coordinators : List (Part Coordinator)) (from to : Actor) (said : Body) → BodyEpochs servers coordinators from to said → BodyTold (epoch_at servers) from said
 told_of_mail servers coordinators from to (body.Done done) h = h
 told_of_mail servers coordinators from to _ h = tt
 
-coordinator_part_epochs : (sc : Scenario) (w : State) (mail : Mail) (txn : TxnId) (part : Part Coordinator) (up : Option Coordinator) → IsSound sc w → Epochs w → slice_get w.actors.coordinators txn.0 ≡ Some part → part.up ≡ up
-    → BodyTold (epoch_at w.actors.servers) mail.letter.from mail.letter.body → TurnEpochs w (coordinator_acted w.actors txn (coordinator_takes_up sc part mail up))
-coordinator_part_epochs sc w mail txn part None sound h found e m =
-    subst (λ (coordinators : List (Part Coordinator)). TurnEpochs w (record { actors = record w.actors { coordinators = coordinators }; happened = []; letters = [] }))
-    (sym (set_same w.actors.coordinators txn.0 part found)) (quiet_epochs w h)
-coordinator_part_epochs sc w mail txn part (Some c) sound h found e m =
-    let keeps : CoordinatorKeeps (epoch_at w.actors.servers) c = subst (λ (up : Option Coordinator). IfSome up (CoordinatorKeeps (epoch_at w.actors.servers))) e (h.coordinators txn.0 part found) in
-    coordinator_acts_epochs w txn part c [] (coordinator_row sc c mail) h found e (own_txn sc w txn part c sound found e) (coordinator_row_keeps (epoch_at w.actors.servers) sc c mail keeps m)
-
-to_coordinator_epochs : (sc : Scenario) (w : State) (mail : Mail) (txn : TxnId) (part : Option (Part Coordinator)) → IsSound sc w → Epochs w → slice_get w.actors.coordinators txn.0 ≡ part
-    → BodyTold (epoch_at w.actors.servers) mail.letter.from mail.letter.body → TurnEpochs w (to_coordinator sc w.actors mail txn part)
-to_coordinator_epochs sc w mail txn None sound h e m = quiet_epochs w h
-to_coordinator_epochs sc w mail txn (Some part) sound h e m = coordinator_part_epochs sc w mail txn part part.up sound h e refl m
+mail_told : (w : State) (n : ℕ) (mail : Mail) (to : Actor) → Epochs w → WasSent w n mail to → BodyTold (epoch_at w.actors.servers) mail.letter.from mail.letter.body
+mail_told w n mail to h sent =
+    told_of_mail w.actors.servers w.actors.coordinators mail.letter.from mail.letter.to mail.letter.body
+    (each_get (MailEpochs w.actors.servers w.actors.coordinators) w.mails n mail h.mails sent.sent)
 
 tells_no_epoch : (servers : List (Part Server)) (coordinators : List (Part Coordinator)) (authority : Authority) (said : Body) → Each (LetterEpochs servers coordinators) (office.on_body authority said).reaction.letters
 tells_no_epoch servers coordinators authority (body.Ask ask) = (tt, tt)
 tells_no_epoch servers coordinators authority _ = tt
 
-received_epochs : (sc : Scenario) (w : State) (mail : Mail) (to : Actor) → IsSound sc w → Epochs w → BodyTold (epoch_at w.actors.servers) mail.letter.from mail.letter.body → TurnEpochs w (received sc w.actors mail to)
-received_epochs sc w mail (actor.Server at) sound h m = to_server_epochs sc w mail at (slice_get w.actors.servers at.0) sound h refl
-received_epochs sc w mail (actor.Coordinator txn) sound h m = to_coordinator_epochs sc w mail txn (slice_get w.actors.coordinators txn.0) sound h refl m
-received_epochs sc w mail actor.Authority sound h m =
-    unmoved_epochs w [] (office.authority_row w.actors.authority mail).reaction.letters h (tells_no_epoch w.actors.servers w.actors.coordinators w.actors.authority mail.letter.body)
-received_epochs sc w mail actor.Master sound h m = quiet_epochs w h
+received_by_server : (sc : Scenario) (w : State) → IsSound sc w → Epochs w → (mail : Mail) (at : ServerId) (part : Part Server) (s : Server) → IsServerUp w at part s
+    → TurnEpochs w (server_acted w.actors at (acts_by (server_fact at) [] part.log (server_row sc s mail)))
+received_by_server sc w sound h mail at part s up =
+    let here : IsSoundServerUp sc at s = subst (λ (u : Option Server). IfSome u (IsSoundServerUp sc at)) up.up (sound.actors_are.servers at.0 part up.found).state in
+    let made : ServerMade s part.log = subst (λ (u : Option Server). IfSome u (λ (t : Server). ServerMade t part.log)) up.up (h.servers at.0 part up.found).state in
+    server_acts_epochs w at part s (server_row sc s mail) h up.found here.server_is made (server_row_made sc s part.log mail made)
 
-delivered_epochs : (sc : Scenario) (w : State) (number : ℕ) (found : Option Mail) → IsSound sc w → Epochs w → slice_get w.mails number ≡ found → TurnEpochs w (delivered sc w.actors found)
-delivered_epochs sc w number None sound h e = quiet_epochs w h
-delivered_epochs sc w number (Some mail) sound h e =
-    received_epochs sc w mail mail.letter.to sound h
-    (told_of_mail w.actors.servers w.actors.coordinators mail.letter.from mail.letter.to mail.letter.body
-    (each_get (MailEpochs w.actors.servers w.actors.coordinators) w.mails number mail h.mails e))
+coordinator_keeps : (w : State) (txn : TxnId) (part : Part Coordinator) (c : Coordinator) → Epochs w → IsCoordinatorUp w txn part c → CoordinatorKeeps (epoch_at w.actors.servers) c
+coordinator_keeps w txn part c h up = subst (λ (u : Option Coordinator). IfSome u (CoordinatorKeeps (epoch_at w.actors.servers))) up.up (h.coordinators txn.0 part up.found)
 
--- ---- submissions
-
-submission_epochs : (sc : Scenario) (w : State) (txn : TxnId) (part : Part Coordinator) (up : Option Coordinator) → IsSound sc w → Agrees sc w → Epochs w → slice_get w.actors.coordinators txn.0 ≡ Some part → part.up ≡ up
-    → is_part_submitted up ≡ false → TurnEpochs w (coordinator_acted w.actors txn (coordinator_submits_up sc part txn (length w.steps) up))
-submission_epochs sc w txn part None sound a h found e new = absurd (cc)
-submission_epochs sc w txn part (Some c) sound a h found e new =
-    let agrees : CoordinatorAgrees sc c part.log = subst (λ (up : Option Coordinator). IfSome up (λ (d : Coordinator). CoordinatorAgrees sc d part.log)) e (a.coordinators txn.0 part found).state in
-    let keeps : CoordinatorKeeps (epoch_at w.actors.servers) c = subst (λ (up : Option Coordinator). IfSome up (CoordinatorKeeps (epoch_at w.actors.servers))) e (h.coordinators txn.0 part found) in
-    let none : stage c.phase ≡ 0 = ap stage (idle_is c.phase (subst (HasBegun c.phase) (no_age c.age new) agrees.begun)) in
-    coordinator_acts_epochs w txn part c (what.Submitted txn ∷ []) (with_age (submit_row sc c) (length w.steps)) h found e (own_txn sc w txn part c sound found e)
-    (submit_row_keeps (epoch_at w.actors.servers) sc c (length w.steps) keeps (omega (arith, none)))
-
-submitted_epochs : (sc : Scenario) (w : State) (txn : TxnId) (part : Option (Part Coordinator)) → IsSound sc w → Agrees sc w → Epochs w → IsTxn sc txn → slice_get w.actors.coordinators txn.0 ≡ part
-    → option_map_or (λ (p : Part Coordinator). is_part_submitted p.up) part false ≡ false → TurnEpochs w (submitted_by sc w.actors txn (length w.steps) part)
-submitted_epochs sc w txn None sound a h exists e new = absurd (missing w.actors.coordinators txn.0 (omega (arith, exists, a.coordinator_count)) e)
-submitted_epochs sc w txn (Some part) sound a h exists e new = submission_epochs sc w txn part part.up sound a h e refl new
+begun_epochs : (sc : Scenario) (w : State) → IsSound sc w → Agrees sc w → Epochs w → (txn : TxnId) (part : Part Coordinator) (c : Coordinator) → IsCoordinatorUp w txn part c → is_part_submitted (Some c) ≡ false
+    → TurnEpochs w (coordinator_acted w.actors txn (acts_by coordinator_fact (what.Submitted txn ∷ []) part.log (with_age (submit_row sc c) (length w.steps))))
+begun_epochs sc w sound a h txn part c up new =
+    let none : stage c.phase ≡ 0 = ap stage (idle_is c.phase (subst (HasBegun c.phase) (no_age c.age new) (coordinator_agrees sc w txn part c a up).begun)) in
+    coordinator_acts_epochs w txn part c (what.Submitted txn ∷ []) (with_age (submit_row sc c) (length w.steps)) h up.found up.up (own_txn sc w txn part c sound up.found up.up)
+    (submit_row_keeps (epoch_at w.actors.servers) sc c (length w.steps) (coordinator_keeps w txn part c h up) (omega (arith, none)))
 
 -- ---- steps
 
+epochs_cases : (sc : Scenario) (w : State) → IsSound sc w → Agrees sc w → Epochs w → Cases sc w (λ taken turn. TurnEpochs w turn)
+epochs_cases sc w sound a h =
+    record {
+      idle = idle_epochs w h;
+      server_received = λ n mail at part s sent up. received_by_server sc w sound h mail at part s up;
+      coordinator_received = λ n mail txn part c sent up.
+          coordinator_acts_epochs w txn part c [] (coordinator_row sc c mail) h up.found up.up (own_txn sc w txn part c sound up.found up.up)
+          (coordinator_row_keeps (epoch_at w.actors.servers) sc c mail (coordinator_keeps w txn part c h up) (mail_told w n mail (actor.Coordinator txn) h sent));
+      authority_told = λ n mail sent.
+          unmoved_epochs w [] (office.authority_row w.actors.authority mail).reaction.letters h (tells_no_epoch w.actors.servers w.actors.coordinators w.actors.authority mail.letter.body);
+      begun = λ txn part c exists up new. begun_epochs sc w sound a h txn part c up new;
+    }
+
 -- a step that is not refused keeps what is said of epochs
 pub epochs_done : (sc : Scenario) (m : Machine) (taken : Step) → IsStepOf sc taken → refusal m.state taken ≡ None → IsSound sc m.state → Agrees sc m.state → Epochs m.state → Epochs (done sc m taken).state
-epochs_done sc m (step.Submit txn) exists allowed sound a h =
-    concluded_epochs m.state (step.Submit txn) (submitted sc m.state.actors txn (length m.state.steps))
-    (submitted_epochs sc m.state txn (slice_get m.state.actors.coordinators txn.0) sound a h exists refl (not_refused (is_submitted m.state.actors txn) (error.AlreadySubmitted txn) allowed))
-epochs_done sc m (step.Deliver mail) exists allowed sound a h =
-    concluded_epochs m.state (step.Deliver mail) (delivered sc m.state.actors (slice_get m.state.mails mail)) (delivered_epochs sc m.state mail (slice_get m.state.mails mail) sound h refl)
-epochs_done sc m (step.Lose mail) exists allowed sound a h =
-    concluded_epochs m.state (step.Lose mail) (idles m.state.actors (what.Lost mail ∷ [])) (unmoved_epochs m.state (what.Lost mail ∷ []) [] h tt)
-epochs_done sc m _ exists allowed sound a h = h
+epochs_done sc m taken exists allowed sound a h =
+    done_by sc m (λ taken turn. TurnEpochs m.state turn) Epochs (epochs_cases sc m.state sound a h) a.coordinator_count
+    (λ taken turn t. concluded_epochs m.state taken turn t) h taken exists allowed
 
 -- before the first step every server is in its first epoch, and nobody has named one
 pub epochs_opening : (sc : Scenario) → Epochs (opening_state sc)

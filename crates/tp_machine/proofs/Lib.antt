@@ -5,6 +5,7 @@ pub mod AgreeEnd
 pub mod AgreeServer
 pub mod AgreeSteps
 pub mod AgreeWorld
+pub mod Cases
 pub mod EpochActors
 pub mod EpochWorld
 pub mod FactLemmas

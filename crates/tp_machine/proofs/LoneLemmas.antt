@@ -1,6 +1,6 @@
 -- Every commit is the only one of its place: a step makes at most one.
 use Rattle.std.proofs.lemmas.Bool.{eqb-true}
-use Rattle.std.proofs.Common.{◌≡◌, ℕ, ◌+◌, ◌≤◌, ◌<◌, ◌==◌, ◌&&◌, List, [], ◌∷◌, length, slice_get, Bool, true, false, cond, Option, Some, None, is_some, refl, sym, ap, subst, ◌∙◌, arith}
+use Rattle.std.proofs.Common.{Bool, List, None, Option, Some, [], ap, arith, cond, drop, false, flat_map, is_some, length, refl, slice_get, subst, sym, true, ℕ, ◌&&◌, ◌+◌, ◌<◌, ◌==◌, ◌∙◌, ◌∷◌, ◌≡◌, ◌≤◌}
 use Rattle.std.specs.List.{count_by}
 use Rattle.std.proofs.lemmas.Bool.Decides.{nat_tests}
 use Rattle.std.proofs.lemmas.List.Sums.{sum_by-cons}
@@ -9,22 +9,17 @@ use Rattle.tp_types.specs.declared.fact.What.{What}
 use Rattle.tp_types.specs.declared.fact.What.TheVariants as what
 use Rattle.tp_types.specs.declared.ids.ServerId.{ServerId}
 use Rattle.tp_types.specs.declared.ids.TxnId.{TxnId}
-use Rattle.tp_types.specs.declared.mail.Mail.{Mail}
 use Rattle.tp_types.specs.declared.records.Decision.TheVariants as decision
 use Rattle.tp_types.specs.declared.records.Record.{Record}
 use Rattle.tp_types.specs.declared.records.Record.TheVariants as log
-use Rattle.tp_types.specs.declared.scenario.Actor.{Actor}
-use Rattle.tp_types.specs.declared.scenario.Actor.TheVariants as actor
 use Rattle.tp_types.specs.declared.scenario.Scenario.{Scenario}
 use Rattle.tp_types.specs.declared.scenario.Step.{Step}
 use Rattle.tp_types.specs.declared.scenario.Step.TheVariants as step
 use Rattle.tp_model.specs.Facts.{record_of}
 use Rattle.tp_model.specs.Commits.{are_lone, is_commit_at, is_commit_what, is_lone, is_lone_what}
-use Rattle.tp_machine.specs.declared.actors.Actors.{Actors}
 use Rattle.tp_machine.specs.declared.coord.Coordinator.{Coordinator}
 use Rattle.tp_machine.specs.declared.part.Part.{Part}
-use Rattle.tp_machine.specs.declared.server.Server.{Server}
-use Rattle.tp_machine.specs.Machine.{Machine, State, Turn, concluded, coordinator_fact, coordinator_submits_up, coordinator_takes_up, delivered, done, idles, noted, received, server_fact, server_takes_up, submitted, submitted_by, to_coordinator, to_server}
+use Rattle.tp_machine.specs.Machine.{Machine, State, Turn, concluded, coordinator_fact, done, log_with, noted, refusal, server_fact}
 use Rattle.tp_machine.specs.coord.Row.{coordinator_row, submit_row}
 use Rattle.tp_machine.specs.server.Row.{server_row}
 use Rattle.tp_machine.proofs.AgreeActs.{told_by}
@@ -33,6 +28,9 @@ use Rattle.tp_machine.proofs.AgreeEnd.{each_found, member_counted}
 use Rattle.tp_machine.proofs.FactLemmas.{ArePast, all_from_each, count_append}
 use Rattle.tp_machine.proofs.LogLemmas.{gained}
 use Rattle.tp_machine.proofs.ViewsBuilt.{both_true}
+use Rattle.tp_machine.proofs.Cases.{Cases, SaysIdle, done_by}
+use Rattle.tp_types.specs.Effect.{Effect}
+use Rattle.tp_machine.specs.Sound.{IsStepOf}
 
 -- no place has two commits
 abbrev pub AreLone : List Fact → Type 0
@@ -131,61 +129,38 @@ of_one None = omega arith
 of_one (Some (log.Decided d)) = at_most (is_some (record_of d.decision))
 of_one (Some _) = omega arith
 
-server_one : (sc : Scenario) (at : ServerId) (part : Part Server) (mail : Mail) (up : Option Server) → commits (server_takes_up sc at part mail up).happened ≤ 1
-server_one sc at part mail None = omega arith
-server_one sc at part mail (Some s) =
-    let append = (server_row sc s mail).reaction.append in
-    subst (λ (told : List What). commits told ≤ 1) (sym (gained (server_fact at) part.log append)) (by_none at append)
+coordinator_one : (sc : Scenario) (part : Part Coordinator) (effect : Effect Coordinator) → commits (flat_map coordinator_fact (drop (length part.log) (log_with part.log effect.reaction.append))) ≤ 1
+coordinator_one sc part effect =
+    subst (λ (told : List What). commits told ≤ 1) (sym (gained coordinator_fact part.log effect.reaction.append)) (of_one effect.reaction.append)
 
-to_server_one : (sc : Scenario) (actors : Actors) (mail : Mail) (at : ServerId) (part : Option (Part Server)) → commits (to_server sc actors mail at part).happened ≤ 1
-to_server_one sc actors mail at None = omega arith
-to_server_one sc actors mail at (Some part) = server_one sc at part mail part.up
+after_submission : (txn : TxnId) (rest : List What) → commits rest ≤ 1 → commits (what.Submitted txn ∷ rest) ≤ 1
+after_submission txn rest h =
+    let whole : commits (what.Submitted txn ∷ rest) ≡ 0 + commits rest = sum_by-cons (λ z. cond (is_commit_what z) 1 0) (what.Submitted txn) rest in
+    omega (arith, whole, h)
 
-coordinator_one : (sc : Scenario) (part : Part Coordinator) (mail : Mail) (up : Option Coordinator) → commits (coordinator_takes_up sc part mail up).happened ≤ 1
-coordinator_one sc part mail None = omega arith
-coordinator_one sc part mail (Some c) =
-    let append = (coordinator_row sc c mail).reaction.append in
-    subst (λ (told : List What). commits told ≤ 1) (sym (gained coordinator_fact part.log append)) (of_one append)
+idle_one : (taken : Step) (happened : List What) → SaysIdle taken happened → commits happened ≤ 1
+idle_one (step.Deliver mail) happened e = subst (λ (hs : List What). commits hs ≤ 1) (sym e) (omega arith)
+idle_one (step.Lose mail) happened e = subst (λ (hs : List What). commits hs ≤ 1) (sym e) (omega arith)
+idle_one _ happened e = absurd e
 
-to_coordinator_one : (sc : Scenario) (actors : Actors) (mail : Mail) (txn : TxnId) (part : Option (Part Coordinator)) → commits (to_coordinator sc actors mail txn part).happened ≤ 1
-to_coordinator_one sc actors mail txn None = omega arith
-to_coordinator_one sc actors mail txn (Some part) = coordinator_one sc part mail part.up
-
-received_one : (sc : Scenario) (actors : Actors) (mail : Mail) (to : Actor) → commits (received sc actors mail to).happened ≤ 1
-received_one sc actors mail (actor.Server at) = to_server_one sc actors mail at (slice_get actors.servers at.0)
-received_one sc actors mail (actor.Coordinator txn) = to_coordinator_one sc actors mail txn (slice_get actors.coordinators txn.0)
-received_one sc actors mail actor.Authority = omega arith
-received_one sc actors mail actor.Master = omega arith
-
-delivered_one : (sc : Scenario) (actors : Actors) (found : Option Mail) → commits (delivered sc actors found).happened ≤ 1
-delivered_one sc actors None = omega arith
-delivered_one sc actors (Some mail) = received_one sc actors mail mail.letter.to
-
-submission_one : (sc : Scenario) (part : Part Coordinator) (txn : TxnId) (place : ℕ) (up : Option Coordinator) → commits (coordinator_submits_up sc part txn place up).happened ≤ 1
-submission_one sc part txn place None = omega arith
-submission_one sc part txn place (Some c) =
-    let append = (submit_row sc c).reaction.append in
-    let told : commits (told_of append) ≤ 1 = of_one append in
-    subst (λ (rest : List What). commits (what.Submitted txn ∷ rest) ≤ 1) (sym (gained coordinator_fact part.log append)) (after_submission txn (told_of append) told)
-  where
-    after_submission : (t : TxnId) (rest : List What) → commits rest ≤ 1 → commits (what.Submitted t ∷ rest) ≤ 1
-    after_submission t rest h =
-        let whole : commits (what.Submitted t ∷ rest) ≡ 0 + commits rest = sum_by-cons (λ z. cond (is_commit_what z) 1 0) (what.Submitted t) rest in
-        omega (arith, whole, h)
-
-submitted_one : (sc : Scenario) (actors : Actors) (txn : TxnId) (place : ℕ) (part : Option (Part Coordinator)) → commits (submitted_by sc actors txn place part).happened ≤ 1
-submitted_one sc actors txn place None = omega arith
-submitted_one sc actors txn place (Some part) = submission_one sc part txn place part.up
+lone_cases : (sc : Scenario) (w : State) → Cases sc w (λ taken turn. commits turn.happened ≤ 1)
+lone_cases sc w =
+    record {
+      idle = idle_one;
+      server_received = λ n mail at part s sent up.
+          let append = (server_row sc s mail).reaction.append in
+          subst (λ (told : List What). commits told ≤ 1) (sym (gained (server_fact at) part.log append)) (by_none at append);
+      coordinator_received = λ n mail txn part c sent up. coordinator_one sc part (coordinator_row sc c mail);
+      authority_told = λ n mail sent. omega arith;
+      begun = λ txn part c exists up new. after_submission txn (flat_map coordinator_fact (drop (length part.log) (log_with part.log (submit_row sc c).reaction.append))) (coordinator_one sc part (submit_row sc c));
+    }
 
 -- a step keeps that no place has two commits
-pub lone_done : (sc : Scenario) (m : Machine) (taken : Step) → ArePast (length m.state.steps) m.state.facts → AreLone m.state.facts → AreLone (done sc m taken).state.facts
-lone_done sc m (step.Submit txn) past h =
-    concluded_lone m.state (step.Submit txn) (submitted sc m.state.actors txn (length m.state.steps)) past h
-    (submitted_one sc m.state.actors txn (length m.state.steps) (slice_get m.state.actors.coordinators txn.0))
-lone_done sc m (step.Deliver mail) past h =
-    concluded_lone m.state (step.Deliver mail) (delivered sc m.state.actors (slice_get m.state.mails mail)) past h (delivered_one sc m.state.actors (slice_get m.state.mails mail))
-lone_done sc m (step.Lose mail) past h = concluded_lone m.state (step.Lose mail) (idles m.state.actors (what.Lost mail ∷ [])) past h (omega arith)
-lone_done sc m _ past h = h
+pub lone_done : (sc : Scenario) (m : Machine) (taken : Step) → IsStepOf sc taken → refusal m.state taken ≡ None → length m.state.actors.coordinators ≡ length sc.txns
+    → ArePast (length m.state.steps) m.state.facts → AreLone m.state.facts → AreLone (done sc m taken).state.facts
+lone_done sc m taken exists allowed count past h =
+    done_by sc m (λ taken turn. commits turn.happened ≤ 1) (λ w. AreLone w.facts) (lone_cases sc m.state) count
+    (λ taken turn one. concluded_lone m.state taken turn past h one) h taken exists allowed
 
 pub lone_opening : AreLone []
 lone_opening place = omega arith

@@ -1,28 +1,22 @@
 -- What comes from outside: the facts that the steps say by themselves, after every list of steps.
-use Rattle.std.proofs.Common.{◌≡◌, ℕ, ◌+◌, ◌<◌, ◌≤◌, ◌&&◌, nat_le, List, [], ◌∷◌, ◌++◌, length, filter, slice_get, Bool, true, false, cond, Option, Some, None, refl, sym, ap, subst, ◌∙◌, arith}
+use Rattle.std.proofs.Common.{Bool, List, None, Option, Some, [], ap, arith, cond, drop, false, filter, flat_map, length, nat_le, refl, slice_get, subst, sym, true, ℕ, ◌&&◌, ◌++◌, ◌+◌, ◌<◌, ◌∙◌, ◌∷◌, ◌≡◌, ◌≤◌}
 use Rattle.std.specs.List.{count_by, list_all}
 use Rattle.std.proofs.lemmas.Bool.Decides.{nat_tests}
 use Rattle.tp_types.specs.declared.fact.Fact.{Fact}
 use Rattle.tp_types.specs.declared.fact.What.{What}
 use Rattle.tp_types.specs.declared.fact.What.TheVariants as what
 use Rattle.tp_types.specs.declared.ids.ServerId.{ServerId}
-use Rattle.tp_types.specs.declared.ids.TxnId.{TxnId}
-use Rattle.tp_types.specs.declared.mail.Mail.{Mail}
 use Rattle.tp_types.specs.declared.records.Record.{Record}
 use Rattle.tp_types.specs.declared.records.Record.TheVariants as log
-use Rattle.tp_types.specs.declared.scenario.Actor.{Actor}
-use Rattle.tp_types.specs.declared.scenario.Actor.TheVariants as actor
 use Rattle.tp_types.specs.declared.scenario.Scenario.{Scenario}
 use Rattle.tp_types.specs.declared.scenario.Step.{Step}
 use Rattle.tp_types.specs.declared.scenario.Step.TheVariants as step
 use Rattle.tp_model.specs.Facts.{before, is_earlier}
 use Rattle.tp_model.specs.Outside.{IsOutside, is_outside, is_outside_what, rises_from, said_by, said_from, at_place}
 use Rattle.tp_model.specs.Versions.{is_publication, opening_of}
-use Rattle.tp_machine.specs.declared.actors.Actors.{Actors}
 use Rattle.tp_machine.specs.declared.coord.Coordinator.{Coordinator}
 use Rattle.tp_machine.specs.declared.part.Part.{Part}
-use Rattle.tp_machine.specs.declared.server.Server.{Server}
-use Rattle.tp_machine.specs.Machine.{Machine, State, Turn, concluded, coordinator_fact, coordinator_submits_up, coordinator_takes_up, delivered, done, idles, noted, received, server_fact, server_takes_up, submitted, submitted_by, to_coordinator, to_server}
+use Rattle.tp_machine.specs.Machine.{Machine, State, Turn, concluded, coordinator_fact, done, idles, log_with, noted, refusal, server_fact}
 use Rattle.tp_machine.specs.coord.Row.{coordinator_row, submit_row}
 use Rattle.tp_machine.specs.server.Row.{server_row}
 use Rattle.tp_machine.proofs.AgreeWorld.{steps_more}
@@ -31,6 +25,9 @@ use Rattle.tp_machine.proofs.AgreeActs.{told_by}
 use Rattle.tp_machine.proofs.FactLemmas.{ArePast, Grows, all_from_each, append_none, filter_append, grows_noted, noted_past, past_as}
 use Rattle.tp_machine.proofs.LogLemmas.{gained}
 use Rattle.tp_machine.proofs.SoundLists.{each_append}
+use Rattle.tp_machine.proofs.Cases.{Cases, SaysIdle, done_by}
+use Rattle.tp_types.specs.Effect.{Effect}
+use Rattle.tp_machine.specs.Sound.{IsStepOf}
 
 -- ---- what a turn says by itself
 
@@ -47,46 +44,6 @@ pub own_told_of : (append : Option Record) → own_of (told_of append) ≡ []
 own_told_of None = refl
 own_told_of (Some (log.Decided d)) = refl
 own_told_of (Some _) = refl
-
-server_says : (sc : Scenario) (at : ServerId) (part : Part Server) (mail : Mail) (up : Option Server) → own_of (server_takes_up sc at part mail up).happened ≡ []
-server_says sc at part mail None = refl
-server_says sc at part mail (Some s) =
-    let append = (server_row sc s mail).reaction.append in
-    ap own_of (gained (server_fact at) part.log append) ∙ own_told_by at append
-
-to_server_says : (sc : Scenario) (actors : Actors) (mail : Mail) (at : ServerId) (part : Option (Part Server)) → own_of (to_server sc actors mail at part).happened ≡ []
-to_server_says sc actors mail at None = refl
-to_server_says sc actors mail at (Some part) = server_says sc at part mail part.up
-
-coordinator_says : (sc : Scenario) (part : Part Coordinator) (mail : Mail) (up : Option Coordinator) → own_of (coordinator_takes_up sc part mail up).happened ≡ []
-coordinator_says sc part mail None = refl
-coordinator_says sc part mail (Some c) =
-    let append = (coordinator_row sc c mail).reaction.append in
-    ap own_of (gained coordinator_fact part.log append) ∙ own_told_of append
-
-to_coordinator_says : (sc : Scenario) (actors : Actors) (mail : Mail) (txn : TxnId) (part : Option (Part Coordinator)) → own_of (to_coordinator sc actors mail txn part).happened ≡ []
-to_coordinator_says sc actors mail txn None = refl
-to_coordinator_says sc actors mail txn (Some part) = coordinator_says sc part mail part.up
-
-received_says : (sc : Scenario) (actors : Actors) (mail : Mail) (to : Actor) → own_of (received sc actors mail to).happened ≡ []
-received_says sc actors mail (actor.Server at) = to_server_says sc actors mail at (slice_get actors.servers at.0)
-received_says sc actors mail (actor.Coordinator txn) = to_coordinator_says sc actors mail txn (slice_get actors.coordinators txn.0)
-received_says sc actors mail actor.Authority = refl
-received_says sc actors mail actor.Master = refl
-
-delivered_says : (sc : Scenario) (actors : Actors) (found : Option Mail) → own_of (delivered sc actors found).happened ≡ []
-delivered_says sc actors None = refl
-delivered_says sc actors (Some mail) = received_says sc actors mail mail.letter.to
-
-submission_says : (sc : Scenario) (part : Part Coordinator) (txn : TxnId) (place : ℕ) (up : Option Coordinator) → own_of (coordinator_submits_up sc part txn place up).happened ≡ what.Submitted txn ∷ []
-submission_says sc part txn place None = refl
-submission_says sc part txn place (Some c) =
-    let append = (submit_row sc c).reaction.append in
-    ap (λ (told : List What). what.Submitted txn ∷ own_of told) (gained coordinator_fact part.log append) ∙ ap (λ (told : List What). what.Submitted txn ∷ told) (own_told_of append)
-
-submitted_says : (sc : Scenario) (actors : Actors) (txn : TxnId) (place : ℕ) (part : Option (Part Coordinator)) → own_of (submitted_by sc actors txn place part).happened ≡ what.Submitted txn ∷ []
-submitted_says sc actors txn place None = refl
-submitted_says sc actors txn place (Some part) = submission_says sc part txn place part.up
 
 -- ---- growth
 
@@ -181,16 +138,36 @@ concluded_outside sc w taken turn past h e =
           (each_append (λ (fact : Fact). fact.place < place + 1) w.facts (noted place turn.happened) (past_as place (place + 1) (omega arith) w.facts past) (noted_past place turn.happened)));
     }
 
+coordinator_says : (part : Part Coordinator) (effect : Effect Coordinator) → own_of (flat_map coordinator_fact (drop (length part.log) (log_with part.log effect.reaction.append))) ≡ []
+coordinator_says part effect = ap own_of (gained coordinator_fact part.log effect.reaction.append) ∙ own_told_of effect.reaction.append
+
+-- a turn says by itself what its step is to say
+abbrev Says : Scenario → State → Step → Turn → Type 0
+Says sc w taken turn = own_of turn.happened ≡ said_by sc (w.facts ++ noted (length w.steps) turn.happened) (length w.steps) taken
+
+idle_says : (sc : Scenario) (w : State) (taken : Step) (happened : List What) → SaysIdle taken happened → Says sc w taken (idles w.actors happened)
+idle_says sc w (step.Deliver mail) happened e = subst (λ (hs : List What). Says sc w (step.Deliver mail) (idles w.actors hs)) (sym e) refl
+idle_says sc w (step.Lose mail) happened e = subst (λ (hs : List What). Says sc w (step.Lose mail) (idles w.actors hs)) (sym e) refl
+idle_says sc w _ happened e = absurd e
+
+outside_cases : (sc : Scenario) (w : State) → Cases sc w (Says sc w)
+outside_cases sc w =
+    record {
+      idle = idle_says sc w;
+      server_received = λ n mail at part s sent up.
+          let append = (server_row sc s mail).reaction.append in
+          ap own_of (gained (server_fact at) part.log append) ∙ own_told_by at append;
+      coordinator_received = λ n mail txn part c sent up. coordinator_says part (coordinator_row sc c mail);
+      authority_told = λ n mail sent. refl;
+      begun = λ txn part c exists up new. ap (λ (told : List What). what.Submitted txn ∷ told) (coordinator_says part (submit_row sc c));
+    }
+
 -- a step keeps that the facts from outside are what the steps say
-pub outside_done : (sc : Scenario) (m : Machine) (taken : Step) → ArePast (length m.state.steps) m.state.facts → IsOutside sc m.state.steps m.state.facts
-    → IsOutside sc (done sc m taken).state.steps (done sc m taken).state.facts
-outside_done sc m (step.Submit txn) past h =
-    concluded_outside sc m.state (step.Submit txn) (submitted sc m.state.actors txn (length m.state.steps)) past h
-    (submitted_says sc m.state.actors txn (length m.state.steps) (slice_get m.state.actors.coordinators txn.0))
-outside_done sc m (step.Deliver mail) past h =
-    concluded_outside sc m.state (step.Deliver mail) (delivered sc m.state.actors (slice_get m.state.mails mail)) past h (delivered_says sc m.state.actors (slice_get m.state.mails mail))
-outside_done sc m (step.Lose mail) past h = concluded_outside sc m.state (step.Lose mail) (idles m.state.actors (what.Lost mail ∷ [])) past h refl
-outside_done sc m _ past h = h
+pub outside_done : (sc : Scenario) (m : Machine) (taken : Step) → IsStepOf sc taken → refusal m.state taken ≡ None → length m.state.actors.coordinators ≡ length sc.txns
+    → ArePast (length m.state.steps) m.state.facts → IsOutside sc m.state.steps m.state.facts → IsOutside sc (done sc m taken).state.steps (done sc m taken).state.facts
+outside_done sc m taken exists allowed count past h =
+    done_by sc m (Says sc m.state) (λ w. IsOutside sc w.steps w.facts) (outside_cases sc m.state) count
+    (λ taken turn says. concluded_outside sc m.state taken turn past h says) h taken exists allowed
 
 -- before the first step nothing was said
 pub outside_opening : (sc : Scenario) → IsOutside sc [] []

@@ -10,9 +10,8 @@ use Rattle.tp_model.specs.Outside.{IsOutside}
 use Rattle.tp_model.specs.Commits.{are_lone}
 use Rattle.tp_model.specs.SerialRun.{is_serial}
 use Rattle.tp_model.specs.Trust.{is_trusted}
-use Rattle.tp_model.specs.TrustedHistory.{TrustedSoFar}
 use Rattle.tp_machine.specs.declared.error.StepError.{StepError}
-use Rattle.tp_machine.specs.Machine.{Machine, State, after, after_step, after_steps, done, ending_of, opening, opening_state, refusal}
+use Rattle.tp_machine.specs.Machine.{Machine, State, after, after_step, after_steps, done, opening, opening_state, refusal}
 use Rattle.tp_machine.specs.Laws.{HasAllCommits, IsTrustedState}
 use Rattle.tp_machine.specs.Sound.{Each, IsSound, IsStepOf}
 use Rattle.tp_machine.proofs.AgreeWorld.{Agrees}
@@ -48,11 +47,11 @@ holds_opening sc built =
 pub holds_done : (sc : Scenario) (m : Machine) (taken : Step) → is_built sc ≡ true → IsStepOf sc taken → refusal m.state taken ≡ None → Holds sc m.state → Holds sc (done sc m taken).state
 holds_done sc m taken built exists allowed h =
     record {
-      sound = sound_done sc m taken built exists h.sound;
+      sound = sound_done sc m taken built exists allowed h.agrees.coordinator_count h.sound;
       agrees = agrees_done sc m taken exists allowed h.sound h.agrees;
       epochs = epochs_done sc m taken exists allowed h.sound h.agrees h.epochs;
-      lone = lone_done sc m taken h.agrees.past h.lone;
-      outside = outside_done sc m taken h.agrees.past h.outside;
+      lone = lone_done sc m taken exists allowed h.agrees.coordinator_count h.agrees.past h.lone;
+      outside = outside_done sc m taken exists allowed h.agrees.coordinator_count h.agrees.past h.outside;
       trusts = trusts_done sc m taken built exists allowed h.sound h.agrees h.trusts;
       serial = serial_done sc m taken built exists allowed h.sound h.agrees h.serial;
     }
@@ -97,6 +96,9 @@ has_all_commits sc steps built exist ended =
     serial_values sc w built h.sound h.agrees h.serial ∙ values_at_end sc w built h.agrees h.serial ended
 
 -- ---- the same of a world that the steps give
+
+pub sound_after : (sc : Scenario) (steps : List Step) (m : Machine) → is_built sc ≡ true → Each (IsStepOf sc) steps → m ≡ after sc steps → IsSound sc m.state
+sound_after sc steps m built exist e = subst (λ (k : Machine). IsSound sc k.state) (sym e) (holds_after sc steps built exist).sound
 
 pub so_far_after : (sc : Scenario) (steps : List Step) (w : State) → is_built sc ≡ true → Each (IsStepOf sc) steps → w ≡ (after sc steps).state → IsTrustedState sc w
 so_far_after sc steps w built exist e = subst (IsTrustedState sc) (sym e) (always_trusted sc steps built exist)

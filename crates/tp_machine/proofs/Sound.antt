@@ -1,5 +1,5 @@
 -- The world is sound before the first step, and each step keeps it sound.
-use Rattle.std.proofs.Common.{◌≡◌, ℕ, ◌+◌, List, [], ◌∷◌, length, slice_get, slice_set, true, Option, Some, None, refl, subst, arith}
+use Rattle.std.proofs.Common.{List, None, Option, Some, [], arith, length, refl, slice_get, slice_set, subst, sym, true, ℕ, ◌+◌, ◌∷◌, ◌≡◌}
 use Rattle.tp_types.specs.declared.fact.What.{What}
 use Rattle.tp_types.specs.declared.fact.What.TheVariants as what
 use Rattle.tp_types.specs.declared.ids.ServerId.{ServerId}
@@ -16,13 +16,14 @@ use Rattle.tp_machine.specs.declared.actors.Actors.{Actors}
 use Rattle.tp_machine.specs.declared.coord.Coordinator.{Coordinator}
 use Rattle.tp_machine.specs.declared.part.Part.{Part}
 use Rattle.tp_machine.specs.declared.server.Server.{Server}
-use Rattle.tp_machine.specs.Machine.{Machine, State, Turn, concluded, delivered, done, idles, noted, opened_part, opening_state, posted, received, server_takes, submitted, submitted_by, to_coordinator, to_server}
-use Rattle.tp_machine.specs.Sound.{AreSoundActors, Each, IsActor, IsSound, IsSoundBody, IsSoundCoordinatorPart, IsSoundFact, IsSoundLetter, IsSoundMail, IsSoundServerPart, IsSoundWhat, IsStepOf, IsTxn}
+use Rattle.tp_machine.specs.Machine.{Machine, State, Turn, concluded, done, idles, noted, opened_part, opening_state, posted, refusal}
+use Rattle.tp_machine.specs.Sound.{AreSoundActors, Each, IsActor, IsSound, IsSoundBody, IsSoundCoordinatorPart, IsSoundFact, IsSoundLetter, IsSoundMail, IsSoundServerPart, IsSoundWhat, IsStepOf}
 use Rattle.tp_machine.specs.coord.Opened as coord
 use Rattle.tp_machine.specs.server.Opened as server
-use Rattle.tp_machine.proofs.SoundActs.{IsSoundAct, IsSoundServerActed, authority_sends_sound, coordinator_idle_sound, coordinator_submits_sound, coordinator_takes_sound, server_opened_sound, server_takes_sound}
+use Rattle.tp_machine.proofs.SoundActs.{IsSoundAct, authority_sends_sound, coordinator_begun_sound, coordinator_idle_sound, coordinator_received_sound, server_opened_sound, server_received_sound}
 use Rattle.tp_machine.proofs.SoundBuilt.{IsValid, valid_built}
 use Rattle.tp_machine.proofs.SoundLists.{at_made, at_set, each_append, each_get, each_map}
+use Rattle.tp_machine.proofs.Cases.{Cases, SaysIdle, WasSent, done_by}
 
 -- ---- a turn
 
@@ -35,18 +36,19 @@ record IsSoundTurn (sc : Scenario) (turn : Turn) : Type 0 where
 idles_sound : (sc : Scenario) (actors : Actors) (happened : List What) → AreSoundActors sc actors → Each (IsSoundWhat sc) happened → IsSoundTurn sc (idles actors happened)
 idles_sound sc actors happened h w = record { actors_are = h; left = record { facts_are = w; letters_are = tt } }
 
-to_server_sound : (sc : Scenario) (actors : Actors) (mail : Mail) (at : ServerId) (part : Option (Part Server)) → IsValid sc → AreSoundActors sc actors
-    → slice_get actors.servers at.0 ≡ part → IsSoundBody sc (actor.Server at) mail.letter.body → IsSoundTurn sc (to_server sc actors mail at part)
-to_server_sound sc actors mail at None valid h e m = idles_sound sc actors [] h tt
-to_server_sound sc actors mail at (Some part) valid h e m =
-    let acted : IsSoundServerActed sc at (server_takes sc at part mail) = server_takes_sound sc at part mail valid (h.servers at.0 part e) m in
+idle_sound : (sc : Scenario) (actors : Actors) → AreSoundActors sc actors → (taken : Step) (happened : List What) → SaysIdle taken happened → IsSoundTurn sc (idles actors happened)
+idle_sound sc actors h (step.Deliver mail) happened e = subst (λ (hs : List What). IsSoundTurn sc (idles actors hs)) (sym e) (idles_sound sc actors [] h tt)
+idle_sound sc actors h (step.Lose mail) happened e = subst (λ (hs : List What). IsSoundTurn sc (idles actors hs)) (sym e) (idles_sound sc actors (what.Lost mail ∷ []) h (tt, tt))
+idle_sound sc actors h _ happened e = absurd e
+
+-- the servers after one of them acted
+servers_sound : (sc : Scenario) (actors : Actors) (at : ServerId) (part : Part Server) → AreSoundActors sc actors → IsSoundServerPart sc at part
+    → AreSoundActors sc (record actors { servers = slice_set actors.servers at.0 part })
+servers_sound sc actors at part h p =
     record {
-      actors_are = record {
-        servers = at_set (λ (n : ℕ) (found : Part Server). IsSoundServerPart sc (record { 0 = n }) found) actors.servers at.0 (server_takes sc at part mail).part h.servers acted.part_is;
-        coordinators = h.coordinators;
-        authority = h.authority;
-      };
-      left = acted.left;
+      servers = at_set (λ (n : ℕ) (found : Part Server). IsSoundServerPart sc (record { 0 = n }) found) actors.servers at.0 part h.servers p;
+      coordinators = h.coordinators;
+      authority = h.authority;
     }
 
 -- the coordinators after one of them acted
@@ -59,37 +61,31 @@ coordinators_sound sc actors txn part h p =
       authority = h.authority;
     }
 
-to_coordinator_sound : (sc : Scenario) (actors : Actors) (mail : Mail) (txn : TxnId) (part : Option (Part Coordinator)) → AreSoundActors sc actors
-    → slice_get actors.coordinators txn.0 ≡ part → IsActor sc mail.letter.from → IsSoundBody sc (actor.Coordinator txn) mail.letter.body
-    → IsSoundTurn sc (to_coordinator sc actors mail txn part)
-to_coordinator_sound sc actors mail txn None h e a m = idles_sound sc actors [] h tt
-to_coordinator_sound sc actors mail txn (Some part) h e a m =
-    let acted = coordinator_takes_sound sc txn part mail (h.coordinators txn.0 part e) a m in
-    record { actors_are = coordinators_sound sc actors txn _ h acted.part_is; left = acted.left }
+-- what a mail that was sent says is sound
+letter_sound : (sc : Scenario) (w : State) (n : ℕ) (mail : Mail) (to : Actor) → IsSound sc w → WasSent w n mail to → IsActor sc mail.letter.from × IsSoundBody sc to mail.letter.body
+letter_sound sc w n mail to h sent =
+    let m : IsSoundLetter sc mail.letter = each_get (IsSoundMail sc) w.mails n mail h.mails_are sent.sent in
+    (m.from_is_actor, subst (λ (t : Actor). IsSoundBody sc t mail.letter.body) sent.goes_to m.says)
 
-submitted_by_sound : (sc : Scenario) (actors : Actors) (txn : TxnId) (place : ℕ) (part : Option (Part Coordinator)) → IsValid sc → AreSoundActors sc actors → IsTxn sc txn
-    → slice_get actors.coordinators txn.0 ≡ part → IsSoundTurn sc (submitted_by sc actors txn place part)
-submitted_by_sound sc actors txn place None valid h exists e = idles_sound sc actors (what.Submitted txn ∷ []) h (exists, tt)
-submitted_by_sound sc actors txn place (Some part) valid h exists e =
-    let acted = coordinator_submits_sound sc txn part place valid (h.coordinators txn.0 part e) in
-    record { actors_are = coordinators_sound sc actors txn _ h acted.part_is; left = acted.left }
+sound_cases : (sc : Scenario) (w : State) → IsValid sc → IsSound sc w → Cases sc w (λ taken turn. IsSoundTurn sc turn)
+sound_cases sc w valid h =
+    record {
+      idle = idle_sound sc w.actors h.actors_are;
+      server_received = λ n mail at part s sent up.
+          let acted = server_received_sound sc at part s mail valid (h.actors_are.servers at.0 part up.found) up.up (letter_sound sc w n mail (actor.Server at) h sent).1 in
+          record { actors_are = servers_sound sc w.actors at _ h.actors_are acted.part_is; left = acted.left };
+      coordinator_received = λ n mail txn part c sent up.
+          let says = letter_sound sc w n mail (actor.Coordinator txn) h sent in
+          let acted = coordinator_received_sound sc txn part c mail (h.actors_are.coordinators txn.0 part up.found) up.up says.0 says.1 in
+          record { actors_are = coordinators_sound sc w.actors txn _ h.actors_are acted.part_is; left = acted.left };
+      authority_told = λ n mail sent.
+          record { actors_are = h.actors_are; left = record { facts_are = tt; letters_are = authority_sends_sound sc w.actors.authority mail h.actors_are.authority (letter_sound sc w n mail actor.Authority h sent).1 } };
+      begun = λ txn part c exists up new.
+          let acted = coordinator_begun_sound sc txn part c (length w.steps) valid (h.actors_are.coordinators txn.0 part up.found) up.up in
+          record { actors_are = coordinators_sound sc w.actors txn _ h.actors_are acted.part_is; left = acted.left };
+    }
 
--- a sound mail is received by the actor that it is to
-received_sound : (sc : Scenario) (actors : Actors) (mail : Mail) (to : Actor) → IsValid sc → AreSoundActors sc actors → IsActor sc mail.letter.from → IsSoundBody sc to mail.letter.body
-    → IsSoundTurn sc (received sc actors mail to)
-received_sound sc actors mail (actor.Server at) valid h a m = to_server_sound sc actors mail at (slice_get actors.servers at.0) valid h refl m
-received_sound sc actors mail (actor.Coordinator txn) valid h a m = to_coordinator_sound sc actors mail txn (slice_get actors.coordinators txn.0) h refl a m
-received_sound sc actors mail actor.Authority valid h a m =
-    record { actors_are = h; left = record { facts_are = tt; letters_are = authority_sends_sound sc actors.authority mail h.authority m } }
-received_sound sc actors mail actor.Master valid h a m = idles_sound sc actors [] h tt
-
-delivered_sound : (sc : Scenario) (w : State) (number : ℕ) (found : Option Mail) → IsValid sc → IsSound sc w → slice_get w.mails number ≡ found
-    → IsSoundTurn sc (delivered sc w.actors found)
-delivered_sound sc w number None valid h e = idles_sound sc w.actors [] h.actors_are tt
-delivered_sound sc w number (Some mail) valid h e =
-    let m : IsSoundLetter sc mail.letter = each_get (IsSoundMail sc) w.mails number mail h.mails_are e in
-    received_sound sc w.actors mail mail.letter.to valid h.actors_are m.from_is_actor m.says
-
+-- ---- a step
 -- ---- a step
 
 posted_sound : (sc : Scenario) (place number : ℕ) (letters : List Letter) → Each (IsSoundLetter sc) letters → Each (IsSoundMail sc) (posted place number letters)
@@ -108,18 +104,6 @@ concluded_sound sc w taken turn h t =
           (posted_sound sc (length w.steps) (length w.mails) turn.letters t.left.letters_are);
       facts_are = each_append (IsSoundFact sc) w.facts (noted (length w.steps) turn.happened) h.facts_are (noted_sound sc (length w.steps) turn.happened t.left.facts_are);
     }
-
-done_sound : (sc : Scenario) (m : Machine) (taken : Step) → IsValid sc → IsStepOf sc taken → IsSound sc m.state → IsSound sc (done sc m taken).state
-done_sound sc m (step.Submit txn) valid exists h =
-    concluded_sound sc m.state (step.Submit txn) (submitted sc m.state.actors txn (length m.state.steps)) h
-    (submitted_by_sound sc m.state.actors txn (length m.state.steps) (slice_get m.state.actors.coordinators txn.0) valid h.actors_are exists refl)
-done_sound sc m (step.Deliver mail) valid exists h =
-    concluded_sound sc m.state (step.Deliver mail) (delivered sc m.state.actors (slice_get m.state.mails mail)) h
-    (delivered_sound sc m.state mail (slice_get m.state.mails mail) valid h refl)
-done_sound sc m (step.Lose mail) valid exists h =
-    concluded_sound sc m.state (step.Lose mail) (idles m.state.actors (what.Lost mail ∷ [])) h
-    (idles_sound sc m.state.actors (what.Lost mail ∷ []) h.actors_are (tt, tt))
-done_sound sc m _ valid exists h = h
 
 -- ---- for the world
 
@@ -142,5 +126,8 @@ sound_opening sc built =
     }
 
 -- a step that names what exists keeps the world sound
-pub sound_done : (sc : Scenario) (m : Machine) (taken : Step) → is_built sc ≡ true → IsStepOf sc taken → IsSound sc m.state → IsSound sc (done sc m taken).state
-sound_done sc m taken built exists h = done_sound sc m taken (valid_built sc built) exists h
+pub sound_done : (sc : Scenario) (m : Machine) (taken : Step) → is_built sc ≡ true → IsStepOf sc taken → refusal m.state taken ≡ None → length m.state.actors.coordinators ≡ length sc.txns
+    → IsSound sc m.state → IsSound sc (done sc m taken).state
+sound_done sc m taken built exists allowed count h =
+    done_by sc m (λ taken turn. IsSoundTurn sc turn) (IsSound sc) (sound_cases sc m.state (valid_built sc built) h) count
+    (λ taken turn t. concluded_sound sc m.state taken turn h t) h taken exists allowed

@@ -27,7 +27,7 @@ use Rattle.tp_machine.specs.declared.part.Part.{Part}
 use Rattle.tp_machine.specs.declared.server.Entry.{Entry}
 use Rattle.tp_machine.specs.declared.server.Server.{Server}
 use Rattle.tp_types.specs.Effect.{Effect}
-use Rattle.tp_machine.specs.Machine.{Acted, acts_by, coordinator_fact, coordinator_submits, coordinator_submits_up, coordinator_takes, coordinator_takes_up, log_with, opened_part, server_fact, server_takes, server_takes_up, with_age}
+use Rattle.tp_machine.specs.Machine.{Acted, acts_by, coordinator_fact, log_with, opened_part, server_fact, with_age}
 use Rattle.tp_machine.specs.Sound.{AreVersions, Each, IsActor, IsBounded, IsServer, IsSoundAuthority, IsSoundBody, IsSoundCoordinatorPart, IsSoundCoordinatorRecord, IsSoundCoordinatorUp, IsSoundDecision, IsSoundEntry, IsSoundLetter, IsSoundServerPart, IsSoundServerRecord, IsSoundServerUp, IsSoundSettled, IsSoundWhat, IsTxn}
 use Rattle.tp_machine.specs.coord.Opened as coord
 use Rattle.tp_machine.specs.coord.Row.{coordinator_row, submit_row}
@@ -83,20 +83,15 @@ server_acts_sound sc s own kept effect exists e k o =
       };
     }
 
-server_takes_up_sound : (sc : Scenario) (at : ServerId) (part : Part Server) (mail : Mail) (up : Option Server) → IsValid sc → IsSoundServerPart sc at part → part.up ≡ up
-    → IsSoundBody sc (actor.Server at) mail.letter.body → IsSoundServerActed sc at (server_takes_up sc at part mail up)
-server_takes_up_sound sc at part mail None valid h e m = record { part_is = h; left = record { facts_are = tt; letters_are = tt } }
-server_takes_up_sound sc at part mail (Some s) valid h e m =
+-- a server that is up and receives a mail to it
+pub server_received_sound : (sc : Scenario) (at : ServerId) (part : Part Server) (s : Server) (mail : Mail) → IsValid sc → IsSoundServerPart sc at part → part.up ≡ Some s
+    → IsSoundBody sc (actor.Server at) mail.letter.body → IsSoundServerActed sc at (acts_by (server_fact at) [] part.log (server_row sc s mail))
+server_received_sound sc at part s mail valid h e m =
     let state : IsSoundServerUp sc at s = subst (λ (up : Option Server). IfSome up (IsSoundServerUp sc at)) e h.state in
     let P = λ (to : ServerId). IsSoundBody sc (actor.Server to) mail.letter.body → Each (IsSoundServerRecord sc to) part.log
     → IsSoundServerActed sc to (acts_by (server_fact to) [] part.log (server_row sc s mail)) in
     let act : P s.server = λ said kept. server_acts_sound sc s [] part.log (server_row sc s mail) state.sound.exists (server_row_sound sc s mail valid state.sound said) kept tt in
     subst P state.server_is act m h.records
-
--- a server that receives a mail to it
-pub server_takes_sound : (sc : Scenario) (at : ServerId) (part : Part Server) (mail : Mail) → IsValid sc → IsSoundServerPart sc at part
-    → IsSoundBody sc (actor.Server at) mail.letter.body → IsSoundServerActed sc at (server_takes sc at part mail)
-server_takes_sound sc at part mail valid h m = server_takes_up_sound sc at part mail part.up valid h refl m
 
 -- ---- coordinators
 
@@ -123,40 +118,30 @@ coordinator_acts_sound sc c own kept effect exists e k o =
       };
     }
 
-coordinator_takes_up_sound : (sc : Scenario) (txn : TxnId) (part : Part Coordinator) (mail : Mail) (up : Option Coordinator) → IsSoundCoordinatorPart sc txn part → part.up ≡ up
-    → IsActor sc mail.letter.from → IsSoundBody sc (actor.Coordinator txn) mail.letter.body → IsSoundCoordinatorActed sc txn (coordinator_takes_up sc part mail up)
-coordinator_takes_up_sound sc txn part mail None h e a m = record { part_is = h; left = record { facts_are = tt; letters_are = tt } }
-coordinator_takes_up_sound sc txn part mail (Some c) h e a m =
+-- a coordinator that is up and receives a mail to it
+pub coordinator_received_sound : (sc : Scenario) (txn : TxnId) (part : Part Coordinator) (c : Coordinator) (mail : Mail) → IsSoundCoordinatorPart sc txn part → part.up ≡ Some c
+    → IsActor sc mail.letter.from → IsSoundBody sc (actor.Coordinator txn) mail.letter.body → IsSoundCoordinatorActed sc txn (acts_by coordinator_fact [] part.log (coordinator_row sc c mail))
+coordinator_received_sound sc txn part c mail h e a m =
     let state : IsSoundCoordinatorUp sc txn c = subst (λ (up : Option Coordinator). IfSome up (IsSoundCoordinatorUp sc txn)) e h.state in
     let P = λ (to : TxnId). IsSoundBody sc (actor.Coordinator to) mail.letter.body → Each (IsSoundCoordinatorRecord sc to) part.log
     → IsSoundCoordinatorActed sc to (acts_by coordinator_fact [] part.log (coordinator_row sc c mail)) in
     let act : P c.txn = λ said kept. coordinator_acts_sound sc c [] part.log (coordinator_row sc c mail) state.sound.exists (coordinator_row_sound sc c mail state.sound a said) kept tt in
     subst P state.txn_is act m h.records
 
--- a coordinator that receives a mail to it
-pub coordinator_takes_sound : (sc : Scenario) (txn : TxnId) (part : Part Coordinator) (mail : Mail) → IsSoundCoordinatorPart sc txn part → IsActor sc mail.letter.from
-    → IsSoundBody sc (actor.Coordinator txn) mail.letter.body → IsSoundCoordinatorActed sc txn (coordinator_takes sc part mail)
-coordinator_takes_sound sc txn part mail h a m = coordinator_takes_up_sound sc txn part mail part.up h refl a m
-
 with_age_sound : (sc : Scenario) (c : Coordinator) (effect : Effect Coordinator) (place : ℕ) → IsSoundCoordinatorEffect sc c effect → IsSoundCoordinatorEffect sc c (with_age effect place)
 with_age_sound sc c effect place e =
     record { same_txn = e.same_txn; state_is = placed_sound sc effect.state place e.state_is; forces = e.forces; sends_only = e.sends_only }
 
-coordinator_submits_up_sound : (sc : Scenario) (txn : TxnId) (part : Part Coordinator) (place : ℕ) (up : Option Coordinator) → IsValid sc → IsSoundCoordinatorPart sc txn part → part.up ≡ up
-    → IsSoundCoordinatorActed sc txn (coordinator_submits_up sc part txn place up)
-coordinator_submits_up_sound sc txn part place None valid h e = record { part_is = h; left = record { facts_are = (h.exists, tt); letters_are = tt } }
-coordinator_submits_up_sound sc txn part place (Some c) valid h e =
+-- a coordinator that is up and whose transaction is submitted
+pub coordinator_begun_sound : (sc : Scenario) (txn : TxnId) (part : Part Coordinator) (c : Coordinator) (place : ℕ) → IsValid sc → IsSoundCoordinatorPart sc txn part → part.up ≡ Some c
+    → IsSoundCoordinatorActed sc txn (acts_by coordinator_fact (what.Submitted txn ∷ []) part.log (with_age (submit_row sc c) place))
+coordinator_begun_sound sc txn part c place valid h e =
     let state : IsSoundCoordinatorUp sc txn c = subst (λ (up : Option Coordinator). IfSome up (IsSoundCoordinatorUp sc txn)) e h.state in
     let P = λ (to : TxnId). Each (IsSoundCoordinatorRecord sc to) part.log
     → IsSoundCoordinatorActed sc to (acts_by coordinator_fact (what.Submitted txn ∷ []) part.log (with_age (submit_row sc c) place)) in
     let act : P c.txn = λ kept. coordinator_acts_sound sc c (what.Submitted txn ∷ []) part.log (with_age (submit_row sc c) place) state.sound.exists
     (with_age_sound sc c (submit_row sc c) place (submit_row_sound sc c valid state.sound)) kept (h.exists, tt) in
     subst P state.txn_is act h.records
-
--- a coordinator whose transaction is submitted
-pub coordinator_submits_sound : (sc : Scenario) (txn : TxnId) (part : Part Coordinator) (place : ℕ) → IsValid sc → IsSoundCoordinatorPart sc txn part
-    → IsSoundCoordinatorActed sc txn (coordinator_submits sc part txn place)
-coordinator_submits_sound sc txn part place valid h = coordinator_submits_up_sound sc txn part place part.up valid h refl
 
 -- ---- the authority
 

@@ -21,12 +21,11 @@ use Rattle.tp_model.specs.Built.{is_built}
 use Rattle.tp_model.specs.Facts.{is_submission}
 use Rattle.tp_model.specs.Queries.{written_constant}
 use Rattle.tp_machine.specs.declared.coord.Coordinator.{Coordinator}
-use Rattle.tp_machine.specs.declared.error.StepError.TheVariants as error
 use Rattle.tp_machine.specs.declared.part.Part.{Part}
 use Rattle.tp_machine.specs.declared.server.Entry.{Entry}
 use Rattle.tp_machine.specs.declared.server.Server.{Server}
-use Rattle.tp_machine.specs.Machine.{Machine, State, coordinator_acted, coordinator_submits_up, coordinator_takes_up, delivered, done, idles, is_part_submitted, is_submitted, noted, opened_part, opening_state, received, refusal, server_acted, server_takes_up, submitted, submitted_by, to_coordinator, to_server, with_age}
-use Rattle.tp_machine.specs.Sound.{Each, IsSound, IsSoundBody, IsSoundLetter, IsSoundMail, IsSoundServerUp, IsStepOf, IsTxn}
+use Rattle.tp_machine.specs.Machine.{Machine, State, acts_by, coordinator_acted, coordinator_fact, done, idles, is_part_submitted, noted, opened_part, opening_state, refusal, server_acted, server_fact, with_age}
+use Rattle.tp_machine.specs.Sound.{Each, IsSound, IsSoundBody, IsSoundLetter, IsSoundMail, IsSoundServerUp, IsStepOf}
 use Rattle.tp_machine.specs.coord.Opened as coord
 use Rattle.tp_machine.specs.coord.Row.{begins, coordinator_row, query_of, sends_first, server_of, submit_row}
 use Rattle.tp_machine.specs.offices.Authority as office
@@ -34,13 +33,12 @@ use Rattle.tp_machine.specs.server.Opened as server
 use Rattle.tp_machine.specs.server.Row.{server_row}
 use Rattle.tp_machine.proofs.AgreeWorld.{Agrees}
 use Rattle.tp_machine.proofs.AgreeActs.{number_itself}
-use Rattle.tp_machine.proofs.AgreeCoordinator.{CoordinatorAgrees, HasBegun}
+use Rattle.tp_machine.proofs.AgreeCoordinator.{HasBegun}
 use Rattle.tp_machine.proofs.AgreeCoordinatorActs.{told_of}
-use Rattle.tp_machine.proofs.AgreeSteps.{no_age, not_refused, own_txn}
+use Rattle.tp_machine.proofs.AgreeSteps.{coordinator_agrees, no_age, own_txn}
 use Rattle.tp_machine.proofs.FactLemmas.{any_append}
-use Rattle.tp_machine.proofs.LogLemmas.{set_same}
 use Rattle.tp_machine.proofs.SoundBuilt.{IsValid, valid_built}
-use Rattle.tp_machine.proofs.SoundLists.{at_made, each_get, missing, placed_none}
+use Rattle.tp_machine.proofs.SoundLists.{at_made, each_get, placed_none}
 use Rattle.tp_machine.proofs.ViewsFit.{BodyFits, EntryFits, IsSubmitted, Later, MailFits, ServerFits}
 use Rattle.tp_machine.proofs.ViewsActs.{ActTrusts, coordinator_acts_trusts, received_trusts, server_acts_trusts, tells_fit, tells_timely, unmoved_trusts}
 use Rattle.tp_machine.proofs.ViewsBuilt.{IsFirstForm, first_form}
@@ -48,64 +46,50 @@ use Rattle.tp_machine.proofs.ViewsCoordinator.{CoordinatorFits, CoordinatorTrust
 use Rattle.tp_machine.proofs.ViewsTurns.{stamp_of}
 use Rattle.tp_machine.proofs.ViewsServer.{server_row_trusts}
 use Rattle.tp_machine.proofs.ViewsWorld.{BodyTimely, CoordinatorPartFits, MailTimely, ServerPartFits, Trusts, TurnTrusts, coordinator_stays, facts_after, later_noted, concluded_trusts}
+use Rattle.tp_machine.proofs.Cases.{Cases, IsCoordinatorUp, IsServerUp, SaysIdle, WasSent, done_by}
 
--- ---- receipts
+-- ---- what is known of actors that are up
 
-quiet_trusts : (sc : Scenario) (w : State) → Trusts sc w → TurnTrusts sc w (idles w.actors [])
-quiet_trusts sc w h = unmoved_trusts sc w [] [] h tt tt tt tt
+idle_trusts : (sc : Scenario) (w : State) → Trusts sc w → (taken : Step) (happened : List What) → SaysIdle taken happened → TurnTrusts sc w (idles w.actors happened)
+idle_trusts sc w h (step.Deliver mail) happened e = subst (λ (hs : List What). TurnTrusts sc w (idles w.actors hs)) (sym e) (unmoved_trusts sc w [] [] h tt tt tt tt)
+idle_trusts sc w h (step.Lose mail) happened e = subst (λ (hs : List What). TurnTrusts sc w (idles w.actors hs)) (sym e) (unmoved_trusts sc w (what.Lost mail ∷ []) [] h (tt, tt) (tt, tt) tt tt)
+idle_trusts sc w h _ happened e = absurd e
 
-server_part_trusts : (sc : Scenario) (w : State) (mail : Mail) (at : ServerId) (part : Part Server) (up : Option Server) → IsFirstForm sc → IsValid sc → IsSound sc w → Trusts sc w
-    → slice_get w.actors.servers at.0 ≡ Some part → part.up ≡ up → IsSoundBody sc (actor.Server at) mail.letter.body → BodyFits sc w.facts (length w.steps) mail.sent mail.letter.body
-    → BodyTimely w.actors.coordinators mail.letter.body → TurnTrusts sc w (server_acted w.actors at (server_takes_up sc at part mail up))
-server_part_trusts sc w mail at part None form valid sound h found e m f t =
-    subst (λ (servers : List (Part Server)). TurnTrusts sc w (record { actors = record w.actors { servers = servers }; happened = []; letters = [] }))
-    (sym (set_same w.actors.servers at.0 part found)) (quiet_trusts sc w h)
-server_part_trusts sc w mail at part (Some s) form valid sound h found e m f t =
-    let here : IsSoundServerUp sc at s = subst (λ (up : Option Server). IfSome up (IsSoundServerUp sc at)) e (sound.actors_are.servers at.0 part found).state in
-    let fits : ServerFits sc w.facts (length w.steps) s = subst (λ (up : Option Server). IfSome up (ServerFits sc w.facts (length w.steps))) e (h.servers at.0 part found).state in
-    server_acts_trusts sc w at part mail.letter.body (server_row sc s mail) h found t
-    (server_row_trusts sc w.facts (length w.steps) s mail form valid here.sound fits (subst (λ (a : ServerId). IsSoundBody sc (actor.Server a) mail.letter.body) (sym here.server_is) m) f)
+-- what a mail that was sent says is sound, fits, and is timely
+record MailTrusted (sc : Scenario) (w : State) (mail : Mail) (to : Actor) : Type 0 where
+  pub says : IsSoundBody sc to mail.letter.body
+  pub fits : BodyFits sc w.facts (length w.steps) mail.sent mail.letter.body
+  pub timely : BodyTimely w.actors.coordinators mail.letter.body
 
-to_server_trusts : (sc : Scenario) (w : State) (mail : Mail) (at : ServerId) (part : Option (Part Server)) → IsFirstForm sc → IsValid sc → IsSound sc w → Trusts sc w → slice_get w.actors.servers at.0 ≡ part
-    → IsSoundBody sc (actor.Server at) mail.letter.body → BodyFits sc w.facts (length w.steps) mail.sent mail.letter.body → BodyTimely w.actors.coordinators mail.letter.body
-    → TurnTrusts sc w (to_server sc w.actors mail at part)
-to_server_trusts sc w mail at None form valid sound h e m f t = quiet_trusts sc w h
-to_server_trusts sc w mail at (Some part) form valid sound h e m f t = server_part_trusts sc w mail at part part.up form valid sound h e refl m f t
+mail_trusted : (sc : Scenario) (w : State) (n : ℕ) (mail : Mail) (to : Actor) → IsSound sc w → Trusts sc w → WasSent w n mail to → MailTrusted sc w mail to
+mail_trusted sc w n mail to sound h sent =
+    let m : IsSoundLetter sc mail.letter = each_get (IsSoundMail sc) w.mails n mail sound.mails_are sent.sent in
+    record {
+      says = subst (λ (t : Actor). IsSoundBody sc t mail.letter.body) sent.goes_to m.says;
+      fits = each_get (MailFits sc w.facts (length w.steps)) w.mails n mail h.mails_fit sent.sent;
+      timely = each_get (MailTimely w.actors.coordinators) w.mails n mail h.mails_timely sent.sent;
+    }
 
-coordinator_part_trusts : (sc : Scenario) (w : State) (mail : Mail) (txn : TxnId) (part : Part Coordinator) (up : Option Coordinator) → IsSound sc w → Trusts sc w
-    → slice_get w.actors.coordinators txn.0 ≡ Some part → part.up ≡ up → IsSoundBody sc (actor.Coordinator txn) mail.letter.body → BodyFits sc w.facts (length w.steps) mail.sent mail.letter.body
-    → TurnTrusts sc w (coordinator_acted w.actors txn (coordinator_takes_up sc part mail up))
-coordinator_part_trusts sc w mail txn part None sound h found e m f =
-    subst (λ (coordinators : List (Part Coordinator)). TurnTrusts sc w (record { actors = record w.actors { coordinators = coordinators }; happened = []; letters = [] }))
-    (sym (set_same w.actors.coordinators txn.0 part found)) (quiet_trusts sc w h)
-coordinator_part_trusts sc w mail txn part (Some c) sound h found e m f =
-    let same : c.txn ≡ txn = own_txn sc w txn part c sound found e in
-    let fits : CoordinatorFits sc w.facts (length w.steps) c = subst (λ (up : Option Coordinator). IfSome up (CoordinatorFits sc w.facts (length w.steps))) e (h.coordinators txn.0 part found) in
-    coordinator_acts_trusts sc w txn part c [] (coordinator_row sc c mail) h found e
+received_by_server : (sc : Scenario) (w : State) → IsFirstForm sc → IsValid sc → IsSound sc w → Trusts sc w → (n : ℕ) (mail : Mail) (at : ServerId) (part : Part Server) (s : Server)
+    → WasSent w n mail (actor.Server at) → IsServerUp w at part s → TurnTrusts sc w (server_acted w.actors at (acts_by (server_fact at) [] part.log (server_row sc s mail)))
+received_by_server sc w form valid sound h n mail at part s sent up =
+    let m = mail_trusted sc w n mail (actor.Server at) sound h sent in
+    let here : IsSoundServerUp sc at s = subst (λ (u : Option Server). IfSome u (IsSoundServerUp sc at)) up.up (sound.actors_are.servers at.0 part up.found).state in
+    let fits : ServerFits sc w.facts (length w.steps) s = subst (λ (u : Option Server). IfSome u (ServerFits sc w.facts (length w.steps))) up.up (h.servers at.0 part up.found).state in
+    server_acts_trusts sc w at part mail.letter.body (server_row sc s mail) h up.found m.timely
+    (server_row_trusts sc w.facts (length w.steps) s mail form valid here.sound fits (subst (λ (a : ServerId). IsSoundBody sc (actor.Server a) mail.letter.body) (sym here.server_is) m.says) m.fits)
+
+coordinator_fits : (sc : Scenario) (w : State) (txn : TxnId) (part : Part Coordinator) (c : Coordinator) → Trusts sc w → IsCoordinatorUp w txn part c → CoordinatorFits sc w.facts (length w.steps) c
+coordinator_fits sc w txn part c h up = subst (λ (u : Option Coordinator). IfSome u (CoordinatorFits sc w.facts (length w.steps))) up.up (h.coordinators txn.0 part up.found)
+
+received_by_coordinator : (sc : Scenario) (w : State) → IsSound sc w → Trusts sc w → (n : ℕ) (mail : Mail) (txn : TxnId) (part : Part Coordinator) (c : Coordinator)
+    → WasSent w n mail (actor.Coordinator txn) → IsCoordinatorUp w txn part c → TurnTrusts sc w (coordinator_acted w.actors txn (acts_by coordinator_fact [] part.log (coordinator_row sc c mail)))
+received_by_coordinator sc w sound h n mail txn part c sent up =
+    let m = mail_trusted sc w n mail (actor.Coordinator txn) sound h sent in
+    let same : c.txn ≡ txn = own_txn sc w txn part c sound up.found up.up in
+    coordinator_acts_trusts sc w txn part c [] (coordinator_row sc c mail) h up.found up.up
     (received_trusts sc w txn c part.log (coordinator_row sc c mail) same
-    (coordinator_row_trusts sc w.facts (length w.steps) c mail fits (subst (λ (t : TxnId). IsSoundBody sc (actor.Coordinator t) mail.letter.body) (sym same) m) f))
-
-to_coordinator_trusts : (sc : Scenario) (w : State) (mail : Mail) (txn : TxnId) (part : Option (Part Coordinator)) → IsSound sc w → Trusts sc w → slice_get w.actors.coordinators txn.0 ≡ part
-    → IsSoundBody sc (actor.Coordinator txn) mail.letter.body → BodyFits sc w.facts (length w.steps) mail.sent mail.letter.body → TurnTrusts sc w (to_coordinator sc w.actors mail txn part)
-to_coordinator_trusts sc w mail txn None sound h e m f = quiet_trusts sc w h
-to_coordinator_trusts sc w mail txn (Some part) sound h e m f = coordinator_part_trusts sc w mail txn part part.up sound h e refl m f
-
-received_fits : (sc : Scenario) (w : State) (mail : Mail) (to : Actor) → IsFirstForm sc → IsValid sc → IsSound sc w → Agrees sc w → Trusts sc w → IsSoundBody sc to mail.letter.body
-    → BodyFits sc w.facts (length w.steps) mail.sent mail.letter.body → BodyTimely w.actors.coordinators mail.letter.body → TurnTrusts sc w (received sc w.actors mail to)
-received_fits sc w mail (actor.Server at) form valid sound a h m f t = to_server_trusts sc w mail at (slice_get w.actors.servers at.0) form valid sound h refl m f t
-received_fits sc w mail (actor.Coordinator txn) form valid sound a h m f t = to_coordinator_trusts sc w mail txn (slice_get w.actors.coordinators txn.0) sound h refl m f
-received_fits sc w mail actor.Authority form valid sound a h m f t =
-    unmoved_trusts sc w [] (office.authority_row w.actors.authority mail).reaction.letters h tt tt
-    (tells_fit sc w mail.letter.body mail.sent a h.authority f) (tells_timely w mail.letter.body t)
-received_fits sc w mail actor.Master form valid sound a h m f t = quiet_trusts sc w h
-
-delivered_trusts : (sc : Scenario) (w : State) (number : ℕ) (found : Option Mail) → IsFirstForm sc → IsValid sc → IsSound sc w → Agrees sc w → Trusts sc w → slice_get w.mails number ≡ found
-    → TurnTrusts sc w (delivered sc w.actors found)
-delivered_trusts sc w number None form valid sound a h e = quiet_trusts sc w h
-delivered_trusts sc w number (Some mail) form valid sound a h e =
-    let m : IsSoundLetter sc mail.letter = each_get (IsSoundMail sc) w.mails number mail sound.mails_are e in
-    received_fits sc w mail mail.letter.to form valid sound a h m.says (each_get (MailFits sc w.facts (length w.steps)) w.mails number mail h.mails_fit e)
-    (each_get (MailTimely w.actors.coordinators) w.mails number mail h.mails_timely e)
+    (coordinator_row_trusts sc w.facts (length w.steps) c mail (coordinator_fits sc w txn part c h up) (subst (λ (t : TxnId). IsSoundBody sc (actor.Coordinator t) mail.letter.body) (sym same) m.says) m.fits))
 
 -- ---- submissions
 
@@ -150,34 +134,34 @@ submission_fits sc w txn part c same fits begun =
       old = now.old;
     }
 
-submission_trusts : (sc : Scenario) (w : State) (txn : TxnId) (part : Part Coordinator) (up : Option Coordinator) → IsSound sc w → Agrees sc w → Trusts sc w → slice_get w.actors.coordinators txn.0 ≡ Some part → part.up ≡ up
-    → is_part_submitted up ≡ false → TurnTrusts sc w (coordinator_acted w.actors txn (coordinator_submits_up sc part txn (length w.steps) up))
-submission_trusts sc w txn part None sound a h found e new = absurd (cc)
-submission_trusts sc w txn part (Some c) sound a h found e new =
-    let agrees : CoordinatorAgrees sc c part.log = subst (λ (up : Option Coordinator). IfSome up (λ (d : Coordinator). CoordinatorAgrees sc d part.log)) e (a.coordinators txn.0 part found).state in
-    let fits : CoordinatorFits sc w.facts (length w.steps) c = subst (λ (up : Option Coordinator). IfSome up (CoordinatorFits sc w.facts (length w.steps))) e (h.coordinators txn.0 part found) in
-    coordinator_acts_trusts sc w txn part c (what.Submitted txn ∷ []) (with_age (submit_row sc c) (length w.steps)) h found e
-    (submission_fits sc w txn part c (own_txn sc w txn part c sound found e) fits (subst (HasBegun c.phase) (no_age c.age new) agrees.begun))
-
-submitted_trusts : (sc : Scenario) (w : State) (txn : TxnId) (part : Option (Part Coordinator)) → IsSound sc w → Agrees sc w → Trusts sc w → IsTxn sc txn → slice_get w.actors.coordinators txn.0 ≡ part
-    → option_map_or (λ (p : Part Coordinator). is_part_submitted p.up) part false ≡ false → TurnTrusts sc w (submitted_by sc w.actors txn (length w.steps) part)
-submitted_trusts sc w txn None sound a h exists e new = absurd (missing w.actors.coordinators txn.0 (omega (arith, exists, a.coordinator_count)) e)
-submitted_trusts sc w txn (Some part) sound a h exists e new = submission_trusts sc w txn part part.up sound a h e refl new
+begun_trusts : (sc : Scenario) (w : State) → IsSound sc w → Agrees sc w → Trusts sc w → (txn : TxnId) (part : Part Coordinator) (c : Coordinator) → IsCoordinatorUp w txn part c → is_part_submitted (Some c) ≡ false
+    → TurnTrusts sc w (coordinator_acted w.actors txn (acts_by coordinator_fact (what.Submitted txn ∷ []) part.log (with_age (submit_row sc c) (length w.steps))))
+begun_trusts sc w sound a h txn part c up new =
+    coordinator_acts_trusts sc w txn part c (what.Submitted txn ∷ []) (with_age (submit_row sc c) (length w.steps)) h up.found up.up
+    (submission_fits sc w txn part c (own_txn sc w txn part c sound up.found up.up) (coordinator_fits sc w txn part c h up)
+    (subst (HasBegun c.phase) (no_age c.age new) (coordinator_agrees sc w txn part c a up).begun))
 
 -- ---- steps
+
+trusts_cases : (sc : Scenario) (w : State) → IsFirstForm sc → IsValid sc → IsSound sc w → Agrees sc w → Trusts sc w → Cases sc w (λ taken turn. TurnTrusts sc w turn)
+trusts_cases sc w form valid sound a h =
+    record {
+      idle = idle_trusts sc w h;
+      server_received = λ n mail at part s sent up. received_by_server sc w form valid sound h n mail at part s sent up;
+      coordinator_received = λ n mail txn part c sent up. received_by_coordinator sc w sound h n mail txn part c sent up;
+      authority_told = λ n mail sent.
+          let m = mail_trusted sc w n mail actor.Authority sound h sent in
+          unmoved_trusts sc w [] (office.authority_row w.actors.authority mail).reaction.letters h tt tt
+          (tells_fit sc w mail.letter.body mail.sent a h.authority m.fits) (tells_timely w mail.letter.body m.timely);
+      begun = λ txn part c exists up new. begun_trusts sc w sound a h txn part c up new;
+    }
 
 -- a step that is not refused keeps what trust rests on
 pub trusts_done : (sc : Scenario) (m : Machine) (taken : Step) → is_built sc ≡ true → IsStepOf sc taken → refusal m.state taken ≡ None → IsSound sc m.state → Agrees sc m.state → Trusts sc m.state
     → Trusts sc (done sc m taken).state
-trusts_done sc m (step.Submit txn) built exists allowed sound a h =
-    concluded_trusts sc m.state (step.Submit txn) (submitted sc m.state.actors txn (length m.state.steps)) a h
-    (submitted_trusts sc m.state txn (slice_get m.state.actors.coordinators txn.0) sound a h exists refl (not_refused (is_submitted m.state.actors txn) (error.AlreadySubmitted txn) allowed))
-trusts_done sc m (step.Deliver mail) built exists allowed sound a h =
-    concluded_trusts sc m.state (step.Deliver mail) (delivered sc m.state.actors (slice_get m.state.mails mail)) a h
-    (delivered_trusts sc m.state mail (slice_get m.state.mails mail) (first_form sc built) (valid_built sc built) sound a h refl)
-trusts_done sc m (step.Lose mail) built exists allowed sound a h =
-    concluded_trusts sc m.state (step.Lose mail) (idles m.state.actors (what.Lost mail ∷ [])) a h (unmoved_trusts sc m.state (what.Lost mail ∷ []) [] h (tt, tt) (tt, tt) tt tt)
-trusts_done sc m _ built exists allowed sound a h = h
+trusts_done sc m taken built exists allowed sound a h =
+    done_by sc m (λ taken turn. TurnTrusts sc m.state turn) (Trusts sc) (trusts_cases sc m.state (first_form sc built) (valid_built sc built) sound a h) a.coordinator_count
+    (λ taken turn t. concluded_trusts sc m.state taken turn a h t) h taken exists allowed
 
 -- ---- before the first step
 

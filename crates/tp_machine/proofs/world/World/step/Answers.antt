@@ -1,9 +1,9 @@
 use Rattle.std.proofs.Common.{◌≡◌, [], ◌∷◌, ◌++◌, ap, sym, subst, ◌∙◌}
-use Rattle.tp_machine.specs.Machine.{Machine}
+use Rattle.tp_machine.specs.Machine.{Machine, after}
 use Rattle.tp_machine.specs.Seen.{Seen, machine_of}
-use Rattle.tp_machine.specs.Sound.{Each, IsSound, IsStepOf}
+use Rattle.tp_machine.specs.Sound.{Each, IsStepOf}
 use Rattle.tp_machine.proofs.MachineLemmas.{reached_done, steps_done}
-use Rattle.tp_machine.proofs.Sound.{sound_done}
+use Rattle.tp_machine.proofs.Runs.{sound_after}
 use Rattle.tp_machine.proofs.SoundLists.{each_more}
 use Rattle.tp_machine.proofs.world.World.step.Goals as goal
 
@@ -15,12 +15,12 @@ invariant_of-self c =
     let new = machine_of c.act.new.actors c.act.new.history in
     let exists : IsStepOf sc taken = subst (λ (w : Seen). IsStepOf w.scenario taken) (sym c.self.view_is) c.requires.ids in
     let steps : new.state.steps ≡ old.state.steps ++ taken ∷ [] = ap (λ (m : Machine). m.state.steps) c.in-Ok.ensures.ok ∙ steps_done sc old taken c.requires.built in
+    let named : Each (IsStepOf sc) new.state.steps = subst (Each (IsStepOf sc)) (sym steps) (each_more (IsStepOf sc) old.state.steps taken c.self.invariant.named exists) in
+    let reached : new ≡ after sc new.state.steps = reached_done sc old new taken c.requires.built (c.self.invariant.reached c.if-self.false) (sym c.in-None.ensures) c.in-Ok.ensures.ok in
     record {
       built = c.self.invariant.built;
-      named = subst (Each (IsStepOf sc)) (sym steps) (each_more (IsStepOf sc) old.state.steps taken c.self.invariant.named exists);
-      told = ap (λ (m : Machine). m.state.facts)
-          (reached_done sc old new taken c.requires.built (c.self.invariant.reached c.if-self.false) (sym c.in-None.ensures) c.in-Ok.ensures.ok);
-      reached = λ up. reached_done sc old new taken c.requires.built (c.self.invariant.reached up) (sym c.in-None.ensures) c.in-Ok.ensures.ok;
-      sound = λ up. subst (λ (m : Machine). IsSound sc m.state) (sym c.in-Ok.ensures.ok)
-          (sound_done sc old taken c.self.invariant.built exists (c.self.invariant.sound up));
+      named = named;
+      told = ap (λ (m : Machine). m.state.facts) reached;
+      reached = λ up. reached;
+      sound = λ up. sound_after sc new.state.steps new c.self.invariant.built named reached;
     }
