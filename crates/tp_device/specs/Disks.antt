@@ -1,6 +1,8 @@
 -- What the calls of a disk do, and which images a crash may leave.
-use Rattle.std.specs.Prelude.{◌≡◌, ◌⊎◌, ℕ, ◌+◌, ◌-◌, ◌<◌, ◌≤◌, ◌&&◌, nat_le, nat_lt, min, max, Bool, false, List, [], ◌∷◌, ◌++◌, length, take, drop, slice_index}
+use Rattle.std.specs.Prelude.{◌≡◌, ◌⊎◌, ℕ, ◌+◌, ◌-◌, ◌<◌, ◌≤◌, ◌&&◌, nat_le, nat_lt, min, max, Bool, false, List, [], ◌∷◌, ◌++◌, length, take, drop, slice_index, Result, Ok, Err}
 use Rattle.std.specs.List.{list_any}
+use Rattle.tp_device.specs.declared.disk.DiskError.{DiskError}
+use Rattle.tp_device.specs.declared.disk.DiskError.TheVariants as errors
 use Rattle.tp_device.specs.declared.span.Span.{Span}
 
 -- a disk, as its calls leave it: what a read gives, the least and the greatest length since the last
@@ -68,6 +70,26 @@ pub record MayHaveWritten (at len : ℕ) (old new : DiskState) : Type 0 where
 pub record MayHaveCut (len : ℕ) (old new : DiskState) : Type 0 where
   pub seen : (new.seen ≡ old.seen) ⊎ (new.seen ≡ take len old.seen)
   pub crash : (image : List ℕ) → MayLeave new image → MayLeave (record old { seen = new.seen; least = min old.least len }) image
+
+-- ---- what each call does, by its answer
+
+-- a call that may change a disk
+pub data Call : Type 0 where
+  Write : (at : ℕ) (piece : List ℕ) → Call
+  Cut : (len : ℕ) → Call
+  Sync : Call
+
+-- A refusal of memory changes nothing, and a sync answers none. A sync that failed changes nothing
+abbrev pub Effect : Call → DiskState → Result (Unit {0}) DiskError → DiskState → Type 0
+Effect (Write at piece) old (Ok _) new = new ≡ wrote at piece old
+Effect (Write at piece) old (Err errors.Failed) new = MayHaveWritten at (length piece) old new
+Effect (Write at piece) old (Err errors.NoMemory) new = new ≡ old
+Effect (Cut len) old (Ok _) new = new ≡ cut_to len old
+Effect (Cut len) old (Err errors.Failed) new = MayHaveCut len old new
+Effect (Cut len) old (Err errors.NoMemory) new = new ≡ old
+Effect Sync old (Ok _) new = new ≡ synced old
+Effect Sync old (Err errors.Failed) new = new ≡ old
+Effect Sync old (Err errors.NoMemory) new = ⊥
 
 -- ---- moments
 

@@ -1,6 +1,6 @@
 -- The disk in memory.
 use Rattle.std.specs.Prelude.{◌≡◌, ◌⊎◌, ℕ, ◌+◌, ◌-◌, min, List, [], ◌∷◌, ◌++◌, length, take, drop, replicate, Option, Some, None, Result, Ok, Err, option_map}
-use Rattle.tp_device.specs.Disks.{DiskState, MayLeave, settled}
+use Rattle.tp_device.specs.Disks.{Call, Write, Cut, Sync, DiskState, MayLeave, cut_to, settled, synced, wrote}
 use Rattle.tp_device.specs.Faults.{counted}
 use Rattle.tp_device.specs.declared.disk.DiskError.{DiskError}
 use Rattle.tp_device.specs.declared.disk.DiskError.TheVariants as errors
@@ -43,6 +43,12 @@ abbrev pub Calls : {T : Type 0} → DiskState → Memory → Result T DiskError 
 Calls disk old (Ok _) new = (old.left ≡ Some 0 → ⊥) × (new ≡ passed disk old)
 Calls disk old (Err errors.Failed) new = (old.left ≡ Some 0) × (new ≡ refused old)
 Calls disk old (Err errors.NoMemory) new = (old.left ≡ Some 0 → ⊥) × (new ≡ old)
+
+-- a call that changes the disk
+abbrev pub does : Memory → Call → Result (Unit {0}) DiskError → Memory → Type 0
+does old (Write at piece) result new = Calls (wrote at piece old.disk) old result new
+does old (Cut len) result new = Calls (cut_to len old.disk) old result new
+does old Sync result new = Calls (synced old.disk) old result new
 
 -- ---- crashes
 

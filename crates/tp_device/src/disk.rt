@@ -1,7 +1,8 @@
 //! Disks, as a log sees them.
-ghost use Rattle.std.specs.Prelude.{◌≡◌, ◌⊎◌, ◌≤◌, ℕ, List, length, IfOk, OnOk, OnErr, IsErrOf};
-ghost use Rattle.tp_device.specs.Disks.{DiskState, MayHaveCut, MayHaveWritten, MayLeave, Passes, ReadsAt, cut_to, synced, wrote};
-ghost use Rattle.tp_device.specs.Faults.{HasCause, Rose};
+ghost use Rattle.std.specs.Prelude.{◌≡◌, ◌≤◌, ℕ, List, Result, length, IfOk, IsErrOf};
+ghost use Rattle.tp_device.specs.Disks.{Call, Cut, DiskState, Effect, MayLeave, Passes, ReadsAt, Sync, Write};
+ghost use Rattle.tp_device.specs.Faults.{HasCause};
+ghost use Rattle.tp_device.specs.declared.disk.DiskError.{DiskError};
 
 use tp_types::NoMemory;
 
@@ -33,6 +34,9 @@ pub trait Disk: Drop {
     // Which images a crash might have left at some moment from one state of the disk to a later one.
     ghost left_since: { Self → Self → List ℕ → Type 0 };
 
+    // Which calls lead from one state of the disk to another, with this answer. A disk may say more here than `state` tells.
+    ghost does: { Self → Call → Result (Unit {0}) DiskError → Self → Type 0 };
+
     // How many faults there have been, a count of 64 bits that stands still at its end.
     ghost faults: { Self → ℕ };
 
@@ -51,28 +55,23 @@ pub trait Disk: Drop {
     /// Writes over what is there, and past the end. Until the next sync a crash may leave any bytes there.
     fn write_at(&mut self, at: u64, piece: &[u8]) -> Result<(), DiskError>
         requires { at ≤ length (state self.old).seen }
-        ensures ok { OnOk result (state self.new ≡ wrote at piece.now (state self.old)) }
-        ensures failed { IsErrOf result DiskError.Failed
-            → MayHaveWritten at (length piece.now) (state self.old) (state self.new) }
-        ensures memory { IsErrOf result DiskError.NoMemory → state self.new ≡ state self.old }
+        ensures effect { Effect (Write at piece.now) (state self.old) result (state self.new) }
+        ensures call { does self.old (Write at piece.now) result self.new }
         ensures cause { HasCause (faults self.old) (faults self.new) result }
         ensures time { Passes state left_since self.old self.new };
 
     /// Keeps so many bytes. Until the next sync a crash may leave more.
     fn cut(&mut self, len: u64) -> Result<(), DiskError>
         requires { len ≤ length (state self.old).seen }
-        ensures ok { OnOk result (state self.new ≡ cut_to len (state self.old)) }
-        ensures failed { IsErrOf result DiskError.Failed
-            → MayHaveCut len (state self.old) (state self.new) }
-        ensures memory { IsErrOf result DiskError.NoMemory → state self.new ≡ state self.old }
+        ensures effect { Effect (Cut len) (state self.old) result (state self.new) }
+        ensures call { does self.old (Cut len) result self.new }
         ensures cause { HasCause (faults self.old) (faults self.new) result }
         ensures time { Passes state left_since self.old self.new };
 
     /// After it a crash leaves what a read gives. Where it fails nothing more counts as synced.
     fn sync(&mut self) -> Result<(), DiskError>
-        ensures ok { OnOk result (state self.new ≡ synced (state self.old)) }
-        ensures failed { OnErr result (state self.new ≡ state self.old) }
-        ensures memory { IsErrOf result DiskError.NoMemory → ⊥ }
+        ensures effect { Effect Sync (state self.old) result (state self.new) }
+        ensures call { does self.old Sync result self.new }
         ensures cause { HasCause (faults self.old) (faults self.new) result }
         ensures time { Passes state left_since self.old self.new };
 

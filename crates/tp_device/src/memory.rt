@@ -2,7 +2,7 @@
 ghost use Rattle.std.specs.Prelude.{◌≡◌, ◌≤◌, ◌<◌, ◌⊎◌, ◌++◌, ℕ, List, length, Some, None, drop, take, min, OnOk, OnErr, IfOk, IsErrOf};
 ghost use Rattle.std.proofs.Common.{inl, inr, ⊎_elim};
 ghost use Rattle.tp_device.specs.Disks as disks;
-ghost use Rattle.tp_device.specs.Disks.{MayHaveCut, MayHaveWritten, MayLeave, Passes, ReadsAt, cut_to, synced, wrote};
+ghost use Rattle.tp_device.specs.Disks.{Cut, Effect, MayLeave, Passes, ReadsAt, Sync, Write};
 ghost use Rattle.tp_device.specs.Faults.{HasCause, counted};
 ghost use Rattle.tp_device.specs.Memory as memory;
 ghost use Rattle.tp_device.specs.Memory.{Calls};
@@ -170,6 +170,8 @@ impl Disk for MemoryDisk {
 
     ghost left_since = { memory.left_at_ends };
 
+    ghost does = { memory.does };
+
     ghost faults = { λ m. m.faults };
 
     ghost counts_start = { λ start now image left. inl left };
@@ -200,13 +202,10 @@ impl Disk for MemoryDisk {
 
     fn write_at(&mut self, at: u64, piece: &[u8]) -> Result<(), DiskError>
         requires { at ≤ length self.old.disk.seen }
-        ensures ok { OnOk result (self.new.disk ≡ wrote at piece.now self.old.disk) }
-        ensures failed { IsErrOf result DiskError.Failed
-            → MayHaveWritten at (length piece.now) self.old.disk self.new.disk }
-        ensures memory { IsErrOf result DiskError.NoMemory → self.new.disk ≡ self.old.disk }
+        ensures effect { Effect (Write at piece.now) self.old.disk result self.new.disk }
+        ensures call { memory.does self.old (Write at piece.now) result self.new }
         ensures cause { HasCause self.old.faults self.new.faults result }
         ensures time { Passes memory.disk_of memory.left_at_ends self.old self.new }
-        ensures exact { Calls (wrote at piece.now self.old.disk) self.old result self.new }
     {
         self.fuse.enter()?;
         let before = self.written.len();
@@ -225,12 +224,10 @@ impl Disk for MemoryDisk {
 
     fn cut(&mut self, len: u64) -> Result<(), DiskError>
         requires { len ≤ length self.old.disk.seen }
-        ensures ok { OnOk result (self.new.disk ≡ cut_to len self.old.disk) }
-        ensures failed { IsErrOf result DiskError.Failed → MayHaveCut len self.old.disk self.new.disk }
-        ensures memory { IsErrOf result DiskError.NoMemory → self.new.disk ≡ self.old.disk }
+        ensures effect { Effect (Cut len) self.old.disk result self.new.disk }
+        ensures call { memory.does self.old (Cut len) result self.new }
         ensures cause { HasCause self.old.faults self.new.faults result }
         ensures time { Passes memory.disk_of memory.left_at_ends self.old self.new }
-        ensures exact { Calls (cut_to len self.old.disk) self.old result self.new }
     {
         self.fuse.enter()?;
         let len = len as usize;
@@ -241,12 +238,10 @@ impl Disk for MemoryDisk {
     }
 
     fn sync(&mut self) -> Result<(), DiskError>
-        ensures ok { OnOk result (self.new.disk ≡ synced self.old.disk) }
-        ensures failed { OnErr result (self.new.disk ≡ self.old.disk) }
-        ensures memory { IsErrOf result DiskError.NoMemory → ⊥ }
+        ensures effect { Effect Sync self.old.disk result self.new.disk }
+        ensures call { memory.does self.old Sync result self.new }
         ensures cause { HasCause self.old.faults self.new.faults result }
         ensures time { Passes memory.disk_of memory.left_at_ends self.old self.new }
-        ensures exact { Calls (synced self.old.disk) self.old result self.new }
     {
         self.fuse.enter()?;
         self.written.truncate(0);
