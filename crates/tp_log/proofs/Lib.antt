@@ -1,0 +1,7 @@
+pub mod AppendAnswers
+pub mod Appends
+pub mod Blocks
+pub mod LastStep
+pub mod Near
+pub mod Reading
+pub mod Stopped
