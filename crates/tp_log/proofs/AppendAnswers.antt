@@ -66,6 +66,7 @@ module _ {D : Type 0} (state : D → DiskState) (left_since : D → D → List �
         → Adds state does faults (log disk gate closed) r (log new next closed)
     adds next new closed is-open fits place steps = record {
       was_open = is-open;
+      is_open = is-open;
       is = is;
       fits = fits;
       calls = made (Ok tt) new steps;

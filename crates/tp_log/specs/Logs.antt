@@ -70,6 +70,7 @@ module _ {D : Type 0} (state : D → DiskState) (does : D → Call → Result (U
   -- the log keeps one record more
   pub record Adds (old : LogState D) (r : Record) (new : LogState D) : Type 0 where
     pub was_open : old.closed ≡ false
+    pub is_open : new.closed ≡ false
     pub is : IsRecord r
     pub fits : length (spelling r) ≤ body_max
     pub calls : Makes does (append_calls old.gate (spelling r)) old.disk (Ok tt) new.disk
