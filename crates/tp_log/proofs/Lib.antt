@@ -1,6 +1,7 @@
 pub mod AppendAnswers
 pub mod Appends
 pub mod Blocks
+pub mod Found
 pub mod LastStep
 pub mod Near
 pub mod Reading
