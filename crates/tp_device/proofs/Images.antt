@@ -1,0 +1,67 @@
+-- What a crash of the disk in memory leaves is one of the images that it may leave.
+use Rattle.std.proofs.Common.{◌≡◌, ◌⊎◌, inl, inr, ℕ, ◌+◌, ◌-◌, ◌<◌, ◌≤◌, List, [], ◌∷◌, ◌++◌, take, drop, length, get_or, Bool, true, false, refl, ap, ◌∙◌, arith}
+use Rattle.std.specs.Prelude.{min, replicate, ◌&&◌, ◌||◌, nat_le, nat_lt, slice_index}
+use Rattle.std.proofs.lemmas.Bool.{cases_lt, le-leb, lt-ltb}
+use Rattle.std.proofs.lemmas.List.{length-append, length-take, length-drop, length-replicate, get_or_append_left, get_or-append_right, get_or-take, get_or-drop}
+use Rattle.tp_device.specs.declared.span.Span.{Span}
+use Rattle.tp_device.specs.Disks.{DiskState, MayLeave, is_touched, is_within}
+use Rattle.tp_device.specs.Memory.{all_blanked, blanked}
+
+length-blanked : (fill : ℕ) (seen : List ℕ) (span : Span) → length (blanked fill seen span) ≡ length seen
+length-blanked fill seen span =
+    let from = min span.at (length seen) in
+    let to = min (span.at + span.len) (length seen) in
+    omega (arith, length-append (take from seen) (replicate (to - from) fill ++ drop to seen), length-append (replicate (to - from) fill) (drop to seen), length-take from seen, length-replicate (to - from) fill, length-drop to seen)
+
+both_true : (a b : Bool) → a ≡ true → b ≡ true → (a && b) ≡ true
+both_true true b ea eb = eb
+both_true false b ea eb = absurd cc
+
+outside : (i : ℕ) (span : Span) → is_within i span ≡ false → (i < span.at) ⊎ (span.at + span.len ≤ i)
+outside i span none = elim (cases_lt i span.at) [
+  | inl lt ↦ inl lt
+  | inr le ↦ elim (cases_lt i (span.at + span.len)) [
+    | inl lt ↦ absurd (cc (none, both_true (nat_le span.at i) (nat_lt i (span.at + span.len)) (le-leb span.at i le) (lt-ltb i (span.at + span.len) lt)))
+    | inr past ↦ inr past
+  ]
+]
+
+blanked_other : (fill : ℕ) (seen : List ℕ) (span : Span) (i : ℕ) → i < length seen → is_within i span ≡ false → slice_index (blanked fill seen span) i ≡ slice_index seen i
+blanked_other fill seen span i lt none =
+    let from = min span.at (length seen) in
+    let to = min (span.at + span.len) (length seen) in
+    let before : List ℕ = take from seen in
+    let filled : List ℕ = replicate (to - from) fill in
+    let size-before : length before ≡ from = omega (arith, length-take from seen) in
+    elim (outside i span none) [
+      | inl lower ↦
+          let low : i < from = omega arith in
+          get_or_append_left before (filled ++ drop to seen) 0 i (omega arith) ∙ get_or-take from seen i 0 low
+      | inr higher ↦
+          let high : to ≤ i = omega arith in
+          get_or-append_right before (filled ++ drop to seen) from i 0 size-before (omega arith)
+          ∙ get_or-append_right filled (drop to seen) (to - from) (i - from) 0 (length-replicate (to - from) fill) (omega arith)
+          ∙ get_or-drop to seen (i - from - (to - from)) 0
+          ∙ ap (λ (k : ℕ). get_or seen k 0) (omega arith)
+    ]
+
+length-all_blanked : (fill : ℕ) (seen : List ℕ) (spans : List Span) → length (all_blanked fill seen spans) ≡ length seen
+length-all_blanked fill seen [] = refl
+length-all_blanked fill seen (span ∷ spans) = length-all_blanked fill (blanked fill seen span) spans ∙ length-blanked fill seen span
+
+neither : (a b : Bool) → (a || b) ≡ false → (a ≡ false) × (b ≡ false)
+neither true b e = absurd cc
+neither false b e = (refl, e)
+
+all_blanked_other : (fill : ℕ) (seen : List ℕ) (spans : List Span) (i : ℕ) → i < length seen → is_touched spans i ≡ false → slice_index (all_blanked fill seen spans) i ≡ slice_index seen i
+all_blanked_other fill seen [] i lt none = refl
+all_blanked_other fill seen (span ∷ spans) i lt none =
+    let both = neither (is_within i span) (is_touched spans i) none in
+    all_blanked_other fill (blanked fill seen span) spans i (omega (arith, length-blanked fill seen span)) both.1 ∙ blanked_other fill seen span i lt both.0
+
+pub crash_image : (fill : ℕ) (s : DiskState) → s.least ≤ length s.seen → length s.seen ≤ s.greatest → MayLeave s (all_blanked fill s.seen s.written)
+crash_image fill s low high = record {
+  no_shorter = omega (arith, length-all_blanked fill s.seen s.written);
+  no_longer = omega (arith, length-all_blanked fill s.seen s.written);
+  kept = λ i lt none. all_blanked_other fill s.seen s.written i (omega arith) none;
+}

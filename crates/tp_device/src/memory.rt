@@ -1,0 +1,253 @@
+//! A disk in memory, which can be stopped and crash.
+ghost use Rattle.std.specs.Prelude.{◌≡◌, ◌≤◌, ◌<◌, ◌⊎◌, ◌++◌, ℕ, List, length, Some, None, drop, take, min, OnOk, OnErr, IfOk, IsErrOf};
+ghost use Rattle.std.proofs.Common.{inl, inr, ⊎_elim};
+ghost use Rattle.tp_device.specs.Disks as disks;
+ghost use Rattle.tp_device.specs.Disks.{Cut, Effect, MayLeave, Passes, ReadsAt, Sync, Write};
+ghost use Rattle.tp_device.specs.Faults.{HasCause, counted};
+ghost use Rattle.tp_device.specs.Memory as memory;
+ghost use Rattle.tp_device.specs.Memory.{Calls};
+
+use crate::disk::{Disk, DiskError};
+use crate::span::Span;
+use std::alloc::{AllocError, Global};
+use std::marker::Model;
+use tp_types::{List, NoMemory};
+
+/// How many calls still pass, and how many faults there have been.
+#[derive(Drop)]
+struct Fuse {
+    left: Option<u32>,
+    faults: u64,
+}
+
+impl Fuse {
+    /// Lets a call begin, or counts a fault where no call passes any more.
+    fn enter(&mut self) -> Result<(), DiskError>
+        ensures ok { OnOk result ((self.old.left ≡ Some 0 → ⊥) × (self.new ≡ self.old)) }
+        ensures err { OnErr result ((self.old.left ≡ Some 0) × (self.new ≡ record self.old { faults = counted self.old.faults })) }
+        ensures failed { result ≡ Err DiskError.NoMemory → ⊥ }
+    {
+        if self.left == Some(0) {
+            self.faults = self.faults.saturating_add(1);
+            return Err(DiskError::Failed);
+        }
+        Ok(())
+    }
+
+    /// Counts a call that passed.
+    fn pass(&mut self)
+        ensures { self.new ≡ record self.old { left = memory.spent self.old.left } }
+    {
+        if let Some(left) = self.left {
+            self.left = Some(left.saturating_sub(1));
+        }
+    }
+}
+
+/// Puts the front of what there is into the front of the buffer, and answers how many bytes.
+fn copy_front(content: &[u8], buf: &mut [u8]) -> usize
+    ensures count { result ≡ min (length buf.old) (length content.now) }
+    ensures bytes { buf.new ≡ take result content.now ++ drop result buf.old }
+{
+    let count = buf.len().min(content.len());
+    buf[..count].copy_from_slice(&content[..count]);
+    count
+}
+
+/// Writes over the content from a place on, and past its end.
+fn overwrite(content: &mut Vec<u8>, at: usize, piece: &[u8]) -> Result<(), AllocError>
+    requires { at ≤ length content.old.items }
+    ensures ok { OnOk result (content.new.items ≡ disks.overwritten content.old.items at piece.now) }
+    ensures err { OnErr result (content.new.items ≡ content.old.items) }
+{
+    let (over, past) = piece.split_at(piece.len().min(content.len() - at));
+    content.extend_from_slice(past)?;
+    content[at..at + over.len()].copy_from_slice(over);
+    Ok(())
+}
+
+/// Fills a range, as far as there are such bytes.
+fn blank(content: &mut [u8], span: Span, fill: u8)
+    ensures { content.new ≡ memory.blanked fill content.old span }
+{
+    let len = content.len() as u64;
+    let from = span.at.min(len);
+    let to = span.at.saturating_add(span.len).min(len);
+    for i in from..to {
+        content[i as usize] = fill;
+    }
+}
+
+/// A disk in memory. It keeps its content, and the ranges that were written since the last sync.
+#[derive(Drop)]
+pub struct MemoryDisk {
+    content: Vec<u8>,
+    least: usize,
+    greatest: usize,
+    written: List<Span>,
+    fuse: Fuse,
+}
+
+impl Model for MemoryDisk {
+    ghost use Rattle.std.specs.Prelude.{◌≤◌, length};
+    ghost use Rattle.tp_device.specs.Memory.{Memory};
+
+    ghost Value = { Memory };
+
+    ghost view = { λ m. record {
+      disk = record {
+        seen = m.content.items;
+        least = m.least;
+        greatest = m.greatest;
+        written = m.written;
+      };
+      left = m.fuse.left;
+      faults = m.fuse.faults;
+    } };
+
+    ghost invariant = { λ m. (m.least ≤ length m.content.items) × (length m.content.items ≤ m.greatest) };
+}
+
+impl MemoryDisk {
+    /// A disk that holds the one byte 0, synced. No call of it is stopped.
+    pub fn fresh(alloc: Global) -> Result<MemoryDisk, NoMemory>
+        ensures { IfOk result (λ disk. disk ≡ memory.fresh) }
+    {
+        let mut content = Vec::new(alloc);
+        content.push(0)?;
+        Ok(MemoryDisk {
+            content,
+            least: 1,
+            greatest: 1,
+            written: List::new(alloc),
+            fuse: Fuse {
+                left: None,
+                faults: 0,
+            },
+        })
+    }
+
+    /// Lets so many further calls pass: each later `read`, `write_at`, `cut` and `sync` fails, changes nothing,
+    /// and counts a fault.
+    pub fn stop_after(&mut self, calls: u32)
+        ensures { self.new ≡ record self.old { left = Some calls } }
+    {
+        self.fuse.left = Some(calls);
+    }
+
+    /// The disk after a crash: each byte that was written since the last sync that succeeded reads `fill`, and the
+    /// length is the length then reached. Nothing on it is unsynced, and no call of it is stopped.
+    pub fn crashed(self, fill: u8) -> MemoryDisk
+        ensures exact { result ≡ memory.crashed fill self }
+        ensures image { MayLeave self.disk result.disk.seen }
+    {
+        let MemoryDisk {
+            mut content,
+            least: _,
+            greatest: _,
+            mut written,
+            fuse,
+        } = self;
+        for span in written.as_slice() {
+            blank(&mut content, *span, fill);
+        }
+        written.truncate(0);
+        MemoryDisk {
+            least: content.len(),
+            greatest: content.len(),
+            content,
+            written,
+            fuse: Fuse {
+                left: None,
+                faults: fuse.faults,
+            },
+        }
+    }
+}
+
+impl Disk for MemoryDisk {
+    ghost state = { memory.disk_of };
+
+    ghost left_since = { memory.left_at_ends };
+
+    ghost does = { memory.does };
+
+    ghost faults = { λ m. m.faults };
+
+    ghost counts_start = { λ start now image left. inl left };
+
+    ghost counts_now = { λ start now image left. inr left };
+
+    ghost only_now = { λ now image left. ⊎_elim (λ l. l) (λ l. l) left };
+
+    fn len(&self) -> u64 {
+        self.content.len() as u64
+    }
+
+    fn read(&mut self, at: u64, buf: &mut [u8]) -> Result<usize, DiskError>
+        ensures bytes { IfOk result (λ n. ReadsAt self.old.disk.seen at buf.old n buf.new) }
+        ensures size { length buf.new ≡ length buf.old }
+        ensures same { self.new.disk ≡ self.old.disk }
+        ensures memory { IsErrOf result DiskError.NoMemory → ⊥ }
+        ensures cause { HasCause self.old.faults self.new.faults result }
+        ensures time { Passes memory.disk_of memory.left_at_ends self.old self.new }
+        ensures exact { Calls self.old.disk self.old result self.new }
+    {
+        self.fuse.enter()?;
+        let at = self.content.len().min(at as usize);
+        let count = copy_front(&self.content[at..], buf);
+        self.fuse.pass();
+        Ok(count)
+    }
+
+    fn write_at(&mut self, at: u64, piece: &[u8]) -> Result<(), DiskError>
+        requires { at ≤ length self.old.disk.seen }
+        ensures effect { Effect (Write at piece.now) self.old.disk result self.new.disk }
+        ensures call { memory.does self.old (Write at piece.now) result self.new }
+        ensures cause { HasCause self.old.faults self.new.faults result }
+        ensures time { Passes memory.disk_of memory.left_at_ends self.old self.new }
+    {
+        self.fuse.enter()?;
+        let before = self.written.len();
+        self.written.push(Span {
+            at,
+            len: piece.len() as u64,
+        })?;
+        if overwrite(&mut self.content, at as usize, piece).is_err() {
+            self.written.truncate(before);
+            return Err(DiskError::NoMemory);
+        }
+        self.greatest = self.greatest.max(at as usize + piece.len());
+        self.fuse.pass();
+        Ok(())
+    }
+
+    fn cut(&mut self, len: u64) -> Result<(), DiskError>
+        requires { len ≤ length self.old.disk.seen }
+        ensures effect { Effect (Cut len) self.old.disk result self.new.disk }
+        ensures call { memory.does self.old (Cut len) result self.new }
+        ensures cause { HasCause self.old.faults self.new.faults result }
+        ensures time { Passes memory.disk_of memory.left_at_ends self.old self.new }
+    {
+        self.fuse.enter()?;
+        let len = len as usize;
+        self.content.truncate(len);
+        self.least = self.least.min(len);
+        self.fuse.pass();
+        Ok(())
+    }
+
+    fn sync(&mut self) -> Result<(), DiskError>
+        ensures effect { Effect Sync self.old.disk result self.new.disk }
+        ensures call { memory.does self.old Sync result self.new }
+        ensures cause { HasCause self.old.faults self.new.faults result }
+        ensures time { Passes memory.disk_of memory.left_at_ends self.old self.new }
+    {
+        self.fuse.enter()?;
+        self.written.truncate(0);
+        self.least = self.content.len();
+        self.greatest = self.content.len();
+        self.fuse.pass();
+        Ok(())
+    }
+}

@@ -1,0 +1,4 @@
+pub mod Images
+pub mod Logs
+pub mod Refusals
+pub mod mirrors

@@ -1,0 +1,9 @@
+pub mod Bodies
+pub mod Cases
+pub mod CausesRead
+pub mod Exact
+pub mod Generic
+pub mod KindsRead
+pub mod Numbers
+pub mod PartsRead
+pub mod Times

@@ -1,0 +1,4 @@
+pub mod Ranges
+pub mod Records
+pub mod Spelling
+pub mod mirrors

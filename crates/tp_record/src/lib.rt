@@ -1,0 +1,76 @@
+//! The bytes of log records. Each record has one spelling, and no spelling begins another.
+#![tactic(auto)]
+
+ghost use Rattle.std.specs.Prelude.{◌≡◌, ◌++◌, ℕ, List, length, Some, IfOk, IfNone, IfSome, OnOk};
+ghost use Rattle.tp_types.specs.declared.records.Record.{Record};
+ghost use Rattle.tp_record.specs.Ranges.{IsInRange};
+ghost use Rattle.tp_record.specs.Records.{Begins, IsRecord};
+ghost use Rattle.tp_record.specs.Spelling as spell;
+ghost use Rattle.tp_record.specs.mirrors.Gives.{Gives};
+ghost use Rattle.tp_record.specs.mirrors.Readings as readings;
+
+mod bytes;
+mod causes;
+mod kinds;
+mod parts;
+mod spelled;
+
+use bytes::{Halt, Reader};
+use spelled::{Spelled, write_count};
+use std::alloc::Global;
+use tp_types::{List, NoMemory, Record, Text};
+
+/// The one spelling of a record. It is meant for records whose spelling has fewer than 2^32 bytes: of a longer one
+/// the length field has the lowest 32 bits, and no reader finds the record again.
+pub fn encode(alloc: Global, r: &Record) -> Result<Text, NoMemory>
+    ensures spelled { IfOk result (λ text. text.0 ≡ spell.spelling r.now) }
+    ensures range { OnOk result (IsInRange r.now) }
+{
+    let mut content = Vec::new(alloc);
+    r.write_to(&mut content)?;
+    let mut body = Vec::new(alloc);
+    write_count(&mut body, content.len())?;
+    body.extend_from_slice(&content)?;
+    Ok(Text(List::from_vec(body)))
+}
+
+/// Reads a body.
+#[tactic(auto, unfolding(crate::specs::mirrors::Readings::body_at))]
+fn body(reader: &mut Reader<'_>) -> Result<Record, Halt>
+    ensures { Gives result reader.new.rest.now (readings.body_at reader.old.rest.now) }
+{
+    let count = u32::read_from(reader)?;
+    let before = reader.rest.len();
+    let record = Record::read_from(reader)?;
+    if reader.rest.len() + count as usize != before {
+        return Err(Halt::NoRecord);
+    }
+    Ok(record)
+}
+
+/// The record whose spelling the bytes begin with, and the length of that spelling. None comes exactly where the
+/// bytes begin with no record's spelling.
+pub fn decode(alloc: Global, bytes: &[u8]) -> Result<Option<(Record, usize)>, NoMemory>
+    // What is found is a record, and the bytes begin with its spelling.
+    ensures found { IfOk result (λ found. IfSome found (λ r. IsRecord r.0
+        × (Begins bytes.now (spell.spelling r.0) × (r.1 ≡ length (spell.spelling r.0))))) }
+    // A record whose spelling the bytes begin with is found.
+    ensures only { IfOk result (λ found. (r : Record) → IsRecord r → Begins bytes.now (spell.spelling r)
+        → found ≡ Some (r, length (spell.spelling r))) }
+    ensures none { IfOk result (λ found. IfNone found ((r : Record) → IsRecord r
+        → ¬ Begins bytes.now (spell.spelling r))) }
+{
+    let mut reader = Reader { alloc, rest: bytes };
+    match body(&mut reader) {
+        Ok(record) => Ok(Some((record, bytes.len() - reader.rest.len()))),
+        Err(Halt::NoRecord) => Ok(None),
+        Err(Halt::NoMemory) => Err(NoMemory),
+    }
+}
+
+/// No record has the spelling of another, and no spelling begins another: what follows a record's spelling does not
+/// matter.
+pub fn one_spelling()
+    ensures { (r s : Record) (x y : List ℕ) → IsRecord r → IsRecord s
+        → spell.spelling r ++ x ≡ spell.spelling s ++ y → (r ≡ s) × (x ≡ y) }
+{}
