@@ -31,12 +31,13 @@ use Rattle.tp_types.specs.Effect.{Effect}
 use Rattle.tp_machine.specs.Logs.{decided_at, decided_by, decided_in, settled_at, settled_by, settled_in, settlement_in}
 use Rattle.tp_machine.specs.Machine.{State, acts_by, log_with, server_acted, server_fact}
 use Rattle.tp_machine.specs.Sound.{Each, EachAt}
-use Rattle.tp_machine.proofs.AgreeWorld.{Agrees, BodyRests, CoordinatorPartAgrees, DecidedAs, Follows, LetterRests, ServerPartAgrees, SettledRests, TurnAgrees, WhatFollows, age_count, settled_outcome, submitted_count, submitted_up}
+use Rattle.tp_machine.proofs.AgreeWorld.{Agrees, BodyRests, CoordinatorPartAgrees, DecidedAs, Follows, LetterRests, ServerPartAgrees, SettledRests, TurnAgrees, WhatFollows, settled_outcome, submitted_count, submitted_up, once}
 use Rattle.tp_machine.proofs.AgreeCoordinator.{CoordinatorAgrees, decided_begun}
 use Rattle.tp_machine.proofs.AgreeServer.{IsNoOrder, IsReply, RecordRests, ServerLawful}
 use Rattle.tp_machine.proofs.FactLemmas.{any_decided, any_submitted, append_none, decisions, said, settlements, submissions}
 use Rattle.tp_machine.proofs.LogLemmas.{IsFresh, appended, gained, listed, listed_first, look_set, settled_with}
 use Rattle.tp_machine.proofs.SoundLists.{at_set}
+use Rattle.tp_machine.specs.coord.Row.{is_begun}
 
 -- ---- numbers
 
@@ -68,9 +69,8 @@ pub decided_told : (sc : Scenario) (w : State) (txn : TxnId) (ended : Outcome) �
 decided_told sc w txn ended h e =
     any_decided txn ended w.facts ∙ (ap (list_any (λ (d : Decision). same_outcome (outcome_of d) ended)) (h.decided txn) ∙ told_one (decided_at w.actors.coordinators txn.0) ended e)
 
-pub begun_count : (age : Option ℕ) → is_some age ≡ true → age_count age ≡ 1
-begun_count None e = absurd (cc)
-begun_count (Some place) e = refl
+pub begun_count : (b : Bool) → b ≡ true → once b ≡ 1
+begun_count b e = ap once e
 
 some_from_outcome : (found : Option Decision) (ended : Outcome) → option_map outcome_of found ≡ Some ended → is_some found ≡ true
 some_from_outcome None ended e = absurd (cc)
@@ -79,7 +79,7 @@ some_from_outcome (Some d) ended e = refl
 up_count : (sc : Scenario) (kept : List Record) (up : Option Coordinator) (ended : Outcome) → IfSome up (λ (c : Coordinator). CoordinatorAgrees sc c kept)
     → option_map outcome_of (decided_in kept) ≡ Some ended → submitted_up up ≡ 1
 up_count sc kept None ended h e = refl
-up_count sc kept (Some c) ended h e = begun_count c.age (decided_begun c.phase c.age (decided_in kept) h.begun h.decided (some_from_outcome (decided_in kept) ended e))
+up_count sc kept (Some c) ended h e = begun_count (is_begun c.phase) (decided_begun c.phase (decided_in kept) h.decided (some_from_outcome (decided_in kept) ended e))
 
 decided_count : (sc : Scenario) (coordinators : List (Part Coordinator)) (n : ℕ) (ended : Outcome) (found : Option (Part Coordinator)) → slice_get coordinators n ≡ found
     → EachAt (λ (m : ℕ) (part : Part Coordinator). CoordinatorPartAgrees sc part) coordinators → option_map outcome_of (option_and_then decided_by found) ≡ Some ended → submitted_count found ≡ 1

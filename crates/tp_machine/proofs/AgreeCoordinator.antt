@@ -39,7 +39,7 @@ use Rattle.tp_machine.specs.Logs.{decided_in, decision_in}
 use Rattle.tp_machine.specs.Machine.{log_with, with_age}
 use Rattle.tp_machine.specs.Sound.{Each}
 use Rattle.tp_machine.specs.coord.Opened.{servers_at}
-use Rattle.tp_machine.specs.coord.Row.{ack_from, answered, are_agreed, asks, asks_first, awaits_query, awaits_vote, begins, commits, coordinator_row, done_of, is_from, is_last_write, judged, on_ack, on_body, on_done, on_tell, on_vote, plain_value, prepare_letter, query_of, ran, replied, request, sends_first, server_of, staple_of, submit_row, told, vote_at, voted, without}
+use Rattle.tp_machine.specs.coord.Row.{ack_from, answered, are_agreed, asks, asks_first, awaits_query, awaits_vote, begins, commits, coordinator_row, done_of, is_from, is_last_write, judged, on_ack, on_body, on_done, on_tell, on_vote, plain_value, prepare_letter, query_of, ran, replied, request, sends_first, server_of, staple_of, submit_row, told, vote_at, voted, without, is_begun}
 use Rattle.tp_machine.proofs.LogLemmas.{appended, decided_with}
 use Rattle.tp_machine.proofs.SoundLists.{by_cond}
 
@@ -50,15 +50,9 @@ abbrev pub PhaseAgrees : Phase → Option Decision → Type 0
 PhaseAgrees (phase.Ending ended awaited) decided = option_map outcome_of decided ≡ Some ended
 PhaseAgrees _ decided = decided ≡ None
 
--- a coordinator that awaits something was submitted
-abbrev pub HasBegun : Phase → Option ℕ → Type 0
-HasBegun phase.Idle age = Unit {0}
-HasBegun _ age = is_some age ≡ true
-
 -- a coordinator agrees with its log, and its servers are those of its transaction
 pub record CoordinatorAgrees (sc : Scenario) (c : Coordinator) (kept : List Record) : Type 0 where
   pub decided : PhaseAgrees c.phase (decided_in kept)
-  pub begun : HasBegun c.phase c.age
   pub servers : c.servers ≡ servers_at sc c.txn
 
 -- the actor is a server with an item of the transaction
@@ -93,7 +87,7 @@ pub record IsFirst (txn : TxnId) (kept : List Record) (forced : Record) : Type 0
 -- an act of a coordinator: it agrees with its log after it, it forces nothing after a decision, and its letters agree
 pub record CoordinatorLawful (sc : Scenario) (c : Coordinator) (kept : List Record) (effect : Effect Coordinator) : Type 0 where
   pub agrees : CoordinatorAgrees sc effect.state (log_with kept effect.reaction.append)
-  pub same_age : effect.state.age ≡ c.age
+  pub same_begun : is_begun effect.state.phase ≡ is_begun c.phase
   pub same_txn : effect.state.txn ≡ c.txn
   pub fresh : IfSome effect.reaction.append (IsFirst c.txn kept)
   pub letters : Each (LetterAgrees sc c.txn (decided_in (log_with kept effect.reaction.append))) effect.reaction.letters
@@ -105,19 +99,32 @@ undecided_awaiting : (c : Coordinator) (awaited : Phase) (done : DoneReply) (dec
 undecided_awaiting c (phase.Ending ended awaited) done decided e h = absurd (cc)
 undecided_awaiting c _ done decided e h = h
 
-begun_awaiting : (c : Coordinator) (awaited : Phase) (done : DoneReply) (age : Option ℕ) → awaits_query c awaited done ≡ true → HasBegun awaited age → is_some age ≡ true
-begun_awaiting c phase.Idle done age e h = absurd (cc)
-begun_awaiting c _ done age e h = h
+begun_awaiting : (c : Coordinator) (awaited : Phase) (done : DoneReply) → awaits_query c awaited done ≡ true → is_begun awaited ≡ true
+begun_awaiting c phase.Idle done e = absurd (cc)
+begun_awaiting c (phase.Querying number staple) done e = refl
+begun_awaiting c (phase.Asking round) done e = refl
+begun_awaiting c (phase.Checking round staple) done e = refl
+begun_awaiting c (phase.Ending ended awaited) done e = refl
 
--- one that was not submitted has not decided
-pub undecided_idle : (awaited : Phase) (age : Option ℕ) (decided : Option Decision) → HasBegun awaited age → age ≡ None → PhaseAgrees awaited decided → decided ≡ None
-undecided_idle phase.Idle age decided b e h = h
-undecided_idle _ age decided b e h = let not : is_some age ≡ false = ap is_some e in absurd (cc)
+-- a coordinator whose transaction was not submitted is idle
+pub idle_is : (awaited : Phase) → is_begun awaited ≡ false → awaited ≡ phase.Idle
+idle_is phase.Idle e = refl
+idle_is (phase.Querying number staple) e = absurd (cc)
+idle_is (phase.Asking round) e = absurd (cc)
+idle_is (phase.Checking round staple) e = absurd (cc)
+idle_is (phase.Ending ended servers) e = absurd (cc)
+
+-- and has not decided
+pub undecided_idle : (awaited : Phase) (decided : Option Decision) → is_begun awaited ≡ false → PhaseAgrees awaited decided → decided ≡ None
+undecided_idle awaited decided e h = subst (λ (p : Phase). PhaseAgrees p decided) (idle_is awaited e) h
 
 -- one that has decided was submitted
-pub decided_begun : (awaited : Phase) (age : Option ℕ) (decided : Option Decision) → HasBegun awaited age → PhaseAgrees awaited decided → is_some decided ≡ true → is_some age ≡ true
-decided_begun phase.Idle age decided b h e = let not : is_some decided ≡ false = ap is_some h in absurd (cc)
-decided_begun _ age decided b h e = b
+pub decided_begun : (awaited : Phase) (decided : Option Decision) → PhaseAgrees awaited decided → is_some decided ≡ true → is_begun awaited ≡ true
+decided_begun phase.Idle decided h e = let not : is_some decided ≡ false = ap is_some h in absurd (cc)
+decided_begun (phase.Querying number staple) decided h e = refl
+decided_begun (phase.Asking round) decided h e = refl
+decided_begun (phase.Checking round staple) decided h e = refl
+decided_begun (phase.Ending ended servers) decided h e = refl
 
 -- ---- servers
 
@@ -139,24 +146,24 @@ servers_at_have_items sc txn = found (slice_get sc.txns txn.0)
 -- ---- rows
 
 silent_lawful : (sc : Scenario) (c : Coordinator) (kept : List Record) → CoordinatorAgrees sc c kept → CoordinatorLawful sc c kept (silent c)
-silent_lawful sc c kept h = record { agrees = h; same_age = refl; same_txn = refl; fresh = tt; letters = tt }
+silent_lawful sc c kept h = record { agrees = h; same_begun = refl; same_txn = refl; fresh = tt; letters = tt }
 
 -- the queries, the requests and the replies of a coordinator that has not decided
-asks_lawful : (sc : Scenario) (c : Coordinator) (kept : List Record) → decided_in kept ≡ None → is_some c.age ≡ true → c.servers ≡ servers_at sc c.txn
+asks_lawful : (sc : Scenario) (c : Coordinator) (kept : List Record) → decided_in kept ≡ None → is_begun c.phase ≡ true → c.servers ≡ servers_at sc c.txn
     → CoordinatorLawful sc c kept (asks c)
-asks_lawful sc c kept d b s = record { agrees = record { decided = d; begun = b; servers = s }; same_age = refl; same_txn = refl; fresh = tt; letters = (tt, tt) }
+asks_lawful sc c kept d b s = record { agrees = record { decided = d; servers = s }; same_begun = sym b; same_txn = refl; fresh = tt; letters = (tt, tt) }
 
 answered_lawful : (sc : Scenario) (c : Coordinator) (kept : List Record) (from : Actor) (done : DoneReply) (asked : Query) (server : Option ServerId) (value : Option ℤ)
-    → CoordinatorAgrees sc c kept → decided_in kept ≡ None → is_some c.age ≡ true → CoordinatorLawful sc c kept (answered sc c from done asked server value)
+    → CoordinatorAgrees sc c kept → decided_in kept ≡ None → is_begun c.phase ≡ true → CoordinatorLawful sc c kept (answered sc c from done asked server value)
 answered_lawful sc c kept from done asked (Some server) (Some value) h d b =
     let on = asks_lawful sc (ran c server done asked value) kept d b h.servers in
     by_cond (CoordinatorLawful sc c kept) (is_from from server && is_last_write sc c asked done.query)
-    (λ last. record { agrees = on.agrees; same_age = refl; same_txn = refl; fresh = tt; letters = on.letters })
+    (λ last. record { agrees = on.agrees; same_begun = sym b; same_txn = refl; fresh = tt; letters = on.letters })
     (λ further. silent_lawful sc c kept h)
 answered_lawful sc c kept from done asked _ _ h d b = silent_lawful sc c kept h
 
 done_of_lawful : (sc : Scenario) (c : Coordinator) (kept : List Record) (from : Actor) (done : DoneReply) (asked : Option Query)
-    → CoordinatorAgrees sc c kept → decided_in kept ≡ None → is_some c.age ≡ true → CoordinatorLawful sc c kept (done_of sc c from done asked)
+    → CoordinatorAgrees sc c kept → decided_in kept ≡ None → is_begun c.phase ≡ true → CoordinatorLawful sc c kept (done_of sc c from done asked)
 done_of_lawful sc c kept from done None h d b = silent_lawful sc c kept h
 done_of_lawful sc c kept from done (Some asked) h d b = answered_lawful sc c kept from done asked (server_of sc asked) (plain_value done.answer) h d b
 
@@ -164,7 +171,7 @@ on_done_lawful : (sc : Scenario) (c : Coordinator) (kept : List Record) (from : 
     → CoordinatorLawful sc c kept (on_done sc c c.phase from done)
 on_done_lawful sc c kept from done h =
     by_cond (CoordinatorLawful sc c kept) (awaits_query c c.phase done)
-    (λ now. done_of_lawful sc c kept from done (query_of sc c done.query) h (undecided_awaiting c c.phase done (decided_in kept) now h.decided) (begun_awaiting c c.phase done c.age now h.begun))
+    (λ now. done_of_lawful sc c kept from done (query_of sc c done.query) h (undecided_awaiting c c.phase done (decided_in kept) now h.decided) (begun_awaiting c c.phase done now))
     (λ other. silent_lawful sc c kept h)
 
 prepare_letters_lawful : (sc : Scenario) (c : Coordinator) (decided : Option Decision) (staple : Staple) (servers : List ServerId)
@@ -173,11 +180,11 @@ prepare_letters_lawful sc c decided staple [] = tt
 prepare_letters_lawful sc c decided staple (at ∷ servers) = (tt, prepare_letters_lawful sc c decided staple servers)
 
 told_lawful : (sc : Scenario) (c : Coordinator) (kept : List Record) (awaited : Phase) (staple : Staple) → CoordinatorAgrees sc c kept
-    → PhaseAgrees awaited (decided_in kept) → HasBegun awaited c.age → CoordinatorLawful sc c kept (told c awaited staple)
+    → PhaseAgrees awaited (decided_in kept) → is_begun awaited ≡ is_begun c.phase → CoordinatorLawful sc c kept (told c awaited staple)
 told_lawful sc c kept (phase.Asking round) staple h d b =
     record {
-      agrees = record { decided = d; begun = b; servers = h.servers };
-      same_age = refl;
+      agrees = record { decided = d; servers = h.servers };
+      same_begun = b;
       same_txn = refl;
       fresh = tt;
       letters = prepare_letters_lawful sc c (decided_in kept) staple round.awaited;
@@ -188,7 +195,7 @@ on_tell_lawful : (sc : Scenario) (c : Coordinator) (kept : List Record) (sent : 
     → CoordinatorLawful sc c kept (on_tell c c.phase sent tell)
 on_tell_lawful sc c kept sent tell h =
     by_cond (CoordinatorLawful sc c kept) ((tell.turn == c.turn) && asks_first c.phase)
-    (λ first. told_lawful sc c kept c.phase (staple_of tell sent) h h.decided h.begun)
+    (λ first. told_lawful sc c kept c.phase (staple_of tell sent) h h.decided refl)
     (λ other. silent_lawful sc c kept h)
 
 -- an order to each of these servers
@@ -202,58 +209,58 @@ orders_lawful sc txn decided ended c (at ∷ servers) same d h = (
 )
 
 -- a commit is forced where nothing was decided, and then sent
-commits_lawful : (sc : Scenario) (c : Coordinator) (kept : List Record) (rounds : ℕ) (proofs : List Verdict) → CoordinatorAgrees sc c kept → decided_in kept ≡ None → is_some c.age ≡ true
+commits_lawful : (sc : Scenario) (c : Coordinator) (kept : List Record) (rounds : ℕ) (proofs : List Verdict) → CoordinatorAgrees sc c kept → decided_in kept ≡ None → is_begun c.phase ≡ true
     → CoordinatorLawful sc c kept (commits c rounds proofs)
 commits_lawful sc c kept rounds proofs h d b =
     let forced = (commits c rounds proofs).reaction.append in
     let now : option_map outcome_of (decided_in (log_with kept forced)) ≡ Some outcome.Commit = ap (option_map outcome_of) (decided_with kept forced ∙ ap (λ z. first_of z (appended decision_in forced)) d) in
     record {
-      agrees = record { decided = now; begun = b; servers = h.servers };
-      same_age = refl;
+      agrees = record { decided = now; servers = h.servers };
+      same_begun = sym b;
       same_txn = refl;
       fresh = record { undecided = d; own = refl };
       letters = orders_lawful sc c.txn (decided_in (log_with kept forced)) outcome.Commit c c.servers refl now
           (subst (Each (λ (at : ServerId). has_item_at sc at c.txn ≡ true)) (sym h.servers) (servers_at_have_items sc c.txn));
     }
 
-judged_lawful : (sc : Scenario) (c : Coordinator) (kept : List Record) (round : Round) (verdicts : List Verdict) → CoordinatorAgrees sc c kept → decided_in kept ≡ None → is_some c.age ≡ true
+judged_lawful : (sc : Scenario) (c : Coordinator) (kept : List Record) (round : Round) (verdicts : List Verdict) → CoordinatorAgrees sc c kept → decided_in kept ≡ None → is_begun c.phase ≡ true
     → CoordinatorLawful sc c kept (judged c round verdicts)
 judged_lawful sc c kept round verdicts h d b =
     by_cond (CoordinatorLawful sc c kept) (is_empty round.kept && are_agreed verdicts) (λ agreed. commits_lawful sc c kept round.number verdicts h d b) (λ other. silent_lawful sc c kept h)
 
 replied_lawful : (sc : Scenario) (c : Coordinator) (kept : List Record) (round : Round) (staple : Staple) (server : ServerId) (verdicts : List Verdict) (others : List ServerId)
-    → CoordinatorAgrees sc c kept → decided_in kept ≡ None → is_some c.age ≡ true → CoordinatorLawful sc c kept (replied c round staple server verdicts others)
+    → CoordinatorAgrees sc c kept → decided_in kept ≡ None → is_begun c.phase ≡ true → CoordinatorLawful sc c kept (replied c round staple server verdicts others)
 replied_lawful sc c kept round staple server verdicts [] h d b = judged_lawful sc c kept round verdicts h d b
 replied_lawful sc c kept round staple server verdicts (other ∷ others) h d b =
-    record { agrees = record { decided = d; begun = b; servers = h.servers }; same_age = refl; same_txn = refl; fresh = tt; letters = tt }
+    record { agrees = record { decided = d; servers = h.servers }; same_begun = sym b; same_txn = refl; fresh = tt; letters = tt }
 
 voted_lawful : (sc : Scenario) (c : Coordinator) (kept : List Record) (round : Round) (staple : Staple) (server : ServerId) (said : Vote)
-    → CoordinatorAgrees sc c kept → decided_in kept ≡ None → is_some c.age ≡ true → CoordinatorLawful sc c kept (voted c round staple server said)
+    → CoordinatorAgrees sc c kept → decided_in kept ≡ None → is_begun c.phase ≡ true → CoordinatorLawful sc c kept (voted c round staple server said)
 voted_lawful sc c kept round staple server (vote.Yes verdicts) h d b = replied_lawful sc c kept round staple server verdicts (without round.awaited server) h d b
 voted_lawful sc c kept round staple server (vote.No why) h d b = silent_lawful sc c kept h
 
 vote_at_lawful : (sc : Scenario) (c : Coordinator) (kept : List Record) (awaited : Phase) (server : ServerId) (said : Vote) → CoordinatorAgrees sc c kept
-    → PhaseAgrees awaited (decided_in kept) → HasBegun awaited c.age → CoordinatorLawful sc c kept (vote_at c awaited server said)
-vote_at_lawful sc c kept (phase.Checking round staple) server said h d b = voted_lawful sc c kept round staple server said h d b
+    → PhaseAgrees awaited (decided_in kept) → is_begun awaited ≡ is_begun c.phase → CoordinatorLawful sc c kept (vote_at c awaited server said)
+vote_at_lawful sc c kept (phase.Checking round staple) server said h d b = voted_lawful sc c kept round staple server said h d (sym b)
 vote_at_lawful sc c kept _ server said h d b = silent_lawful sc c kept h
 
 on_vote_lawful : (sc : Scenario) (c : Coordinator) (kept : List Record) (from : Actor) (reply : VoteReply) → CoordinatorAgrees sc c kept
     → CoordinatorLawful sc c kept (on_vote c c.phase from reply)
 on_vote_lawful sc c kept (actor.Server server) reply h =
     by_cond (CoordinatorLawful sc c kept) ((reply.turn == c.turn) && awaits_vote c.phase server)
-    (λ awaited. vote_at_lawful sc c kept c.phase server reply.vote h h.decided h.begun)
+    (λ awaited. vote_at_lawful sc c kept c.phase server reply.vote h h.decided refl)
     (λ other. silent_lawful sc c kept h)
 on_vote_lawful sc c kept _ reply h = silent_lawful sc c kept h
 
 ack_from_lawful : (sc : Scenario) (c : Coordinator) (kept : List Record) (ended : Outcome) (awaited : List ServerId) (from : Actor) → CoordinatorAgrees sc c kept
-    → option_map outcome_of (decided_in kept) ≡ Some ended → is_some c.age ≡ true → CoordinatorLawful sc c kept (ack_from c ended awaited from)
+    → option_map outcome_of (decided_in kept) ≡ Some ended → is_begun c.phase ≡ true → CoordinatorLawful sc c kept (ack_from c ended awaited from)
 ack_from_lawful sc c kept ended awaited (actor.Server server) h d b =
-    record { agrees = record { decided = d; begun = b; servers = h.servers }; same_age = refl; same_txn = refl; fresh = tt; letters = tt }
+    record { agrees = record { decided = d; servers = h.servers }; same_begun = sym b; same_txn = refl; fresh = tt; letters = tt }
 ack_from_lawful sc c kept ended awaited _ h d b = silent_lawful sc c kept h
 
 on_ack_lawful : (sc : Scenario) (c : Coordinator) (kept : List Record) (awaited : Phase) (from : Actor) → CoordinatorAgrees sc c kept
-    → PhaseAgrees awaited (decided_in kept) → HasBegun awaited c.age → CoordinatorLawful sc c kept (on_ack c awaited from)
-on_ack_lawful sc c kept (phase.Ending ended awaited) from h d b = ack_from_lawful sc c kept ended awaited from h d b
+    → PhaseAgrees awaited (decided_in kept) → is_begun awaited ≡ is_begun c.phase → CoordinatorLawful sc c kept (on_ack c awaited from)
+on_ack_lawful sc c kept (phase.Ending ended awaited) from h d b = ack_from_lawful sc c kept ended awaited from h d (sym b)
 on_ack_lawful sc c kept _ from h d b = silent_lawful sc c kept h
 
 body_lawful : (sc : Scenario) (c : Coordinator) (kept : List Record) (sent : ℕ) (from : Actor) (said : Body) → CoordinatorAgrees sc c kept
@@ -261,7 +268,7 @@ body_lawful : (sc : Scenario) (c : Coordinator) (kept : List Record) (sent : ℕ
 body_lawful sc c kept sent from (body.Done done) h = on_done_lawful sc c kept from done h
 body_lawful sc c kept sent from (body.Tell tell) h = on_tell_lawful sc c kept sent tell h
 body_lawful sc c kept sent from (body.Vote reply) h = on_vote_lawful sc c kept from reply h
-body_lawful sc c kept sent from (body.Ack ack) h = on_ack_lawful sc c kept c.phase from h h.decided h.begun
+body_lawful sc c kept sent from (body.Ack ack) h = on_ack_lawful sc c kept c.phase from h h.decided refl
 body_lawful sc c kept sent from _ h = silent_lawful sc c kept h
 
 -- every row of a coordinator on receipt of a mail
@@ -270,34 +277,29 @@ coordinator_row_lawful sc c kept mail h = body_lawful sc c kept mail.sent mail.l
 
 -- ---- Submit
 
--- a submission at a place
-pub record SubmissionLawful (sc : Scenario) (c : Coordinator) (kept : List Record) (place : ℕ) (effect : Effect Coordinator) : Type 0 where
+-- a submission
+pub record SubmissionLawful (sc : Scenario) (c : Coordinator) (kept : List Record) (effect : Effect Coordinator) : Type 0 where
   pub agrees : CoordinatorAgrees sc effect.state kept
-  pub age_is : effect.state.age ≡ Some place
+  pub begun : is_begun effect.state.phase ≡ true
   pub same_txn : effect.state.txn ≡ c.txn
   pub forces : effect.reaction.append ≡ None
   pub letters : Each (LetterAgrees sc c.txn (decided_in kept)) effect.reaction.letters
 
-unsent_lawful : (sc : Scenario) (c : Coordinator) (kept : List Record) (place : ℕ) → CoordinatorAgrees sc c kept → decided_in kept ≡ None → HasBegun c.phase (Some place)
-    → SubmissionLawful sc c kept place (with_age (silent c) place)
-unsent_lawful sc c kept place h d b = record { agrees = record { decided = h.decided; begun = b; servers = h.servers }; age_is = refl; same_txn = refl; forces = refl; letters = tt }
-
-begun_now : (awaited : Phase) (place : ℕ) → HasBegun awaited (Some place)
-begun_now phase.Idle place = tt
-begun_now _ place = refl
+unsent_lawful : (sc : Scenario) (c : Coordinator) (kept : List Record) (place : ℕ) → CoordinatorAgrees sc c kept → is_begun c.phase ≡ true → SubmissionLawful sc c kept (with_age (silent c) place)
+unsent_lawful sc c kept place h b = record { agrees = record { decided = h.decided; servers = h.servers }; begun = b; same_txn = refl; forces = refl; letters = tt }
 
 sends_first_lawful : (sc : Scenario) (c : Coordinator) (kept : List Record) (place : ℕ) (server : Option ServerId) (value : Option ℤ) → CoordinatorAgrees sc c kept → decided_in kept ≡ None
-    → SubmissionLawful sc c kept place (with_age (sends_first c server value) place)
-sends_first_lawful sc c kept place (Some server) (Some value) h d =
-    record { agrees = record { decided = d; begun = refl; servers = h.servers }; age_is = refl; same_txn = refl; forces = refl; letters = (tt, tt) }
-sends_first_lawful sc c kept place _ _ h d = unsent_lawful sc c kept place h d (begun_now c.phase place)
+    → is_begun (sends_first c server value).state.phase ≡ true → SubmissionLawful sc c kept (with_age (sends_first c server value) place)
+sends_first_lawful sc c kept place (Some server) (Some value) h d b =
+    record { agrees = record { decided = d; servers = h.servers }; begun = refl; same_txn = refl; forces = refl; letters = (tt, tt) }
+sends_first_lawful sc c kept place _ _ h d b = unsent_lawful sc c kept place h b
 
 begins_lawful : (sc : Scenario) (c : Coordinator) (kept : List Record) (place : ℕ) (asked : Option Query) → CoordinatorAgrees sc c kept → decided_in kept ≡ None
-    → SubmissionLawful sc c kept place (with_age (begins sc c asked) place)
-begins_lawful sc c kept place None h d = unsent_lawful sc c kept place h d (begun_now c.phase place)
-begins_lawful sc c kept place (Some asked) h d = sends_first_lawful sc c kept place (server_of sc asked) (written_constant asked) h d
+    → is_begun (begins sc c asked).state.phase ≡ true → SubmissionLawful sc c kept (with_age (begins sc c asked) place)
+begins_lawful sc c kept place None h d b = unsent_lawful sc c kept place h b
+begins_lawful sc c kept place (Some asked) h d b = sends_first_lawful sc c kept place (server_of sc asked) (written_constant asked) h d b
 
--- the submission of a transaction that was not submitted before
-pub submit_row_lawful : (sc : Scenario) (c : Coordinator) (kept : List Record) (place : ℕ) → CoordinatorAgrees sc c kept → c.age ≡ None
-    → SubmissionLawful sc c kept place (with_age (submit_row sc c) place)
-submit_row_lawful sc c kept place h e = begins_lawful sc c kept place (query_of sc c 1) h (undecided_idle c.phase c.age (decided_in kept) h.begun e h.decided)
+-- the submission of a transaction that was not submitted before, and whose first row begins it
+pub submit_row_lawful : (sc : Scenario) (c : Coordinator) (kept : List Record) (place : ℕ) → CoordinatorAgrees sc c kept → is_begun c.phase ≡ false
+    → is_begun (submit_row sc c).state.phase ≡ true → SubmissionLawful sc c kept (with_age (submit_row sc c) place)
+submit_row_lawful sc c kept place h e b = begins_lawful sc c kept place (query_of sc c 1) h (undecided_idle c.phase (decided_in kept) e h.decided) b

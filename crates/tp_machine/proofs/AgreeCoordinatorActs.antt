@@ -26,12 +26,13 @@ use Rattle.tp_types.specs.Effect.{Effect}
 use Rattle.tp_machine.specs.Logs.{decided_at, decided_by, decided_in, decision_in}
 use Rattle.tp_machine.specs.Machine.{State, acts_by, coordinator_acted, coordinator_fact, log_with}
 use Rattle.tp_machine.specs.Sound.{Each}
-use Rattle.tp_machine.proofs.AgreeWorld.{Agrees, BodyRests, CoordinatorPartAgrees, DecidedAs, LetterRests, StaysDecided, TurnAgrees, WhatFollows, age_count, decided_stays, settled_outcome, submitted_count, submitted_up}
+use Rattle.tp_machine.proofs.AgreeWorld.{Agrees, BodyRests, CoordinatorPartAgrees, DecidedAs, LetterRests, StaysDecided, TurnAgrees, WhatFollows, decided_stays, settled_outcome, submitted_count, submitted_up, once}
 use Rattle.tp_machine.proofs.AgreeActs.{begun_count, none_more, number_itself, submitted_told}
 use Rattle.tp_machine.proofs.AgreeCoordinator.{BodyAgrees, CoordinatorAgrees, CoordinatorLawful, IsFirst, LetterAgrees, SubmissionLawful, decided_begun}
 use Rattle.tp_machine.proofs.FactLemmas.{append_none, decisions, filter_map_append, settlements, submissions, submitted_what, decided_what, settled_what}
 use Rattle.tp_machine.proofs.LogLemmas.{IsFresh, appended, decided_with, first_stays, gained, get_set, listed, listed_first, look_set}
 use Rattle.tp_machine.proofs.SoundLists.{at_set}
+use Rattle.tp_machine.specs.coord.Row.{is_begun}
 
 -- ---- what a record tells
 
@@ -86,7 +87,7 @@ pub record ActLawful (sc : Scenario) (w : State) (txn : TxnId) (c : Coordinator)
   pub fresh : IfSome effect.reaction.append (IsFirst txn kept)
   pub letters : Each (LetterAgrees sc txn (decided_in (log_with kept effect.reaction.append))) effect.reaction.letters
   pub follows : Each (WhatFollows sc w.facts) (own ++ told_of effect.reaction.append)
-  pub counts : (other : TxnId) → same_txn txn other ≡ true → age_count c.age + length (submissions other own) ≡ age_count effect.state.age
+  pub counts : (other : TxnId) → same_txn txn other ≡ true → once (is_begun c.phase) + length (submissions other own) ≡ once (is_begun effect.state.phase)
   pub apart : (other : TxnId) → same_txn txn other ≡ false → submissions other own ≡ []
   pub undecided : (other : TxnId) → decisions other own ≡ []
   pub unsettled : (at : ServerId) (other : TxnId) → settlements at other own ≡ []
@@ -133,7 +134,7 @@ decided_turn coordinators txn other part next append own b same found grown h o 
 
 submitted_turn : (coordinators : List (Part Coordinator)) (txn other : TxnId) (part : Part Coordinator) (c : Coordinator) (next : Part Coordinator) (state : Coordinator) (append : Option Record) (own : List What) (b : Bool)
     → same_txn txn other ≡ b → slice_get coordinators txn.0 ≡ Some part → part.up ≡ Some c → next.up ≡ Some state
-    → (same_txn txn other ≡ true → age_count c.age + length (submissions other own) ≡ age_count state.age) → (same_txn txn other ≡ false → submissions other own ≡ [])
+    → (same_txn txn other ≡ true → once (is_begun c.phase) + length (submissions other own) ≡ once (is_begun state.phase)) → (same_txn txn other ≡ false → submissions other own ≡ [])
     → submitted_count (slice_get coordinators other.0) + length (submissions other (own ++ told_of append)) ≡ submitted_count (slice_get (slice_set coordinators txn.0 next) other.0)
 submitted_turn coordinators txn other part c next state append own b same found up up_next here apart =
     ap (λ (xs : List TxnId). submitted_count (slice_get coordinators other.0) + length xs)
@@ -212,10 +213,9 @@ received_lawful sc w txn part c effect h found up same l =
       letters = subst (λ (t : TxnId). Each (LetterAgrees sc t (decided_in now)) effect.reaction.letters) same l.letters;
       follows = told_follows sc w.facts txn part.log effect.reaction.append fresh
           (λ decides. submitted_told txn w.facts
-          (h.submitted txn ∙ (ap submitted_count found ∙ (ap submitted_up up ∙ begun_count c.age
-          (subst (λ (age : Option ℕ). is_some age ≡ true) l.same_age
-          (decided_begun effect.state.phase effect.state.age (decided_in now) l.agrees.begun l.agrees.decided (some_decided part.log effect.reaction.append decides)))))));
-      counts = λ other e. none_more (age_count c.age) ∙ ap age_count (sym l.same_age);
+          (h.submitted txn ∙ (ap submitted_count found ∙ (ap submitted_up up ∙ begun_count (is_begun c.phase)
+          (sym l.same_begun ∙ decided_begun effect.state.phase (decided_in now) l.agrees.decided (some_decided part.log effect.reaction.append decides))))));
+      counts = λ other e. none_more (once (is_begun c.phase)) ∙ ap once (sym l.same_begun);
       apart = λ other e. refl;
       undecided = λ other. refl;
       unsettled = λ at other. refl;
@@ -233,9 +233,9 @@ no_submission true txn e = absurd (cc)
 no_submission false txn e = refl
 
 -- a submission of a transaction that was not submitted
-pub submission_lawful : (sc : Scenario) (w : State) (txn : TxnId) (part : Part Coordinator) (c : Coordinator) (place : ℕ) (effect : Effect Coordinator) → c.txn ≡ txn → c.age ≡ None
-    → SubmissionLawful sc c part.log place effect → ActLawful sc w txn c part.log (what.Submitted txn ∷ []) effect
-submission_lawful sc w txn part c place effect same unborn l =
+pub submission_lawful : (sc : Scenario) (w : State) (txn : TxnId) (part : Part Coordinator) (c : Coordinator) (effect : Effect Coordinator) → c.txn ≡ txn → is_begun c.phase ≡ false
+    → SubmissionLawful sc c part.log effect → ActLawful sc w txn c part.log (what.Submitted txn ∷ []) effect
+submission_lawful sc w txn part c effect same unborn l =
     let kept : log_with part.log effect.reaction.append ≡ part.log = ap (log_with part.log) l.forces in
     record {
       agrees = subst (CoordinatorAgrees sc effect.state) (sym kept) l.agrees;
@@ -243,8 +243,8 @@ submission_lawful sc w txn part c place effect same unborn l =
       letters = subst (λ (log_is : List Record). Each (LetterAgrees sc txn (decided_in log_is)) effect.reaction.letters) (sym kept)
           (subst (λ (t : TxnId). Each (LetterAgrees sc t (decided_in part.log)) effect.reaction.letters) same l.letters);
       follows = subst (λ (append : Option Record). Each (WhatFollows sc w.facts) (what.Submitted txn ∷ told_of append)) (sym l.forces) (tt, tt);
-      counts = λ other e. ap (λ (age : Option ℕ). age_count age + length (submissions other (what.Submitted txn ∷ []))) unborn
-          ∙ (none_before _ ∙ (one_submission (same_txn txn other) txn e ∙ sym (ap age_count l.age_is)));
+      counts = λ other e. ap (λ (b : Bool). once b + length (submissions other (what.Submitted txn ∷ []))) unborn
+          ∙ (none_before _ ∙ (one_submission (same_txn txn other) txn e ∙ sym (ap once l.begun)));
       apart = λ other e. no_submission (same_txn txn other) txn e;
       undecided = λ other. refl;
       unsettled = λ at other. refl;

@@ -22,11 +22,12 @@ use Rattle.tp_machine.specs.declared.server.Server.{Server}
 use Rattle.tp_machine.specs.Logs.{decided_at, settled_at, settled_by}
 use Rattle.tp_machine.specs.Machine.{State}
 use Rattle.tp_machine.specs.Sound.{Each}
-use Rattle.tp_machine.proofs.AgreeWorld.{Agrees, DecidedAs, FactFollows, Follows, WhatFollows, age_count, settled_outcome, submitted_count, submitted_up}
+use Rattle.tp_machine.proofs.AgreeWorld.{Agrees, DecidedAs, FactFollows, Follows, WhatFollows, settled_outcome, submitted_count, submitted_up, once}
 use Rattle.tp_machine.proofs.AgreeActs.{number_itself}
-use Rattle.tp_machine.proofs.FactLemmas.{all_from_each, any_decided, any_settled, count_decisions, count_settlements, count_submissions, decisions, said, settlements}
+use Rattle.tp_machine.proofs.FactLemmas.{any_decided, any_settled, count_decisions, count_settlements, count_submissions, decisions, said, settlements}
 use Rattle.tp_machine.proofs.LogLemmas.{listed}
 use Rattle.tp_machine.proofs.SoundLists.{each_get}
+use Rattle.tp_machine.specs.coord.Row.{is_begun}
 
 -- ---- members
 
@@ -66,13 +67,13 @@ member_any test (y ∷ xs) (suc n) x e p = later_true (test y) (list_any test xs
 
 -- ---- at most one
 
-age_at_most : (age : Option ℕ) → age_count age ≤ 1
-age_at_most None = omega arith
-age_at_most (Some place) = omega arith
+once_at_most : (b : Bool) → once b ≤ 1
+once_at_most false = omega arith
+once_at_most true = omega arith
 
 up_at_most : (up : Option Coordinator) → submitted_up up ≤ 1
 up_at_most None = omega arith
-up_at_most (Some c) = age_at_most c.age
+up_at_most (Some c) = once_at_most (is_begun c.phase)
 
 submitted_at_most : (found : Option (Part Coordinator)) → submitted_count found ≤ 1
 submitted_at_most None = omega arith

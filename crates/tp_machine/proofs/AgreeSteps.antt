@@ -19,8 +19,8 @@ use Rattle.tp_machine.specs.declared.offices.Authority.{Authority}
 use Rattle.tp_machine.specs.declared.part.Part.{Part}
 use Rattle.tp_machine.specs.declared.server.Server.{Server}
 use Rattle.tp_machine.specs.Logs.{decided_by, decided_in, settled_by, settled_in}
-use Rattle.tp_machine.specs.Machine.{Machine, State, acts_by, coordinator_acted, coordinator_fact, done, idles, is_part_submitted, opened_actors, opened_part, opening_state, refusal, submitted, with_age}
-use Rattle.tp_machine.specs.Sound.{Each, EachAt, IsSound, IsSoundCoordinatorUp, IsStepOf}
+use Rattle.tp_machine.specs.Machine.{Machine, State, done, idles, is_part_submitted, opened_actors, opened_part, opening_state, refusal, submitted, with_age, coordinator_acted, acts_by, coordinator_fact}
+use Rattle.tp_machine.specs.Sound.{Each, EachAt, IsSound, IsSoundCoordinatorUp, IsStepOf, IsTxn}
 use Rattle.tp_types.specs.Table.{flattened}
 use Rattle.tp_machine.specs.coord.Opened as coord
 use Rattle.tp_machine.specs.coord.Row.{coordinator_row, submit_row}
@@ -36,6 +36,8 @@ use Rattle.tp_machine.proofs.LogLemmas.{listed}
 use Rattle.tp_machine.proofs.SoundLists.{at_made, each_get}
 use Rattle.tp_machine.proofs.Cases.{Cases, IsCoordinatorUp, IsServerUp, SaysIdle, WasSent, done_by}
 use Rattle.tp_types.specs.declared.fact.What.{What}
+use Rattle.tp_machine.proofs.SerialBuilt.{first_row_begins}
+use Rattle.tp_model.specs.Built.{is_built}
 
 -- ---- what a step says by itself
 
@@ -79,22 +81,19 @@ tells_reply authority _ = tt
 
 -- ---- submissions
 
-pub no_age : (age : Option ℕ) → is_some age ≡ false → age ≡ None
-no_age None e = refl
-no_age (Some place) e = absurd (cc)
-
-begun_agrees : (sc : Scenario) (w : State) → IsSound sc w → Agrees sc w → (txn : TxnId) (part : Part Coordinator) (c : Coordinator) → IsCoordinatorUp w txn part c → is_part_submitted (Some c) ≡ false
+begun_agrees : (sc : Scenario) (w : State) → is_built sc ≡ true → IsSound sc w → Agrees sc w → (txn : TxnId) (part : Part Coordinator) (c : Coordinator) → IsTxn sc txn → IsCoordinatorUp w txn part c
+    → is_part_submitted (Some c) ≡ false
     → TurnAgrees sc w (coordinator_acted w.actors txn (acts_by coordinator_fact (what.Submitted txn ∷ []) part.log (with_age (submit_row sc c) (length w.steps))))
-begun_agrees sc w sound h txn part c up new =
-    let unborn : c.age ≡ None = no_age c.age new in
+begun_agrees sc w built sound h txn part c exists up new =
+    let own : c.txn ≡ txn = own_txn sc w txn part c sound up.found up.up in
     coordinator_acts_agrees sc w txn part c (what.Submitted txn ∷ []) (with_age (submit_row sc c) (length w.steps)) h up.found up.up
-    (submission_lawful sc w txn part c (length w.steps) (with_age (submit_row sc c) (length w.steps)) (own_txn sc w txn part c sound up.found up.up) unborn
-    (submit_row_lawful sc c part.log (length w.steps) (coordinator_agrees sc w txn part c h up) unborn))
+    (submission_lawful sc w txn part c (with_age (submit_row sc c) (length w.steps)) own new
+    (submit_row_lawful sc c part.log (length w.steps) (coordinator_agrees sc w txn part c h up) new (first_row_begins sc c built (subst (IsTxn sc) (sym own) exists))))
 
 -- ---- steps
 
-agrees_cases : (sc : Scenario) (w : State) → IsSound sc w → Agrees sc w → Cases sc w (λ taken turn. TurnAgrees sc w turn)
-agrees_cases sc w sound h =
+agrees_cases : (sc : Scenario) (w : State) → is_built sc ≡ true → IsSound sc w → Agrees sc w → Cases sc w (λ taken turn. TurnAgrees sc w turn)
+agrees_cases sc w built sound h =
     record {
       idle = idle_agrees sc w h;
       server_received = λ n mail at part s sent up.
@@ -106,13 +105,13 @@ agrees_cases sc w sound h =
           (coordinator_row_lawful sc c part.log mail (coordinator_agrees sc w txn part c h up)));
       authority_told = λ n mail sent.
           unmoved_agrees sc w [] (office.authority_row w.actors.authority mail).reaction.letters h (silent_says sc w) (tells_reply w.actors.authority mail.letter.body);
-      begun = λ txn part c exists up new. begun_agrees sc w sound h txn part c up new;
+      begun = λ txn part c exists up new. begun_agrees sc w built sound h txn part c exists up new;
     }
 
 -- a step that is not refused keeps agreement
-pub agrees_done : (sc : Scenario) (m : Machine) (taken : Step) → IsStepOf sc taken → refusal m.state taken ≡ None → IsSound sc m.state → Agrees sc m.state → Agrees sc (done sc m taken).state
-agrees_done sc m taken exists allowed sound h =
-    done_by sc m (λ taken turn. TurnAgrees sc m.state turn) (Agrees sc) (agrees_cases sc m.state sound h) h.coordinator_count
+pub agrees_done : (sc : Scenario) (m : Machine) (taken : Step) → is_built sc ≡ true → IsStepOf sc taken → refusal m.state taken ≡ None → IsSound sc m.state → Agrees sc m.state → Agrees sc (done sc m taken).state
+agrees_done sc m taken built exists allowed sound h =
+    done_by sc m (λ taken turn. TurnAgrees sc m.state turn) (Agrees sc) (agrees_cases sc m.state built sound h) h.coordinator_count
     (λ taken turn t. concluded_agrees sc m.state taken turn h t) h taken exists allowed
 
 -- ---- before the first step
@@ -154,7 +153,7 @@ agrees_opening sc =
     let servers = (opened_actors sc).servers in
     let idle : EachAt (λ (n : ℕ) (part : Part Coordinator). IsIdlePart sc part) coordinators =
     λ n part e. at_made (λ (k : ℕ) (found : Part Coordinator). IsIdlePart sc found) (λ (k : ℕ). opened_part (coord.idle sc (record { 0 = k }))) 0 (length sc.txns)
-    (λ k within. record { agrees = record { decided = refl; begun = tt; servers = refl }; empty = refl; unsubmitted = refl }) n part e in
+    (λ k within. record { agrees = record { decided = refl; servers = refl }; empty = refl; unsubmitted = refl }) n part e in
     let open_ones : EachAt (λ (n : ℕ) (part : Part Server). IsOpenedPart part) servers =
     λ n part e. at_made (λ (k : ℕ) (found : Part Server). IsOpenedPart found) (λ (k : ℕ). opened_part (server.opened sc (record { 0 = k }))) 0 (length sc.servers)
     (λ k within. record { agrees = record { settled = λ txn. unset_at (length sc.txns) txn.0 }; empty = refl }) n part e in

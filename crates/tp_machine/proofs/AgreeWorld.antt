@@ -1,5 +1,5 @@
 -- Agreement over every list of steps: what logs, mails and facts say of the end of a transaction agrees.
-use Rattle.std.proofs.Common.{◌≡◌, ℕ, ◌+◌, ◌<◌, List, [], ◌∷◌, ◌++◌, length, slice_get, true, Option, Some, None, IfSome, option_map, refl, sym, ap, subst, ◌∙◌, arith}
+use Rattle.std.proofs.Common.{◌≡◌, ℕ, ◌+◌, ◌<◌, List, [], ◌∷◌, ◌++◌, length, slice_get, true, Option, Some, None, IfSome, option_map, refl, sym, ap, subst, ◌∙◌, arith, Bool, false}
 use Rattle.std.specs.List.{filter_map, list_any}
 use Rattle.std.proofs.lemmas.List.{length-append}
 use Rattle.tp_types.specs.declared.fact.Fact.{Fact}
@@ -32,6 +32,7 @@ use Rattle.tp_machine.proofs.AgreeServer.{ServerAgrees}
 use Rattle.tp_machine.proofs.FactLemmas.{ArePast, Grows, before_past, decided_what, decisions, filter_map_append, grows_noted, noted_past, past_as, said, said_noted, settled_what, settlements, submissions, submitted_what}
 use Rattle.tp_machine.proofs.LogLemmas.{listed}
 use Rattle.tp_machine.proofs.SoundLists.{each_append}
+use Rattle.tp_machine.specs.coord.Row.{is_begun}
 
 -- ---- the invariant
 
@@ -88,14 +89,14 @@ WhatFollows sc earlier _ = Unit {0}
 abbrev pub FactFollows : Scenario → List Fact → Fact → Type 0
 FactFollows sc facts fact = WhatFollows sc (before fact.place facts) fact.what
 
-abbrev pub age_count : Option ℕ → ℕ
-age_count None = 0
-age_count (Some place) = 1
+abbrev pub once : Bool → ℕ
+once false = 0
+once true = 1
 
 -- a coordinator that is down was submitted
 abbrev pub submitted_up : Option Coordinator → ℕ
 submitted_up None = 1
-submitted_up (Some c) = age_count c.age
+submitted_up (Some c) = once (is_begun c.phase)
 
 -- how often a transaction was submitted, by its coordinator
 abbrev pub submitted_count : Option (Part Coordinator) → ℕ

@@ -33,13 +33,12 @@ use Rattle.tp_machine.specs.offices.Authority as office
 use Rattle.tp_machine.specs.server.Opened as server_opened
 use Rattle.tp_machine.specs.server.Row.{server_row}
 use Rattle.tp_machine.proofs.AgreeActs.{number_itself}
-use Rattle.tp_machine.proofs.AgreeCoordinator.{HasBegun}
-use Rattle.tp_machine.proofs.AgreeSteps.{coordinator_agrees, no_age, own_txn}
+use Rattle.tp_machine.proofs.AgreeCoordinator.{idle_is}
+use Rattle.tp_machine.proofs.AgreeSteps.{own_txn}
 use Rattle.tp_machine.proofs.AgreeWorld.{Agrees}
 use Rattle.tp_machine.proofs.EpochActors.{BodyTold, CoordinatorEpochs, CoordinatorKeeps, DoneTold, EntryMade, IsNamed, LetterMade, RecordMade, ReplyMade, RequestNamed, ServerEpochs, ServerMade, coordinator_row_keeps, epoch_same, server_row_made, submit_row_keeps}
 use Rattle.tp_machine.proofs.LogLemmas.{get_set, look_set}
 use Rattle.tp_machine.proofs.SoundLists.{at_made, at_set, each_append, each_as, each_get, each_more, placed_none}
-use Rattle.tp_machine.proofs.ViewsCoordinator.{idle_is}
 use Rattle.tp_machine.proofs.ViewsTurns.{stage}
 use Rattle.tp_machine.proofs.ViewsWorld.{up_at, up_of}
 use Rattle.tp_machine.proofs.Cases.{Cases, IsCoordinatorUp, IsServerUp, SaysIdle, WasSent, done_by}
@@ -258,7 +257,7 @@ coordinator_keeps w txn part c h up = subst (λ (u : Option Coordinator). IfSome
 begun_epochs : (sc : Scenario) (w : State) → IsSound sc w → Agrees sc w → Epochs w → (txn : TxnId) (part : Part Coordinator) (c : Coordinator) → IsCoordinatorUp w txn part c → is_part_submitted (Some c) ≡ false
     → TurnEpochs w (coordinator_acted w.actors txn (acts_by coordinator_fact (what.Submitted txn ∷ []) part.log (with_age (submit_row sc c) (length w.steps))))
 begun_epochs sc w sound a h txn part c up new =
-    let none : stage c.phase ≡ 0 = ap stage (idle_is c.phase (subst (HasBegun c.phase) (no_age c.age new) (coordinator_agrees sc w txn part c a up).begun)) in
+    let none : stage c.phase ≡ 0 = ap stage (idle_is c.phase new) in
     coordinator_acts_epochs w txn part c (what.Submitted txn ∷ []) (with_age (submit_row sc c) (length w.steps)) h up.found up.up (own_txn sc w txn part c sound up.found up.up)
     (submit_row_keeps (epoch_at w.actors.servers) sc c (length w.steps) (coordinator_keeps w txn part c h up) (omega (arith, none)))
 

@@ -48,7 +48,7 @@ pub holds_done : (sc : Scenario) (m : Machine) (taken : Step) â†’ is_built sc â‰
 holds_done sc m taken built exists allowed h =
     record {
       sound = sound_done sc m taken built exists allowed h.agrees.coordinator_count h.sound;
-      agrees = agrees_done sc m taken exists allowed h.sound h.agrees;
+      agrees = agrees_done sc m taken built exists allowed h.sound h.agrees;
       epochs = epochs_done sc m taken exists allowed h.sound h.agrees h.epochs;
       lone = lone_done sc m taken exists allowed h.agrees.coordinator_count h.agrees.past h.lone;
       outside = outside_done sc m taken exists allowed h.agrees.coordinator_count h.agrees.past h.outside;

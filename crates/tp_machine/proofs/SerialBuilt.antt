@@ -1,7 +1,7 @@
 -- What the proofs of serial data take from the form of scenarios that is built: one server, and one transaction that writes one
 -- constant. Here alone they lean on that form; each lemma says so by its name.
 use Rattle.std.proofs.lemmas.Bool.{and_parts}
-use Rattle.std.proofs.Common.{◌≡◌, ℕ, zero, suc, ◌==◌, ◌&&◌, ◌||◌, List, [], ◌∷◌, length, map, slice_get, Bool, true, false, Option, Some, None, option_and_then, ℤ, refl, sym, ap, subst, ◌∙◌, arith}
+use Rattle.std.proofs.Common.{◌≡◌, ℕ, ◌<◌, zero, suc, ◌==◌, ◌&&◌, ◌||◌, List, [], ◌∷◌, length, map, slice_get, Bool, true, false, Option, Some, None, option_and_then, ℤ, refl, sym, ap, subst, ◌∙◌, arith, option_map}
 use Rattle.std.specs.List.{list_any}
 use Rattle.std.specs.Option.{option_map_or}
 use Rattle.std.proofs.Math.IntN.{+ℤ_idl}
@@ -28,10 +28,12 @@ use Rattle.tp_model.specs.Ids.{same_server}
 use Rattle.tp_model.specs.Limits.{is_between}
 use Rattle.tp_model.specs.Queries.{is_at_server, item_of, only, operand_value, query_at, signed, term_value, written_constant}
 use Rattle.tp_model.specs.SerialRun.{are_in_range, cleared_registers, deeds_from, opening_store, operand_in, serial_run, term_in}
-use Rattle.tp_machine.specs.Sound.{Each, query_in}
-use Rattle.tp_machine.specs.coord.Row.{deed_of}
+use Rattle.tp_machine.specs.Sound.{Each, query_in, IsTxn}
+use Rattle.tp_machine.specs.coord.Row.{deed_of, begins, is_begun, sends_first, server_of, submit_row}
 use Rattle.tp_machine.proofs.SoundBuilt.{number_is}
 use Rattle.tp_machine.proofs.SerialPlan.{is_at, planned}
+use Rattle.tp_machine.proofs.SoundLists.{missing}
+use Rattle.tp_machine.specs.declared.coord.Coordinator.{Coordinator}
 
 -- ---- the form that is built
 
@@ -247,11 +249,43 @@ query_planned sc txn number asked (Some declared) built found e =
 pub one_query_is_planned : (sc : Scenario) (txn : TxnId) (number : ℕ) (asked : Query) → is_built sc ≡ true → query_in sc txn number ≡ Some asked → IsAllPlanned sc txn number asked
 one_query_is_planned sc txn number asked built e = query_planned sc txn number asked (slice_get sc.txns txn.0) built refl e
 
--- ---- the one server
+-- ---- the first query
 
 asked_item : (sc : Scenario) (declared : Transaction) (here : RunsAs sc declared) → slice_get sc.items (item_of here.asked).0 ≡ Some here.item
 asked_item sc declared here =
     ap (slice_get sc.items) (ap (λ (q : Query). (item_of q).0) here.write.asked_is ∙ here.write.first) ∙ ap (λ (items : List Item). slice_get items 0) here.items_are
+
+-- the first query of a transaction writes a constant to an item of a server
+record IsFirstSent (sc : Scenario) (found : Option Transaction) : Type 0 where
+  pub asked : Query
+  pub asked_is : option_and_then (λ (declared : Transaction). query_at declared 1) found ≡ Some asked
+  pub at : ServerId
+  pub at_is : server_of sc asked ≡ Some at
+  pub value : ℤ
+  pub value_is : written_constant asked ≡ Some value
+
+first_sent : (sc : Scenario) (txn : TxnId) (found : Option Transaction) → is_built sc ≡ true → txn.0 < length sc.txns → slice_get sc.txns txn.0 ≡ found → IsFirstSent sc found
+first_sent sc txn None built exists e = absurd (missing sc.txns txn.0 exists e)
+first_sent sc txn (Some declared) built exists e =
+    let here = built_runs sc declared txn.0 built e in
+    record {
+      asked = here.asked;
+      asked_is = ap (λ (queries : List Query). slice_get queries 0) here.queries_are;
+      at = here.item.server;
+      at_is = ap (option_map (λ (i : Item). i.server)) (asked_item sc declared here);
+      value = term_value here.write.term;
+      value_is = constant_written here.item here.asked here.write;
+    }
+
+-- so its submission begins it
+pub first_row_begins : (sc : Scenario) (c : Coordinator) → is_built sc ≡ true → IsTxn sc c.txn → is_begun (submit_row sc c).state.phase ≡ true
+first_row_begins sc c built exists =
+    let first = first_sent sc c.txn (slice_get sc.txns c.txn.0) built exists refl in
+    ap (λ (asked : Option Query). is_begun (begins sc c asked).state.phase) first.asked_is
+    ∙ (ap (λ (at : Option ServerId). is_begun (sends_first c at (written_constant first.asked)).state.phase) first.at_is
+    ∙ ap (λ (value : Option ℤ). is_begun (sends_first c (Some first.at) value).state.phase) first.value_is)
+
+-- ---- the one server
 
 asked_server : (sc : Scenario) (declared : Transaction) (here : RunsAs sc declared) → is_built sc ≡ true → here.item.server ≡ first_server
 asked_server sc declared here built = items_at_one_server sc (item_of here.asked).0 here.item built (asked_item sc declared here)

@@ -36,8 +36,8 @@ use Rattle.tp_types.specs.Effect.{Effect, silent}
 use Rattle.tp_machine.specs.Machine.{with_age}
 use Rattle.tp_machine.specs.Sound.{Each, IsSoundBody, query_in}
 use Rattle.tp_machine.specs.coord.Opened.{servers_at}
-use Rattle.tp_machine.specs.coord.Row.{ack_from, answered, are_agreed, asks, asks_first, awaits_query, awaits_vote, begins, commits, coordinator_row, deed_of, done_of, is_awaited, is_from, is_last_write, judged, on_ack, on_body, on_done, on_tell, on_vote, plain_value, prepare_letter, query_of, ran, replied, request, sends_first, server_of, staple_of, submit_row, told, vote_at, voted, without}
-use Rattle.tp_machine.proofs.AgreeCoordinator.{HasBegun}
+use Rattle.tp_machine.specs.coord.Row.{ack_from, answered, are_agreed, asks, asks_first, awaits_query, awaits_vote, begins, commits, coordinator_row, deed_of, done_of, is_awaited, is_from, is_last_write, judged, on_ack, on_body, on_done, on_tell, on_vote, plain_value, prepare_letter, query_of, ran, replied, request, sends_first, server_of, staple_of, submit_row, told, vote_at, voted, without, is_begun}
+use Rattle.tp_machine.proofs.AgreeCoordinator.{idle_is}
 use Rattle.tp_machine.proofs.SerialBuilt.{IsAllPlanned, one_query_is_planned}
 use Rattle.tp_machine.proofs.SerialPlan.{BodySerial, IsPlannedAnswer, IsPlannedValue, LetterSerial, RecordSerial, VoteRests, planned}
 use Rattle.tp_machine.proofs.SoundLists.{by_cond, each_as}
@@ -321,11 +321,10 @@ begins_keeps sc V c place None built h d asked_is = unsent_keeps sc V c place h
 begins_keeps sc V c place (Some asked) built h d asked_is = sends_first_keeps sc V c place asked (server_of sc asked) (written_constant asked) built h d asked_is refl
 
 -- a coordinator that was not submitted has no deeds
-idle_deeds : (awaited : Phase) (age : Option ℕ) (deeds plan : List Deed) → HasBegun awaited age → age ≡ None → PhaseDeeds awaited deeds plan → deeds ≡ []
-idle_deeds phase.Idle age deeds plan b e h = h
-idle_deeds _ age deeds plan b e h = let not_begun : is_some age ≡ false = ap is_some e in absurd (cc)
+idle_deeds : (awaited : Phase) (deeds plan : List Deed) → is_begun awaited ≡ false → PhaseDeeds awaited deeds plan → deeds ≡ []
+idle_deeds awaited deeds plan e h = subst (λ (p : Phase). PhaseDeeds p deeds plan) (idle_is awaited e) h
 
 -- the submission of a transaction that was not submitted before
-pub submit_row_keeps : (sc : Scenario) (V : TxnId → ServerId → Type 0) (c : Coordinator) (place : ℕ) → is_built sc ≡ true → CoordinatorSerial sc (V c.txn) c → HasBegun c.phase c.age → c.age ≡ None
+pub submit_row_keeps : (sc : Scenario) (V : TxnId → ServerId → Type 0) (c : Coordinator) (place : ℕ) → is_built sc ≡ true → CoordinatorSerial sc (V c.txn) c → is_begun c.phase ≡ false
     → CoordinatorKeeps sc V c (with_age (submit_row sc c) place)
-submit_row_keeps sc V c place built h b e = begins_keeps sc V c place (query_of sc c 1) built h (idle_deeds c.phase c.age c.deeds (planned sc c.txn) b e h.deeds) refl
+submit_row_keeps sc V c place built h e = begins_keeps sc V c place (query_of sc c 1) built h (idle_deeds c.phase c.deeds (planned sc c.txn) e h.deeds) refl

@@ -29,7 +29,7 @@ use Rattle.tp_machine.specs.declared.part.Part.{Part}
 use Rattle.tp_machine.specs.declared.server.Server.{Server}
 use Rattle.tp_types.specs.Effect.{Effect}
 use Rattle.tp_machine.specs.Logs.{prepared_by}
-use Rattle.tp_machine.specs.Machine.{Machine, State, acts_by, coordinator_acted, coordinator_fact, done, idles, is_part_submitted, opened_actors, opened_part, opening_state, refusal, server_acted, server_fact, with_age}
+use Rattle.tp_machine.specs.Machine.{Machine, State, coordinator_acted, done, idles, is_part_submitted, opened_actors, opened_part, opening_state, refusal, server_acted, with_age, acts_by, coordinator_fact, server_fact}
 use Rattle.tp_machine.specs.Sound.{Each, IsServer, IsSound, IsSoundBody, IsSoundCoordinatorUp, IsSoundLetter, IsSoundMail, IsSoundServerUp, IsStepOf, IsTxn}
 use Rattle.tp_machine.specs.coord.Opened as coord
 use Rattle.tp_machine.specs.coord.Opened.{servers_at}
@@ -49,7 +49,7 @@ use Rattle.tp_machine.proofs.SerialPlan.{BodySerial, LetterSerial, MailSerial, R
 use Rattle.tp_machine.proofs.SerialServer.{EntryPlanned, OrderPrepared, server_row_keeps}
 use Rattle.tp_machine.proofs.SoundLists.{at_made, each_get, placed_none}
 use Rattle.tp_machine.proofs.Cases.{Cases, IsCoordinatorUp, IsServerUp, SaysIdle, WasSent, done_by}
-use Rattle.tp_machine.proofs.AgreeSteps.{mail_rests, no_age, order_rests, server_agrees}
+use Rattle.tp_machine.proofs.AgreeSteps.{mail_rests, order_rests, server_agrees}
 
 -- ---- servers of a transaction
 
@@ -179,7 +179,7 @@ begun_serial sc w built sound agrees h txn part c up new =
     let effect = with_age (submit_row sc c) (length w.steps) in
     coordinator_acts_serial sc w txn part (what.Submitted txn ∷ []) effect h here.exists up.found
     (row_acts sc w txn c (what.Submitted txn ∷ []) effect here.own
-    (submit_row_keeps sc (IsPrepared w.actors.servers) c (length w.steps) built here.serial here.kept.begun (no_age c.age new)) (tt, tt))
+    (submit_row_keeps sc (IsPrepared w.actors.servers) c (length w.steps) built here.serial new) (tt, tt))
 
 -- ---- steps
 

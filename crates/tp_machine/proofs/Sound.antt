@@ -1,5 +1,5 @@
 -- The world is sound before the first step, and each step keeps it sound.
-use Rattle.std.proofs.Common.{List, None, Option, Some, [], arith, length, refl, slice_get, slice_set, subst, sym, true, ℕ, ◌+◌, ◌∷◌, ◌≡◌}
+use Rattle.std.proofs.Common.{◌≡◌, ℕ, ◌+◌, List, [], ◌∷◌, length, slice_get, slice_set, true, Option, Some, None, refl, subst, arith, sym}
 use Rattle.tp_types.specs.declared.fact.What.{What}
 use Rattle.tp_types.specs.declared.fact.What.TheVariants as what
 use Rattle.tp_types.specs.declared.ids.ServerId.{ServerId}
@@ -20,7 +20,7 @@ use Rattle.tp_machine.specs.Machine.{Machine, State, Turn, concluded, done, idle
 use Rattle.tp_machine.specs.Sound.{AreSoundActors, Each, IsActor, IsSound, IsSoundBody, IsSoundCoordinatorPart, IsSoundFact, IsSoundLetter, IsSoundMail, IsSoundServerPart, IsSoundWhat, IsStepOf}
 use Rattle.tp_machine.specs.coord.Opened as coord
 use Rattle.tp_machine.specs.server.Opened as server
-use Rattle.tp_machine.proofs.SoundActs.{IsSoundAct, authority_sends_sound, coordinator_begun_sound, coordinator_idle_sound, coordinator_received_sound, server_opened_sound, server_received_sound}
+use Rattle.tp_machine.proofs.SoundActs.{IsSoundAct, authority_sends_sound, coordinator_idle_sound, server_opened_sound, coordinator_begun_sound, coordinator_received_sound, server_received_sound}
 use Rattle.tp_machine.proofs.SoundBuilt.{IsValid, valid_built}
 use Rattle.tp_machine.proofs.SoundLists.{at_made, at_set, each_append, each_get, each_map}
 use Rattle.tp_machine.proofs.Cases.{Cases, SaysIdle, WasSent, done_by}

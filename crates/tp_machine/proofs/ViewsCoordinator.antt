@@ -1,6 +1,6 @@
 -- Trust, the coordinator's rows: it commits on one instance whose proofs are right, true and of one version.
 use Rattle.std.proofs.lemmas.Bool.{and_parts}
-use Rattle.std.proofs.Common.{◌≡◌, ℕ, ◌+◌, ◌≤◌, ◌==◌, ◌&&◌, List, [], ◌∷◌, ◌++◌, map, true, Option, Some, None, IfSome, ℤ, refl, sym, ap, subst, arith}
+use Rattle.std.proofs.Common.{◌≡◌, ℕ, ◌+◌, ◌≤◌, ◌==◌, ◌&&◌, List, [], ◌∷◌, ◌++◌, map, true, Option, Some, None, IfSome, ℤ, refl, sym, ap, subst, arith, false}
 use Rattle.tp_types.specs.declared.fact.Fact.{Fact}
 use Rattle.tp_types.specs.declared.ids.ServerId.{ServerId}
 use Rattle.tp_types.specs.declared.ids.TxnId.{TxnId}
@@ -37,8 +37,8 @@ use Rattle.tp_machine.specs.declared.coord.Round.{Round}
 use Rattle.tp_types.specs.Effect.{Effect, silent}
 use Rattle.tp_machine.specs.Machine.{with_age}
 use Rattle.tp_machine.specs.Sound.{Each, IsSoundBody}
-use Rattle.tp_machine.specs.coord.Row.{ack_from, answered, are_agreed, asks_first, awaits_query, awaits_vote, begins, commits, coordinator_row, done_of, first_round, is_from, is_last_write, judged, next_turn, on_ack, on_body, on_done, on_tell, on_vote, plain_value, prepare_letter, query_of, ran, replied, requests, sends_first, server_of, staple_of, submit_row, told, vote_at, voted, with_reply, without}
-use Rattle.tp_machine.proofs.AgreeCoordinator.{HasBegun}
+use Rattle.tp_machine.specs.coord.Row.{ack_from, answered, are_agreed, asks_first, awaits_query, awaits_vote, begins, commits, coordinator_row, done_of, first_round, is_from, is_last_write, judged, next_turn, on_ack, on_body, on_done, on_tell, on_vote, plain_value, prepare_letter, query_of, ran, replied, requests, sends_first, server_of, staple_of, submit_row, told, vote_at, voted, with_reply, without, is_begun}
+use Rattle.tp_machine.proofs.AgreeCoordinator.{idle_is}
 use Rattle.tp_machine.proofs.SoundLists.{by_cond, each_more}
 use Rattle.tp_machine.proofs.ViewsFit.{BodyFits, IsSubmitted, PhaseFits, Right, StapleFits, VerdictsFit, VoteFits}
 use Rattle.tp_machine.proofs.ViewsTurns.{IsTimely, Now, raised, stage, stage_most, stamp_of, Stamp, turn_rises}
@@ -321,13 +321,6 @@ coordinator_row_trusts sc facts place c mail h m f = body_trusts sc facts place 
 
 -- ---- Submit
 
-pub idle_is : (awaited : Phase) → HasBegun awaited None → awaited ≡ phase.Idle
-idle_is phase.Idle h = refl
-idle_is (phase.Querying number staple) h = absurd (cc)
-idle_is (phase.Asking round) h = absurd (cc)
-idle_is (phase.Checking round staple) h = absurd (cc)
-idle_is (phase.Ending ended servers) h = absurd (cc)
-
 unsent_trusts : (sc : Scenario) (facts : List Fact) (place age : ℕ) (c : Coordinator) → CoordinatorFits sc facts place c → CoordinatorTrusts sc facts place c (with_age (silent c) age)
 unsent_trusts sc facts place age c h =
     record { fits = record { awaits = h.awaits; unclosed = h.unclosed; turn = h.turn }; same_txn = refl; decides = tt; letters = λ sent. tt; timely = tt; old = λ turn said t. t }
@@ -354,6 +347,6 @@ begins_trusts sc facts place age c None h e submitted = unsent_trusts sc facts p
 begins_trusts sc facts place age c (Some asked) h e submitted = sends_first_trusts sc facts place age c (server_of sc asked) (written_constant asked) h e submitted
 
 -- the submission of a transaction, among facts that tell of it
-pub submit_row_trusts : (sc : Scenario) (facts : List Fact) (place age : ℕ) (c : Coordinator) → CoordinatorFits sc facts place c → HasBegun c.phase None → IsSubmitted facts c.txn
+pub submit_row_trusts : (sc : Scenario) (facts : List Fact) (place age : ℕ) (c : Coordinator) → CoordinatorFits sc facts place c → is_begun c.phase ≡ false → IsSubmitted facts c.txn
     → CoordinatorTrusts sc facts place c (with_age (submit_row sc c) age)
 submit_row_trusts sc facts place age c h b submitted = begins_trusts sc facts place age c (query_of sc c 1) h (idle_is c.phase b) submitted

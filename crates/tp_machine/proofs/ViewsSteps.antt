@@ -24,18 +24,17 @@ use Rattle.tp_machine.specs.declared.coord.Coordinator.{Coordinator}
 use Rattle.tp_machine.specs.declared.part.Part.{Part}
 use Rattle.tp_machine.specs.declared.server.Entry.{Entry}
 use Rattle.tp_machine.specs.declared.server.Server.{Server}
-use Rattle.tp_machine.specs.Machine.{Machine, State, acts_by, coordinator_acted, coordinator_fact, done, idles, is_part_submitted, noted, opened_part, opening_state, refusal, server_acted, server_fact, with_age}
+use Rattle.tp_machine.specs.Machine.{Machine, State, coordinator_acted, done, idles, is_part_submitted, noted, opened_part, opening_state, refusal, server_acted, with_age, acts_by, coordinator_fact, server_fact}
 use Rattle.tp_machine.specs.Sound.{Each, IsSound, IsSoundBody, IsSoundLetter, IsSoundMail, IsSoundServerUp, IsStepOf}
 use Rattle.tp_machine.specs.coord.Opened as coord
-use Rattle.tp_machine.specs.coord.Row.{begins, coordinator_row, query_of, sends_first, server_of, submit_row}
+use Rattle.tp_machine.specs.coord.Row.{begins, coordinator_row, query_of, sends_first, server_of, submit_row, is_begun}
 use Rattle.tp_machine.specs.offices.Authority as office
 use Rattle.tp_machine.specs.server.Opened as server
 use Rattle.tp_machine.specs.server.Row.{server_row}
 use Rattle.tp_machine.proofs.AgreeWorld.{Agrees}
 use Rattle.tp_machine.proofs.AgreeActs.{number_itself}
-use Rattle.tp_machine.proofs.AgreeCoordinator.{HasBegun}
 use Rattle.tp_machine.proofs.AgreeCoordinatorActs.{told_of}
-use Rattle.tp_machine.proofs.AgreeSteps.{coordinator_agrees, no_age, own_txn}
+use Rattle.tp_machine.proofs.AgreeSteps.{own_txn}
 use Rattle.tp_machine.proofs.FactLemmas.{any_append}
 use Rattle.tp_machine.proofs.SoundBuilt.{IsValid, valid_built}
 use Rattle.tp_machine.proofs.SoundLists.{at_made, each_get, placed_none}
@@ -113,7 +112,7 @@ begins_nothing sc w c (Some asked) = first (server_of sc asked) (written_constan
     first (Some at) (Some value) = tt
     first _ _ = tt
 
-submission_fits : (sc : Scenario) (w : State) (txn : TxnId) (part : Part Coordinator) (c : Coordinator) → c.txn ≡ txn → CoordinatorFits sc w.facts (length w.steps) c → HasBegun c.phase None
+submission_fits : (sc : Scenario) (w : State) (txn : TxnId) (part : Part Coordinator) (c : Coordinator) → c.txn ≡ txn → CoordinatorFits sc w.facts (length w.steps) c → is_begun c.phase ≡ false
     → ActTrusts sc w txn c part.log (what.Submitted txn ∷ []) (with_age (submit_row sc c) (length w.steps))
 submission_fits sc w txn part c same fits begun =
     let place = length w.steps in
@@ -139,7 +138,7 @@ begun_trusts : (sc : Scenario) (w : State) → IsSound sc w → Agrees sc w → 
 begun_trusts sc w sound a h txn part c up new =
     coordinator_acts_trusts sc w txn part c (what.Submitted txn ∷ []) (with_age (submit_row sc c) (length w.steps)) h up.found up.up
     (submission_fits sc w txn part c (own_txn sc w txn part c sound up.found up.up) (coordinator_fits sc w txn part c h up)
-    (subst (HasBegun c.phase) (no_age c.age new) (coordinator_agrees sc w txn part c a up).begun))
+    new)
 
 -- ---- steps
 

@@ -26,7 +26,7 @@ use Rattle.tp_machine.specs.declared.part.Part.{Part}
 use Rattle.tp_machine.specs.declared.server.Server.{Server}
 use Rattle.tp_types.specs.Effect.{Effect}
 use Rattle.tp_machine.specs.coord.Opened as coord
-use Rattle.tp_machine.specs.coord.Row.{coordinator_row, submit_row, placed}
+use Rattle.tp_machine.specs.coord.Row.{coordinator_row, is_begun, submit_row, placed}
 use Rattle.tp_machine.specs.offices.Authority as office
 use Rattle.tp_machine.specs.server.Opened as server
 use Rattle.tp_machine.specs.server.Row.{server_row}
@@ -204,7 +204,7 @@ done sc m _ = m
 -- a coordinator that is down was submitted before
 abbrev pub is_part_submitted : Option Coordinator → Bool
 is_part_submitted None = true
-is_part_submitted (Some c) = is_some c.age
+is_part_submitted (Some c) = is_begun c.phase
 
 -- the transaction was submitted
 abbrev pub is_submitted : Actors → TxnId → Bool

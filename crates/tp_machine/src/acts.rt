@@ -29,7 +29,7 @@ fn is_part_submitted(up: &Option<Coordinator>) -> bool
 {
     match up {
         None => true,
-        Some(coordinator) => coordinator.age.is_some(),
+        Some(coordinator) => coordinator.begun(),
     }
 }
 

@@ -125,11 +125,18 @@ impl Coordinator {
         self.age = Some(place);
     }
 
+    /// Whether the transaction was submitted.
+    pub fn begun(&self) -> bool
+        ensures { result ≡ row.is_begun self.now.phase }
+    {
+        !matches!(self.phase, Phase::Idle)
+    }
+
     /// Whether the transaction is submitted, and some server has not acknowledged its end.
     pub fn armed(&self) -> bool
         ensures { result ≡ row.is_armed self.now }
     {
-        self.age.is_some() && !is_ending(&self.phase)
+        self.begun() && !is_ending(&self.phase)
     }
 
     /// What the coordinator does on receipt of a mail. After NoMemory nothing is said of the state.

@@ -259,7 +259,12 @@ on_body sc c sent from _ = silent c
 abbrev pub coordinator_row : Scenario → Coordinator → Mail → Effect Coordinator
 coordinator_row sc c mail = on_body sc c mail.sent mail.letter.from mail.letter.body
 
--- ---- armed
+-- ---- submitted and armed
+
+-- the transaction was submitted: its coordinator is idle until then, and never after. Its age says less, as one that booted knows none
+abbrev pub is_begun : Phase → Bool
+is_begun phase.Idle = false
+is_begun _ = true
 
 abbrev pub is_ending : Phase → Bool
 is_ending (phase.Ending outcome []) = true
@@ -267,4 +272,4 @@ is_ending _ = false
 
 -- the transaction is submitted, and some server has not acknowledged its end
 abbrev pub is_armed : Coordinator → Bool
-is_armed c = is_some c.age && not (is_ending c.phase)
+is_armed c = is_begun c.phase && not (is_ending c.phase)
