@@ -31,9 +31,9 @@ use Rattle.tp_machine.proofs.AgreeWorld.{Agrees, BodyRests, MailRests, TurnAgree
 use Rattle.tp_machine.proofs.AgreeActs.{MaySettle, SaysOnly, server_acts_agrees, unmoved_agrees}
 use Rattle.tp_machine.proofs.AgreeCoordinator.{CoordinatorAgrees, coordinator_row_lawful, submit_row_lawful}
 use Rattle.tp_machine.proofs.AgreeCoordinatorActs.{coordinator_acts_agrees, received_lawful, submission_lawful}
-use Rattle.tp_machine.proofs.AgreeServer.{IsReply, OrderRests, ServerAgrees, server_row_lawful}
+use Rattle.tp_machine.proofs.AgreeServer.{IsReply, IsUnsettled, OrderRests, ServerAgrees, server_row_lawful}
 use Rattle.tp_machine.proofs.LogLemmas.{listed}
-use Rattle.tp_machine.proofs.SoundLists.{at_made, each_get}
+use Rattle.tp_machine.proofs.SoundLists.{at_made, each_get, placed_none}
 use Rattle.tp_machine.proofs.Cases.{Cases, IsCoordinatorUp, IsServerUp, SaysIdle, WasSent, done_by}
 use Rattle.tp_types.specs.declared.fact.What.{What}
 use Rattle.tp_machine.proofs.SerialBuilt.{first_row_begins}
@@ -156,7 +156,7 @@ agrees_opening sc =
     (λ k within. record { agrees = record { decided = refl; servers = refl }; empty = refl; unsubmitted = refl }) n part e in
     let open_ones : EachAt (λ (n : ℕ) (part : Part Server). IsOpenedPart part) servers =
     λ n part e. at_made (λ (k : ℕ) (found : Part Server). IsOpenedPart found) (λ (k : ℕ). opened_part (server.opened sc (record { 0 = k }))) 0 (length sc.servers)
-    (λ k within. record { agrees = record { settled = λ txn. unset_at (length sc.txns) txn.0 }; empty = refl }) n part e in
+    (λ k within. record { agrees = record { settled = λ txn. unset_at (length sc.txns) txn.0; unsettled = placed_none (IsUnsettled []) (length sc.txns) }; empty = refl }) n part e in
     record {
       past = tt;
       coordinator_count = made_count (λ (n : ℕ). opened_part (coord.idle sc (record { 0 = n }))) 0 (length sc.txns);
@@ -167,6 +167,7 @@ agrees_opening sc =
         settled = λ txn s f. absurd (none_settled (settled_in txn part.log) s (ap (settled_in txn) (open_ones n part e).empty) f);
       };
       mails = tt;
+      numbered = tt;
       facts = tt;
       submitted = λ txn. none_submitted (slice_get coordinators txn.0) (λ part e. (idle txn.0 part e).unsubmitted);
       decided = λ txn. ap listed (sym (none_found decided_by (slice_get coordinators txn.0) (λ part e. ap decided_in (idle txn.0 part e).empty)));

@@ -1,5 +1,5 @@
 -- Agreement over every list of steps: what logs, mails and facts say of the end of a transaction agrees.
-use Rattle.std.proofs.Common.{◌≡◌, ℕ, ◌+◌, ◌<◌, List, [], ◌∷◌, ◌++◌, length, slice_get, true, Option, Some, None, IfSome, option_map, refl, sym, ap, subst, ◌∙◌, arith, Bool, false}
+use Rattle.std.proofs.Common.{◌≡◌, ℕ, zero, suc, ◌+◌, ◌<◌, List, [], ◌∷◌, ◌++◌, length, slice_get, true, Option, Some, None, IfSome, option_map, refl, sym, ap, subst, ◌∙◌, arith, Bool, false}
 use Rattle.std.specs.List.{filter_map, list_any}
 use Rattle.std.proofs.lemmas.List.{length-append}
 use Rattle.tp_types.specs.declared.fact.Fact.{Fact}
@@ -107,6 +107,11 @@ submitted_count (Some part) = submitted_up part.up
 abbrev pub settled_outcome : List (Part Server) → ServerId → TxnId → Option Outcome
 settled_outcome servers at txn = option_map (λ (s : Settled). s.outcome) (settled_at servers at.0 txn)
 
+-- each mail has the number of its place, the first this one
+abbrev pub AreNumbered : ℕ → List Mail → Type 0
+AreNumbered number [] = Unit {0}
+AreNumbered number (mail ∷ mails) = (mail.number ≡ number) × AreNumbered (number + 1) mails
+
 -- all that agreement rests on: actors agree with their logs, logs and mails with one another, and facts tell exactly of the logs
 pub record Agrees (sc : Scenario) (w : State) : Type 0 where
   pub past : ArePast (length w.steps) w.facts
@@ -115,6 +120,7 @@ pub record Agrees (sc : Scenario) (w : State) : Type 0 where
   pub coordinators : EachAt (λ (n : ℕ) (part : Part Coordinator). CoordinatorPartAgrees sc part) w.actors.coordinators
   pub servers : EachAt (λ (n : ℕ) (part : Part Server). ServerPartAgrees w.actors.coordinators part) w.actors.servers
   pub mails : Each (MailRests sc w.actors.coordinators) w.mails
+  pub numbered : AreNumbered 0 w.mails
   pub facts : Each (FactFollows sc w.facts) w.facts
   pub submitted : (txn : TxnId) → length (submissions txn (said w.facts)) ≡ submitted_count (slice_get w.actors.coordinators txn.0)
   pub decided : (txn : TxnId) → decisions txn (said w.facts) ≡ listed (decided_at w.actors.coordinators txn.0)
@@ -187,6 +193,22 @@ found_noted h facts place happened = ap (filter_map h) (said_noted facts place h
 
 -- ---- a step
 
+posted_numbered : (place number : ℕ) (letters : List Letter) → AreNumbered number (posted place number letters)
+posted_numbered place number [] = tt
+posted_numbered place number (letter ∷ letters) = (refl, posted_numbered place (number + 1) letters)
+
+more_numbered : (number place : ℕ) (mails : List Mail) (letters : List Letter) → AreNumbered number mails → AreNumbered number (mails ++ posted place (number + length mails) letters)
+more_numbered number place [] letters h =
+    subst (λ (next : ℕ). AreNumbered number (posted place next letters)) (omega arith) (posted_numbered place number letters)
+more_numbered number place (mail ∷ mails) letters h =
+    (h.0, subst (λ (next : ℕ). AreNumbered (number + 1) (mails ++ posted place next letters)) (omega arith) (more_numbered (number + 1) place mails letters h.1))
+
+-- the mail that is looked up by a number has it
+pub number_is_place : (number : ℕ) (mails : List Mail) (n : ℕ) (mail : Mail) → AreNumbered number mails → slice_get mails n ≡ Some mail → mail.number ≡ number + n
+number_is_place number [] n mail h e = absurd (cc)
+number_is_place number (first ∷ mails) zero mail h e = let same : first ≡ mail = grind arith in omega (arith, h.0, ap (λ (m : Mail). m.number) same)
+number_is_place number (first ∷ mails) (suc n) mail h e = let later = number_is_place (number + 1) mails n mail h.1 e in omega (arith, later)
+
 -- a step whose turn agrees leaves a world that agrees
 pub concluded_agrees : (sc : Scenario) (w : State) (taken : Step) (turn : Turn) → Agrees sc w → TurnAgrees sc w turn → Agrees sc (concluded w taken turn)
 concluded_agrees sc w taken turn h t =
@@ -205,6 +227,7 @@ concluded_agrees sc w taken turn h t =
       mails = each_append (MailRests sc turn.actors.coordinators) w.mails (posted place (length w.mails) turn.letters)
           (mails_stay sc w.actors.coordinators turn.actors.coordinators w.mails t.stays h.mails)
           (posted_rest sc turn.actors.coordinators place (length w.mails) turn.letters t.letters);
+      numbered = subst (λ (next : ℕ). AreNumbered 0 (w.mails ++ posted place next turn.letters)) (omega arith) (more_numbered 0 place w.mails turn.letters h.numbered);
       facts = each_append (FactFollows sc now) w.facts (noted place turn.happened)
           (facts_stay sc w.facts now place w.facts g h.past h.facts)
           (noted_follow sc w.facts now place turn.happened all t.happened);
