@@ -1,3 +1,5 @@
+pub mod AgeActors
+pub mod AgeWorld
 pub mod AgreeActs
 pub mod AgreeCoordinator
 pub mod AgreeCoordinatorActs

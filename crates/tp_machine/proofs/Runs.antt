@@ -15,6 +15,7 @@ use Rattle.tp_machine.specs.Machine.{Machine, State, after, after_step, after_st
 use Rattle.tp_machine.specs.Laws.{HasAllCommits, IsTrustedState}
 use Rattle.tp_machine.specs.Sound.{Each, IsSound, IsStepOf}
 use Rattle.tp_machine.proofs.AgreeWorld.{Agrees}
+use Rattle.tp_machine.proofs.AgeWorld.{Ages, ages_done, ages_opening}
 use Rattle.tp_machine.proofs.AgreeEnd.{facts_agreed}
 use Rattle.tp_machine.proofs.AgreeSteps.{agrees_done, agrees_opening}
 use Rattle.tp_machine.proofs.EpochWorld.{Epochs, epochs_done, epochs_opening}
@@ -34,6 +35,7 @@ pub record Holds (sc : Scenario) (w : State) : Type 0 where
   pub sound : IsSound sc w
   pub agrees : Agrees sc w
   pub epochs : Epochs w
+  pub ages : Ages w
   pub lone : AreLone w.facts
   pub outside : IsOutside sc w.steps w.facts
   pub trusts : Trusts sc w
@@ -41,7 +43,7 @@ pub record Holds (sc : Scenario) (w : State) : Type 0 where
 
 pub holds_opening : (sc : Scenario) → is_built sc ≡ true → Holds sc (opening_state sc)
 holds_opening sc built =
-    record { sound = sound_opening sc built; agrees = agrees_opening sc; epochs = epochs_opening sc; lone = lone_opening; outside = outside_opening sc; trusts = trusts_opening sc built; serial = serial_opening sc built }
+    record { sound = sound_opening sc built; agrees = agrees_opening sc; epochs = epochs_opening sc; ages = ages_opening sc; lone = lone_opening; outside = outside_opening sc; trusts = trusts_opening sc built; serial = serial_opening sc built }
 
 -- each invariant may lean on all the others before the step
 pub holds_done : (sc : Scenario) (m : Machine) (taken : Step) → is_built sc ≡ true → IsStepOf sc taken → refusal m.state taken ≡ None → Holds sc m.state → Holds sc (done sc m taken).state
@@ -50,6 +52,7 @@ holds_done sc m taken built exists allowed h =
       sound = sound_done sc m taken built exists allowed h.agrees.coordinator_count h.sound;
       agrees = agrees_done sc m taken built exists allowed h.sound h.agrees;
       epochs = epochs_done sc m taken exists allowed h.sound h.agrees h.epochs;
+      ages = ages_done sc m taken exists allowed h.sound h.agrees h.ages;
       lone = lone_done sc m taken exists allowed h.agrees.coordinator_count h.agrees.past h.lone;
       outside = outside_done sc m taken exists allowed h.agrees.coordinator_count h.agrees.past h.outside;
       trusts = trusts_done sc m taken built exists allowed h.sound h.agrees h.trusts;
