@@ -17,10 +17,9 @@ use Rattle.tp_machine.specs.declared.actors.Actors.{Actors}
 use Rattle.tp_machine.specs.declared.coord.Coordinator.{Coordinator}
 use Rattle.tp_machine.specs.declared.offices.Authority.{Authority}
 use Rattle.tp_machine.specs.declared.part.Part.{Part}
-use Rattle.tp_machine.specs.declared.server.Entry.{Entry}
 use Rattle.tp_machine.specs.declared.server.Server.{Server}
 use Rattle.tp_types.specs.Effect.{Effect}
-use Rattle.tp_machine.specs.Machine.{Machine, State, Turn, acts_by, concluded, coordinator_acted, coordinator_fact, done, is_part_submitted, log_with, opened_part, opening_state, posted, refusal, server_acted, server_fact, with_age}
+use Rattle.tp_machine.specs.Machine.{Machine, State, Turn, acts_by, concluded, coordinator_acted, coordinator_fact, done, log_with, opened_part, opening_state, posted, refusal, server_acted, server_fact, with_age}
 use Rattle.tp_machine.specs.Sound.{Each, EachAt, EachPlaced, IsSound, IsStepOf}
 use Rattle.tp_machine.specs.coord.Opened as coord_opened
 use Rattle.tp_machine.specs.coord.Row.{coordinator_row, submit_row}

@@ -7,6 +7,7 @@ pub mod AgreeEnd
 pub mod AgreeServer
 pub mod AgreeSteps
 pub mod AgreeWorld
+pub mod AmongServers
 pub mod Cases
 pub mod EpochActors
 pub mod EpochWorld

@@ -1,6 +1,6 @@
 -- Serial data, actor by actor: what an act of a server or a coordinator leaves keeps to the plans.
 use Rattle.std.proofs.lemmas.Bool.{eqb-true}
-use Rattle.std.proofs.Common.{◌≡◌, ℕ, ◌==◌, List, [], ◌∷◌, ◌++◌, length, flat_map, drop, fold, slice_get, slice_set, Bool, true, false, Option, Some, None, is_some, IfSome, option_map, option_and_then, ℤ, if◌then◌else◌, refl, sym, ap, subst, ◌∙◌}
+use Rattle.std.proofs.Common.{◌≡◌, ℕ, ◌==◌, List, [], ◌∷◌, ◌++◌, length, flat_map, drop, fold, slice_get, slice_set, Bool, true, false, Option, Some, None, is_some, IfSome, option_map, option_and_then, ℤ, if◌then◌else◌, refl, sym, ap, subst, ◌∙◌, arith}
 use Rattle.std.specs.Option.{option_map_or}
 use Rattle.std.proofs.lemmas.Option.{IfSome_then, same_Some}
 use Rattle.tp_types.specs.declared.fact.Fact.{Fact}
@@ -39,14 +39,18 @@ use Rattle.tp_machine.proofs.AgreeWorld.{Agrees, DecidedAs}
 use Rattle.tp_machine.proofs.AgreeActs.{MaySettle, number_itself, same_txn_is, told_by}
 use Rattle.tp_machine.proofs.AgreeCoordinatorActs.{told_of}
 use Rattle.tp_machine.proofs.AgreeServer.{RecordRests}
-use Rattle.tp_machine.proofs.FactLemmas.{commit_found, first_commit}
+use Rattle.tp_machine.proofs.FactLemmas.{commit_found, first_commit, filter_all}
 use Rattle.tp_machine.proofs.LogLemmas.{appended, decided_with, gained, listed, look_set, prepared_with}
 use Rattle.tp_machine.proofs.SerialWorld.{CoordinatorPartSerial, HoldsValues, IsPlannedCommit, IsPrepared, Serial, ServerPartSerial, ServerUpSerial, StaysPrepared, TurnSerial, WhatSerial, overlaid_by}
 use Rattle.tp_machine.proofs.SerialCoordinator.{CoordinatorSerial, PhaseVoted}
 use Rattle.tp_machine.proofs.SerialLists.{at_changed, each_of_all, fold_both, fold_keeps, same_set, set_elsewhere}
-use Rattle.tp_machine.proofs.SerialPlan.{CommitSerial, DecisionSerial, LetterSerial, RecordPlanned, RecordSerial, is_at, letters_stay, planned, planned_at, planned_what}
+use Rattle.tp_machine.proofs.SerialPlan.{CommitSerial, DecisionSerial, LetterSerial, RecordPlanned, RecordSerial, is_at, letters_stay, planned, planned_at, planned_what, IsInRange, IsTested}
 use Rattle.tp_machine.proofs.SerialServer.{HasPrepared, ServerKeeps}
-use Rattle.tp_machine.proofs.SoundLists.{at_set, by_cond, each_append, each_as}
+use Rattle.tp_machine.proofs.SoundLists.{at_set, by_cond, each_append, each_as, missing}
+use Rattle.tp_machine.proofs.AmongServers.{among_servers}
+use Rattle.tp_machine.proofs.SerialBuilt.{first_server, has_item_at_one_server, one_server, planned_at_one_server}
+use Rattle.tp_types.specs.declared.scenario.Transaction.{Transaction}
+use Rattle.tp_model.specs.Built.{is_built}
 
 -- ---- no commit
 
@@ -247,14 +251,14 @@ prepared_here servers at part next found txn other p =
     (ap is_some (look_set (prepared_by txn) servers at.0 at.0 part next found ∙ ap (λ (c : Bool). if c then prepared_by txn next else prepared_at servers at.0 txn) (number_itself at.0)) ∙ p.1)
 
 -- what is prepared after a record was appended is planned
-prepared_after : (sc : Scenario) (at : ServerId) (kept : List Record) (append : Option Record) (txn : TxnId) (now : Prepared) → ((p : Prepared) → prepared_in txn kept ≡ Some p → p.deeds ≡ planned_at sc at txn)
-    → IfSome append (RecordPlanned sc at) → first_of (appended (preparation_in txn) append) (prepared_in txn kept) ≡ Some now → now.deeds ≡ planned_at sc at txn
+prepared_after : (sc : Scenario) (at : ServerId) (kept : List Record) (append : Option Record) (txn : TxnId) (now : Prepared) → ((p : Prepared) → prepared_in txn kept ≡ Some p → IsTested sc at txn p)
+    → IfSome append (RecordPlanned sc at) → first_of (appended (preparation_in txn) append) (prepared_in txn kept) ≡ Some now → IsTested sc at txn now
 prepared_after sc at kept None txn now h r e = h now e
 prepared_after sc at kept (Some (log.Prepared p)) txn now h r e = chosen (same_txn p.txn txn) refl e
   where
-    chosen : (b : Bool) → same_txn p.txn txn ≡ b → first_of (if b then Some p else None) (prepared_in txn kept) ≡ Some now → now.deeds ≡ planned_at sc at txn
+    chosen : (b : Bool) → same_txn p.txn txn ≡ b → first_of (if b then Some p else None) (prepared_in txn kept) ≡ Some now → IsTested sc at txn now
     chosen true same f =
-        subst (λ (x : Prepared). x.deeds ≡ planned_at sc at txn) (same_Some p now f) (r ∙ ap (λ (t : TxnId). planned_at sc at t) (same_txn_is p.txn txn same))
+        subst (IsTested sc at txn) (same_Some p now f) (subst (λ (t : TxnId). IsTested sc at t p) (same_txn_is p.txn txn same) r)
     chosen false apart f = h now f
 prepared_after sc at kept (Some _) txn now h r e = h now e
 
@@ -327,21 +331,42 @@ told_unsettled None = tt
 told_unsettled (Some (log.Decided d)) = (tt, tt)
 told_unsettled (Some _) = tt
 
+-- what all of a transaction's servers have prepared was tested. That this is the whole plan leans on the one server of the form that is built
+server_tested : (sc : Scenario) (store : List ℤ) (at : ServerId) (txn : TxnId) (servers : List (Part Server)) (part : Option (Part Server))
+    → EachAt (λ (n : ℕ) (p : Part Server). ServerPartSerial sc store (record { 0 = n }) p) servers → slice_get servers at.0 ≡ part → is_some (option_and_then (prepared_by txn) part) ≡ true
+    → Each (IsInRange sc) (planned_at sc at txn)
+server_tested sc store at txn servers None h found e = absurd (cc)
+server_tested sc store at txn servers (Some part) h found e = tested (prepared_in txn part.log) refl e
+  where
+    tested : (prepared : Option Prepared) → prepared_in txn part.log ≡ prepared → is_some prepared ≡ true → Each (IsInRange sc) (planned_at sc at txn)
+    tested None f some = absurd (cc)
+    tested (Some p) f some = let voted : IsTested sc at txn p = (h at.0 part found).prepared txn p f in subst (Each (IsInRange sc)) voted.part voted.in_range
+
+plan_tested : (sc : Scenario) (w : State) (txn : TxnId) (declared : Option Transaction) → is_built sc ≡ true → IsTxn sc txn → Serial sc w → slice_get sc.txns txn.0 ≡ declared
+    → Each (IsPrepared w.actors.servers txn) (servers_at sc txn) → Each (IsInRange sc) (planned sc txn)
+plan_tested sc w txn None built exists h found prepared = absurd (missing sc.txns txn.0 exists found)
+plan_tested sc w txn (Some declared) built exists h found prepared =
+    let count = one_server sc built in
+    let here : IsPrepared w.actors.servers txn first_server =
+    among_servers (IsPrepared w.actors.servers txn) sc first_server txn (omega (arith, count)) (has_item_at_one_server sc txn declared built found) prepared in
+    subst (Each (IsInRange sc)) (filter_all (λ (deed : Deed). is_at sc first_server deed ≡ true) (is_at sc first_server) (λ deed e. e) (planned sc txn) (planned_at_one_server sc txn built))
+    (server_tested sc (overlaid sc w.facts) first_server txn w.actors.servers (slice_get w.actors.servers first_server.0) h.servers refl here)
+
 -- the fact of a decision keeps to the plan
-decision_serial : (sc : Scenario) (w : State) (P : ServerId → Type 0) (txn : TxnId) (append : Option Record) → IsTxn sc txn → IfSome append (RecordSerial sc P txn) → Each (WhatSerial sc w.facts) (told_of append)
-decision_serial sc w P txn None exists r = tt
-decision_serial sc w P txn (Some (log.Decided d)) exists r = (subst (λ (t : TxnId). WhatSerial sc w.facts (what.Decided t d.decision)) (sym r.own) (serial d.decision r.serial), tt)
+decision_serial : (sc : Scenario) (w : State) (P : ServerId → Type 0) (txn : TxnId) (append : Option Record) → IsTxn sc txn → (Each P (servers_at sc txn) → Each (IsInRange sc) (planned sc txn)) → IfSome append (RecordSerial sc P txn) → Each (WhatSerial sc w.facts) (told_of append)
+decision_serial sc w P txn None exists tested r = tt
+decision_serial sc w P txn (Some (log.Decided d)) exists tested r = (subst (λ (t : TxnId). WhatSerial sc w.facts (what.Decided t d.decision)) (sym r.own) (serial d.decision r.serial), tt)
   where
     serial : (decided : Decision) → DecisionSerial sc P txn decided → WhatSerial sc w.facts (what.Decided txn decided)
-    serial (decision.Commit committed) s = (exists, s.deeds)
+    serial (decision.Commit committed) s = (exists, (s.deeds, tested s.prepared))
     serial (decision.Abort why) s = tt
-decision_serial sc w P txn (Some _) exists r = tt
+decision_serial sc w P txn (Some _) exists tested r = tt
 
 -- the turn of a coordinator whose act keeps to the plan
-pub coordinator_acts_serial : (sc : Scenario) (w : State) (txn : TxnId) (part : Part Coordinator) (own : List What) (effect : Effect Coordinator) → Serial sc w → IsTxn sc txn
+pub coordinator_acts_serial : (sc : Scenario) (w : State) (txn : TxnId) (part : Part Coordinator) (own : List What) (effect : Effect Coordinator) → is_built sc ≡ true → Serial sc w → IsTxn sc txn
     → slice_get w.actors.coordinators txn.0 ≡ Some part → ActSerial sc w txn own effect
     → TurnSerial sc w (coordinator_acted w.actors txn (acts_by coordinator_fact own part.log effect))
-coordinator_acts_serial sc w txn part own effect h exists found k =
+coordinator_acts_serial sc w txn part own effect built h exists found k =
     let append = effect.reaction.append in
     let next : Part Coordinator = record { up = Some effect.state; log = log_with part.log append } in
     let old = w.actors.coordinators in
@@ -361,5 +386,5 @@ coordinator_acts_serial sc w txn part own effect h exists found k =
       servers_up = h.servers_up;
       letters = k.letters;
       happened = subst (Each (WhatSerial sc w.facts)) (sym tells)
-          (each_append (WhatSerial sc w.facts) own (told_of append) (each_as IsQuiet (WhatSerial sc w.facts) (quiet_serial sc w.facts) own k.quiet) (decision_serial sc w P txn append exists k.forces));
+          (each_append (WhatSerial sc w.facts) own (told_of append) (each_as IsQuiet (WhatSerial sc w.facts) (quiet_serial sc w.facts) own k.quiet) (decision_serial sc w P txn append exists (plan_tested sc w txn (slice_get sc.txns txn.0) built exists h refl) k.forces));
     }

@@ -86,7 +86,7 @@ has_parts sc e =
     let front = (and_parts (is_single is_first_admin sc.admins && are_first_parts (only sc.servers) (only sc.items) (only sc.txns)) _ (form_built sc e)).0 in
     parts_of sc (only sc.servers) (only sc.items) (only sc.txns) refl refl refl (and_parts (is_single is_first_admin sc.admins) _ front).1
 
--- the one query is a write of a constant to the one item, within its range
+-- the one query is a write of a constant to the one item
 record IsConstantWrite (item : Item) (asked : Query) : Type 0 where
   pub id : ItemId
   pub term : Term
@@ -94,7 +94,6 @@ record IsConstantWrite (item : Item) (asked : Query) : Type 0 where
   pub asked_is : asked ≡ Write id (term ∷ [])
   pub first : id.0 ≡ 0
   pub operand_is : term.operand ≡ Constant constant
-  pub within : is_between item.min item.max (term_value term) ≡ true
 
 constant_is : (operand : Operand) → is_first_constant operand ≡ true → (c : ℤ) × (operand ≡ Constant c)
 constant_is (Constant c) e = (c, refl)
@@ -111,7 +110,6 @@ write_is item id expr first one =
       asked_is = ap (Write id) one.is_list;
       first = number_is id.0 0 first;
       operand_is = operand.1;
-      within = tests.1;
     }
 
 built_query_is : (item : Item) (asked : Query) → is_first_query item asked ≡ true → IsConstantWrite item asked
@@ -340,27 +338,6 @@ only_one_of_each sc at txn built e = only (slice_get sc.txns txn.0) refl e
     only (Some declared) found f = (queries_at_first sc at declared.queries built f, (only_at sc.txns (has_parts sc built).txn declared txn.0 (has_parts sc built).txns_are found).0)
 
 -- ---- ranges
-
--- the deed's value is in its item's range
-abbrev pub IsInRange : Scenario → Deed → Type 0
-IsInRange sc deed = (item : Item) → slice_get sc.items deed.item.0 ≡ Some item → is_between item.min item.max deed.value ≡ true
-
-written_in_range : (sc : Scenario) (item : Item) (asked : Query) (one : IsConstantWrite item asked) → sc.items ≡ item ∷ [] → IsInRange sc (deed_of 1 asked (term_value one.term))
-written_in_range sc item asked one e found f =
-    let same : item ≡ found = (only_at sc.items item found (item_of asked).0 e f).1 in
-    subst (λ (i : Item). is_between i.min i.max (term_value one.term) ≡ true) same one.within
-
-planned_from : (sc : Scenario) (txn : TxnId) (declared : Option Transaction) → is_built sc ≡ true → slice_get sc.txns txn.0 ≡ declared
-    → Each (IsInRange sc) (option_map_or (λ (d : Transaction). serial_run d (opening_store sc)) declared [])
-planned_from sc txn None built found = tt
-planned_from sc txn (Some declared) built found =
-    let here = built_runs sc declared txn.0 built found in
-    let made : Each (IsInRange sc) (deed_of 1 here.asked (term_value here.write.term) ∷ []) = (written_in_range sc here.item here.asked here.write here.items_are, tt) in
-    subst (Each (IsInRange sc)) (sym (here.runs (opening_store sc))) made
-
--- what constants are written is in range
-pub planned_in_range : (sc : Scenario) (txn : TxnId) → is_built sc ≡ true → Each (IsInRange sc) (planned sc txn)
-planned_in_range sc txn built = planned_from sc txn (slice_get sc.txns txn.0) built refl
 
 third_test : (a b c : Bool) → (a && b && c) ≡ true → c ≡ true
 third_test a b c all = grind arith

@@ -42,10 +42,9 @@ use Rattle.tp_machine.proofs.SerialActs.{IsServedCommit, commit_serves}
 use Rattle.tp_machine.proofs.SerialBuilt.{IsOneTransaction, first_server, has_item_at_one_server, one_server, one_transaction, only_one_of_each, only_transaction, planned_at_one_server}
 use Rattle.tp_machine.proofs.SerialLists.{each_of_all, fold_as, fold_keeps}
 use Rattle.tp_machine.proofs.SerialPlan.{is_at, planned}
-use Rattle.tp_machine.proofs.SerialSteps.{among_servers}
+use Rattle.tp_machine.proofs.AmongServers.{among_servers}
 use Rattle.tp_machine.proofs.SoundBuilt.{IsValidItem, valid_built}
 use Rattle.tp_machine.proofs.SoundLists.{by_cond, each_as, each_get, missing}
-use Rattle.tp_machine.proofs.ViewsBuilt.{both_true}
 
 -- ---- commits
 

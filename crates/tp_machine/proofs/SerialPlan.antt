@@ -1,5 +1,5 @@
 -- Serial data: what a transaction does by itself is its plan, and what mails and records say of it.
-use Rattle.std.proofs.Common.{◌≡◌, ℕ, List, [], ◌∷◌, filter, fold, slice_get, Bool, false, IfSome, ℤ}
+use Rattle.std.proofs.Common.{◌≡◌, ℕ, List, [], ◌∷◌, filter, fold, slice_get, Bool, false, IfSome, ℤ, Some, true}
 use Rattle.std.specs.Option.{option_map_or}
 use Rattle.tp_types.specs.declared.fact.What.{What}
 use Rattle.tp_types.specs.declared.fact.What.TheVariants as what
@@ -30,6 +30,8 @@ use Rattle.tp_model.specs.Ids.{same_server}
 use Rattle.tp_model.specs.SerialRun.{opening_store, overlaid_at, serial_run}
 use Rattle.tp_machine.specs.Sound.{Each}
 use Rattle.tp_machine.specs.coord.Opened.{servers_at}
+use Rattle.tp_types.specs.declared.records.Prepared.{Prepared}
+use Rattle.tp_model.specs.Limits.{is_between}
 
 -- ---- the plan
 
@@ -101,9 +103,18 @@ abbrev pub RecordSerial : Scenario → (ServerId → Type 0) → TxnId → Recor
 RecordSerial sc P txn (log.Decided decided) = DecidedSerial sc P txn decided
 RecordSerial sc P txn _ = Unit {0}
 
--- a record of a server's log: a vote YES is on the server's part of the plan
+-- the deed's value is in its item's range
+abbrev pub IsInRange : Scenario → Deed → Type 0
+IsInRange sc deed = (item : Item) → slice_get sc.items deed.item.0 ≡ Some item → is_between item.min item.max deed.value ≡ true
+
+-- what a server prepares of a transaction is its part of the plan, and was tested against the ranges of items
+pub record IsTested (sc : Scenario) (at : ServerId) (txn : TxnId) (p : Prepared) : Type 0 where
+  pub part : p.deeds ≡ planned_at sc at txn
+  pub in_range : Each (IsInRange sc) p.deeds
+
+-- a record of a server's log
 abbrev pub RecordPlanned : Scenario → ServerId → Record → Type 0
-RecordPlanned sc at (log.Prepared p) = p.deeds ≡ planned_at sc at p.txn
+RecordPlanned sc at (log.Prepared p) = IsTested sc at p.txn p
 RecordPlanned sc at _ = Unit {0}
 
 -- ---- growth

@@ -1,5 +1,5 @@
 -- Serial data, the server's rows: an entry and a vote YES have the server's part of the plan, and a settled commit applies it.
-use Rattle.std.proofs.Common.{◌≡◌, ℕ, ◌&&◌, List, [], ◌∷◌, map, filter, fold, cond, slice_get, slice_set, Bool, true, false, Option, Some, None, is_some, is_none, IfSome, option_map, ℤ, if◌then◌else◌, refl, sym, ap, subst, ◌∙◌}
+use Rattle.std.proofs.Common.{◌≡◌, ℕ, ◌&&◌, List, [], ◌∷◌, map, filter, fold, cond, slice_get, slice_set, Bool, true, false, Option, Some, None, is_some, is_none, IfSome, option_map, ℤ, if◌then◌else◌, refl, sym, ap, subst, ◌∙◌, arith, ◌==◌}
 use Rattle.std.specs.Option.{option_map_or}
 use Rattle.std.proofs.lemmas.Option.{cond_some, same_Some}
 use Rattle.tp_types.specs.declared.fact.What.TheVariants as what
@@ -39,14 +39,17 @@ use Rattle.tp_machine.specs.Machine.{log_with}
 use Rattle.tp_machine.specs.Sound.{Each, EachPlaced, IsItemOf, IsSoundBody, IsSoundQuery}
 use Rattle.tp_types.specs.Table.{flattened}
 use Rattle.tp_machine.specs.coord.Row.{deed_of}
-use Rattle.tp_machine.specs.server.Row.{applied, applied_deed, asked_item, asked_to_vote, begins, committed, entry_at, first_entry, is_open, is_write, may_prepare, on_body, on_decide, on_prepare, on_query, plain_write, prepared, queried, server_row, settled_as, settles, verdict_on, votes}
+use Rattle.tp_machine.specs.server.Row.{applied, applied_deed, asked_item, asked_to_vote, begins, committed, entry_at, first_entry, is_open, is_write, may_prepare, on_body, on_decide, on_prepare, on_query, plain_write, prepared, queried, server_row, settled_as, settles, verdict_on, votes, is_in_range, is_in_range_of}
 use Rattle.tp_machine.proofs.AgreeActs.{number_itself, same_txn_is, told_by}
 use Rattle.tp_machine.proofs.AgreeServer.{ServerAgrees, unset_is}
 use Rattle.tp_machine.proofs.LogLemmas.{first_none, prepared_with, settled_with}
 use Rattle.tp_machine.proofs.SerialBuilt.{IsAllPlanned, one_query_is_planned}
 use Rattle.tp_machine.proofs.SerialLists.{filled_stays, set_elsewhere}
-use Rattle.tp_machine.proofs.SerialPlan.{BodySerial, IsPlannedValue, LetterSerial, RecordPlanned, is_at, planned, planned_at, planned_what}
+use Rattle.tp_machine.proofs.SerialPlan.{BodySerial, IsPlannedValue, LetterSerial, RecordPlanned, is_at, planned, planned_at, planned_what, IsInRange}
 use Rattle.tp_machine.proofs.SoundLists.{by_cond, placed_emptied, placed_set}
+use Rattle.tp_model.specs.Stage.{is_empty}
+use Rattle.std.specs.List.{list_all}
+use Rattle.std.proofs.lemmas.Bool.{and_parts}
 
 -- ---- what is kept
 
@@ -169,9 +172,19 @@ prepared_here : (b : Bool) (forced : Prepared) (old : Option Prepared) → b ≡
 prepared_here true forced old e = refl
 prepared_here false forced old e = absurd (cc)
 
-votes_keep : (sc : Scenario) (s : Server) (kept : List Record) (p : PrepareRequest) (place : ℕ) (entry : Entry) → ServerSerial sc s kept → entry_at s p.txn ≡ Some entry
+-- the vote tests each deed against its item's range
+tested_each : (sc : Scenario) (deeds : List Deed) → list_all (is_in_range sc) deeds ≡ true → Each (IsInRange sc) deeds
+tested_each sc [] e = tt
+tested_each sc (deed ∷ deeds) e =
+    let parts = and_parts (is_in_range sc deed) (list_all (is_in_range sc) deeds) e in
+    (λ item found. sym (ap (λ (declared : Option Item). is_in_range_of declared deed.value) found) ∙ parts.0, tested_each sc deeds parts.1)
+
+third_of_four : (a b c d : Bool) → (a && b && c && d) ≡ true → c ≡ true
+third_of_four a b c d all = grind arith
+
+votes_keep : (sc : Scenario) (s : Server) (kept : List Record) (p : PrepareRequest) (place : ℕ) (entry : Entry) → ServerSerial sc s kept → entry_at s p.txn ≡ Some entry → may_prepare sc p entry ≡ true
     → ServerKeeps sc s kept (votes sc s p place entry)
-votes_keep sc s kept p place entry h e =
+votes_keep sc s kept p place entry h e may =
     let forced : Prepared = prepared s p entry (map (verdict_on sc s place) entry.deeds) in
     let append : Option Record = Some (log.Prepared forced) in
     let deeds : entry.deeds ≡ planned_at sc s.server p.txn = h.entries p.txn.0 entry e in
@@ -185,7 +198,10 @@ votes_keep sc s kept p place entry h e =
             (λ before. h.held txn before (sym (settled_with txn kept append ∙ first_none (settled_in txn kept)) ∙ unsettled_now))
             (sym (ap is_some (prepared_with txn kept append)) ∙ prepared_now));
       };
-      forces = deeds;
+      forces = record {
+        part = deeds;
+        in_range = tested_each sc entry.deeds (third_of_four (entry.epoch == p.epoch) (is_none entry.ballot) (list_all (is_in_range sc) entry.deeds) (is_empty p.want) may);
+      };
       values = refl;
       letters = ((refl, ap is_some (prepared_with p.txn kept append) ∙ prepared_here (same_txn p.txn p.txn) forced (prepared_in p.txn kept) (number_itself p.txn.0)), tt);
     }
@@ -193,7 +209,7 @@ votes_keep sc s kept p place entry h e =
 asked_to_vote_keeps : (sc : Scenario) (s : Server) (kept : List Record) (p : PrepareRequest) (staple : Option Staple) (entry : Option Entry) → ServerSerial sc s kept → entry_at s p.txn ≡ entry
     → ServerKeeps sc s kept (asked_to_vote sc s p staple entry)
 asked_to_vote_keeps sc s kept p (Some staple) (Some entry) h e =
-    by_cond (ServerKeeps sc s kept) (may_prepare sc p entry) (λ may. votes_keep sc s kept p staple.place entry h e) (λ may_not. silent_keeps sc s kept h)
+    by_cond (ServerKeeps sc s kept) (may_prepare sc p entry) (λ may. votes_keep sc s kept p staple.place entry h e may) (λ may_not. silent_keeps sc s kept h)
 asked_to_vote_keeps sc s kept p _ _ h e = silent_keeps sc s kept h
 
 prepare_keeps : (sc : Scenario) (s : Server) (kept : List Record) (p : PrepareRequest) → ServerSerial sc s kept → ServerKeeps sc s kept (on_prepare sc s p)

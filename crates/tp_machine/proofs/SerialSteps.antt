@@ -14,14 +14,10 @@ use Rattle.tp_types.specs.declared.mail.Mail.{Mail}
 use Rattle.tp_types.specs.declared.records.Outcome.TheVariants as outcome
 use Rattle.tp_types.specs.declared.scenario.Actor.{Actor}
 use Rattle.tp_types.specs.declared.scenario.Actor.TheVariants as actor
-use Rattle.tp_types.specs.declared.scenario.Query.{Query}
 use Rattle.tp_types.specs.declared.scenario.Scenario.{Scenario}
 use Rattle.tp_types.specs.declared.scenario.Step.{Step}
 use Rattle.tp_types.specs.declared.scenario.Step.TheVariants as step
-use Rattle.tp_types.specs.declared.scenario.Transaction.{Transaction}
-use Rattle.tp_model.specs.Agreement.{has_item, has_item_at}
 use Rattle.tp_model.specs.Built.{is_built}
-use Rattle.tp_model.specs.Queries.{is_at_server, servers_from, servers_of}
 use Rattle.tp_model.specs.SerialRun.{overlaid}
 use Rattle.tp_machine.specs.declared.coord.Coordinator.{Coordinator}
 use Rattle.tp_machine.specs.declared.offices.Authority.{Authority}
@@ -32,7 +28,6 @@ use Rattle.tp_machine.specs.Logs.{prepared_by}
 use Rattle.tp_machine.specs.Machine.{Machine, State, coordinator_acted, done, idles, is_part_submitted, opened_actors, opened_part, opening_state, refusal, server_acted, with_age, acts_by, coordinator_fact, server_fact}
 use Rattle.tp_machine.specs.Sound.{Each, IsServer, IsSound, IsSoundBody, IsSoundCoordinatorUp, IsSoundLetter, IsSoundMail, IsSoundServerUp, IsStepOf, IsTxn}
 use Rattle.tp_machine.specs.coord.Opened as coord
-use Rattle.tp_machine.specs.coord.Opened.{servers_at}
 use Rattle.tp_machine.specs.coord.Row.{coordinator_row, submit_row}
 use Rattle.tp_machine.specs.offices.Authority as office
 use Rattle.tp_machine.specs.server.Opened as server
@@ -43,6 +38,7 @@ use Rattle.tp_machine.proofs.AgreeCoordinator.{CoordinatorAgrees}
 use Rattle.tp_machine.proofs.AgreeServer.{ServerAgrees, server_row_lawful}
 use Rattle.tp_machine.proofs.SerialWorld.{CoordinatorPartSerial, IsPrepared, Serial, ServerPartSerial, ServerUpSerial, TurnSerial, concluded_serial}
 use Rattle.tp_machine.proofs.SerialActs.{ActSerial, IsQuiet, IsServedCommit, commit_serves, coordinator_acts_serial, server_acts_serial, unmoved_serial}
+use Rattle.tp_machine.proofs.AmongServers.{among_servers}
 use Rattle.tp_machine.proofs.SerialBuilt.{opening_in_range}
 use Rattle.tp_machine.proofs.SerialCoordinator.{CoordinatorKeeps, CoordinatorSerial, coordinator_row_keeps, submit_row_keeps}
 use Rattle.tp_machine.proofs.SerialPlan.{BodySerial, LetterSerial, MailSerial, RecordSerial}
@@ -50,37 +46,6 @@ use Rattle.tp_machine.proofs.SerialServer.{EntryPlanned, OrderPrepared, server_r
 use Rattle.tp_machine.proofs.SoundLists.{at_made, each_get, placed_none}
 use Rattle.tp_machine.proofs.Cases.{Cases, IsCoordinatorUp, IsServerUp, SaysIdle, WasSent, done_by}
 use Rattle.tp_machine.proofs.AgreeSteps.{mail_rests, order_rests, server_agrees}
-
--- ---- servers of a transaction
-
-split_cond : {A : Type 0} (P : A → Type 0) (b : Bool) (x : A) (xs : List A) → Each P (if b then x ∷ xs else xs) → Each P xs × (b ≡ true → P x)
-split_cond P true x xs h = (h.1, λ e. h.0)
-split_cond P false x xs h = (h, λ e. absurd (cc))
-
-next_above : (low k : ℕ) → low ≤ k → (low == k) ≡ false → low + 1 ≤ k
-next_above low k above apart = grind (arith, nat_tests)
-
-among_next : (P : ServerId → Type 0) (test : ℕ → Bool) (low k : ℕ) (b : Bool) → (low == k) ≡ b → low ≤ k → test k ≡ true → (test low ≡ true → P (record { 0 = low })) → (low + 1 ≤ k → P (record { 0 = k }))
-    → P (record { 0 = k })
-among_next P test low k true same above here first later =
-    let number : low ≡ k = eqb-true low k same in
-    subst (λ (n : ℕ). P (record { 0 = n })) number (first (subst (λ (n : ℕ). test n ≡ true) (sym number) here))
-among_next P test low k false apart above here first later = later (next_above low k above apart)
-
-among_from : (P : ServerId → Type 0) (sc : Scenario) (queries : List Query) (low left k : ℕ) → low ≤ k → k < low + left → list_any (is_at_server sc k) queries ≡ true
-    → Each P (servers_from sc queries low left) → P (record { 0 = k })
-among_from P sc queries low zero k above below here h = absurd (omega (arith, above, below))
-among_from P sc queries low (suc left) k above below here h =
-    let parts = split_cond P (list_any (is_at_server sc low) queries) (record { 0 = low }) (servers_from sc queries (low + 1) left) h in
-    among_next P (λ (n : ℕ). list_any (is_at_server sc n) queries) low k (low == k) refl above here parts.1 (λ next. among_from P sc queries (low + 1) left k next (omega (arith, below)) here parts.0)
-
--- what holds of all of a transaction's servers holds of one with an item of it
-pub among_servers : (P : ServerId → Type 0) (sc : Scenario) (at : ServerId) (txn : TxnId) → IsServer sc at → has_item_at sc at txn ≡ true → Each P (servers_at sc txn) → P at
-among_servers P sc at txn exists item h = among (slice_get sc.txns txn.0) item h
-  where
-    among : (declared : Option Transaction) → option_map_or (has_item sc at) declared false ≡ true → Each P (option_map_or (servers_of sc) declared []) → P at
-    among (Some declared) e k = among_from P sc declared.queries 0 (length sc.servers) at.0 (omega arith) (omega (arith, exists)) e k
-    among None e k = absurd (cc)
 
 -- ---- what is known of actors that are up
 
@@ -163,7 +128,7 @@ received_by_coordinator : (sc : Scenario) (w : State) → is_built sc ≡ true �
 received_by_coordinator sc w built sound agrees h n mail txn part c sent up =
     let m = mail_planned sc w n mail (actor.Coordinator txn) sound agrees h sent in
     let here : IsUp sc w txn part c = is_up sc w txn part c sound agrees h up.found up.up in
-    coordinator_acts_serial sc w txn part [] (coordinator_row sc c mail) h here.exists up.found
+    coordinator_acts_serial sc w txn part [] (coordinator_row sc c mail) built h here.exists up.found
     (row_acts sc w txn c [] (coordinator_row sc c mail) here.own
     (coordinator_row_keeps sc (IsPrepared w.actors.servers) c mail built here.serial here.kept.servers (subst (λ (t : TxnId). IsSoundBody sc (actor.Coordinator t) mail.letter.body) (sym here.own) m.says) m.serial) tt)
 
@@ -177,7 +142,7 @@ begun_serial : (sc : Scenario) (w : State) → is_built sc ≡ true → IsSound 
 begun_serial sc w built sound agrees h txn part c up new =
     let here : IsUp sc w txn part c = is_up sc w txn part c sound agrees h up.found up.up in
     let effect = with_age (submit_row sc c) (length w.steps) in
-    coordinator_acts_serial sc w txn part (what.Submitted txn ∷ []) effect h here.exists up.found
+    coordinator_acts_serial sc w txn part (what.Submitted txn ∷ []) effect built h here.exists up.found
     (row_acts sc w txn c (what.Submitted txn ∷ []) effect here.own
     (submit_row_keeps sc (IsPrepared w.actors.servers) c (length w.steps) built here.serial new) (tt, tt))
 

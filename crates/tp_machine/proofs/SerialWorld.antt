@@ -41,10 +41,10 @@ use Rattle.tp_machine.proofs.AgreeWorld.{Agrees, FactFollows}
 use Rattle.tp_machine.proofs.AgreeActs.{number_itself}
 use Rattle.tp_machine.proofs.FactLemmas.{ArePast, Grows, before_past, grows_noted}
 use Rattle.tp_machine.proofs.LogLemmas.{first_first, first_stays}
-use Rattle.tp_machine.proofs.SerialBuilt.{IsInRange, constants_run_anywhere, planned_in_range}
+use Rattle.tp_machine.proofs.SerialBuilt.{constants_run_anywhere}
 use Rattle.tp_machine.proofs.SerialCoordinator.{CoordinatorSerial}
 use Rattle.tp_machine.proofs.SerialLists.{any_filtered, fold_as, fold_keeps, pointwise_itself}
-use Rattle.tp_machine.proofs.SerialPlan.{DecisionSerial, LetterSerial, MailSerial, mails_stay, planned, planned_at, planned_what}
+use Rattle.tp_machine.proofs.SerialPlan.{IsInRange, DecisionSerial, LetterSerial, MailSerial, mails_stay, planned, planned_what, IsTested}
 use Rattle.tp_machine.proofs.SerialServer.{ServerSerial}
 use Rattle.tp_machine.proofs.SoundLists.{each_append, each_as, missing}
 
@@ -68,10 +68,10 @@ pub record ServerUpSerial (sc : Scenario) (store : List ℤ) (at : ServerId) (ke
   pub serial : ServerSerial sc s kept
   pub values : HoldsValues sc at store s.values
 
--- a server that is up keeps to the plans, and what it has prepared on its log is its part of them
+-- a server that is up keeps to the plans, and what it has prepared on its log is its part of them and was tested
 pub record ServerPartSerial (sc : Scenario) (store : List ℤ) (at : ServerId) (part : Part Server) : Type 0 where
   pub state : IfSome part.up (ServerUpSerial sc store at part.log)
-  pub prepared : (txn : TxnId) (p : Prepared) → prepared_in txn part.log ≡ Some p → p.deeds ≡ planned_at sc at txn
+  pub prepared : (txn : TxnId) (p : Prepared) → prepared_in txn part.log ≡ Some p → IsTested sc at txn p
 
 -- all that serial data rests on
 pub record Serial (sc : Scenario) (w : State) : Type 0 where
@@ -96,9 +96,9 @@ pub record IsPlannedCommit (sc : Scenario) (facts : List Fact) (txn : TxnId) : T
   pub found : commit_of txn facts ≡ Some committed
   pub deeds : committed.deeds ≡ planned sc txn
 
--- what a step tells of commits keeps to the plan
+-- what a step tells of commits keeps to the plan, and a commit to the ranges of items
 abbrev pub WhatSerial : Scenario → List Fact → What → Type 0
-WhatSerial sc facts (what.Decided txn (decision.Commit committed)) = IsTxn sc txn × (committed.deeds ≡ planned sc txn)
+WhatSerial sc facts (what.Decided txn (decision.Commit committed)) = IsTxn sc txn × ((committed.deeds ≡ planned sc txn) × Each (IsInRange sc) (planned sc txn))
 WhatSerial sc facts (what.Settled at txn outcome.Commit) = IsPlannedCommit sc facts txn
 WhatSerial sc facts _ = Unit {0}
 
@@ -145,8 +145,8 @@ deeds_in_range sc deeds store fits h =
     (each_as (IsInRange sc) (λ (deed : Deed). (values : List ℤ) → are_in_range sc.items values ≡ true → are_in_range sc.items (stored values deed) ≡ true)
     (λ deed within. deed_in_range sc deed deed.action within) deeds fits) store h
 
-plan_in_range : (sc : Scenario) (txn : TxnId) (deeds : List Deed) (store : List ℤ) → is_built sc ≡ true → deeds ≡ planned sc txn → are_in_range sc.items store ≡ true → are_in_range sc.items (stored_all store deeds) ≡ true
-plan_in_range sc txn deeds store built e h = deeds_in_range sc deeds store (subst (Each (IsInRange sc)) (sym e) (planned_in_range sc txn built)) h
+plan_in_range : (sc : Scenario) (txn : TxnId) (deeds : List Deed) (store : List ℤ) → Each (IsInRange sc) (planned sc txn) → deeds ≡ planned sc txn → are_in_range sc.items store ≡ true → are_in_range sc.items (stored_all store deeds) ≡ true
+plan_in_range sc txn deeds store tested e h = deeds_in_range sc deeds store (subst (Each (IsInRange sc)) (sym e) tested) h
 
 -- ---- commits
 
@@ -162,13 +162,13 @@ same_deed_itself deed =
 
 -- a commit with the planned deeds is serial on every store in range
 planned_is_serial : (sc : Scenario) (store : List ℤ) (txn : TxnId) (committed : CommitRecord) (declared : Option Transaction) → is_built sc ≡ true → slice_get sc.txns txn.0 ≡ declared → IsTxn sc txn
-    → committed.deeds ≡ planned sc txn → are_in_range sc.items store ≡ true → option_map_or (is_serial_commit sc store committed) declared false ≡ true
-planned_is_serial sc store txn committed None built found exists e h = absurd (missing sc.txns txn.0 exists found)
-planned_is_serial sc store txn committed (Some declared) built found exists e h =
+    → committed.deeds ≡ planned sc txn → Each (IsInRange sc) (planned sc txn) → are_in_range sc.items store ≡ true → option_map_or (is_serial_commit sc store committed) declared false ≡ true
+planned_is_serial sc store txn committed None built found exists e tested h = absurd (missing sc.txns txn.0 exists found)
+planned_is_serial sc store txn committed (Some declared) built found exists e tested h =
     let runs : serial_run declared store ≡ committed.deeds = constants_run_anywhere sc txn declared store built found ∙ sym e in
     and_both (pointwise same_deed committed.deeds (serial_run declared store)) (are_in_range sc.items (stored_all store committed.deeds))
     (ap (pointwise same_deed committed.deeds) runs ∙ pointwise_itself same_deed same_deed_itself committed.deeds)
-    (plan_in_range sc txn committed.deeds store built e h)
+    (plan_in_range sc txn committed.deeds store tested e h)
 
 -- ---- facts
 
@@ -189,7 +189,7 @@ new_serial : (sc : Scenario) (old new : List Fact) (place : ℕ) (w : What) → 
     → keeps_serial_what sc new place w ≡ true
 new_serial sc old new place (what.Decided txn (decision.Commit committed)) built e range h =
     subst (λ (earlier : List Fact). option_map_or (is_serial_commit sc (store_of sc earlier) committed) (slice_get sc.txns txn.0) false ≡ true) (sym e)
-    (planned_is_serial sc (store_of sc old) txn committed (slice_get sc.txns txn.0) built refl h.0 h.1 range)
+    (planned_is_serial sc (store_of sc old) txn committed (slice_get sc.txns txn.0) built refl h.0 h.1.0 h.1.1 range)
 new_serial sc old new place _ built e range h = refl
 
 noted_serial : (sc : Scenario) (old new : List Fact) (place : ℕ) (happened : List What) → is_built sc ≡ true → before place new ≡ old → are_in_range sc.items (store_of sc old) ≡ true → Each (WhatSerial sc old) happened
@@ -199,20 +199,20 @@ noted_serial sc old new place (w ∷ happened) built e range h = (new_serial sc 
 
 -- ---- the store
 
-what_in_range : (sc : Scenario) (old : List Fact) (w : What) (store : List ℤ) → is_built sc ≡ true → WhatSerial sc old w → are_in_range sc.items store ≡ true → are_in_range sc.items (stored_what store w) ≡ true
-what_in_range sc old (what.Decided txn (decision.Commit committed)) store built h range = plan_in_range sc txn committed.deeds store built h.1 range
-what_in_range sc old _ store built h range = range
+what_in_range : (sc : Scenario) (old : List Fact) (w : What) (store : List ℤ) → WhatSerial sc old w → are_in_range sc.items store ≡ true → are_in_range sc.items (stored_what store w) ≡ true
+what_in_range sc old (what.Decided txn (decision.Commit committed)) store h range = plan_in_range sc txn committed.deeds store h.1.1 h.1.0 range
+what_in_range sc old _ store h range = range
 
-noted_in_range : (sc : Scenario) (old : List Fact) (place : ℕ) (happened : List What) (store : List ℤ) → is_built sc ≡ true → Each (WhatSerial sc old) happened → are_in_range sc.items store ≡ true
+noted_in_range : (sc : Scenario) (old : List Fact) (place : ℕ) (happened : List What) (store : List ℤ) → Each (WhatSerial sc old) happened → are_in_range sc.items store ≡ true
     → are_in_range sc.items (fold stored_fact store (noted place happened)) ≡ true
-noted_in_range sc old place [] store built h range = range
-noted_in_range sc old place (w ∷ happened) store built h range = noted_in_range sc old place happened (stored_what store w) built h.1 (what_in_range sc old w store built h.0 range)
+noted_in_range sc old place [] store h range = range
+noted_in_range sc old place (w ∷ happened) store h range = noted_in_range sc old place happened (stored_what store w) h.1 (what_in_range sc old w store h.0 range)
 
-store_in_range : (sc : Scenario) (old : List Fact) (place : ℕ) (happened : List What) → is_built sc ≡ true → Each (WhatSerial sc old) happened → are_in_range sc.items (store_of sc old) ≡ true
+store_in_range : (sc : Scenario) (old : List Fact) (place : ℕ) (happened : List What) → Each (WhatSerial sc old) happened → are_in_range sc.items (store_of sc old) ≡ true
     → are_in_range sc.items (store_of sc (old ++ noted place happened)) ≡ true
-store_in_range sc old place happened built h range =
+store_in_range sc old place happened h range =
     subst (λ (store : List ℤ). are_in_range sc.items store ≡ true) (sym (fold-append stored_fact (opening_store sc) old (noted place happened)))
-    (noted_in_range sc old place happened (store_of sc old) built h range)
+    (noted_in_range sc old place happened (store_of sc old) h range)
 
 -- ---- what is settled
 
@@ -314,5 +314,5 @@ concluded_serial sc w taken turn built agrees h t =
       facts = each_append (λ (fact : Fact). keeps_serial sc now fact ≡ true) w.facts (noted place turn.happened)
           (facts_stay sc w.facts now place w.facts g agrees.past h.facts)
           (noted_serial sc w.facts now place turn.happened built all h.range t.happened);
-      range = store_in_range sc w.facts place turn.happened built t.happened h.range;
+      range = store_in_range sc w.facts place turn.happened t.happened h.range;
     }
