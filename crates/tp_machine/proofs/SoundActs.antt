@@ -15,7 +15,6 @@ use Rattle.tp_types.specs.declared.records.Record.{Record}
 use Rattle.tp_types.specs.declared.records.Record.TheVariants as log
 use Rattle.tp_types.specs.declared.records.Settled.{Settled}
 use Rattle.tp_types.specs.declared.scenario.Actor.TheVariants as actor
-use Rattle.tp_types.specs.declared.scenario.Item.{Item}
 use Rattle.tp_types.specs.declared.scenario.Query.{Query}
 use Rattle.tp_types.specs.declared.scenario.Scenario.{Scenario}
 use Rattle.tp_types.specs.declared.scenario.ServerDecl.{ServerDecl}
@@ -28,15 +27,15 @@ use Rattle.tp_machine.specs.declared.server.Entry.{Entry}
 use Rattle.tp_machine.specs.declared.server.Server.{Server}
 use Rattle.tp_types.specs.Effect.{Effect}
 use Rattle.tp_machine.specs.Machine.{Acted, acts_by, coordinator_fact, log_with, opened_part, server_fact, with_age}
-use Rattle.tp_machine.specs.Sound.{AreVersions, Each, IsActor, IsBounded, IsServer, IsSoundAuthority, IsSoundBody, IsSoundCoordinatorPart, IsSoundCoordinatorRecord, IsSoundCoordinatorUp, IsSoundDecision, IsSoundEntry, IsSoundLetter, IsSoundServerPart, IsSoundServerRecord, IsSoundServerUp, IsSoundSettled, IsSoundWhat, IsTxn}
+use Rattle.tp_machine.specs.Sound.{AreVersions, Each, IsActor, IsServer, IsSoundAuthority, IsSoundBody, IsSoundCoordinatorPart, IsSoundCoordinatorRecord, IsSoundCoordinatorUp, IsSoundDecision, IsSoundEntry, IsSoundLetter, IsSoundServerPart, IsSoundServerRecord, IsSoundServerUp, IsSoundSettled, IsSoundWhat, IsTxn}
 use Rattle.tp_machine.specs.coord.Opened as coord
 use Rattle.tp_machine.specs.coord.Row.{coordinator_row, submit_row}
 use Rattle.tp_machine.specs.offices.Authority as office
 use Rattle.tp_machine.specs.server.Opened as server
 use Rattle.tp_machine.specs.server.Row.{server_row}
-use Rattle.tp_machine.proofs.SoundBuilt.{IsValid, IsValidItem}
+use Rattle.tp_machine.proofs.SoundBuilt.{IsValid}
 use Rattle.tp_machine.proofs.SoundCoordinator.{IsSoundCoordinatorEffect, coordinator_row_sound, placed_sound, submit_row_sound}
-use Rattle.tp_machine.proofs.SoundLists.{by_cond, each_append, each_drop, each_flat_map, each_get, each_map, each_more, missing, placed_none}
+use Rattle.tp_machine.proofs.SoundLists.{by_cond, each_append, each_drop, each_flat_map, each_get, each_more, missing, placed_none}
 use Rattle.tp_machine.proofs.SoundServer.{IsSoundServerEffect, server_row_sound}
 
 -- ---- what all actors share
@@ -171,7 +170,6 @@ server_opened_sound sc at valid exists =
         sound = record {
           exists = exists;
           known = known_sound sc at (slice_get sc.servers at.0) valid exists refl;
-          values = each_map (IsValidItem sc) IsBounded (λ (item : Item). item.value) (λ item h. h.value) sc.items valid.items;
           settled = placed_none (λ (n : ℕ) (found : Settled). IsSoundSettled sc found) (length sc.txns);
           entries = placed_none (λ (n : ℕ) (found : Entry). IsSoundEntry sc at (record { 0 = n }) found) (length sc.txns);
         };

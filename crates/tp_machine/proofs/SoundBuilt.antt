@@ -7,43 +7,31 @@ use Rattle.std.specs.Ordering.{MatchOrdering}
 use Rattle.std.proofs.lemmas.Bool.Decides.{nat_tests}
 use Rattle.std.proofs.lemmas.Cmp.{int_ranked}
 use Rattle.std.proofs.lemmas.Int.{ints}
-use Rattle.tp_types.specs.declared.ids.ItemId.{ItemId}
 use Rattle.tp_types.specs.declared.ids.Version.{Version}
 use Rattle.tp_types.specs.declared.scenario.Admin.{Admin}
 use Rattle.tp_types.specs.declared.scenario.Item.{Item}
-use Rattle.tp_types.specs.declared.scenario.Query.{Query}
-use Rattle.tp_types.specs.declared.scenario.Query.TheVariants as query
 use Rattle.tp_types.specs.declared.scenario.Scenario.{Scenario}
 use Rattle.tp_types.specs.declared.scenario.Scheme.{Scheme}
 use Rattle.tp_types.specs.declared.scenario.Scheme.TheVariants as scheme
 use Rattle.tp_types.specs.declared.scenario.ServerDecl.{ServerDecl}
-use Rattle.tp_types.specs.declared.scenario.Term.{Term}
 use Rattle.tp_types.specs.declared.scenario.Transaction.{Transaction}
 use Rattle.tp_model.specs.Built.{is_built}
 use Rattle.tp_model.specs.Stage.{is_deferred, is_empty, is_open_policy, is_single, is_view}
-use Rattle.tp_model.specs.Valid.{has_valid_range}
-use Rattle.tp_model.proofs.FirstForm.{are_first_parts, form_built, is_first_admin, is_first_constant, is_first_item, is_first_query, is_first_server, is_first_term, is_first_txn}
-use Rattle.tp_model.specs.Limits.{int_le, is_between, is_value}
-use Rattle.tp_model.specs.Queries.{only, term_value, written_constant}
-use Rattle.tp_machine.specs.Sound.{AreVersions, AreVersionsOf, Each, IsAdmin, IsBounded, IsServer, IsVersionOf, proves_each}
+use Rattle.tp_model.proofs.FirstForm.{are_first_parts, form_built, is_first_admin, is_first_item, is_first_query, is_first_server, is_first_txn}
+use Rattle.tp_model.specs.Queries.{only}
+use Rattle.tp_machine.specs.Sound.{AreVersions, AreVersionsOf, Each, IsAdmin, IsServer, IsVersionOf, proves_each}
 
 -- ---- what is taken
 
--- the item's server and administrator exist, and its value is bounded
+-- the item's server and administrator exist
 pub record IsValidItem (sc : Scenario) (item : Item) : Type 0 where
   pub server : IsServer sc item.server
   pub admin : IsAdmin sc item.admin
-  pub value : IsBounded item.value
 
--- where the query writes a constant, it is bounded
-abbrev pub IsValidQuery : Query → Type 0
-IsValidQuery asked = (value : ℤ) → written_constant asked ≡ Some value → IsBounded value
-
--- what the scenario names exists, and its values are bounded; no query is proved as it runs, which goes when schemes are built
+-- what the scenario names exists; no query is proved as it runs, which goes when schemes are built
 pub record IsValid (sc : Scenario) : Type 0 where
   pub items : Each (IsValidItem sc) sc.items
   pub servers : Each (λ (declared : ServerDecl). AreVersions sc declared.knows) sc.servers
-  pub txns : Each (λ (declared : Transaction). Each IsValidQuery declared.queries) sc.txns
   pub deferred : Each (λ (declared : Transaction). proves_each declared.scheme ≡ false) sc.txns
 
 -- ---- tests
@@ -51,30 +39,6 @@ pub record IsValid (sc : Scenario) : Type 0 where
 -- a number that is tested for being 1 or 0 is that number
 pub number_is : (a b : ℕ) → (a == b) ≡ true → a ≡ b
 number_is a b e = grind (arith, nat_tests)
-
-ranked_le : (x y : ℤ) (r : Ordering) → MatchOrdering r (x <ℤ y) (x ≡ y) (y <ℤ x) → not (is_gt r) ≡ true → x ≤ℤ y
-ranked_le x y Less h e = omega (arith, ints)
-ranked_le x y Equal h e = omega (arith, ints)
-ranked_le x y Greater h e = absurd (cc)
-
--- the test of order gives the order
-le_from_test : (x y : ℤ) → int_le x y ≡ true → x ≤ℤ y
-le_from_test x y e = ranked_le x y (int_cmp x y) (int_ranked x y (int_cmp x y) refl) e
-
--- both orders of a value between two others
-between_is : (low high x : ℤ) → is_between low high x ≡ true → (low ≤ℤ x) × (x ≤ℤ high)
-between_is low high x e =
-    let parts = and_parts (int_le low x) (int_le x high) e in
-    (le_from_test low x parts.0, le_from_test x high parts.1)
-
--- what lies between two values of items is bounded
-bounded_between : (low high x : ℤ) → is_value low ≡ true → is_value high ≡ true → is_between low high x ≡ true → IsBounded x
-bounded_between low high x l h e =
-    let least : neg_ℤ (pos (10 ^ 15)) ≤ℤ low = (between_is (neg_ℤ (pos (10 ^ 15))) (pos (10 ^ 15)) low l).0 in
-    let most : high ≤ℤ pos (10 ^ 15) = (between_is (neg_ℤ (pos (10 ^ 15))) (pos (10 ^ 15)) high h).1 in
-    let above : low ≤ℤ x = (between_is low high x e).0 in
-    let below : x ≤ℤ high = (between_is low high x e).1 in
-    record { low = omega (arith, ints); high = omega (arith, ints) }
 
 -- ---- lists of one member
 
@@ -158,38 +122,10 @@ item_valid : (sc : Scenario) (item : Item) → length sc.servers ≡ 1 → lengt
 item_valid sc item one_server one_admin e =
     let server_is : (item.server.0 == 0) ≡ true = grind arith in
     let admin_is : (item.admin.0 == 0) ≡ true = grind arith in
-    let low : is_value item.min ≡ true = grind arith in
-    let high : is_value item.max ≡ true = grind arith in
-    let within : is_between item.min item.max item.value ≡ true = grind arith in
     record {
       server = omega (arith, number_is item.server.0 0 server_is, one_server);
       admin = omega (arith, number_is item.admin.0 0 admin_is, one_admin);
-      value = bounded_between item.min item.max item.value low high within;
     }
-
-term_parts : (item : Item) (term : Term) → is_first_term item term ≡ true → is_between item.min item.max (term_value term) ≡ true
-term_parts item term e = (and_parts (is_first_constant term.operand) (is_between item.min item.max (term_value term)) e).1
-
--- a write of one constant within an item's range
-write_valid : (item : Item) (id : ItemId) (expr : List Term) → has_valid_range item ≡ true → IsOnly (is_first_term item) expr → IsValidQuery (query.Write id expr)
-write_valid item id expr range only_term value e =
-    let low : is_value item.min ≡ true = grind arith in
-    let high : is_value item.max ≡ true = grind arith in
-    let within : is_between item.min item.max (term_value only_term.member) ≡ true = (term_parts item only_term.member only_term.passes) in
-    let seen : Some (term_value only_term.member) ≡ Some value = subst (λ (terms : List Term). written_constant (query.Write id terms) ≡ Some value) only_term.is_list e in
-    let same : term_value only_term.member ≡ value = grind arith in
-    subst IsBounded same (bounded_between item.min item.max (term_value only_term.member) low high within)
-
-query_valid : (item : Item) (asked : Query) → has_valid_range item ≡ true → is_first_query item asked ≡ true → IsValidQuery asked
-query_valid item (query.Write id expr) range e =
-    let terms : is_single (is_first_term item) expr ≡ true = grind arith in
-    write_valid item id expr range (single_is (is_first_term item) expr terms)
-query_valid item (query.Read id into) range e = absurd (cc)
-
-queries_valid : (item : Item) (queries : List Query) → has_valid_range item ≡ true → IsOnly (is_first_query item) queries → Each IsValidQuery queries
-queries_valid item queries range one =
-    let made : Each IsValidQuery (one.member ∷ []) = (query_valid item one.member range one.passes, tt) in
-    subst (Each IsValidQuery) (sym one.is_list) made
 
 deferred_proves : (s : Scheme) → is_deferred s ≡ true → proves_each s ≡ false
 deferred_proves scheme.Deferred e = refl
@@ -200,12 +136,6 @@ deferred_proves scheme.Incremental e = absurd (cc)
 -- what holds of the only member holds of each
 pub each_of_one : {A : Type 0} (P : A → Type 0) (xs : List A) (x : A) → xs ≡ x ∷ [] → P x → Each P xs
 each_of_one P xs x e h = let made : Each P (x ∷ []) = (h, tt) in subst (Each P) (sym e) made
-
-third_test : (a b c : Bool) → (a && b && c) ≡ true → c ≡ true
-third_test a b c all = grind arith
-
-range_valid : (item : Item) → is_first_item item ≡ true → has_valid_range item ≡ true
-range_valid item e = third_test (item.server.0 == 0) (item.admin.0 == 0) (has_valid_range item) e
 
 -- of six tests that all pass, the second and the last
 pub second_and_last : (a b c d e f : Bool) → (a && b && c && (d && e && f)) ≡ true → (b ≡ true) × (f ≡ true)
@@ -222,13 +152,10 @@ valid_form : (sc : Scenario) → HasForm sc → IsValid sc
 valid_form sc form =
     let one_server : length sc.servers ≡ 1 = count_of sc.servers form.server form.servers_are in
     let one_admin : length sc.admins ≡ 1 = count_of sc.admins form.admins.member form.admins.is_list in
-    let range = range_valid form.item form.item_fits in
     let parts = txn_parts form.server form.item form.txn form.txn_fits in
     record {
       items = each_of_one (IsValidItem sc) sc.items form.item form.items_are (item_valid sc form.item one_server one_admin form.item_fits);
       servers = each_of_one (λ (declared : ServerDecl). AreVersions sc declared.knows) sc.servers form.server form.servers_are (knows_valid sc.admins form.server form.admins form.server_fits);
-      txns = each_of_one (λ (declared : Transaction). Each IsValidQuery declared.queries) sc.txns form.txn form.txns_are
-          (queries_valid form.item form.txn.queries range (single_is (is_first_query form.item) form.txn.queries parts.1));
       deferred = each_of_one (λ (declared : Transaction). proves_each declared.scheme ≡ false) sc.txns form.txn form.txns_are (deferred_proves form.txn.scheme parts.0);
     }
 

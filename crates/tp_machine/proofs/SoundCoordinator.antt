@@ -4,7 +4,6 @@ use Rattle.std.specs.List.{list_all}
 use Rattle.std.proofs.lemmas.Option.{option_and_then_some, same_Some}
 use Rattle.tp_types.specs.declared.ids.ServerId.{ServerId}
 use Rattle.tp_types.specs.declared.ids.TxnId.{TxnId}
-use Rattle.tp_types.specs.declared.mail.Answer.{Answer}
 use Rattle.tp_types.specs.declared.mail.Answer.TheVariants as answer
 use Rattle.tp_types.specs.declared.mail.Body.{Body}
 use Rattle.tp_types.specs.declared.mail.Body.TheVariants as body
@@ -25,15 +24,15 @@ use Rattle.tp_types.specs.declared.scenario.Query.TheVariants as query
 use Rattle.tp_types.specs.declared.scenario.Scenario.{Scenario}
 use Rattle.tp_types.specs.declared.scenario.Transaction.{Transaction}
 use Rattle.tp_model.specs.Stage.{is_empty}
-use Rattle.tp_model.specs.Queries.{item_of, query_at, written_constant}
+use Rattle.tp_model.specs.Queries.{item_of, written_constant}
 use Rattle.tp_machine.specs.declared.coord.Coordinator.{Coordinator}
 use Rattle.tp_machine.specs.declared.coord.Phase.{Phase}
 use Rattle.tp_machine.specs.declared.coord.Phase.TheVariants as phase
 use Rattle.tp_machine.specs.declared.coord.Round.{Round}
 use Rattle.tp_types.specs.Effect.{Effect, silent}
-use Rattle.tp_machine.specs.Sound.{AreSoundVerdicts, Each, HasValue, IsActor, IsBounded, IsItemOf, IsServer, IsSoundAnswer, IsSoundBallot, IsSoundBody, IsSoundCoordinator, IsSoundCoordinatorRecord, IsSoundDeed, IsSoundInstance, IsSoundLetter, IsSoundPhase, IsSoundProof, IsSoundQuery, IsSoundReply, IsSoundRound, IsSoundStaple, IsSoundVerdict, ProvesEach, proves_each, query_in}
+use Rattle.tp_machine.specs.Sound.{AreSoundVerdicts, Each, HasValue, IsActor, IsItemOf, IsServer, IsSoundAnswer, IsSoundBallot, IsSoundBody, IsSoundCoordinator, IsSoundCoordinatorRecord, IsSoundDeed, IsSoundInstance, IsSoundLetter, IsSoundPhase, IsSoundProof, IsSoundQuery, IsSoundReply, IsSoundRound, IsSoundStaple, IsSoundVerdict, ProvesEach, proves_each, query_in}
 use Rattle.tp_machine.specs.coord.Row.{ack_from, answered, are_agreed, asks, asks_first, awaits_query, awaits_vote, begins, closed, commits, coordinator_row, deed_of, done_of, first_round, is_from, is_last_write, is_true_verdict, judged, next_turn, on_ack, on_body, on_done, on_tell, on_vote, placed, plain_value, prepare_letter, prepares, query_of, ran, replied, request, sends_first, server_of, staple_of, submit_row, told, vote_at, voted, with_reply, without}
-use Rattle.tp_machine.proofs.SoundBuilt.{IsValid, IsValidItem, IsValidQuery}
+use Rattle.tp_machine.proofs.SoundBuilt.{IsValid, IsValidItem}
 use Rattle.tp_machine.proofs.SoundLists.{by_cond, each_filter, each_get, each_map, each_more, each_passing}
 
 -- what a coordinator's act leaves is sound: its state, still of the same transaction, what it forces and what it sends
@@ -75,17 +74,6 @@ server_found sc asked server (Some item) valid e f =
     }
 server_found sc asked server None valid e f = absurd (cc)
 
-query_holds_at : (P : Query → Type 0) (declared : Transaction) (number : ℕ) (asked : Query) → Each P declared.queries → query_at declared number ≡ Some asked → P asked
-query_holds_at P declared zero asked h e = absurd (cc)
-query_holds_at P declared (suc before) asked h e = each_get P declared.queries before asked h e
-
--- what holds of each query of each transaction holds of one that is found
-query_holds : (P : Query → Type 0) (sc : Scenario) (txn : TxnId) (number : ℕ) (asked : Query) → Each (λ (declared : Transaction). Each P declared.queries) sc.txns
-    → query_in sc txn number ≡ Some asked → P asked
-query_holds P sc txn number asked h e =
-    option_and_then_some (λ (declared : Transaction). query_at declared number) (slice_get sc.txns txn.0) asked e
-    (λ declared found at. query_holds_at P declared number asked (each_get (λ (d : Transaction). Each P d.queries) sc.txns txn.0 declared h found) at)
-
 -- no transaction is proved as it runs
 proves_none : (sc : Scenario) (txn : TxnId) (found : Option Transaction) → IsValid sc → slice_get sc.txns txn.0 ≡ found
     → option_map (λ (declared : Transaction). proves_each declared.scheme) found ≡ Some true → ⊥
@@ -106,7 +94,6 @@ sends_first_sound : (sc : Scenario) (c : Coordinator) (asked : Query) (server : 
     → query_in sc c.txn 1 ≡ Some asked → server_of sc asked ≡ server → written_constant asked ≡ value → IsSoundCoordinatorEffect sc c (sends_first c server value)
 sends_first_sound sc c asked (Some server) (Some value) valid h e f g =
     let at : IsServerOf sc asked server = server_found sc asked server (slice_get sc.items (item_of asked).0) valid refl f in
-    let bounded : IsBounded value = query_holds IsValidQuery sc c.txn 1 asked valid.txns e value g in
     let asks_of : IsSoundQuery sc (actor.Server server)
     (record { txn = c.txn; turn = next_turn c; query = 1; age = None; epoch = None; value = Some value; staple = None; pin = None }) =
     record {
@@ -117,7 +104,6 @@ sends_first_sound sc c asked (Some server) (Some value) valid h e f g =
       goes_to = refl;
       kept = at.kept;
       has_value = has_value asked value;
-      value = bounded;
       stapled = λ each. absurd (not_each sc c.txn valid each);
       staple = tt;
       pin = tt;
@@ -154,31 +140,22 @@ asks_sound sc c h =
     }
 
 ran_sound : (sc : Scenario) (c : Coordinator) (server : ServerId) (done : DoneReply) (asked : Query) (value : ℤ) → IsSoundCoordinator sc c
-    → query_in sc c.txn done.query ≡ Some asked → IsBounded value → IsSoundCoordinator sc (ran c server done asked value)
-ran_sound sc c server done asked value h e bounded =
+    → query_in sc c.txn done.query ≡ Some asked → IsSoundCoordinator sc (ran c server done asked value)
+ran_sound sc c server done asked value h e =
     record {
       exists = h.exists;
       servers = h.servers;
-      deeds = each_more (IsSoundDeed sc c.txn) c.deeds (deed_of done.query asked value) h.deeds (record { asked = asked; asked_is = e; item_is = refl; value = bounded });
+      deeds = each_more (IsSoundDeed sc c.txn) c.deeds (deed_of done.query asked value) h.deeds (record { asked = asked; asked_is = e; item_is = refl });
       gathered = h.gathered;
       instances = h.instances;
       awaits = h.awaits;
     }
 
-plain_bounded : (sc : Scenario) (txn : TxnId) (said : Answer) (value : ℤ) → IsSoundAnswer sc txn said → plain_value said ≡ Some value → IsBounded value
-plain_bounded sc txn (answer.Ran held None) value h e = subst IsBounded (same_Some held value e) h.0
-plain_bounded sc txn (answer.Ran held (Some verdict)) value h e = absurd (cc)
-plain_bounded sc txn (answer.Denied verdict) value h e = absurd (cc)
-plain_bounded sc txn (answer.Newer newer) value h e = absurd (cc)
-plain_bounded sc txn (answer.Died other) value h e = absurd (cc)
-plain_bounded sc txn answer.Restarted value h e = absurd (cc)
-
 answered_sound : (sc : Scenario) (c : Coordinator) (from : Actor) (done : DoneReply) (asked : Query) (server : Option ServerId) (value : Option ℤ) → IsSoundCoordinator sc c
     → IsSoundAnswer sc done.txn done.answer → query_in sc c.txn done.query ≡ Some asked → plain_value done.answer ≡ value
     → IsSoundCoordinatorEffect sc c (answered sc c from done asked server value)
 answered_sound sc c from done asked (Some server) (Some value) h m e f =
-    let bounded : IsBounded value = plain_bounded sc done.txn done.answer value m f in
-    let next : IsSoundCoordinator sc (ran c server done asked value) = ran_sound sc c server done asked value h e bounded in
+    let next : IsSoundCoordinator sc (ran c server done asked value) = ran_sound sc c server done asked value h e in
     let asked_on : IsSoundCoordinatorEffect sc (ran c server done asked value) (asks (ran c server done asked value)) = asks_sound sc (ran c server done asked value) next in
     by_cond (IsSoundCoordinatorEffect sc c) (is_from from server && is_last_write sc c asked done.query)
     (λ last. record { same_txn = refl; state_is = asked_on.state_is; forces = tt; sends_only = asked_on.sends_only })

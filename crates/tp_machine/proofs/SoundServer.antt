@@ -14,8 +14,6 @@ use Rattle.tp_types.specs.declared.mail.PrepareRequest.{PrepareRequest}
 use Rattle.tp_types.specs.declared.mail.QueryRequest.{QueryRequest}
 use Rattle.tp_types.specs.declared.policy.Action.TheVariants as action
 use Rattle.tp_types.specs.declared.records.Deed.{Deed}
-use Rattle.tp_types.specs.declared.records.Outcome.{Outcome}
-use Rattle.tp_types.specs.declared.records.Outcome.TheVariants.{Commit}
 use Rattle.tp_types.specs.declared.records.Settled.{Settled}
 use Rattle.tp_types.specs.declared.records.Staple.{Staple}
 use Rattle.tp_types.specs.declared.scenario.Actor.TheVariants as actor
@@ -26,10 +24,10 @@ use Rattle.tp_model.specs.Queries.{item_of}
 use Rattle.tp_machine.specs.declared.server.Entry.{Entry}
 use Rattle.tp_machine.specs.declared.server.Server.{Server}
 use Rattle.tp_types.specs.Effect.{Effect, silent}
-use Rattle.tp_machine.specs.Sound.{AreSoundVerdicts, AreVersionsOf, Each, IsAdmin, IsBounded, IsItemOf, IsSoundBody, IsSoundDeedAt, IsSoundDone, IsSoundEntry, IsSoundLetter, IsSoundQuery, IsSoundServer, IsSoundServerRecord, IsSoundSettled, IsSoundVerdict, IsTxn, IsVersion, IsVersionOf, query_in}
-use Rattle.tp_machine.specs.server.Row.{admin_of, applied, applied_deed, asked_item, begins, committed, done, entry_at, first_entry, is_open, is_write, may_prepare, on_body, on_decide, on_prepare, on_query, plain_write, queried, reply, server_row, settled_as, settles, verdict_on, version_known, votes, asked_to_vote}
+use Rattle.tp_machine.specs.Sound.{AreSoundVerdicts, AreVersionsOf, Each, IsAdmin, IsItemOf, IsSoundBody, IsSoundDeedAt, IsSoundDone, IsSoundEntry, IsSoundLetter, IsSoundQuery, IsSoundServer, IsSoundServerRecord, IsSoundSettled, IsSoundVerdict, IsTxn, IsVersion, IsVersionOf, query_in}
+use Rattle.tp_machine.specs.server.Row.{admin_of, asked_item, begins, done, entry_at, first_entry, is_open, may_prepare, on_body, on_decide, on_prepare, on_query, plain_write, queried, reply, server_row, settled_as, settles, verdict_on, version_known, votes, asked_to_vote}
 use Rattle.tp_machine.proofs.SoundBuilt.{IsValid, IsValidItem}
-use Rattle.tp_machine.proofs.SoundLists.{by_cond, each_get, each_map, each_set, placed_emptied, placed_set}
+use Rattle.tp_machine.proofs.SoundLists.{by_cond, each_get, each_map, placed_emptied, placed_set}
 
 -- what a server's act leaves is sound: its state, still of the same server, what it forces and what it sends
 pub record IsSoundServerEffect (sc : Scenario) (s : Server) (effect : Effect Server) : Type 0 where
@@ -78,17 +76,16 @@ begins_sound sc s sent q (Some deed) h m e =
     let d : IsAskedDeed q (asked_item sc q) deed = asked_deed q (asked_item sc q) q.value deed refl e in
     let item_is : deed.item ≡ item_of m.asked = same_Some deed.item (item_of m.asked) (sym d.item_is ∙ ap (option_map item_of) m.asked_is) in
     let at_is : m.at ≡ s.server = cc in
-    let bounded : IsBounded deed.value = subst (λ (v : Option ℤ). IfSome v IsBounded) d.value_is m.value in
     let kept : IsItemOf sc s.server deed.item = subst (IsItemOf sc s.server) (sym item_is) (subst (λ (at : ServerId). IsItemOf sc at (item_of m.asked)) at_is m.kept) in
     let asked_is : query_in sc q.txn deed.query ≡ Some m.asked = subst (λ (n : ℕ). query_in sc q.txn n ≡ Some m.asked) (sym d.query_is) m.asked_is in
     let deed_sound : IsSoundDeedAt sc s.server q.txn deed =
-    record { sound = record { asked = m.asked; asked_is = asked_is; item_is = item_is; value = bounded }; kept = kept } in
+    record { sound = record { asked = m.asked; asked_is = asked_is; item_is = item_is }; kept = kept } in
     let done_sound : IsSoundDone sc (actor.Coordinator q.txn) (done q s.epoch deed) =
     record {
       txn = m.txn;
       goes_to = refl;
       query = record { asked = m.asked; asked_is = m.asked_is };
-      answer_is_sound = (bounded, tt);
+      answer_is_sound = tt;
       proved = λ each. let stapled = m.stapled each in let unstapled = d.unstapled in absurd (cc);
     } in
     record {
@@ -96,7 +93,6 @@ begins_sound sc s sent q (Some deed) h m e =
       state_is = record {
         exists = h.exists;
         known = h.known;
-        values = h.values;
         settled = h.settled;
         entries = placed_set (λ (n : ℕ) (found : Entry). IsSoundEntry sc s.server (record { 0 = n }) found) s.entries q.txn.0 (first_entry s sent q deed) h.entries
             (record { answers = (done_sound, tt); waiting = tt; deeds = (deed_sound, tt); ballot = tt });
@@ -167,7 +163,6 @@ casts_sound sc s p place entry valid h exists k =
       state_is = record {
         exists = h.exists;
         known = h.known;
-        values = h.values;
         settled = h.settled;
         entries = placed_set (λ (n : ℕ) (found : Entry). IsSoundEntry sc s.server (record { 0 = n }) found) s.entries p.txn.0 _ h.entries
             (record { answers = k.answers; waiting = k.waiting; deeds = k.deeds; ballot = verdicts });
@@ -192,18 +187,6 @@ prepare_sound sc s p valid h exists =
 
 -- ---- Decide
 
-applied_bounded : (sc : Scenario) (at : ServerId) (txn : TxnId) (values : List ℤ) (deeds : List Deed) → Each IsBounded values → Each (IsSoundDeedAt sc at txn) deeds → Each IsBounded (applied values deeds)
-applied_bounded sc at txn values [] h d = h
-applied_bounded sc at txn values (deed ∷ deeds) h d =
-    let next : Each IsBounded (applied_deed values deed) =
-    by_cond (Each IsBounded) (is_write deed.action) (λ write. each_set IsBounded values deed.item.0 deed.value h d.0.sound.value) (λ read. h) in
-    applied_bounded sc at txn (applied_deed values deed) deeds next d.1
-
-committed_bounded : (sc : Scenario) (s : Server) (txn : TxnId) (outcome : Outcome) (entry : Option Entry) → IsSoundServer sc s → entry_at s txn ≡ entry
-    → Each IsBounded (committed s.values outcome entry)
-committed_bounded sc s txn Commit (Some entry) h e = applied_bounded sc s.server txn s.values entry.deeds h.values (h.entries txn.0 entry e).deeds
-committed_bounded sc s txn _ _ h e = h.values
-
 settles_sound : (sc : Scenario) (s : Server) (d : DecideRequest) → IsSoundServer sc s → IsTxn sc d.txn → IsSoundServerEffect sc s (settles s d)
 settles_sound sc s d h exists =
     let settled : IsSoundSettled sc (settled_as d) = record { txn = exists; why = tt } in
@@ -212,7 +195,6 @@ settles_sound sc s d h exists =
       state_is = record {
         exists = h.exists;
         known = h.known;
-        values = committed_bounded sc s d.txn d.outcome (entry_at s d.txn) h refl;
         settled = placed_set (λ (n : ℕ) (found : Settled). IsSoundSettled sc found) s.settled d.txn.0 (settled_as d) h.settled settled;
         entries = placed_emptied (λ (n : ℕ) (found : Entry). IsSoundEntry sc s.server (record { 0 = n }) found) s.entries d.txn.0 h.entries;
       };

@@ -1,5 +1,5 @@
 -- What is asked of each mail, record and fact of a world: that all they name exists, and that their values are bounded.
-use Rattle.std.specs.Prelude.{◌≡◌, ℕ, ◌*◌, ◌^◌, ◌<◌, ◌≤◌, List, [], ◌∷◌, length, slice_get, Bool, true, false, Option, Some, is_some, IfSome, option_map, option_and_then, ℤ, pos, neg_ℤ, ◌≤ℤ◌}
+use Rattle.std.specs.Prelude.{◌≡◌, ℕ, ◌<◌, ◌≤◌, List, [], ◌∷◌, length, slice_get, Bool, true, false, Option, Some, is_some, IfSome, option_map, option_and_then, ℤ}
 use Rattle.tp_types.specs.declared.fact.Fact.{Fact}
 use Rattle.tp_types.specs.declared.fact.What.{What}
 use Rattle.tp_types.specs.declared.fact.What.TheVariants as what
@@ -146,15 +146,6 @@ AreVersionsOf _ _ = ⊥
 abbrev pub AreVersions : Scenario → List Version → Type 0
 AreVersions sc versions = AreVersionsOf sc.admins versions
 
--- sixteen queries of five terms each, with constants below 10^15, stay within this
-abbrev pub value_bound : ℤ
-value_bound = pos (2 * 10 ^ 26)
-
--- the value is so small that no sum of a transaction overflows
-pub record IsBounded (value : ℤ) : Type 0 where
-  pub low : neg_ℤ value_bound ≤ℤ value
-  pub high : value ≤ℤ value_bound
-
 -- ---- queries
 
 -- a transaction's query by its number; None where there is no such query
@@ -236,12 +227,11 @@ pub record IsSoundNewer (sc : Scenario) (newer : Newer) : Type 0 where
 
 -- ---- deeds
 
--- the deed is of a query of the transaction, on that query's item, and its value is bounded
+-- the deed is of a query of the transaction, on that query's item
 pub record IsSoundDeed (sc : Scenario) (txn : TxnId) (deed : Deed) : Type 0 where
   pub asked : Query
   pub asked_is : query_in sc txn deed.query ≡ Some asked
   pub item_is : deed.item ≡ item_of asked
-  pub value : IsBounded deed.value
 
 -- a sound deed on an item of this server
 pub record IsSoundDeedAt (sc : Scenario) (at : ServerId) (txn : TxnId) (deed : Deed) : Type 0 where
@@ -264,7 +254,6 @@ pub record IsSoundQuery (sc : Scenario) (to : Actor) (q : QueryRequest) : Type 0
   pub goes_to : to ≡ actor.Server at
   pub kept : IsItemOf sc at (item_of asked)
   pub has_value : HasValue asked q.value
-  pub value : IfSome q.value IsBounded
   pub stapled : ProvesEach sc q.txn → is_some q.staple ≡ true
   pub staple : IfSome q.staple (IsSoundStaple sc)
   pub pin : IfSome q.pin (IsVersion sc kept.declared.admin)
@@ -274,9 +263,9 @@ abbrev pub HasVerdict : Answer → Type 0
 HasVerdict (answer.Ran value verdict) = is_some verdict ≡ true
 HasVerdict _ = Unit {0}
 
--- the answer's value is bounded; its verdict, versions and transaction exist
+-- the answer's verdict, versions and transaction exist
 abbrev pub IsSoundAnswer : Scenario → TxnId → Answer → Type 0
-IsSoundAnswer sc txn (answer.Ran value verdict) = IsBounded value × IfSome verdict (IsSoundVerdict sc txn)
+IsSoundAnswer sc txn (answer.Ran value verdict) = IfSome verdict (IsSoundVerdict sc txn)
 IsSoundAnswer sc txn (answer.Denied verdict) = IsSoundVerdict sc txn verdict
 IsSoundAnswer sc txn (answer.Newer newer) = IsSoundNewer sc newer
 IsSoundAnswer sc txn (answer.Died other) = IsTxn sc other
@@ -325,9 +314,9 @@ pub record IsSoundPrepare (sc : Scenario) (to : Actor) (p : PrepareRequest) : Ty
   pub staple : IfSome p.staple (IsSoundStaple sc)
   pub want : AreWanted sc p.want
 
--- a query that left its range is one of the transaction, and its value is bounded
+-- a query that left its range is one of the transaction
 abbrev pub IsSoundNo : Scenario → TxnId → No → Type 0
-IsSoundNo sc txn (no.Range number value) = IsQuery sc txn number × IsBounded value
+IsSoundNo sc txn (no.Range number value) = IsQuery sc txn number
 IsSoundNo sc txn _ = Unit {0}
 
 -- a vote's verdicts, or its reason, are sound
@@ -420,10 +409,9 @@ pub record IsSoundDenied (sc : Scenario) (txn : TxnId) (denied : Denied) : Type 
   pub query : IsQueryAt sc txn denied.query denied.server denied.admin
   pub version : IsVersion sc denied.admin denied.version
 
--- the query is of the transaction, with its server, and the value is bounded
+-- the query is of the transaction, with its server
 pub record IsSoundOutOfRange (sc : Scenario) (txn : TxnId) (left : OutOfRange) : Type 0 where
   pub query : IsQueryOf sc txn left.query left.server
-  pub value : IsBounded left.value
 
 -- the query is of the transaction, with its server, and the other transaction exists
 pub record IsSoundDied (sc : Scenario) (txn : TxnId) (died : Died) : Type 0 where
@@ -485,11 +473,10 @@ pub record IsSoundEntry (sc : Scenario) (at : ServerId) (txn : TxnId) (entry : E
   pub deeds : Each (IsSoundDeedAt sc at txn) entry.deeds
   pub ballot : IfSome entry.ballot (λ (cast : Ballot). AreSoundVerdicts sc txn cast.verdicts)
 
--- a server's state: it exists, and what it knows, holds and keeps of each transaction is sound
+-- a server's state: it exists, and what it knows and keeps of each transaction is sound
 pub record IsSoundServer (sc : Scenario) (s : Server) : Type 0 where
   pub exists : IsServer sc s.server
   pub known : AreVersions sc s.known
-  pub values : Each IsBounded s.values
   pub settled : EachPlaced (λ (n : ℕ) (done : Settled). IsSoundSettled sc done) s.settled
   pub entries : EachPlaced (λ (n : ℕ) (entry : Entry). IsSoundEntry sc s.server (record { 0 = n }) entry) s.entries
 
