@@ -29,7 +29,7 @@ use Rattle.tp_machine.specs.server.Opened as server
 use Rattle.tp_machine.specs.server.Row.{server_row}
 use Rattle.tp_machine.proofs.AgreeWorld.{Agrees, BodyRests, MailRests, TurnAgrees, concluded_agrees, submitted_count, submitted_up}
 use Rattle.tp_machine.proofs.AgreeActs.{MaySettle, SaysOnly, server_acts_agrees, unmoved_agrees}
-use Rattle.tp_machine.proofs.AgreeCoordinator.{CoordinatorAgrees, coordinator_row_lawful, submit_row_lawful}
+use Rattle.tp_machine.proofs.AgreeCoordinator.{CoordinatorAgrees, coordinator_row_lawful, submit_row_lawful, SubmissionLawful}
 use Rattle.tp_machine.proofs.AgreeCoordinatorActs.{coordinator_acts_agrees, received_lawful, submission_lawful}
 use Rattle.tp_machine.proofs.AgreeServer.{IsReply, IsUnsettled, OrderRests, ServerAgrees, server_row_lawful}
 use Rattle.tp_machine.proofs.LogLemmas.{listed}
@@ -81,14 +81,19 @@ tells_reply authority _ = tt
 
 -- ---- submissions
 
+pub begun_lawful : (sc : Scenario) (w : State) → is_built sc ≡ true → IsSound sc w → Agrees sc w → (txn : TxnId) (part : Part Coordinator) (c : Coordinator) → IsTxn sc txn → IsCoordinatorUp w txn part c
+    → is_part_submitted (Some c) ≡ false → SubmissionLawful sc c part.log (with_age (submit_row sc c) (length w.steps))
+begun_lawful sc w built sound h txn part c exists up new =
+    submit_row_lawful sc c part.log (length w.steps) (coordinator_agrees sc w txn part c h up) new
+    (first_row_begins sc c built (subst (IsTxn sc) (sym (own_txn sc w txn part c sound up.found up.up)) exists))
+
 begun_agrees : (sc : Scenario) (w : State) → is_built sc ≡ true → IsSound sc w → Agrees sc w → (txn : TxnId) (part : Part Coordinator) (c : Coordinator) → IsTxn sc txn → IsCoordinatorUp w txn part c
     → is_part_submitted (Some c) ≡ false
     → TurnAgrees sc w (coordinator_acted w.actors txn (acts_by coordinator_fact (what.Submitted txn ∷ []) part.log (with_age (submit_row sc c) (length w.steps))))
 begun_agrees sc w built sound h txn part c exists up new =
     let own : c.txn ≡ txn = own_txn sc w txn part c sound up.found up.up in
     coordinator_acts_agrees sc w txn part c (what.Submitted txn ∷ []) (with_age (submit_row sc c) (length w.steps)) h up.found up.up
-    (submission_lawful sc w txn part c (with_age (submit_row sc c) (length w.steps)) own new
-    (submit_row_lawful sc c part.log (length w.steps) (coordinator_agrees sc w txn part c h up) new (first_row_begins sc c built (subst (IsTxn sc) (sym own) exists))))
+    (submission_lawful sc w txn part c (with_age (submit_row sc c) (length w.steps)) own new (begun_lawful sc w built sound h txn part c exists up new))
 
 -- ---- steps
 

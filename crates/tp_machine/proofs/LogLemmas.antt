@@ -1,5 +1,5 @@
 -- Laws of what logs say as they grow, and of look-ups in lists of which one member changes.
-use Rattle.std.proofs.Common.{◌≡◌, ℕ, zero, suc, ◌==◌, List, [], ◌∷◌, ◌++◌, length, drop, flat_map, slice_get, slice_set, Bool, true, false, Option, Some, None, option_and_then, if◌then◌else◌, refl, sym, ap, ◌∙◌, arith}
+use Rattle.std.proofs.Common.{◌≡◌, ℕ, zero, suc, ◌==◌, List, [], ◌∷◌, ◌++◌, length, drop, flat_map, slice_get, slice_set, Bool, true, false, Option, Some, None, option_and_then, if◌then◌else◌, refl, sym, ap, ◌∙◌, arith, is_some}
 use Rattle.std.specs.Option.{option_map_or}
 use Rattle.std.proofs.lemmas.Bool.Decides.{nat_tests}
 use Rattle.std.proofs.lemmas.Option.{same_Some}
@@ -7,9 +7,11 @@ use Rattle.tp_types.specs.declared.fact.What.{What}
 use Rattle.tp_types.specs.declared.ids.TxnId.{TxnId}
 use Rattle.tp_types.specs.declared.records.Record.{Record}
 use Rattle.tp_model.specs.Facts.{first_of}
-use Rattle.tp_machine.specs.Logs.{decided_in, decision_in, preparation_in, prepared_in, settled_in, settlement_in}
+use Rattle.tp_machine.specs.Logs.{decided_in, decision_in, preparation_in, voted_in, settled_in, settlement_in, has_voted, is_prepared_or_settled, while_unsettled, prepared_in}
 use Rattle.tp_machine.specs.Machine.{log_with}
 use Rattle.tp_machine.proofs.FactLemmas.{append_none}
+use Rattle.tp_types.specs.declared.records.Settled.{Settled}
+use Rattle.tp_types.specs.declared.records.Prepared.{Prepared}
 
 -- ---- the first of two
 
@@ -62,14 +64,41 @@ pub settled_with : (txn : TxnId) (kept : List Record) (append : Option Record) �
 settled_with txn kept None = sym (first_none (settled_in txn kept))
 settled_with txn kept (Some forced) = settled_push txn kept forced
 
-prepared_push : (txn : TxnId) (kept : List Record) (forced : Record) → prepared_in txn (kept ++ forced ∷ []) ≡ first_of (preparation_in txn forced) (prepared_in txn kept)
-prepared_push txn [] forced = sym (first_none (preparation_in txn forced))
-prepared_push txn (first ∷ kept) forced =
-    ap (λ found. first_of found (preparation_in txn first)) (prepared_push txn kept forced) ∙ first_first (preparation_in txn forced) (prepared_in txn kept) (preparation_in txn first)
+voted_push : (txn : TxnId) (kept : List Record) (forced : Record) → voted_in txn (kept ++ forced ∷ []) ≡ first_of (preparation_in txn forced) (voted_in txn kept)
+voted_push txn [] forced = sym (first_none (preparation_in txn forced))
+voted_push txn (first ∷ kept) forced =
+    ap (λ found. first_of found (preparation_in txn first)) (voted_push txn kept forced) ∙ first_first (preparation_in txn forced) (voted_in txn kept) (preparation_in txn first)
 
-pub prepared_with : (txn : TxnId) (kept : List Record) (append : Option Record) → prepared_in txn (log_with kept append) ≡ first_of (appended (preparation_in txn) append) (prepared_in txn kept)
-prepared_with txn kept None = refl
-prepared_with txn kept (Some forced) = prepared_push txn kept forced
+pub voted_with : (txn : TxnId) (kept : List Record) (append : Option Record) → voted_in txn (log_with kept append) ≡ first_of (appended (preparation_in txn) append) (voted_in txn kept)
+voted_with txn kept None = refl
+voted_with txn kept (Some forced) = voted_push txn kept forced
+
+-- a record keeps what is prepared or settled so
+voted_more : (settled more : Option Settled) (voted new : Option Prepared) → is_prepared_or_settled settled voted ≡ true → is_prepared_or_settled (first_of settled more) (first_of new voted) ≡ true
+voted_more (Some s) more voted new e = refl
+voted_more None (Some s) voted new e = refl
+voted_more None None None new e = absurd (cc)
+voted_more None None (Some p) None e = refl
+voted_more None None (Some p) (Some q) e = refl
+
+pub has_voted_with : (txn : TxnId) (kept : List Record) (append : Option Record) → has_voted txn kept ≡ true → has_voted txn (log_with kept append) ≡ true
+has_voted_with txn kept append e =
+    ap (λ (s : Option Settled). is_prepared_or_settled s (voted_in txn (log_with kept append))) (settled_with txn kept append)
+    ∙ (ap (is_prepared_or_settled (first_of (settled_in txn kept) (appended (settlement_in txn) append))) (voted_with txn kept append)
+    ∙ voted_more (settled_in txn kept) (appended (settlement_in txn) append) (voted_in txn kept) (appended (preparation_in txn) append) e)
+
+-- what is prepared on a log after a record
+pub prepared_with : (txn : TxnId) (kept : List Record) (append : Option Record) → prepared_in txn (log_with kept append)
+    ≡ while_unsettled (first_of (settled_in txn kept) (appended (settlement_in txn) append)) (first_of (appended (preparation_in txn) append) (voted_in txn kept))
+prepared_with txn kept append =
+    ap (λ (s : Option Settled). while_unsettled s (voted_in txn (log_with kept append))) (settled_with txn kept append)
+    ∙ ap (while_unsettled (first_of (settled_in txn kept) (appended (settlement_in txn) append))) (voted_with txn kept append)
+
+-- what has voted and is not settled is prepared
+pub voted_open : (settled : Option Settled) (voted : Option Prepared) → settled ≡ None → is_prepared_or_settled settled voted ≡ true → is_some (while_unsettled settled voted) ≡ true
+voted_open (Some s) voted e h = absurd (cc)
+voted_open None None e h = absurd (cc)
+voted_open None (Some p) e h = refl
 
 -- ---- what a log gained
 

@@ -30,27 +30,29 @@ use Rattle.tp_machine.specs.declared.coord.Phase.TheVariants as phase
 use Rattle.tp_machine.specs.declared.part.Part.{Part}
 use Rattle.tp_machine.specs.declared.server.Server.{Server}
 use Rattle.tp_types.specs.Effect.{Effect}
-use Rattle.tp_machine.specs.Logs.{decided_by, decided_in, decision_in, preparation_in, prepared_at, prepared_by, prepared_in}
+use Rattle.tp_machine.specs.Logs.{decided_at, decided_by, decided_in, decision_in, has_voted, prepared_in, settled_in, voted_in, while_unsettled, settlement_in, preparation_in}
 use Rattle.tp_machine.specs.Machine.{State, acts_by, coordinator_acted, coordinator_fact, log_with, server_acted, server_fact}
 use Rattle.tp_machine.specs.Sound.{Each, EachAt, IsTxn}
 use Rattle.tp_machine.specs.coord.Opened.{servers_at}
 use Rattle.tp_machine.specs.coord.Row.{is_awaited}
-use Rattle.tp_machine.proofs.AgreeWorld.{Agrees, DecidedAs}
+use Rattle.tp_machine.proofs.AgreeWorld.{Agrees, DecidedAs, SettledRests}
 use Rattle.tp_machine.proofs.AgreeActs.{MaySettle, number_itself, same_txn_is, told_by}
 use Rattle.tp_machine.proofs.AgreeCoordinatorActs.{told_of}
 use Rattle.tp_machine.proofs.AgreeServer.{RecordRests}
 use Rattle.tp_machine.proofs.FactLemmas.{commit_found, first_commit, filter_all}
-use Rattle.tp_machine.proofs.LogLemmas.{appended, decided_with, gained, listed, look_set, prepared_with}
-use Rattle.tp_machine.proofs.SerialWorld.{CoordinatorPartSerial, HoldsValues, IsPlannedCommit, IsPrepared, Serial, ServerPartSerial, ServerUpSerial, StaysPrepared, TurnSerial, WhatSerial, overlaid_by}
+use Rattle.tp_machine.proofs.LogLemmas.{appended, decided_with, gained, listed, prepared_with, has_voted_with, voted_open, get_set}
+use Rattle.tp_machine.proofs.SerialWorld.{CoordinatorPartSerial, HoldsValues, IsPlannedCommit, HasVoted, Serial, ServerPartSerial, ServerUpSerial, StaysVoted, TurnSerial, WhatSerial, overlaid_by, VotedBy}
 use Rattle.tp_machine.proofs.SerialCoordinator.{CoordinatorSerial, PhaseVoted}
 use Rattle.tp_machine.proofs.SerialLists.{at_changed, each_of_all, fold_both, fold_keeps, same_set, set_elsewhere}
 use Rattle.tp_machine.proofs.SerialPlan.{CommitSerial, DecisionSerial, LetterSerial, RecordPlanned, RecordSerial, is_at, letters_stay, planned, planned_at, planned_what, IsInRange, IsTested}
-use Rattle.tp_machine.proofs.SerialServer.{HasPrepared, ServerKeeps}
+use Rattle.tp_machine.proofs.SerialServer.{ServerVoted, ServerKeeps}
 use Rattle.tp_machine.proofs.SoundLists.{at_set, by_cond, each_append, each_as, missing}
 use Rattle.tp_machine.proofs.AmongServers.{among_servers}
 use Rattle.tp_machine.proofs.SerialBuilt.{first_server, has_item_at_one_server, one_server, planned_at_one_server}
 use Rattle.tp_types.specs.declared.scenario.Transaction.{Transaction}
 use Rattle.tp_model.specs.Built.{is_built}
+use Rattle.tp_types.specs.declared.records.Settled.{Settled}
+use Rattle.tp_machine.proofs.AgreeCoordinator.{IsFirst}
 
 -- ---- no commit
 
@@ -89,7 +91,7 @@ servers_stay : (sc : Scenario) (w : State) (happened : List What) → Serial sc 
 servers_stay sc w happened h u n part e = subst (λ (store : List ℤ). ServerPartSerial sc store (record { 0 = n }) part) (sym (store_stays sc happened (overlaid sc w.facts) u)) (h.servers n part e)
 
 -- a turn in which the servers and the coordinators stay
-pub unmoved_serial : (sc : Scenario) (w : State) (happened : List What) (letters : List Letter) → Serial sc w → Each IsQuiet happened → Each (LetterSerial sc (IsPrepared w.actors.servers)) letters
+pub unmoved_serial : (sc : Scenario) (w : State) (happened : List What) (letters : List Letter) → Serial sc w → Each IsQuiet happened → Each (LetterSerial sc (HasVoted w.actors.servers)) letters
     → TurnSerial sc w (record { actors = w.actors; happened = happened; letters = letters })
 unmoved_serial sc w happened letters h q l =
     record {
@@ -106,15 +108,15 @@ unmoved_serial sc w happened letters h q l =
 -- a commit that was decided is planned, and each of its servers has prepared
 pub record IsServedCommit (sc : Scenario) (w : State) (txn : TxnId) : Type 0 where
   pub plan : IsPlannedCommit sc w.facts txn
-  pub prepared : Each (IsPrepared w.actors.servers txn) (servers_at sc txn)
+  pub prepared : Each (HasVoted w.actors.servers txn) (servers_at sc txn)
 
 decided_serves : (sc : Scenario) (w : State) (txn : TxnId) (part : Part Coordinator) (decided : Option Decision) → Agrees sc w → Serial sc w → slice_get w.actors.coordinators txn.0 ≡ Some part
     → decided_in part.log ≡ decided → option_map outcome_of decided ≡ Some outcome.Commit → IsServedCommit sc w txn
 decided_serves sc w txn part None agrees h found e d = absurd (cc)
 decided_serves sc w txn part (Some (decision.Abort why)) agrees h found e d = absurd (cc)
 decided_serves sc w txn part (Some (decision.Commit committed)) agrees h found e d =
-    let here : CommitSerial sc (IsPrepared w.actors.servers txn) txn committed =
-    subst (λ (x : Option Decision). IfSome x (DecisionSerial sc (IsPrepared w.actors.servers txn) txn)) e (h.coordinators txn.0 part found).decided in
+    let here : CommitSerial sc (HasVoted w.actors.servers txn) txn committed =
+    subst (λ (x : Option Decision). IfSome x (DecisionSerial sc (HasVoted w.actors.servers txn) txn)) e (h.coordinators txn.0 part found).decided in
     record {
       plan = record {
         committed = committed;
@@ -147,12 +149,12 @@ decision_stays : (sc : Scenario) (P Q : ServerId → Type 0) (txn : TxnId) (deci
 decision_stays sc P Q txn (decision.Commit committed) stays h = record { deeds = h.deeds; prepared = each_as P Q stays (servers_at sc txn) h.prepared }
 decision_stays sc P Q txn _ stays h = tt
 
-coordinator_stays : (sc : Scenario) (old new : List (Part Server)) (txn : TxnId) (part : Part Coordinator) → StaysPrepared old new → CoordinatorPartSerial sc old txn part → CoordinatorPartSerial sc new txn part
+coordinator_stays : (sc : Scenario) (old new : List (Part Server)) (txn : TxnId) (part : Part Coordinator) → StaysVoted old new → CoordinatorPartSerial sc old txn part → CoordinatorPartSerial sc new txn part
 coordinator_stays sc old new txn part stays h =
     record {
       state = IfSome_then part.up h.state
-          (λ c s. record { deeds = s.deeds; voted = voted_stays (IsPrepared old txn) (IsPrepared new txn) c.phase (servers_at sc c.txn) (stays txn) s.voted });
-      decided = IfSome_then (decided_in part.log) h.decided (λ d s. decision_stays sc (IsPrepared old txn) (IsPrepared new txn) txn d (stays txn) s);
+          (λ c s. record { deeds = s.deeds; voted = voted_stays (HasVoted old txn) (HasVoted new txn) c.phase (servers_at sc c.txn) (stays txn) s.voted });
+      decided = IfSome_then (decided_in part.log) h.decided (λ d s. decision_stays sc (HasVoted old txn) (HasVoted new txn) txn d (stays txn) s);
     }
 
 -- ---- values
@@ -226,41 +228,42 @@ others_hold sc at other append store part apart h =
 
 -- ---- a server acts
 
-is_some_later : {A : Type 0} (x y : Option A) → is_some y ≡ true → is_some (first_of x y) ≡ true
-is_some_later None y e = e
-is_some_later (Some found) y e = refl
-
--- what is prepared stays prepared, as the log only grows
-stays_by : (servers : List (Part Server)) (at : ServerId) (part next : Part Server) (append : Option Record) → slice_get servers at.0 ≡ Some part → next.log ≡ log_with part.log append → StaysPrepared servers (slice_set servers at.0 next)
+-- who has voted has voted still, as the log only grows
+stays_by : (servers : List (Part Server)) (at : ServerId) (part next : Part Server) (append : Option Record) → slice_get servers at.0 ≡ Some part → next.log ≡ log_with part.log append → StaysVoted servers (slice_set servers at.0 next)
 stays_by servers at part next append found grown txn other p = stayed (at.0 == other.0) refl
   where
-    stayed : (b : Bool) → (at.0 == other.0) ≡ b → IsPrepared (slice_set servers at.0 next) txn other
+    stayed : (b : Bool) → (at.0 == other.0) ≡ b → HasVoted (slice_set servers at.0 next) txn other
     stayed true same =
-        let old : prepared_at servers other.0 txn ≡ prepared_in txn part.log = ap (option_and_then (prepared_by txn)) (subst (λ (n : ℕ). slice_get servers n ≡ Some part) (eqb-true at.0 other.0 same) found) in
-        ap is_some (look_set (prepared_by txn) servers at.0 other.0 part next found
-        ∙ (ap (λ (c : Bool). if c then prepared_by txn next else prepared_at servers other.0 txn) same ∙ (ap (prepared_in txn) grown ∙ prepared_with txn part.log append)))
-        ∙ is_some_later (appended (preparation_in txn) append) (prepared_in txn part.log) (sym (ap is_some old) ∙ p)
+        let was : slice_get servers other.0 ≡ Some part = subst (λ (n : ℕ). slice_get servers n ≡ Some part) (eqb-true at.0 other.0 same) found in
+        let now : slice_get (slice_set servers at.0 next) other.0 ≡ Some next = get_set servers at.0 other.0 part next found ∙ ap (λ (c : Bool). if c then Some next else slice_get servers other.0) same in
+        subst (VotedBy txn) (sym now) (ap (has_voted txn) grown ∙ has_voted_with txn part.log append (subst (VotedBy txn) was p))
     stayed false apart =
-        ap is_some (look_set (prepared_by txn) servers at.0 other.0 part next found ∙ ap (λ (c : Bool). if c then prepared_by txn next else prepared_at servers other.0 txn) apart) ∙ p
+        subst (VotedBy txn) (sym (get_set servers at.0 other.0 part next found ∙ ap (λ (c : Bool). if c then Some next else slice_get servers other.0) apart)) p
 
--- what the acting server has prepared is prepared in the world
-prepared_here : (servers : List (Part Server)) (at : ServerId) (part next : Part Server) → slice_get servers at.0 ≡ Some part → (txn : TxnId) (other : ServerId) → HasPrepared at next.log txn other
-    → IsPrepared (slice_set servers at.0 next) txn other
-prepared_here servers at part next found txn other p =
-    subst (λ (s : ServerId). IsPrepared (slice_set servers at.0 next) txn s) (sym p.0)
-    (ap is_some (look_set (prepared_by txn) servers at.0 at.0 part next found ∙ ap (λ (c : Bool). if c then prepared_by txn next else prepared_at servers at.0 txn) (number_itself at.0)) ∙ p.1)
+-- where the acting server has voted it has voted in the world
+voted_here : (servers : List (Part Server)) (at : ServerId) (part next : Part Server) → slice_get servers at.0 ≡ Some part → (txn : TxnId) (other : ServerId) → ServerVoted at next.log txn other
+    → HasVoted (slice_set servers at.0 next) txn other
+voted_here servers at part next found txn other p =
+    let now : slice_get (slice_set servers at.0 next) at.0 ≡ Some next = get_set servers at.0 at.0 part next found ∙ ap (λ (c : Bool). if c then Some next else slice_get servers at.0) (number_itself at.0) in
+    subst (λ (s : ServerId). HasVoted (slice_set servers at.0 next) txn s) (sym p.0) (subst (VotedBy txn) (sym now) p.1)
 
--- what is prepared after a record was appended is planned
-prepared_after : (sc : Scenario) (at : ServerId) (kept : List Record) (append : Option Record) (txn : TxnId) (now : Prepared) → ((p : Prepared) → prepared_in txn kept ≡ Some p → IsTested sc at txn p)
-    → IfSome append (RecordPlanned sc at) → first_of (appended (preparation_in txn) append) (prepared_in txn kept) ≡ Some now → IsTested sc at txn now
-prepared_after sc at kept None txn now h r e = h now e
-prepared_after sc at kept (Some (log.Prepared p)) txn now h r e = chosen (same_txn p.txn txn) refl e
+-- what is prepared after a record was appended is planned and tested
+prepared_after : (sc : Scenario) (at : ServerId) (append : Option Record) (txn : TxnId) (settled : Option Settled) (voted : Option Prepared) (now : Prepared)
+    → ((p : Prepared) → while_unsettled settled voted ≡ Some p → IsTested sc at txn p) → IfSome append (RecordPlanned sc at)
+    → while_unsettled (first_of settled (appended (settlement_in txn) append)) (first_of (appended (preparation_in txn) append) voted) ≡ Some now → IsTested sc at txn now
+prepared_after sc at append txn (Some s) voted now h r e = absurd (cc)
+prepared_after sc at None txn None voted now h r e = h now e
+prepared_after sc at (Some (log.Prepared p)) txn None voted now h r e = chosen (same_txn p.txn txn) refl e
   where
-    chosen : (b : Bool) → same_txn p.txn txn ≡ b → first_of (if b then Some p else None) (prepared_in txn kept) ≡ Some now → IsTested sc at txn now
-    chosen true same f =
-        subst (IsTested sc at txn) (same_Some p now f) (subst (λ (t : TxnId). IsTested sc at t p) (same_txn_is p.txn txn same) r)
+    chosen : (b : Bool) → same_txn p.txn txn ≡ b → first_of (if b then Some p else None) voted ≡ Some now → IsTested sc at txn now
+    chosen true same f = subst (IsTested sc at txn) (same_Some p now f) (subst (λ (t : TxnId). IsTested sc at t p) (same_txn_is p.txn txn same) r)
     chosen false apart f = h now f
-prepared_after sc at kept (Some _) txn now h r e = h now e
+prepared_after sc at (Some (log.Settled s)) txn None voted now h r e = chosen (same_txn s.txn txn) e
+  where
+    chosen : (b : Bool) → while_unsettled (if b then Some s else None) voted ≡ Some now → IsTested sc at txn now
+    chosen true f = absurd (cc)
+    chosen false f = h now f
+prepared_after sc at (Some _) txn None voted now h r e = h now e
 
 -- the fact of a settlement keeps to the plan
 settlement_serial : (sc : Scenario) (w : State) (at : ServerId) (kept : List Record) (append : Option Record) → Agrees sc w → Serial sc w → IfSome append (RecordRests (MaySettle sc w.actors.coordinators at) kept)
@@ -284,7 +287,7 @@ server_acts_serial sc w at part s effect agrees h found up own k rests =
     let old = w.actors.servers in
     let new = slice_set old at.0 next in
     let tells : flat_map (server_fact at) (drop (length part.log) (log_with part.log append)) ≡ told_by at append = gained (server_fact at) part.log append in
-    let stays : StaysPrepared old new = stays_by old at part next append found refl in
+    let stays : StaysVoted old new = stays_by old at part next append found refl in
     let store = overlaid sc w.facts in
     let here = h.servers at.0 part found in
     let was : ServerUpSerial sc store at part.log s = subst (λ (x : Option Server). IfSome x (ServerUpSerial sc store at part.log)) up here.state in
@@ -295,7 +298,7 @@ server_acts_serial sc w at part s effect agrees h found up own k rests =
         serial = k.state;
         values = subst (HoldsValues sc at (fold (planned_what sc) store (told_by at append))) (sym values_are) (values_overlaid sc at (told_by at append) store s.values was.values);
       };
-      prepared = λ txn p e. prepared_after sc at part.log append txn p (here.prepared txn) (subst (λ (x : ServerId). IfSome append (RecordPlanned sc x)) own k.forces) (sym (prepared_with txn part.log append) ∙ e);
+      prepared = λ txn p e. prepared_after sc at append txn (settled_in txn part.log) (voted_in txn part.log) p (here.prepared txn) (subst (λ (x : ServerId). IfSome append (RecordPlanned sc x)) own k.forces) (sym (prepared_with txn part.log append) ∙ e);
     } in
     let all : EachAt (λ (n : ℕ) (p : Part Server). ServerPartSerial sc (fold (planned_what sc) store (told_by at append)) (record { 0 = n }) p) new =
     at_changed (λ (n : ℕ) (p : Part Server). ServerPartSerial sc (fold (planned_what sc) store (told_by at append)) (record { 0 = n }) p) old at.0 part next found
@@ -305,8 +308,8 @@ server_acts_serial sc w at part s effect agrees h found up own k rests =
       coordinators = λ n p e. coordinator_stays sc old new (record { 0 = n }) p stays (h.coordinators n p e);
       servers = subst (λ (happened : List What). EachAt (λ (n : ℕ) (p : Part Server). ServerPartSerial sc (fold (planned_what sc) store happened) (record { 0 = n }) p) new) (sym tells) all;
       servers_up = at_set (λ (n : ℕ) (p : Part Server). is_some p.up ≡ true) old at.0 next h.servers_up refl;
-      letters = letters_stay sc (HasPrepared at next.log) (IsPrepared new) effect.reaction.letters (prepared_here old at part next found)
-          (subst (λ (x : ServerId). Each (LetterSerial sc (HasPrepared x next.log)) effect.reaction.letters) own k.letters);
+      letters = letters_stay sc (ServerVoted at next.log) (HasVoted new) effect.reaction.letters (voted_here old at part next found)
+          (subst (λ (x : ServerId). Each (LetterSerial sc (ServerVoted x next.log)) effect.reaction.letters) own k.letters);
       happened = subst (Each (WhatSerial sc w.facts)) (sym tells) (settlement_serial sc w at part.log append agrees h rests);
     }
 
@@ -314,9 +317,9 @@ server_acts_serial sc w at part s effect agrees h found up own k rests =
 
 -- an act of a transaction's coordinator with what the step says by itself
 pub record ActSerial (sc : Scenario) (w : State) (txn : TxnId) (own : List What) (effect : Effect Coordinator) : Type 0 where
-  pub state : CoordinatorSerial sc (IsPrepared w.actors.servers txn) effect.state
-  pub forces : IfSome effect.reaction.append (RecordSerial sc (IsPrepared w.actors.servers txn) txn)
-  pub letters : Each (LetterSerial sc (IsPrepared w.actors.servers)) effect.reaction.letters
+  pub state : CoordinatorSerial sc (HasVoted w.actors.servers txn) effect.state
+  pub forces : IfSome effect.reaction.append (RecordSerial sc (HasVoted w.actors.servers txn) txn)
+  pub letters : Each (LetterSerial sc (HasVoted w.actors.servers)) effect.reaction.letters
   pub quiet : Each IsQuiet own
 
 decision_after : (sc : Scenario) (P : ServerId → Type 0) (txn : TxnId) (old : Option Decision) (append : Option Record) → IfSome old (DecisionSerial sc P txn) → IfSome append (RecordSerial sc P txn)
@@ -331,46 +334,58 @@ told_unsettled None = tt
 told_unsettled (Some (log.Decided d)) = (tt, tt)
 told_unsettled (Some _) = tt
 
--- what all of a transaction's servers have prepared was tested. That this is the whole plan leans on the one server of the form that is built
-server_tested : (sc : Scenario) (store : List ℤ) (at : ServerId) (txn : TxnId) (servers : List (Part Server)) (part : Option (Part Server))
-    → EachAt (λ (n : ℕ) (p : Part Server). ServerPartSerial sc store (record { 0 = n }) p) servers → slice_get servers at.0 ≡ part → is_some (option_and_then (prepared_by txn) part) ≡ true
-    → Each (IsInRange sc) (planned_at sc at txn)
-server_tested sc store at txn servers None h found e = absurd (cc)
-server_tested sc store at txn servers (Some part) h found e = tested (prepared_in txn part.log) refl e
+-- what a server has voted on and not settled was tested
+server_tested : (sc : Scenario) (store : List ℤ) (at : ServerId) (txn : TxnId) (servers : List (Part Server)) (found : Option (Part Server))
+    → EachAt (λ (n : ℕ) (p : Part Server). ServerPartSerial sc store (record { 0 = n }) p) servers → slice_get servers at.0 ≡ found
+    → ((part : Part Server) → found ≡ Some part → settled_in txn part.log ≡ None) → VotedBy txn found → Each (IsInRange sc) (planned_at sc at txn)
+server_tested sc store at txn servers None h e unsettled v = absurd v
+server_tested sc store at txn servers (Some part) h e unsettled v =
+    tested (prepared_in txn part.log) refl (voted_open (settled_in txn part.log) (voted_in txn part.log) (unsettled part refl) v)
   where
     tested : (prepared : Option Prepared) → prepared_in txn part.log ≡ prepared → is_some prepared ≡ true → Each (IsInRange sc) (planned_at sc at txn)
     tested None f some = absurd (cc)
-    tested (Some p) f some = let voted : IsTested sc at txn p = (h at.0 part found).prepared txn p f in subst (Each (IsInRange sc)) voted.part voted.in_range
+    tested (Some p) f some = let voted : IsTested sc at txn p = (h at.0 part e).prepared txn p f in subst (Each (IsInRange sc)) voted.part voted.in_range
 
-plan_tested : (sc : Scenario) (w : State) (txn : TxnId) (declared : Option Transaction) → is_built sc ≡ true → IsTxn sc txn → Serial sc w → slice_get sc.txns txn.0 ≡ declared
-    → Each (IsPrepared w.actors.servers txn) (servers_at sc txn) → Each (IsInRange sc) (planned sc txn)
-plan_tested sc w txn None built exists h found prepared = absurd (missing sc.txns txn.0 exists found)
-plan_tested sc w txn (Some declared) built exists h found prepared =
+-- what was not decided is settled nowhere
+undecided_open : (coordinators : List (Part Coordinator)) (txn : TxnId) (settled : Option Settled) → decided_at coordinators txn.0 ≡ None
+    → ((s : Settled) → settled ≡ Some s → SettledRests coordinators txn s) → settled ≡ None
+undecided_open coordinators txn None undecided rests = refl
+undecided_open coordinators txn (Some s) undecided rests =
+    let decided : option_map outcome_of (decided_at coordinators txn.0) ≡ Some s.outcome = (rests s refl).decided in
+    let none : option_map outcome_of (decided_at coordinators txn.0) ≡ None = ap (option_map outcome_of) undecided in
+    absurd (cc)
+
+-- what all of a transaction's servers have voted on was tested. That this is the whole plan leans on the one server of the form that is built
+plan_tested : (sc : Scenario) (w : State) (txn : TxnId) (declared : Option Transaction) → is_built sc ≡ true → IsTxn sc txn → Agrees sc w → Serial sc w → slice_get sc.txns txn.0 ≡ declared
+    → decided_at w.actors.coordinators txn.0 ≡ None → Each (HasVoted w.actors.servers txn) (servers_at sc txn) → Each (IsInRange sc) (planned sc txn)
+plan_tested sc w txn None built exists agrees h found undecided voted = absurd (missing sc.txns txn.0 exists found)
+plan_tested sc w txn (Some declared) built exists agrees h found undecided voted =
     let count = one_server sc built in
-    let here : IsPrepared w.actors.servers txn first_server =
-    among_servers (IsPrepared w.actors.servers txn) sc first_server txn (omega (arith, count)) (has_item_at_one_server sc txn declared built found) prepared in
+    let here : HasVoted w.actors.servers txn first_server =
+    among_servers (HasVoted w.actors.servers txn) sc first_server txn (omega (arith, count)) (has_item_at_one_server sc txn declared built found) voted in
     subst (Each (IsInRange sc)) (filter_all (λ (deed : Deed). is_at sc first_server deed ≡ true) (is_at sc first_server) (λ deed e. e) (planned sc txn) (planned_at_one_server sc txn built))
-    (server_tested sc (overlaid sc w.facts) first_server txn w.actors.servers (slice_get w.actors.servers first_server.0) h.servers refl here)
+    (server_tested sc (overlaid sc w.facts) first_server txn w.actors.servers (slice_get w.actors.servers first_server.0) h.servers refl
+    (λ part e. undecided_open w.actors.coordinators txn (settled_in txn part.log) undecided ((agrees.servers first_server.0 part e).settled txn)) here)
 
 -- the fact of a decision keeps to the plan
-decision_serial : (sc : Scenario) (w : State) (P : ServerId → Type 0) (txn : TxnId) (append : Option Record) → IsTxn sc txn → (Each P (servers_at sc txn) → Each (IsInRange sc) (planned sc txn)) → IfSome append (RecordSerial sc P txn) → Each (WhatSerial sc w.facts) (told_of append)
-decision_serial sc w P txn None exists tested r = tt
-decision_serial sc w P txn (Some (log.Decided d)) exists tested r = (subst (λ (t : TxnId). WhatSerial sc w.facts (what.Decided t d.decision)) (sym r.own) (serial d.decision r.serial), tt)
+decision_serial : (sc : Scenario) (w : State) (P : ServerId → Type 0) (txn : TxnId) (kept : List Record) (append : Option Record) → IsTxn sc txn → (decided_in kept ≡ None → Each P (servers_at sc txn) → Each (IsInRange sc) (planned sc txn)) → IfSome append (IsFirst txn kept) → IfSome append (RecordSerial sc P txn) → Each (WhatSerial sc w.facts) (told_of append)
+decision_serial sc w P txn kept None exists tested f r = tt
+decision_serial sc w P txn kept (Some (log.Decided d)) exists tested f r = (subst (λ (t : TxnId). WhatSerial sc w.facts (what.Decided t d.decision)) (sym r.own) (serial d.decision r.serial), tt)
   where
     serial : (decided : Decision) → DecisionSerial sc P txn decided → WhatSerial sc w.facts (what.Decided txn decided)
-    serial (decision.Commit committed) s = (exists, (s.deeds, tested s.prepared))
+    serial (decision.Commit committed) s = (exists, (s.deeds, tested f.undecided s.prepared))
     serial (decision.Abort why) s = tt
-decision_serial sc w P txn (Some _) exists tested r = tt
+decision_serial sc w P txn kept (Some _) exists tested f r = tt
 
 -- the turn of a coordinator whose act keeps to the plan
-pub coordinator_acts_serial : (sc : Scenario) (w : State) (txn : TxnId) (part : Part Coordinator) (own : List What) (effect : Effect Coordinator) → is_built sc ≡ true → Serial sc w → IsTxn sc txn
-    → slice_get w.actors.coordinators txn.0 ≡ Some part → ActSerial sc w txn own effect
+pub coordinator_acts_serial : (sc : Scenario) (w : State) (txn : TxnId) (part : Part Coordinator) (own : List What) (effect : Effect Coordinator) → is_built sc ≡ true → Agrees sc w → Serial sc w → IsTxn sc txn
+    → slice_get w.actors.coordinators txn.0 ≡ Some part → IfSome effect.reaction.append (IsFirst txn part.log) → ActSerial sc w txn own effect
     → TurnSerial sc w (coordinator_acted w.actors txn (acts_by coordinator_fact own part.log effect))
-coordinator_acts_serial sc w txn part own effect built h exists found k =
+coordinator_acts_serial sc w txn part own effect built agrees h exists found fresh k =
     let append = effect.reaction.append in
     let next : Part Coordinator = record { up = Some effect.state; log = log_with part.log append } in
     let old = w.actors.coordinators in
-    let P = IsPrepared w.actors.servers txn in
+    let P = HasVoted w.actors.servers txn in
     let tells : own ++ flat_map coordinator_fact (drop (length part.log) (log_with part.log append)) ≡ own ++ told_of append = ap (λ (xs : List What). own ++ xs) (gained coordinator_fact part.log append) in
     let unsettled : Each IsUnsettled (own ++ told_of append) = each_append IsUnsettled own (told_of append) (each_as IsQuiet IsUnsettled quiet_unsettled own k.quiet) (told_unsettled append) in
     let now : CoordinatorPartSerial sc w.actors.servers txn next =
@@ -386,5 +401,5 @@ coordinator_acts_serial sc w txn part own effect built h exists found k =
       servers_up = h.servers_up;
       letters = k.letters;
       happened = subst (Each (WhatSerial sc w.facts)) (sym tells)
-          (each_append (WhatSerial sc w.facts) own (told_of append) (each_as IsQuiet (WhatSerial sc w.facts) (quiet_serial sc w.facts) own k.quiet) (decision_serial sc w P txn append exists (plan_tested sc w txn (slice_get sc.txns txn.0) built exists h refl) k.forces));
+          (each_append (WhatSerial sc w.facts) own (told_of append) (each_as IsQuiet (WhatSerial sc w.facts) (quiet_serial sc w.facts) own k.quiet) (decision_serial sc w P txn part.log append exists (λ undecided. plan_tested sc w txn (slice_get sc.txns txn.0) built exists agrees h refl (ap (option_and_then decided_by) found ∙ undecided)) fresh k.forces));
     }

@@ -34,7 +34,7 @@ use Rattle.tp_model.specs.SerialRun.{overlaid_at, stored, stored_by}
 use Rattle.tp_machine.specs.declared.server.Entry.{Entry}
 use Rattle.tp_machine.specs.declared.server.Server.{Server}
 use Rattle.tp_types.specs.Effect.{Effect, silent}
-use Rattle.tp_machine.specs.Logs.{prepared_in, settled_in}
+use Rattle.tp_machine.specs.Logs.{has_voted, is_prepared_or_settled, prepared_in, settled_in, voted_in, while_unsettled}
 use Rattle.tp_machine.specs.Machine.{log_with}
 use Rattle.tp_machine.specs.Sound.{Each, EachPlaced, IsItemOf, IsSoundBody, IsSoundQuery}
 use Rattle.tp_types.specs.Table.{flattened}
@@ -42,7 +42,7 @@ use Rattle.tp_machine.specs.coord.Row.{deed_of}
 use Rattle.tp_machine.specs.server.Row.{applied, applied_deed, asked_item, asked_to_vote, begins, committed, entry_at, first_entry, is_open, is_write, may_prepare, on_body, on_decide, on_prepare, on_query, plain_write, prepared, queried, server_row, settled_as, settles, verdict_on, votes, is_in_range, is_in_range_of}
 use Rattle.tp_machine.proofs.AgreeActs.{number_itself, same_txn_is, told_by}
 use Rattle.tp_machine.proofs.AgreeServer.{ServerAgrees, unset_is}
-use Rattle.tp_machine.proofs.LogLemmas.{first_none, prepared_with, settled_with}
+use Rattle.tp_machine.proofs.LogLemmas.{prepared_with, settled_with, voted_open, voted_with}
 use Rattle.tp_machine.proofs.SerialBuilt.{IsAllPlanned, one_query_is_planned}
 use Rattle.tp_machine.proofs.SerialLists.{filled_stays, set_elsewhere}
 use Rattle.tp_machine.proofs.SerialPlan.{BodySerial, IsPlannedValue, LetterSerial, RecordPlanned, is_at, planned, planned_at, planned_what, IsInRange}
@@ -57,26 +57,26 @@ use Rattle.std.proofs.lemmas.Bool.{and_parts}
 abbrev pub EntryPlanned : Scenario → ServerId → ℕ → Entry → Type 0
 EntryPlanned sc at n entry = entry.deeds ≡ planned_at sc at (record { 0 = n })
 
--- each entry is planned, and what is prepared and not settled has one
+-- each entry is planned, and what is prepared has one
 pub record ServerSerial (sc : Scenario) (s : Server) (kept : List Record) : Type 0 where
   pub entries : EachPlaced (EntryPlanned sc s.server) s.entries
-  pub held : (txn : TxnId) → is_some (prepared_in txn kept) ≡ true → settled_in txn kept ≡ None → is_some (entry_at s txn) ≡ true
+  pub held : (txn : TxnId) → is_some (prepared_in txn kept) ≡ true → is_some (entry_at s txn) ≡ true
 
--- the server has prepared the transaction on its log
-abbrev pub HasPrepared : ServerId → List Record → TxnId → ServerId → Type 0
-HasPrepared at kept txn other = (other ≡ at) × (is_some (prepared_in txn kept) ≡ true)
+-- the server has prepared or settled the transaction on its log
+abbrev pub ServerVoted : ServerId → List Record → TxnId → ServerId → Type 0
+ServerVoted at kept txn other = (other ≡ at) × (has_voted txn kept ≡ true)
 
 -- an act of a server: what it keeps, forces and sends is planned, and its values change by what it settles
 pub record ServerKeeps (sc : Scenario) (s : Server) (kept : List Record) (effect : Effect Server) : Type 0 where
   pub state : ServerSerial sc effect.state (log_with kept effect.reaction.append)
   pub forces : IfSome effect.reaction.append (RecordPlanned sc s.server)
   pub values : effect.state.values ≡ fold (planned_what sc) s.values (told_by s.server effect.reaction.append)
-  pub letters : Each (LetterSerial sc (HasPrepared s.server (log_with kept effect.reaction.append))) effect.reaction.letters
+  pub letters : Each (LetterSerial sc (ServerVoted s.server (log_with kept effect.reaction.append))) effect.reaction.letters
 
--- an order to commit comes where the server has prepared
-abbrev pub OrderPrepared : List Record → Body → Type 0
-OrderPrepared kept (body.Decide d) = d.outcome ≡ outcome.Commit → is_some (prepared_in d.txn kept) ≡ true
-OrderPrepared kept _ = Unit {0}
+-- an order to commit comes where the server has prepared or settled
+abbrev pub OrderVoted : List Record → Body → Type 0
+OrderVoted kept (body.Decide d) = d.outcome ≡ outcome.Commit → has_voted d.txn kept ≡ true
+OrderVoted kept _ = Unit {0}
 
 -- ---- rows
 
@@ -142,7 +142,7 @@ begins_keeps sc s kept sent q (Some deed) built h m fits e =
     record {
       state = record {
         entries = placed_set (EntryPlanned sc s.server) s.entries q.txn.0 (first_entry s sent q deed) h.entries plan.part;
-        held = λ txn prepared unsettled. filled_stays s.entries q.txn.0 txn.0 (first_entry s sent q deed) (h.held txn prepared unsettled);
+        held = λ txn prepared. filled_stays s.entries q.txn.0 txn.0 (first_entry s sent q deed) (h.held txn prepared);
       };
       forces = tt;
       values = refl;
@@ -163,14 +163,23 @@ query_keeps sc s kept sent q built h m fits =
 -- ---- Prepare
 
 -- what is prepared after one more vote was prepared before, or is what was voted on
-prepared_or : (b : Bool) (forced : Prepared) (old : Option Prepared) (held : Bool) → (b ≡ true → held ≡ true) → (is_some old ≡ true → held ≡ true)
-    → is_some (first_of (if b then Some forced else None) old) ≡ true → held ≡ true
-prepared_or true forced old held here before e = here refl
-prepared_or false forced old held here before e = before e
+prepared_or : (b : Bool) (forced : Prepared) (settled : Option Settled) (old : Option Prepared) (held : Bool) → (b ≡ true → held ≡ true) → (is_some (while_unsettled settled old) ≡ true → held ≡ true)
+    → is_some (while_unsettled (first_of settled None) (first_of (if b then Some forced else None) old)) ≡ true → held ≡ true
+prepared_or true forced settled old held here before e = here refl
+prepared_or false forced (Some s) old held here before e = absurd (cc)
+prepared_or false forced None old held here before e = before e
 
-prepared_here : (b : Bool) (forced : Prepared) (old : Option Prepared) → b ≡ true → is_some (first_of (if b then Some forced else None) old) ≡ true
-prepared_here true forced old e = refl
-prepared_here false forced old e = absurd (cc)
+voted_now : (b : Bool) (forced : Prepared) (settled : Option Settled) (old : Option Prepared) → b ≡ true → is_prepared_or_settled (first_of settled None) (first_of (if b then Some forced else None) old) ≡ true
+voted_now true forced (Some s) old e = refl
+voted_now true forced None old e = refl
+voted_now false forced settled old e = absurd (cc)
+
+-- the vote YES on a log
+voted_yes : (txn : TxnId) (kept : List Record) (forced : Prepared) → forced.txn ≡ txn → has_voted txn (log_with kept (Some (log.Prepared forced))) ≡ true
+voted_yes txn kept forced same =
+    ap (λ (s : Option Settled). is_prepared_or_settled s (voted_in txn (log_with kept (Some (log.Prepared forced))))) (settled_with txn kept (Some (log.Prepared forced)))
+    ∙ (ap (is_prepared_or_settled (first_of (settled_in txn kept) None)) (voted_with txn kept (Some (log.Prepared forced)))
+    ∙ voted_now (same_txn forced.txn txn) forced (settled_in txn kept) (voted_in txn kept) (ap (λ (t : TxnId). same_txn t txn) same ∙ number_itself txn.0))
 
 -- the vote tests each deed against its item's range
 tested_each : (sc : Scenario) (deeds : List Deed) → list_all (is_in_range sc) deeds ≡ true → Each (IsInRange sc) deeds
@@ -191,11 +200,11 @@ votes_keep sc s kept p place entry h e may =
     record {
       state = record {
         entries = placed_set (EntryPlanned sc s.server) s.entries p.txn.0 _ h.entries deeds;
-        held = λ txn prepared_now unsettled_now.
+        held = λ txn prepared_now.
             filled_stays s.entries p.txn.0 txn.0 _
-            (prepared_or (same_txn p.txn txn) forced (prepared_in txn kept) (is_some (entry_at s txn))
+            (prepared_or (same_txn p.txn txn) forced (settled_in txn kept) (voted_in txn kept) (is_some (entry_at s txn))
             (λ same. subst (λ (t : TxnId). is_some (entry_at s t) ≡ true) (same_txn_is p.txn txn same) (ap is_some e))
-            (λ before. h.held txn before (sym (settled_with txn kept append ∙ first_none (settled_in txn kept)) ∙ unsettled_now))
+            (λ before. h.held txn before)
             (sym (ap is_some (prepared_with txn kept append)) ∙ prepared_now));
       };
       forces = record {
@@ -203,7 +212,7 @@ votes_keep sc s kept p place entry h e may =
         in_range = tested_each sc entry.deeds (third_of_four (entry.epoch == p.epoch) (is_none entry.ballot) (list_all (is_in_range sc) entry.deeds) (is_empty p.want) may);
       };
       values = refl;
-      letters = ((refl, ap is_some (prepared_with p.txn kept append) ∙ prepared_here (same_txn p.txn p.txn) forced (prepared_in p.txn kept) (number_itself p.txn.0)), tt);
+      letters = ((refl, voted_yes p.txn kept forced refl), tt);
     }
 
 asked_to_vote_keeps : (sc : Scenario) (s : Server) (kept : List Record) (p : PrepareRequest) (staple : Option Staple) (entry : Option Entry) → ServerSerial sc s kept → entry_at s p.txn ≡ entry
@@ -242,32 +251,32 @@ committed_planned sc s txn outcome.Commit (Some entry) h there = ap (applied s.v
 committed_planned sc s txn outcome.Commit None h there = let here = there refl in absurd (cc)
 committed_planned sc s txn outcome.Abort entry h there = refl
 
--- what is unsettled after one more settlement was so before, and is of another transaction
-still_open : (b : Bool) (forced : Settled) (old : Option Settled) → first_of old (if b then Some forced else None) ≡ None → (b ≡ false) × (old ≡ None)
-still_open b forced (Some s) e = absurd (cc)
-still_open true forced None e = absurd (cc)
-still_open false forced None e = (refl, refl)
+-- what is prepared after one more settlement was so before, and is of another transaction
+prepared_still : (b : Bool) (forced : Settled) (settled : Option Settled) (voted : Option Prepared)
+    → is_some (while_unsettled (first_of settled (if b then Some forced else None)) (first_of None voted)) ≡ true → (b ≡ false) × (is_some (while_unsettled settled voted) ≡ true)
+prepared_still b forced (Some s) voted e = absurd (cc)
+prepared_still true forced None voted e = absurd (cc)
+prepared_still false forced None voted e = (refl, e)
 
 settles_keep : (sc : Scenario) (s : Server) (kept : List Record) (d : DecideRequest) → ServerSerial sc s kept → settled_in d.txn kept ≡ None
-    → (d.outcome ≡ outcome.Commit → is_some (prepared_in d.txn kept) ≡ true) → ServerKeeps sc s kept (settles s d)
+    → (d.outcome ≡ outcome.Commit → has_voted d.txn kept ≡ true) → ServerKeeps sc s kept (settles s d)
 settles_keep sc s kept d h fresh m =
     let forced : Settled = settled_as d in
     let append : Option Record = Some (log.Settled forced) in
     record {
       state = record {
         entries = placed_emptied (EntryPlanned sc s.server) s.entries d.txn.0 h.entries;
-        held = λ txn prepared_now unsettled_now.
-            let still = still_open (same_txn d.txn txn) forced (settled_in txn kept) (sym (settled_with txn kept append) ∙ unsettled_now) in
-            ap (λ (found : Option (Option Entry)). is_some (flattened found)) (set_elsewhere s.entries d.txn.0 txn.0 None still.0)
-            ∙ h.held txn (sym (ap is_some (prepared_with txn kept append)) ∙ prepared_now) still.1;
+        held = λ txn prepared_now.
+            let still = prepared_still (same_txn d.txn txn) forced (settled_in txn kept) (voted_in txn kept) (sym (ap is_some (prepared_with txn kept append)) ∙ prepared_now) in
+            ap (λ (found : Option (Option Entry)). is_some (flattened found)) (set_elsewhere s.entries d.txn.0 txn.0 None still.0) ∙ h.held txn still.1;
       };
       forces = tt;
-      values = committed_planned sc s d.txn d.outcome (entry_at s d.txn) (λ found e. h.entries d.txn.0 found e) (λ commit. h.held d.txn (m commit) fresh);
+      values = committed_planned sc s d.txn d.outcome (entry_at s d.txn) (λ found e. h.entries d.txn.0 found e) (λ commit. h.held d.txn (voted_open (settled_in d.txn kept) (voted_in d.txn kept) fresh (m commit)));
       letters = (tt, tt);
     }
 
 decide_keeps : (sc : Scenario) (s : Server) (kept : List Record) (d : DecideRequest) → ServerAgrees s kept → ServerSerial sc s kept
-    → (d.outcome ≡ outcome.Commit → is_some (prepared_in d.txn kept) ≡ true) → ServerKeeps sc s kept (on_decide s d)
+    → (d.outcome ≡ outcome.Commit → has_voted d.txn kept ≡ true) → ServerKeeps sc s kept (on_decide s d)
 decide_keeps sc s kept d a h m =
     by_cond (ServerKeeps sc s kept) (is_open s d.txn)
     (λ unsettled. settles_keep sc s kept d h (sym (a.settled d.txn) ∙ ap flattened (unset_is (slice_get s.settled d.txn.0) unsettled)) m)
@@ -276,7 +285,7 @@ decide_keeps sc s kept d a h m =
 -- ---- all mails
 
 body_keeps : (sc : Scenario) (V : TxnId → ServerId → Type 0) (s : Server) (kept : List Record) (sent : ℕ) (from : Actor) (said : Body) → is_built sc ≡ true → ServerAgrees s kept → ServerSerial sc s kept
-    → IsSoundBody sc (actor.Server s.server) said → BodySerial sc V from said → OrderPrepared kept said → ServerKeeps sc s kept (on_body sc s sent said)
+    → IsSoundBody sc (actor.Server s.server) said → BodySerial sc V from said → OrderVoted kept said → ServerKeeps sc s kept (on_body sc s sent said)
 body_keeps sc V s kept sent from (body.Query q) built a h sound m o = query_keeps sc s kept sent q built h sound m
 body_keeps sc V s kept sent from (body.Prepare p) built a h sound m o = prepare_keeps sc s kept p h
 body_keeps sc V s kept sent from (body.Decide d) built a h sound m o = decide_keeps sc s kept d a h o
@@ -284,5 +293,5 @@ body_keeps sc V s kept sent from _ built a h sound m o = silent_keeps sc s kept 
 
 -- every row of a server on receipt of a mail
 pub server_row_keeps : (sc : Scenario) (V : TxnId → ServerId → Type 0) (s : Server) (kept : List Record) (mail : Mail) → is_built sc ≡ true → ServerAgrees s kept → ServerSerial sc s kept
-    → IsSoundBody sc (actor.Server s.server) mail.letter.body → BodySerial sc V mail.letter.from mail.letter.body → OrderPrepared kept mail.letter.body → ServerKeeps sc s kept (server_row sc s mail)
+    → IsSoundBody sc (actor.Server s.server) mail.letter.body → BodySerial sc V mail.letter.from mail.letter.body → OrderVoted kept mail.letter.body → ServerKeeps sc s kept (server_row sc s mail)
 server_row_keeps sc V s kept mail built a h sound m o = body_keeps sc V s kept mail.sent mail.letter.from mail.letter.body built a h sound m o

@@ -34,7 +34,7 @@ use Rattle.tp_model.specs.SerialRun.{are_in_range, is_serial_commit, keeps_seria
 use Rattle.tp_machine.specs.declared.coord.Coordinator.{Coordinator}
 use Rattle.tp_machine.specs.declared.part.Part.{Part}
 use Rattle.tp_machine.specs.declared.server.Server.{Server}
-use Rattle.tp_machine.specs.Logs.{decided_in, prepared_at, prepared_in}
+use Rattle.tp_machine.specs.Logs.{decided_in, has_voted, prepared_in}
 use Rattle.tp_machine.specs.Machine.{State, Turn, concluded, noted, posted}
 use Rattle.tp_machine.specs.Sound.{Each, EachAt, IsTxn}
 use Rattle.tp_machine.proofs.AgreeWorld.{Agrees, FactFollows}
@@ -47,12 +47,17 @@ use Rattle.tp_machine.proofs.SerialLists.{any_filtered, fold_as, fold_keeps, poi
 use Rattle.tp_machine.proofs.SerialPlan.{IsInRange, DecisionSerial, LetterSerial, MailSerial, mails_stay, planned, planned_what, IsTested}
 use Rattle.tp_machine.proofs.SerialServer.{ServerSerial}
 use Rattle.tp_machine.proofs.SoundLists.{each_append, each_as, missing}
+use Rattle.tp_types.specs.declared.records.Settled.{Settled}
 
 -- ---- the invariant
 
--- the server has prepared the transaction, as the servers' logs say
-abbrev pub IsPrepared : List (Part Server) → TxnId → ServerId → Type 0
-IsPrepared servers txn at = is_some (prepared_at servers at.0 txn) ≡ true
+abbrev pub VotedBy : TxnId → Option (Part Server) → Type 0
+VotedBy txn None = ⊥
+VotedBy txn (Some part) = has_voted txn part.log ≡ true
+
+-- the server has prepared or settled the transaction, as its log says
+abbrev pub HasVoted : List (Part Server) → TxnId → ServerId → Type 0
+HasVoted servers txn at = VotedBy txn (slice_get servers at.0)
 
 -- the server's items have the values of the store
 abbrev pub HoldsValues : Scenario → ServerId → List ℤ → List ℤ → Type 0
@@ -60,8 +65,8 @@ HoldsValues sc at store values = (n : ℕ) (item : Item) → slice_get sc.items 
 
 -- a coordinator that is up keeps to the plan of its transaction, and what it has decided does
 pub record CoordinatorPartSerial (sc : Scenario) (servers : List (Part Server)) (txn : TxnId) (part : Part Coordinator) : Type 0 where
-  pub state : IfSome part.up (λ (c : Coordinator). CoordinatorSerial sc (IsPrepared servers txn) c)
-  pub decided : IfSome (decided_in part.log) (DecisionSerial sc (IsPrepared servers txn) txn)
+  pub state : IfSome part.up (λ (c : Coordinator). CoordinatorSerial sc (HasVoted servers txn) c)
+  pub decided : IfSome (decided_in part.log) (DecisionSerial sc (HasVoted servers txn) txn)
 
 -- a server that is up keeps to the plans, and its items have the values of the store
 pub record ServerUpSerial (sc : Scenario) (store : List ℤ) (at : ServerId) (kept : List Record) (s : Server) : Type 0 where
@@ -82,7 +87,7 @@ pub record Serial (sc : Scenario) (w : State) : Type 0 where
   -- each server is up, which goes when crashes are built
   pub servers_up : EachAt (λ (n : ℕ) (part : Part Server). is_some part.up ≡ true) w.actors.servers
   -- every mail ever sent has planned values, and each vote YES was prepared
-  pub mails : Each (MailSerial sc (IsPrepared w.actors.servers)) w.mails
+  pub mails : Each (MailSerial sc (HasVoted w.actors.servers)) w.mails
   -- each commit is serial
   pub facts : Each (λ (fact : Fact). keeps_serial sc w.facts fact ≡ true) w.facts
   -- what all commits leave is in range
@@ -102,9 +107,9 @@ WhatSerial sc facts (what.Decided txn (decision.Commit committed)) = IsTxn sc tx
 WhatSerial sc facts (what.Settled at txn outcome.Commit) = IsPlannedCommit sc facts txn
 WhatSerial sc facts _ = Unit {0}
 
--- what was prepared stays prepared
-abbrev pub StaysPrepared : List (Part Server) → List (Part Server) → Type 0
-StaysPrepared old new = (txn : TxnId) (at : ServerId) → IsPrepared old txn at → IsPrepared new txn at
+-- who has voted has voted still
+abbrev pub StaysVoted : List (Part Server) → List (Part Server) → Type 0
+StaysVoted old new = (txn : TxnId) (at : ServerId) → HasVoted old txn at → HasVoted new txn at
 
 -- the values that the settled commits of a turn leave
 abbrev pub overlaid_by : Scenario → State → List What → List ℤ
@@ -112,11 +117,11 @@ overlaid_by sc w happened = fold (planned_what sc) (overlaid sc w.facts) happene
 
 -- a step leaves actors, letters and facts that keep to the plans
 pub record TurnSerial (sc : Scenario) (w : State) (turn : Turn) : Type 0 where
-  pub stays : StaysPrepared w.actors.servers turn.actors.servers
+  pub stays : StaysVoted w.actors.servers turn.actors.servers
   pub coordinators : EachAt (λ (n : ℕ) (part : Part Coordinator). CoordinatorPartSerial sc turn.actors.servers (record { 0 = n }) part) turn.actors.coordinators
   pub servers : EachAt (λ (n : ℕ) (part : Part Server). ServerPartSerial sc (overlaid_by sc w turn.happened) (record { 0 = n }) part) turn.actors.servers
   pub servers_up : EachAt (λ (n : ℕ) (part : Part Server). is_some part.up ≡ true) turn.actors.servers
-  pub letters : Each (LetterSerial sc (IsPrepared turn.actors.servers)) turn.letters
+  pub letters : Each (LetterSerial sc (HasVoted turn.actors.servers)) turn.letters
   pub happened : Each (WhatSerial sc w.facts) turn.happened
 
 -- ---- ranges
@@ -308,9 +313,9 @@ concluded_serial sc w taken turn built agrees h t =
       coordinators = t.coordinators;
       servers = λ n part e. subst (λ (store : List ℤ). ServerPartSerial sc store (record { 0 = n }) part) (overlaid_turn sc w place turn.happened agrees t.happened) (t.servers n part e);
       servers_up = t.servers_up;
-      mails = each_append (MailSerial sc (IsPrepared turn.actors.servers)) w.mails (posted place (length w.mails) turn.letters)
-          (mails_stay sc (IsPrepared w.actors.servers) (IsPrepared turn.actors.servers) w.mails t.stays h.mails)
-          (posted_serial sc (IsPrepared turn.actors.servers) place (length w.mails) turn.letters t.letters);
+      mails = each_append (MailSerial sc (HasVoted turn.actors.servers)) w.mails (posted place (length w.mails) turn.letters)
+          (mails_stay sc (HasVoted w.actors.servers) (HasVoted turn.actors.servers) w.mails t.stays h.mails)
+          (posted_serial sc (HasVoted turn.actors.servers) place (length w.mails) turn.letters t.letters);
       facts = each_append (λ (fact : Fact). keeps_serial sc now fact ≡ true) w.facts (noted place turn.happened)
           (facts_stay sc w.facts now place w.facts g agrees.past h.facts)
           (noted_serial sc w.facts now place turn.happened built all h.range t.happened);

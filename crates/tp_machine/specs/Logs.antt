@@ -1,5 +1,5 @@
 -- What a log says: look-ups on the list of its records. Nothing else reads a log.
-use Rattle.std.specs.Prelude.{ℕ, ◌+◌, List, [], ◌∷◌, slice_get, Option, Some, None, option_and_then, if◌then◌else◌}
+use Rattle.std.specs.Prelude.{ℕ, ◌+◌, ◌||◌, List, [], ◌∷◌, slice_get, Bool, Option, Some, None, is_some, option_and_then, if◌then◌else◌}
 use Rattle.std.specs.Option.{option_map_or}
 use Rattle.tp_types.specs.declared.ids.TxnId.{TxnId}
 use Rattle.tp_types.specs.declared.records.Decision.{Decision}
@@ -40,9 +40,24 @@ preparation_in txn (log.Prepared p) = if same_txn p.txn txn then Some p else Non
 preparation_in txn _ = None
 
 -- the transaction's last vote YES
+abbrev pub voted_in : TxnId → List Record → Option Prepared
+voted_in txn [] = None
+voted_in txn (first ∷ kept) = first_of (voted_in txn kept) (preparation_in txn first)
+
+abbrev pub while_unsettled : Option Settled → Option Prepared → Option Prepared
+while_unsettled None voted = voted
+while_unsettled (Some s) voted = None
+
+-- what is prepared: the last vote YES of a transaction that is not settled
 abbrev pub prepared_in : TxnId → List Record → Option Prepared
-prepared_in txn [] = None
-prepared_in txn (first ∷ kept) = first_of (prepared_in txn kept) (preparation_in txn first)
+prepared_in txn kept = while_unsettled (settled_in txn kept) (voted_in txn kept)
+
+abbrev pub is_prepared_or_settled : Option Settled → Option Prepared → Bool
+is_prepared_or_settled settled voted = is_some (while_unsettled settled voted) || is_some settled
+
+-- the transaction is prepared or settled, which no later record undoes
+abbrev pub has_voted : TxnId → List Record → Bool
+has_voted txn kept = is_prepared_or_settled (settled_in txn kept) (voted_in txn kept)
 
 -- how often the server was booted
 abbrev pub boots_in : List Record → ℕ
@@ -69,13 +84,6 @@ settled_by txn part = settled_in txn part.log
 -- how a server, by its number, has settled a transaction
 abbrev pub settled_at : List (Part Server) → ℕ → TxnId → Option Settled
 settled_at servers at txn = option_and_then (settled_by txn) (slice_get servers at)
-
-abbrev pub prepared_by : TxnId → Part Server → Option Prepared
-prepared_by txn part = prepared_in txn part.log
-
--- what a server, by its number, has voted YES on for a transaction
-abbrev pub prepared_at : List (Part Server) → ℕ → TxnId → Option Prepared
-prepared_at servers at txn = option_and_then (prepared_by txn) (slice_get servers at)
 
 abbrev pub epoch_by : Part Server → ℕ
 epoch_by part = epoch_in part.log
