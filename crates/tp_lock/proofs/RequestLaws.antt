@@ -10,7 +10,7 @@ use Rattle.tp_types.specs.declared.ids.TxnId.{TxnId}
 use Rattle.tp_types.specs.declared.policy.Action.{Action}
 use Rattle.tp_lock.specs.declared.entry.Asked.TheVariants.{Granted, Dies}
 use Rattle.tp_lock.specs.declared.entry.LockEntry.{LockEntry}
-use Rattle.tp_lock.specs.Laws.{AgesAreOrdered, Gives, IsAnswered}
+use Rattle.tp_lock.specs.Laws.{AgesAreOrdered, NobodyIsOlderThanItself, OlderThanTheOlder, Gives, IsAnswered}
 use Rattle.tp_lock.specs.Order.{AreOrderly, IsOrderly, IsRight, WaitsForYounger, all_let_wait, is_younger, lets_wait}
 use Rattle.tp_lock.specs.Rule.{added, conflicts, is_elder, is_of_other, is_older, is_write, lock_of, opened, requested, serves, waits_or_dies, with_lock}
 use Rattle.tp_lock.specs.Table.{Table}
@@ -18,6 +18,12 @@ use Rattle.tp_lock.proofs.OrderLemmas.{both_parts, each_push, or_parts}
 
 pub ages_are_ordered : AgesAreOrdered
 ages_are_ordered owner age entry other = grind (arith, nat_tests)
+
+pub nobody_is_older_than_itself : NobodyIsOlderThanItself
+nobody_is_older_than_itself entry e = grind (arith, nat_tests)
+
+pub older_than_the_older : OlderThanTheOlder
+older_than_the_older first second third e f = grind (arith, nat_tests)
 
 -- an entry that conflicts is younger where it is not older
 younger_where : (owner : TxnId) (age : ℕ) (mode : Action) (entry : LockEntry) → conflicts owner mode entry ≡ true

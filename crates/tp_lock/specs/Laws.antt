@@ -16,6 +16,19 @@ use Rattle.tp_lock.specs.Table.{Table}
 abbrev pub AgesAreOrdered : Type 0
 AgesAreOrdered = (owner : TxnId) (age : ℕ) (entry : LockEntry) → is_of_other owner entry ≡ true → is_younger owner age entry ≡ not (is_older owner age entry)
 
+-- an entry is older than another
+abbrev pub IsBefore : LockEntry → LockEntry → Type 0
+IsBefore first second = is_older second.owner second.age first ≡ true
+
+-- nobody is older than itself, so no two are older than one another
+abbrev pub NobodyIsOlderThanItself : Type 0
+NobodyIsOlderThanItself = (entry : LockEntry) → IsBefore entry entry → ⊥
+
+-- who is older than an older one is older, so nobody waits for one that waits for it, directly or through others, where each owner has
+-- one age in all its entries
+abbrev pub OlderThanTheOlder : Type 0
+OlderThanTheOlder = (first second third : LockEntry) → IsBefore first second → IsBefore second third → IsBefore first third
+
 -- ---- a request
 
 -- this is answered, and these entries are left

@@ -1,11 +1,14 @@
 //! The laws of a table of locks, each on a function that does nothing.
 ghost use Rattle.tp_lock.specs.Laws as laws;
 
-/// Ages order the owners: of two owners one is the elder. A request is answered by the first of its four cases that
-/// fits: the owner holds a lock that serves; no entry conflicts; each that conflicts is younger; one is older. Who is
-/// granted a lock holds one that serves, and no request takes it away.
+/// Ages order the owners: of two owners one is the elder, nobody is older than itself, and who is older than an older one is
+/// older. A request at the list of an item is answered by the first of its four cases that fits: the owner holds a lock that
+/// serves; no entry conflicts; each that conflicts is younger; one is older. Who is granted a lock there holds one that serves,
+/// and no request takes it away.
 pub fn requests_are_answered()
     ensures ages { laws.AgesAreOrdered }
+    ensures itself { laws.NobodyIsOlderThanItself }
+    ensures chains { laws.OlderThanTheOlder }
     ensures cases { laws.RequestsAreAnswered }
     ensures held { laws.GrantedIsHeld }
     ensures kept { laws.KeptByRequests }
