@@ -1,0 +1,4 @@
+pub mod Contents
+pub mod Rule
+pub mod Writes
+pub mod mirrors

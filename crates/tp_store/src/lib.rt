@@ -1,0 +1,10 @@
+//! What a server keeps of data and versions: the values of items, the writes of transactions that are not settled, and the newest
+//! versions that it knows.
+#![tactic(auto)]
+
+mod opening;
+mod store;
+mod writes;
+
+pub use store::Store;
+pub use writes::{Bounds, TentativeWrite};
