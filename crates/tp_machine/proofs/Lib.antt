@@ -7,6 +7,7 @@ pub mod AgreeSteps
 pub mod AgreeWorld
 pub mod EpochActors
 pub mod EpochWorld
+pub mod EvaluationLemmas
 pub mod FactLemmas
 pub mod FlagsLemmas
 pub mod LogLemmas
