@@ -1,12 +1,12 @@
 -- The calls of a store where there is no such transaction, and where there is.
-use Rattle.std.proofs.Common.{◌≡◌, ◌≤◌, List, [], get_or, set, length, slice_get, None, refl, ap, sym, ◌∙◌, unwrap_or}
+use Rattle.std.proofs.Common.{◌≡◌, ◌≤◌, List, [], get_or, length, slice_get, None, ap, sym, ◌∙◌}
 use Rattle.std.proofs.lemmas.List.{set_past}
 use Rattle.std.proofs.lemmas.Option.{slice_get_past, unwrap_or-slice_get}
 use Rattle.tp_types.specs.declared.ids.TxnId.{TxnId}
 use Rattle.tp_store.specs.declared.writes.TentativeWrite.{TentativeWrite}
 use Rattle.tp_store.specs.Contents.{Contents}
 use Rattle.tp_store.specs.Rule.{applied_in, with_writes, writes_of, written}
-use Rattle.tp_store.specs.Writes.{applied, with_write}
+use Rattle.tp_store.specs.Writes.{with_write}
 
 -- what is set where there is no place is lost
 lost : (store : Contents) (txn : TxnId) (writes : List TentativeWrite) → length store.tentative ≤ txn.0 → with_writes store txn writes ≡ store

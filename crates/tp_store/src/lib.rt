@@ -2,9 +2,11 @@
 //! versions that it knows.
 #![tactic(auto)]
 
+mod laws;
 mod opening;
 mod store;
 mod writes;
 
+pub use laws::{first_outside_is_least, own_writes_are_read};
 pub use store::Store;
 pub use writes::{Bounds, TentativeWrite};
