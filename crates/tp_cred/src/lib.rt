@@ -4,5 +4,5 @@
 mod presented;
 mod store;
 
-pub use presented::{Presented, shows};
-pub use store::{CredError, CredStore, is_among};
+pub use presented::{Presented, says, shows};
+pub use store::{CredError, CredStore, is_among, is_valid};

@@ -23,8 +23,9 @@ pub struct Presented<'a> {
     pub revoked: &'a [CredId],
 }
 
+/// Whether a credential is the subject's, and what it says satisfies an atom.
 #[tactic(auto, using(crate::proofs::HeldLemmas::said))]
-fn says(
+pub fn says(
     credential: &Credential,
     subject: &Name,
     issuer: &Name,

@@ -57,6 +57,23 @@ pub fn is_among(creds: &[CredId], cred: CredId) -> bool
     creds.iter().any(|other| *other == cred)
 }
 
+fn is_current(creds: &[Credential], id: CredId, now: u64) -> bool
+    ensures { result ≡ option_map_or (credentials.is_current now) (slice_get creds.now id.0) false }
+{
+    match creds.get(id.0 as usize) {
+        None => false,
+        Some(credential) => credential.from <= now && now <= credential.until,
+    }
+}
+
+/// Whether the clock is within the interval of the credential with this id, both ends included, and it is not among those revoked.
+/// A credential that is not there is not valid.
+pub fn is_valid(creds: &[Credential], id: CredId, now: u64, revoked: &[CredId]) -> bool
+    ensures { result ≡ credentials.is_valid_in creds.now now revoked.now id }
+{
+    is_current(creds, id, now) && !is_among(revoked, id)
+}
+
 impl CredStore {
     /// The empty store, which takes no memory before its first credential.
     pub fn new(alloc: Global) -> CredStore
@@ -73,6 +90,13 @@ impl CredStore {
         ensures named_once { IsDistinct same_name (names.names_of self.now) }
     {
         self.creds.len()
+    }
+
+    /// The credentials, each at the place of its id.
+    pub fn as_slice(&self) -> &[Credential]
+        ensures { result.now ≡ self.now }
+    {
+        self.creds.as_slice()
     }
 
     /// Whether there is no credential.
@@ -129,20 +153,11 @@ impl CredStore {
         Ok(found)
     }
 
-    fn is_current(&self, id: CredId, now: u64) -> bool
-        ensures { result ≡ option_map_or (credentials.is_current now) (slice_get self.now id.0) false }
-    {
-        match self.get(id) {
-            None => false,
-            Some(credential) => credential.from <= now && now <= credential.until,
-        }
-    }
-
     /// Whether the clock is within the credential's interval, both ends included, and it is not among those revoked.
     /// A credential that is not there is not valid.
     pub fn valid(&self, id: CredId, now: u64, revoked: &[CredId]) -> bool
         ensures { result ≡ credentials.is_valid_in self.now now revoked.now id }
     {
-        self.is_current(id, now) && !is_among(revoked, id)
+        is_valid(self.as_slice(), id, now, revoked)
     }
 }

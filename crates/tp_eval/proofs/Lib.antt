@@ -1,4 +1,5 @@
 pub mod CertificateLemmas
+pub mod FoundLemmas
 pub mod OnceLemmas
 pub mod SoundLemmas
 pub mod TakenLemmas

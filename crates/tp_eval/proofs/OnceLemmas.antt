@@ -5,7 +5,7 @@ use Rattle.std.specs.Option.{is_some, option_or}
 use Rattle.tp_types.specs.declared.ids.CredId.{CredId}
 use Rattle.tp_types.specs.declared.policy.Cond.{Cond}
 use Rattle.tp_model.specs.Credentials.{is_among}
-use Rattle.tp_cred.specs.declared.presented.Presented.{Presented}
+use Rattle.tp_eval.specs.declared.evidence.Evidence.{Evidence}
 use Rattle.tp_eval.specs.Gathered.{gathered, takes}
 use Rattle.tp_eval.specs.Taken.{once, taken_by_all, with_cred}
 
@@ -77,12 +77,12 @@ first_where_some None others some = cc
 first_where_some (Some creds) others some = refl
 
 -- the members that are left decide, and what was there stands in front
-pub record AllSoFar (held : Presented) (members : List Cond) (start : List CredId) (at : ℕ) (uses : List CredId) : Type 0 where
+pub record AllSoFar (held : Evidence) (members : List Cond) (start : List CredId) (at : ℕ) (uses : List CredId) : Type 0 where
   pub truth : is_some (taken_by_all (map (takes held) (drop at members))) ≡ is_some (taken_by_all (map (takes held) members))
   pub added : left_by start uses (taken_by_all (map (takes held) (drop at members))) ≡ gathered start (taken_by_all (map (takes held) members))
   pub front : Begins start uses
 
-pub all_go_on : (held : Presented) (members : List Cond) (start uses now : List CredId) (at : ℕ) (member : Cond) → at < length members
+pub all_go_on : (held : Evidence) (members : List Cond) (start uses now : List CredId) (at : ℕ) (member : Cond) → at < length members
     → member ≡ get_or members at member → is_some (takes held member) ≡ true → now ≡ gathered uses (takes held member)
     → AllSoFar held members start at uses → AllSoFar held members start (at + 1) now
 all_go_on held members start uses now at member lt here some added so =

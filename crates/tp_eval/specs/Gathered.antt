@@ -1,19 +1,30 @@
 -- What the programs of an evaluation speak of in their contracts.
-use Rattle.std.specs.Prelude.{ℕ, List, [], Option, Some, None}
+use Rattle.std.specs.Prelude.{ℕ, List, [], Bool, false, Option, Some, None}
+use Rattle.std.specs.Option.{option_map_or}
 use Rattle.tp_types.specs.declared.ids.CredId.{CredId}
 use Rattle.tp_types.specs.declared.policy.Action.{Action}
 use Rattle.tp_types.specs.declared.policy.Cond.{Cond}
 use Rattle.tp_types.specs.declared.policy.Rule.{Rule}
-use Rattle.tp_cred.specs.declared.presented.Presented.{Presented}
-use Rattle.tp_cred.specs.HeldBy.{shows}
+use Rattle.tp_model.specs.Credentials.{said_in}
+use Rattle.tp_model.specs.Policies.{Triple}
+use Rattle.tp_cred.specs.Validity.{shows_in}
+use Rattle.tp_eval.specs.declared.evidence.Evidence.{Evidence}
 use Rattle.tp_eval.specs.declared.policies.Certificate.{Certificate}
 use Rattle.tp_eval.specs.Taken.{once, taken, taken_by_rule}
 
-abbrev pub takes : Presented → Cond → Option (List CredId)
-takes held condition = taken (shows held) held.creds.now condition
+-- what the credential says of the subject passes the test
+abbrev pub says : Evidence → (Triple → Bool) → CredId → Bool
+says held test cred = option_map_or test (said_in held.creds.now held.subject.now cred) false
 
-abbrev pub takes_by_rule : Presented → Action → List ℕ → Rule → Option (List CredId)
-takes_by_rule held asked item rule = taken_by_rule (shows held) held.creds.now asked item rule
+-- the credential is valid, and what it says of the subject passes the test
+abbrev pub shows : Evidence → (Triple → Bool) → CredId → Bool
+shows held test cred = shows_in held.creds.now held.subject.now held.clock held.revoked.now test cred
+
+abbrev pub takes : Evidence → Cond → Option (List CredId)
+takes held condition = taken (shows held) held.presented.now condition
+
+abbrev pub takes_by_rule : Evidence → Action → List ℕ → Rule → Option (List CredId)
+takes_by_rule held asked item rule = taken_by_rule (shows held) held.presented.now asked item rule
 
 -- a list after what was taken was added, each once; where nothing makes the condition true it stays
 abbrev pub gathered : List CredId → Option (List CredId) → List CredId

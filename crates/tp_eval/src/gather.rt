@@ -3,11 +3,12 @@ ghost use Rattle.std.specs.Prelude.{◌≡◌, map, option_map, IfOk};
 ghost use Rattle.std.specs.List.{find};
 ghost use Rattle.std.specs.Option.{is_some};
 ghost use Rattle.tp_model.specs.Policies.{meets};
-ghost use Rattle.tp_cred.specs.HeldBy as held_by;
+ghost use Rattle.tp_eval.specs.Gathered as mirror;
 ghost use Rattle.tp_eval.specs.Gathered.{gathered, takes};
 ghost use Rattle.tp_eval.specs.Taken as taken;
 
-use tp_cred::{Presented, is_among, shows};
+use crate::evidence::Evidence;
+use tp_cred::{is_among, says};
 use tp_types::{Cond, CredId, List, Name, NoMemory, Op, Value};
 
 fn add_once(uses: &mut List<CredId>, cred: CredId) -> Result<(), NoMemory>
@@ -19,31 +20,59 @@ fn add_once(uses: &mut List<CredId>, cred: CredId) -> Result<(), NoMemory>
     Ok(())
 }
 
-fn first_shown(
-    held: &Presented<'_>,
+fn is_said(
+    held: &Evidence<'_>,
+    cred: CredId,
+    issuer: &Name,
+    attr: &Name,
+    op: Op,
+    wanted: &Value,
+) -> bool
+    ensures { result ≡ mirror.says held.now (meets issuer.now attr.now op wanted.now) cred }
+{
+    match held.creds.get(cred.0 as usize) {
+        None => false,
+        Some(credential) => says(credential, held.subject, issuer, attr, op, wanted),
+    }
+}
+
+fn first_said(
+    held: &Evidence<'_>,
     issuer: &Name,
     attr: &Name,
     op: Op,
     wanted: &Value,
 ) -> Option<CredId>
-    ensures { result ≡ find (held_by.shows held.now (meets issuer.now attr.now op wanted.now)) held.now.creds.now }
+    ensures { result ≡ find (mirror.says held.now (meets issuer.now attr.now op wanted.now)) held.now.valid.now }
 {
-    held.creds
+    held.valid
         .iter()
         .copied()
-        .find(|cred| shows(held, *cred, issuer, attr, op, wanted))
+        .find(|cred| is_said(held, *cred, issuer, attr, op, wanted))
+}
+
+fn first_shown(
+    held: &Evidence<'_>,
+    issuer: &Name,
+    attr: &Name,
+    op: Op,
+    wanted: &Value,
+) -> Option<CredId>
+    ensures { result ≡ find (mirror.shows held.now (meets issuer.now attr.now op wanted.now)) held.now.presented.now }
+{
+    first_said(held, issuer, attr, op, wanted)
 }
 
 fn gather_atom(
-    held: &Presented<'_>,
+    held: &Evidence<'_>,
     issuer: &Name,
     attr: &Name,
     op: Op,
     wanted: &Value,
     uses: &mut List<CredId>,
 ) -> Result<bool, NoMemory>
-    ensures truth { IfOk result (λ found. found ≡ is_some (find (held_by.shows held.now (meets issuer.now attr.now op wanted.now)) held.now.creds.now)) }
-    ensures added { IfOk result (λ _. uses.new ≡ gathered uses.old (option_map taken.only (find (held_by.shows held.now (meets issuer.now attr.now op wanted.now)) held.now.creds.now))) }
+    ensures truth { IfOk result (λ found. found ≡ is_some (find (mirror.shows held.now (meets issuer.now attr.now op wanted.now)) held.now.presented.now)) }
+    ensures added { IfOk result (λ _. uses.new ≡ gathered uses.old (option_map taken.only (find (mirror.shows held.now (meets issuer.now attr.now op wanted.now)) held.now.presented.now))) }
 {
     match first_shown(held, issuer, attr, op, wanted) {
         None => Ok(false),
@@ -58,7 +87,7 @@ fn gather_atom(
 /// it is not, the list stays.
 #[cycle(evaluation)]
 #[tactic(auto, using(crate::proofs::TakenLemmas::taken_atom, crate::proofs::TakenLemmas::taken_and, crate::proofs::TakenLemmas::taken_or))]
-pub fn gather(held: &Presented<'_>, cond: &Cond, uses: &mut List<CredId>) -> Result<bool, NoMemory>
+pub fn gather(held: &Evidence<'_>, cond: &Cond, uses: &mut List<CredId>) -> Result<bool, NoMemory>
     ensures truth { IfOk result (λ found. found ≡ is_some (takes held.now cond.now)) }
     ensures added { IfOk result (λ _. uses.new ≡ gathered uses.old (takes held.now cond.now)) }
 {
@@ -77,7 +106,7 @@ pub fn gather(held: &Presented<'_>, cond: &Cond, uses: &mut List<CredId>) -> Res
 
 #[cycle(evaluation)]
 fn gather_all(
-    held: &Presented<'_>,
+    held: &Evidence<'_>,
     members: &[Cond],
     uses: &mut List<CredId>,
 ) -> Result<bool, NoMemory>
@@ -96,7 +125,7 @@ fn gather_all(
 
 #[cycle(evaluation)]
 fn gather_first(
-    held: &Presented<'_>,
+    held: &Evidence<'_>,
     members: &[Cond],
     uses: &mut List<CredId>,
 ) -> Result<bool, NoMemory>

@@ -1,7 +1,9 @@
 //! Whether a policy allows an action on an item, with a certificate of it.
 #![tactic(auto)]
 
+mod evidence;
 mod gather;
 mod policies;
 
-pub use policies::{Certificate, evaluate};
+pub use evidence::{Evidence, valid_of};
+pub use policies::{Certificate, certify, evaluate};

@@ -9,9 +9,10 @@ ghost use Rattle.tp_cred.specs.Certificates.{is_checked};
 ghost use Rattle.tp_eval.specs.Gathered as gathered;
 ghost use Rattle.tp_eval.specs.Taken as taken;
 
+use crate::evidence::{Evidence, valid_of};
 use crate::gather::gather;
 use std::alloc::Global;
-use tp_cred::{CredStore, Presented};
+use tp_cred::CredStore;
 use tp_model::matches;
 use tp_types::{Action, CredId, List, Name, NoMemory, Policy, Rule};
 
@@ -25,7 +26,7 @@ pub struct Certificate {
 }
 
 fn gather_rule(
-    held: &Presented<'_>,
+    held: &Evidence<'_>,
     action: Action,
     item: &Name,
     rule: &Rule,
@@ -41,7 +42,7 @@ fn gather_rule(
 }
 
 fn first_rule(
-    held: &Presented<'_>,
+    held: &Evidence<'_>,
     action: Action,
     item: &Name,
     rules: &[Rule],
@@ -60,18 +61,19 @@ fn first_rule(
     Ok(None)
 }
 
-fn found_by(
+/// Evaluates a policy for an action on an item, on evidence that was found before.
+pub fn certify(
     alloc: Global,
-    held: &Presented<'_>,
+    held: &Evidence<'_>,
+    policy: &Policy,
     action: Action,
     item: &Name,
-    rules: &[Rule],
 ) -> Result<Option<Certificate>, NoMemory>
-    requires { length rules.now < 2 ^ 32 }
-    ensures { IfOk result (λ found. found ≡ taken.first_certificate (gathered.takes_by_rule held.now action item.now) 1 rules.now) }
+    requires { length policy.now.rules < 2 ^ 32 }
+    ensures { IfOk result (λ found. found ≡ taken.certificate policy.now action item.now held.now.creds.now held.now.subject.now held.now.presented.now held.now.clock held.now.revoked.now) }
 {
     let mut uses = List::new(alloc);
-    let found = first_rule(held, action, item, rules, &mut uses)?;
+    let found = first_rule(held, action, item, policy.rules.as_slice(), &mut uses)?;
     match found {
         None => Ok(None),
         Some(rule) => Ok(Some(Certificate { rule, uses })),
@@ -98,12 +100,15 @@ pub fn evaluate(
     ensures presented { IfOk result (λ found. IfSome found (λ certificate. list_all (is_among presented.now) certificate.uses ≡ true)) }
     ensures each_once { IfOk result (λ found. IfSome found (λ certificate. IsDistinct same_cred certificate.uses)) }
 {
-    let held = Presented {
-        store,
+    let creds = store.as_slice();
+    let valid = valid_of(alloc, creds, presented, now, revoked)?;
+    let held = Evidence {
+        creds,
         subject,
-        creds: presented,
+        presented,
         clock: now,
         revoked,
+        valid: valid.as_slice(),
     };
-    found_by(alloc, &held, action, item, policy.rules.as_slice())
+    certify(alloc, &held, policy, action, item)
 }

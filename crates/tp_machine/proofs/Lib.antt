@@ -11,6 +11,7 @@ pub mod AmongServers
 pub mod Cases
 pub mod EpochActors
 pub mod EpochWorld
+pub mod EvaluationLemmas
 pub mod FactLemmas
 pub mod FlagsLemmas
 pub mod LogLemmas

@@ -1,4 +1,5 @@
 pub mod Acts
+pub mod Evaluation
 pub mod Flags
 pub mod History
 pub mod Laws

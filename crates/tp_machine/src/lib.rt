@@ -6,6 +6,7 @@ mod acts;
 pub mod agree;
 mod coord;
 mod error;
+pub mod evaluation;
 mod history;
 pub mod laws;
 mod offices;

@@ -6,7 +6,7 @@ use Rattle.tp_eval.proofs.CertificateLemmas.{distinct_where, exists_where_allowe
 use Rattle.tp_eval.proofs.SoundLemmas.{Asked}
 use Rattle.tp_eval.proofs.policies.evaluate.Goals as goal
 
-abbrev asked_by : goal.After-found_by → Asked
+abbrev asked_by : goal.After-drop-valid-inside → Asked
 asked_by c = record {
   store = c.args.store.now;
   subject = c.args.subject.now;
@@ -15,28 +15,28 @@ asked_by c = record {
   presented = c.args.presented.now;
 }
 
-exact : (c : goal.After-found_by) → IfOk c.found_by.result
+exact : (c : goal.After-drop-valid-inside) → IfOk c.certify.result
     (λ found. found ≡ certificate c.args.policy.now c.args.action c.args.item.now c.args.store.now c.args.subject.now c.args.presented.now c.args.now c.args.revoked.now)
-exact c = rw c.as_slice.ensures at c.found_by.ensures
+exact c = rw c.as_slice-creds.ensures at c.certify.ensures
 
 pub returns-clause-truth : goal.returns-clause-truth
 returns-clause-truth c =
-    IfOk-weaker c.found_by.result _ _ (λ found is. ap is_some is ∙ exists_where_allowed (asked_by c) c.args.policy.now c.args.action c.args.item.now) (exact c)
+    IfOk-weaker c.certify.result _ _ (λ found is. ap is_some is ∙ exists_where_allowed (asked_by c) c.args.policy.now c.args.action c.args.item.now) (exact c)
 
 pub returns-clause-passes : goal.returns-clause-passes
 returns-clause-passes c =
-    IfOk-weaker c.found_by.result _ _
+    IfOk-weaker c.certify.result _ _
     (λ found is. some_where found _ (λ given e. passes_where (asked_by c) c.args.policy.now c.args.action c.args.item.now given (sym is ∙ e)))
     (exact c)
 
 pub returns-clause-presented : goal.returns-clause-presented
 returns-clause-presented c =
-    IfOk-weaker c.found_by.result _ _
+    IfOk-weaker c.certify.result _ _
     (λ found is. some_where found _ (λ given e. presented_where (asked_by c) c.args.policy.now c.args.action c.args.item.now given (sym is ∙ e)))
     (exact c)
 
 pub returns-clause-each_once : goal.returns-clause-each_once
 returns-clause-each_once c =
-    IfOk-weaker c.found_by.result _ _
+    IfOk-weaker c.certify.result _ _
     (λ found is. some_where found _ (λ given e. distinct_where (asked_by c) c.args.policy.now c.args.action c.args.item.now given (sym is ∙ e)))
     (exact c)

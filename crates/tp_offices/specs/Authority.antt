@@ -1,0 +1,49 @@
+-- The authority's row, and what moves its clock and its revocations.
+use Rattle.std.specs.Prelude.{ℕ, ◌+◌, List, [], ◌∷◌, length, replicate, slice_set, Option, Some, None}
+use Rattle.std.specs.List.{filter_map}
+use Rattle.tp_types.specs.declared.ids.CredId.{CredId}
+use Rattle.tp_types.specs.declared.mail.AskRequest.{AskRequest}
+use Rattle.tp_types.specs.declared.mail.Body.{Body}
+use Rattle.tp_types.specs.declared.mail.Body.TheVariants as body
+use Rattle.tp_types.specs.declared.mail.Mail.{Mail}
+use Rattle.tp_types.specs.declared.scenario.Actor.TheVariants as actor
+use Rattle.tp_types.specs.declared.scenario.Scenario.{Scenario}
+use Rattle.tp_types.specs.Effect.{Effect, sends, silent}
+use Rattle.tp_offices.specs.declared.authority.Authority.{Authority}
+
+-- the authority as it stands before the first step: the opening clock, and nothing revoked
+abbrev pub opened : Scenario → Authority
+opened sc = record { clock = sc.clock; revoked = replicate (length sc.creds) None }
+
+-- the clock is moved
+abbrev pub ticked : ℕ → Authority → Authority
+ticked by authority = record authority { clock = authority.clock + by }
+
+-- the place of the credential has its id
+abbrev pub revoked_with : CredId → Authority → Authority
+revoked_with cred authority = record authority { revoked = slice_set authority.revoked cred.0 (Some cred) }
+
+abbrev pub in_place : Option CredId → Option CredId
+in_place place = place
+
+-- the credentials that are revoked, in the order of their places
+abbrev pub revocations : List (Option CredId) → List CredId
+revocations places = filter_map in_place places
+
+-- an Ask is answered with the clock and the revocations
+abbrev pub tells : Authority → AskRequest → Effect Authority
+tells authority ask =
+    sends authority
+    (record {
+      from = actor.Authority;
+      to = actor.Coordinator ask.txn;
+      body = body.Tell (record { txn = ask.txn; turn = ask.turn; clock = authority.clock; revoked = revocations authority.revoked });
+    } ∷ [])
+
+abbrev pub on_body : Authority → Body → Effect Authority
+on_body authority (body.Ask ask) = tells authority ask
+on_body authority _ = silent authority
+
+-- what the authority does on receipt of a mail
+abbrev pub authority_row : Authority → Mail → Effect Authority
+authority_row authority mail = on_body authority mail.letter.body

@@ -1,0 +1,8 @@
+//! The offices: the authority, which knows the clock and the revocations, and the master, which knows the newest versions. Neither crashes.
+#![tactic(auto)]
+
+mod authority;
+mod master;
+
+pub use authority::Authority;
+pub use master::Master;

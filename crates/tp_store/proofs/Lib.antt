@@ -1,0 +1,4 @@
+pub mod LawLemmas
+pub mod OutsideLemmas
+pub mod StoreLemmas
+pub mod WriteLemmas

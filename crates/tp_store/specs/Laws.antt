@@ -1,0 +1,52 @@
+-- What holds of every store.
+use Rattle.std.specs.Prelude.{◌≡◌, ◌≢◌, ℕ, ◌<◌, nat_le, length, Bool, true, false, filter, MatchOption, Some, slice_get, ℤ}
+use Rattle.std.specs.List.{list_all, list_any}
+use Rattle.std.specs.Option.{option_map_or}
+use Rattle.tp_types.specs.declared.ids.ItemId.{ItemId}
+use Rattle.tp_types.specs.declared.ids.TxnId.{TxnId}
+use Rattle.tp_model.specs.Ids.{same_item}
+use Rattle.tp_store.specs.declared.writes.TentativeWrite.{TentativeWrite}
+use Rattle.tp_store.specs.Contents.{Contents}
+use Rattle.tp_store.specs.Rule.{first_outside_in, read_in, writes_of, written, written_in}
+use Rattle.tp_store.specs.Writes.{is_outside}
+
+-- ---- reads
+
+-- the transaction keeps no write of this item by a later query
+abbrev pub is_last : Contents → TxnId → TentativeWrite → Bool
+is_last store txn write = option_map_or (λ (kept : TentativeWrite). nat_le kept.query write.query) (written_in store txn write.item) true
+
+-- after its last write of an item by query, a transaction of the store reads what it wrote
+abbrev pub OwnWritesAreRead : Type 0
+OwnWritesAreRead = (store : Contents) (txn : TxnId) (write : TentativeWrite) → txn.0 < length store.tentative → is_last store txn write ≡ true
+    → read_in (written store txn write) txn write.item ≡ write.value
+
+-- a write changes nothing that is kept of another item
+abbrev pub OtherItemsStay : Type 0
+OtherItemsStay = (store : Contents) (txn : TxnId) (write : TentativeWrite) (item : ItemId) → txn.0 < length store.tentative → same_item write.item item ≡ false
+    → written_in (written store txn write) txn item ≡ written_in store txn item
+
+-- nor what is kept of another transaction
+abbrev pub OtherTransactionsStay : Type 0
+OtherTransactionsStay = (store : Contents) (txn other : TxnId) (write : TentativeWrite) → other.0 ≢ txn.0
+    → writes_of (written store txn write) other ≡ writes_of store other
+
+-- ---- ranges
+
+abbrev pub is_not_before : ℕ → TentativeWrite → Bool
+is_not_before query write = nat_le query write.query
+
+-- one of the transaction's writes is of this query and this value and outside its range, and each that is outside is not of a lesser query
+pub record IsLeastOutside (store : Contents) (txn : TxnId) (first : ℕ × ℤ) : Type 0 where
+  pub write : TentativeWrite
+  pub at : ℕ
+  pub kept : slice_get (writes_of store txn) at ≡ Some write
+  pub query : first.0 ≡ write.query
+  pub value : first.1 ≡ write.value
+  pub outside : is_outside store.bounds write ≡ true
+  pub least : list_all (is_not_before first.0) (filter (is_outside store.bounds) (writes_of store txn)) ≡ true
+
+-- None is answered where each write is within its range, and else the least that is outside
+abbrev pub FirstOutsideIsLeast : Type 0
+FirstOutsideIsLeast = (store : Contents) (txn : TxnId)
+    → MatchOption (first_outside_in store txn) (list_any (is_outside store.bounds) (writes_of store txn) ≡ false) (IsLeastOutside store txn)

@@ -1,0 +1,91 @@
+-- The calls of a store, as functions on what it has.
+use Rattle.std.specs.Prelude.{ℕ, max, List, [], map, replicate, length, Option, slice_get, slice_set, unwrap_or, option_map, ℤ}
+use Rattle.std.specs.List.{filter, find}
+use Rattle.std.specs.Option.{option_map_or}
+use Rattle.tp_types.specs.declared.ids.AdminId.{AdminId}
+use Rattle.tp_types.specs.declared.ids.ItemId.{ItemId}
+use Rattle.tp_types.specs.declared.ids.ServerId.{ServerId}
+use Rattle.tp_types.specs.declared.ids.TxnId.{TxnId}
+use Rattle.tp_types.specs.declared.ids.Version.{Version}
+use Rattle.tp_types.specs.declared.scenario.Item.{Item}
+use Rattle.tp_types.specs.declared.scenario.Scenario.{Scenario}
+use Rattle.tp_types.specs.declared.scenario.ServerDecl.{ServerDecl}
+use Rattle.tp_model.specs.SerialRun.{number_at, opening_store}
+use Rattle.tp_store.specs.declared.writes.Bounds.{Bounds}
+use Rattle.tp_store.specs.declared.writes.TentativeWrite.{TentativeWrite}
+use Rattle.tp_store.specs.Contents.{Contents}
+use Rattle.tp_store.specs.Writes.{applied, first_of, is_on, is_outside, with_write}
+
+-- ---- before the first step
+
+abbrev pub bounds_of : Item → Bounds
+bounds_of item = record { min = item.min; max = item.max }
+
+-- the versions that the scenario says the server knows
+abbrev pub known_at_first : Scenario → ServerId → List Version
+known_at_first sc server = option_map_or (λ (declared : ServerDecl). declared.knows) (slice_get sc.servers server.0) []
+
+-- all items have their opening values, and no transaction has a write
+abbrev pub opened : Scenario → ServerId → Contents
+opened sc server = record {
+  bounds = map bounds_of sc.items;
+  values = opening_store sc;
+  known = known_at_first sc server;
+  tentative = replicate (length sc.txns) [];
+}
+
+-- ---- items
+
+-- the value of an item; 0 where there is no such item
+abbrev pub value_in : Contents → ItemId → ℤ
+value_in store item = number_at store.values item.0
+
+-- the writes of a transaction; none where there is no such transaction
+abbrev pub writes_of : Contents → TxnId → List TentativeWrite
+writes_of store txn = unwrap_or (slice_get store.tentative txn.0) []
+
+abbrev pub with_writes : Contents → TxnId → List TentativeWrite → Contents
+with_writes store txn writes = record store { tentative = slice_set store.tentative txn.0 writes }
+
+-- the write that is kept of a transaction and an item
+abbrev pub written_in : Contents → TxnId → ItemId → Option TentativeWrite
+written_in store txn item = find (is_on item) (writes_of store txn)
+
+abbrev pub value_of : TentativeWrite → ℤ
+value_of write = write.value
+
+-- what the transaction itself has written, or else the item's value
+abbrev pub read_in : Contents → TxnId → ItemId → ℤ
+read_in store txn item = option_map_or value_of (written_in store txn item) (value_in store item)
+
+-- the last write of the item by query is kept; a transaction that is not there keeps nothing
+abbrev pub written : Contents → TxnId → TentativeWrite → Contents
+written store txn write = with_writes store txn (with_write (writes_of store txn) write)
+
+abbrev pub query_and_value : TentativeWrite → ℕ × ℤ
+query_and_value write = (write.query, write.value)
+
+-- of the writes outside their ranges that of the least query
+abbrev pub first_outside_in : Contents → TxnId → Option (ℕ × ℤ)
+first_outside_in store txn = option_map query_and_value (first_of (filter (is_outside store.bounds) (writes_of store txn)))
+
+-- the writes of a transaction are the values of their items from now on
+abbrev pub applied_in : Contents → TxnId → Contents
+applied_in store txn = with_writes (record store { values = applied store.values (writes_of store txn) }) txn []
+
+-- the writes of a transaction are dropped
+abbrev pub forgotten : Contents → TxnId → Contents
+forgotten store txn = with_writes store txn []
+
+-- ---- versions
+
+-- the newest version known of an administrator; the first where there is no such administrator
+abbrev pub newest_in : Contents → AdminId → Version
+newest_in store admin = unwrap_or (slice_get store.known admin.0) (record { 0 = 1 })
+
+abbrev pub greater : Version → Version → Version
+greater one other = record { 0 = max one.0 other.0 }
+
+-- the greater of the version and of the one known is known
+abbrev pub told_in : Contents → AdminId → Version → Contents
+told_in store admin version = record store { known = slice_set store.known admin.0 (greater (newest_in store admin) version) }

@@ -1,0 +1,146 @@
+//! The authority and the master, act by act.
+use crate::scenario::{cred, small};
+use std::process::Abort;
+use std::test::Fail;
+use tp_offices::{Authority, Master};
+use tp_types::{Actor, AskRequest, Body, Letter, Mail, ProbeRequest, Reaction, TxnId, Version};
+
+/// A mail from the coordinator of the second transaction.
+fn mail(to: Actor, body: Body) -> Mail {
+    Mail {
+        number: 4,
+        sent: 3,
+        letter: Letter {
+            from: Actor::Coordinator(TxnId(1)),
+            to,
+            body,
+        },
+    }
+}
+
+fn asked() -> Mail {
+    let request = AskRequest {
+        txn: TxnId(1),
+        turn: 5,
+    };
+    mail(Actor::Authority, Body::Ask(request))
+}
+
+fn probed() -> Mail {
+    let request = ProbeRequest {
+        txn: TxnId(1),
+        turn: 6,
+    };
+    mail(Actor::Master, Body::Probe(request))
+}
+
+/// What the authority is to do, or what it is to tell: the clock, and the numbers of the revoked credentials.
+enum Act {
+    Tick(u64),
+    Revoke(u32),
+    Tells(u64, &'static [u32]),
+}
+
+const ACTS: &[Act] = &[
+    Act::Tells(7, &[]),
+    Act::Tick(5),
+    Act::Revoke(3),
+    Act::Revoke(1),
+    Act::Tells(12, &[1, 3]),
+    // one that was revoked, one that is not of the scenario, and the first
+    Act::Revoke(3),
+    Act::Revoke(9),
+    Act::Revoke(0),
+    Act::Tick(0),
+    Act::Tells(12, &[0, 1, 3]),
+    Act::Revoke(2),
+    Act::Tick(1),
+    Act::Tells(13, &[0, 1, 2, 3]),
+];
+
+/// Whether a reaction is the one letter Tell to that coordinator, with this clock and these revocations.
+fn tells(reaction: &Reaction, clock: u64, revoked: &[u32]) -> bool {
+    if reaction.append.is_some() || reaction.letters.len() != 1 {
+        return false;
+    }
+    let Some(letter) = reaction.letters.get(0) else {
+        return false;
+    };
+    let Body::Tell(told) = &letter.body else {
+        return false;
+    };
+    if told.txn != TxnId(1)
+        || told.turn != 5
+        || told.clock != clock
+        || told.revoked.len() != revoked.len()
+    {
+        return false;
+    }
+    for (at, number) in revoked.iter().enumerate() {
+        if told.revoked.get(at) != Some(&cred(*number)) {
+            return false;
+        }
+    }
+    true
+}
+
+fn tells_now(
+    rt: &(impl Abort + AllocGlobal),
+    authority: &Authority,
+    clock: u64,
+    revoked: &[u32],
+) -> bool {
+    let reaction = authority
+        .receive(rt.alloc(), &asked())
+        .expect(rt, "memory for a letter");
+    tells(&reaction, clock, revoked)
+}
+
+/// Does what is to be done, on a clock that is small.
+fn plays(rt: &(impl Abort + AllocGlobal), authority: &mut Authority, act: &Act) -> bool {
+    match act {
+        Act::Tick(by) => {
+            assert!(rt; authority.clock < 1000 && *by < 1000);
+            authority.tick(*by);
+            true
+        }
+        Act::Revoke(number) => {
+            authority.revoke(cred(*number));
+            true
+        }
+        Act::Tells(clock, revoked) => tells_now(rt, authority, *clock, revoked),
+    }
+}
+
+#[test]
+fn tells_the_clock_and_the_revocations_in_order(rt: HostRuntime) -> Result<(), Fail> {
+    let scenario = small(&rt)?;
+    let mut authority = Authority::opened(rt.alloc(), &scenario)?;
+    for (at, done) in ACTS.iter().enumerate() {
+        let holds = plays(&rt, &mut authority, done);
+        assert!(rt; holds, "act {at}");
+    }
+    let other = authority.receive(rt.alloc(), &probed())?;
+    assert!(rt; other.letters.is_empty() && other.append.is_none());
+    Ok(())
+}
+
+#[test]
+fn tells_the_opening_versions(rt: HostRuntime) -> Result<(), Fail> {
+    let scenario = small(&rt)?;
+    let master = Master::opened(rt.alloc(), &scenario)?;
+    let reaction = master.receive(rt.alloc(), &probed())?;
+    assert!(rt; reaction.append.is_none() && reaction.letters.len() == 1);
+    let Some(letter) = reaction.letters.get(0) else {
+        return Ok(());
+    };
+    let Body::Newest(told) = &letter.body else {
+        assert!(rt; false, "another letter");
+        return Ok(());
+    };
+    assert!(rt; told.txn == TxnId(1) && told.turn == 6);
+    assert_eq!(rt; told.newest.as_slice(), [Version(3), Version(1)].as_slice());
+    let other = master.receive(rt.alloc(), &asked())?;
+    assert!(rt; other.letters.is_empty() && other.append.is_none());
+    Ok(())
+}
