@@ -1,6 +1,7 @@
 pub mod AdminLemmas
 pub mod AgainLemmas
 pub mod AgreedLemmas
+pub mod AnswerLemmas
 pub mod JudgeLemmas
 pub mod KeptLemmas
 pub mod NamesLemmas

@@ -17,7 +17,7 @@ use Rattle.tp_round.specs.declared.round.Judged.TheVariants.{Waiting, AllTrue, F
 use Rattle.tp_round.specs.declared.round.Round.{Round}
 use Rattle.tp_round.specs.declared.round.Target.{Target}
 use Rattle.tp_round.specs.declared.round.Wanted.{Wanted}
-use Rattle.tp_round.specs.Judge.{is_aimed, is_awaited, is_global_at, judge, judged, replied, started, target}
+use Rattle.tp_round.specs.Judge.{is_aimed, is_awaited, is_global_at, is_waiting, judge, judged, replied, started, target}
 use Rattle.tp_round.specs.Replies.{by_query, is_at_query, is_of, proofs_in, verdicts_in}
 
 -- ---- what an update names
@@ -89,10 +89,26 @@ pub record IsLeastFalse (round : Round) (reading : Option Reading) (verdict : Ve
 abbrev pub FalseIsLeast : Type 0
 FalseIsLeast = (round : Round) (reading : Option Reading) (verdict : Verdict) → judge round reading ≡ False verdict → IsLeastFalse round reading verdict
 
+-- ---- that rounds are answered
+
+-- only where a reply or the reading is missing is the answer to wait
+abbrev pub WaitsForReplies : Type 0
+WaitsForReplies = (round : Round) (reading : Option Reading) → judge round reading ≡ Waiting → is_waiting round reading ≡ true
+
+-- where nothing is missing, every proof has its administrator's target and is true, the answer is that all is true
+abbrev pub AllTrueWhereAgreed : Type 0
+AllTrueWhereAgreed = (round : Round) (reading : Option Reading) → is_waiting round reading ≡ false → list_any (is_behind round reading) round.targets ≡ false
+    → list_all is_true (proofs_in round.targets) ≡ true → judge round reading ≡ AllTrue
+
 -- ---- without global consistency
 
 abbrev pub is_of_global : List Level → Verdict → Bool
 is_of_global levels verdict = is_global_at levels verdict.admin
+
+-- where nothing is missing and some server is out of date, the answer is an update; under global consistency the rounds may be spent
+abbrev pub UpdatesTheOutdated : Type 0
+UpdatesTheOutdated = (round : Round) (reading : Option Reading) → is_waiting round reading ≡ false → list_any (is_behind round reading) round.targets ≡ true
+    → list_any (is_of_global round.levels) (proofs_in round.targets) ≡ false → (named : List Wanted) × (judge round reading ≡ Update named)
 
 -- where no proof is of an administrator under global consistency, the rounds are never spent
 abbrev pub NeverSpentUnderView : Type 0

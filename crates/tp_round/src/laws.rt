@@ -7,6 +7,15 @@ pub fn update_names_the_outdated()
     ensures { laws.UpdateNamesTheOutdated }
 {}
 
+/// A round waits only where a reply is missing, or the reading of the master. Where nothing is missing and every proof is true and of its
+/// administrator's target, all is true; where some proof is of another version, and none is under global consistency, servers are
+/// named.
+pub fn rounds_are_answered()
+    ensures waits { laws.WaitsForReplies }
+    ensures all_true { laws.AllTrueWhereAgreed }
+    ensures updates { laws.UpdatesTheOutdated }
+{}
+
 /// Where all is true, every proof is true and has its administrator's target, so the proofs of an administrator have one version. Where a
 /// proof is false, the versions are so too, and of the false proofs it is the one of least query.
 pub fn agreed_rounds_agree()

@@ -7,7 +7,7 @@ mod replies;
 mod round;
 
 pub use laws::{
-    agreed_rounds_agree, judging_again_is_safe, proofs_go_by_query, update_names_the_outdated,
-    view_takes_two_rounds,
+    agreed_rounds_agree, judging_again_is_safe, proofs_go_by_query, rounds_are_answered,
+    update_names_the_outdated, view_takes_two_rounds,
 };
 pub use round::{Judged, Round, Target, Wanted};
