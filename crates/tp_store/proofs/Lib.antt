@@ -1,3 +1,4 @@
+pub mod AppliedLemmas
 pub mod LawLemmas
 pub mod OutsideLemmas
 pub mod StoreLemmas

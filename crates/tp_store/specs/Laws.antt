@@ -1,5 +1,5 @@
 -- What holds of every store.
-use Rattle.std.specs.Prelude.{◌≡◌, ◌≢◌, ℕ, ◌<◌, nat_le, length, Bool, true, false, filter, MatchOption, Some, slice_get, ℤ}
+use Rattle.std.specs.Prelude.{List, ◌≡◌, ◌≢◌, ℕ, ◌<◌, nat_le, length, Bool, true, false, filter, MatchOption, [], ◌∷◌, not, ◌&&◌, find, Option, Some, slice_get, slice_set, ℤ}
 use Rattle.std.specs.List.{list_all, list_any}
 use Rattle.std.specs.Option.{option_map_or}
 use Rattle.tp_types.specs.declared.ids.ItemId.{ItemId}
@@ -8,13 +8,17 @@ use Rattle.tp_model.specs.Ids.{same_item}
 use Rattle.tp_store.specs.declared.writes.TentativeWrite.{TentativeWrite}
 use Rattle.tp_store.specs.Contents.{Contents}
 use Rattle.tp_store.specs.Rule.{first_outside_in, read_in, writes_of, written, written_in}
-use Rattle.tp_store.specs.Writes.{is_outside}
+use Rattle.tp_store.specs.Writes.{applied, is_on, is_outside, with_write}
 
 -- ---- reads
 
+-- the write is not by an earlier query than the one that is kept
+abbrev pub is_last_of : TentativeWrite → Option TentativeWrite → Bool
+is_last_of write kept = option_map_or (λ (other : TentativeWrite). nat_le other.query write.query) kept true
+
 -- the transaction keeps no write of this item by a later query
 abbrev pub is_last : Contents → TxnId → TentativeWrite → Bool
-is_last store txn write = option_map_or (λ (kept : TentativeWrite). nat_le kept.query write.query) (written_in store txn write.item) true
+is_last store txn write = is_last_of write (written_in store txn write.item)
 
 -- after its last write of an item by query, a transaction of the store reads what it wrote
 abbrev pub OwnWritesAreRead : Type 0
@@ -50,3 +54,20 @@ pub record IsLeastOutside (store : Contents) (txn : TxnId) (first : ℕ × ℤ) 
 abbrev pub FirstOutsideIsLeast : Type 0
 FirstOutsideIsLeast = (store : Contents) (txn : TxnId)
     → MatchOption (first_outside_in store txn) (list_any (is_outside store.bounds) (writes_of store txn) ≡ false) (IsLeastOutside store txn)
+
+-- ---- what is applied
+
+-- no two of the writes are of one item
+abbrev pub are_apart : List TentativeWrite → Bool
+are_apart [] = true
+are_apart (write ∷ writes) = not (list_any (is_on write.item) writes) && are_apart writes
+
+-- applying one write more, where it is the last of its item by query, is applying the others and then setting its item
+abbrev pub AppliedInOrder : Type 0
+AppliedInOrder = (values : List ℤ) (writes : List TentativeWrite) (write : TentativeWrite) → are_apart writes ≡ true
+    → is_last_of write (find (is_on write.item) writes) ≡ true
+    → applied values (with_write writes write) ≡ slice_set (applied values writes) write.item.0 write.value
+
+-- and it leaves no two of one item
+abbrev pub StayApart : Type 0
+StayApart = (writes : List TentativeWrite) (write : TentativeWrite) → are_apart writes ≡ true → are_apart (with_write writes write) ≡ true

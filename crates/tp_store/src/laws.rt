@@ -13,3 +13,10 @@ pub fn own_writes_are_read()
 pub fn first_outside_is_least()
     ensures { laws.FirstOutsideIsLeast }
 {}
+
+/// Applying a transaction's writes gives each item what setting it write by write gives, where writes come by query; no two of
+/// them are ever of one item.
+pub fn writes_are_applied_in_order()
+    ensures order { laws.AppliedInOrder }
+    ensures apart { laws.StayApart }
+{}

@@ -7,6 +7,6 @@ mod opening;
 mod store;
 mod writes;
 
-pub use laws::{first_outside_is_least, own_writes_are_read};
+pub use laws::{first_outside_is_least, own_writes_are_read, writes_are_applied_in_order};
 pub use store::Store;
 pub use writes::{Bounds, TentativeWrite};
