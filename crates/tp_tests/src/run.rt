@@ -1,6 +1,6 @@
 //! Whole runs by the top call, from bytes to bytes.
 use crate::io::calls;
-use crate::scenario::{Edit, FIRST, NO_JSON, NOT_YET, OTHER_VALUES, edited_text};
+use crate::scenario::{Edit, FIRST, NO_JSON, OTHER_VALUES, REFUSED, edited_text};
 use std::alloc::Global;
 use std::process::Abort;
 use std::str;
@@ -163,13 +163,19 @@ fn refuses_what_is_no_json(rt: HostRuntime) -> Result<(), Fail> {
 }
 
 #[test]
-fn refuses_what_is_not_built(rt: HostRuntime) -> Result<(), Fail> {
+fn refuses_other_scenarios(rt: HostRuntime) -> Result<(), Fail> {
     for input in OTHER_VALUES {
-        is_refused(&rt, rt.alloc(), input.as_bytes(), "refused notyet $\n")?;
+        is_refused(&rt, rt.alloc(), input.as_bytes(), "refused shape $\n")?;
     }
-    for (old, new) in NOT_YET {
+    for (old, new, why) in REFUSED {
         let input = edited_text(rt.alloc(), FIRST, &[(*old, *new)])?;
-        is_refused(&rt, rt.alloc(), input.as_bytes(), "refused notyet $\n")?;
+        let place = if why.starts_with("policy") {
+            " syntax 22"
+        } else {
+            ""
+        };
+        let wanted = format!(in rt.alloc(); "refused {why}{place}\n")?;
+        is_refused(&rt, rt.alloc(), input.as_bytes(), wanted.as_str())?;
     }
     Ok(())
 }
@@ -250,7 +256,7 @@ fn a_write_of_the_report_fails(rt: HostRuntime) -> Result<(), Fail> {
 const LINES: &[(&[&str], &str, &str, u64)] = &[
     (&[], "", "usage: tpvc COMMAND [WORD]\n", 9),
     (&["run"], "", "refused badjson\n", 6),
-    (&["run"], "{}", "refused notyet $\n", 6),
+    (&["run"], "{}", "refused shape $\n", 6),
 ];
 
 #[test]

@@ -3,8 +3,8 @@ use std::alloc::Global;
 use std::fmt::Write;
 use std::str;
 use std::test::Fail;
-use tp_top::scenario::{ScenarioError, read};
-use tp_types::{Name, Operand, Query, Scenario};
+use tp_scenario::{ScenarioError, read};
+use tp_types::{Name, Operand, Query, Scenario, Text};
 
 /// A scenario of the form that is built so far.
 pub const FIRST: &str =
@@ -109,178 +109,336 @@ const BUILT: &[(&[Edit], &str)] = &[
         &[(r#""hr""#, r#" "hr" "#)],
         "hr s0 x t1 ann 0 100 5 false 7",
     ),
+    // what is by default may be told, and blanks in a policy do not count
+    (
+        &[(r#"{"admins""#, r#"{"clock":0,"admins""#)],
+        "hr s0 x t1 ann 0 100 5 false 7",
+    ),
+    (
+        &[(r#"{"name":"hr""#, r#"{"opening":1,"name":"hr""#)],
+        "hr s0 x t1 ann 0 100 5 false 7",
+    ),
+    (
+        &[(r#"{"name":"s0""#, r#"{"knows":{},"name":"s0""#)],
+        "hr s0 x t1 ann 0 100 5 false 7",
+    ),
+    (
+        &[(r#"{"name":"t1""#, r#"{"rounds":8,"name":"t1""#)],
+        "hr s0 x t1 ann 0 100 5 false 7",
+    ),
+    (
+        &[("* if true;", "*  if true ; ")],
+        "hr s0 x t1 ann 0 100 5 false 7",
+    ),
     (
         &[(r#""ann""#, r#""\u0061nn""#)],
         "hr s0 x t1 ann 0 100 5 false 7",
     ),
 ];
 
-/// Edits after each of which the scenario is of no form that is built yet.
-pub const NOT_YET: &[Edit] = &[
+/// Edits after each of which the scenario is refused: what stands in FIRST, what takes its place, and why.
+pub const REFUSED: &[(&str, &str, &str)] = &[
     // a key is missing
     (
         r#""admins":[{"name":"hr","policies":["allow any on * if true;"]}],"#,
         "",
+        "shape $",
     ),
     (
         r#""servers":[{"name":"s0","items":[{"name":"x","admin":"hr","min":0,"max":100,"value":5}]}],"#,
         "",
+        "shape $",
     ),
     (
         r#","transactions":[{"name":"t1","subject":"ann","queries":["write x := 7"]}]"#,
         "",
+        "shape $",
     ),
-    (r#""name":"hr","#, ""),
-    (r#","policies":["allow any on * if true;"]"#, ""),
-    (r#""name":"s0","#, ""),
+    (r#""name":"hr","#, "", "shape $.admins[0]"),
+    (
+        r#","policies":["allow any on * if true;"]"#,
+        "",
+        "shape $.admins[0]",
+    ),
+    (r#""name":"s0","#, "", "shape $.servers[0]"),
     (
         r#","items":[{"name":"x","admin":"hr","min":0,"max":100,"value":5}]"#,
         "",
+        "shape $.servers[0]",
     ),
-    (r#""name":"x","#, ""),
-    (r#""admin":"hr","#, ""),
-    (r#""min":0,"#, ""),
-    (r#""max":100,"#, ""),
-    (r#","value":5"#, ""),
-    (r#""name":"t1","#, ""),
-    (r#""subject":"ann","#, ""),
-    (r#","queries":["write x := 7"]"#, ""),
+    (r#""name":"x","#, "", "shape $.servers[0].items[0]"),
+    (r#""admin":"hr","#, "", "shape $.servers[0].items[0]"),
+    (r#""min":0,"#, "", "shape $.servers[0].items[0]"),
+    (r#""max":100,"#, "", "shape $.servers[0].items[0]"),
+    (r#","value":5"#, "", "shape $.servers[0].items[0]"),
+    (r#""name":"t1","#, "", "shape $.transactions[0]"),
+    (r#""subject":"ann","#, "", "shape $.transactions[0]"),
+    (
+        r#","queries":["write x := 7"]"#,
+        "",
+        "shape $.transactions[0]",
+    ),
     // a key is misspelled
-    (r#""admins""#, r#""admin""#),
-    (r#""policies""#, r#""policy""#),
-    (r#""servers""#, r#""Servers""#),
-    (r#""items""#, r#""item""#),
-    (r#""admin":"#, r#""admins":"#),
-    (r#""min""#, r#""least""#),
-    (r#""max""#, r#""most""#),
-    (r#""value""#, r#""values""#),
-    (r#""transactions""#, r#""transaction""#),
-    (r#""subject""#, r#""user""#),
-    (r#""queries""#, r#""query""#),
-    (r#""name""#, r#""Name""#),
+    (r#""admins""#, r#""admin""#, "shape $"),
+    (r#""policies""#, r#""policy""#, "shape $.admins[0]"),
+    (r#""servers""#, r#""Servers""#, "shape $"),
+    (r#""items""#, r#""item""#, "shape $.servers[0]"),
+    (r#""admin":"#, r#""admins":"#, "shape $.servers[0].items[0]"),
+    (r#""min""#, r#""least""#, "shape $.servers[0].items[0]"),
+    (r#""max""#, r#""most""#, "shape $.servers[0].items[0]"),
+    (r#""value""#, r#""values""#, "shape $.servers[0].items[0]"),
+    (r#""transactions""#, r#""transaction""#, "shape $"),
+    (r#""subject""#, r#""user""#, "shape $.transactions[0]"),
+    (r#""queries""#, r#""query""#, "shape $.transactions[0]"),
+    (r#""name""#, r#""Name""#, "shape $.admins[0]"),
     // there is one key more
-    (r#"{"admins""#, r#"{"clock":0,"admins""#),
-    (r#"{"name":"hr""#, r#"{"opening":1,"name":"hr""#),
-    (r#"{"name":"s0""#, r#"{"knows":{},"name":"s0""#),
-    (r#"{"name":"x""#, r#"{"note":1,"name":"x""#),
-    (r#"{"name":"t1""#, r#"{"rounds":8,"name":"t1""#),
+    (
+        r#"{"name":"x""#,
+        r#"{"note":1,"name":"x""#,
+        "shape $.servers[0].items[0]",
+    ),
     // a value is of another kind
-    (r#""hr""#, "7"),
+    (r#""hr""#, "7", "shape $.admins[0].name"),
     (
         r#""admins":[{"name":"hr","policies":["allow any on * if true;"]}]"#,
         r#""admins":{"name":"hr","policies":["allow any on * if true;"]}"#,
+        "shape $.admins",
     ),
     (
         r#"["allow any on * if true;"]"#,
         r#""allow any on * if true;""#,
+        "shape $.admins[0].policies",
     ),
-    (r#""allow any on * if true;""#, "true"),
-    (r#""s0""#, r#"["s0"]"#),
-    (r#"[{"name":"x""#, r#"[1,{"name":"x""#),
-    (r#""admin":"hr""#, r#""admin":0"#),
-    (r#""min":0"#, r#""min":"0""#),
-    (r#""min":0"#, r#""min":null"#),
-    (r#""min":0"#, r#""min":-0"#),
-    (r#""min":0"#, r#""min":0.0"#),
-    (r#""max":100"#, r#""max":1e2"#),
-    (r#""value":5"#, r#""value":5.0"#),
-    (r#""value":5"#, r#""value":[5]"#),
-    (r#""t1""#, "{}"),
-    (r#""ann""#, "null"),
-    (r#"["write x := 7"]"#, r#""write x := 7""#),
-    (r#""write x := 7""#, "7"),
+    (
+        r#""allow any on * if true;""#,
+        "true",
+        "shape $.admins[0].policies[0]",
+    ),
+    (r#""s0""#, r#"["s0"]"#, "shape $.servers[0].name"),
+    (
+        r#"[{"name":"x""#,
+        r#"[1,{"name":"x""#,
+        "shape $.servers[0].items[0]",
+    ),
+    (
+        r#""admin":"hr""#,
+        r#""admin":0"#,
+        "shape $.servers[0].items[0].admin",
+    ),
+    (
+        r#""min":0"#,
+        r#""min":"0""#,
+        "shape $.servers[0].items[0].min",
+    ),
+    (
+        r#""min":0"#,
+        r#""min":null"#,
+        "shape $.servers[0].items[0].min",
+    ),
+    (
+        r#""min":0"#,
+        r#""min":-0"#,
+        "shape $.servers[0].items[0].min",
+    ),
+    (
+        r#""min":0"#,
+        r#""min":0.0"#,
+        "shape $.servers[0].items[0].min",
+    ),
+    (
+        r#""max":100"#,
+        r#""max":1e2"#,
+        "shape $.servers[0].items[0].max",
+    ),
+    (
+        r#""value":5"#,
+        r#""value":5.0"#,
+        "shape $.servers[0].items[0].value",
+    ),
+    (
+        r#""value":5"#,
+        r#""value":[5]"#,
+        "shape $.servers[0].items[0].value",
+    ),
+    (r#""t1""#, "{}", "shape $.transactions[0].name"),
+    (r#""ann""#, "null", "shape $.transactions[0].subject"),
+    (
+        r#"["write x := 7"]"#,
+        r#""write x := 7""#,
+        "shape $.transactions[0].queries",
+    ),
+    (
+        r#""write x := 7""#,
+        "7",
+        "shape $.transactions[0].queries[0]",
+    ),
     // an array is empty, or has two members
     (
         r#"{"name":"hr","policies":["allow any on * if true;"]}"#,
         "",
+        "range $.admins",
     ),
     (
         r#"{"name":"hr","policies":["allow any on * if true;"]}"#,
         r#"{"name":"hr","policies":["allow any on * if true;"]},{"name":"it","policies":["allow any on * if true;"]}"#,
+        "notyet $",
     ),
-    (r#"["allow any on * if true;"]"#, "[]"),
+    (
+        r#"["allow any on * if true;"]"#,
+        "[]",
+        "range $.admins[0].policies",
+    ),
     (
         r#"["allow any on * if true;"]"#,
         r#"["allow any on * if true;","allow any on * if true;"]"#,
+        "notyet $",
     ),
     (
         r#"{"name":"x","admin":"hr","min":0,"max":100,"value":5}"#,
         "",
+        "unknown $.transactions[0].queries[0]",
     ),
     (
         r#""value":5}"#,
         r#""value":5},{"name":"y","admin":"hr","min":0,"max":100,"value":5}"#,
+        "notyet $",
     ),
     (
         r#"{"name":"t1","subject":"ann","queries":["write x := 7"]}"#,
         "",
+        "notyet $",
     ),
-    (r#"["write x := 7"]"#, "[]"),
-    (r#"["write x := 7"]"#, r#"["write x := 7","write x := 8"]"#),
+    (
+        r#"["write x := 7"]"#,
+        "[]",
+        "range $.transactions[0].queries",
+    ),
+    (
+        r#"["write x := 7"]"#,
+        r#"["write x := 7","write x := 8"]"#,
+        "notyet $",
+    ),
     // a name is misspelled, or is not the declared one
-    (r#""hr""#, r#""Hr""#),
-    (r#""s0""#, r#""""#),
-    (r#""s0""#, r#""0s""#),
-    (r#""s0""#, r#""_s""#),
-    (r#""s0""#, r#""s-0""#),
-    (r#""ann""#, r#""abcdefghijklmnopqrstuvwxyz_012345""#),
-    (r#""ann""#, r#""ann ""#),
-    (r#""ann""#, r#""änn""#),
-    (r#""t1""#, r#""s0""#),
-    (r#""admin":"hr""#, r#""admin":"it""#),
-    (r#""admin":"hr""#, r#""admin":"h""#),
-    ("write x", "write y"),
-    ("write x", "write xx"),
+    (r#""hr""#, r#""Hr""#, "range $.admins[0].name"),
+    (r#""s0""#, r#""""#, "range $.servers[0].name"),
+    (r#""s0""#, r#""0s""#, "range $.servers[0].name"),
+    (r#""s0""#, r#""_s""#, "range $.servers[0].name"),
+    (r#""s0""#, r#""s-0""#, "range $.servers[0].name"),
+    (
+        r#""ann""#,
+        r#""abcdefghijklmnopqrstuvwxyz_012345""#,
+        "range $.transactions[0].subject",
+    ),
+    (r#""ann""#, r#""ann ""#, "range $.transactions[0].subject"),
+    (r#""ann""#, r#""änn""#, "range $.transactions[0].subject"),
+    (r#""t1""#, r#""s0""#, "range $.transactions[0].name"),
+    (
+        r#""admin":"hr""#,
+        r#""admin":"it""#,
+        "unknown $.servers[0].items[0].admin",
+    ),
+    (
+        r#""admin":"hr""#,
+        r#""admin":"h""#,
+        "unknown $.servers[0].items[0].admin",
+    ),
+    ("write x", "write y", "unknown $.transactions[0].queries[0]"),
+    (
+        "write x",
+        "write xx",
+        "unknown $.transactions[0].queries[0]",
+    ),
     // the policy has another text
-    ("* if", "*  if"),
-    ("true;", "true ;"),
-    ("true;", "true; "),
-    ("any", "read"),
-    ("true;", "true"),
-    (r#""allow any on * if true;""#, r#""""#),
+    ("any", "read", "notyet $"),
+    ("true;", "true", "policy $.admins[0].policies[0]"),
+    (r#""allow any on * if true;""#, r#""""#, "notyet $"),
     // a number is out of its range
-    (r#""min":0"#, r#""min":101"#),
-    (r#""min":0"#, r#""min":6"#),
-    (r#""min":0"#, r#""min":8"#),
-    (r#""max":100"#, r#""max":4"#),
-    (r#""max":100"#, r#""max":6"#),
-    (r#""value":5"#, r#""value":-1"#),
-    (r#""value":5"#, r#""value":101"#),
-    (r#""min":0"#, r#""min":-1000000000000001"#),
-    (r#""max":100"#, r#""max":1000000000000001"#),
-    (r#""max":100"#, r#""max":9223372036854775808"#),
+    (
+        r#""min":0"#,
+        r#""min":101"#,
+        "range $.servers[0].items[0].max",
+    ),
+    (
+        r#""min":0"#,
+        r#""min":6"#,
+        "range $.servers[0].items[0].value",
+    ),
+    (
+        r#""min":0"#,
+        r#""min":8"#,
+        "range $.servers[0].items[0].value",
+    ),
+    (
+        r#""max":100"#,
+        r#""max":4"#,
+        "range $.servers[0].items[0].value",
+    ),
+    (r#""max":100"#, r#""max":6"#, "notyet $"),
+    (
+        r#""value":5"#,
+        r#""value":-1"#,
+        "range $.servers[0].items[0].value",
+    ),
+    (
+        r#""value":5"#,
+        r#""value":101"#,
+        "range $.servers[0].items[0].value",
+    ),
+    (
+        r#""min":0"#,
+        r#""min":-1000000000000001"#,
+        "range $.servers[0].items[0].min",
+    ),
+    (
+        r#""max":100"#,
+        r#""max":1000000000000001"#,
+        "range $.servers[0].items[0].max",
+    ),
+    (
+        r#""max":100"#,
+        r#""max":9223372036854775808"#,
+        "shape $.servers[0].items[0].max",
+    ),
     // the query is another
-    (":= 7", ":= 101"),
-    (":= 7", ":= -1"),
-    (":= 7", ":= 07"),
-    (":= 7", ":= -07"),
-    (":= 7", ":= 00"),
-    (":= 7", ":= +7"),
-    (":= 7", ":= - 7"),
-    (":= 7", ":= --7"),
-    (":= 7", ":= -"),
-    (":= 7", ":= 7a"),
-    (":= 7", ":= 7."),
-    (":= 7", ":= 7 + 1"),
-    (":= 7", ":= 7;"),
-    (":= 7", ":= "),
-    (":= 7", ":="),
-    (":= 7", ":= 7 "),
-    (":= 7", ":=7"),
-    (":= 7", ": = 7"),
-    (":= 7", "= 7"),
-    (":= 7", ":= r1"),
-    ("write x", " write x"),
-    ("write x", "Write x"),
-    ("write x", "writex"),
-    ("write x", "write"),
-    ("write x", "x"),
-    ("write x", r#"write\tx"#),
-    ("write x", ""),
-    ("write x := 7", "read x into r1"),
-    ("write x := 7", "write x"),
-    ("write x := 7", ""),
-    ("write x := 7", " "),
+    (":= 7", ":= 101", "notyet $"),
+    (":= 7", ":= -1", "notyet $"),
+    (":= 7", ":= 07", "shape $.transactions[0].queries[0]"),
+    (":= 7", ":= -07", "shape $.transactions[0].queries[0]"),
+    (":= 7", ":= 00", "shape $.transactions[0].queries[0]"),
+    (":= 7", ":= +7", "shape $.transactions[0].queries[0]"),
+    (":= 7", ":= - 7", "shape $.transactions[0].queries[0]"),
+    (":= 7", ":= --7", "shape $.transactions[0].queries[0]"),
+    (":= 7", ":= -", "shape $.transactions[0].queries[0]"),
+    (":= 7", ":= 7a", "shape $.transactions[0].queries[0]"),
+    (":= 7", ":= 7.", "shape $.transactions[0].queries[0]"),
+    (":= 7", ":= 7 + 1", "range $.transactions[0].queries[0]"),
+    (":= 7", ":= 7;", "shape $.transactions[0].queries[0]"),
+    (":= 7", ":= ", "shape $.transactions[0].queries[0]"),
+    (":= 7", ":=", "shape $.transactions[0].queries[0]"),
+    (":= 7", ":= 7 ", "shape $.transactions[0].queries[0]"),
+    (":= 7", ":=7", "shape $.transactions[0].queries[0]"),
+    (":= 7", ": = 7", "shape $.transactions[0].queries[0]"),
+    (":= 7", "= 7", "shape $.transactions[0].queries[0]"),
+    (":= 7", ":= r1", "notyet $"),
+    ("write x", " write x", "shape $.transactions[0].queries[0]"),
+    ("write x", "Write x", "shape $.transactions[0].queries[0]"),
+    ("write x", "writex", "shape $.transactions[0].queries[0]"),
+    ("write x", "write", "shape $.transactions[0].queries[0]"),
+    ("write x", "x", "shape $.transactions[0].queries[0]"),
+    (
+        "write x",
+        r#"write\tx"#,
+        "shape $.transactions[0].queries[0]",
+    ),
+    ("write x", "", "shape $.transactions[0].queries[0]"),
+    ("write x := 7", "read x into r1", "notyet $"),
+    (
+        "write x := 7",
+        "write x",
+        "shape $.transactions[0].queries[0]",
+    ),
+    ("write x := 7", "", "shape $.transactions[0].queries[0]"),
+    ("write x := 7", " ", "shape $.transactions[0].queries[0]"),
 ];
 
 /// Edits that a wide range needs: a constant of 16 digits is none.
@@ -289,7 +447,7 @@ const TOO_MANY_DIGITS: &[Edit] = &[
     (r#"7""#, r#"1000000000000000""#),
 ];
 
-/// Whole texts that have a reading, of no form that is built yet.
+/// Whole texts that have a reading, that are no objects with its keys.
 pub const OTHER_VALUES: &[&str] = &["[]", "{}", "null", "7", r#""write x := 7""#];
 
 /// Bytes that are no JSON text.
@@ -358,16 +516,22 @@ fn summary(alloc: Global, scenario: &Scenario) -> Result<String, Fail> {
     )?)
 }
 
+fn refusal(alloc: Global, kind: &str, path: &Text) -> Result<String, Fail> {
+    let path = str::from_utf8(path.0.as_slice())?;
+    Ok(format!(in alloc; "{kind} {path}")?)
+}
+
 /// What is said of the bytes: the summary of a scenario, or the refusal.
 fn outcome(alloc: Global, bytes: &[u8]) -> Result<String, Fail> {
     match read(alloc, bytes) {
         Ok(scenario) => summary(alloc, &scenario),
         Err(ScenarioError::TooLong) => Ok(String::from_str(alloc, "toolong")?),
         Err(ScenarioError::BadJson) => Ok(String::from_str(alloc, "badjson")?),
-        Err(ScenarioError::NotYet { path }) => {
-            let path = str::from_utf8(path.0.as_slice())?;
-            Ok(format!(in alloc; "notyet {path}")?)
-        }
+        Err(ScenarioError::Shape { path }) => refusal(alloc, "shape", &path),
+        Err(ScenarioError::Range { path }) => refusal(alloc, "range", &path),
+        Err(ScenarioError::Unknown { path }) => refusal(alloc, "unknown", &path),
+        Err(ScenarioError::Policy { path, fault: _ }) => refusal(alloc, "policy", &path),
+        Err(ScenarioError::NotYet { path }) => refusal(alloc, "notyet", &path),
         Err(ScenarioError::NoMemory) => Ok(String::from_str(alloc, "nomemory")?),
     }
 }
@@ -383,18 +547,19 @@ fn reads_what_is_built(rt: HostRuntime) -> Result<(), Fail> {
 }
 
 #[test]
-fn refuses_what_is_not_built(rt: HostRuntime) -> Result<(), Fail> {
-    for edit in NOT_YET {
-        let text = edited(rt.alloc(), &[*edit])?;
+fn refuses_other_scenarios(rt: HostRuntime) -> Result<(), Fail> {
+    for (old, new, why) in REFUSED {
+        let text = edited(rt.alloc(), &[(*old, *new)])?;
         let got = outcome(rt.alloc(), text.as_bytes())?;
-        assert_eq!(rt; got.as_str(), "notyet $", "{text}");
+        assert_eq!(rt; got.as_str(), *why, "{text}");
     }
     let text = edited(rt.alloc(), TOO_MANY_DIGITS)?;
-    assert_eq!(rt; outcome(rt.alloc(), text.as_bytes())?.as_str(), "notyet $");
+    let got = outcome(rt.alloc(), text.as_bytes())?;
+    assert_eq!(rt; got.as_str(), "shape $.transactions[0].queries[0]");
     for text in OTHER_VALUES {
         assert_eq!(rt;
             outcome(rt.alloc(), text.as_bytes())?.as_str(),
-            "notyet $",
+            "shape $",
             "{text}"
         );
     }

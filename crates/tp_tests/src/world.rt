@@ -3,8 +3,8 @@ use crate::scenario::FIRST;
 use std::alloc::Global;
 use std::test::Fail;
 use tp_machine::{StepError, World};
+use tp_scenario::read;
 use tp_top::auto::{Drained, bound, drain, next};
-use tp_top::scenario::read;
 use tp_types::{Step, TxnId};
 
 const T1: TxnId = TxnId(0);

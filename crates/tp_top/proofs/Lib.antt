@@ -2,8 +2,6 @@ pub mod AutoLemmas
 pub mod BoundLemmas
 pub mod FirstForm
 pub mod FirstRun
-pub mod Objects
 pub mod RunLemmas
 pub mod TopLemmas
 pub mod TrustedRun
-pub mod Walks

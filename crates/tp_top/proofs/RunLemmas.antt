@@ -1,5 +1,5 @@
 -- What the run of a built scenario gives: no steps are listed, so the automatic ones begin at the opening world.
-use Rattle.std.proofs.Common.{◌≡◌, ℕ, zero, suc, ◌≤◌, List, [], ◌∷◌, length, Bool, true, Option, Some, None, sym, ap, subst, ◌∙◌, arith}
+use Rattle.std.proofs.Common.{◌≡◌, ◌⊎◌, inl, inr, ℕ, zero, suc, ◌≤◌, List, [], ◌∷◌, length, Bool, true, Option, Some, None, Ok, sym, ap, subst, ◌∙◌, arith}
 use Rattle.std.specs.Option.{option_map_or}
 use Rattle.tp_types.specs.declared.scenario.Scenario.{Scenario}
 use Rattle.tp_types.specs.declared.scenario.Step.{Step}
@@ -8,13 +8,12 @@ use Rattle.tp_model.proofs.BuiltLemmas.{steps_built}
 use Rattle.tp_machine.specs.Machine.{Machine, State, after, after_step, after_steps, ending_of, opening}
 use Rattle.tp_machine.specs.Seen.{Seen, started}
 use Rattle.tp_top.proofs.TrustedRun.{trusted_run}
-use Rattle.tp_top.proofs.Walks.{reads_built}
 use Rattle.tp_top.specs.declared.answer.Answer.{Answer}
 use Rattle.tp_top.specs.declared.answer.Answer.TheVariants as answer
 use Rattle.tp_top.specs.Auto.{Drains, IsSpent, automatic_from, automatic_steps, bound, is_quiet, next_of}
-use Rattle.tp_top.specs.Reads.{Reads}
 use Rattle.tp_top.specs.ReportText.{report_text}
-use Rattle.tp_top.specs.Run.{Answers, IsReported, TakesAll, automatic, automatic_bound, final, listed, report_of}
+use Rattle.tp_scenario.specs.Reads.{IsOutOfMemory}
+use Rattle.tp_top.specs.Run.{Answers, IsReported, Reads, TakesAll, automatic, automatic_bound, final, listed, report_of}
 
 listed_built : (sc : Scenario) → is_built sc ≡ true → listed sc ≡ opening sc
 listed_built sc h = ap (after sc) (steps_built sc h)
@@ -83,8 +82,8 @@ length-automatic_from sc (suc left) cursor m =
 
 -- what comes of a scenario that was read is the answer to its input
 pub answers_reported : (old new : Option (List ℕ)) (faults faults' : ℕ) (bytes : List ℕ) (sc : Scenario) (answer : Answer)
-    → TakesAll old new bytes → Reads bytes sc → IsReported sc answer → Answers old new faults faults' answer
-answers_reported old new faults faults' bytes sc (answer.Report text) taken reads h =
+    → TakesAll old new bytes → is_built sc ≡ true → Reads bytes sc → IsReported sc answer → Answers old new faults faults' answer
+answers_reported old new faults faults' bytes sc (answer.Report text) taken built reads h =
     record {
       bytes = bytes;
       scenario = sc;
@@ -92,11 +91,16 @@ answers_reported old new faults faults' bytes sc (answer.Report text) taken read
       reads = reads;
       quiet = h.quiet;
       within = length-automatic_from sc (automatic_bound sc) 0 (listed sc);
-      trusted = trusted_run sc (reads_built bytes sc reads) h.so_far h.whole;
+      trusted = trusted_run sc built h.so_far h.whole;
       text_is = h.text_is;
     }
-answers_reported old new faults faults' bytes sc answer.Budget taken reads h =
+answers_reported old new faults faults' bytes sc answer.Budget taken built reads h =
     record { bytes = bytes; scenario = sc; taken = taken; reads = reads; restless = h.0; used_up = h.1 }
-answers_reported old new faults faults' bytes sc answer.NoMemory taken reads h = tt
-answers_reported old new faults faults' bytes sc (answer.Refused why) taken reads h = absurd h
-answers_reported old new faults faults' bytes sc answer.ReadFault taken reads h = absurd h
+answers_reported old new faults faults' bytes sc answer.NoMemory taken built reads h = tt
+answers_reported old new faults faults' bytes sc (answer.Refused why) taken built reads h = absurd h
+answers_reported old new faults faults' bytes sc answer.ReadFault taken built reads h = absurd h
+
+-- an answer that is a scenario was read
+pub read_of_answer : (bytes : List ℕ) (sc : Scenario) → IsOutOfMemory (Ok sc) ⊎ Reads bytes sc → Reads bytes sc
+read_of_answer bytes sc (inl out) = cc
+read_of_answer bytes sc (inr reads) = reads

@@ -1,20 +1,18 @@
 -- Each cause in a told input has its status.
-use Rattle.std.proofs.Common.{◌≡◌, inl, inr, ℕ, ◌+◌, ◌<◌, List, [], ◌++◌, length, true, false, Option, Some, None, refl, sym, ap, subst, ◌∙◌, arith, codes}
+use Rattle.std.proofs.Common.{◌≡◌, inl, inr, ℕ, ◌+◌, ◌<◌, List, [], ◌++◌, length, true, false, Option, Some, None, Result, Ok, Err, refl, sym, ap, subst, ◌∙◌, arith}
 use Rattle.std.proofs.lemmas.List.{length-append, append-nil}
 use Rattle.std.specs.Prelude.{IfSome}
 use Rattle.std.specs.Io.KnownBytes.{Appends, Consumes}
-use Rattle.serde_json.specs.Data.{Data}
-use Rattle.serde_json.specs.Read.{read}
 use Rattle.tp_types.specs.declared.scenario.Scenario.{Scenario}
+use Rattle.tp_scenario.proofs.ReadLemmas.{says_one}
 use Rattle.tp_io.specs.Whole.{TakesAtMost, TakesExactly, input_max}
-use Rattle.tp_top.specs.declared.scenario.from_json.ScenarioError.{ScenarioError}
-use Rattle.tp_top.specs.declared.scenario.from_json.ScenarioError.TheVariants as error
+use Rattle.tp_scenario.specs.declared.from_bytes.ScenarioError.{ScenarioError}
+use Rattle.tp_scenario.specs.declared.from_bytes.ScenarioError.TheVariants as error
 use Rattle.tp_top.specs.declared.status.Status.{Status}
 use Rattle.tp_top.specs.declared.status.Status.TheVariants.{Done, Refused, NoMemory, Budget}
 use Rattle.tp_top.specs.Auto.{is_quiet}
-use Rattle.tp_top.specs.Reads.{Reads, IsNoJson, IsNotBuilt}
 use Rattle.tp_top.specs.Refusals.{refusal_line}
-use Rattle.tp_top.specs.Run.{IsRefusedFor, RunsOut, RunsTo, TakesAll, final}
+use Rattle.tp_top.specs.Run.{IsRefusedFor, IsRefusedWith, Reads, RunsOut, RunsTo, TakesAll, TakesRefused, final}
 use Rattle.tp_top.specs.Top.{EndsRightly}
 
 nothing_consumed : (left : Option (List ℕ)) → Consumes left left []
@@ -37,20 +35,30 @@ long_input input (Some rest) t = omega (arith, t.exact, ap length t.consumed, le
 
 -- ---- the causes exclude one another
 
-same_value : (bytes : List ℕ) (one other : Data) → read bytes ≡ Some one → read bytes ≡ Some other → one ≡ other
-same_value bytes one other e f = cc
+abbrev read_as : Scenario → Result Scenario ScenarioError
+read_as sc = Ok sc
+
+abbrev refused_as : ScenarioError → Result Scenario ScenarioError
+refused_as why = Err why
 
 same_scenario : (bytes : List ℕ) (one other : Scenario) → Reads bytes one → Reads bytes other → one ≡ other
-same_scenario bytes one other r s = let v : r.value ≡ s.value = same_value bytes r.value s.value r.text s.text in cc
+same_scenario bytes one other r s =
+    let same : read_as one ≡ read_as other = says_one bytes (Ok one) (Ok other) r s in
+    cc
 
-no_json_or_read : (bytes : List ℕ) (sc : Scenario) → IsNoJson bytes → Reads bytes sc → ⊥
-no_json_or_read bytes sc n r = cc (n.text r.utf8, r.text)
+same_refusal : (bytes : List ℕ) (one other : ScenarioError) → IsRefusedWith bytes one → IsRefusedWith bytes other → one ≡ other
+same_refusal bytes one other r s =
+    let same : refused_as one ≡ refused_as other = says_one bytes (Err one) (Err other) r s in
+    cc
 
-not_built_or_read : (bytes : List ℕ) (sc : Scenario) → IsNotBuilt bytes → Reads bytes sc → ⊥
-not_built_or_read bytes sc n r = let v : n.value ≡ r.value = same_value bytes n.value r.value n.text r.text in cc
+refused_or_read : (bytes : List ℕ) (why : ScenarioError) (sc : Scenario) → IsRefusedWith bytes why → Reads bytes sc → ⊥
+refused_or_read bytes why sc r s =
+    let same : refused_as why ≡ read_as sc = says_one bytes (Err why) (Ok sc) r s in
+    cc
 
-no_json_or_not_built : (bytes : List ℕ) → IsNoJson bytes → IsNotBuilt bytes → ⊥
-no_json_or_not_built bytes n b = cc (n.text b.utf8, b.text)
+-- too many bytes are refused as such
+long_refused : (bytes : List ℕ) → input_max < length bytes → IsRefusedWith bytes error.TooLong
+long_refused bytes long = inl (record { long = long; answer_is = refl })
 
 quiet_or_restless : (bytes : List ℕ) (one other : Scenario) → Reads bytes one → Reads bytes other
     → is_quiet one (final one) ≡ true → is_quiet other (final other) ≡ false → ⊥
@@ -66,8 +74,7 @@ pub memory_rightly : (input : List ℕ) (notes notes' : Option (List ℕ)) → E
 memory_rightly input notes notes' =
     record {
       too_long = λ _. inr refl;
-      no_json = λ _. inr refl;
-      not_built = λ _. inr refl;
+      refused = λ _ _. inr refl;
       at_rest = λ _ _ _. inr refl;
       restless = λ _ _ _. inr refl;
     }
@@ -78,9 +85,8 @@ pub report_rightly : (input : List ℕ) (left' : Option (List ℕ)) (text : List
 report_rightly input left' text notes notes' r =
     let reads : Reads input r.scenario = subst (λ (bs : List ℕ). Reads bs r.scenario) (whole_input input left' r.bytes r.taken) r.reads in
     record {
-      too_long = λ long. absurd (omega (arith, reads.short, long));
-      no_json = λ n. absurd (no_json_or_read input r.scenario n reads);
-      not_built = λ n. absurd (not_built_or_read input r.scenario n reads);
+      too_long = λ long. absurd (refused_or_read input error.TooLong r.scenario (long_refused input long) reads);
+      refused = λ why s. absurd (refused_or_read input why r.scenario s reads);
       at_rest = λ _ _ _. inl refl;
       restless = λ sc other restless. absurd (quiet_or_restless input r.scenario sc reads other r.quiet restless);
     }
@@ -90,43 +96,41 @@ pub budget_rightly : (input : List ℕ) (left' notes notes' : Option (List ℕ))
 budget_rightly input left' notes notes' r =
     let reads : Reads input r.scenario = subst (λ (bs : List ℕ). Reads bs r.scenario) (whole_input input left' r.bytes r.taken) r.reads in
     record {
-      too_long = λ long. absurd (omega (arith, reads.short, long));
-      no_json = λ n. absurd (no_json_or_read input r.scenario n reads);
-      not_built = λ n. absurd (not_built_or_read input r.scenario n reads);
+      too_long = λ long. absurd (refused_or_read input error.TooLong r.scenario (long_refused input long) reads);
+      refused = λ why s. absurd (refused_or_read input why r.scenario s reads);
       at_rest = λ sc other quiet. absurd (quiet_or_restless input sc r.scenario other reads quiet r.restless);
       restless = λ _ _ _. inl refl;
     }
 
 -- a refusal has its line
-pub refusal_rightly : (input : List ℕ) (left' notes notes' : Option (List ℕ)) (why : ScenarioError) → IsRefusedFor (Some input) left' why
+refused_rightly : (input : List ℕ) (notes notes' : Option (List ℕ)) (why : ScenarioError) → IsRefusedWith input why
+    → Appends notes notes' (refusal_line why) → EndsRightly input Refused notes notes'
+refused_rightly input notes notes' why r written =
+    let line : (other : ScenarioError) → IsRefusedWith input other → Appends notes notes' (refusal_line other) =
+    λ other s. subst (λ (e : ScenarioError). Appends notes notes' (refusal_line e)) (same_refusal input why other r s) written in
+    record {
+      too_long = λ long. inl (refl, line error.TooLong (long_refused input long));
+      refused = λ other s. inl (refl, line other s);
+      at_rest = λ sc s _. absurd (refused_or_read input why sc r s);
+      restless = λ sc s _. absurd (refused_or_read input why sc r s);
+    }
+
+taken_rightly : (input : List ℕ) (left' notes notes' : Option (List ℕ)) (why : ScenarioError) → TakesRefused (Some input) left' why
+    → Appends notes notes' (refusal_line why) → EndsRightly input Refused notes notes'
+taken_rightly input left' notes notes' why t written =
+    refused_rightly input notes notes' why
+    (subst (λ (bs : List ℕ). IsRefusedWith bs why) (whole_input input left' t.bytes t.taken) t.refused) written
+
+refusal_rightly : (input : List ℕ) (left' notes notes' : Option (List ℕ)) (why : ScenarioError) → IsRefusedFor (Some input) left' why
     → Appends notes notes' (refusal_line why) → EndsRightly input Refused notes notes'
 refusal_rightly input left' notes notes' error.TooLong t written =
-    let long = long_input input left' t in
-    record {
-      too_long = λ _. inl (refl, written);
-      no_json = λ n. absurd (omega (arith, n.short, long));
-      not_built = λ n. absurd (omega (arith, n.short, long));
-      at_rest = λ sc r _. absurd (omega (arith, r.short, long));
-      restless = λ sc r _. absurd (omega (arith, r.short, long));
-    }
-refusal_rightly input left' notes notes' error.BadJson t written =
-    let none : IsNoJson input = subst IsNoJson (whole_input input left' t.bytes t.taken) t.no_json in
-    record {
-      too_long = λ long. absurd (omega (arith, none.short, long));
-      no_json = λ _. inl (refl, written);
-      not_built = λ n. absurd (no_json_or_not_built input none n);
-      at_rest = λ sc r _. absurd (no_json_or_read input sc none r);
-      restless = λ sc r _. absurd (no_json_or_read input sc none r);
-    }
-refusal_rightly input left' notes notes' (error.NotYet path) t written =
-    let other : IsNotBuilt input = subst IsNotBuilt (whole_input input left' t.bytes t.taken) t.not_built in
-    record {
-      too_long = λ long. absurd (omega (arith, other.short, long));
-      no_json = λ n. absurd (no_json_or_not_built input n other);
-      not_built = λ _. inl (refl, subst (λ (p : List ℕ). Appends notes notes' (codes "refused notyet " ++ p ++ codes "\n")) t.whole written);
-      at_rest = λ sc r _. absurd (not_built_or_read input sc other r);
-      restless = λ sc r _. absurd (not_built_or_read input sc other r);
-    }
+    refused_rightly input notes notes' error.TooLong (long_refused input (long_input input left' t)) written
+refusal_rightly input left' notes notes' error.BadJson t written = taken_rightly input left' notes notes' error.BadJson t written
+refusal_rightly input left' notes notes' (error.Shape path) t written = taken_rightly input left' notes notes' (error.Shape path) t written
+refusal_rightly input left' notes notes' (error.Range path) t written = taken_rightly input left' notes notes' (error.Range path) t written
+refusal_rightly input left' notes notes' (error.Unknown path) t written = taken_rightly input left' notes notes' (error.Unknown path) t written
+refusal_rightly input left' notes notes' (error.Policy path fault) t written = taken_rightly input left' notes notes' (error.Policy path fault) t written
+refusal_rightly input left' notes notes' (error.NotYet path) t written = taken_rightly input left' notes notes' (error.NotYet path) t written
 refusal_rightly input left' notes notes' error.NoMemory t written = absurd t
 
 -- ---- the same, of an input that may be told

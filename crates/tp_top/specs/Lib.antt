@@ -1,12 +1,6 @@
 pub mod Auto
-pub mod Chain
-pub mod Gives
-pub mod QueryText
-pub mod Reads
 pub mod Refusals
 pub mod ReportText
 pub mod Run
-pub mod Shape
 pub mod Status
 pub mod Top
-pub mod Walk

@@ -1,5 +1,5 @@
 -- What a run is: from bytes to the world after all steps, and its report.
-use Rattle.std.specs.Prelude.{◌≡◌, ℕ, ◌+◌, ◌≤◌, List, [], ◌∷◌, ◌++◌, length, true, false, Option, Some, None, codes}
+use Rattle.std.specs.Prelude.{◌≡◌, ℕ, ◌+◌, ◌≤◌, List, [], ◌∷◌, ◌++◌, length, true, false, Option, Some, None, Ok, Err, codes}
 use Rattle.std.specs.Io.KnownBytes.{Consumes, IsAtEnd}
 use Rattle.tp_types.specs.declared.name.Text.{Text}
 use Rattle.tp_types.specs.declared.scenario.Scenario.{Scenario}
@@ -11,10 +11,10 @@ use Rattle.tp_machine.specs.Laws.{HasAllCommits, IsTrustedState}
 use Rattle.tp_machine.specs.Machine.{Machine, after, after_steps, ending_of}
 use Rattle.tp_top.specs.declared.answer.Answer.{Answer}
 use Rattle.tp_top.specs.declared.answer.Answer.TheVariants as answer
-use Rattle.tp_top.specs.declared.scenario.from_json.ScenarioError.{ScenarioError}
-use Rattle.tp_top.specs.declared.scenario.from_json.ScenarioError.TheVariants.{TooLong, BadJson, NotYet, NoMemory}
+use Rattle.tp_scenario.specs.declared.from_bytes.ScenarioError.{ScenarioError}
+use Rattle.tp_scenario.specs.declared.from_bytes.ScenarioError.TheVariants.{TooLong, BadJson, Shape, Range, Unknown, Policy, NotYet, NoMemory}
+use Rattle.tp_scenario.specs.Reads.{Says}
 use Rattle.tp_top.specs.Auto.{automatic_steps, bound, is_quiet}
-use Rattle.tp_top.specs.Reads.{Reads, IsNoJson, IsNotBuilt, IsWhole}
 use Rattle.tp_top.specs.ReportText.{report_text}
 
 -- the words are the one word run
@@ -45,6 +45,14 @@ final sc = after_steps sc (listed sc) (automatic sc)
 abbrev pub report_of : Scenario → List ℕ
 report_of sc = report_text sc (final sc).state.facts (ending_of sc (final sc).state)
 
+-- the bytes are read as this scenario
+abbrev pub Reads : List ℕ → Scenario → Type 0
+Reads bytes scenario = Says bytes (Ok scenario)
+
+-- the bytes are refused so
+abbrev pub IsRefusedWith : List ℕ → ScenarioError → Type 0
+IsRefusedWith bytes why = Says bytes (Err why)
+
 -- exactly these bytes were consumed, and the input is at its end
 pub record TakesAll (old new : Option (List ℕ)) (bytes : List ℕ) : Type 0 where
   pub consumed : Consumes old new bytes
@@ -70,24 +78,21 @@ pub record RunsOut (old new : Option (List ℕ)) : Type 0 where
   pub restless : is_quiet scenario (final scenario) ≡ false
   pub used_up : length (automatic scenario) ≡ automatic_bound scenario
 
--- the input was read whole, and is no JSON text
-pub record TakesNoJson (old new : Option (List ℕ)) : Type 0 where
+-- the input was read whole, and its bytes are refused so
+pub record TakesRefused (old new : Option (List ℕ)) (why : ScenarioError) : Type 0 where
   pub bytes : List ℕ
   pub taken : TakesAll old new bytes
-  pub no_json : IsNoJson bytes
-
--- the input was read whole, and is not of the form that is built so far
-pub record TakesNotBuilt (old new : Option (List ℕ)) (path : Text) : Type 0 where
-  pub bytes : List ℕ
-  pub taken : TakesAll old new bytes
-  pub not_built : IsNotBuilt bytes
-  pub whole : IsWhole path
+  pub refused : IsRefusedWith bytes why
 
 -- why the scenario was refused
 abbrev pub IsRefusedFor : Option (List ℕ) → Option (List ℕ) → ScenarioError → Type 0
 IsRefusedFor old new TooLong = TakesExactly (input_max + 1) old new
-IsRefusedFor old new BadJson = TakesNoJson old new
-IsRefusedFor old new (NotYet path) = TakesNotBuilt old new path
+IsRefusedFor old new BadJson = TakesRefused old new BadJson
+IsRefusedFor old new (Shape path) = TakesRefused old new (Shape path)
+IsRefusedFor old new (Range path) = TakesRefused old new (Range path)
+IsRefusedFor old new (Unknown path) = TakesRefused old new (Unknown path)
+IsRefusedFor old new (Policy path fault) = TakesRefused old new (Policy path fault)
+IsRefusedFor old new (NotYet path) = TakesRefused old new (NotYet path)
 IsRefusedFor old new NoMemory = ⊥
 
 -- the answer to the word run, with its cause; want of memory has none

@@ -1,18 +1,17 @@
 -- What the top call promises at each status: what was read, what was written, and why.
-use Rattle.std.specs.Prelude.{◌≡◌, ◌⊎◌, ◌<◌, ℕ, ◌+◌, List, [], length, true, false, Option, codes}
+use Rattle.std.specs.Prelude.{◌≡◌, ◌⊎◌, ◌<◌, ℕ, ◌+◌, List, [], length, true, false, Option}
 use Rattle.std.specs.Io.KnownBytes.{Appends}
 use Rattle.tp_types.specs.declared.name.Text.{Text}
 use Rattle.tp_types.specs.declared.scenario.Scenario.{Scenario}
 use Rattle.tp_io.specs.Faults.{Rose}
 use Rattle.tp_io.specs.Whole.{AppendsFront, TakesAtMost, input_max}
-use Rattle.tp_top.specs.declared.scenario.from_json.ScenarioError.{ScenarioError}
-use Rattle.tp_top.specs.declared.scenario.from_json.ScenarioError.TheVariants as error
+use Rattle.tp_scenario.specs.declared.from_bytes.ScenarioError.{ScenarioError}
+use Rattle.tp_scenario.specs.declared.from_bytes.ScenarioError.TheVariants as error
 use Rattle.tp_top.specs.declared.status.Status.{Status}
 use Rattle.tp_top.specs.declared.status.Status.TheVariants.{Done, Refused, NoMemory, Budget}
 use Rattle.tp_top.specs.Auto.{is_quiet}
-use Rattle.tp_top.specs.Reads.{Reads, IsNoJson, IsNotBuilt}
 use Rattle.tp_top.specs.Refusals.{refusal_line, usage_line}
-use Rattle.tp_top.specs.Run.{IsRun, IsRefusedFor, RunsOut, RunsTo, final}
+use Rattle.tp_top.specs.Run.{IsRun, IsRefusedFor, IsRefusedWith, Reads, RunsOut, RunsTo, final}
 
 -- nothing was written
 abbrev pub Untouched : Option (List ℕ) → Option (List ℕ) → Type 0
@@ -120,7 +119,6 @@ Ends status wanted = (status ≡ wanted) ⊎ (status ≡ NoMemory)
 -- each cause in the input has its status, and its line where it is a refusal
 pub record EndsRightly (input : List ℕ) (status : Status) (notes notes' : Option (List ℕ)) : Type 0 where
   pub too_long : input_max < length input → Says status notes notes' error.TooLong
-  pub no_json : IsNoJson input → Says status notes notes' error.BadJson
-  pub not_built : IsNotBuilt input → Says status notes notes' (error.NotYet (record { 0 = codes "$" }))
+  pub refused : (why : ScenarioError) → IsRefusedWith input why → Says status notes notes' why
   pub at_rest : (sc : Scenario) → Reads input sc → is_quiet sc (final sc) ≡ true → Ends status Done
   pub restless : (sc : Scenario) → Reads input sc → is_quiet sc (final sc) ≡ false → Ends status Budget

@@ -1,5 +1,5 @@
 //! The answer to the word `run`, made whole before anything is written.
-ghost use Rattle.std.specs.Prelude.{◌≡◌, ◌+◌, ◌++◌, true, false, IfOk, OnOk, codes};
+ghost use Rattle.std.specs.Prelude.{◌≡◌, ◌+◌, ◌++◌, true, false, IfOk, OnOk, codes, decimal};
 ghost use Rattle.tp_model.specs.Agreement.{is_agreed};
 ghost use Rattle.tp_model.specs.Built as built;
 ghost use Rattle.tp_model.specs.Causes.{is_caused};
@@ -14,14 +14,17 @@ ghost use Rattle.tp_top.specs.ReportText.{report_text};
 ghost use Rattle.tp_top.specs.Run.{Answers, IsReported, IsRunOf};
 
 use crate::auto::{Drained, bound, drain};
+use crate::report::piece::put;
 use crate::report::print;
-use crate::scenario::{ScenarioError, read};
+use itoa::Buffer;
 use std::alloc::Global;
 use tp_io::{ReadError, Source, read_to_end};
 use tp_machine::World;
 use tp_machine::agree::agreed;
 use tp_machine::serial::serial;
 use tp_machine::views::trusted;
+use tp_policy_text::ParseError;
+use tp_scenario::{ScenarioError, read};
 use tp_types::{Fact, List, NoMemory, Scenario, Text};
 
 /// What comes of an input.
@@ -115,14 +118,54 @@ pub fn refusal_line(alloc: Global, why: &ScenarioError) -> Result<Text, NoMemory
     match why {
         ScenarioError::TooLong => line_of(alloc, b"refused toolong\n"),
         ScenarioError::BadJson => line_of(alloc, b"refused badjson\n"),
-        ScenarioError::NotYet { path } => {
-            let mut line = Vec::from_slice(alloc, b"refused notyet ")?;
-            line.extend_from_slice(path.0.as_slice())?;
-            line.extend_from_slice(b"\n")?;
-            Ok(Text(List::from_vec(line)))
-        }
+        ScenarioError::Shape { path } => line_at(alloc, b"refused shape ", path),
+        ScenarioError::Range { path } => line_at(alloc, b"refused range ", path),
+        ScenarioError::Unknown { path } => line_at(alloc, b"refused unknown ", path),
+        ScenarioError::Policy { path, fault } => policy_line(alloc, path, *fault),
+        ScenarioError::NotYet { path } => line_at(alloc, b"refused notyet ", path),
         ScenarioError::NoMemory => line_of(alloc, b""),
     }
+}
+
+/// A line that ends with a path.
+fn line_at(alloc: Global, front: &[u8], path: &Text) -> Result<Text, NoMemory>
+    ensures { IfOk result (λ line. line.0 ≡ front.now ++ path.now.0 ++ codes "\n") }
+{
+    let mut line = Vec::from_slice(alloc, front)?;
+    line.extend_from_slice(path.0.as_slice())?;
+    line.extend_from_slice(b"\n")?;
+    Ok(Text(List::from_vec(line)))
+}
+
+fn put_place(line: &mut Vec<u8>, word: &[u8], place: usize) -> Result<(), NoMemory>
+    ensures { OnOk result (line.new.items ≡ line.old.items ++ (word.now ++ decimal place)) }
+{
+    line.extend_from_slice(word)?;
+    line.extend_from_slice(Buffer::new().format(place).as_bytes())?;
+    Ok(())
+}
+
+/// What is wrong with a policy's text, and at which byte of it.
+fn put_fault(line: &mut Vec<u8>, fault: ParseError) -> Result<(), NoMemory>
+    ensures { OnOk result (line.new.items ≡ line.old.items ++ refusals.fault_text fault) }
+{
+    match fault {
+        ParseError::Syntax { place } => put_place(line, b" syntax ", place),
+        ParseError::TooDeep { place } => put_place(line, b" toodeep ", place),
+        ParseError::TooLong => put(line, b" toolong 4096"),
+        ParseError::NoMemory => put(line, b""),
+    }
+}
+
+/// The line of a text that is no policy.
+fn policy_line(alloc: Global, path: &Text, fault: ParseError) -> Result<Text, NoMemory>
+    ensures { IfOk result (λ line. line.0 ≡ refusals.refusal_line (ScenarioError.Policy path.now fault)) }
+{
+    let mut line = Vec::from_slice(alloc, b"refused policy ")?;
+    put(&mut line, path.0.as_slice())?;
+    put_fault(&mut line, fault)?;
+    put(&mut line, b"\n")?;
+    Ok(Text(List::from_vec(line)))
 }
 
 fn line_of(alloc: Global, bytes: &[u8]) -> Result<Text, NoMemory>

@@ -6,7 +6,7 @@ ghost use Rattle.tp_top.specs.ReportText.{fact_lines, item_line, quiet_line, rep
 mod cause;
 mod commit;
 mod fact;
-mod piece;
+pub(crate) mod piece;
 
 use piece::{put, put_item, put_number};
 use std::alloc::Global;

@@ -10,7 +10,6 @@ ghost use Rattle.tp_top.specs.Top as top;
 ghost use Rattle.tp_top.specs.Top.{IsDone, IsRefused, IsUsage, IsReadFault, IsBudget, IsNoMemory, IsOutFault, IsRefusalFault, IsUsageFault, EndsRightly};
 
 use crate::answer::{Answer, answer_to, refusal_line};
-use crate::scenario::ScenarioError;
 use crate::status::Status;
 use std::alloc::Global;
 use tp_io::{Sink, Source, write_all};

@@ -1,8 +1,9 @@
-use Rattle.tp_top.proofs.RunLemmas.{answers_reported}
+use Rattle.tp_top.proofs.RunLemmas.{answers_reported, read_of_answer}
 use Rattle.tp_top.proofs.answer.answer_to.Goals as goal
 
 pub returns-clause-cause : goal.returns-clause-cause
 returns-clause-cause g c =
     let whole = c.in-Ok.ensures.whole in
+    let reads = read_of_answer _ _ (rw c.as_slice.ensures at c.in-Ok-read.ensures.answer) in
     answers_reported _ _ _ _ c.in-Ok.bytes c.in-Ok-read.scenario c.reported.result
-    (record { consumed = whole.0; at_end = whole.1 }) (rw c.as_slice.ensures at c.in-Ok-read.ensures.ok) c.reported.ensures
+    (record { consumed = whole.0; at_end = whole.1 }) c.in-Ok-read.ensures.built reads c.reported.ensures

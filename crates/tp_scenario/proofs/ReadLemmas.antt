@@ -1,0 +1,87 @@
+-- Bytes have at most one answer.
+use Rattle.std.proofs.Common.{◌≡◌, ◌⊎◌, inl, inr, ℕ, List, [], Bool, true, false, if◌then◌else◌, Option, Some, None, option_map, Result, Ok, Err, refl, sym, ap, subst, ◌∙◌, arith}
+use Rattle.std.specs.Prelude.{IfOk}
+use Rattle.serde_json.specs.Data.{Data}
+use Rattle.serde_json.specs.Read.{read}
+use Rattle.tp_types.specs.declared.scenario.Scenario.{Scenario}
+use Rattle.tp_model.specs.Built.{is_built}
+use Rattle.tp_scenario.specs.declared.fault.Fault.{Fault}
+use Rattle.tp_scenario.specs.declared.from_bytes.ScenarioError.{ScenarioError}
+use Rattle.tp_scenario.specs.declared.path.Path.TheVariants.{Whole}
+use Rattle.tp_scenario.specs.declared.path.Site.{Site}
+use Rattle.tp_scenario.specs.declared.path.Site.TheVariants.{At}
+use Rattle.tp_scenario.specs.Forms.{data_form, first_form, or_else, rest_form, scripted_form, servers_form, step_site, steps_form, txns_form}
+use Rattle.tp_scenario.specs.Reads.{Says, SaysNoJson, SaysValue, IsOutOfMemory, IsText, answer_by, answer_to, built_or}
+use Rattle.tp_scenario.specs.Walk.{walked}
+
+same_value : (bytes : List ℕ) (one other : Data) → read bytes ≡ Some one → read bytes ≡ Some other → one ≡ other
+same_value bytes one other e f = cc
+
+same_answer : (bytes : List ℕ) (one other : Result Scenario ScenarioError) → SaysValue bytes one → SaysValue bytes other → one ≡ other
+same_answer bytes one other s t =
+    let same : s.value ≡ t.value = same_value bytes s.value t.value s.text t.text in
+    s.answer_is ∙ (ap answer_to same ∙ sym t.answer_is)
+
+no_text_or_value : (bytes : List ℕ) (one other : Result Scenario ScenarioError) → SaysNoJson bytes one → SaysValue bytes other → ⊥
+no_text_or_value bytes one other s t = cc (s.no_text t.utf8, t.text)
+
+pub says_one : (bytes : List ℕ) (one other : Result Scenario ScenarioError) → Says bytes one → Says bytes other → one ≡ other
+says_one bytes one other (inl s) (inl t) = s.answer_is ∙ sym t.answer_is
+says_one bytes one other (inl s) (inr (inl t)) = absurd (omega (arith, s.long, t.short))
+says_one bytes one other (inl s) (inr (inr t)) = absurd (omega (arith, s.long, t.short))
+says_one bytes one other (inr (inl s)) (inl t) = absurd (omega (arith, s.short, t.long))
+says_one bytes one other (inr (inl s)) (inr (inl t)) = s.answer_is ∙ sym t.answer_is
+says_one bytes one other (inr (inl s)) (inr (inr t)) = absurd (no_text_or_value bytes one other s t)
+says_one bytes one other (inr (inr s)) (inl t) = absurd (omega (arith, s.short, t.long))
+says_one bytes one other (inr (inr s)) (inr (inl t)) = absurd (no_text_or_value bytes other one t s)
+says_one bytes one other (inr (inr s)) (inr (inr t)) = same_answer bytes one other s t
+
+abbrev as_read : Scenario → Result Scenario Fault
+as_read scenario = Ok scenario
+
+pub text_of_one : (bytes : List ℕ) (one other : Scenario) → IsText bytes one → IsText bytes other → one ≡ other
+text_of_one bytes one other s t =
+    let same : s.value ≡ t.value = same_value bytes s.value t.value s.text t.text in
+    let given : walked s.value ≡ walked t.value = ap walked same in
+    let same_results : as_read one ≡ as_read other = sym s.form ∙ (given ∙ t.form) in
+    cc
+
+-- ---- what an answer tells
+
+or_else_none : (one other : Option Site) → or_else one other ≡ None → other ≡ None
+or_else_none None other e = e
+or_else_none (Some site) other e = cc
+
+none_built : (answer : Bool) → (if answer then None else Some (At Whole)) ≡ None → answer ≡ true
+none_built true e = refl
+none_built false e = cc
+
+-- a scenario without a form that is not built is built
+built_of_none : (sc : Scenario) → first_form sc ≡ None → is_built sc ≡ true
+unfolding first_form
+built_of_none sc e =
+    none_built (is_built sc)
+    (or_else_none (option_map step_site (steps_form [] 0 sc.steps)) (rest_form sc)
+    (or_else_none (txns_form sc.txns) (scripted_form sc)
+    (or_else_none (servers_form sc.admins sc.servers) (data_form sc) e)))
+
+pub record IsReadAs (walk : Result Scenario Fault) (sc : Scenario) : Type 0 where
+  pub form : walk ≡ Ok sc
+  pub none : first_form sc ≡ None
+
+built_or_read : (made sc : Scenario) (form : Option Site) → first_form made ≡ form → built_or made form ≡ Ok sc → IsReadAs (Ok made) sc
+built_or_read made sc None none e =
+    let same : made ≡ sc = cc in
+    record { form = ap as_read same; none = subst (λ (s : Scenario). first_form s ≡ None) same none }
+built_or_read made sc (Some site) none e = cc
+
+read_so : (walk : Result Scenario Fault) (sc : Scenario) → answer_by walk ≡ Ok sc → IsReadAs walk sc
+read_so (Ok made) sc e = built_or_read made sc (first_form made) refl e
+read_so (Err fault) sc e = cc
+
+-- what is read of a value is built
+pub built_from : (value : Data) (result : Result Scenario ScenarioError) → IsOutOfMemory result ⊎ (result ≡ answer_to value)
+    → IfOk result (λ sc. is_built sc ≡ true)
+built_from value (Ok sc) (inl out) = cc
+built_from value (Ok sc) (inr e) = built_of_none sc (read_so (walked value) sc (sym e)).none
+built_from value (Err why) h = tt

@@ -1,0 +1,89 @@
+-- Which scenario bytes are, and why others are refused.
+use Rattle.std.specs.Prelude.{◌≡◌, ◌⊎◌, ℕ, ◌≤◌, ◌<◌, List, length, Option, Some, None, Result, Ok, Err, IsUtf8}
+use Rattle.serde_json.specs.Data.{Data}
+use Rattle.serde_json.specs.Read.{read}
+use Rattle.tp_types.specs.declared.name.Text.{Text}
+use Rattle.tp_types.specs.declared.scenario.Scenario.{Scenario}
+use Rattle.tp_scenario.specs.declared.fault.Fault.{Fault}
+use Rattle.tp_scenario.specs.declared.fault.Kind.{Kind}
+use Rattle.tp_scenario.specs.declared.fault.Kind.TheVariants as kind
+use Rattle.tp_scenario.specs.declared.path.Site.{Site}
+use Rattle.tp_scenario.specs.declared.from_bytes.ScenarioError.{ScenarioError}
+use Rattle.tp_scenario.specs.declared.from_bytes.ScenarioError.TheVariants as refusal
+use Rattle.tp_scenario.specs.Forms.{first_form}
+use Rattle.tp_scenario.specs.Paths.{site_text}
+use Rattle.tp_scenario.specs.Walk.{walked}
+
+-- the most bytes of a scenario
+abbrev pub length_max : ℕ
+length_max = 16777216
+
+-- where a fault or a form stands, as it is written
+abbrev pub path_of : Site → Text
+path_of site = record { 0 = site_text site }
+
+abbrev pub refused_at : Kind → Text → ScenarioError
+refused_at kind.Shape path = refusal.Shape path
+refused_at kind.Range path = refusal.Range path
+refused_at kind.Unknown path = refusal.Unknown path
+refused_at (kind.Policy why) path = refusal.Policy path why
+
+-- the refusal of a fault
+abbrev pub refused : Fault → ScenarioError
+refused fault = refused_at fault.kind (path_of fault.site)
+
+abbrev pub built_or : Scenario → Option Site → Result Scenario ScenarioError
+built_or scenario None = Ok scenario
+built_or scenario (Some site) = Err (refusal.NotYet (path_of site))
+
+abbrev pub answer_by : Result Scenario Fault → Result Scenario ScenarioError
+answer_by (Ok scenario) = built_or scenario (first_form scenario)
+answer_by (Err fault) = Err (refused fault)
+
+-- what is answered to a JSON value: its scenario, or the first fault of its walk; where the walk gives a scenario, the first form that
+-- is not built
+abbrev pub answer_to : Data → Result Scenario ScenarioError
+answer_to value = answer_by (walked value)
+
+-- the bytes are too many
+pub record SaysTooLong (bytes : List ℕ) (answer : Result Scenario ScenarioError) : Type 0 where
+  pub long : length_max < length bytes
+  pub answer_is : answer ≡ Err refusal.TooLong
+
+-- the bytes are no JSON text
+pub record SaysNoJson (bytes : List ℕ) (answer : Result Scenario ScenarioError) : Type 0 where
+  pub short : length bytes ≤ length_max
+  pub no_text : IsUtf8 bytes → read bytes ≡ None
+  pub answer_is : answer ≡ Err refusal.BadJson
+
+-- the bytes are a JSON text, and this is the answer to its value
+pub record SaysValue (bytes : List ℕ) (answer : Result Scenario ScenarioError) : Type 0 where
+  pub short : length bytes ≤ length_max
+  pub utf8 : IsUtf8 bytes
+  pub value : Data
+  pub text : read bytes ≡ Some value
+  pub answer_is : answer ≡ answer_to value
+
+-- the one answer to the bytes
+abbrev pub Says : List ℕ → Result Scenario ScenarioError → Type 0
+Says bytes answer = SaysTooLong bytes answer ⊎ (SaysNoJson bytes answer ⊎ SaysValue bytes answer)
+
+-- memory was refused
+abbrev pub IsOutOfMemory : Result Scenario ScenarioError → Type 0
+IsOutOfMemory answer = answer ≡ Err refusal.NoMemory
+
+-- the bytes are a text of the scenario, whether it is built or not
+pub record IsText (bytes : List ℕ) (scenario : Scenario) : Type 0 where
+  pub short : length bytes ≤ length_max
+  pub utf8 : IsUtf8 bytes
+  pub value : Data
+  pub text : read bytes ≡ Some value
+  pub form : walked value ≡ Ok scenario
+
+-- no bytes have two answers
+abbrev pub HasOneAnswer : Type 0
+HasOneAnswer = (bytes : List ℕ) (one other : Result Scenario ScenarioError) → Says bytes one → Says bytes other → one ≡ other
+
+-- no bytes are a text of two scenarios
+abbrev pub IsTextOfOne : Type 0
+IsTextOfOne = (bytes : List ℕ) (one other : Scenario) → IsText bytes one → IsText bytes other → one ≡ other

@@ -1,0 +1,193 @@
+-- What a step's text says.
+use Rattle.std.specs.Prelude.{ℕ, ◌&&◌, nat_le, List, [], ◌∷◌, length, Bool, if◌then◌else◌, Option, Some, None, option_map, option_and_then, Result, Ok, Err, ok_or, codes}
+use Rattle.serde_json.specs.Data.{Data}
+use Rattle.tp_types.specs.Spelling.{is_name, number_of}
+use Rattle.tp_types.specs.declared.scenario.Actor.{Actor}
+use Rattle.tp_types.specs.declared.scenario.Actor.TheVariants as actor
+use Rattle.tp_types.specs.declared.scenario.Step.{Step}
+use Rattle.tp_types.specs.declared.scenario.Step.TheVariants as step
+use Rattle.tp_model.specs.Limits.{is_from_to}
+use Rattle.tp_scenario.specs.declared.fault.Fault.{Fault}
+use Rattle.tp_scenario.specs.declared.names.Declared.{Declared}
+use Rattle.tp_scenario.specs.declared.path.Key.TheVariants.{Steps}
+use Rattle.tp_scenario.specs.declared.path.Path.{Path}
+use Rattle.tp_scenario.specs.declared.path.Path.TheVariants.{Top, Member}
+use Rattle.tp_scenario.specs.declared.command.CountVerb.{CountVerb}
+use Rattle.tp_scenario.specs.declared.command.CountVerb.TheVariants as counting
+use Rattle.tp_scenario.specs.declared.command.NameVerb.{NameVerb}
+use Rattle.tp_scenario.specs.declared.command.NameVerb.TheVariants as verb
+use Rattle.tp_scenario.specs.Chain.{◌>>=◌}
+use Rattle.tp_scenario.specs.Faults.{range, shape}
+use Rattle.tp_scenario.specs.Names.{is_same, place_of}
+use Rattle.tp_scenario.specs.Values.{each, items_or, text_at, used}
+use Rattle.tp_scenario.specs.Words.{words_of}
+
+-- ---- steps as they are spelled
+
+pub data Command : Type 0 where
+  of_name : NameVerb → List ℕ → Command
+  by_number : CountVerb → ℕ → Command
+  push : List ℕ → List ℕ → Command
+  cut : List ℕ → ℕ → ℕ → ℕ → Command
+
+-- the verbs that a name follows
+unfoldable pub name_verb : List ℕ → Option NameVerb
+name_verb word =
+    if is_same word (codes "submit") then Some verb.Submit
+    else (if is_same word (codes "publish") then Some verb.Publish
+    else (if is_same word (codes "revoke") then Some verb.Revoke
+    else (if is_same word (codes "crash") then Some verb.Crash
+    else (if is_same word (codes "boot") then Some verb.Boot
+    else (if is_same word (codes "timer") then Some verb.Timer else None)))))
+
+-- the verbs that a number follows
+unfoldable pub count_verb : List ℕ → Option CountVerb
+count_verb word =
+    if is_same word (codes "tick") then Some counting.Tick
+    else (if is_same word (codes "deliver") then Some counting.Deliver
+    else (if is_same word (codes "lose") then Some counting.Lose else None))
+
+-- exactly one word, which is spelled as a name
+unfoldable pub one_name : List (List ℕ) → Option (List ℕ)
+one_name [] = None
+one_name (word ∷ []) = if is_name word then Some word else None
+one_name (word ∷ other ∷ words) = None
+
+-- exactly one word, which is a number
+unfoldable pub one_number : List (List ℕ) → Option ℕ
+one_number [] = None
+one_number (word ∷ []) = number_of word
+one_number (word ∷ other ∷ words) = None
+
+-- exactly two names
+unfoldable pub push_of : List (List ℕ) → Option Command
+push_of (admin ∷ server ∷ []) = if is_name admin && is_name server then Some (push admin server) else None
+push_of _ = None
+
+-- the words `in`, `at` and `fill`
+abbrev pub are_cut_words : List ℕ → List ℕ → List ℕ → Bool
+are_cut_words first second third = is_same first (codes "in") && is_same second (codes "at") && is_same third (codes "fill")
+
+unfoldable pub cut_numbers : List ℕ → List ℕ → List ℕ → List ℕ → Option Command
+cut_numbers name mail calls fill =
+    option_and_then (λ k. option_and_then (λ c. option_map (λ f. cut name k c f) (number_of fill)) (number_of calls)) (number_of mail)
+
+-- `ACTOR in K at C fill F`
+unfoldable pub cut_of : List (List ℕ) → Option Command
+cut_of (name ∷ first ∷ mail ∷ second ∷ calls ∷ third ∷ fill ∷ []) =
+    if is_name name && are_cut_words first second third then cut_numbers name mail calls fill else None
+cut_of _ = None
+
+-- a crash may be cut; no other verb has more words than a name
+abbrev pub or_cut : NameVerb → List (List ℕ) → Option Command
+or_cut verb.Crash words = cut_of words
+or_cut _ words = None
+
+abbrev pub named_or : NameVerb → Option (List ℕ) → List (List ℕ) → Option Command
+named_or verb (Some name) words = Some (of_name verb name)
+named_or verb None words = or_cut verb words
+
+abbrev pub named_by : Option NameVerb → List (List ℕ) → Option Command
+named_by None words = None
+named_by (Some verb) words = named_or verb (one_name words) words
+
+abbrev pub counted_or : Option CountVerb → Option NameVerb → List (List ℕ) → Option Command
+counted_or (Some verb) other words = option_map (by_number verb) (one_number words)
+counted_or None other words = named_by other words
+
+unfoldable pub command_by : List ℕ → List (List ℕ) → Option Command
+command_by word words = if is_same word (codes "push") then push_of words else counted_or (count_verb word) (name_verb word) words
+
+abbrev pub command_in : List (List ℕ) → Option Command
+command_in [] = None
+command_in (word ∷ words) = command_by word words
+
+-- the step that a text spells
+unfoldable pub command_of : List ℕ → Option Command
+command_of text = option_and_then command_in (words_of text)
+
+unfoldable pub command_at : Path → Data → Result Command Fault
+command_at path d = do
+  text ← text_at path (Some d)
+  ok_or (command_of text) (shape path)
+
+-- ---- steps
+
+unfoldable pub coordinator_at : Path → Declared → List ℕ → Result Actor Fault
+coordinator_at path names name = do
+  place ← used path names.txns name
+  Ok (actor.Coordinator (record { 0 = place }))
+
+abbrev pub actor_or : Path → Declared → List ℕ → Option ℕ → Result Actor Fault
+actor_or path names name (Some place) = Ok (actor.Server (record { 0 = place }))
+actor_or path names name None = coordinator_at path names name
+
+-- a server, or the coordinator of a transaction
+unfoldable pub actor_at : Path → Declared → List ℕ → Result Actor Fault
+actor_at path names name = actor_or path names name (place_of name names.servers)
+
+-- the step of a verb and a name
+unfoldable pub named_step : Path → Declared → NameVerb → List ℕ → Result Step Fault
+named_step path names verb.Submit name = do
+  place ← used path names.txns name
+  Ok (step.Submit (record { 0 = place }))
+named_step path names verb.Publish name = do
+  place ← used path names.admins name
+  Ok (step.Publish (record { 0 = place }))
+named_step path names verb.Revoke name = do
+  place ← used path names.creds name
+  Ok (step.Revoke (record { 0 = place }))
+named_step path names verb.Crash name = do
+  who ← actor_at path names name
+  Ok (step.Crash who None)
+named_step path names verb.Boot name = do
+  who ← actor_at path names name
+  Ok (step.Boot who)
+named_step path names verb.Timer name = do
+  place ← used path names.txns name
+  Ok (step.Timer (record { 0 = place }))
+
+-- the step of a verb and a number: the clock moves by 1 to 1,000,000
+unfoldable pub counted_step : Path → CountVerb → ℕ → Result Step Fault
+counted_step path counting.Tick number = if is_from_to 1 1000000 number then Ok (step.Tick number) else Err (range path)
+counted_step path counting.Deliver number = Ok (step.Deliver number)
+counted_step path counting.Lose number = Ok (step.Lose number)
+
+unfoldable pub push_step : Path → Declared → List ℕ → List ℕ → Result Step Fault
+push_step path names admin server = do
+  from ← used path names.admins admin
+  to ← used path names.servers server
+  Ok (step.Push (record { 0 = from }) (record { 0 = to }))
+
+-- an append has four device calls, and a fill is a byte
+abbrev pub is_cut : ℕ → ℕ → Bool
+is_cut calls fill = nat_le calls 4 && nat_le fill 255
+
+unfoldable pub cut_step : Path → Declared → List ℕ → ℕ → ℕ → ℕ → Result Step Fault
+cut_step path names name mail calls fill = do
+  who ← actor_at path names name
+  Ok (step.Crash who (Some (record { mail = mail; calls = calls; fill = fill })))
+
+abbrev pub cut_or_range : Path → Declared → List ℕ → ℕ → ℕ → ℕ → Result Step Fault
+cut_or_range path names name mail calls fill = if is_cut calls fill then cut_step path names name mail calls fill else Err (range path)
+
+-- the step that was spelled: its numbers, and then the names that it uses
+abbrev pub step_for : Path → Declared → Command → Result Step Fault
+step_for path names (of_name verb name) = named_step path names verb name
+step_for path names (by_number verb number) = counted_step path verb number
+step_for path names (push admin server) = push_step path names admin server
+step_for path names (cut name mail calls fill) = cut_or_range path names name mail calls fill
+
+unfoldable pub step_at : Declared → Path → Data → Result Step Fault
+step_at names path d = do
+  command ← command_at path d
+  step_for path names command
+
+abbrev pub step_in : Declared → List Step → Data → Result Step Fault
+step_in names made d = step_at names (Member Steps (length made)) d
+
+-- at most 100,000 steps are listed
+unfoldable pub steps_at : Declared → Option Data → Result (List Step) Fault
+steps_at names value = do
+  steps ← items_or (Top Steps) 100000 value
+  each (step_in names) [] steps

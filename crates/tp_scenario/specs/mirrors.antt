@@ -1,0 +1,6 @@
+pub mod Gives
+pub mod Texts
+pub mod Asks
+pub mod Commands
+pub mod Entries
+pub mod Refusing

@@ -1,0 +1,129 @@
+//! Administrators and their policies.
+ghost use Rattle.std.specs.Prelude.{◌≡◌, ◌≤◌, ◌⊎◌, [], length, map, option_map, IfOk};
+ghost use Rattle.serde_json.specs.View.{view, items_view};
+ghost use Rattle.tp_policy_text.specs.Parses.{IsOutOfMemory};
+ghost use Rattle.tp_scenario.specs.Admins as admins;
+ghost use Rattle.tp_scenario.specs.Policies.{policy_answer};
+ghost use Rattle.tp_scenario.specs.Values.{each};
+ghost use Rattle.tp_scenario.specs.mirrors.Gives.{Gives};
+
+use crate::fault::{WalkError, policy_fault_at};
+use crate::names::Names;
+use crate::object::{field, object_at};
+use crate::path::{Key, Path};
+use crate::values::{count_or, items_at, new_name_at, text_at};
+use serde_json::Value;
+use std::alloc::Global;
+use tp_policy_text::{ParseError, parse};
+use tp_types::{Admin, List, Policy, Version};
+
+/// The answer that a policy's text has.
+fn answer_of(alloc: Global, text: &[u8]) -> Result<Policy, ParseError>
+    ensures { IsOutOfMemory result ⊎ (result ≡ policy_answer text.now) }
+{
+    parse(alloc, text)
+}
+
+fn policy_said(alloc: Global, path: Path, text: &[u8]) -> Result<Policy, WalkError>
+    ensures { Gives result (admins.said path (policy_answer text.now)) }
+{
+    match answer_of(alloc, text) {
+        Ok(policy) => Ok(policy),
+        Err(ParseError::NoMemory) => Err(WalkError::NoMemory),
+        Err(why) => Err(policy_fault_at(path, why)),
+    }
+}
+
+#[tactic(auto, unfolding(crate::specs::Admins::policy_at))]
+fn policy_at(alloc: Global, path: Path, value: &Value) -> Result<Policy, WalkError>
+    ensures { Gives result (admins.policy_at path (view value.now)) }
+{
+    let text = text_at(path, Some(value))?;
+    policy_said(alloc, path, text)
+}
+
+fn each_policy(alloc: Global, at: usize, values: &[Value]) -> Result<List<Policy>, WalkError>
+    ensures value { Gives result (each (admins.policy_in at) [] (items_view values.now)) }
+    ensures few { IfOk result (λ made. length made ≤ length values.now) }
+{
+    let mut made = List::new(alloc);
+    for value in values {
+        let path = Path::Entry(Key::Admins, at, Key::Policies, made.len());
+        made.push(policy_at(alloc, path, value)?)?;
+    }
+    Ok(made)
+}
+
+#[tactic(auto, unfolding(crate::specs::Admins::policies_at))]
+fn policies_at(alloc: Global, at: usize, value: Option<&Value>) -> Result<List<Policy>, WalkError>
+    ensures value { Gives result (admins.policies_at at (option_map (λ v. view v.now) value.entry)) }
+    ensures few { IfOk result (λ made. length made ≤ 64) }
+{
+    let texts = items_at(Path::Field(Key::Admins, at, Key::Policies), 1, 64, value)?;
+    each_policy(alloc, at, texts)
+}
+
+#[tactic(auto, unfolding(crate::specs::Admins::admin_at))]
+fn admin_at(alloc: Global, names: &Names, at: usize, value: &Value) -> Result<Admin, WalkError>
+    ensures { Gives result (admins.admin_at names.now at (view value.now)) }
+{
+    let fields = object_at(
+        Path::Member(Key::Admins, at),
+        &[Key::Name, Key::Policies],
+        &[Key::Opening],
+        value,
+    )?;
+    let name = new_name_at(
+        alloc,
+        Path::Field(Key::Admins, at, Key::Name),
+        names,
+        field(fields, Key::Name),
+    )?;
+    let library = policies_at(alloc, at, field(fields, Key::Policies))?;
+    let opening = opening_at(at, library.len(), field(fields, Key::Opening))?;
+    Ok(Admin {
+        name,
+        library,
+        opening,
+    })
+}
+
+/// The opening version, which is the first where none is told.
+#[tactic(auto, unfolding(crate::specs::Admins::opening_at))]
+fn opening_at(at: usize, count: usize, value: Option<&Value>) -> Result<Version, WalkError>
+    requires { count ≤ 64 }
+    ensures { Gives result (admins.opening_at at count (option_map (λ v. view v.now) value.entry)) }
+{
+    let path = Path::Field(Key::Admins, at, Key::Opening);
+    let opening = count_or(path, 1, count as u64, 1, value)?;
+    Ok(Version(opening as u32))
+}
+
+fn each_admin(alloc: Global, names: &mut Names, values: &[Value]) -> Result<List<Admin>, WalkError>
+    requires { names.old ≡ [] }
+    ensures value { Gives result (each admins.admin_in [] (items_view values.now)) }
+    ensures named { IfOk result (λ made. names.new ≡ map admins.admin_name made) }
+{
+    let mut made = List::new(alloc);
+    for value in values {
+        let admin = admin_at(alloc, &*names, made.len(), value)?;
+        names.add(alloc, &admin.name)?;
+        made.push(admin)?;
+    }
+    Ok(made)
+}
+
+/// The administrators, whose names are added to none so far.
+#[tactic(auto, unfolding(crate::specs::Admins::admins_at))]
+pub(crate) fn admins_at(
+    alloc: Global,
+    names: &mut Names,
+    value: Option<&Value>,
+) -> Result<List<Admin>, WalkError>
+    requires { names.old ≡ [] }
+    ensures value { Gives result (admins.admins_at (option_map (λ v. view v.now) value.entry)) }
+    ensures named { IfOk result (λ made. names.new ≡ map admins.admin_name made) }
+{
+    let values = items_at(Path::Top(Key::Admins), 1, 16, value)?;
+    each_admin(alloc, names, values)
+}

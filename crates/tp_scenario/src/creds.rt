@@ -1,0 +1,144 @@
+//! Credentials.
+ghost use Rattle.std.specs.Prelude.{◌≡◌, [], map, option_map, IfOk};
+ghost use Rattle.serde_json.specs.View.{view, items_view};
+ghost use Rattle.tp_scenario.specs.Creds as creds;
+ghost use Rattle.tp_scenario.specs.declared.path.Key.TheVariants as Key;
+ghost use Rattle.tp_scenario.specs.declared.path.Path.TheVariants as Path;
+ghost use Rattle.tp_scenario.specs.Values.{each};
+ghost use Rattle.tp_scenario.specs.mirrors.Gives.{Gives};
+
+use crate::fault::WalkError;
+use crate::names::Names;
+use crate::object::{field, object_at};
+use crate::path::{Key, Path};
+use crate::values::{count_or, items_or, name_at, new_name_at, whole_in};
+use serde_json::Value as Json;
+use std::alloc::Global;
+use tp_types::{Credential, List, Value};
+
+/// The greatest number that is spelled: 15 digits.
+const NUMBER_MAX: i64 = 999_999_999_999_999;
+
+/// The last time of a clock at the start.
+const CLOCK_MAX: u64 = 1_000_000_000_000;
+
+fn is_text(value: Option<&Json>) -> bool
+    ensures { result ≡ creds.is_text (option_map (λ v. view v.now) value.entry) }
+{
+    value.and_then(Json::as_str).is_some()
+}
+
+#[tactic(auto, unfolding(crate::specs::Creds::word_at))]
+fn word_at(alloc: Global, path: Path, value: Option<&Json>) -> Result<Value, WalkError>
+    ensures { Gives result (creds.word_at path (option_map (λ v. view v.now) value.entry)) }
+{
+    let word = name_at(alloc, path, value)?;
+    Ok(Value::Word(word))
+}
+
+#[tactic(auto, unfolding(crate::specs::Creds::number_at))]
+fn number_at(path: Path, value: Option<&Json>) -> Result<Value, WalkError>
+    ensures { Gives result (creds.number_at path (option_map (λ v. view v.now) value.entry)) }
+{
+    let number = whole_in(path, -NUMBER_MAX, NUMBER_MAX, value)?;
+    Ok(Value::Number(number))
+}
+
+#[tactic(auto, unfolding(crate::specs::Creds::value_at))]
+fn value_at(alloc: Global, path: Path, value: Option<&Json>) -> Result<Value, WalkError>
+    ensures { Gives result (creds.value_at path (option_map (λ v. view v.now) value.entry)) }
+{
+    if is_text(value) {
+        word_at(alloc, path, value)
+    } else {
+        number_at(path, value)
+    }
+}
+
+fn path_of(at: usize, key: Key) -> Path
+    ensures { result ≡ Path.Field Key.Credentials at key }
+{
+    Path::Field(Key::Credentials, at, key)
+}
+
+#[tactic(auto, unfolding(crate::specs::Creds::cred_at))]
+fn cred_at(alloc: Global, names: &Names, at: usize, value: &Json) -> Result<Credential, WalkError>
+    ensures { Gives result (creds.cred_at names.now at (view value.now)) }
+{
+    let fields = object_at(
+        Path::Member(Key::Credentials, at),
+        &[Key::Name, Key::Issuer, Key::Subject, Key::Attr, Key::Value],
+        &[Key::From, Key::Until],
+        value,
+    )?;
+    let name = new_name_at(
+        alloc,
+        path_of(at, Key::Name),
+        names,
+        field(fields, Key::Name),
+    )?;
+    let issuer = name_at(alloc, path_of(at, Key::Issuer), field(fields, Key::Issuer))?;
+    let subject = name_at(
+        alloc,
+        path_of(at, Key::Subject),
+        field(fields, Key::Subject),
+    )?;
+    let attr = name_at(alloc, path_of(at, Key::Attr), field(fields, Key::Attr))?;
+    let value = value_at(alloc, path_of(at, Key::Value), field(fields, Key::Value))?;
+    let from = count_or(
+        path_of(at, Key::From),
+        0,
+        CLOCK_MAX,
+        0,
+        field(fields, Key::From),
+    )?;
+    let until = count_or(
+        path_of(at, Key::Until),
+        0,
+        CLOCK_MAX,
+        CLOCK_MAX,
+        field(fields, Key::Until),
+    )?;
+    Ok(Credential {
+        name,
+        issuer,
+        subject,
+        attr,
+        value,
+        from,
+        until,
+    })
+}
+
+fn each_cred(
+    alloc: Global,
+    names: &mut Names,
+    values: &[Json],
+) -> Result<List<Credential>, WalkError>
+    requires { names.old ≡ [] }
+    ensures value { Gives result (each creds.cred_in [] (items_view values.now)) }
+    ensures named { IfOk result (λ made. names.new ≡ map creds.cred_name made) }
+{
+    let mut made = List::new(alloc);
+    for value in values {
+        let cred = cred_at(alloc, &*names, made.len(), value)?;
+        names.add(alloc, &cred.name)?;
+        made.push(cred)?;
+    }
+    Ok(made)
+}
+
+/// The credentials, whose names are added to none so far.
+#[tactic(auto, unfolding(crate::specs::Creds::creds_at))]
+pub(crate) fn creds_at(
+    alloc: Global,
+    names: &mut Names,
+    value: Option<&Json>,
+) -> Result<List<Credential>, WalkError>
+    requires { names.old ≡ [] }
+    ensures value { Gives result (creds.creds_at (option_map (λ v. view v.now) value.entry)) }
+    ensures named { IfOk result (λ made. names.new ≡ map creds.cred_name made) }
+{
+    let values = items_or(Path::Top(Key::Credentials), 256, value)?;
+    each_cred(alloc, names, values)
+}

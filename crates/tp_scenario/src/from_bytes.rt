@@ -1,0 +1,143 @@
+//! From bytes to a scenario.
+ghost use Rattle.std.specs.Prelude.{◌≡◌, ◌⊎◌, ◌<◌, length, true, Result, IfOk, IfErr, IsErrOf, IsUtf8};
+ghost use Rattle.serde_json.specs.Read.{read as read_json};
+ghost use Rattle.serde_json.specs.View.{view};
+ghost use Rattle.tp_types.specs.declared.scenario.Scenario.{Scenario};
+ghost use Rattle.tp_model.specs.Built.{is_built};
+ghost use Rattle.tp_scenario.specs.declared.from_bytes.ScenarioError.{ScenarioError};
+ghost use Rattle.tp_scenario.specs.Forms as forms;
+ghost use Rattle.tp_scenario.specs.Reads as reads;
+ghost use Rattle.tp_scenario.specs.Reads.{Says, IsOutOfMemory, IsText, HasOneAnswer, IsTextOfOne, length_max};
+ghost use Rattle.tp_scenario.specs.Walk as walk;
+ghost use Rattle.tp_scenario.specs.mirrors.Refusing.{IsRefusal, IsTextError};
+
+use crate::fault::{Fault, Kind, WalkError};
+use crate::forms::first_form;
+use crate::path::{Site, site_text};
+use crate::whole::walked;
+use serde_json::Value;
+use std::alloc::Global;
+use tp_policy_text::ParseError;
+use tp_types::{NoMemory, Scenario, Text};
+
+/// The most bytes of a scenario: 16 MiB.
+const LENGTH_MAX: usize = 16_777_216;
+
+/// Why bytes are refused as a scenario. A path is `$`, then `.key` and `[index]`.
+#[derive(Drop)]
+pub enum ScenarioError {
+    /// There are more than 16,777,216 bytes.
+    TooLong,
+    /// The bytes are no UTF-8, or `serde_json` has no reading of them.
+    BadJson,
+    /// The value there is of another kind of JSON, or is not spelled as it is to be.
+    Shape { path: Text },
+    /// The value there is out of its range, or breaks a rule on it.
+    Range { path: Text },
+    /// The value there names what the scenario does not have.
+    Unknown { path: Text },
+    /// The text there is no policy.
+    Policy { path: Text, fault: ParseError },
+    /// There stands what is not built yet.
+    NotYet { path: Text },
+    NoMemory,
+}
+
+impl From<NoMemory> for ScenarioError {
+    ghost use Rattle.std.specs.Prelude.{◌≡◌};
+    ghost use Rattle.tp_scenario.specs.declared.from_bytes.ScenarioError.TheVariants.{NoMemory as OutOfMemory};
+
+    ghost from_gives = { λ _ e. e ≡ OutOfMemory };
+
+    fn from(_error: NoMemory) -> ScenarioError {
+        ScenarioError::NoMemory
+    }
+}
+
+fn json_of(alloc: Global, bytes: &[u8]) -> Result<Value, ScenarioError>
+    ensures ok { IfOk result (λ v. IsUtf8 bytes.now × (read_json bytes.now ≡ Some (view v))) }
+    ensures err { IfErr result (IsTextError bytes.now) }
+{
+    match Value::from_slice(alloc, bytes) {
+        Ok(value) => Ok(value),
+        Err(error) => {
+            if error.is_memory() {
+                Err(ScenarioError::NoMemory)
+            } else {
+                Err(ScenarioError::BadJson)
+            }
+        }
+    }
+}
+
+fn refused_at(kind: Kind, path: Text) -> ScenarioError
+    ensures { result ≡ reads.refused_at kind path }
+{
+    match kind {
+        Kind::Shape => ScenarioError::Shape { path },
+        Kind::Range => ScenarioError::Range { path },
+        Kind::Unknown => ScenarioError::Unknown { path },
+        Kind::Policy(fault) => ScenarioError::Policy { path, fault },
+    }
+}
+
+fn refused(alloc: Global, fault: &Fault) -> ScenarioError
+    ensures { IsRefusal (reads.refused fault.now) result }
+{
+    match site_text(alloc, &fault.site) {
+        Ok(path) => refused_at(fault.kind, path),
+        Err(NoMemory) => ScenarioError::NoMemory,
+    }
+}
+
+fn not_yet(alloc: Global, site: &Site) -> ScenarioError
+    ensures { IsRefusal (ScenarioError.NotYet (reads.path_of site.now)) result }
+{
+    match site_text(alloc, site) {
+        Ok(path) => ScenarioError::NotYet { path },
+        Err(NoMemory) => ScenarioError::NoMemory,
+    }
+}
+
+fn built(alloc: Global, scenario: Scenario) -> Result<Scenario, ScenarioError>
+    ensures { IsOutOfMemory result ⊎ (result ≡ reads.built_or scenario (forms.first_form scenario)) }
+{
+    match first_form(alloc, &scenario) {
+        Err(NoMemory) => Err(ScenarioError::NoMemory),
+        Ok(None) => Ok(scenario),
+        Ok(Some(site)) => Err(not_yet(alloc, &site)),
+    }
+}
+
+fn scenario_of(alloc: Global, value: &Value) -> Result<Scenario, ScenarioError>
+    ensures { IsOutOfMemory result ⊎ (result ≡ reads.answer_to (view value.now)) }
+{
+    match walked(alloc, value) {
+        Ok(scenario) => built(alloc, scenario),
+        Err(WalkError::NoMemory) => Err(ScenarioError::NoMemory),
+        Err(WalkError::Fault(fault)) => Err(refused(alloc, &fault)),
+    }
+}
+
+/// Reads a scenario from a JSON text. What is wrong first in it is named, or what is not built yet.
+///
+/// A key that an object has twice counts with its last value.
+pub fn read(alloc: Global, bytes: &[u8]) -> Result<Scenario, ScenarioError>
+    ensures answer { IsOutOfMemory result ⊎ Says bytes.now result }
+    ensures only { (answer : Result Scenario ScenarioError) → Says bytes.now answer → IsOutOfMemory result ⊎ (result ≡ answer) }
+    ensures text { IfOk result (λ scenario. IsText bytes.now scenario) }
+    ensures built { IfOk result (λ scenario. is_built scenario ≡ true) }
+    ensures too_long { length_max < length bytes.now → result ≡ Err ScenarioError.TooLong }
+{
+    if bytes.len() > LENGTH_MAX {
+        return Err(ScenarioError::TooLong);
+    }
+    let value = json_of(alloc, bytes)?;
+    scenario_of(alloc, &value)
+}
+
+/// Bytes have at most one answer, and are a text of at most one scenario.
+pub fn reading_is_exact()
+    ensures answer { HasOneAnswer }
+    ensures text { IsTextOfOne }
+{}

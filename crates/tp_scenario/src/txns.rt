@@ -1,0 +1,275 @@
+//! Transactions.
+ghost use Rattle.std.specs.Prelude.{◌≡◌, [], map, option_map, IfOk};
+ghost use Rattle.std.specs.List.{list_any};
+ghost use Rattle.serde_json.specs.View.{view, items_view};
+ghost use Rattle.tp_model.specs.Ids.{same_cred};
+ghost use Rattle.tp_scenario.specs.Txns as txns;
+ghost use Rattle.tp_scenario.specs.Values.{apart, each};
+ghost use Rattle.tp_scenario.specs.declared.path.Key.TheVariants as Key;
+ghost use Rattle.tp_scenario.specs.declared.path.Path.TheVariants as Path;
+ghost use Rattle.tp_scenario.specs.mirrors.Gives.{Gives};
+
+use crate::fault::{WalkError, range_at};
+use crate::names::{Declared, Names};
+use crate::object::{field, object_at};
+use crate::path::{Key, Path};
+use crate::query::query_at;
+use crate::values::{count_or, items_at, items_or, name_at, new_name_at, text_at, used_at};
+use serde_json::Value;
+use std::alloc::Global;
+use tp_types::{CredId, Level, List, Name, Query, Scheme, Transaction};
+
+fn path_of(at: usize, key: Key) -> Path
+    ensures { result ≡ Path.Field Key.Transactions at key }
+{
+    Path::Field(Key::Transactions, at, key)
+}
+
+fn scheme_named(path: Path, text: &[u8]) -> Result<Scheme, WalkError>
+    ensures { Gives result (txns.scheme_named path text.now) }
+{
+    if text == b"deferred".as_slice() {
+        Ok(Scheme::Deferred)
+    } else if text == b"punctual".as_slice() {
+        Ok(Scheme::Punctual)
+    } else if text == b"incremental".as_slice() {
+        Ok(Scheme::Incremental)
+    } else if text == b"continuous".as_slice() {
+        Ok(Scheme::Continuous)
+    } else {
+        Err(range_at(path))
+    }
+}
+
+fn told_scheme(path: Path, value: Option<&Value>) -> Result<Scheme, WalkError>
+    ensures { Gives result (txns.told_scheme path (option_map (λ v. view v.now) value.entry)) }
+{
+    let text = text_at(path, value)?;
+    scheme_named(path, text)
+}
+
+/// The scheme, deferred where none is told.
+#[tactic(auto, unfolding(crate::specs::Txns::scheme_at))]
+fn scheme_at(path: Path, value: Option<&Value>) -> Result<Scheme, WalkError>
+    ensures { Gives result (txns.scheme_at path (option_map (λ v. view v.now) value.entry)) }
+{
+    match value {
+        None => Ok(Scheme::Deferred),
+        Some(_) => told_scheme(path, value),
+    }
+}
+
+fn level_named(path: Path, text: &[u8]) -> Result<Level, WalkError>
+    ensures { Gives result (txns.level_named path text.now) }
+{
+    if text == b"view".as_slice() {
+        Ok(Level::View)
+    } else if text == b"global".as_slice() {
+        Ok(Level::Global)
+    } else {
+        Err(range_at(path))
+    }
+}
+
+fn told_level(path: Path, value: Option<&Value>) -> Result<Level, WalkError>
+    ensures { Gives result (txns.told_level path (option_map (λ v. view v.now) value.entry)) }
+{
+    let text = text_at(path, value)?;
+    level_named(path, text)
+}
+
+/// The level, view where none is told.
+#[tactic(auto, unfolding(crate::specs::Txns::level_at))]
+fn level_at(path: Path, value: Option<&Value>) -> Result<Level, WalkError>
+    ensures { Gives result (txns.level_at path (option_map (λ v. view v.now) value.entry)) }
+{
+    match value {
+        None => Ok(Level::View),
+        Some(_) => told_level(path, value),
+    }
+}
+
+fn is_among(cred: CredId, made: &[CredId]) -> bool
+    ensures { result ≡ list_any (same_cred cred) made.now }
+{
+    made.iter().any(|other| cred == *other)
+}
+
+/// A credential that is presented, after these.
+#[tactic(auto, unfolding(crate::specs::Txns::presented_at))]
+fn presented_at(
+    path: Path,
+    creds: &Names,
+    made: &[CredId],
+    value: &Value,
+) -> Result<CredId, WalkError>
+    ensures { Gives result (txns.presented_at path creds.now made.now (view value.now)) }
+{
+    let cred = CredId(used_at(path, creds, Some(value))?);
+    if is_among(cred, made) {
+        Err(range_at(path))
+    } else {
+        Ok(cred)
+    }
+}
+
+fn each_presented(
+    alloc: Global,
+    creds: &Names,
+    at: usize,
+    values: &[Value],
+) -> Result<List<CredId>, WalkError>
+    ensures { Gives result (each (txns.presented_in creds.now at) [] (items_view values.now)) }
+{
+    let mut made = List::new(alloc);
+    for value in values {
+        let path = Path::Entry(Key::Transactions, at, Key::Credentials, made.len());
+        let cred = presented_at(path, creds, made.as_slice(), value)?;
+        made.push(cred)?;
+    }
+    Ok(made)
+}
+
+#[tactic(auto, unfolding(crate::specs::Txns::presented_by))]
+fn presented_by(
+    alloc: Global,
+    creds: &Names,
+    at: usize,
+    value: Option<&Value>,
+) -> Result<List<CredId>, WalkError>
+    ensures { Gives result (txns.presented_by creds.now at (option_map (λ v. view v.now) value.entry)) }
+{
+    let values = items_or(path_of(at, Key::Credentials), 256, value)?;
+    each_presented(alloc, creds, at, values)
+}
+
+fn each_query(
+    alloc: Global,
+    items: &Names,
+    at: usize,
+    values: &[Value],
+) -> Result<List<Query>, WalkError>
+    ensures { Gives result (each (txns.query_in items.now at) [] (items_view values.now)) }
+{
+    let mut made = List::new(alloc);
+    for value in values {
+        let path = Path::Entry(Key::Transactions, at, Key::Queries, made.len());
+        let query = query_at(alloc, path, items, value)?;
+        made.push(query)?;
+    }
+    Ok(made)
+}
+
+#[tactic(auto, unfolding(crate::specs::Txns::queries_at))]
+fn queries_at(
+    alloc: Global,
+    items: &Names,
+    at: usize,
+    value: Option<&Value>,
+) -> Result<List<Query>, WalkError>
+    ensures { Gives result (txns.queries_at items.now at (option_map (λ v. view v.now) value.entry)) }
+{
+    let values = items_at(path_of(at, Key::Queries), 1, 16, value)?;
+    each_query(alloc, items, at, values)
+}
+
+/// The name of a transaction, which no other transaction has and no server.
+#[tactic(auto, unfolding(crate::specs::Txns::txn_name_at))]
+fn txn_name_at(
+    alloc: Global,
+    servers: &Names,
+    others: &Names,
+    at: usize,
+    value: Option<&Value>,
+) -> Result<Name, WalkError>
+    ensures { Gives result (txns.txn_name_at servers.now others.now at (option_map (λ v. view v.now) value.entry)) }
+{
+    let path = path_of(at, Key::Name);
+    let name = new_name_at(alloc, path, others, value)?;
+    match servers.place_of(name.bytes()) {
+        None => Ok(name),
+        Some(_) => Err(range_at(path)),
+    }
+}
+
+#[tactic(auto, unfolding(crate::specs::Txns::txn_at))]
+fn txn_at(
+    alloc: Global,
+    names: &Declared,
+    at: usize,
+    value: &Value,
+) -> Result<Transaction, WalkError>
+    ensures { Gives result (txns.txn_at names.now at (view value.now)) }
+{
+    let fields = object_at(
+        Path::Member(Key::Transactions, at),
+        &[Key::Name, Key::Subject, Key::Queries],
+        &[Key::Scheme, Key::Level, Key::Rounds, Key::Credentials],
+        value,
+    )?;
+    let name = txn_name_at(
+        alloc,
+        &names.servers,
+        &names.txns,
+        at,
+        field(fields, Key::Name),
+    )?;
+    let subject = name_at(
+        alloc,
+        path_of(at, Key::Subject),
+        field(fields, Key::Subject),
+    )?;
+    let scheme = scheme_at(path_of(at, Key::Scheme), field(fields, Key::Scheme))?;
+    let level = level_at(path_of(at, Key::Level), field(fields, Key::Level))?;
+    let rounds = count_or(
+        path_of(at, Key::Rounds),
+        1,
+        16,
+        8,
+        field(fields, Key::Rounds),
+    )?;
+    let creds = presented_by(alloc, &names.creds, at, field(fields, Key::Credentials))?;
+    let queries = queries_at(alloc, &names.items, at, field(fields, Key::Queries))?;
+    Ok(Transaction {
+        name,
+        subject,
+        scheme,
+        level,
+        rounds: rounds as u32,
+        creds,
+        queries,
+    })
+}
+
+fn each_txn(
+    alloc: Global,
+    names: &mut Declared,
+    values: &[Value],
+) -> Result<List<Transaction>, WalkError>
+    requires { names.old.txns ≡ [] }
+    ensures value { Gives result (each (txns.txn_in names.old) [] (items_view values.now)) }
+    ensures named { IfOk result (λ made. names.new ≡ record names.old { txns = map txns.txn_name made }) }
+{
+    let mut made = List::new(alloc);
+    for value in values {
+        let txn = txn_at(alloc, &*names, made.len(), value)?;
+        names.txns.add(alloc, &txn.name)?;
+        made.push(txn)?;
+    }
+    Ok(made)
+}
+
+/// The transactions, whose names are added to none so far.
+#[tactic(auto, unfolding(crate::specs::Txns::txns_at))]
+pub(crate) fn txns_at(
+    alloc: Global,
+    names: &mut Declared,
+    value: Option<&Value>,
+) -> Result<List<Transaction>, WalkError>
+    requires { names.old.txns ≡ [] }
+    ensures value { Gives result (txns.txns_at names.old (option_map (λ v. view v.now) value.entry)) }
+    ensures named { IfOk result (λ made. names.new ≡ record names.old { txns = map txns.txn_name made }) }
+{
+    let values = items_at(Path::Top(Key::Transactions), 0, 128, value)?;
+    each_txn(alloc, names, values)
+}

@@ -1,0 +1,237 @@
+//! Single values of a scenario's JSON.
+ghost use Rattle.std.specs.Prelude.{◌≡◌, ◌≤◌, ◌<◌, length, max, option_map, pos, IfOk};
+ghost use Rattle.serde_json.specs.View.{view, items_view};
+ghost use Rattle.tp_model.specs.Limits as limits;
+ghost use Rattle.tp_scenario.specs.Values as values;
+ghost use Rattle.tp_scenario.specs.mirrors.Gives.{Gives, GivesAs};
+
+use crate::fault::{WalkError, range_at, shape_at, unknown_at};
+use crate::names::Names;
+use crate::path::Path;
+use crate::spelling::is_name;
+use serde_json::Value;
+use std::alloc::Global;
+use tp_types::Name;
+
+/// A value that is needed.
+#[tactic(auto, unfolding(crate::specs::Values::needed))]
+pub(crate) fn needed(path: Path, value: Option<&Value>) -> Result<&Value, WalkError>
+    ensures { GivesAs result (λ v. view v.now) (values.needed path (option_map (λ v. view v.now) value.entry)) }
+{
+    value.ok_or(shape_at(path))
+}
+
+/// A text.
+#[tactic(auto, unfolding(crate::specs::Values::text_at))]
+pub(crate) fn text_at(path: Path, value: Option<&Value>) -> Result<&[u8], WalkError>
+    ensures { GivesAs result (λ s. s.now) (values.text_at path (option_map (λ v. view v.now) value.entry)) }
+{
+    match value.and_then(Value::as_str) {
+        None => Err(shape_at(path)),
+        Some(text) => Ok(text.as_bytes()),
+    }
+}
+
+/// A text that is spelled as a name, as it stands in the JSON.
+#[tactic(auto, unfolding(crate::specs::Values::name_at))]
+pub(crate) fn name_text(path: Path, value: Option<&Value>) -> Result<&[u8], WalkError>
+    ensures { GivesAs result (λ s. s.now) (values.name_at path (option_map (λ v. view v.now) value.entry)) }
+{
+    let text = text_at(path, value)?;
+    if is_name(text) {
+        Ok(text)
+    } else {
+        Err(range_at(path))
+    }
+}
+
+/// A name.
+#[tactic(auto, unfolding(crate::specs::Values::name_at))]
+pub(crate) fn name_at(alloc: Global, path: Path, value: Option<&Value>) -> Result<Name, WalkError>
+    ensures { Gives result (values.name_at path (option_map (λ v. view v.now) value.entry)) }
+{
+    let text = text_at(path, value)?;
+    match Name::of(alloc, text)? {
+        None => Err(range_at(path)),
+        Some(name) => Ok(name),
+    }
+}
+
+/// A name that is declared, and is not among the names of its kind so far.
+#[tactic(auto, unfolding(crate::specs::Values::new_name_at))]
+pub(crate) fn new_name_at(
+    alloc: Global,
+    path: Path,
+    names: &Names,
+    value: Option<&Value>,
+) -> Result<Name, WalkError>
+    ensures { Gives result (values.new_name_at path names.now (option_map (λ v. view v.now) value.entry)) }
+{
+    let name = name_at(alloc, path, value)?;
+    match names.place_of(name.bytes()) {
+        None => Ok(name),
+        Some(_) => Err(range_at(path)),
+    }
+}
+
+/// The place of a name that is used.
+#[tactic(auto, unfolding(crate::specs::Values::used))]
+pub(crate) fn used(path: Path, names: &Names, name: &[u8]) -> Result<u32, WalkError>
+    ensures { Gives result (values.used path names.now name.now) }
+{
+    match names.place_of(name) {
+        None => Err(unknown_at(path)),
+        Some(place) => Ok(place),
+    }
+}
+
+/// The place of a name that is used by a value.
+#[tactic(auto, unfolding(crate::specs::Values::used_at))]
+pub(crate) fn used_at(path: Path, names: &Names, value: Option<&Value>) -> Result<u32, WalkError>
+    ensures { Gives result (values.used_at path names.now (option_map (λ v. view v.now) value.entry)) }
+{
+    used(path, names, name_text(path, value)?)
+}
+
+/// A whole number.
+#[tactic(auto, unfolding(crate::specs::Values::whole_at))]
+pub(crate) fn whole_at(path: Path, value: Option<&Value>) -> Result<i64, WalkError>
+    ensures { Gives result (values.whole_at path (option_map (λ v. view v.now) value.entry)) }
+{
+    match value.and_then(Value::as_i64) {
+        None => Err(shape_at(path)),
+        Some(number) => Ok(number),
+    }
+}
+
+fn is_between(low: i64, high: i64, number: i64) -> bool
+    ensures { result ≡ limits.is_between low high number }
+{
+    low <= number && number <= high
+}
+
+/// A whole number of a range.
+#[tactic(auto, unfolding(crate::specs::Values::whole_in))]
+pub(crate) fn whole_in(
+    path: Path,
+    low: i64,
+    high: i64,
+    value: Option<&Value>,
+) -> Result<i64, WalkError>
+    ensures { Gives result (values.whole_in path low high (option_map (λ v. view v.now) value.entry)) }
+{
+    let number = whole_at(path, value)?;
+    if is_between(low, high, number) {
+        Ok(number)
+    } else {
+        Err(range_at(path))
+    }
+}
+
+fn is_from_to(low: u64, high: u64, number: u64) -> bool
+    ensures { result ≡ limits.is_from_to low high number }
+{
+    low <= number && number <= high
+}
+
+fn counted(path: Path, low: u64, high: u64, number: i64) -> Result<u64, WalkError>
+    ensures value { Gives result (values.counted path low high number) }
+    ensures most { IfOk result (λ n. n ≤ high) }
+{
+    if number < 0 {
+        return Err(range_at(path));
+    }
+    let count = number as u64;
+    if is_from_to(low, high, count) {
+        Ok(count)
+    } else {
+        Err(range_at(path))
+    }
+}
+
+/// A whole number of a range that begins at 0 or later.
+#[tactic(auto, unfolding(crate::specs::Values::count_at))]
+pub(crate) fn count_at(
+    path: Path,
+    low: u64,
+    high: u64,
+    value: Option<&Value>,
+) -> Result<u64, WalkError>
+    ensures value { Gives result (values.count_at path low high (option_map (λ v. view v.now) value.entry)) }
+    ensures most { IfOk result (λ n. n ≤ high) }
+{
+    let number = whole_at(path, value)?;
+    counted(path, low, high, number)
+}
+
+/// The same, where a missing one has this value.
+#[tactic(auto, unfolding(crate::specs::Values::count_or))]
+pub(crate) fn count_or(
+    path: Path,
+    low: u64,
+    high: u64,
+    missing: u64,
+    value: Option<&Value>,
+) -> Result<u64, WalkError>
+    ensures value { Gives result (values.count_or path low high missing (option_map (λ v. view v.now) value.entry)) }
+    ensures most { IfOk result (λ n. n ≤ max high missing) }
+{
+    match value {
+        None => Ok(missing),
+        Some(_) => count_at(path, low, high, value),
+    }
+}
+
+#[tactic(auto, unfolding(crate::specs::Values::sized), using(crate::proofs::Views::viewed))]
+fn sized(path: Path, least: usize, most: usize, items: &[Value]) -> Result<&[Value], WalkError>
+    ensures value { GivesAs result (λ s. items_view s.now) (values.sized path least most (items_view items.now)) }
+    ensures few { IfOk result (λ s. length s.now ≤ most) }
+{
+    if least <= items.len() && items.len() <= most {
+        Ok(items)
+    } else {
+        Err(range_at(path))
+    }
+}
+
+/// An array.
+#[tactic(auto, unfolding(crate::specs::Values::array_at))]
+pub(crate) fn array_at(path: Path, value: Option<&Value>) -> Result<&[Value], WalkError>
+    ensures { GivesAs result (λ s. items_view s.now) (values.array_at path (option_map (λ v. view v.now) value.entry)) }
+{
+    match value.and_then(Value::as_array) {
+        None => Err(shape_at(path)),
+        Some(items) => Ok(items.as_slice()),
+    }
+}
+
+/// An array whose length is in its range.
+#[tactic(auto, unfolding(crate::specs::Values::items_at))]
+pub(crate) fn items_at(
+    path: Path,
+    least: usize,
+    most: usize,
+    value: Option<&Value>,
+) -> Result<&[Value], WalkError>
+    ensures value { GivesAs result (λ s. items_view s.now) (values.items_at path least most (option_map (λ v. view v.now) value.entry)) }
+    ensures few { IfOk result (λ s. length s.now ≤ most) }
+{
+    let items = array_at(path, value)?;
+    sized(path, least, most, items)
+}
+
+/// The same, where a missing one is empty.
+#[tactic(auto, unfolding(crate::specs::Values::items_or))]
+pub(crate) fn items_or(
+    path: Path,
+    most: usize,
+    value: Option<&Value>,
+) -> Result<&[Value], WalkError>
+    ensures value { GivesAs result (λ s. items_view s.now) (values.items_or path most (option_map (λ v. view v.now) value.entry)) }
+    ensures few { IfOk result (λ s. length s.now ≤ most) }
+{
+    match value {
+        None => Ok(&[]),
+        Some(_) => items_at(path, 0, most, value),
+    }
+}

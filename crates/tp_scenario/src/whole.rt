@@ -1,0 +1,93 @@
+//! The whole scenario.
+ghost use Rattle.std.specs.Prelude.{◌≡◌};
+ghost use Rattle.serde_json.specs.View.{view};
+ghost use Rattle.tp_scenario.specs.Walk as walk;
+ghost use Rattle.tp_scenario.specs.mirrors.Gives.{Gives};
+
+use crate::admins::admins_at;
+use crate::creds::creds_at;
+use crate::fault::WalkError;
+use crate::names::{Declared, Names};
+use crate::object::{field, object_at};
+use crate::path::{Key, Path};
+use crate::scripts::{clients_at, officers_at, publishers_at};
+use crate::servers::{Served, servers_at};
+use crate::steps::steps_at;
+use crate::txns::txns_at;
+use crate::values::count_or;
+use serde_json::Value;
+use std::alloc::Global;
+use tp_types::Scenario;
+
+/// The last time of a clock at the start.
+const CLOCK_MAX: u64 = 1_000_000_000_000;
+
+fn no_names(alloc: Global) -> Declared
+    ensures { result ≡ walk.no_names }
+{
+    Declared {
+        admins: Names::new(alloc),
+        creds: Names::new(alloc),
+        servers: Names::new(alloc),
+        items: Names::new(alloc),
+        txns: Names::new(alloc),
+    }
+}
+
+/// The scenario that a value is, or the first fault in it.
+#[tactic(auto, unfolding(crate::specs::Walk::walked))]
+pub(crate) fn walked(alloc: Global, value: &Value) -> Result<Scenario, WalkError>
+    ensures { Gives result (walk.walked (view value.now)) }
+{
+    let fields = object_at(
+        Path::Whole,
+        &[Key::Admins, Key::Servers, Key::Transactions],
+        &[
+            Key::Clock,
+            Key::Credentials,
+            Key::Steps,
+            Key::Clients,
+            Key::Publishers,
+            Key::Officers,
+        ],
+        value,
+    )?;
+    let mut names = no_names(alloc);
+    let admins = admins_at(alloc, &mut names.admins, field(fields, Key::Admins))?;
+    let clock = count_or(
+        Path::Top(Key::Clock),
+        0,
+        CLOCK_MAX,
+        0,
+        field(fields, Key::Clock),
+    )?;
+    let creds = creds_at(alloc, &mut names.creds, field(fields, Key::Credentials))?;
+    let Served { servers, items } = servers_at(
+        alloc,
+        admins.as_slice(),
+        &mut names,
+        field(fields, Key::Servers),
+    )?;
+    let txns = txns_at(alloc, &mut names, field(fields, Key::Transactions))?;
+    let steps = steps_at(alloc, &names, field(fields, Key::Steps))?;
+    let clients = clients_at(alloc, &names.txns, field(fields, Key::Clients))?;
+    let publishers = publishers_at(
+        alloc,
+        &names,
+        admins.as_slice(),
+        field(fields, Key::Publishers),
+    )?;
+    let officers = officers_at(alloc, &names, field(fields, Key::Officers))?;
+    Ok(Scenario {
+        admins,
+        clock,
+        creds,
+        servers,
+        items,
+        txns,
+        steps,
+        clients,
+        publishers,
+        officers,
+    })
+}

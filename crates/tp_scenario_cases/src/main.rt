@@ -1,0 +1,78 @@
+//! Reads scenarios, most of which are damaged, and says how many are answered as their table wants.
+#![tactic(auto)]
+
+use std::alloc::Global;
+use std::fs::{self, Files};
+use std::io;
+use tp_policy_text::ParseError;
+use tp_scenario::{ScenarioError, read};
+use tp_types::{NoMemory, Text};
+
+fn table<R: Files + AllocGlobal>(rt: &R) -> io::Result<String> {
+    match fs::read_to_string(rt, "cases.txt") {
+        Ok(text) => Ok(text),
+        Err(_) => fs::read_to_string(rt, "data/cases.txt"),
+    }
+}
+
+fn at(alloc: Global, kind: &str, path: &Text) -> Result<String, NoMemory> {
+    let mut line = String::from_str(alloc, kind)?;
+    for byte in path.0.as_slice() {
+        line.push(char::from(*byte))?;
+    }
+    Ok(line)
+}
+
+fn policy(alloc: Global, path: &Text, fault: ParseError) -> Result<String, NoMemory> {
+    let line = at(alloc, "policy ", path)?;
+    match fault {
+        ParseError::TooLong => Ok(format!(in alloc; "{line} toolong 4096")?),
+        ParseError::TooDeep { place } => Ok(format!(in alloc; "{line} toodeep {place}")?),
+        ParseError::Syntax { place } => Ok(format!(in alloc; "{line} syntax {place}")?),
+        ParseError::NoMemory => Err(NoMemory),
+    }
+}
+
+fn refusal(alloc: Global, why: &ScenarioError) -> Result<String, NoMemory> {
+    match why {
+        ScenarioError::TooLong => Ok(String::from_str(alloc, "toolong")?),
+        ScenarioError::BadJson => Ok(String::from_str(alloc, "badjson")?),
+        ScenarioError::Shape { path } => at(alloc, "shape ", path),
+        ScenarioError::Range { path } => at(alloc, "range ", path),
+        ScenarioError::Unknown { path } => at(alloc, "unknown ", path),
+        ScenarioError::Policy { path, fault } => policy(alloc, path, *fault),
+        ScenarioError::NotYet { path } => at(alloc, "notyet ", path),
+        ScenarioError::NoMemory => Err(NoMemory),
+    }
+}
+
+fn answer(alloc: Global, text: &str) -> Result<String, NoMemory> {
+    match read(alloc, text.as_bytes()) {
+        Ok(_) => Ok(String::from_str(alloc, "ok")?),
+        Err(why) => refusal(alloc, &why),
+    }
+}
+
+fn passes(alloc: Global, wanted: &str, text: &str) -> Result<bool, NoMemory> {
+    let given = answer(alloc, text)?;
+    Ok(given.as_str() == wanted)
+}
+
+fn main(rt: HostRuntime) -> io::Result<()> {
+    let table = table(&rt)?;
+    let mut passed: u64 = 0;
+    let mut failed: u64 = 0;
+    for (number, line) in table.as_str().lines().enumerate() {
+        let Some((wanted, text)) = line.split_once('\t') else {
+            continue;
+        };
+        match passes(rt.alloc(), wanted, text) {
+            Ok(true) => passed = passed.saturating_add(1),
+            _ => {
+                failed = failed.saturating_add(1);
+                println!(rt; "line {number}: wanted {wanted}")?;
+            }
+        }
+    }
+    println!(rt; "{passed} passed, {failed} failed")
+}
