@@ -17,14 +17,14 @@ failed_is result = result
 
 module _ {D : Type 0} (state : D → DiskState) (left_since : D → D → List ℕ → Type 0) (does : D → Call → Result (Unit {0}) DiskError → D → Type 0) (faults : D → ℕ)
     (only_now : (disk : D) (image : List ℕ) → left_since disk disk image → MayLeave (state disk) image) where
-  makes : (calls : List Call) (old : D) (result : Result (Unit {0}) DiskError) (new : D) → Steps state left_since does faults calls old result new → Makes does calls old result new
+  pub makes : (calls : List Call) (old : D) (result : Result (Unit {0}) DiskError) (new : D) → Steps state left_since does faults calls old result new → Makes does calls old result new
   makes [] old (Ok x) new steps = steps
   makes [] old (Err e) new steps = absurd steps
   makes (call ∷ calls) old result new (inl passed) = inl (passed.0, passed.1.call_is, makes calls passed.0 result new passed.2)
   makes (call ∷ calls) old result new (inr refused) = inr (refused.0, refused.1.call_is, refused.2)
 
   -- a failure among several calls is a fault
-  fault_of : (calls : List Call) (old new : D) → Steps state left_since does faults calls old (Err errors.Failed) new → Rose (faults old) (faults new)
+  pub fault_of : (calls : List Call) (old new : D) → Steps state left_since does faults calls old (Err errors.Failed) new → Rose (faults old) (faults new)
   fault_of [] old new steps = absurd steps
   fault_of (call ∷ calls) old new (inl passed) = omega (arith, passed.1.cause.later, fault_of calls passed.0 new passed.2)
   fault_of (call ∷ calls) old new (inr refused) = by_error refused.0 refused.1 refused.2

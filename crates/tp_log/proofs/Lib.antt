@@ -4,5 +4,6 @@ pub mod Blocks
 pub mod Found
 pub mod LastStep
 pub mod Near
+pub mod Openings
 pub mod Reading
 pub mod Stopped

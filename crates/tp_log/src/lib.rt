@@ -11,6 +11,7 @@ mod calls;
 mod error;
 mod image;
 mod log;
+mod opening;
 
 pub use block::BODY_MAX;
 pub use error::LogError;
