@@ -88,11 +88,12 @@ module _ {D : Type 0} (state : D → DiskState) (left_since : D → D → List �
       kept = λ records keeps. record { was_closed = refl; images = (after (Err errors.Failed) new closed steps records keeps).so.images };
     }
 
-    pub stays : (new : D) (closed : Bool) → closed ≡ false → Steps state left_since does faults (forced_calls gate bytes) disk (Err errors.NoMemory) new
-        → Stays state does faults (log disk gate closed) (log new gate closed)
-    stays new closed is-open steps = record {
+    pub stays : (new : D) (closed : Bool) → closed ≡ false → length (spelling r) ≤ body_max → Steps state left_since does faults (forced_calls gate bytes) disk (Err errors.NoMemory) new
+        → Stays state does faults (log disk gate closed) r (log new gate closed)
+    stays new closed is-open fits steps = record {
       was_open = is-open;
       is_open = is-open;
+      calls = inr (record { is = is; fits = fits; same_gate = refl; calls = made (Err errors.NoMemory) new steps });
       kept = λ records keeps.
           let a = after (Err errors.NoMemory) new closed steps records keeps in
           subst (λ (b : Bool). Keeps state (log new gate b) records) (sym is-open) (kept_is records (length (blocks records)) gate new a.outcome keeps.at_gate.gate_is);
