@@ -1,3 +1,4 @@
+pub mod Answering
 pub mod AppendAnswers
 pub mod Appends
 pub mod Blocks
