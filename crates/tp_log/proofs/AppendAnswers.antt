@@ -17,14 +17,14 @@ failed_is result = result
 
 module _ {D : Type 0} (state : D → DiskState) (left_since : D → D → List ℕ → Type 0) (does : D → Call → Result (Unit {0}) DiskError → D → Type 0) (faults : D → ℕ)
     (only_now : (disk : D) (image : List ℕ) → left_since disk disk image → MayLeave (state disk) image) where
-  makes : (calls : List Call) (old : D) (result : Result (Unit {0}) DiskError) (new : D) → Steps state left_since does faults calls old result new → Makes does calls old result new
+  pub makes : (calls : List Call) (old : D) (result : Result (Unit {0}) DiskError) (new : D) → Steps state left_since does faults calls old result new → Makes does calls old result new
   makes [] old (Ok x) new steps = steps
   makes [] old (Err e) new steps = absurd steps
   makes (call ∷ calls) old result new (inl passed) = inl (passed.0, passed.1.call_is, makes calls passed.0 result new passed.2)
   makes (call ∷ calls) old result new (inr refused) = inr (refused.0, refused.1.call_is, refused.2)
 
   -- a failure among several calls is a fault
-  fault_of : (calls : List Call) (old new : D) → Steps state left_since does faults calls old (Err errors.Failed) new → Rose (faults old) (faults new)
+  pub fault_of : (calls : List Call) (old new : D) → Steps state left_since does faults calls old (Err errors.Failed) new → Rose (faults old) (faults new)
   fault_of [] old new steps = absurd steps
   fault_of (call ∷ calls) old new (inl passed) = omega (arith, passed.1.cause.later, fault_of calls passed.0 new passed.2)
   fault_of (call ∷ calls) old new (inr refused) = by_error refused.0 refused.1 refused.2
@@ -88,11 +88,12 @@ module _ {D : Type 0} (state : D → DiskState) (left_since : D → D → List �
       kept = λ records keeps. record { was_closed = refl; images = (after (Err errors.Failed) new closed steps records keeps).so.images };
     }
 
-    pub stays : (new : D) (closed : Bool) → closed ≡ false → Steps state left_since does faults (forced_calls gate bytes) disk (Err errors.NoMemory) new
-        → Stays state does faults (log disk gate closed) (log new gate closed)
-    stays new closed is-open steps = record {
+    pub stays : (new : D) (closed : Bool) → closed ≡ false → length (spelling r) ≤ body_max → Steps state left_since does faults (forced_calls gate bytes) disk (Err errors.NoMemory) new
+        → Stays state does faults (log disk gate closed) r (log new gate closed)
+    stays new closed is-open fits steps = record {
       was_open = is-open;
       is_open = is-open;
+      calls = inr (record { is = is; fits = fits; same_gate = refl; calls = made (Err errors.NoMemory) new steps });
       kept = λ records keeps.
           let a = after (Err errors.NoMemory) new closed steps records keeps in
           subst (λ (b : Bool). Keeps state (log new gate b) records) (sym is-open) (kept_is records (length (blocks records)) gate new a.outcome keeps.at_gate.gate_is);

@@ -1,8 +1,10 @@
+pub mod Answering
 pub mod AppendAnswers
 pub mod Appends
 pub mod Blocks
 pub mod Found
 pub mod LastStep
 pub mod Near
+pub mod Openings
 pub mod Reading
 pub mod Stopped

@@ -39,3 +39,7 @@ pub record FailsAt (image : List ℕ) (place : ℕ) : Type 0 where
   pub parts : image ≡ blocks records ++ 1 ∷ behind
   pub place_is : place ≡ length (blocks records) + 1
   pub none : NoneStands behind
+
+-- the image gives some records, or fails at some place
+abbrev pub HasReading : List ℕ → Type 0
+HasReading image = ((records : List Record) × Gives image records) ⊎ ((place : ℕ) × FailsAt image place)

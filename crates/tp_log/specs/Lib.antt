@@ -1,4 +1,5 @@
 pub mod Images
 pub mod Logs
+pub mod Openings
 pub mod Refusals
 pub mod mirrors

@@ -86,16 +86,24 @@ module _ {D : Type 0} (state : D → DiskState) (does : D → Call → Result (U
     pub fault : Rose (faults old.disk) (faults new.disk)
     pub kept : (records : List Record) → Keeps state old records → MayKeep state new records r
 
-  -- memory was refused, and the log keeps its records
-  pub record Stays (old new : LogState D) : Type 0 where
+  -- a call of the disk was refused memory, after those before it passed
+  pub record Halts (old : LogState D) (r : Record) (new : LogState D) : Type 0 where
+    pub is : IsRecord r
+    pub fits : length (spelling r) ≤ body_max
+    pub same_gate : new.gate ≡ old.gate
+    pub calls : Makes does (append_calls old.gate (spelling r)) old.disk (Err disk_errors.NoMemory) new.disk
+
+  -- memory was refused, and the log keeps its records: before the first call of the disk, and then nothing changed, or by a call
+  pub record Stays (old : LogState D) (r : Record) (new : LogState D) : Type 0 where
     pub was_open : old.closed ≡ false
     pub is_open : new.closed ≡ false
+    pub calls : (new ≡ old) ⊎ Halts old r new
     pub kept : (records : List Record) → Keeps state old records → Keeps state new records
 
   abbrev pub Appended : LogState D → Record → Result (Unit {0}) LogError → LogState D → Type 0
   Appended old r (Ok _) new = Adds old r new
   Appended old r (Err errors.Device) new = Fails old r new
-  Appended old r (Err errors.NoMemory) new = Stays old new
+  Appended old r (Err errors.NoMemory) new = Stays old r new
   Appended old r (Err errors.Closed) new = (old.closed ≡ true) × (new ≡ old)
   Appended old r (Err errors.TooLong) new = (old.closed ≡ false) × (body_max < length (spelling r)) × (new ≡ old)
   Appended old r (Err (errors.NotALog place)) new = ⊥

@@ -1,7 +1,7 @@
 //! What a log asks of its disk.
-ghost use Rattle.std.specs.Prelude.{◌≡◌, ◌+◌, ◌^◌, ◌<◌, ◌≤◌, ◌++◌, [], ◌∷◌, length, Err, IfErr, IfOk, OnOk};
-ghost use Rattle.tp_device.specs.Disks.{settled};
-ghost use Rattle.tp_device.specs.Faults.{HasCause, Rose};
+ghost use Rattle.std.specs.Prelude.{◌≡◌, ◌+◌, ◌^◌, ◌<◌, ◌≤◌, ◌++◌, [], ◌∷◌, length, Err, IfErr, IfOk};
+ghost use Rattle.tp_device.specs.Faults.{Rose};
+ghost use Rattle.tp_log.specs.Openings.{Reads, gate_calls};
 ghost use Rattle.tp_log.specs.Refusals.{IfDevice};
 ghost use Rattle.tp_log.specs.mirrors.Steps.{Steps, forced_calls};
 
@@ -12,8 +12,7 @@ use tp_device::{Disk, DiskError};
 /// All the bytes of a disk.
 pub(crate) fn image_of<D: Disk>(alloc: Global, disk: &mut D) -> Result<Vec<u8>, LogError>
     ensures bytes { IfOk result (λ bytes. bytes.items ≡ (D.state disk.old).seen) }
-    ensures same { D.state disk.new ≡ D.state disk.old }
-    ensures later { D.faults disk.old ≤ D.faults disk.new }
+    ensures reads { Reads D.state D.left_since D.does D.faults disk.old disk.new }
     ensures refused { IfErr result (λ error. IfDevice error (Rose (D.faults disk.old) (D.faults disk.new))) }
 {
     let mut image = vec![in alloc; 0; disk.len() as usize]?;
@@ -21,11 +20,9 @@ pub(crate) fn image_of<D: Disk>(alloc: Global, disk: &mut D) -> Result<Vec<u8>, 
     Ok(image)
 }
 
-/// Writes a closed gate on a disk of at most one byte, and syncs it.
+/// Writes a closed gate at the front of a disk, and syncs it.
 pub(crate) fn write_gate<D: Disk>(disk: &mut D) -> Result<(), DiskError>
-    requires { length (D.state disk.old).seen ≤ 1 }
-    ensures ok { OnOk result (D.state disk.new ≡ settled (0 ∷ [])) }
-    ensures cause { HasCause (D.faults disk.old) (D.faults disk.new) result }
+    ensures { Steps D.state D.left_since D.does D.faults gate_calls disk.old result disk.new }
 {
     disk.write_at(0, &[0])?;
     disk.sync()

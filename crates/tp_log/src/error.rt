@@ -15,7 +15,7 @@ pub enum LogError {
     Closed,
     /// The record's body is longer than `BODY_MAX`.
     TooLong,
-    /// Memory was refused. The log is as before.
+    /// Memory was refused. The log keeps its records.
     NoMemory,
 }
 

@@ -1,8 +1,9 @@
 //! A log on a disk.
 use crate::block::block_of;
-use crate::calls::{force, image_of, write_gate};
+use crate::calls::force;
 use crate::error::LogError;
 use crate::image::records_of;
+use crate::opening::taken;
 use std::alloc::Global;
 use std::marker::Model;
 use tp_device::{Disk, DiskError, MemoryDisk};
@@ -35,25 +36,29 @@ impl<D: Disk> Log<D> {
     ghost use Rattle.std.specs.Prelude.{◌≡◌, ℕ, List, Err, IfErr, IfOk};
     ghost use Rattle.tp_types.specs.declared.records.Record.{Record};
     ghost use Rattle.tp_device.specs.Disks.{LeavesOnly, MayLeave};
-    ghost use Rattle.tp_device.specs.Faults.{Rose};
     ghost use Rattle.tp_log.specs.Images.{FailsAt, Gives};
     ghost use Rattle.tp_log.specs.Logs.{Appended, GivesEither, Keeps, MayKeep};
+    ghost use Rattle.tp_log.specs.Openings.{GivesUp, Opens};
     ghost use Rattle.tp_log.specs.Refusals.{IfNotALog};
 
     /// Opens the log that a disk holds, and gives its records. A disk of at most one byte gets a closed gate. What
-    /// was unsynced on the disk is synced first. Where the answer is a refusal the disk is given up.
+    /// was unsynced on the disk is synced first, and one of more than one byte is only read then. Where the answer is a
+    /// refusal the disk is given up, and of what was done to it no more is told than `device` tells.
     pub fn opened(alloc: Global, mut disk: D) -> Result<(Log<D>, List<Record>), LogError>
         ensures records { IfOk result (λ made. Gives (D.state disk).seen made.1) }
         ensures kept { IfOk result (λ made. Keeps D.state made.0 made.1) }
+        // A disk of more than one byte is as a sync leaves it. A crash at any moment leaves what it might have left
+        // before, or the bytes that a read gives; of a shorter disk an image of at most one byte.
+        ensures opens { IfOk result (λ made. Opens D.state D.left_since D.does D.faults disk made.0.disk) }
         // Only where no records are given.
         ensures not_a_log { IfErr result (λ error. IfNotALog error (FailsAt (D.state disk).seen)) }
-        // Only where the disk then counted a fault.
-        ensures device { result ≡ Err LogError.Device → (gone : D) × Rose (D.faults disk) (D.faults gone) }
+        // Only where a call was refused, and a fault counted. The disk is given up, so the clause speaks of some disk to
+        // which such calls lead from the given one.
+        ensures device { result ≡ Err LogError.Device
+            → (gone : D) × GivesUp D.state D.left_since D.does D.faults disk gone }
     {
-        disk.sync()?;
-        let image = image_of(alloc, &mut disk)?;
+        let image = taken(alloc, &mut disk)?;
         if image.len() <= 1 {
-            write_gate(&mut disk)?;
             return Ok((
                 Log {
                     disk,

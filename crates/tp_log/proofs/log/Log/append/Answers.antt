@@ -38,7 +38,7 @@ returns-clause-answer g c =
     let disk = g.D.Disk in
     let steps = rw c.in-Err-NoMemory.field-0-is at c.in-Err-NoMemory.ensures in
     rw (← c.self.view_is) (stays disk.state disk.left_since disk.does disk.faults g.met.D.Disk.only_now c.self.inside.disk c.self.inside.gate c.args.r.now c.deref.result.now b.1 (c.deref.ensures.value ∙ b.0)
-    c.force.new.disk c.self.inside.closed c.if-self.false steps)
+    c.force.new.disk c.self.inside.closed c.if-self.false b.2 steps)
 
 pub returns-clause-any_moment : goal.returns-clause-any_moment
 returns-clause-any_moment g c =

@@ -1,0 +1,24 @@
+//! Taking a disk for a log.
+ghost use Rattle.std.specs.Prelude.{◌≡◌, IfErr, IfOk, OnOk};
+ghost use Rattle.tp_log.specs.Openings.{GivesUp, Opens};
+ghost use Rattle.tp_log.specs.Refusals.{IfDevice};
+
+use crate::calls::{image_of, write_gate};
+use crate::error::LogError;
+use std::alloc::Global;
+use tp_device::Disk;
+
+/// Syncs a disk and gives all its bytes. A disk of at most one byte gets a closed gate.
+pub(crate) fn taken<D: Disk>(alloc: Global, disk: &mut D) -> Result<Vec<u8>, LogError>
+    ensures bytes { IfOk result (λ bytes. bytes.items ≡ (D.state disk.old).seen) }
+    ensures opens { OnOk result (Opens D.state D.left_since D.does D.faults disk.old disk.new) }
+    ensures refused { IfErr result (λ error. IfDevice error (GivesUp D.state D.left_since D.does D.faults disk.old disk.new)) }
+{
+    disk.sync()?;
+    let image = image_of(alloc, disk)?;
+    if image.len() > 1 {
+        return Ok(image);
+    }
+    write_gate(disk)?;
+    Ok(image)
+}
