@@ -2,10 +2,7 @@
 use Rattle.std.proofs.Common.{◌≡◌, ℕ, zero, suc, ◌+◌, ◌==◌, Bool, true, false, ◌&&◌, ◌||◌, cond, nat_le, nat_lt, List, ◌∷◌, length, refl, ap, ◌∙◌, arith}
 use Rattle.std.proofs.lemmas.Bool.Decides.{nat_tests}
 use Rattle.std.specs.List.{list_any}
-use Rattle.tp_types.specs.declared.ids.ServerId.{ServerId}
-use Rattle.tp_types.specs.declared.scenario.Query.{Query}
-use Rattle.tp_types.specs.declared.scenario.Scenario.{Scenario}
-use Rattle.tp_types.specs.declared.scenario.Transaction.{Transaction}
+use Rattle.tp_model.specs.Words.{Query, Scenario, ServerId, Transaction}
 use Rattle.tp_model.specs.Causes.{is_server_of}
 use Rattle.tp_model.specs.Ids.{same_server}
 use Rattle.tp_model.specs.Queries.{is_at_server, servers_from}

@@ -1,7 +1,7 @@
 -- What the facts before a place sum to.
 use Rattle.std.proofs.Common.{◌≡◌, ℕ, cond, List}
 use Rattle.std.specs.List.{sum_by}
-use Rattle.tp_types.specs.declared.fact.Fact.{Fact}
+use Rattle.tp_model.specs.Words.{Fact}
 use Rattle.tp_model.specs.Credentials.{ticks}
 use Rattle.tp_model.specs.Facts.{before, is_earlier}
 use Rattle.tp_model.proofs.HistoryLemmas.{sum_filter}

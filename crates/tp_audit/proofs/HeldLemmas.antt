@@ -3,12 +3,7 @@ use Rattle.std.proofs.Common.{◌≡◌, Bool, true, false, ◌&&◌, ◌||◌, 
 use Rattle.std.proofs.lemmas.Bool.{and_parts}
 use Rattle.std.specs.List.{cons_option, filter_map, list_all, list_any}
 use Rattle.std.specs.Option.{option_map_or}
-use Rattle.tp_types.specs.declared.fact.Fact.{Fact}
-use Rattle.tp_types.specs.declared.ids.CredId.{CredId}
-use Rattle.tp_types.specs.declared.records.Verdict.{Verdict}
-use Rattle.tp_types.specs.declared.scenario.Credential.{Credential}
-use Rattle.tp_types.specs.declared.scenario.Scenario.{Scenario}
-use Rattle.tp_types.specs.declared.scenario.Transaction.{Transaction}
+use Rattle.tp_model.specs.Words.{CredId, Credential, Fact, Scenario, Transaction, Verdict}
 use Rattle.tp_audit.specs.declared.credentials.Held.{Held}
 use Rattle.tp_audit.specs.mirrors.Programs.{held_by, is_proved, says, shows}
 use Rattle.tp_model.specs.Authorisation.{is_certified, is_usable, policy_at, rule_proves, tests_version}

@@ -2,8 +2,7 @@
 ghost use Rattle.std.specs.Prelude.{◌≡◌, ◌&&◌, filter, false, Bool, List, ℕ};
 ghost use Rattle.std.specs.List.{list_all};
 ghost use Rattle.std.specs.Option.{option_copied, option_map_or};
-ghost use Rattle.tp_types.specs.declared.policy.Action.{Action};
-ghost use Rattle.tp_types.specs.declared.policy.Policy.{Policy};
+ghost use Rattle.tp_model.specs.Words.{Action, Policy};
 ghost use Rattle.tp_audit.specs.mirrors.Programs as program;
 ghost use Rattle.tp_model.specs.Authorisation as authorisation;
 ghost use Rattle.tp_model.specs.Credentials as credentials;

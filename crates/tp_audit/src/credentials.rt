@@ -2,7 +2,7 @@
 ghost use Rattle.std.specs.Prelude.{◌≡◌, slice_get, false};
 ghost use Rattle.std.specs.List.{list_any};
 ghost use Rattle.std.specs.Option.{option_map_or};
-ghost use Rattle.tp_types.specs.declared.fact.Fact.{Fact};
+ghost use Rattle.tp_model.specs.Words.{Fact};
 ghost use Rattle.tp_model.specs.Credentials as credentials;
 ghost use Rattle.tp_model.specs.Facts.{before};
 ghost use Rattle.tp_model.specs.Ids.{same_cred};

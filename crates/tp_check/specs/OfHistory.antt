@@ -1,13 +1,7 @@
 -- A store of credentials with a clock and revocations, beside a history.
 use Rattle.std.specs.Prelude.{◌≡◌, ℕ, ◌&&◌, List, Bool, false, Option, Some, None}
 use Rattle.std.specs.List.{list_all}
-use Rattle.tp_types.specs.declared.fact.Fact.{Fact}
-use Rattle.tp_types.specs.declared.ids.CredId.{CredId}
-use Rattle.tp_types.specs.declared.policy.Action.{Action}
-use Rattle.tp_types.specs.declared.policy.Policy.{Policy}
-use Rattle.tp_types.specs.declared.records.Verdict.{Verdict}
-use Rattle.tp_types.specs.declared.scenario.Scenario.{Scenario}
-use Rattle.tp_types.specs.declared.scenario.Transaction.{Transaction}
+use Rattle.tp_model.specs.Words.{Action, CredId, Fact, Policy, Scenario, Transaction, Verdict}
 use Rattle.tp_model.specs.Authorisation.{is_certified, policy_at, tests_version}
 use Rattle.tp_model.specs.Credentials.{clock_at, held, held_in, is_among, is_presented, is_valid, is_valid_in, revoked_at}
 use Rattle.tp_cred.specs.Certificates.{is_checked}

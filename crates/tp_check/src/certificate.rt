@@ -6,7 +6,7 @@ ghost use Rattle.tp_model.specs.Authorisation as authorisation;
 ghost use Rattle.tp_model.specs.Policies as policies;
 ghost use Rattle.tp_model.specs.Credentials.{is_valid_in};
 ghost use Rattle.tp_cred.specs.Certificates.{is_checked};
-ghost use Rattle.tp_cred.specs.HeldBy.{held_by};
+ghost use Rattle.tp_cred.specs.mirrors.HeldBy.{held_by};
 
 use tp_cred::{CredStore, Presented, shows};
 use tp_model::{matches, rule_in};

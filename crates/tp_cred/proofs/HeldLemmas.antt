@@ -2,8 +2,7 @@
 use Rattle.std.proofs.Common.{◌≡◌, ℕ, Bool, true, false, ◌&&◌, ◌||◌, cond, List, [], ◌∷◌, filter, Option, Some, None, refl, ap, ◌∙◌}
 use Rattle.std.specs.List.{cons_option, filter_map, list_any}
 use Rattle.std.specs.Option.{option_map_or}
-use Rattle.tp_types.specs.declared.ids.CredId.{CredId}
-use Rattle.tp_types.specs.declared.scenario.Credential.{Credential}
+use Rattle.tp_model.specs.Words.{CredId, Credential}
 use Rattle.tp_model.specs.Credentials.{held_in, is_valid_in, said_by, said_in, triple_of}
 use Rattle.tp_model.specs.Ids.{same_name}
 use Rattle.tp_model.specs.Policies.{Triple}

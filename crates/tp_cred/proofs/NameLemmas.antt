@@ -8,7 +8,7 @@ use Rattle.std.proofs.lemmas.List.FromFn.{filter_of_map_range_with_len_more}
 use Rattle.std.proofs.lemmas.Option.{slice_get_read}
 use Rattle.std.proofs.lemmas.Map.Keys.{IsDistinct-push}
 use Rattle.std.specs.List.{IsDistinct, list_any, position, position_or_len, range_with_len}
-use Rattle.tp_types.specs.declared.scenario.Credential.{Credential}
+use Rattle.tp_model.specs.Words.{Credential}
 use Rattle.tp_model.specs.Ids.{same_name}
 use Rattle.tp_cred.specs.Names.{IsStore, names_of}
 use Rattle.tp_cred.specs.Store.{id_at, is_named, is_of, is_of_at}

@@ -2,10 +2,7 @@
 use Rattle.std.specs.Prelude.{ℕ, ◌&&◌, List, Bool, false}
 use Rattle.std.specs.List.{list_all}
 use Rattle.std.specs.Option.{option_map_or}
-use Rattle.tp_types.specs.declared.ids.CredId.{CredId}
-use Rattle.tp_types.specs.declared.policy.Action.{Action}
-use Rattle.tp_types.specs.declared.policy.Policy.{Policy}
-use Rattle.tp_types.specs.declared.scenario.Credential.{Credential}
+use Rattle.tp_model.specs.Words.{Action, CredId, Credential, Policy}
 use Rattle.tp_model.specs.Credentials.{held_in, is_valid_in}
 use Rattle.tp_model.specs.Authorisation.{rule_in}
 use Rattle.tp_model.specs.Policies.{rule_allows}

@@ -1,5 +1,5 @@
 pub mod Certificates
-pub mod HeldBy
 pub mod Names
 pub mod Store
 pub mod Validity
+pub mod mirrors

@@ -1,7 +1,7 @@
 -- What every store of credentials keeps.
 use Rattle.std.specs.Prelude.{ℕ, ◌≤◌, ◌^◌, List, length, map}
 use Rattle.std.specs.List.{IsDistinct}
-use Rattle.tp_types.specs.declared.scenario.Credential.{Credential}
+use Rattle.tp_model.specs.Words.{Credential}
 use Rattle.tp_model.specs.Ids.{same_name}
 
 abbrev pub name_of : Credential → List ℕ

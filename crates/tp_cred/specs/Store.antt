@@ -2,8 +2,7 @@
 use Rattle.std.specs.Prelude.{ℕ, List, length, map, filter, slice_get, Bool, false, Option, Some, None, Result, Ok, Err}
 use Rattle.std.specs.List.{range_with_len}
 use Rattle.std.specs.Option.{option_map_or}
-use Rattle.tp_types.specs.declared.ids.CredId.{CredId}
-use Rattle.tp_types.specs.declared.scenario.Credential.{Credential}
+use Rattle.tp_model.specs.Words.{CredId, Credential}
 use Rattle.tp_model.specs.Ids.{same_name}
 use Rattle.tp_cred.specs.declared.store.CredError.{CredError}
 use Rattle.tp_cred.specs.declared.store.CredError.TheVariants.{Duplicate, NoMemory}

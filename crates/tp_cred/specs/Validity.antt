@@ -1,8 +1,7 @@
 -- What a valid credential of a store says.
 use Rattle.std.specs.Prelude.{ℕ, ◌&&◌, List, Bool, false}
 use Rattle.std.specs.Option.{option_map_or}
-use Rattle.tp_types.specs.declared.ids.CredId.{CredId}
-use Rattle.tp_types.specs.declared.scenario.Credential.{Credential}
+use Rattle.tp_model.specs.Words.{CredId, Credential}
 use Rattle.tp_model.specs.Credentials.{is_valid_in, said_in}
 use Rattle.tp_model.specs.Policies.{Triple}
 

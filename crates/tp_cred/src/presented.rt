@@ -3,7 +3,7 @@ ghost use Rattle.std.specs.Prelude.{◌≡◌, false};
 ghost use Rattle.std.specs.Option.{option_map_or};
 ghost use Rattle.tp_model.specs.Policies as policies;
 ghost use Rattle.tp_model.specs.Credentials as credentials;
-ghost use Rattle.tp_cred.specs.HeldBy as held_by;
+ghost use Rattle.tp_cred.specs.mirrors.HeldBy as held_by;
 
 use crate::store::CredStore;
 use tp_model::meets;

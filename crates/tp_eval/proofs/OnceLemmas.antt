@@ -2,11 +2,10 @@
 use Rattle.std.proofs.Common.{◌≡◌, ◌<◌, ◌+◌, add-one, ℕ, suc, Bool, true, false, cond, List, [], ◌∷◌, ◌++◌, append_assoc, length, map, take, drop, get_or, Option, Some, None, append-nil, refl, ap, sym, ◌∙◌, option_map, option_and_then}
 use Rattle.std.proofs.Math.Seq.{drop-cons, take-append_seam}
 use Rattle.std.specs.Option.{is_some, option_or}
-use Rattle.tp_types.specs.declared.ids.CredId.{CredId}
-use Rattle.tp_types.specs.declared.policy.Cond.{Cond}
+use Rattle.tp_model.specs.Words.{Cond, CredId}
 use Rattle.tp_model.specs.Credentials.{is_among}
 use Rattle.tp_eval.specs.declared.evidence.Evidence.{Evidence}
-use Rattle.tp_eval.specs.Gathered.{gathered, takes}
+use Rattle.tp_eval.specs.mirrors.Gathered.{gathered, takes}
 use Rattle.tp_eval.specs.Taken.{once, taken_by_all, with_cred}
 
 -- adding one list after another is adding both

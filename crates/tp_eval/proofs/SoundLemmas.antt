@@ -4,14 +4,11 @@ use Rattle.std.proofs.lemmas.Bool.{and_parts, eq-eqb, eqb-true}
 use Rattle.std.proofs.lemmas.List.Folds.{list_all-append}
 use Rattle.std.specs.List.{find, list_all, list_any}
 use Rattle.std.specs.Option.{option_map_or, option_or}
-use Rattle.tp_types.specs.declared.ids.CredId.{CredId}
-use Rattle.tp_types.specs.declared.policy.Cond.{Cond, map-Cond, roll-Cond}
+use Rattle.tp_model.specs.Words.{Cond, CredId, Credential, Op, Value}
+use Rattle.tp_model.specs.Words.cond
+use Rattle.tp_types.specs.declared.policy.Cond.{map-Cond, roll-Cond}
 use Rattle.tp_types.specs.declared.policy.Cond.TheFolds.{fold-roll-Cond, ind-Cond}
 use Rattle.tp_types.specs.declared.policy.Cond.TheOpen.{Cond-F, True, Atom, And, Or}
-use Rattle.tp_types.specs.declared.policy.Cond.TheVariants as cond
-use Rattle.tp_types.specs.declared.policy.Op.{Op}
-use Rattle.tp_types.specs.declared.policy.Value.{Value}
-use Rattle.tp_types.specs.declared.scenario.Credential.{Credential}
 use Rattle.tp_model.specs.Ids.{same_cred}
 use Rattle.tp_model.specs.Policies.{Triple, holds, level, meets}
 use Rattle.tp_model.proofs.ConditionLemmas.{holds_and, holds_atom, holds_or}

@@ -1,13 +1,10 @@
 -- One level of what a condition takes at a time.
 use Rattle.std.proofs.Common.{◌≡◌, Bool, List, Option, map, option_map, ap, sym, ◌∙◌}
 use Rattle.std.specs.List.{find}
-use Rattle.tp_types.specs.declared.ids.CredId.{CredId}
-use Rattle.tp_types.specs.declared.policy.Cond.{Cond}
+use Rattle.tp_model.specs.Words.{Cond, CredId, Op, Value}
+use Rattle.tp_model.specs.Words.cond
 use Rattle.tp_types.specs.declared.policy.Cond.TheOpen.{Atom, And, Or}
 use Rattle.tp_types.specs.declared.policy.Cond.TheFolds.{fold-roll-Cond}
-use Rattle.tp_types.specs.declared.policy.Cond.TheVariants as cond
-use Rattle.tp_types.specs.declared.policy.Op.{Op}
-use Rattle.tp_types.specs.declared.policy.Value.{Value}
 use Rattle.tp_model.specs.Policies.{Triple, meets}
 use Rattle.tp_eval.specs.Taken.{level, only, taken, taken_by_all, taken_by_first}
 

@@ -1,2 +1,2 @@
-pub mod Gathered
 pub mod Taken
+pub mod mirrors

@@ -2,13 +2,9 @@
 use Rattle.std.specs.Prelude.{ℕ, ◌+◌, List, [], ◌∷◌, ◌++◌, Bool, Option, Some, None, option_map, option_and_then, if◌then◌else◌}
 use Rattle.std.specs.List.{find}
 use Rattle.std.specs.Option.{option_or}
-use Rattle.tp_types.specs.declared.ids.CredId.{CredId}
-use Rattle.tp_types.specs.declared.policy.Action.{Action}
-use Rattle.tp_types.specs.declared.policy.Cond.{Cond, fold-Cond}
+use Rattle.tp_model.specs.Words.{Action, Cond, CredId, Credential, Policy, Rule}
+use Rattle.tp_types.specs.declared.policy.Cond.{fold-Cond}
 use Rattle.tp_types.specs.declared.policy.Cond.TheOpen.{Cond-F, True, Atom, And, Or}
-use Rattle.tp_types.specs.declared.policy.Policy.{Policy}
-use Rattle.tp_types.specs.declared.policy.Rule.{Rule}
-use Rattle.tp_types.specs.declared.scenario.Credential.{Credential}
 use Rattle.tp_model.specs.Policies.{Triple, matches, meets}
 use Rattle.tp_model.specs.Credentials.{is_among}
 use Rattle.tp_cred.specs.Validity.{shows_in}

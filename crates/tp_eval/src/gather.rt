@@ -3,8 +3,8 @@ ghost use Rattle.std.specs.Prelude.{◌≡◌, map, option_map, IfOk};
 ghost use Rattle.std.specs.List.{find};
 ghost use Rattle.std.specs.Option.{is_some};
 ghost use Rattle.tp_model.specs.Policies.{meets};
-ghost use Rattle.tp_eval.specs.Gathered as mirror;
-ghost use Rattle.tp_eval.specs.Gathered.{gathered, takes};
+ghost use Rattle.tp_eval.specs.mirrors.Gathered as mirror;
+ghost use Rattle.tp_eval.specs.mirrors.Gathered.{gathered, takes};
 ghost use Rattle.tp_eval.specs.Taken as taken;
 
 use crate::evidence::Evidence;

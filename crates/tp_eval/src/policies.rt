@@ -6,7 +6,7 @@ ghost use Rattle.tp_model.specs.Ids.{same_cred};
 ghost use Rattle.tp_model.specs.Policies as policies;
 ghost use Rattle.tp_model.specs.Credentials.{held_in, is_among};
 ghost use Rattle.tp_cred.specs.Certificates.{is_checked};
-ghost use Rattle.tp_eval.specs.Gathered as gathered;
+ghost use Rattle.tp_eval.specs.mirrors.Gathered as gathered;
 ghost use Rattle.tp_eval.specs.Taken as taken;
 
 use crate::evidence::{Evidence, valid_of};

@@ -18,3 +18,4 @@ pub mod Trust
 pub mod TrustedHistory
 pub mod Valid
 pub mod Versions
+pub mod Words

@@ -2,7 +2,7 @@
 use Rattle.std.proofs.Common.{◌≡◌, ◌+◌, ◌<◌, ℕ, List, [], ◌∷◌, ◌++◌, append-nil, append_assoc, add-one, drop, get_or, length, Option, Some, None, suc, refl, ap, sym, ◌∙◌}
 use Rattle.std.proofs.Math.Seq.{drop-cons}
 use Rattle.std.specs.Option.{option_to_list}
-use Rattle.tp_types.specs.declared.ids.CredId.{CredId}
+use Rattle.tp_model.specs.Words.{CredId}
 use Rattle.tp_offices.specs.Authority.{revocations}
 
 place_more : (creds : List CredId) (place : Option CredId) (places : List (Option CredId))

@@ -1,14 +1,10 @@
 -- The authority's row, and what moves its clock and its revocations.
 use Rattle.std.specs.Prelude.{ℕ, ◌+◌, List, [], ◌∷◌, length, replicate, slice_set, Option, Some, None}
 use Rattle.std.specs.List.{filter_map}
-use Rattle.tp_types.specs.declared.ids.CredId.{CredId}
-use Rattle.tp_types.specs.declared.mail.AskRequest.{AskRequest}
-use Rattle.tp_types.specs.declared.mail.Body.{Body}
-use Rattle.tp_types.specs.declared.mail.Body.TheVariants as body
-use Rattle.tp_types.specs.declared.mail.Mail.{Mail}
-use Rattle.tp_types.specs.declared.scenario.Actor.TheVariants as actor
-use Rattle.tp_types.specs.declared.scenario.Scenario.{Scenario}
-use Rattle.tp_types.specs.Effect.{Effect, sends, silent}
+use Rattle.tp_model.specs.Words.{AskRequest, Body, CredId, Mail, Scenario}
+use Rattle.tp_model.specs.Words.actor
+use Rattle.tp_model.specs.Words.body
+use Rattle.tp_types.specs.Effect.{Effect, sends, ignores}
 use Rattle.tp_offices.specs.declared.authority.Authority.{Authority}
 
 -- the authority as it stands before the first step: the opening clock, and nothing revoked
@@ -42,7 +38,7 @@ tells authority ask =
 
 abbrev pub on_body : Authority → Body → Effect Authority
 on_body authority (body.Ask ask) = tells authority ask
-on_body authority _ = silent authority
+on_body authority _ = ignores authority
 
 -- what the authority does on receipt of a mail
 abbrev pub authority_row : Authority → Mail → Effect Authority

@@ -1,14 +1,9 @@
 -- The master's row.
 use Rattle.std.specs.Prelude.{[], ◌∷◌, map}
-use Rattle.tp_types.specs.declared.ids.Version.{Version}
-use Rattle.tp_types.specs.declared.mail.Body.{Body}
-use Rattle.tp_types.specs.declared.mail.Body.TheVariants as body
-use Rattle.tp_types.specs.declared.mail.Mail.{Mail}
-use Rattle.tp_types.specs.declared.mail.ProbeRequest.{ProbeRequest}
-use Rattle.tp_types.specs.declared.scenario.Actor.TheVariants as actor
-use Rattle.tp_types.specs.declared.scenario.Admin.{Admin}
-use Rattle.tp_types.specs.declared.scenario.Scenario.{Scenario}
-use Rattle.tp_types.specs.Effect.{Effect, sends, silent}
+use Rattle.tp_model.specs.Words.{Admin, Body, Mail, ProbeRequest, Scenario, Version}
+use Rattle.tp_model.specs.Words.actor
+use Rattle.tp_model.specs.Words.body
+use Rattle.tp_types.specs.Effect.{Effect, sends, ignores}
 use Rattle.tp_offices.specs.declared.master.Master.{Master}
 
 abbrev pub opening_of : Admin → Version
@@ -30,7 +25,7 @@ tells master probe =
 
 abbrev pub on_body : Master → Body → Effect Master
 on_body master (body.Probe probe) = tells master probe
-on_body master _ = silent master
+on_body master _ = ignores master
 
 -- what the master does on receipt of a mail
 abbrev pub master_row : Master → Mail → Effect Master

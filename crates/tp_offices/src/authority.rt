@@ -7,7 +7,7 @@ ghost use Rattle.tp_offices.specs.Authority as office;
 use std::alloc::Global;
 use tp_types::{
     Actor, AskRequest, Body, CredId, Letter, List, Mail, NoMemory, Reaction, Scenario, TellReply,
-    none_for_each, nothing, sent_alone,
+    ignored, none_for_each, sent_alone,
 };
 
 /// The authority's state.
@@ -51,7 +51,7 @@ impl Authority {
     {
         match &mail.letter.body {
             Body::Ask(request) => self.tells(alloc, *request),
-            _ => Ok(nothing(alloc)),
+            _ => Ok(ignored(alloc)),
         }
     }
 

@@ -6,7 +6,7 @@ ghost use Rattle.tp_offices.specs.Master as office;
 use std::alloc::Global;
 use tp_types::{
     Actor, Admin, Body, Letter, List, Mail, NewestReply, NoMemory, ProbeRequest, Reaction,
-    Scenario, TryClone, Version, nothing, sent_alone,
+    Scenario, TryClone, Version, ignored, sent_alone,
 };
 
 /// The master's state.
@@ -32,7 +32,7 @@ impl Master {
     {
         match &mail.letter.body {
             Body::Probe(request) => self.tells(alloc, *request),
-            _ => Ok(nothing(alloc)),
+            _ => Ok(ignored(alloc)),
         }
     }
 

@@ -12,8 +12,8 @@ use Rattle.tp_policy_text.specs.Grammar.{AnyCond, AreRules, Begins, IsCond, IsWi
 use Rattle.tp_policy_text.specs.Lexis.{skip}
 use Rattle.tp_policy_text.specs.Parses.{Answers, StandsTooDeep, StopsAtPlace, refused}
 use Rattle.tp_policy_text.specs.Printed.{IsOfGrammar}
-use Rattle.tp_policy_text.specs.Readers.{policy_at}
-use Rattle.tp_policy_text.specs.Readings.{Reading, read, stopped}
+use Rattle.tp_policy_text.specs.mirrors.Readers.{policy_at}
+use Rattle.tp_policy_text.specs.mirrors.Readings.{Reading, read, stopped}
 use Rattle.tp_policy_text.proofs.Exact.{Language}
 use Rattle.tp_policy_text.proofs.Conditions.{any_of}
 use Rattle.tp_policy_text.proofs.PrintedGrammar.{spelled_of_grammar}

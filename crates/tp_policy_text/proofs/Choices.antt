@@ -4,7 +4,7 @@ use Rattle.std.proofs.Common.{◌≡◌, ◌⊎◌, inl, inr, ℕ, ◌<◌, ◌�
 use Rattle.tp_policy_text.specs.declared.halt.Stop.{Stop}
 use Rattle.tp_policy_text.specs.declared.halt.Stop.TheVariants as stop
 use Rattle.tp_policy_text.specs.Lexis.{count, first}
-use Rattle.tp_policy_text.specs.Readings.{Reader, Reading, choice, is_open, read, stopped, unopened}
+use Rattle.tp_policy_text.specs.mirrors.Readings.{Reader, Reading, choice, is_open, read, stopped, unopened}
 use Rattle.tp_policy_text.proofs.Exact.{Ends, Exact, Front, GivesUp, IsDeep, IsLevel, IsShallow, Language, left_at}
 use Rattle.tp_policy_text.proofs.Texts.{IsTight, first_after, same_front}
 

@@ -10,8 +10,8 @@ use Rattle.tp_types.specs.declared.policy.Value.TheVariants as value
 use Rattle.tp_types.specs.Spelling.{is_digit, is_letter, is_number}
 use Rattle.tp_policy_text.specs.Grammar.{Int, IsAtom, IsCompared, IsInt, IsValue, Named}
 use Rattle.tp_policy_text.specs.Lexis.{Token, Word, first}
-use Rattle.tp_policy_text.specs.Readers.{Compared, Head, atom_at, atom_of, begins_int, both, comes, compared_at, head_at, int_at, name_at, sign_at, value_at, with_number, with_op}
-use Rattle.tp_policy_text.specs.Readings.{choice, mapped}
+use Rattle.tp_policy_text.specs.mirrors.Readers.{Compared, Head, atom_at, atom_of, begins_int, both, comes, compared_at, head_at, int_at, name_at, sign_at, value_at, with_number, with_op}
+use Rattle.tp_policy_text.specs.mirrors.Readings.{choice, mapped}
 use Rattle.tp_policy_text.proofs.Choices.{Either, choice_exact, retell}
 use Rattle.tp_policy_text.proofs.Exact.{Exact, Language}
 use Rattle.tp_policy_text.proofs.Heads.{IsHead, head_exact, not_dot}

@@ -8,8 +8,8 @@ use Rattle.tp_policy_text.specs.declared.halt.Stop.{Stop}
 use Rattle.tp_policy_text.specs.declared.halt.Stop.TheVariants as stop
 use Rattle.tp_policy_text.specs.Grammar.{AnyCond, IsAtom, IsCond, IsConj, IsDisj, IsInParentheses, IsPart, Joined, and_of, or_of}
 use Rattle.tp_policy_text.specs.Lexis.{Token, count, first, is_blank}
-use Rattle.tp_policy_text.specs.Readers.{atom_at, both, comes, cond_at, conj_at, disj_at, earlier, in_parentheses, joined_at, more_of, part_at, second, sign_at, word_at}
-use Rattle.tp_policy_text.specs.Readings.{Reader, Reading, is_open, stopped}
+use Rattle.tp_policy_text.specs.mirrors.Readers.{atom_at, both, comes, cond_at, conj_at, disj_at, earlier, in_parentheses, joined_at, more_of, part_at, second, sign_at, word_at}
+use Rattle.tp_policy_text.specs.mirrors.Readings.{Reader, Reading, is_open, stopped}
 use Rattle.tp_policy_text.proofs.Choices.{Either, choice_exact, retell, unopened_exact}
 use Rattle.tp_policy_text.proofs.Comparisons.{atom_exact, same_inl}
 use Rattle.tp_policy_text.proofs.Exact.{Exact, IsLevel, IsShallow, Language, Starts, left_at, Ends}

@@ -4,7 +4,7 @@ use Rattle.tp_policy_text.specs.declared.halt.Stop.{Stop}
 use Rattle.tp_policy_text.specs.declared.halt.Stop.TheVariants as stop
 use Rattle.tp_policy_text.specs.Grammar.{IsWithin}
 use Rattle.tp_policy_text.specs.Lexis.{count, first, is_blank}
-use Rattle.tp_policy_text.specs.Readings.{Reader, Reading, read, stopped}
+use Rattle.tp_policy_text.specs.mirrors.Readings.{Reader, Reading, read, stopped}
 use Rattle.tp_policy_text.proofs.Texts.{IsTight}
 
 -- what a text says, and what is left of it

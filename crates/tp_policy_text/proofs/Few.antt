@@ -6,8 +6,8 @@ use Rattle.tp_types.specs.declared.policy.Rule.{Rule}
 use Rattle.tp_policy_text.specs.declared.halt.Stop.{Stop}
 use Rattle.tp_policy_text.specs.declared.halt.Stop.TheVariants as stop
 use Rattle.tp_policy_text.specs.Lexis.{first, skip}
-use Rattle.tp_policy_text.specs.Readers.{comes, more_of, policy_at, rule_at, rules_at, whole_of}
-use Rattle.tp_policy_text.specs.Readings.{Reading, go_on, mapped, pick, read, stopped}
+use Rattle.tp_policy_text.specs.mirrors.Readers.{comes, more_of, policy_at, rule_at, rules_at, whole_of}
+use Rattle.tp_policy_text.specs.mirrors.Readings.{Reading, go_on, mapped, pick, read, stopped}
 use Rattle.tp_policy_text.proofs.Exact.{left_at}
 use Rattle.tp_policy_text.proofs.Leaves.{skip_shorter}
 use Rattle.tp_policy_text.proofs.Rules.{rule_exact}

@@ -4,8 +4,8 @@ use Rattle.std.proofs.Common.{◌≡◌, ◌⊎◌, inl, inr, ℕ, ◌==◌, ◌
 use Rattle.std.proofs.lemmas.Option.{same_Some}
 use Rattle.tp_policy_text.specs.Grammar.{Claim}
 use Rattle.tp_policy_text.specs.Lexis.{Word, first, in_word, is_blank, skip}
-use Rattle.tp_policy_text.specs.Readers.{Head, attr_step, comes, head_at, head_end, head_step, is_some_text, issuer_step, name_step, same_text}
-use Rattle.tp_policy_text.specs.Readings.{ended, machine, read}
+use Rattle.tp_policy_text.specs.mirrors.Readers.{Head, attr_step, comes, head_at, head_end, head_step, is_some_text, issuer_step, name_step, same_text}
+use Rattle.tp_policy_text.specs.mirrors.Readings.{ended, machine, read}
 use Rattle.tp_policy_text.proofs.Choices.{retell}
 use Rattle.tp_policy_text.proofs.Exact.{Ends, Exact}
 use Rattle.tp_policy_text.proofs.Leaves.{Goes, IsLeaf, Sound, any_next, halted, leaf_exact, next_of, went}

@@ -2,7 +2,7 @@
 use Rattle.std.proofs.Common.{◌≡◌, ◌⊎◌, inl, inr, ℕ, List, ◌∷◌, ◌++◌, Bool, Option, Result, Ok, Err, refl, sym, ap, ◌∙◌}
 use Rattle.tp_policy_text.specs.declared.halt.Stop.{Stop}
 use Rattle.tp_policy_text.specs.declared.halt.Stop.TheVariants as stop
-use Rattle.tp_policy_text.specs.Readings.{Reader, Reading, carried, mapped, read, stopped}
+use Rattle.tp_policy_text.specs.mirrors.Readings.{Reader, Reading, carried, mapped, read, stopped}
 use Rattle.tp_policy_text.proofs.Exact.{Exact, GivesUp, Language, left_at}
 use Rattle.tp_policy_text.proofs.Links.{carried_err, carried_ok, gave_up_carried}
 

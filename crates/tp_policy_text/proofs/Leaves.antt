@@ -6,7 +6,7 @@ use Rattle.std.proofs.lemmas.Option.{same_Some}
 use Rattle.tp_policy_text.specs.declared.halt.Stop.{Stop}
 use Rattle.tp_policy_text.specs.declared.halt.Stop.TheVariants as stop
 use Rattle.tp_policy_text.specs.Lexis.{count, first, is_blank, skip}
-use Rattle.tp_policy_text.specs.Readings.{Reading, ended, machine, read, taken}
+use Rattle.tp_policy_text.specs.mirrors.Readings.{Reading, ended, machine, read, taken}
 use Rattle.tp_policy_text.proofs.Exact.{Ends, Exact, Front, IsDeep, IsLevel, IsShallow, Starts, left_at}
 use Rattle.tp_policy_text.proofs.Texts.{IsTight, append_append, append_none, count_append, first_after, same_front, skip_skip, stands_in, InFirst, InSecond, empty_front, tight_byte}
 

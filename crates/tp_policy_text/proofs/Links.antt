@@ -4,7 +4,7 @@ use Rattle.std.proofs.lemmas.List.{length-append}
 use Rattle.tp_policy_text.specs.declared.halt.Stop.{Stop}
 use Rattle.tp_policy_text.specs.declared.halt.Stop.TheVariants as stop
 use Rattle.tp_policy_text.specs.Lexis.{count, first}
-use Rattle.tp_policy_text.specs.Readings.{Reader, Reading, carried, go_on, link, pick, read, seq, stopped}
+use Rattle.tp_policy_text.specs.mirrors.Readings.{Reader, Reading, carried, go_on, link, pick, read, seq, stopped}
 use Rattle.tp_policy_text.proofs.Exact.{Ends, Exact, Front, GivesUp, IsDeep, IsLevel, IsShallow, Language, Starts, left_at}
 use Rattle.tp_policy_text.proofs.Texts.{InFirst, InSecond, IsTight, append_append, append_none, count_append, empty_front, first_after, same_front, stands_in, tight_byte}
 

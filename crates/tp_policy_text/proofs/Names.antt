@@ -9,8 +9,8 @@ use Rattle.std.proofs.lemmas.Option.{same_Some}
 use Rattle.tp_types.specs.Spelling.{IsName, is_letter, is_part}
 use Rattle.tp_policy_text.specs.Grammar.{Named}
 use Rattle.tp_policy_text.specs.Lexis.{count, first, in_word}
-use Rattle.tp_policy_text.specs.Readers.{goes_on, is_some_text, name_at, name_end, name_step}
-use Rattle.tp_policy_text.specs.Readings.{ended, machine, read}
+use Rattle.tp_policy_text.specs.mirrors.Readers.{goes_on, is_some_text, name_at, name_end, name_step}
+use Rattle.tp_policy_text.specs.mirrors.Readings.{ended, machine, read}
 use Rattle.tp_policy_text.proofs.Choices.{retell}
 use Rattle.tp_policy_text.proofs.Exact.{Exact, IsLevel, IsShallow}
 use Rattle.tp_policy_text.proofs.Leaves.{Goes, IsLeaf, Sound, any_next, halted, leaf_exact, next_of, went}

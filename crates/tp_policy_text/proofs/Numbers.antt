@@ -9,8 +9,8 @@ use Rattle.std.proofs.lemmas.Option.{same_Some}
 use Rattle.tp_types.specs.Spelling.{is_digit, is_number, is_part, spelled_from}
 use Rattle.tp_policy_text.specs.Grammar.{Int, IsInt}
 use Rattle.tp_policy_text.specs.Lexis.{first, in_word}
-use Rattle.tp_policy_text.specs.Readers.{Digits, int_at, int_end, int_of, int_step, is_some_text, takes_digit}
-use Rattle.tp_policy_text.specs.Readings.{ended, machine, read}
+use Rattle.tp_policy_text.specs.mirrors.Readers.{Digits, int_at, int_end, int_of, int_step, is_some_text, takes_digit}
+use Rattle.tp_policy_text.specs.mirrors.Readings.{ended, machine, read}
 use Rattle.tp_policy_text.proofs.Choices.{retell}
 use Rattle.tp_policy_text.proofs.Exact.{Exact}
 use Rattle.tp_policy_text.proofs.Leaves.{Goes, IsLeaf, Sound, any_next, halted, leaf_exact, next_of, went}

@@ -7,8 +7,8 @@ use Rattle.tp_types.specs.declared.policy.Pattern.TheVariants as pattern
 use Rattle.tp_types.specs.Spelling.{IsName, is_letter}
 use Rattle.tp_policy_text.specs.Grammar.{IsPattern, IsPrefix, Named}
 use Rattle.tp_policy_text.specs.Lexis.{Token, first, in_word, is_blank, skip}
-use Rattle.tp_policy_text.specs.Readers.{Starred, comes, goes_on, pattern_at, sign_at, is_some_text, name_step, starred_at, starred_end, starred_step, unstarred}
-use Rattle.tp_policy_text.specs.Readings.{ended, machine, read}
+use Rattle.tp_policy_text.specs.mirrors.Readers.{Starred, comes, goes_on, pattern_at, sign_at, is_some_text, name_step, starred_at, starred_end, starred_step, unstarred}
+use Rattle.tp_policy_text.specs.mirrors.Readings.{ended, machine, read}
 use Rattle.tp_policy_text.proofs.Choices.{Either, choice_exact, retell}
 use Rattle.tp_policy_text.proofs.Exact.{Ends, Exact}
 use Rattle.tp_policy_text.proofs.Leaves.{Goes, IsLeaf, Sound, any_next, halted, leaf_exact, next_of, went}

@@ -5,8 +5,8 @@ use Rattle.tp_policy_text.specs.declared.halt.Stop.{Stop}
 use Rattle.tp_policy_text.specs.declared.halt.Stop.TheVariants as stop
 use Rattle.tp_policy_text.specs.Grammar.{Spells}
 use Rattle.tp_policy_text.specs.Lexis.{count}
-use Rattle.tp_policy_text.specs.Readers.{policy_at}
-use Rattle.tp_policy_text.specs.Readings.{Reading, read}
+use Rattle.tp_policy_text.specs.mirrors.Readers.{policy_at}
+use Rattle.tp_policy_text.specs.mirrors.Readings.{Reading, read}
 use Rattle.tp_policy_text.proofs.Exact.{GivesUp, IsShallow, left_at}
 use Rattle.tp_policy_text.proofs.Texts.{count_append}
 use Rattle.tp_policy_text.proofs.Wholes.{never_spent, reads_any, too_deep_at}

@@ -4,10 +4,10 @@ use Rattle.tp_types.specs.declared.policy.Rule.{Rule}
 use Rattle.tp_policy_text.specs.declared.halt.Stop.{Stop}
 use Rattle.tp_policy_text.specs.declared.halt.Halt.{Halt}
 use Rattle.tp_policy_text.specs.declared.halt.Halt.TheVariants as why
-use Rattle.tp_policy_text.specs.Gives.{Gives}
+use Rattle.tp_policy_text.specs.mirrors.Gives.{Gives}
 use Rattle.tp_policy_text.specs.Lexis.{first}
-use Rattle.tp_policy_text.specs.Readers.{both, second, word_at, more_of, comes, joined_at, rule_at, rules_at}
-use Rattle.tp_policy_text.specs.Readings.{Reader, Reading, pick, seq, mapped, read}
+use Rattle.tp_policy_text.specs.mirrors.Readers.{both, second, word_at, more_of, comes, joined_at, rule_at, rules_at}
+use Rattle.tp_policy_text.specs.mirrors.Readings.{Reader, Reading, pick, seq, mapped, read}
 
 -- ---- members made so far, before those that are still to be read
 

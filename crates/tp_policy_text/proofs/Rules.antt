@@ -8,8 +8,8 @@ use Rattle.tp_types.specs.declared.policy.Rule.{Rule}
 use Rattle.tp_policy_text.specs.Grammar.{AnyCond, IsAction, IsCond, IsPattern, IsRule}
 use Rattle.tp_policy_text.specs.Lexis.{first}
 use Rattle.tp_policy_text.specs.declared.production.Permitted.{Permitted}
-use Rattle.tp_policy_text.specs.Readers.{action_at, both, comes, cond_at, earlier, more_of, pattern_at, permitted, permitted_at, rule_at, rule_of, rules_at, second, sign_at, word_at}
-use Rattle.tp_policy_text.specs.Readings.{choice}
+use Rattle.tp_policy_text.specs.mirrors.Readers.{action_at, both, comes, cond_at, earlier, more_of, pattern_at, permitted, permitted_at, rule_at, rule_of, rules_at, second, sign_at, word_at}
+use Rattle.tp_policy_text.specs.mirrors.Readings.{choice}
 use Rattle.tp_policy_text.proofs.Choices.{Either, choice_exact, retell}
 use Rattle.tp_policy_text.proofs.Conditions.{after_cond, any_of, cond_exact, more_ends, more_fits, more_goes, more_no, more_yes, not_joined, spent_exact}
 use Rattle.tp_policy_text.proofs.Exact.{Exact, Language}

@@ -15,9 +15,9 @@ use Rattle.tp_types.specs.declared.policy.Pattern.{Pattern}
 use Rattle.tp_types.specs.declared.policy.Pattern.TheVariants as pattern
 use Rattle.tp_types.specs.Spelling.{IsName, is_digit, is_letter, is_part}
 use Rattle.tp_policy_text.specs.Lexis.{first, skip}
-use Rattle.tp_policy_text.specs.Readers.{Digits, Head, atom_at, atom_of, compared_at, Starred, attr_step, comes, issuer_step, unstarred, goes_on, head_at, same_text, head_of, int_at, name_at, starred_at, head_end, head_step, int_end, int_step, is_some_text, name_end, name_step, starred_end, starred_step, takes_digit}
-use Rattle.tp_policy_text.specs.Readings.{Reader, Reading, carried, ended, go_on, machine, mapped, pick, read, seq, taken}
-use Rattle.tp_policy_text.specs.Scans.{attr_at, compared_to, claim_of, digit_front, digits_at, follows, head_after, is_next_digit, name_front, name_rest, reach, starred_after}
+use Rattle.tp_policy_text.specs.mirrors.Readers.{Digits, Head, atom_at, atom_of, compared_at, Starred, attr_step, comes, issuer_step, unstarred, goes_on, head_at, same_text, head_of, int_at, name_at, starred_at, head_end, head_step, int_end, int_step, is_some_text, name_end, name_step, starred_end, starred_step, takes_digit}
+use Rattle.tp_policy_text.specs.mirrors.Readings.{Reader, Reading, carried, ended, go_on, machine, mapped, pick, read, seq, taken}
+use Rattle.tp_policy_text.specs.mirrors.Scans.{attr_at, compared_to, claim_of, digit_front, digits_at, follows, head_after, is_next_digit, name_front, name_rest, reach, starred_after}
 use Rattle.tp_policy_text.proofs.Leaves.{Goes, halted, next_of, went}
 use Rattle.tp_policy_text.proofs.Names.{IsSoFar, both_true, first_false, give, give_none, less_of, not_false, not_true, second_false, name_of_some, names_of}
 use Rattle.tp_policy_text.proofs.Texts.{append_append, append_none}

@@ -1,8 +1,8 @@
 -- One reader and then another, whatever comes next.
 use Rattle.std.proofs.Common.{◌≡◌, ◌⊎◌, inl, inr, ℕ, ◌≤◌, List, Bool, true, Option, refl, sym, ap, ◌∙◌, arith}
 use Rattle.tp_policy_text.specs.Lexis.{first}
-use Rattle.tp_policy_text.specs.Readers.{both}
-use Rattle.tp_policy_text.specs.Readings.{Reader}
+use Rattle.tp_policy_text.specs.mirrors.Readers.{both}
+use Rattle.tp_policy_text.specs.mirrors.Readings.{Reader}
 use Rattle.tp_policy_text.proofs.Choices.{retell}
 use Rattle.tp_policy_text.proofs.Exact.{Exact, Language}
 use Rattle.tp_policy_text.proofs.Links.{Fits, Linked, link_exact}

@@ -4,8 +4,8 @@ use Rattle.std.proofs.Common.{◌≡◌, ℕ, ◌+◌, ◌<◌, ◌==◌, ◌&&�
 use Rattle.std.proofs.lemmas.Bool.Decides.{nat_tests}
 use Rattle.std.proofs.lemmas.Option.{same_Some}
 use Rattle.tp_policy_text.specs.Lexis.{Token, count, first, in_word, is_blank}
-use Rattle.tp_policy_text.specs.Readers.{token_at, word_end, word_step}
-use Rattle.tp_policy_text.specs.Readings.{ended, machine, read}
+use Rattle.tp_policy_text.specs.mirrors.Readers.{token_at, word_end, word_step}
+use Rattle.tp_policy_text.specs.mirrors.Readings.{ended, machine, read}
 use Rattle.tp_policy_text.proofs.Choices.{retell}
 use Rattle.tp_policy_text.proofs.Exact.{Exact, IsLevel, IsShallow, Language}
 use Rattle.tp_policy_text.proofs.Leaves.{Goes, IsLeaf, Sound, any_next, halted, leaf_exact, next_of, went}

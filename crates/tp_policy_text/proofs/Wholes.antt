@@ -8,8 +8,8 @@ use Rattle.tp_policy_text.specs.declared.halt.Stop.{Stop}
 use Rattle.tp_policy_text.specs.declared.halt.Stop.TheVariants as stop
 use Rattle.tp_policy_text.specs.Grammar.{AnyCond, AreRules, Begins, IsCond, IsRule, IsTooDeep, Spells, SpellsBy, Stops}
 use Rattle.tp_policy_text.specs.Lexis.{count, first, skip, is_blank}
-use Rattle.tp_policy_text.specs.Readers.{policy_at, policy_from, rules_at, whole_of}
-use Rattle.tp_policy_text.specs.Readings.{Reading, read, stopped}
+use Rattle.tp_policy_text.specs.mirrors.Readers.{policy_at, policy_from, rules_at, whole_of}
+use Rattle.tp_policy_text.specs.mirrors.Readings.{Reading, read, stopped}
 use Rattle.tp_policy_text.proofs.Exact.{GivesUp, Language, left_at, IsShallow}
 use Rattle.tp_policy_text.proofs.Leaves.{skip_shorter, skipped, AreBlank, skip_blanks, tight_as, no_parens, no_paren_in}
 use Rattle.tp_policy_text.proofs.Rules.{Many, many_begins, rules_exact}

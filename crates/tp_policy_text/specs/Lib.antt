@@ -1,8 +1,5 @@
-pub mod Gives
 pub mod Grammar
 pub mod Lexis
 pub mod Parses
 pub mod Printed
-pub mod Readers
-pub mod Readings
-pub mod Scans
+pub mod mirrors

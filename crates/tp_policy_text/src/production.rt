@@ -1,8 +1,8 @@
 //! The productions of the grammar, each of which is read exactly.
 ghost use Rattle.std.specs.Prelude.{◌≡◌, codes};
-ghost use Rattle.tp_policy_text.specs.Gives.{Gives};
+ghost use Rattle.tp_policy_text.specs.mirrors.Gives.{Gives};
 ghost use Rattle.tp_policy_text.specs.Grammar as grammar;
-ghost use Rattle.tp_policy_text.specs.Readers as readers;
+ghost use Rattle.tp_policy_text.specs.mirrors.Readers as readers;
 
 use crate::halt::{Halt, Stop};
 use crate::reader::Reader;

@@ -2,10 +2,10 @@
 ghost use Rattle.std.specs.Prelude.{◌≡◌, ◌==◌, ◌&&◌, not, drop, codes};
 ghost use Rattle.tp_types.specs.Spelling.{IsName};
 ghost use Rattle.tp_policy_text.specs.Lexis as lexis;
-ghost use Rattle.tp_policy_text.specs.Gives.{Gives, GivesOnly};
-ghost use Rattle.tp_policy_text.specs.Readers as readers;
-ghost use Rattle.tp_policy_text.specs.Readings.{mapped};
-ghost use Rattle.tp_policy_text.specs.Scans as scans;
+ghost use Rattle.tp_policy_text.specs.mirrors.Gives.{Gives, GivesOnly};
+ghost use Rattle.tp_policy_text.specs.mirrors.Readers as readers;
+ghost use Rattle.tp_policy_text.specs.mirrors.Readings.{mapped};
+ghost use Rattle.tp_policy_text.specs.mirrors.Scans as scans;
 
 use crate::halt::{Halt, Stop};
 use crate::scan::{after_blanks, digit_reach, is_digit, is_part, name_reach, number_of};

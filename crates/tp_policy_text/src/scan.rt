@@ -3,7 +3,7 @@ ghost use Rattle.std.specs.Prelude.{◌≡◌, ◌^◌, ◌≤◌, ◌<◌, leng
 ghost use Rattle.std.specs.List.{list_all};
 ghost use Rattle.tp_types.specs.Spelling as spelling;
 ghost use Rattle.tp_policy_text.specs.Lexis as lexis;
-ghost use Rattle.tp_policy_text.specs.Scans as scans;
+ghost use Rattle.tp_policy_text.specs.mirrors.Scans as scans;
 
 /// The most bytes of a name.
 const NAME_MAX: usize = 32;

@@ -3,9 +3,7 @@ use Rattle.std.proofs.Common.{◌≡◌, ◌⊎◌, inl, inr, ℕ, Bool, true, f
 use Rattle.std.proofs.lemmas.Bool.{and_parts, eq-eqb, eqb-true, or_cases}
 use Rattle.std.proofs.lemmas.List.Folds.{list_any-append}
 use Rattle.std.specs.List.{fold, list_all, list_any}
-use Rattle.tp_types.specs.declared.ids.AdminId.{AdminId}
-use Rattle.tp_types.specs.declared.ids.Version.{Version}
-use Rattle.tp_types.specs.declared.records.Verdict.{Verdict}
+use Rattle.tp_model.specs.Words.{AdminId, Verdict, Version}
 use Rattle.tp_model.specs.Ids.{same_admin}
 use Rattle.tp_round.specs.Judge.{is_aimed}
 use Rattle.tp_round.specs.Replies.{admins_of, is_of, with_admin, with_its_admin}

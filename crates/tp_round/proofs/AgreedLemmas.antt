@@ -4,9 +4,7 @@ use Rattle.std.proofs.lemmas.Bool.{and_from, and_left, and_right, or_from}
 use Rattle.std.proofs.lemmas.Bool.Decides.{nat_tests}
 use Rattle.std.specs.List.{fold, list_all, list_any}
 use Rattle.std.specs.Option.{is_none, option_map_or}
-use Rattle.tp_types.specs.declared.records.Met.{Met}
-use Rattle.tp_types.specs.declared.records.Reading.{Reading}
-use Rattle.tp_types.specs.declared.records.Verdict.{Verdict}
+use Rattle.tp_model.specs.Words.{Met, Reading, Verdict}
 use Rattle.tp_round.specs.declared.round.Judged.TheVariants.{Waiting, AllTrue, False, Spent, Update}
 use Rattle.tp_round.specs.declared.round.Round.{Round}
 use Rattle.tp_round.specs.declared.round.Wanted.{Wanted}

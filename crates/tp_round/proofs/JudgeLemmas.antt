@@ -1,10 +1,7 @@
 -- The judgement where its tests are known.
 use Rattle.std.proofs.Common.{◌≡◌, true, false, List, Option, ap, sym, ◌∙◌}
 use Rattle.std.specs.List.{list_any}
-use Rattle.tp_types.specs.declared.ids.AdminId.{AdminId}
-use Rattle.tp_types.specs.declared.ids.Version.{Version}
-use Rattle.tp_types.specs.declared.records.Met.{Met}
-use Rattle.tp_types.specs.declared.records.Reading.{Reading}
+use Rattle.tp_model.specs.Words.{AdminId, Met, Reading, Version}
 use Rattle.tp_round.specs.declared.round.Round.{Round}
 use Rattle.tp_round.specs.Judge.{after, aim_in, is_outdated, is_waiting, judge, judged, met_in, outdated}
 

@@ -2,10 +2,7 @@
 use Rattle.std.proofs.Common.{◌≡◌, ℕ, Bool, true, false, cond, List, [], ◌∷◌, map, Option, Some, None, refl, ap, sym, ◌∙◌}
 use Rattle.std.proofs.lemmas.Bool.{and_parts, eqb-true}
 use Rattle.std.specs.Option.{is_none}
-use Rattle.tp_types.specs.declared.ids.AdminId.{AdminId}
-use Rattle.tp_types.specs.declared.ids.ServerId.{ServerId}
-use Rattle.tp_types.specs.declared.ids.Version.{Version}
-use Rattle.tp_types.specs.declared.records.Verdict.{Verdict}
+use Rattle.tp_model.specs.Words.{AdminId, ServerId, Verdict, Version}
 use Rattle.tp_model.specs.Ids.{same_server}
 use Rattle.tp_round.specs.declared.round.Target.{Target}
 use Rattle.tp_round.specs.Judge.{awaited, awaits, is_outdated, renewed, with_reply}

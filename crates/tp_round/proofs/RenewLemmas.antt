@@ -1,7 +1,6 @@
 -- The targets of a round are renewed one by one.
 use Rattle.std.proofs.Common.{◌≡◌, ℕ, suc, zero, Bool, true, false, cond, List, [], ◌∷◌, ◌++◌, drop, map, take, Option, Some, None, slice_get, slice_set, refl, ap, ◌∙◌}
-use Rattle.tp_types.specs.declared.ids.AdminId.{AdminId}
-use Rattle.tp_types.specs.declared.ids.Version.{Version}
+use Rattle.tp_model.specs.Words.{AdminId, Version}
 use Rattle.tp_round.specs.declared.round.Target.{Target}
 use Rattle.tp_round.specs.Judge.{awaited, is_outdated, renewed}
 use Rattle.tp_round.specs.mirrors.Renewals.{with_renewed, with_renewed_at}

@@ -1,7 +1,6 @@
 -- A reply at the place where it is awaited.
 use Rattle.std.proofs.Common.{◌≡◌, ◌<◌, ◌≤◌, ℕ, suc, zero, Bool, true, false, cond, ◌||◌, List, [], ◌∷◌, length, Some, slice_set, arith, refl, ap}
-use Rattle.tp_types.specs.declared.ids.ServerId.{ServerId}
-use Rattle.tp_types.specs.declared.records.Verdict.{Verdict}
+use Rattle.tp_model.specs.Words.{ServerId, Verdict}
 use Rattle.tp_round.specs.declared.round.Target.{Target}
 use Rattle.tp_round.specs.Judge.{awaits, is_awaited, with_reply}
 use Rattle.tp_round.specs.mirrors.Places.{place_awaited}

@@ -3,12 +3,7 @@ use Rattle.std.proofs.Common.{◌≡◌, ◌⊎◌, inl, inr, ◌≤◌, ◌+◌
 use Rattle.std.proofs.lemmas.Bool.{and_from, and_parts, eqb-true, or_from, or_parts}
 use Rattle.std.specs.List.{fold, list_all, list_any}
 use Rattle.std.specs.Option.{option_map_or}
-use Rattle.tp_types.specs.declared.ids.AdminId.{AdminId}
-use Rattle.tp_types.specs.declared.ids.ServerId.{ServerId}
-use Rattle.tp_types.specs.declared.ids.Version.{Version}
-use Rattle.tp_types.specs.declared.records.Reading.{Reading}
-use Rattle.tp_types.specs.declared.records.Verdict.{Verdict}
-use Rattle.tp_types.specs.declared.scenario.Level.{Level}
+use Rattle.tp_model.specs.Words.{AdminId, Level, Reading, ServerId, Verdict, Version}
 use Rattle.tp_model.specs.Ids.{same_admin, same_server}
 use Rattle.tp_model.specs.Levels.{is_global}
 use Rattle.tp_round.specs.declared.round.Judged.{Judged}

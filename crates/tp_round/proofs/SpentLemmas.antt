@@ -2,12 +2,7 @@
 use Rattle.std.proofs.Common.{◌≡◌, Bool, true, false, cond, List, [], ◌∷◌, find, map, Option, Some, None, option_map, refl, ap, ◌∙◌}
 use Rattle.std.proofs.lemmas.Bool.{or_parts}
 use Rattle.std.specs.List.{list_any}
-use Rattle.tp_types.specs.declared.ids.AdminId.{AdminId}
-use Rattle.tp_types.specs.declared.ids.Version.{Version}
-use Rattle.tp_types.specs.declared.records.Met.{Met}
-use Rattle.tp_types.specs.declared.records.Reading.{Reading}
-use Rattle.tp_types.specs.declared.records.Verdict.{Verdict}
-use Rattle.tp_types.specs.declared.scenario.Level.{Level}
+use Rattle.tp_model.specs.Words.{AdminId, Level, Met, Reading, Verdict, Version}
 use Rattle.tp_round.specs.declared.round.Judged.TheVariants.{Waiting, Spent, Update}
 use Rattle.tp_round.specs.declared.round.Round.{Round}
 use Rattle.tp_round.specs.declared.round.Wanted.{Wanted}

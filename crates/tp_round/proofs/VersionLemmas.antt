@@ -3,9 +3,7 @@ use Rattle.std.proofs.Common.{◌≡◌, ℕ, Bool, true, false, ◌==◌, cond,
 use Rattle.std.proofs.lemmas.Bool.{and_from, and_parts, eq-eqb, eqb-true, or_parts}
 use Rattle.std.proofs.lemmas.List.Folds.{list_all-append}
 use Rattle.std.specs.List.{flat_map, list_all, list_any, range_with_len}
-use Rattle.tp_types.specs.declared.ids.AdminId.{AdminId}
-use Rattle.tp_types.specs.declared.records.Reading.{Reading}
-use Rattle.tp_types.specs.declared.records.Verdict.{Verdict}
+use Rattle.tp_model.specs.Words.{AdminId, Reading, Verdict}
 use Rattle.tp_model.specs.Ids.{same_admin}
 use Rattle.tp_model.specs.Versions.{agrees_with, have_one_version, is_one_version}
 use Rattle.tp_round.specs.declared.round.Round.{Round}

@@ -3,7 +3,7 @@ use Rattle.std.proofs.Common.{◌≡◌, ◌≢◌, ◌||◌, not, Bool, true, f
 use Rattle.std.proofs.lemmas.Bool.{and_parts, eq-eqb, eqb-true}
 use Rattle.std.proofs.lemmas.List.{set-set, set_comm}
 use Rattle.std.specs.List.{list_any}
-use Rattle.tp_types.specs.declared.ids.ItemId.{ItemId}
+use Rattle.tp_model.specs.Words.{ItemId}
 use Rattle.tp_store.specs.declared.writes.TentativeWrite.{TentativeWrite}
 use Rattle.tp_store.specs.Laws.{are_apart, is_last_of}
 use Rattle.tp_store.specs.Writes.{applied, is_on, later, with_write}

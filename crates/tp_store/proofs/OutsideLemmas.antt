@@ -2,7 +2,7 @@
 use Rattle.std.proofs.Common.{◌≡◌, ◌≤◌, ℕ, zero, suc, slice_get, ◌||◌, Bool, true, false, cond, leb, ltb, List, [], ◌∷◌, filter, Some, refl, ap, sym, subst, ◌∙◌, arith, MatchOption, option_map}
 use Rattle.std.proofs.lemmas.Bool.{and_parts, le-leb, ltb-false, ltb-true}
 use Rattle.std.specs.List.{list_all, list_any}
-use Rattle.tp_types.specs.declared.ids.TxnId.{TxnId}
+use Rattle.tp_model.specs.Words.{TxnId}
 use Rattle.tp_store.specs.declared.writes.TentativeWrite.{TentativeWrite}
 use Rattle.tp_store.specs.Contents.{Contents}
 use Rattle.tp_store.specs.Laws.{IsLeastOutside, is_not_before}

@@ -1,6 +1,6 @@
 -- What a store has.
 use Rattle.std.specs.Prelude.{List, ℤ}
-use Rattle.tp_types.specs.declared.ids.Version.{Version}
+use Rattle.tp_model.specs.Words.{Version}
 use Rattle.tp_store.specs.declared.writes.Bounds.{Bounds}
 use Rattle.tp_store.specs.declared.writes.TentativeWrite.{TentativeWrite}
 

@@ -2,14 +2,7 @@
 use Rattle.std.specs.Prelude.{ℕ, max, List, [], map, replicate, length, Option, slice_get, slice_set, unwrap_or, option_map, ℤ}
 use Rattle.std.specs.List.{filter, find}
 use Rattle.std.specs.Option.{option_map_or}
-use Rattle.tp_types.specs.declared.ids.AdminId.{AdminId}
-use Rattle.tp_types.specs.declared.ids.ItemId.{ItemId}
-use Rattle.tp_types.specs.declared.ids.ServerId.{ServerId}
-use Rattle.tp_types.specs.declared.ids.TxnId.{TxnId}
-use Rattle.tp_types.specs.declared.ids.Version.{Version}
-use Rattle.tp_types.specs.declared.scenario.Item.{Item}
-use Rattle.tp_types.specs.declared.scenario.Scenario.{Scenario}
-use Rattle.tp_types.specs.declared.scenario.ServerDecl.{ServerDecl}
+use Rattle.tp_model.specs.Words.{AdminId, Item, ItemId, Scenario, ServerDecl, ServerId, TxnId, Version}
 use Rattle.tp_model.specs.SerialRun.{number_at, opening_store}
 use Rattle.tp_store.specs.declared.writes.Bounds.{Bounds}
 use Rattle.tp_store.specs.declared.writes.TentativeWrite.{TentativeWrite}

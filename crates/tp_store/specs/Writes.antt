@@ -1,6 +1,6 @@
 -- The writes of one transaction that is not settled: at most one for each item, the last by query.
 use Rattle.std.specs.Prelude.{nat_le, nat_lt, not, List, [], ◌∷◌, Bool, false, Option, Some, None, slice_get, slice_set, ℤ, if◌then◌else◌}
-use Rattle.tp_types.specs.declared.ids.ItemId.{ItemId}
+use Rattle.tp_model.specs.Words.{ItemId}
 use Rattle.tp_model.specs.Ids.{same_item}
 use Rattle.tp_model.specs.Limits.{is_between}
 use Rattle.tp_store.specs.declared.writes.Bounds.{Bounds}

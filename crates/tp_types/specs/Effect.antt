@@ -13,9 +13,13 @@ pub record Effect (S : Type 0) : Type 0 where
 abbrev pub sends : {S : Type 0} → S → List Letter → Effect S
 sends state letters = record { state = state; reaction = record { append = None; letters = letters } }
 
--- nothing is done: the row is not built yet, or it is one that does nothing
-abbrev pub silent : {S : Type 0} → S → Effect S
-silent state = sends state []
+-- nothing is done, for good
+abbrev pub ignores : {S : Type 0} → S → Effect S
+ignores state = sends state []
+
+-- a row that is not built: nothing is done so far
+abbrev pub unbuilt : {S : Type 0} → S → Effect S
+unbuilt state = sends state []
 
 -- a record is forced to the log, and then these letters are sent
 abbrev pub logs : {S : Type 0} → S → Record → List Letter → Effect S

@@ -1,5 +1,5 @@
 pub mod Effect
-pub mod Lends
 pub mod Spelling
 pub mod Table
 pub mod formers
+pub mod mirrors

@@ -50,7 +50,7 @@ impl<T> List<T> {
     ghost use Rattle.std.specs.Borrow.{sem};
     ghost use Rattle.std.specs.Slice.Iter.{iter_rest};
     ghost use Rattle.std.specs.Iterator.Adapters.{IterYieldsInOrder};
-    ghost use Rattle.tp_types.specs.Lends.{lends_get};
+    ghost use Rattle.tp_types.specs.mirrors.Lends.{lends_get};
 
     /// The empty list, which takes no memory before its first member.
     pub fn new(alloc: Global) -> List<T>

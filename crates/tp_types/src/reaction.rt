@@ -6,7 +6,7 @@ use crate::mail::{Letter, Reaction};
 use crate::records::Record;
 use std::alloc::Global;
 
-/// Nothing is done.
+/// Nothing is logged or sent.
 pub fn nothing(alloc: Global) -> Reaction
     ensures { result ≡ record { append = None; letters = [] } }
 {
@@ -14,6 +14,20 @@ pub fn nothing(alloc: Global) -> Reaction
         append: None,
         letters: List::new(alloc),
     }
+}
+
+/// Nothing is done, for good.
+pub fn ignored(alloc: Global) -> Reaction
+    ensures { result ≡ record { append = None; letters = [] } }
+{
+    nothing(alloc)
+}
+
+/// A row that is not built: nothing is done so far.
+pub fn unbuilt(alloc: Global) -> Reaction
+    ensures { result ≡ record { append = None; letters = [] } }
+{
+    nothing(alloc)
 }
 
 /// One letter is sent.

@@ -1,18 +1,9 @@
 -- What the plain programs for the definitions speak of in their contracts.
 use Rattle.std.specs.Prelude.{ℕ, ◌^◌, ◌&&◌, List, filter, slice_get, slice_set, Bool, false, Option, Some, None, ℤ, pos, neg_ℤ, ◌+ℤ◌, ◌*ℤ◌, ◌≤ℤ◌}
 use Rattle.std.specs.Option.{option_map_or}
-use Rattle.tp_types.specs.declared.fact.Fact.{Fact}
-use Rattle.tp_types.specs.declared.ids.CredId.{CredId}
-use Rattle.tp_types.specs.declared.policy.Action.{Action}
-use Rattle.tp_types.specs.declared.policy.Action.TheVariants as action
-use Rattle.tp_types.specs.declared.policy.Policy.{Policy}
-use Rattle.tp_types.specs.declared.records.Deed.{Deed}
-use Rattle.tp_types.specs.declared.records.Verdict.{Verdict}
-use Rattle.tp_types.specs.declared.scenario.Credential.{Credential}
-use Rattle.tp_types.specs.declared.scenario.Query.{Query}
+use Rattle.tp_model.specs.Words.{Action, CredId, Credential, Deed, Fact, Policy, Query, Scenario, Transaction, Verdict}
+use Rattle.tp_model.specs.Words.action
 use Rattle.tp_types.specs.declared.scenario.Query.TheVariants.{Read, Write}
-use Rattle.tp_types.specs.declared.scenario.Scenario.{Scenario}
-use Rattle.tp_types.specs.declared.scenario.Transaction.{Transaction}
 use Rattle.tp_audit.specs.declared.authorisation.Case.{Case}
 use Rattle.tp_audit.specs.declared.credentials.Held.{Held}
 use Rattle.tp_audit.specs.declared.total.Total.{Total}

@@ -1,7 +1,6 @@
 -- The targets of a round, of which one is renewed.
 use Rattle.std.specs.Prelude.{ℕ, List, Option, Some, None, slice_get, slice_set, if◌then◌else◌}
-use Rattle.tp_types.specs.declared.ids.AdminId.{AdminId}
-use Rattle.tp_types.specs.declared.ids.Version.{Version}
+use Rattle.tp_model.specs.Words.{AdminId, Version}
 use Rattle.tp_round.specs.declared.round.Target.{Target}
 use Rattle.tp_round.specs.Judge.{awaited, is_outdated}
 

@@ -1,7 +1,7 @@
 use Rattle.std.proofs.Common.{◌≡◌, drop}
 use Rattle.std.specs.List.{list_all, list_any}
 use Rattle.tp_model.specs.Policies.{holds}
-use Rattle.tp_cred.specs.HeldBy.{held_by}
+use Rattle.tp_cred.specs.mirrors.HeldBy.{held_by}
 use Rattle.tp_check.proofs.certificate.+evaluation.Given as goal
 
 -- the members that are left decide

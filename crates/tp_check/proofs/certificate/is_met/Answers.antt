@@ -2,7 +2,7 @@ use Rattle.std.proofs.Common.{sym, ◌∙◌, rules, tests}
 use Rattle.std.proofs.lemmas.Iterator.{YieldsList-from_slice}
 use Rattle.std.proofs.lemmas.Iterator.Search.{any_from_yields_List}
 use Rattle.tp_model.specs.Policies.{meets}
-use Rattle.tp_cred.specs.HeldBy.{shows}
+use Rattle.tp_cred.specs.mirrors.HeldBy.{shows}
 use Rattle.tp_cred.proofs.HeldLemmas.{any_held}
 use Rattle.tp_check.proofs.certificate.is_met.Goals as goal
 

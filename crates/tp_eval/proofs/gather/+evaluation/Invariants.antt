@@ -1,5 +1,5 @@
 use Rattle.std.proofs.Common.{◌≡◌, drop, map}
-use Rattle.tp_eval.specs.Gathered.{takes}
+use Rattle.tp_eval.specs.mirrors.Gathered.{takes}
 use Rattle.tp_eval.specs.Taken.{taken_by_first}
 use Rattle.tp_eval.proofs.OnceLemmas.{AllSoFar}
 use Rattle.tp_eval.proofs.gather.+evaluation.Given as goal

@@ -2,7 +2,7 @@ use Rattle.std.proofs.Common.{ap, sym, ◌∙◌}
 use Rattle.std.specs.List.{find}
 use Rattle.tp_model.specs.Credentials.{is_valid_in}
 use Rattle.tp_model.specs.Policies.{meets}
-use Rattle.tp_eval.specs.Gathered.{says}
+use Rattle.tp_eval.specs.mirrors.Gathered.{says}
 use Rattle.tp_eval.proofs.FoundLemmas.{found_valid}
 use Rattle.tp_eval.proofs.gather.first_shown.Goals as goal
 

@@ -1,5 +1,5 @@
 use Rattle.std.proofs.Common.{◌≡◌, ◌+◌, [], drop}
-use Rattle.tp_eval.specs.Gathered.{takes_by_rule}
+use Rattle.tp_eval.specs.mirrors.Gathered.{takes_by_rule}
 use Rattle.tp_eval.specs.Taken.{first_certificate}
 use Rattle.tp_eval.proofs.policies.first_rule.Given as goal
 

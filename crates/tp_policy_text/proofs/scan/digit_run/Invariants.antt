@@ -1,5 +1,5 @@
 use Rattle.std.proofs.Common.{◌≡◌, ◌+◌, drop}
-use Rattle.tp_policy_text.specs.Scans.{is_next_digit, reach}
+use Rattle.tp_policy_text.specs.mirrors.Scans.{is_next_digit, reach}
 use Rattle.tp_policy_text.proofs.scan.digit_run.Given as goal
 
 -- what is left reaches the rest of the way

@@ -1,5 +1,5 @@
 use Rattle.std.proofs.Common.{◌≡◌, ◌+◌, drop}
-use Rattle.tp_policy_text.specs.Scans.{follows, reach}
+use Rattle.tp_policy_text.specs.mirrors.Scans.{follows, reach}
 use Rattle.tp_policy_text.proofs.scan.name_reach.Given as goal
 
 -- what is left reaches the rest of the way

@@ -1,8 +1,8 @@
 use Rattle.std.proofs.Common.{◌-◌, ◌+◌, List, Err, codes, sym, ap, subst, ◌∙◌, rules}
 use Rattle.tp_types.specs.declared.policy.Cond.{Cond}
-use Rattle.tp_policy_text.specs.Gives.{Gives}
-use Rattle.tp_policy_text.specs.Readers.{conj_at, inner_at, joined_at, part_at}
-use Rattle.tp_policy_text.specs.Readings.{read}
+use Rattle.tp_policy_text.specs.mirrors.Gives.{Gives}
+use Rattle.tp_policy_text.specs.mirrors.Readers.{conj_at, inner_at, joined_at, part_at}
+use Rattle.tp_policy_text.specs.mirrors.Readings.{read}
 use Rattle.tp_policy_text.proofs.Productions.{Turned, turn_ends, turn_goes, turn_stops, word_stops}
 use Rattle.tp_policy_text.proofs.reader.Reader.+reading.Goals as goal
 

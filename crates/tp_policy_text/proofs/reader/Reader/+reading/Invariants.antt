@@ -1,5 +1,5 @@
 use Rattle.std.proofs.Common.{◌≡◌, codes, ◌+◌, ◌-◌, ◌*◌}
-use Rattle.tp_policy_text.specs.Readers.{conj_at, inner_at, joined_at, part_at}
+use Rattle.tp_policy_text.specs.mirrors.Readers.{conj_at, inner_at, joined_at, part_at}
 use Rattle.tp_policy_text.proofs.Productions.{with_front}
 use Rattle.tp_policy_text.proofs.reader.Reader.+reading.Given as goal
 

@@ -1,8 +1,8 @@
 use Rattle.std.proofs.Common.{◌-◌, ◌+◌, List, Err, sym, ap, subst, ◌∙◌, rules}
 use Rattle.tp_types.specs.declared.policy.Rule.{Rule}
-use Rattle.tp_policy_text.specs.Gives.{Gives}
-use Rattle.tp_policy_text.specs.Readers.{rules_at}
-use Rattle.tp_policy_text.specs.Readings.{read}
+use Rattle.tp_policy_text.specs.mirrors.Gives.{Gives}
+use Rattle.tp_policy_text.specs.mirrors.Readers.{rules_at}
+use Rattle.tp_policy_text.specs.mirrors.Readings.{read}
 use Rattle.tp_policy_text.proofs.Productions.{Ruled, rule_ends, rule_goes, rule_stops}
 use Rattle.tp_policy_text.proofs.reader.Reader.rules.Goals as goal
 

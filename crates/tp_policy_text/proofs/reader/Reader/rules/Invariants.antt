@@ -1,5 +1,5 @@
 use Rattle.std.proofs.Common.{◌≡◌, ◌-◌}
-use Rattle.tp_policy_text.specs.Readers.{rules_at}
+use Rattle.tp_policy_text.specs.mirrors.Readers.{rules_at}
 use Rattle.tp_policy_text.proofs.Productions.{with_front}
 use Rattle.tp_policy_text.proofs.reader.Reader.rules.Given as goal
 

@@ -1,5 +1,5 @@
 use Rattle.std.proofs.Common.{◌≡◌, drop}
-use Rattle.tp_policy_text.specs.Readers.{token_at}
+use Rattle.tp_policy_text.specs.mirrors.Readers.{token_at}
 use Rattle.tp_policy_text.proofs.reader.Reader.token.Given as goal
 
 -- the rest of the token reads the rest of the text

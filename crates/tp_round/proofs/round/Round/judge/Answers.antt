@@ -1,7 +1,7 @@
 use Rattle.std.proofs.Common.{◌≡◌, false, true, Option, ap, subst, sym, ◌∙◌, IfOk, OnOk}
 use Rattle.std.specs.List.{list_any}
 use Rattle.std.specs.Option.{option_copied}
-use Rattle.tp_types.specs.declared.records.Reading.{Reading}
+use Rattle.tp_model.specs.Words.{Reading}
 use Rattle.tp_round.specs.declared.round.Judged.{Judged}
 use Rattle.tp_round.specs.declared.round.Round.{Round}
 use Rattle.tp_round.specs.Judge as rule

@@ -7,8 +7,8 @@ use Rattle.tp_types.specs.declared.policy.Pattern.TheVariants as pattern
 use Rattle.tp_types.specs.Spelling.{is_digit, is_letter, is_part}
 use Rattle.tp_policy_text.specs.declared.reader.Claim.{Claim}
 use Rattle.tp_policy_text.specs.Lexis.{first, in_word, skip}
-use Rattle.tp_policy_text.specs.Readers.{Compared, Head, comes, head_of, int_end, is_some_text}
-use Rattle.tp_policy_text.specs.Readings.{Reader, ended, read}
+use Rattle.tp_policy_text.specs.mirrors.Readers.{Compared, Head, comes, head_of, int_end, is_some_text}
+use Rattle.tp_policy_text.specs.mirrors.Readings.{Reader, ended, read}
 
 -- how many bytes in front go on, where so many were read before them
 abbrev pub reach : (ℕ → ℕ → Bool) → ℕ → List ℕ → ℕ

@@ -1,6 +1,6 @@
 -- What the programs over credentials speak of in their contracts.
 use Rattle.std.specs.Prelude.{List, Bool}
-use Rattle.tp_types.specs.declared.ids.CredId.{CredId}
+use Rattle.tp_model.specs.Words.{CredId}
 use Rattle.tp_model.specs.Policies.{Triple}
 use Rattle.tp_model.specs.Credentials.{held_in}
 use Rattle.tp_cred.specs.declared.presented.Presented.{Presented}

@@ -1,10 +1,7 @@
 -- What the programs of an evaluation speak of in their contracts.
 use Rattle.std.specs.Prelude.{ℕ, List, [], Bool, false, Option, Some, None}
 use Rattle.std.specs.Option.{option_map_or}
-use Rattle.tp_types.specs.declared.ids.CredId.{CredId}
-use Rattle.tp_types.specs.declared.policy.Action.{Action}
-use Rattle.tp_types.specs.declared.policy.Cond.{Cond}
-use Rattle.tp_types.specs.declared.policy.Rule.{Rule}
+use Rattle.tp_model.specs.Words.{Action, Cond, CredId, Rule}
 use Rattle.tp_model.specs.Credentials.{said_in}
 use Rattle.tp_model.specs.Policies.{Triple}
 use Rattle.tp_cred.specs.Validity.{shows_in}

@@ -19,7 +19,7 @@ use Rattle.tp_policy_text.specs.declared.production.Permitted.{Permitted}
 use Rattle.tp_policy_text.specs.declared.halt.Stop.TheVariants as stop
 use Rattle.tp_policy_text.specs.Grammar.{and_of, or_of}
 use Rattle.tp_policy_text.specs.Lexis.{in_word, skip}
-use Rattle.tp_policy_text.specs.Readings.{Reader, choice, is_open, link, machine, mapped, stopped, unopened, Reading, read}
+use Rattle.tp_policy_text.specs.mirrors.Readings.{Reader, choice, is_open, link, machine, mapped, stopped, unopened, Reading, read}
 
 -- ---- words and signs: the state is what is still to come of the token
 
