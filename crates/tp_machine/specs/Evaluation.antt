@@ -1,22 +1,11 @@
 -- The verdict that the evaluation of a query gives, with the clock and the revocations of a staple.
 use Rattle.std.specs.Prelude.{◌≡◌, ℕ, ◌&&◌, List, Bool, true, Option, Some, None, option_map, slice_get}
 use Rattle.std.specs.Option.{is_some}
-use Rattle.tp_types.specs.declared.fact.Fact.{Fact}
-use Rattle.tp_types.specs.declared.ids.AdminId.{AdminId}
-use Rattle.tp_types.specs.declared.ids.ServerId.{ServerId}
-use Rattle.tp_types.specs.declared.ids.Version.{Version}
-use Rattle.tp_types.specs.declared.policy.Action.{Action}
-use Rattle.tp_types.specs.declared.policy.Policy.{Policy}
-use Rattle.tp_types.specs.declared.records.Staple.{Staple}
-use Rattle.tp_types.specs.declared.records.Verdict.{Verdict}
-use Rattle.tp_types.specs.declared.scenario.Item.{Item}
-use Rattle.tp_types.specs.declared.scenario.Query.{Query}
-use Rattle.tp_types.specs.declared.scenario.Scenario.{Scenario}
-use Rattle.tp_types.specs.declared.scenario.Transaction.{Transaction}
+use Rattle.tp_model.specs.Words.{Action, AdminId, Fact, Item, Policy, Query, Scenario, ServerId, Staple, Transaction, Verdict, Version}
 use Rattle.tp_model.specs.Authorisation.{action_of, is_allowed, is_certified, is_own_query, is_true_verdict, policy_at}
 use Rattle.tp_model.specs.Queries.{item_of, query_at}
 use Rattle.tp_eval.specs.declared.policies.Certificate.{Certificate}
-use Rattle.tp_eval.specs.Gathered.{rule_of, uses_in}
+use Rattle.tp_eval.specs.mirrors.Gathered.{rule_of, uses_in}
 use Rattle.tp_eval.specs.Taken.{certificate}
 use Rattle.tp_check.specs.OfHistory.{IsAt}
 

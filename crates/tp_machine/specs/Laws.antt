@@ -1,7 +1,6 @@
 -- What holds of every run of the machine.
 use Rattle.std.specs.Prelude.{◌≡◌, List, true}
-use Rattle.tp_types.specs.declared.scenario.Scenario.{Scenario}
-use Rattle.tp_types.specs.declared.scenario.Step.{Step}
+use Rattle.tp_model.specs.Words.{Scenario, Step}
 use Rattle.tp_model.specs.Built.{is_built}
 use Rattle.tp_model.specs.SerialRun.{store_of}
 use Rattle.tp_model.specs.TrustedHistory.{TrustedSoFar, have_ended}

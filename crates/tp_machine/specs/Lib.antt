@@ -1,12 +1,11 @@
-pub mod Acts
 pub mod Evaluation
-pub mod Flags
-pub mod History
 pub mod Laws
 pub mod Logs
 pub mod Machine
+pub mod Parts
 pub mod Seen
 pub mod Sound
 pub mod coord
+pub mod mirrors
 pub mod offices
 pub mod server

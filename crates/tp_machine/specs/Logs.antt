@@ -1,17 +1,13 @@
 -- What a log says: look-ups on the list of its records. Nothing else reads a log.
-use Rattle.std.specs.Prelude.{ℕ, ◌+◌, ◌||◌, List, [], ◌∷◌, slice_get, Bool, Option, Some, None, is_some, option_and_then, if◌then◌else◌}
+use Rattle.std.specs.Prelude.{ℕ, ◌+◌, ◌||◌, List, [], ◌∷◌, slice_get, Bool, false, Option, Some, None, is_some, option_and_then, if◌then◌else◌}
 use Rattle.std.specs.Option.{option_map_or}
-use Rattle.tp_types.specs.declared.ids.TxnId.{TxnId}
-use Rattle.tp_types.specs.declared.records.Decision.{Decision}
-use Rattle.tp_types.specs.declared.records.Prepared.{Prepared}
-use Rattle.tp_types.specs.declared.records.Record.{Record}
-use Rattle.tp_types.specs.declared.records.Record.TheVariants as log
-use Rattle.tp_types.specs.declared.records.Settled.{Settled}
+use Rattle.tp_model.specs.Words.{Decision, Prepared, Record, Settled, TxnId}
+use Rattle.tp_model.specs.Words.log
 use Rattle.tp_model.specs.Facts.{first_of}
 use Rattle.tp_model.specs.Ids.{same_txn}
-use Rattle.tp_machine.specs.declared.coord.Coordinator.{Coordinator}
-use Rattle.tp_machine.specs.declared.part.Part.{Part}
-use Rattle.tp_machine.specs.declared.server.Server.{Server}
+use Rattle.tp_machine.specs.coord.State.{Coordinator}
+use Rattle.tp_machine.specs.Parts.{Part}
+use Rattle.tp_machine.specs.server.State.{Server}
 
 -- ---- a coordinator's log
 
@@ -84,6 +80,20 @@ settled_by txn part = settled_in txn part.log
 -- how a server, by its number, has settled a transaction
 abbrev pub settled_at : List (Part Server) → ℕ → TxnId → Option Settled
 settled_at servers at txn = option_and_then (settled_by txn) (slice_get servers at)
+
+abbrev pub prepared_by : TxnId → Part Server → Option Prepared
+prepared_by txn part = prepared_in txn part.log
+
+-- what is prepared of a transaction at a server, by its number
+abbrev pub prepared_at : List (Part Server) → ℕ → TxnId → Option Prepared
+prepared_at servers at txn = option_and_then (prepared_by txn) (slice_get servers at)
+
+abbrev pub voted_by : TxnId → Part Server → Bool
+voted_by txn part = has_voted txn part.log
+
+-- whether a server, by its number, has prepared or settled a transaction
+abbrev pub has_voted_at : List (Part Server) → ℕ → TxnId → Bool
+has_voted_at servers at txn = option_map_or (voted_by txn) (slice_get servers at) false
 
 abbrev pub epoch_by : Part Server → ℕ
 epoch_by part = epoch_in part.log

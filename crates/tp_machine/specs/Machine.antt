@@ -2,28 +2,17 @@
 use Rattle.std.specs.Prelude.{ℕ, ◌+◌, ◌-◌, ◌==◌, List, [], ◌∷◌, ◌++◌, length, map, filter, drop, slice_get, slice_set, Bool, true, false, not, Option, Some, None, is_some, is_none, nat_lt, unwrap_or, ℤ, if◌then◌else◌}
 use Rattle.std.specs.List.{flat_map, range_with_len}
 use Rattle.std.specs.Option.{option_map_or}
-use Rattle.tp_types.specs.declared.fact.Ending.{Ending}
-use Rattle.tp_types.specs.declared.fact.Fact.{Fact}
-use Rattle.tp_types.specs.declared.fact.What.{What}
-use Rattle.tp_types.specs.declared.fact.What.TheVariants as what
-use Rattle.tp_types.specs.declared.ids.ServerId.{ServerId}
-use Rattle.tp_types.specs.declared.ids.TxnId.{TxnId}
-use Rattle.tp_types.specs.declared.mail.Letter.{Letter}
-use Rattle.tp_types.specs.declared.mail.Mail.{Mail}
-use Rattle.tp_types.specs.declared.records.Record.{Record}
-use Rattle.tp_types.specs.declared.records.Record.TheVariants as log
-use Rattle.tp_types.specs.declared.scenario.Actor.{Actor}
-use Rattle.tp_types.specs.declared.scenario.Actor.TheVariants as actor
-use Rattle.tp_types.specs.declared.scenario.Item.{Item}
-use Rattle.tp_types.specs.declared.scenario.Scenario.{Scenario}
-use Rattle.tp_types.specs.declared.scenario.Step.{Step}
-use Rattle.tp_types.specs.declared.scenario.Step.TheVariants as step
+use Rattle.tp_model.specs.Words.{Actor, Ending, Fact, Item, Letter, Mail, Record, Scenario, ServerId, Step, TxnId, What}
+use Rattle.tp_model.specs.Words.actor
+use Rattle.tp_model.specs.Words.log
+use Rattle.tp_model.specs.Words.step
+use Rattle.tp_model.specs.Words.what
 use Rattle.tp_machine.specs.declared.actors.Actors.{Actors}
-use Rattle.tp_machine.specs.declared.coord.Coordinator.{Coordinator}
+use Rattle.tp_machine.specs.coord.State.{Coordinator}
 use Rattle.tp_machine.specs.declared.error.StepError.{StepError}
 use Rattle.tp_machine.specs.declared.error.StepError.TheVariants as error
-use Rattle.tp_machine.specs.declared.part.Part.{Part}
-use Rattle.tp_machine.specs.declared.server.Server.{Server}
+use Rattle.tp_machine.specs.Parts.{Part}
+use Rattle.tp_machine.specs.server.State.{Server}
 use Rattle.tp_types.specs.Effect.{Effect}
 use Rattle.tp_machine.specs.coord.Opened as coord
 use Rattle.tp_machine.specs.coord.Row.{coordinator_row, is_begun, submit_row, placed}

@@ -1,14 +1,13 @@
 -- A world as its callers see it.
 use Rattle.std.specs.Prelude.{◌≡◌, Bool, true, false, Some, None}
-use Rattle.tp_types.specs.declared.scenario.Scenario.{Scenario}
-use Rattle.tp_types.specs.declared.scenario.Step.{Step}
-use Rattle.tp_types.specs.declared.scenario.Step.TheVariants as step
+use Rattle.tp_model.specs.Words.{Scenario, Step}
+use Rattle.tp_model.specs.Words.step
 use Rattle.tp_model.specs.Built.{is_built}
 use Rattle.tp_machine.specs.declared.actors.Actors.{Actors}
 use Rattle.tp_machine.specs.declared.history.History.{History}
 use Rattle.tp_machine.specs.declared.error.StepError.{StepError}
-use Rattle.tp_machine.specs.Acts.{SameUp}
-use Rattle.tp_machine.specs.Flags.{marked}
+use Rattle.tp_machine.specs.mirrors.Acts.{SameUp}
+use Rattle.tp_machine.specs.mirrors.Flags.{marked}
 use Rattle.tp_machine.specs.Sound.{Each, IsSound, IsStepOf}
 use Rattle.tp_machine.specs.Laws.{IsTrustedState}
 use Rattle.tp_machine.specs.Machine.{State, Machine, after, done, opening, refusal}

@@ -1,77 +1,31 @@
 -- What is asked of each mail, record and fact of a world: that all they name exists, and that their values are bounded.
 use Rattle.std.specs.Prelude.{◌≡◌, ℕ, ◌<◌, ◌≤◌, List, [], ◌∷◌, length, slice_get, Bool, true, false, Option, Some, is_some, IfSome, option_map, option_and_then, ℤ}
-use Rattle.tp_types.specs.declared.fact.Fact.{Fact}
-use Rattle.tp_types.specs.declared.fact.What.{What}
-use Rattle.tp_types.specs.declared.fact.What.TheVariants as what
-use Rattle.tp_types.specs.declared.ids.AdminId.{AdminId}
-use Rattle.tp_types.specs.declared.ids.CredId.{CredId}
-use Rattle.tp_types.specs.declared.ids.ItemId.{ItemId}
-use Rattle.tp_types.specs.declared.ids.ServerId.{ServerId}
-use Rattle.tp_types.specs.declared.ids.TxnId.{TxnId}
-use Rattle.tp_types.specs.declared.ids.Version.{Version}
-use Rattle.tp_types.specs.declared.mail.Answer.{Answer}
-use Rattle.tp_types.specs.declared.mail.Answer.TheVariants as answer
-use Rattle.tp_types.specs.declared.mail.Body.{Body}
-use Rattle.tp_types.specs.declared.mail.Body.TheVariants as body
-use Rattle.tp_types.specs.declared.mail.DoneReply.{DoneReply}
-use Rattle.tp_types.specs.declared.mail.Letter.{Letter}
-use Rattle.tp_types.specs.declared.mail.Mail.{Mail}
-use Rattle.tp_types.specs.declared.mail.NewestReply.{NewestReply}
-use Rattle.tp_types.specs.declared.mail.PrepareRequest.{PrepareRequest}
-use Rattle.tp_types.specs.declared.mail.PushNotice.{PushNotice}
-use Rattle.tp_types.specs.declared.mail.QueryRequest.{QueryRequest}
-use Rattle.tp_types.specs.declared.mail.TellReply.{TellReply}
-use Rattle.tp_types.specs.declared.mail.ValidateRequest.{ValidateRequest}
-use Rattle.tp_types.specs.declared.mail.VerdictsReply.{VerdictsReply}
-use Rattle.tp_types.specs.declared.mail.Vote.{Vote}
-use Rattle.tp_types.specs.declared.mail.Vote.TheVariants as vote
-use Rattle.tp_types.specs.declared.mail.VoteReply.{VoteReply}
-use Rattle.tp_types.specs.declared.records.Cause.{Cause}
-use Rattle.tp_types.specs.declared.records.Cause.TheVariants as cause
-use Rattle.tp_types.specs.declared.records.CommitRecord.{CommitRecord}
-use Rattle.tp_types.specs.declared.records.Decided.{Decided}
-use Rattle.tp_types.specs.declared.records.Decision.{Decision}
-use Rattle.tp_types.specs.declared.records.Decision.TheVariants as decision
-use Rattle.tp_types.specs.declared.records.Deed.{Deed}
-use Rattle.tp_types.specs.declared.records.Denied.{Denied}
-use Rattle.tp_types.specs.declared.records.Died.{Died}
-use Rattle.tp_types.specs.declared.records.Instance.{Instance}
-use Rattle.tp_types.specs.declared.records.Met.{Met}
-use Rattle.tp_types.specs.declared.records.Newer.{Newer}
-use Rattle.tp_types.specs.declared.records.No.{No}
-use Rattle.tp_types.specs.declared.records.No.TheVariants as no
-use Rattle.tp_types.specs.declared.records.OutOfRange.{OutOfRange}
-use Rattle.tp_types.specs.declared.records.Prepared.{Prepared}
-use Rattle.tp_types.specs.declared.records.Record.{Record}
-use Rattle.tp_types.specs.declared.records.Record.TheVariants as log
-use Rattle.tp_types.specs.declared.records.Settled.{Settled}
-use Rattle.tp_types.specs.declared.records.Staple.{Staple}
-use Rattle.tp_types.specs.declared.records.Verdict.{Verdict}
-use Rattle.tp_types.specs.declared.scenario.Actor.{Actor}
-use Rattle.tp_types.specs.declared.scenario.Actor.TheVariants as actor
-use Rattle.tp_types.specs.declared.scenario.Admin.{Admin}
-use Rattle.tp_types.specs.declared.scenario.Item.{Item}
-use Rattle.tp_types.specs.declared.scenario.Query.{Query}
-use Rattle.tp_types.specs.declared.scenario.Query.TheVariants as query
-use Rattle.tp_types.specs.declared.scenario.Scenario.{Scenario}
-use Rattle.tp_types.specs.declared.scenario.Scheme.{Scheme}
-use Rattle.tp_types.specs.declared.scenario.Scheme.TheVariants as scheme
-use Rattle.tp_types.specs.declared.scenario.Step.{Step}
-use Rattle.tp_types.specs.declared.scenario.Step.TheVariants as step
-use Rattle.tp_types.specs.declared.scenario.Transaction.{Transaction}
+use Rattle.tp_model.specs.Words.{Actor, Admin, AdminId, Answer, Body, Cause, CommitRecord, CredId, Decided, Decision, Deed, Denied, Died, DoneReply, Fact, Instance, Item, ItemId, Letter, Mail, Met, Newer, NewestReply, No, OutOfRange, PrepareRequest, Prepared, PushNotice, Query, QueryRequest, Record, Scenario, Scheme, ServerId, Settled, Staple, Step, TellReply, Transaction, TxnId, ValidateRequest, Verdict, VerdictsReply, Version, Vote, VoteReply, What}
+use Rattle.tp_model.specs.Words.actor
+use Rattle.tp_model.specs.Words.answer
+use Rattle.tp_model.specs.Words.body
+use Rattle.tp_model.specs.Words.cause
+use Rattle.tp_model.specs.Words.decision
+use Rattle.tp_model.specs.Words.log
+use Rattle.tp_model.specs.Words.no
+use Rattle.tp_model.specs.Words.query
+use Rattle.tp_model.specs.Words.scheme
+use Rattle.tp_model.specs.Words.step
+use Rattle.tp_model.specs.Words.vote
+use Rattle.tp_model.specs.Words.what
 use Rattle.tp_model.specs.Queries.{item_of, query_at}
 use Rattle.tp_types.specs.Table.{flattened}
 use Rattle.tp_machine.specs.declared.actors.Actors.{Actors}
-use Rattle.tp_machine.specs.declared.coord.Coordinator.{Coordinator}
+use Rattle.tp_machine.specs.coord.State.{Coordinator}
 use Rattle.tp_machine.specs.declared.coord.Phase.{Phase}
 use Rattle.tp_machine.specs.declared.coord.Phase.TheVariants as phase
 use Rattle.tp_machine.specs.declared.coord.Reply.{Reply}
 use Rattle.tp_machine.specs.declared.coord.Round.{Round}
-use Rattle.tp_machine.specs.declared.offices.Authority.{Authority}
-use Rattle.tp_machine.specs.declared.part.Part.{Part}
+use Rattle.tp_machine.specs.offices.State.{Authority}
+use Rattle.tp_machine.specs.Parts.{Part}
 use Rattle.tp_machine.specs.declared.server.Ballot.{Ballot}
 use Rattle.tp_machine.specs.declared.server.Entry.{Entry}
-use Rattle.tp_machine.specs.declared.server.Server.{Server}
+use Rattle.tp_machine.specs.server.State.{Server}
 use Rattle.tp_machine.specs.Machine.{State}
 
 -- ---- lists

@@ -1,5 +1,6 @@
 //! All the actors of a world, and what a step does to them.
 ghost use Rattle.std.specs.Prelude.{◌≡◌, ◌<◌, ◌^◌, ◌∷◌, [], length, map, slice_get, IfOk};
+ghost use Rattle.std.specs.Option.{option_copied};
 ghost use Rattle.tp_machine.specs.Machine as machine;
 
 use crate::coord::Coordinator;
@@ -20,7 +21,7 @@ pub struct Actors {
 }
 
 impl Actors {
-    ghost use Rattle.tp_machine.specs.Acts.{Turns, SameUp};
+    ghost use Rattle.tp_machine.specs.mirrors.Acts.{Turns, SameUp};
 
     /// The actors as they stand before the first step.
     pub fn opened(alloc: Global, scenario: &Scenario) -> Result<Actors, NoMemory>
@@ -42,11 +43,11 @@ impl Actors {
         match actor {
             Actor::Server(at) => match self.servers.get(at.0 as usize) {
                 None => false,
-                Some(part) => part.up.is_none(),
+                Some(part) => part.is_down(),
             },
             Actor::Coordinator(txn) => match self.coordinators.get(txn.0 as usize) {
                 None => false,
-                Some(part) => part.up.is_none(),
+                Some(part) => part.is_down(),
             },
             _ => false,
         }
@@ -159,38 +160,33 @@ fn item_value(servers: &[Part<Server>], at: usize, item: &Item) -> i128
 {
     match servers.get(item.server.0 as usize) {
         None => i128::from(item.value),
-        Some(part) => value_up(&part.up, at, i128::from(item.value)),
+        Some(part) => value_up(part.state(), at, i128::from(item.value)),
     }
 }
 
-fn value_up(up: &Option<Server>, at: usize, opening: i128) -> i128
-    ensures { result ≡ machine.value_up up.now at opening }
+fn value_up(up: Option<&Server>, at: usize, opening: i128) -> i128
+    ensures { result ≡ machine.value_up (option_copied up.entry) at opening }
 {
     match up {
         None => opening,
-        Some(server) => match server.values.get(at) {
-            None => opening,
-            Some(value) => *value,
-        },
+        Some(server) => server.value(at).unwrap_or(opening),
     }
 }
 
-#[tactic(auto, using(crate::proofs::OpenedLemmas::opened_servers_more))]
+#[tactic(auto, using(crate::proofs::basics::Opened::opened_servers_more))]
 fn opened_servers(alloc: Global, scenario: &Scenario) -> Result<List<Part<Server>>, NoMemory>
     requires { length scenario.now.servers < 2 ^ 32 }
     ensures { IfOk result (λ made. made ≡ machine.opened_servers scenario.now (length scenario.now.servers)) }
 {
     let mut made = List::new(alloc);
     for number in 0..scenario.servers.len() as u32 {
-        made.push(Part {
-            up: Some(Server::opened(alloc, scenario, ServerId(number))?),
-            log: List::new(alloc),
-        })?;
+        let server = Server::opened(alloc, scenario, ServerId(number))?;
+        made.push(Part::opened(alloc, server))?;
     }
     Ok(made)
 }
 
-#[tactic(auto, using(crate::proofs::OpenedLemmas::idle_coordinators_more))]
+#[tactic(auto, using(crate::proofs::basics::Opened::idle_coordinators_more))]
 fn idle_coordinators(
     alloc: Global,
     scenario: &Scenario,
@@ -201,10 +197,8 @@ fn idle_coordinators(
 {
     let mut made = List::new(alloc);
     for number in 0..scenario.txns.len() as u32 {
-        made.push(Part {
-            up: Some(Coordinator::idle(alloc, scenario, TxnId(number))?),
-            log: List::new(alloc),
-        })?;
+        let coordinator = Coordinator::idle(alloc, scenario, TxnId(number))?;
+        made.push(Part::opened(alloc, coordinator))?;
     }
     Ok(made)
 }

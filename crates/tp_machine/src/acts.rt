@@ -1,8 +1,9 @@
 //! What a step does to the actors and the history.
 ghost use Rattle.std.specs.Prelude.{◌≡◌, ◌<◌, length, Some, None, slice_get, IfOk, OnOk, OnErr};
-ghost use Rattle.tp_types.specs.declared.scenario.Step.TheVariants as step;
-ghost use Rattle.tp_machine.specs.Acts.{SameUp, Turns};
-ghost use Rattle.tp_machine.specs.History.{SameHistory};
+ghost use Rattle.std.specs.Option.{option_copied};
+ghost use Rattle.tp_model.specs.Words.step;
+ghost use Rattle.tp_machine.specs.mirrors.Acts.{SameUp, Turns};
+ghost use Rattle.tp_machine.specs.mirrors.History.{SameHistory};
 ghost use Rattle.tp_machine.specs.Machine as machine;
 ghost use Rattle.tp_machine.specs.Seen.{IsTaken, machine_of, state_of};
 
@@ -20,12 +21,12 @@ pub fn is_submitted(actors: &Actors, txn: TxnId) -> bool
 {
     match actors.coordinators.get(txn.0 as usize) {
         None => false,
-        Some(part) => is_part_submitted(&part.up),
+        Some(part) => is_part_submitted(part.state()),
     }
 }
 
-fn is_part_submitted(up: &Option<Coordinator>) -> bool
-    ensures { result ≡ machine.is_part_submitted up.now }
+fn is_part_submitted(up: Option<&Coordinator>) -> bool
+    ensures { result ≡ machine.is_part_submitted (option_copied up.entry) }
 {
     match up {
         None => true,

@@ -2,22 +2,22 @@
 ghost use Rattle.std.specs.Prelude.{◌≡◌, ◌<◌, ◌^◌, ◌==◌, ◌++◌, not, Option, Some, None, [], ◌∷◌, length, map, filter, IfOk, OnOk};
 ghost use Rattle.std.specs.List.{list_all};
 ghost use Rattle.std.specs.Option.{option_copied};
-ghost use Rattle.tp_types.specs.declared.ids.ServerId.{ServerId};
-ghost use Rattle.tp_types.specs.declared.records.Verdict.{Verdict};
+ghost use Rattle.tp_model.specs.Words.{ServerId, Verdict};
+ghost use Rattle.tp_model.specs.Words.vote;
 ghost use Rattle.tp_machine.specs.declared.coord.Phase.TheVariants as Phase;
-ghost use Rattle.tp_types.specs.declared.mail.Vote.TheVariants as vote;
 ghost use Rattle.tp_types.specs.Effect.{Gives};
 ghost use Rattle.tp_machine.specs.coord.Opened as opened;
 ghost use Rattle.tp_machine.specs.coord.Row as row;
 
 use std::alloc::Global;
+use std::marker::Model;
 use std::mem;
 use tp_model::{item_of, query_at, servers_of, written_constant};
 use tp_types::{
     Action, Actor, Answer, AskRequest, Body, CommitRecord, DecideRequest, Decided, Decision, Deed,
     DoneReply, Instance, ItemId, Letter, List, Mail, Met, NoMemory, Outcome, Place, PrepareRequest,
     Query, QueryRequest, Reaction, Record, Scenario, ServerId, Staple, TellReply, TryClone, TxnId,
-    Verdict, Version, Vote, VoteReply, none_for_each, nothing, sent_alone,
+    Verdict, Version, Vote, VoteReply, ignored, none_for_each, nothing, sent_alone, unbuilt,
 };
 
 /// A server's reply in a round.
@@ -86,6 +86,24 @@ pub struct Coordinator {
     pub phase: Phase,
 }
 
+impl Model for Coordinator {
+    ghost use Rattle.tp_machine.specs.coord.State as state;
+
+    ghost Value = { state.Coordinator };
+
+    ghost view = { λ c. record {
+      txn = c.txn;
+      servers = c.servers;
+      age = c.age;
+      turn = c.turn;
+      epochs = c.epochs;
+      deeds = c.deeds;
+      gathered = c.gathered;
+      instances = c.instances;
+      phase = c.phase;
+    } };
+}
+
 impl Coordinator {
     /// A coordinator before its transaction is submitted.
     pub fn idle(alloc: Global, scenario: &Scenario, txn: TxnId) -> Result<Coordinator, NoMemory>
@@ -110,11 +128,11 @@ impl Coordinator {
         ensures { IfOk result (λ reaction. Gives (row.submit_row scenario.now self.old) self.new reaction) }
     {
         let Some(query) = self.query_of(scenario, 1) else {
-            return Ok(nothing(alloc));
+            return Ok(ignored(alloc));
         };
         match (server_of(scenario, query), written_constant(query)) {
             (Some(server), Some(value)) => self.sends_first(alloc, server, value),
-            _ => Ok(nothing(alloc)),
+            _ => Ok(unbuilt(alloc)),
         }
     }
 
@@ -154,7 +172,8 @@ impl Coordinator {
             Body::Tell(tell) => self.on_tell(alloc, mail.sent, tell),
             Body::Vote(reply) => self.on_vote(alloc, from, reply),
             Body::Ack(_) => self.on_ack(alloc, from),
-            _ => Ok(nothing(alloc)),
+            Body::Verdicts(_) | Body::Newest(_) | Body::Inquire(_) => Ok(unbuilt(alloc)),
+            _ => Ok(ignored(alloc)),
         }
     }
 
@@ -221,20 +240,44 @@ impl Coordinator {
         ensures { IfOk result (λ reaction. Gives (row.on_done scenario.now self.old self.old.phase from done.now) self.new reaction) }
     {
         if !self.awaits_query(done) {
-            return Ok(nothing(alloc));
+            return Ok(ignored(alloc));
+        }
+        if !is_plain(&self.phase) {
+            return Ok(unbuilt(alloc));
         }
         let Some(query) = self.query_of(scenario, done.query) else {
-            return Ok(nothing(alloc));
+            return Ok(ignored(alloc));
         };
-        match (server_of(scenario, query), plain_value(&done.answer)) {
-            (Some(server), Some(value)) => {
-                if !is_from(from, server) || !self.is_last_write(scenario, query, done.query) {
-                    return Ok(nothing(alloc));
+        match server_of(scenario, query) {
+            Some(server) if is_from(from, server) => {
+                self.answered(alloc, scenario, server, done, query)
+            }
+            _ => Ok(ignored(alloc)),
+        }
+    }
+
+    fn answered(
+        &mut self,
+        alloc: Global,
+        scenario: &Scenario,
+        server: ServerId,
+        done: &DoneReply,
+        query: &Query,
+    ) -> Result<Reaction, NoMemory>
+        ensures { IfOk result (λ reaction. Gives (row.answered scenario.now self.old server done.now query.now done.now.answer) self.new reaction) }
+    {
+        match &done.answer {
+            Answer::Ran {
+                value,
+                verdict: None,
+            } => {
+                if !self.is_last_write(scenario, query, done.query) {
+                    return Ok(unbuilt(alloc));
                 }
-                self.ran(server, done, query, value)?;
+                self.ran(server, done, query, *value)?;
                 self.asks(alloc)
             }
-            _ => Ok(nothing(alloc)),
+            _ => Ok(unbuilt(alloc)),
         }
     }
 
@@ -242,10 +285,7 @@ impl Coordinator {
         ensures { result ≡ row.awaits_query self.now self.now.phase done.now }
     {
         match &self.phase {
-            Phase::Querying {
-                query,
-                staple: None,
-            } => done.turn == self.turn && done.query == *query,
+            Phase::Querying { query, .. } => done.turn == self.turn && done.query == *query,
             _ => false,
         }
     }
@@ -358,8 +398,13 @@ impl Coordinator {
     ) -> Result<Reaction, NoMemory>
         ensures { IfOk result (λ reaction. Gives (row.on_tell self.old self.old.phase sent tell.now) self.new reaction) }
     {
-        if tell.turn != self.turn || !asks_first(&self.phase) {
-            return Ok(nothing(alloc));
+        if tell.turn != self.turn {
+            return Ok(ignored(alloc));
+        }
+        match &self.phase {
+            Phase::Asking { round } if round.aim.is_none() => {}
+            Phase::Asking { .. } => return Ok(unbuilt(alloc)),
+            _ => return Ok(ignored(alloc)),
         }
         let staple = Staple {
             place: sent,
@@ -370,7 +415,7 @@ impl Coordinator {
             Phase::Asking { round } => self.prepares(alloc, round, staple),
             other => {
                 self.phase = other;
-                Ok(nothing(alloc))
+                Ok(ignored(alloc))
             }
         }
     }
@@ -401,19 +446,19 @@ impl Coordinator {
         ensures { IfOk result (λ reaction. Gives (row.on_vote self.old self.old.phase from reply.now) self.new reaction) }
     {
         let Actor::Server(server) = from else {
-            return Ok(nothing(alloc));
-        };
-        let Vote::Yes(verdicts) = &reply.vote else {
-            return Ok(nothing(alloc));
+            return Ok(ignored(alloc));
         };
         if reply.turn != self.turn || !awaits_vote(&self.phase, server) {
-            return Ok(nothing(alloc));
+            return Ok(ignored(alloc));
         }
+        let Vote::Yes(verdicts) = &reply.vote else {
+            return Ok(unbuilt(alloc));
+        };
         match mem::replace(&mut self.phase, Phase::Idle) {
             Phase::Checking { round, staple } => self.voted(alloc, round, staple, server, verdicts),
             other => {
                 self.phase = other;
-                Ok(nothing(alloc))
+                Ok(ignored(alloc))
             }
         }
     }
@@ -436,7 +481,7 @@ impl Coordinator {
         }
         if !round.kept.is_empty() || !are_agreed(verdicts.as_slice()) {
             self.phase = Phase::Checking { round, staple };
-            return Ok(nothing(alloc));
+            return Ok(unbuilt(alloc));
         }
         self.commits(alloc, round.number, verdicts)
     }
@@ -491,7 +536,7 @@ impl Coordinator {
         ensures { IfOk result (λ reaction. Gives (row.on_ack self.old self.old.phase from) self.new reaction) }
     {
         let Actor::Server(server) = from else {
-            return Ok(nothing(alloc));
+            return Ok(ignored(alloc));
         };
         match mem::replace(&mut self.phase, Phase::Idle) {
             Phase::Ending { outcome, awaited } => {
@@ -501,7 +546,7 @@ impl Coordinator {
             }
             other => {
                 self.phase = other;
-                Ok(nothing(alloc))
+                Ok(ignored(alloc))
             }
         }
     }
@@ -535,18 +580,6 @@ fn is_from(from: Actor, asked: ServerId) -> bool
     }
 }
 
-fn plain_value(answer: &Answer) -> Option<i128>
-    ensures { result ≡ row.plain_value answer.now }
-{
-    match answer {
-        Answer::Ran {
-            value,
-            verdict: None,
-        } => Some(*value),
-        _ => None,
-    }
-}
-
 fn is_ending(phase: &Phase) -> bool
     ensures { result ≡ row.is_ending phase.now }
 {
@@ -559,12 +592,16 @@ fn is_ending(phase: &Phase) -> bool
     }
 }
 
-fn asks_first(phase: &Phase) -> bool
-    ensures { result ≡ row.asks_first phase.now }
+/// Whether no query that was asked with a staple is awaited.
+fn is_plain(phase: &Phase) -> bool
+    ensures { result ≡ row.is_plain phase.now }
 {
     match phase {
-        Phase::Asking { round } => round.aim.is_none(),
-        _ => false,
+        Phase::Querying {
+            staple: Some(_),
+            ..
+        } => false,
+        _ => true,
     }
 }
 

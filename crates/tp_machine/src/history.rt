@@ -1,6 +1,6 @@
 //! What the world keeps of its run: the steps, the facts, and every mail with whether it is undelivered.
 ghost use Rattle.std.specs.Prelude.{◌≡◌, ◌+◌, ◌≤◌, ◌<◌, ℕ, [], ◌∷◌, ◌++◌, length, take, drop, replicate, slice_get, slice_set, ◌==◌, true, false, IfOk, IfSome, OnOk, OnErr};
-ghost use Rattle.tp_machine.specs.Flags.{first_marked, marked};
+ghost use Rattle.tp_machine.specs.mirrors.Flags.{first_marked, marked};
 ghost use Rattle.std.specs.List.{list_any};
 ghost use Rattle.tp_machine.specs.Machine.{noted, posted};
 
@@ -22,7 +22,7 @@ pub struct History {
 }
 
 impl History {
-    ghost use Rattle.tp_machine.specs.History.{Notes, SameHistory};
+    ghost use Rattle.tp_machine.specs.mirrors.History.{Notes, SameHistory};
 
     /// Before the first step.
     pub fn new(alloc: Global) -> History

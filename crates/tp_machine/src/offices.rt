@@ -4,9 +4,10 @@ ghost use Rattle.tp_types.specs.Effect.{Gives};
 ghost use Rattle.tp_machine.specs.offices.Authority as office;
 
 use std::alloc::Global;
+use std::marker::Model;
 use tp_types::{
     Actor, AskRequest, Body, CredId, Letter, List, Mail, NoMemory, Reaction, Scenario, TellReply,
-    TryClone, nothing, sent_alone,
+    TryClone, ignored, sent_alone,
 };
 
 /// The authority's state. It never crashes.
@@ -15,6 +16,14 @@ pub struct Authority {
     pub clock: u64,
     /// The credentials revoked so far, in order of number.
     pub revoked: List<CredId>,
+}
+
+impl Model for Authority {
+    ghost use Rattle.tp_machine.specs.offices.State as state;
+
+    ghost Value = { state.Authority };
+
+    ghost view = { λ a. record { clock = a.clock; revoked = a.revoked } };
 }
 
 impl Authority {
@@ -34,7 +43,7 @@ impl Authority {
     {
         match &mail.letter.body {
             Body::Ask(request) => self.tells(alloc, *request),
-            _ => Ok(nothing(alloc)),
+            _ => Ok(ignored(alloc)),
         }
     }
 

@@ -1,12 +1,13 @@
 //! An actor with its log, and what it does to both when it acts.
 ghost use Rattle.std.specs.Prelude.{◌≡◌, [], ◌++◌, IfOk, OnOk};
-ghost use Rattle.std.specs.Option.{option_map_or};
-ghost use Rattle.tp_machine.specs.Acts.{Acts};
+ghost use Rattle.std.specs.Option.{option_copied, option_map_or};
+ghost use Rattle.tp_machine.specs.mirrors.Acts.{Acts};
 ghost use Rattle.tp_machine.specs.Machine as machine;
 
 use crate::coord::Coordinator;
 use crate::server::Server;
 use std::alloc::Global;
+use std::marker::Model;
 use tp_types::{
     Letter, List, Mail, NoMemory, Place, Reaction, Record, Scenario, ServerId, TryClone, TxnId,
     What,
@@ -15,8 +16,42 @@ use tp_types::{
 /// An actor's state, which is None while it is down, and the records of its write-ahead log.
 #[derive(Drop)]
 pub struct Part<S> {
-    pub up: Option<S>,
-    pub log: List<Record>,
+    up: Option<S>,
+    log: List<Record>,
+}
+
+impl<S> Model for Part<S> {
+    ghost use Rattle.tp_machine.specs.Parts as parts;
+
+    ghost Value = { parts.Part S };
+
+    ghost view = { λ p. record { up = p.up; log = p.log } };
+}
+
+impl<S> Part<S> {
+    /// An actor that is up, and has logged nothing.
+    pub fn opened(alloc: Global, state: S) -> Part<S>
+        ensures { result ≡ machine.opened_part state }
+    {
+        Part {
+            up: Some(state),
+            log: List::new(alloc),
+        }
+    }
+
+    /// Whether the actor is down.
+    pub fn is_down(&self) -> bool
+        ensures { result ≡ machine.is_part_down self.now }
+    {
+        self.up.is_none()
+    }
+
+    /// The actor's state, while it is up.
+    pub fn state(&self) -> Option<&S>
+        ensures { option_copied result ≡ self.now.up }
+    {
+        self.up.as_ref()
+    }
 }
 
 /// What an actor's act leaves for the history: what happened, and what it sends.

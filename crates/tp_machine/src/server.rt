@@ -1,9 +1,9 @@
 //! A server: what it does on receipt of a mail.
-ghost use Rattle.std.specs.Prelude.{◌≡◌, Option, Some, None, [], ◌∷◌, map, slice_get, slice_set, IfOk};
-ghost use Rattle.std.specs.List.{list_all};
+ghost use Rattle.std.specs.Prelude.{◌≡◌, ◌==◌, Option, Some, None, [], ◌∷◌, map, slice_get, slice_set, IfOk};
+ghost use Rattle.std.specs.List.{list_any};
 ghost use Rattle.std.specs.Option.{option_copied};
+ghost use Rattle.tp_model.specs.Words.{DoneReply, Item};
 ghost use Rattle.tp_types.specs.declared.records.Outcome.TheVariants as Outcome;
-ghost use Rattle.tp_types.specs.declared.scenario.Item.{Item};
 ghost use Rattle.tp_machine.specs.declared.server.Entry.{Entry};
 ghost use Rattle.tp_types.specs.Effect.{Gives};
 ghost use Rattle.tp_types.specs.Table.{flattened};
@@ -11,12 +11,13 @@ ghost use Rattle.tp_machine.specs.server.Row as row;
 ghost use Rattle.tp_machine.specs.server.Opened as opened;
 
 use std::alloc::Global;
+use std::marker::Model;
 use tp_model::{item_of, query_at};
 use tp_types::{
     AckReply, Action, Actor, AdminId, Answer, Body, DecideRequest, Deed, DoneReply, Item, ItemId,
     Letter, List, Mail, NoMemory, Outcome, Place, PrepareRequest, Prepared, QueryRequest, Reaction,
     Record, Scenario, ServerId, Settled, Staple, TryClone, TxnId, Verdict, Version, Vote,
-    VoteReply, forced_and_sent, none_for_each, nothing, sent_alone, taken,
+    VoteReply, forced_and_sent, ignored, none_for_each, sent_alone, taken, unbuilt,
 };
 
 /// What a server voted YES on: the turn of the request, and its verdicts.
@@ -58,6 +59,21 @@ pub struct Server {
     pub entries: List<Option<Entry>>,
 }
 
+impl Model for Server {
+    ghost use Rattle.tp_machine.specs.server.State as state;
+
+    ghost Value = { state.Server };
+
+    ghost view = { λ s. record {
+      server = s.server;
+      epoch = s.epoch;
+      known = s.known;
+      values = s.values;
+      settled = s.settled;
+      entries = s.entries;
+    } };
+}
+
 impl Server {
     /// A server as it stands before the first step.
     pub fn opened(alloc: Global, scenario: &Scenario, server: ServerId) -> Result<Server, NoMemory>
@@ -86,8 +102,16 @@ impl Server {
             Body::Query(request) => self.on_query(alloc, scenario, mail.sent, request),
             Body::Prepare(request) => self.on_prepare(alloc, scenario, request),
             Body::Decide(request) => self.on_decide(alloc, *request),
-            _ => Ok(nothing(alloc)),
+            Body::Validate(_) | Body::Push(_) => Ok(unbuilt(alloc)),
+            _ => Ok(ignored(alloc)),
         }
+    }
+
+    /// The value of an item of the scenario; None where there is no such item.
+    pub fn value(&self, item: usize) -> Option<i128>
+        ensures { result ≡ slice_get self.now.values item }
+    {
+        self.values.get(item).copied()
     }
 
     fn is_open(&self, txn: TxnId) -> bool
@@ -127,14 +151,17 @@ impl Server {
     ) -> Result<Reaction, NoMemory>
         ensures { IfOk result (λ reaction. Gives (row.on_query scenario.now self.old sent request.now) self.new reaction) }
     {
-        if !self.is_open(request.txn)
-            || self.entry_at(request.txn).is_some()
-            || request.epoch.is_some()
-        {
-            return Ok(nothing(alloc));
+        if !self.is_open(request.txn) {
+            return Ok(ignored(alloc));
+        }
+        if let Some(entry) = self.entry_at(request.txn) {
+            return Ok(asked_again(alloc, entry, request));
+        }
+        if request.epoch.is_some() {
+            return Ok(unbuilt(alloc));
         }
         match plain_write(request, asked_item(scenario, request)) {
-            None => Ok(nothing(alloc)),
+            None => Ok(unbuilt(alloc)),
             Some(deed) => self.begins(alloc, sent, request, deed),
         }
     }
@@ -170,20 +197,23 @@ impl Server {
         ensures { IfOk result (λ reaction. Gives (row.on_prepare scenario.now self.old request.now) self.new reaction) }
     {
         if !self.is_open(request.txn) {
-            return Ok(nothing(alloc));
+            return Ok(unbuilt(alloc));
         }
-        let Some(staple) = &request.staple else {
-            return Ok(nothing(alloc));
+        let Some(entry) = self.entry_at(request.txn) else {
+            return Ok(unbuilt(alloc));
         };
-        match self.entry_at(request.txn) {
-            None => Ok(nothing(alloc)),
-            Some(entry) => {
-                if !may_prepare(scenario, request, entry) {
-                    return Ok(nothing(alloc));
-                }
+        if entry.epoch != request.epoch
+            || entry.ballot.is_some()
+            || !are_in_range(scenario, entry.deeds.as_slice())
+        {
+            return Ok(unbuilt(alloc));
+        }
+        match &request.staple {
+            Some(staple) if request.want.is_empty() => {
                 let forced = self.prepared(alloc, scenario, request, staple.place, entry)?;
                 self.votes(alloc, forced)
             }
+            _ => Ok(unbuilt(alloc)),
         }
     }
 
@@ -270,7 +300,7 @@ impl Server {
         ensures { IfOk result (λ reaction. Gives (row.on_decide self.old request) self.new reaction) }
     {
         if !self.is_open(request.txn) {
-            return Ok(nothing(alloc));
+            return Ok(unbuilt(alloc));
         }
         let at = request.txn.0 as usize;
         if let Outcome::Commit = request.outcome {
@@ -297,6 +327,43 @@ impl Server {
     }
 }
 
+/// A query of a transaction that has an entry.
+fn asked_again(alloc: Global, entry: &Entry, request: &QueryRequest) -> Reaction
+    ensures { result ≡ record { append = None; letters = [] } }
+{
+    if entry.ballot.is_some() {
+        return ignored(alloc);
+    }
+    if names_another_epoch(entry, request) || has_answered(entry, request.query) {
+        return unbuilt(alloc);
+    }
+    if entry.waiting.is_some() {
+        return ignored(alloc);
+    }
+    unbuilt(alloc)
+}
+
+/// Whether the request names an epoch, and the entry was made in another.
+fn names_another_epoch(entry: &Entry, request: &QueryRequest) -> bool
+    ensures { result ≡ row.names_another_epoch request.now entry.now }
+{
+    match request.epoch {
+        None => false,
+        Some(epoch) => epoch != entry.epoch,
+    }
+}
+
+/// Whether a query of this number was answered.
+fn has_answered(entry: &Entry, number: u32) -> bool
+    ensures { result ≡ list_any (λ (given : DoneReply). given.query == number) entry.now.answers }
+{
+    entry
+        .answers
+        .as_slice()
+        .iter()
+        .any(|given| given.query == number)
+}
+
 fn apply_deeds(values: &mut List<i128>, deeds: &[Deed])
     ensures { values.new ≡ row.applied values.old deeds.now }
 {
@@ -314,7 +381,7 @@ fn apply_deed(values: &mut List<i128>, deed: Deed)
 }
 
 /// Casts a vote at the entry that stands there.
-#[tactic(auto, using(crate::proofs::TableLemmas::set_twice))]
+#[tactic(auto, using(crate::proofs::basics::Tables::set_twice))]
 fn cast(entries: &mut List<Option<Entry>>, at: usize, ballot: Ballot)
     ensures { (entry : Entry) → flattened (slice_get entries.old at) ≡ Some entry
         → entries.new ≡ slice_set entries.old at (Some (record entry { ballot = Some ballot })) }
@@ -381,18 +448,9 @@ fn is_in_range(scenario: &Scenario, deed: &Deed) -> bool
 }
 
 fn are_in_range(scenario: &Scenario, deeds: &[Deed]) -> bool
-    ensures { result ≡ list_all (row.is_in_range scenario.now) deeds.now }
+    ensures { result ≡ row.are_in_range scenario.now deeds.now }
 {
     deeds.iter().all(|deed| is_in_range(scenario, deed))
-}
-
-fn may_prepare(scenario: &Scenario, request: &PrepareRequest, entry: &Entry) -> bool
-    ensures { result ≡ row.may_prepare scenario.now request.now entry.now }
-{
-    entry.epoch == request.epoch
-        && entry.ballot.is_none()
-        && are_in_range(scenario, entry.deeds.as_slice())
-        && request.want.is_empty()
 }
 
 fn known_at_first(

@@ -1,11 +1,9 @@
 -- A coordinator before its transaction is submitted.
 use Rattle.std.specs.Prelude.{List, [], length, replicate, slice_get, None}
 use Rattle.std.specs.Option.{option_map_or}
-use Rattle.tp_types.specs.declared.ids.ServerId.{ServerId}
-use Rattle.tp_types.specs.declared.ids.TxnId.{TxnId}
-use Rattle.tp_types.specs.declared.scenario.Scenario.{Scenario}
+use Rattle.tp_model.specs.Words.{Scenario, ServerId, TxnId}
 use Rattle.tp_model.specs.Queries.{servers_of}
-use Rattle.tp_machine.specs.declared.coord.Coordinator.{Coordinator}
+use Rattle.tp_machine.specs.coord.State.{Coordinator}
 use Rattle.tp_machine.specs.declared.coord.Phase.TheVariants.{Idle}
 
 -- the servers of a transaction of the scenario

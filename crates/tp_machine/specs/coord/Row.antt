@@ -1,44 +1,24 @@
 -- A coordinator's rows: what it does when its transaction is submitted, and on receipt of a mail. A reply is used only in
 -- the phase that awaits it, with the present turn, and once from each server; otherwise nothing happens.
-use Rattle.std.specs.Prelude.{ℕ, ◌+◌, ◌-◌, ◌^◌, ◌==◌, ◌&&◌, nat_lt, min, List, [], ◌∷◌, ◌++◌, map, filter, slice_get, slice_set, Bool, true, false, not, Option, Some, None, is_some, is_none, option_map, option_and_then, unwrap_or, ℤ, if◌then◌else◌}
-use Rattle.std.specs.List.{list_any, list_all}
-use Rattle.tp_types.specs.declared.ids.ServerId.{ServerId}
-use Rattle.tp_types.specs.declared.ids.ItemId.{ItemId}
-use Rattle.tp_types.specs.declared.policy.Action.TheVariants as action
-use Rattle.tp_types.specs.declared.scenario.Actor.{Actor}
-use Rattle.tp_types.specs.declared.scenario.Actor.TheVariants as actor
-use Rattle.tp_types.specs.declared.scenario.Item.{Item}
-use Rattle.tp_types.specs.declared.scenario.Query.{Query}
-use Rattle.tp_types.specs.declared.scenario.Scenario.{Scenario}
-use Rattle.tp_types.specs.declared.scenario.Transaction.{Transaction}
-use Rattle.tp_types.specs.declared.records.CommitRecord.{CommitRecord}
-use Rattle.tp_types.specs.declared.records.Decision.TheVariants as decision
-use Rattle.tp_types.specs.declared.records.Deed.{Deed}
-use Rattle.tp_types.specs.declared.records.Instance.{Instance}
-use Rattle.tp_types.specs.declared.records.Outcome.{Outcome}
-use Rattle.tp_types.specs.declared.records.Outcome.TheVariants.{Commit}
-use Rattle.tp_types.specs.declared.records.Record.TheVariants as log
-use Rattle.tp_types.specs.declared.records.Staple.{Staple}
-use Rattle.tp_types.specs.declared.records.Verdict.{Verdict}
-use Rattle.tp_types.specs.declared.mail.Answer.{Answer}
-use Rattle.tp_types.specs.declared.mail.Answer.TheVariants as answer
-use Rattle.tp_types.specs.declared.mail.Body.{Body}
-use Rattle.tp_types.specs.declared.mail.Body.TheVariants as body
-use Rattle.tp_types.specs.declared.mail.DoneReply.{DoneReply}
-use Rattle.tp_types.specs.declared.mail.Letter.{Letter}
-use Rattle.tp_types.specs.declared.mail.Mail.{Mail}
-use Rattle.tp_types.specs.declared.mail.TellReply.{TellReply}
-use Rattle.tp_types.specs.declared.mail.Vote.{Vote}
-use Rattle.tp_types.specs.declared.mail.Vote.TheVariants as vote
-use Rattle.tp_types.specs.declared.mail.VoteReply.{VoteReply}
-use Rattle.tp_model.specs.Stage.{is_empty}
-use Rattle.tp_model.specs.Queries.{item_of, query_at, written_constant}
-use Rattle.tp_machine.specs.declared.coord.Coordinator.{Coordinator}
-use Rattle.tp_machine.specs.declared.coord.Phase.{Phase}
-use Rattle.tp_machine.specs.declared.coord.Phase.TheVariants as phase
-use Rattle.tp_machine.specs.declared.coord.Round.{Round}
-use Rattle.tp_types.specs.Effect.{Effect, silent, sends, logs}
+use Rattle.std.specs.List.{list_all, list_any}
+use Rattle.std.specs.Prelude.{Bool, List, None, Option, Some, [], false, filter, if◌then◌else◌, is_none, is_some, map, min, nat_lt, not, option_and_then, option_map, slice_get, slice_set, true, unwrap_or, ℕ, ℤ, ◌&&◌, ◌++◌, ◌+◌, ◌-◌, ◌==◌, ◌^◌, ◌∷◌}
+use Rattle.tp_types.specs.Effect.{Effect, ignores, logs, sends, unbuilt}
 use Rattle.tp_types.specs.Table.{flattened}
+use Rattle.tp_model.specs.Words.{Actor, Answer, Body, CommitRecord, Deed, DoneReply, Instance, Item, ItemId, Letter, Mail, Outcome, Query, Scenario, ServerId, Staple, TellReply, Transaction, Verdict, Vote, VoteReply}
+use Rattle.tp_model.specs.Words.action
+use Rattle.tp_model.specs.Words.actor
+use Rattle.tp_model.specs.Words.answer
+use Rattle.tp_model.specs.Words.body
+use Rattle.tp_model.specs.Words.decision
+use Rattle.tp_model.specs.Words.log
+use Rattle.tp_model.specs.Words.vote
+use Rattle.tp_types.specs.declared.records.Outcome.TheVariants.{Commit}
+use Rattle.tp_model.specs.Queries.{item_of, query_at, written_constant}
+use Rattle.tp_model.specs.Stage.{is_empty}
+use Rattle.tp_machine.specs.coord.State.{Coordinator}
+use Rattle.tp_machine.specs.declared.coord.Phase.TheVariants as phase
+use Rattle.tp_machine.specs.declared.coord.Phase.{Phase}
+use Rattle.tp_machine.specs.declared.coord.Round.{Round}
 
 -- the turn of the next request; at the greatest number it stays
 abbrev pub next_turn : Coordinator → ℕ
@@ -65,16 +45,16 @@ server_of sc query = server_at sc (item_of query)
 
 -- ---- Submit
 
--- the first query is a write of a constant: it is sent to its server. Its age is the place where it is sent
+-- the first query, a write of a constant, is sent to its server. Its age is the place where it is sent. Other first queries are not built
 abbrev pub sends_first : Coordinator → Option ServerId → Option ℤ → Effect Coordinator
 sends_first c (Some server) (Some value) =
     sends (record c { turn = next_turn c; phase = phase.Querying 1 None })
     (request c server
     (body.Query (record { txn = c.txn; turn = next_turn c; query = 1; age = None; epoch = None; value = Some value; staple = None; pin = None })) ∷ [])
-sends_first c _ _ = silent c
+sends_first c _ _ = unbuilt c
 
 abbrev pub begins : Scenario → Coordinator → Option Query → Effect Coordinator
-begins sc c None = silent c
+begins sc c None = ignores c
 begins sc c (Some query) = sends_first c (server_of sc query) (written_constant query)
 
 -- what the submission of the transaction does
@@ -108,33 +88,39 @@ abbrev pub ran : Coordinator → ServerId → DoneReply → Query → ℤ → Co
 ran c server done query value =
     record c { epochs = slice_set c.epochs server.0 (Some done.epoch); deeds = c.deeds ++ deed_of done.query query value ∷ [] }
 
--- the value of an answer that the query ran, without a verdict. Other answers are not built
-abbrev pub plain_value : Answer → Option ℤ
-plain_value (answer.Ran value None) = Some value
-plain_value _ = None
-
--- the query is a write of a constant and the last one; reads and further queries are not built
+-- the query is a write of a constant and the last one
 abbrev pub is_last_write : Scenario → Coordinator → Query → ℕ → Bool
 is_last_write sc c query number = is_some (written_constant query) && nat_lt number (2 ^ 32 - 1) && is_none (query_of sc c (number + 1))
 
+-- by the answer. A read, a further query, and an answer that ends the transaction are not built
+abbrev pub answered : Scenario → Coordinator → ServerId → DoneReply → Query → Answer → Effect Coordinator
+answered sc c server done query (answer.Ran value None) = if is_last_write sc c query done.query then asks (ran c server done query value) else unbuilt c
+answered sc c server done query _ = unbuilt c
+
 -- the reply to a query, from the server that was asked
-abbrev pub answered : Scenario → Coordinator → Actor → DoneReply → Query → Option ServerId → Option ℤ → Effect Coordinator
-answered sc c from done query (Some server) (Some value) =
-    if is_from from server && is_last_write sc c query done.query then asks (ran c server done query value) else silent c
-answered sc c from done query _ _ = silent c
+abbrev pub replied_by : Scenario → Coordinator → Actor → DoneReply → Query → Option ServerId → Effect Coordinator
+replied_by sc c from done query None = ignores c
+replied_by sc c from done query (Some server) = if is_from from server then answered sc c server done query done.answer else ignores c
 
 abbrev pub done_of : Scenario → Coordinator → Actor → DoneReply → Option Query → Effect Coordinator
-done_of sc c from done None = silent c
-done_of sc c from done (Some query) = answered sc c from done query (server_of sc query) (plain_value done.answer)
+done_of sc c from done None = ignores c
+done_of sc c from done (Some query) = replied_by sc c from done query (server_of sc query)
 
--- the query that is awaited, in the present turn; one with a staple is not built
+-- the query that is awaited, in the present turn
 abbrev pub awaits_query : Coordinator → Phase → DoneReply → Bool
-awaits_query c (phase.Querying number None) done = (done.turn == c.turn) && (done.query == number)
+awaits_query c (phase.Querying number staple) done = (done.turn == c.turn) && (done.query == number)
 awaits_query c _ done = false
+
+-- a query that was asked with a staple is not built
+abbrev pub is_plain : Phase → Bool
+is_plain (phase.Querying number (Some staple)) = false
+is_plain _ = true
 
 abbrev pub on_done : Scenario → Coordinator → Phase → Actor → DoneReply → Effect Coordinator
 on_done sc c awaited from done =
-    if awaits_query c awaited done then done_of sc c from done (query_of sc c done.query) else silent c
+    if awaits_query c awaited done
+    then (if is_plain awaited then done_of sc c from done (query_of sc c done.query) else unbuilt c)
+    else ignores c
 
 -- ---- Tell
 
@@ -154,18 +140,13 @@ abbrev pub prepares : Coordinator → Round → Staple → Effect Coordinator
 prepares c round staple =
     sends (record c { turn = next_turn c; phase = phase.Checking round staple }) (map (prepare_letter c staple) round.awaited)
 
--- the authority was asked before a first round; a later round is not built
-abbrev pub asks_first : Phase → Bool
-asks_first (phase.Asking round) = is_none round.aim
-asks_first _ = false
-
+-- the authority was asked before a round; a round that is not the first is not built
 abbrev pub told : Coordinator → Phase → Staple → Effect Coordinator
-told c (phase.Asking round) staple = prepares c round staple
-told c _ staple = silent c
+told c (phase.Asking round) staple = if is_none round.aim then prepares c round staple else unbuilt c
+told c _ staple = ignores c
 
 abbrev pub on_tell : Coordinator → Phase → ℕ → TellReply → Effect Coordinator
-on_tell c awaited sent tell =
-    if (tell.turn == c.turn) && asks_first awaited then told c awaited (staple_of tell sent) else silent c
+on_tell c awaited sent tell = if tell.turn == c.turn then told c awaited (staple_of tell sent) else ignores c
 
 -- ---- Vote
 
@@ -210,17 +191,17 @@ commits c rounds proofs =
 -- a round in which all have replied is judged. One server's proofs that agree commit; proofs of several servers, a false one
 -- and differing versions are not built
 abbrev pub judged : Coordinator → Round → List Verdict → Effect Coordinator
-judged c round verdicts = if is_empty round.kept && are_agreed verdicts then commits c round.number verdicts else silent c
+judged c round verdicts = if is_empty round.kept && are_agreed verdicts then commits c round.number verdicts else unbuilt c
 
 abbrev pub replied : Coordinator → Round → Staple → ServerId → List Verdict → List ServerId → Effect Coordinator
 replied c round staple server verdicts [] = judged c round verdicts
 replied c round staple server verdicts (other ∷ others) =
     sends (record c { phase = phase.Checking (with_reply round server verdicts) staple }) []
 
--- a vote NO is not built
+-- a NO ends the transaction, which is not built
 abbrev pub voted : Coordinator → Round → Staple → ServerId → Vote → Effect Coordinator
 voted c round staple server (vote.Yes verdicts) = replied c round staple server verdicts (without round.awaited server)
-voted c round staple server (vote.No why) = silent c
+voted c round staple server (vote.No why) = unbuilt c
 
 -- the vote of this server is awaited
 abbrev pub awaits_vote : Phase → ServerId → Bool
@@ -229,32 +210,34 @@ awaits_vote _ server = false
 
 abbrev pub vote_at : Coordinator → Phase → ServerId → Vote → Effect Coordinator
 vote_at c (phase.Checking round staple) server said = voted c round staple server said
-vote_at c _ server said = silent c
+vote_at c _ server said = ignores c
 
 abbrev pub on_vote : Coordinator → Phase → Actor → VoteReply → Effect Coordinator
 on_vote c awaited (actor.Server server) reply =
-    if (reply.turn == c.turn) && awaits_vote awaited server then vote_at c awaited server reply.vote else silent c
-on_vote c awaited _ reply = silent c
+    if (reply.turn == c.turn) && awaits_vote awaited server then vote_at c awaited server reply.vote else ignores c
+on_vote c awaited _ reply = ignores c
 
 -- ---- Ack
 
 abbrev pub ack_from : Coordinator → Outcome → List ServerId → Actor → Effect Coordinator
 ack_from c outcome awaited (actor.Server server) = sends (record c { phase = phase.Ending outcome (without awaited server) }) []
-ack_from c outcome awaited _ = silent c
+ack_from c outcome awaited _ = ignores c
 
 abbrev pub on_ack : Coordinator → Phase → Actor → Effect Coordinator
 on_ack c (phase.Ending outcome awaited) from = ack_from c outcome awaited from
-on_ack c _ from = silent c
+on_ack c _ from = ignores c
 
 -- ---- all mails
 
--- Verdicts, Newest and Inquire are not built
 abbrev pub on_body : Scenario → Coordinator → ℕ → Actor → Body → Effect Coordinator
 on_body sc c sent from (body.Done done) = on_done sc c c.phase from done
 on_body sc c sent from (body.Tell tell) = on_tell c c.phase sent tell
 on_body sc c sent from (body.Vote reply) = on_vote c c.phase from reply
 on_body sc c sent from (body.Ack ack) = on_ack c c.phase from
-on_body sc c sent from _ = silent c
+on_body sc c sent from (body.Verdicts reply) = unbuilt c
+on_body sc c sent from (body.Newest reply) = unbuilt c
+on_body sc c sent from (body.Inquire inquiry) = unbuilt c
+on_body sc c sent from _ = ignores c
 
 abbrev pub coordinator_row : Scenario → Coordinator → Mail → Effect Coordinator
 coordinator_row sc c mail = on_body sc c mail.sent mail.letter.from mail.letter.body

@@ -1,13 +1,10 @@
 -- The authority's row.
 use Rattle.std.specs.Prelude.{[], ◌∷◌}
-use Rattle.tp_types.specs.declared.mail.AskRequest.{AskRequest}
-use Rattle.tp_types.specs.declared.mail.Body.{Body}
-use Rattle.tp_types.specs.declared.mail.Body.TheVariants as body
-use Rattle.tp_types.specs.declared.mail.Mail.{Mail}
-use Rattle.tp_types.specs.declared.scenario.Actor.TheVariants as actor
-use Rattle.tp_types.specs.declared.scenario.Scenario.{Scenario}
-use Rattle.tp_machine.specs.declared.offices.Authority.{Authority}
-use Rattle.tp_types.specs.Effect.{Effect, silent, sends}
+use Rattle.tp_model.specs.Words.{AskRequest, Body, Mail, Scenario}
+use Rattle.tp_model.specs.Words.actor
+use Rattle.tp_model.specs.Words.body
+use Rattle.tp_machine.specs.offices.State.{Authority}
+use Rattle.tp_types.specs.Effect.{Effect, ignores, sends}
 
 -- the authority as it stands before the first step
 abbrev pub opened : Scenario → Authority
@@ -25,7 +22,7 @@ tells authority ask =
 
 abbrev pub on_body : Authority → Body → Effect Authority
 on_body authority (body.Ask ask) = tells authority ask
-on_body authority _ = silent authority
+on_body authority _ = ignores authority
 
 abbrev pub authority_row : Authority → Mail → Effect Authority
 authority_row authority mail = on_body authority mail.letter.body

@@ -1,12 +1,8 @@
 -- A server as it stands before the first step.
 use Rattle.std.specs.Prelude.{List, [], length, map, replicate, slice_get, None}
 use Rattle.std.specs.Option.{option_map_or}
-use Rattle.tp_types.specs.declared.ids.ServerId.{ServerId}
-use Rattle.tp_types.specs.declared.ids.Version.{Version}
-use Rattle.tp_types.specs.declared.scenario.Item.{Item}
-use Rattle.tp_types.specs.declared.scenario.Scenario.{Scenario}
-use Rattle.tp_types.specs.declared.scenario.ServerDecl.{ServerDecl}
-use Rattle.tp_machine.specs.declared.server.Server.{Server}
+use Rattle.tp_model.specs.Words.{Item, Scenario, ServerDecl, ServerId, Version}
+use Rattle.tp_machine.specs.server.State.{Server}
 
 -- the versions that the scenario says the server knows
 abbrev pub known_at_first : Scenario → ServerId → List Version

@@ -1,41 +1,24 @@
 -- A server's row: what it does on receipt of a mail. The first case that fits is done.
-use Rattle.std.specs.Prelude.{ℕ, ◌==◌, ◌&&◌, List, [], ◌∷◌, map, slice_get, slice_set, Bool, true, false, Option, Some, None, is_none, option_map, option_and_then, unwrap_or, ℤ, if◌then◌else◌}
-use Rattle.std.specs.List.{list_all}
-use Rattle.tp_types.specs.declared.ids.AdminId.{AdminId}
-use Rattle.tp_types.specs.declared.ids.ItemId.{ItemId}
-use Rattle.tp_types.specs.declared.ids.TxnId.{TxnId}
-use Rattle.tp_types.specs.declared.ids.Version.{Version}
-use Rattle.tp_types.specs.declared.policy.Action.TheVariants as action
-use Rattle.tp_types.specs.declared.scenario.Actor.TheVariants as actor
-use Rattle.tp_types.specs.declared.scenario.Scenario.{Scenario}
-use Rattle.tp_types.specs.declared.scenario.Item.{Item}
-use Rattle.tp_types.specs.declared.scenario.Transaction.{Transaction}
-use Rattle.tp_types.specs.declared.records.Deed.{Deed}
-use Rattle.tp_types.specs.declared.records.Outcome.{Outcome}
+use Rattle.std.specs.List.{list_all, list_any}
+use Rattle.std.specs.Option.{option_map_or}
+use Rattle.std.specs.Prelude.{Bool, List, None, Option, Some, [], false, if◌then◌else◌, is_none, map, option_and_then, option_map, slice_get, slice_set, true, unwrap_or, ℕ, ℤ, ◌&&◌, ◌==◌, ◌∷◌}
+use Rattle.std.proofs.Common.{is_some, not}
+use Rattle.tp_types.specs.Effect.{Effect, ignores, logs, sends, unbuilt}
+use Rattle.tp_types.specs.Table.{flattened, is_unset}
+use Rattle.tp_model.specs.Words.{Action, AdminId, Body, DecideRequest, Deed, DoneReply, Item, ItemId, Letter, Mail, Outcome, PrepareRequest, Prepared, QueryRequest, Scenario, Settled, Staple, Transaction, TxnId, Verdict, Version}
+use Rattle.tp_model.specs.Words.action
+use Rattle.tp_model.specs.Words.actor
+use Rattle.tp_model.specs.Words.answer
+use Rattle.tp_model.specs.Words.body
+use Rattle.tp_model.specs.Words.log
+use Rattle.tp_model.specs.Words.vote
 use Rattle.tp_types.specs.declared.records.Outcome.TheVariants.{Commit}
-use Rattle.tp_types.specs.declared.records.Prepared.{Prepared}
-use Rattle.tp_types.specs.declared.records.Record.TheVariants as log
-use Rattle.tp_types.specs.declared.records.Settled.{Settled}
-use Rattle.tp_types.specs.declared.records.Staple.{Staple}
-use Rattle.tp_types.specs.declared.records.Verdict.{Verdict}
-use Rattle.tp_types.specs.declared.mail.Answer.TheVariants as answer
-use Rattle.tp_types.specs.declared.mail.Body.{Body}
-use Rattle.tp_types.specs.declared.mail.Body.TheVariants as body
-use Rattle.tp_types.specs.declared.mail.DecideRequest.{DecideRequest}
-use Rattle.tp_types.specs.declared.mail.DoneReply.{DoneReply}
-use Rattle.tp_types.specs.declared.mail.Letter.{Letter}
-use Rattle.tp_types.specs.declared.mail.Mail.{Mail}
-use Rattle.tp_types.specs.declared.mail.PrepareRequest.{PrepareRequest}
-use Rattle.tp_types.specs.declared.mail.QueryRequest.{QueryRequest}
-use Rattle.tp_types.specs.declared.mail.Vote.TheVariants as vote
-use Rattle.tp_machine.specs.declared.server.Entry.{Entry}
-use Rattle.tp_machine.specs.declared.server.Server.{Server}
-use Rattle.tp_types.specs.declared.policy.Action.{Action}
-use Rattle.tp_model.specs.Stage.{is_empty}
 use Rattle.tp_model.specs.Limits.{is_between}
 use Rattle.tp_model.specs.Queries.{item_of, query_at}
-use Rattle.tp_types.specs.Table.{is_unset, flattened}
-use Rattle.tp_types.specs.Effect.{Effect, silent, sends, logs}
+use Rattle.tp_model.specs.Stage.{is_empty}
+use Rattle.tp_machine.specs.coord.Row.{told}
+use Rattle.tp_machine.specs.declared.server.Entry.{Entry}
+use Rattle.tp_machine.specs.server.State.{Server}
 
 -- a transaction of the scenario that the server has not settled
 abbrev pub is_open : Server → TxnId → Bool
@@ -80,20 +63,33 @@ abbrev pub first_entry : Server → ℕ → QueryRequest → Deed → Entry
 first_entry s sent q deed =
     record { age = age_of q sent; epoch = s.epoch; answers = done q s.epoch deed ∷ []; waiting = None; deeds = deed ∷ []; ballot = None }
 
--- a transaction without an entry: a first write makes one and is answered
+-- a first write makes the entry and is answered; a read, and what is asked with a staple or a pin, is not built
 abbrev pub begins : Server → ℕ → QueryRequest → Option Deed → Effect Server
-begins s sent q None = silent s
+begins s sent q None = unbuilt s
 begins s sent q (Some deed) =
     sends (with_entry s q.txn (Some (first_entry s sent q deed))) (reply s q.txn (body.Done (done q s.epoch deed)) ∷ [])
 
--- an epoch is given, so the entry was lost: not built. An entry that is prepared, has answered or waits does nothing, or
--- answers again; a further query is not built
+-- the request names an epoch, and the entry was made in another
+abbrev pub names_another_epoch : QueryRequest → Entry → Bool
+names_another_epoch q entry = option_map_or (λ (epoch : ℕ). not (epoch == entry.epoch)) q.epoch false
+
+-- the query was answered
+abbrev pub has_answered : Entry → QueryRequest → Bool
+has_answered entry q = list_any (λ (given : DoneReply). given.query == q.query) entry.answers
+
+-- a query of a transaction that is not settled. With an epoch that no entry has it is to be told that the server restarted; an answered one
+-- is to be answered again, and a further one is to run
 abbrev pub queried : Scenario → Server → ℕ → QueryRequest → Option Entry → Effect Server
-queried sc s sent q (Some entry) = silent s
-queried sc s sent q None = if is_none q.epoch then begins s sent q (plain_write q (asked_item sc q) q.value) else silent s
+queried sc s sent q None = if is_some q.epoch then unbuilt s else begins s sent q (plain_write q (asked_item sc q) q.value)
+queried sc s sent q (Some entry) =
+    if is_some entry.ballot then ignores s
+    else if names_another_epoch q entry then unbuilt s
+    else if has_answered entry q then unbuilt s
+    else if is_some entry.waiting then ignores s
+    else unbuilt s
 
 abbrev pub on_query : Scenario → Server → ℕ → QueryRequest → Effect Server
-on_query sc s sent q = if is_open s q.txn then queried sc s sent q (entry_at s q.txn) else silent s
+on_query sc s sent q = if is_open s q.txn then queried sc s sent q (entry_at s q.txn) else ignores s
 
 -- ---- Prepare
 
@@ -141,19 +137,28 @@ casts s forced entry =
 abbrev pub votes : Scenario → Server → PrepareRequest → ℕ → Entry → Effect Server
 votes sc s p place entry = casts s (prepared s p entry (map (verdict_on sc s place) entry.deeds)) entry
 
--- the entry may be prepared by the request: it is of that epoch, not prepared, and each deed is in its range; no version
--- is wanted. Otherwise the vote is NO or is repeated, which is not built
-abbrev pub may_prepare : Scenario → PrepareRequest → Entry → Bool
-may_prepare sc p entry = (entry.epoch == p.epoch) && is_none entry.ballot && list_all (is_in_range sc) entry.deeds && is_empty p.want
+-- each deed leaves its item in its range
+abbrev pub are_in_range : Scenario → List Deed → Bool
+are_in_range sc deeds = list_all (is_in_range sc) deeds
 
--- without a staple there are no verdicts: not built
-abbrev pub asked_to_vote : Scenario → Server → PrepareRequest → Option Staple → Option Entry → Effect Server
-asked_to_vote sc s p (Some staple) (Some entry) =
-    if may_prepare sc p entry then votes sc s p staple.place entry else silent s
-asked_to_vote sc s p _ _ = silent s
+-- with a staple each deed is evaluated and voted on; without one there are no verdicts, and wanted versions are to be learnt
+abbrev pub evaluates : Scenario → Server → PrepareRequest → Entry → Option Staple → Effect Server
+evaluates sc s p entry (Some staple) = if is_empty p.want then votes sc s p staple.place entry else unbuilt s
+evaluates sc s p entry None = unbuilt s
 
+-- a request to prepare a transaction that is not settled. Without an entry of that epoch it is to be refused, and so where a write is out of
+-- range; one that is prepared is to vote again
+abbrev pub asked_to_vote : Scenario → Server → PrepareRequest → Option Entry → Effect Server
+asked_to_vote sc s p None = unbuilt s
+asked_to_vote sc s p (Some entry) =
+    if not (entry.epoch == p.epoch) then unbuilt s
+    else if is_some entry.ballot then unbuilt s
+    else if are_in_range sc entry.deeds then evaluates sc s p entry p.staple
+    else unbuilt s
+
+-- of one that is settled a vote NO is to be given again
 abbrev pub on_prepare : Scenario → Server → PrepareRequest → Effect Server
-on_prepare sc s p = if is_open s p.txn then asked_to_vote sc s p p.staple (entry_at s p.txn) else silent s
+on_prepare sc s p = if is_open s p.txn then asked_to_vote sc s p (entry_at s p.txn) else unbuilt s
 
 -- ---- Decide
 
@@ -187,18 +192,19 @@ settles s d =
     (log.Settled (settled_as d))
     (reply s d.txn (body.Ack (record { txn = d.txn })) ∷ [])
 
--- the Ack of a transaction that is settled already is not built
+-- of one that is settled the Ack is to be given again
 abbrev pub on_decide : Server → DecideRequest → Effect Server
-on_decide s d = if is_open s d.txn then settles s d else silent s
+on_decide s d = if is_open s d.txn then settles s d else unbuilt s
 
 -- ---- all mails
 
--- Validate and Push are not built
 abbrev pub on_body : Scenario → Server → ℕ → Body → Effect Server
 on_body sc s sent (body.Query q) = on_query sc s sent q
 on_body sc s sent (body.Prepare p) = on_prepare sc s p
 on_body sc s sent (body.Decide d) = on_decide s d
-on_body sc s sent _ = silent s
+on_body sc s sent (body.Validate v) = unbuilt s
+on_body sc s sent (body.Push push) = unbuilt s
+on_body sc s sent _ = ignores s
 
 abbrev pub server_row : Scenario → Server → Mail → Effect Server
 server_row sc s mail = on_body sc s mail.sent mail.letter.body

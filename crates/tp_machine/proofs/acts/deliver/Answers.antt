@@ -1,5 +1,5 @@
-use Rattle.tp_types.specs.declared.scenario.Step.TheVariants as step
-use Rattle.tp_machine.proofs.MachineLemmas.{machine_marked}
+use Rattle.tp_model.specs.Words.step
+use Rattle.tp_machine.proofs.basics.Machine.{machine_marked}
 use Rattle.tp_machine.proofs.acts.deliver.Goals as goal
 
 pub returns-clause-ok : goal.returns-clause-ok

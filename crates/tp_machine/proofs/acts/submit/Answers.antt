@@ -1,6 +1,6 @@
 use Rattle.std.proofs.lemmas.Result.{on_ok_weaker}
-use Rattle.tp_types.specs.declared.scenario.Step.TheVariants as step
-use Rattle.tp_machine.proofs.MachineLemmas.{machine_noted}
+use Rattle.tp_model.specs.Words.step
+use Rattle.tp_machine.proofs.basics.Machine.{machine_noted}
 use Rattle.tp_machine.proofs.acts.submit.Goals as goal
 
 pub returns-clause-ok : goal.returns-clause-ok

@@ -1,5 +1,5 @@
 use Rattle.std.proofs.Common.{◌∙◌}
-use Rattle.tp_machine.proofs.Runs.{agreed_after}
+use Rattle.tp_machine.proofs.walks.Runs.{agreed_after}
 use Rattle.tp_machine.proofs.agree.agreed.Goals as goal
 
 pub returns-clause-agreement : goal.returns-clause-agreement

@@ -1,5 +1,5 @@
 use Rattle.std.proofs.Common.{◌≡◌, ◌+◌, drop}
-use Rattle.tp_machine.specs.Flags.{first_marked}
+use Rattle.tp_machine.specs.mirrors.Flags.{first_marked}
 use Rattle.tp_machine.proofs.history.first_from.Given as goal
 
 -- no flag from the start up to here is set

@@ -1,4 +1,4 @@
-use Rattle.tp_machine.proofs.Runs.{always_trusted, has_all_commits}
+use Rattle.tp_machine.proofs.walks.Runs.{always_trusted, has_all_commits}
 use Rattle.tp_machine.proofs.laws.histories_are_trusted.Goals as goal
 
 pub returns-clause-trusted : goal.returns-clause-trusted

@@ -1,5 +1,5 @@
 use Rattle.std.proofs.Common.{◌∙◌}
-use Rattle.tp_machine.proofs.Runs.{lone_after, serial_after}
+use Rattle.tp_machine.proofs.walks.Runs.{lone_after, serial_after}
 use Rattle.tp_machine.proofs.serial.serial.Goals as goal
 
 pub returns-clause-data : goal.returns-clause-data

@@ -1,5 +1,5 @@
 use Rattle.std.proofs.Common.{◌≡◌, map, take}
-use Rattle.tp_types.specs.declared.scenario.Item.{Item}
+use Rattle.tp_model.specs.Words.{Item}
 use Rattle.tp_machine.proofs.server.opening_values.Given as goal
 
 -- the items so far have their values

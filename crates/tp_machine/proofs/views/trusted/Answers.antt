@@ -1,5 +1,5 @@
 use Rattle.std.proofs.Common.{◌∙◌}
-use Rattle.tp_machine.proofs.Runs.{caused_after, trusted_after}
+use Rattle.tp_machine.proofs.walks.Runs.{caused_after, trusted_after}
 use Rattle.tp_machine.proofs.views.trusted.Goals as goal
 
 pub returns-clause-trust : goal.returns-clause-trust

@@ -1,6 +1,6 @@
 use Rattle.std.proofs.Common.{◌≡◌, take, map}
-use Rattle.tp_types.specs.declared.ids.ServerId.{ServerId}
-use Rattle.tp_types.specs.declared.mail.Body.TheVariants as body
+use Rattle.tp_model.specs.Words.{ServerId}
+use Rattle.tp_model.specs.Words.body
 use Rattle.tp_machine.specs.coord.Row.{request}
 use Rattle.tp_machine.proofs.coord.Coordinator.decide_letters.Given as goal
 

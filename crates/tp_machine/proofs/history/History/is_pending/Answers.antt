@@ -1,5 +1,5 @@
 use Rattle.std.proofs.Common.{sym, ◌∙◌, ap, false, unwrap_or}
-use Rattle.tp_machine.proofs.FlagsLemmas.{any-marked_all}
+use Rattle.tp_machine.proofs.basics.Flags.{any-marked_all}
 use Rattle.tp_machine.proofs.history.History.is_pending.Goals as goal
 
 pub returns-in-None : goal.returns-in-None

@@ -1,7 +1,7 @@
 use Rattle.std.proofs.Common.{◌≡◌, ◌≤◌, Bool, List, ◌+◌, drop, length, false, arith, slice_set, ap, ◌∙◌, sym}
 use Rattle.std.proofs.lemmas.List.{length-set}
-use Rattle.tp_machine.specs.Flags.{first_marked}
-use Rattle.tp_machine.proofs.FlagsLemmas.{first_marked-le, first_marked-cleared, first_marked-drop}
+use Rattle.tp_machine.specs.mirrors.Flags.{first_marked}
+use Rattle.tp_machine.proofs.basics.Flags.{first_marked-le, first_marked-cleared, first_marked-drop}
 use Rattle.tp_machine.proofs.history.History.mark.Goals as goal
 
 pub first_from-self-requires : goal.first_from-self-requires

@@ -1,6 +1,6 @@
 use Rattle.std.proofs.Common.{length, ap, sym, ◌∙◌}
-use Rattle.tp_machine.specs.Flags.{first_marked}
-use Rattle.tp_machine.proofs.FlagsLemmas.{first_marked-append, length-flags_posted}
+use Rattle.tp_machine.specs.mirrors.Flags.{first_marked}
+use Rattle.tp_machine.proofs.basics.Flags.{first_marked-append, length-flags_posted}
 use Rattle.tp_machine.proofs.history.History.note.Goals as goal
 
 pub invariant_of-self : goal.invariant_of-self

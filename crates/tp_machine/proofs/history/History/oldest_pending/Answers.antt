@@ -1,6 +1,6 @@
 use Rattle.std.proofs.Common.{arith}
 use Rattle.std.proofs.lemmas.Bool.Decides.{nat_tests}
-use Rattle.tp_machine.proofs.FlagsLemmas.{marked-first}
+use Rattle.tp_machine.proofs.basics.Flags.{marked-first}
 use Rattle.tp_machine.proofs.history.History.oldest_pending.Goals as goal
 
 pub returns-then-self-len-clause-value : goal.returns-then-self-len-clause-value

@@ -3,7 +3,7 @@ use Rattle.tp_model.specs.SerialRun.{overlaid, store_of}
 use Rattle.tp_model.specs.TrustedHistory.{have_ended}
 use Rattle.tp_machine.specs.Machine.{Machine, item_values}
 use Rattle.tp_machine.specs.Seen.{Seen, state_of}
-use Rattle.tp_machine.proofs.Runs.{so_far_after, whole_after}
+use Rattle.tp_machine.proofs.walks.Runs.{so_far_after, whole_after}
 use Rattle.tp_machine.proofs.world.World.ending.Goals as goal
 
 pub returns-clause-overlaid : goal.returns-clause-overlaid

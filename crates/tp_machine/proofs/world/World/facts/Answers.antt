@@ -2,7 +2,7 @@ use Rattle.std.proofs.Common.{false, ◌≡◌, ap, subst}
 use Rattle.tp_machine.specs.Machine.{Machine}
 use Rattle.tp_machine.specs.Seen.{IsTrustedSoFar, Seen, state_of}
 use Rattle.tp_machine.specs.Sound.{Each, IsStepOf}
-use Rattle.tp_machine.proofs.Runs.{so_far_after}
+use Rattle.tp_machine.proofs.walks.Runs.{so_far_after}
 use Rattle.tp_machine.proofs.world.World.facts.Goals as goal
 
 pub returns-clause-named : goal.returns-clause-named

@@ -2,9 +2,9 @@ use Rattle.std.proofs.Common.{◌≡◌, [], ◌∷◌, ◌++◌, ap, sym, subst
 use Rattle.tp_machine.specs.Machine.{Machine, after}
 use Rattle.tp_machine.specs.Seen.{Seen, machine_of}
 use Rattle.tp_machine.specs.Sound.{Each, IsStepOf}
-use Rattle.tp_machine.proofs.MachineLemmas.{reached_done, steps_done}
-use Rattle.tp_machine.proofs.Runs.{sound_after}
-use Rattle.tp_machine.proofs.SoundLists.{each_more}
+use Rattle.tp_machine.proofs.basics.Machine.{reached_done, steps_done}
+use Rattle.tp_machine.proofs.walks.Runs.{sound_after}
+use Rattle.tp_machine.proofs.basics.Lists.{each_more}
 use Rattle.tp_machine.proofs.world.World.step.Goals as goal
 
 pub invariant_of-self : goal.invariant_of-self

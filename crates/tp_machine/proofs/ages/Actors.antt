@@ -1,0 +1,116 @@
+-- Ages, the rows: a server keeps for a transaction the age that a request told, or the place at which the request was sent, and a
+-- coordinator its own. A says which places are the submissions of which transactions.
+use Rattle.std.proofs.Common.{IfSome, List, Some, [], map, refl, subst, ℕ, ◌∷◌, ◌≡◌}
+use Rattle.tp_types.specs.Effect.{Effect, ignores}
+use Rattle.tp_model.specs.Words.{Body, Letter, Mail, Outcome, Prepared, Record, Scenario, ServerId, Staple, TxnId}
+use Rattle.tp_model.specs.Words.body
+use Rattle.tp_model.specs.Words.outcome
+use Rattle.tp_machine.specs.Machine.{with_age}
+use Rattle.tp_machine.specs.Sound.{Each, EachPlaced}
+use Rattle.tp_machine.specs.coord.Row as coord
+use Rattle.tp_machine.specs.coord.State.{Coordinator}
+use Rattle.tp_machine.specs.declared.server.Entry.{Entry}
+use Rattle.tp_machine.specs.server.Row as server
+use Rattle.tp_machine.specs.server.State.{Server}
+use Rattle.tp_machine.proofs.walks.CoordinatorRows.{coordinator_by, submit_by}
+use Rattle.tp_machine.proofs.basics.Logs.{Prepares}
+use Rattle.tp_machine.proofs.walks.ServerRows.{server_by}
+use Rattle.tp_machine.proofs.basics.Lists.{placed_emptied, placed_set}
+
+-- ---- what is said of ages
+
+-- a query tells its transaction's age, or is sent at that place
+abbrev pub BodyAged : (TxnId → ℕ → Type 0) → ℕ → Body → Type 0
+BodyAged A sent (body.Query q) = A q.txn (server.age_of q sent)
+BodyAged A sent _ = Unit {0}
+
+abbrev pub LetterAged : (TxnId → ℕ → Type 0) → ℕ → Letter → Type 0
+LetterAged A sent letter = BodyAged A sent letter.body
+
+-- an entry has its transaction's age
+abbrev pub EntryAged : (TxnId → ℕ → Type 0) → ℕ → Entry → Type 0
+EntryAged A n entry = A (record { 0 = n }) entry.age
+
+-- and so has what is prepared
+abbrev pub PreparedAged : (TxnId → ℕ → Type 0) → TxnId → Prepared → Type 0
+PreparedAged A txn p = A txn p.age
+
+abbrev pub RecordAged : (TxnId → ℕ → Type 0) → Record → Type 0
+RecordAged A kept = Prepares (PreparedAged A) kept
+
+-- an act of a server in a step at this place
+pub record ServerAges (A : TxnId → ℕ → Type 0) (place : ℕ) (effect : Effect Server) : Type 0 where
+  pub entries : EachPlaced (EntryAged A) effect.state.entries
+  pub forces : IfSome effect.reaction.append (RecordAged A)
+  pub letters : Each (LetterAged A place) effect.reaction.letters
+
+-- an act of a coordinator: it keeps its age
+pub record CoordinatorAges (A : TxnId → ℕ → Type 0) (place : ℕ) (c : Coordinator) (effect : Effect Coordinator) : Type 0 where
+  pub same_age : effect.state.age ≡ c.age
+  pub same_txn : effect.state.txn ≡ c.txn
+  pub letters : Each (LetterAged A place) effect.reaction.letters
+
+-- ---- a server's rows
+
+ignores_ages : (A : TxnId → ℕ → Type 0) (place : ℕ) (s : Server) → EachPlaced (EntryAged A) s.entries → ServerAges A place (ignores s)
+ignores_ages A place s h = record { entries = h; forces = tt; letters = tt }
+
+-- every row of a server on receipt of a mail
+pub server_row_ages : (A : TxnId → ℕ → Type 0) (place : ℕ) (sc : Scenario) (s : Server) (mail : Mail) → EachPlaced (EntryAged A) s.entries → BodyAged A mail.sent mail.letter.body
+    → ServerAges A place (server.server_row sc s mail)
+server_row_ages A place sc s mail h m =
+    server_by sc s mail (ServerAges A place)
+    (record {
+      ignored = ignores_ages A place s h;
+      begun = λ q deed k.
+          let told : A q.txn (server.age_of q mail.sent) = subst (BodyAged A mail.sent) k.said_is m in
+          record { entries = placed_set (EntryAged A) s.entries q.txn.0 (server.first_entry s mail.sent q deed) h told; forces = tt; letters = (tt, tt) };
+      voted = λ p entry staple k.
+          let old : A p.txn entry.age = h p.txn.0 entry k.found in
+          record { entries = placed_set (EntryAged A) s.entries p.txn.0 _ h old; forces = old; letters = (tt, tt) };
+      settled = λ d k. record { entries = placed_emptied (EntryAged A) s.entries d.txn.0 h; forces = tt; letters = (tt, tt) };
+    })
+
+-- ---- a coordinator's rows
+
+still_ages : (A : TxnId → ℕ → Type 0) (place : ℕ) (c : Coordinator) → CoordinatorAges A place c (ignores c)
+still_ages A place c = record { same_age = refl; same_txn = refl; letters = tt }
+
+prepare_letters_aged : (A : TxnId → ℕ → Type 0) (place : ℕ) (c : Coordinator) (staple : Staple) (servers : List ServerId) → Each (LetterAged A place) (map (coord.prepare_letter c staple) servers)
+prepare_letters_aged A place c staple [] = tt
+prepare_letters_aged A place c staple (at ∷ servers) = (tt, prepare_letters_aged A place c staple servers)
+
+orders_aged : (A : TxnId → ℕ → Type 0) (place : ℕ) (c : Coordinator) (ended : Outcome) (servers : List ServerId)
+    → Each (LetterAged A place) (map (λ (at : ServerId). coord.request c at (body.Decide (record { txn = c.txn; outcome = ended }))) servers)
+orders_aged A place c ended [] = tt
+orders_aged A place c ended (at ∷ servers) = (tt, orders_aged A place c ended servers)
+
+-- every row of a coordinator on receipt of a mail
+pub coordinator_row_ages : (A : TxnId → ℕ → Type 0) (place : ℕ) (sc : Scenario) (c : Coordinator) (mail : Mail) → CoordinatorAges A place c (coord.coordinator_row sc c mail)
+coordinator_row_ages A place sc c mail =
+    coordinator_by sc c mail (CoordinatorAges A place c)
+    (record {
+      ignored = still_ages A place c;
+      ran_last = λ done server asked value k. record { same_age = refl; same_txn = refl; letters = (tt, tt) };
+      told_first = λ tell round k. record { same_age = refl; same_txn = refl; letters = prepare_letters_aged A place c (coord.staple_of tell mail.sent) round.awaited };
+      counted = λ reply round staple server verdicts other others y e. record { same_age = refl; same_txn = refl; letters = tt };
+      committed = λ reply round staple server verdicts y e first agreed. record { same_age = refl; same_txn = refl; letters = orders_aged A place c outcome.Commit c.servers };
+      acknowledged = λ ack ended awaited server a. record { same_age = refl; same_txn = refl; letters = tt };
+    })
+
+-- ---- Submit
+
+-- a submission at a place, which is the age from then on
+pub record SubmissionAges (A : TxnId → ℕ → Type 0) (place : ℕ) (c : Coordinator) (effect : Effect Coordinator) : Type 0 where
+  pub age_is : effect.state.age ≡ Some place
+  pub same_txn : effect.state.txn ≡ c.txn
+  pub letters : Each (LetterAged A place) effect.reaction.letters
+
+-- the submission of a transaction
+pub submit_row_ages : (A : TxnId → ℕ → Type 0) (place : ℕ) (sc : Scenario) (c : Coordinator) → A c.txn place → SubmissionAges A place c (with_age (coord.submit_row sc c) place)
+submit_row_ages A place sc c m =
+    submit_by sc c (λ (effect : Effect Coordinator). SubmissionAges A place c (with_age effect place))
+    (record {
+      ignored = record { age_is = refl; same_txn = refl; letters = tt };
+      sent = λ asked server value k. record { age_is = refl; same_txn = refl; letters = (m, tt) };
+    })

@@ -1,0 +1,9 @@
+-- Actors agree with their logs, and logs with each other: one decision everywhere.
+pub mod Coordinator
+pub mod CoordinatorActs
+pub mod End
+pub mod Logs
+pub mod Server
+pub mod ServerActs
+pub mod Steps
+pub mod World

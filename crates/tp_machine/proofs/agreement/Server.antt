@@ -1,0 +1,329 @@
+-- Agreement, the server's rows: a transaction is settled once, as it was decided; and what is replied rests on the log.
+-- ---- what is kept
+-- the transaction of an entry is not settled on this log
+use Rattle.std.specs.Prelude.{if◌then◌else◌}
+use Rattle.std.proofs.Common.{Bool, IfSome, List, None, Option, Some, [], ap, false, is_some, map, option_and_then, option_map, refl, slice_get, slice_set, subst, suc, sym, true, zero, ℕ, ◌==◌, ◌∙◌, ◌∷◌, ◌≡◌}
+use Rattle.std.proofs.lemmas.Bool.{eqb-true}
+use Rattle.tp_types.specs.Effect.{Effect, ignores}
+use Rattle.tp_types.specs.Table.{flattened, is_unset}
+use Rattle.tp_model.specs.Facts.{first_of}
+use Rattle.tp_model.specs.Ids.{same_txn}
+use Rattle.tp_model.specs.Words.{Body, DecideRequest, Deed, Letter, Mail, Outcome, PrepareRequest, Prepared, QueryRequest, Record, Scenario, ServerId, Settled, TxnId, Verdict, Vote}
+use Rattle.tp_model.specs.Words.actor
+use Rattle.tp_model.specs.Words.body
+use Rattle.tp_model.specs.Words.log
+use Rattle.tp_model.specs.Words.outcome
+use Rattle.tp_model.specs.Words.vote
+use Rattle.tp_machine.specs.Logs.{prepared_in, settled_in, voted_in, while_unsettled}
+use Rattle.tp_machine.specs.Machine.{log_with}
+use Rattle.tp_machine.specs.Sound.{Each, EachPlaced}
+use Rattle.tp_machine.specs.declared.server.Ballot.{Ballot}
+use Rattle.tp_machine.specs.declared.server.Entry.{Entry}
+use Rattle.tp_machine.specs.server.Row.{begins, entry_at, first_entry, is_open, prepared, reply, server_row, settled_as, settles, verdict_on, votes}
+use Rattle.tp_machine.specs.server.State.{Server}
+use Rattle.tp_machine.proofs.agreement.Logs.{LogPrepared}
+use Rattle.tp_machine.proofs.basics.Ids.{number_itself, same_txn_is}
+use Rattle.tp_machine.proofs.basics.Logs.{first_none, get_set, prepared_with, settled_with}
+use Rattle.tp_machine.proofs.serial_data.Lists.{set_elsewhere}
+use Rattle.tp_machine.proofs.walks.ServerRows.{server_by}
+use Rattle.tp_machine.proofs.basics.Lists.{placed_emptied, placed_set}
+
+abbrev pub IsUnsettled : List Record → ℕ → Entry → Type 0
+IsUnsettled kept n entry = settled_in (record { 0 = n }) kept ≡ None
+
+-- a vote YES as an entry and a log both have it
+pub record CastVote : Type 0 where
+  pub age : ℕ
+  pub epoch : ℕ
+  pub turn : ℕ
+  pub deeds : List Deed
+  pub verdicts : List Verdict
+
+abbrev pub vote_of : Prepared → CastVote
+vote_of p = record { age = p.age; epoch = p.epoch; turn = p.turn; deeds = p.deeds; verdicts = p.verdicts }
+
+abbrev pub vote_by : Entry → Ballot → CastVote
+vote_by entry cast = record { age = entry.age; epoch = entry.epoch; turn = cast.turn; deeds = entry.deeds; verdicts = cast.verdicts }
+
+-- the vote of an entry, once it has one
+abbrev pub cast_in : Entry → Option CastVote
+cast_in entry = option_map (vote_by entry) entry.ballot
+
+-- the server has settled what its log says, and that alone; it has entries of transactions that it has not settled alone; and the entries
+-- with a vote are what is prepared on its log
+pub record ServerAgrees (s : Server) (kept : List Record) : Type 0 where
+  pub settled : (txn : TxnId) → flattened (slice_get s.settled txn.0) ≡ settled_in txn kept
+  pub unsettled : EachPlaced (IsUnsettled kept) s.entries
+  pub prepared : (txn : TxnId) → option_map vote_of (prepared_in txn kept) ≡ option_and_then cast_in (entry_at s txn)
+
+-- a settlement is the first, and follows a request (M says of which there was one). Without a reason it is what was decided (V says what
+-- is); with one it is the server's own abort of what it has not prepared
+pub record SettlementRests (V : TxnId → Outcome → Type 0) (M : TxnId → Type 0) (kept : List Record) (forced : Settled) : Type 0 where
+  pub fresh : settled_in forced.txn kept ≡ None
+  pub asked : M forced.txn
+  pub ordered : forced.why ≡ None → V forced.txn forced.outcome
+  pub refused : is_some forced.why ≡ true → (forced.outcome ≡ outcome.Abort) × (prepared_in forced.txn kept ≡ None)
+
+-- what a record of a server rests on
+abbrev pub RecordRests : (TxnId → Outcome → Type 0) → (TxnId → Type 0) → List Record → Record → Type 0
+RecordRests V M kept (log.Settled forced) = SettlementRests V M kept forced
+RecordRests V M kept _ = Unit {0}
+
+-- a vote as the log has it, after it was forced
+abbrev pub VoteKept : List Record → TxnId → Vote → Type 0
+VoteKept kept txn (vote.Yes verdicts) = LogPrepared txn kept
+VoteKept kept txn (vote.No why) = settled_in txn kept ≡ Some (record { txn = txn; outcome = outcome.Abort; why = Some why })
+
+-- what a server says rests on its log; and servers request nothing and order no end
+abbrev pub ReplyKept : List Record → Body → Type 0
+ReplyKept kept (body.Query q) = ⊥
+ReplyKept kept (body.Validate v) = ⊥
+ReplyKept kept (body.Prepare p) = ⊥
+ReplyKept kept (body.Decide order) = ⊥
+ReplyKept kept (body.Vote reply) = VoteKept kept reply.txn reply.vote
+ReplyKept kept (body.Ack ack) = is_some (settled_in ack.txn kept) ≡ true
+ReplyKept kept _ = Unit {0}
+
+-- a letter is the server's own
+pub record LetterKept (at : ServerId) (kept : List Record) (letter : Letter) : Type 0 where
+  pub from_is : letter.from ≡ actor.Server at
+  pub says : ReplyKept kept letter.body
+
+-- what a mail to a server rests on: a request was made, and an order to end was decided
+abbrev pub RequestRests : (TxnId → Outcome → Type 0) → (TxnId → Type 0) → Body → Type 0
+RequestRests V M (body.Query q) = M q.txn
+RequestRests V M (body.Validate v) = M v.txn
+RequestRests V M (body.Prepare p) = M p.txn
+RequestRests V M (body.Decide order) = V order.txn order.outcome × M order.txn
+RequestRests V M _ = Unit {0}
+
+-- an act of a server: it agrees with its log after it, what it forces rests on a decision or a request, and what it sends on the log
+pub record ServerLawful (V : TxnId → Outcome → Type 0) (M : TxnId → Type 0) (s : Server) (kept : List Record) (effect : Effect Server) : Type 0 where
+  pub agrees : ServerAgrees effect.state (log_with kept effect.reaction.append)
+  pub rests : IfSome effect.reaction.append (RecordRests V M kept)
+  pub replies : Each (LetterKept s.server (log_with kept effect.reaction.append)) effect.reaction.letters
+
+-- ---- rows
+
+ignores_lawful : (V : TxnId → Outcome → Type 0) (M : TxnId → Type 0) (s : Server) (kept : List Record) → ServerAgrees s kept → ServerLawful V M s kept (ignores s)
+ignores_lawful V M s kept h = record { agrees = h; rests = tt; replies = tt }
+
+-- what an empty place of a table says
+pub unset_is : {A : Type 0} (found : Option (Option A)) → is_unset found ≡ true → found ≡ Some None
+unset_is None e = absurd (cc)
+unset_is (Some None) e = refl
+unset_is (Some (Some x)) e = absurd (cc)
+
+-- a transaction that is open was not settled on the log
+pub open_unsettled : (s : Server) (kept : List Record) (txn : TxnId) → ServerAgrees s kept → is_open s txn ≡ true → settled_in txn kept ≡ None
+open_unsettled s kept txn h unsettled = sym (h.settled txn) ∙ ap flattened (unset_is (slice_get s.settled txn.0) unsettled)
+
+-- ---- tables
+
+-- what stands at a place after it was written: what was written, or nothing where the table has no such place
+pub written_there : {A : Type 0} (P : Option A → Type 0) (table : List (Option A)) (n : ℕ) (v : Option A) → P v → P None → P (flattened (slice_get (slice_set table n v) n))
+written_there P [] n v h none = none
+written_there P (x ∷ table) zero v h none = h
+written_there P (x ∷ table) (suc n) v h none = written_there P table n v h none
+
+-- a place that is not empty has what was written
+pub written_over : {A : Type 0} (table : List (Option A)) (n : ℕ) (old : A) (v : Option A) → flattened (slice_get table n) ≡ Some old → flattened (slice_get (slice_set table n v) n) ≡ v
+written_over [] n old v e = absurd (cc)
+written_over (x ∷ table) zero old v e = refl
+written_over (x ∷ table) (suc n) old v e = written_over table n old v e
+
+-- ---- what is prepared
+
+none_cast : (entry : Option Entry) (old : Option Prepared) → entry ≡ None → option_map vote_of old ≡ option_and_then cast_in entry → old ≡ None
+none_cast entry None e h = refl
+none_cast entry (Some p) e h = let none : option_and_then cast_in entry ≡ None = ap (option_and_then cast_in) e in absurd (cc)
+
+-- without an entry nothing is prepared
+pub unprepared : (s : Server) (kept : List Record) (txn : TxnId) → ServerAgrees s kept → entry_at s txn ≡ None → prepared_in txn kept ≡ None
+unprepared s kept txn h e = none_cast (entry_at s txn) (prepared_in txn kept) e (h.prepared txn)
+
+some_cast : (entry : Option Entry) (old : Option Prepared) → is_some old ≡ true → option_map vote_of old ≡ option_and_then cast_in entry → is_some entry ≡ true
+some_cast entry None e h = absurd (cc)
+some_cast None (Some p) e h = absurd (cc)
+some_cast (Some found) (Some p) e h = refl
+
+-- what is prepared has an entry
+pub prepared_entry : (s : Server) (kept : List Record) (txn : TxnId) → ServerAgrees s kept → LogPrepared txn kept → is_some (entry_at s txn) ≡ true
+prepared_entry s kept txn h e = some_cast (entry_at s txn) (prepared_in txn kept) e (h.prepared txn)
+
+-- the entry of one transaction changes, and what is prepared of others stays
+entry_elsewhere : (s : Server) (one other : TxnId) (entry : Option Entry) → same_txn one other ≡ false → flattened (slice_get (slice_set s.entries one.0 entry) other.0) ≡ entry_at s other
+entry_elsewhere s one other entry apart = ap flattened (set_elsewhere s.entries one.0 other.0 entry apart)
+
+-- ---- Query
+
+first_cast : (s : Server) (kept : List Record) (txn other : TxnId) (first : Entry) → ServerAgrees s kept → entry_at s txn ≡ None → first.ballot ≡ None → (b : Bool) → same_txn txn other ≡ b
+    → option_map vote_of (prepared_in other kept) ≡ option_and_then cast_in (flattened (slice_get (slice_set s.entries txn.0 (Some first)) other.0))
+first_cast s kept txn other first h e unvoted true same =
+    let here : other ≡ txn = sym (same_txn_is txn other same) in
+    let none : option_map vote_of (prepared_in txn kept) ≡ None = ap (option_map vote_of) (unprepared s kept txn h e) in
+    let now : option_map vote_of (prepared_in txn kept) ≡ option_and_then cast_in (flattened (slice_get (slice_set s.entries txn.0 (Some first)) txn.0)) =
+    written_there (λ (found : Option Entry). option_map vote_of (prepared_in txn kept) ≡ option_and_then cast_in found) s.entries txn.0 (Some first)
+    (none ∙ sym (ap (option_map (vote_by first)) unvoted)) none in
+    subst (λ (t : TxnId). option_map vote_of (prepared_in t kept) ≡ option_and_then cast_in (flattened (slice_get (slice_set s.entries txn.0 (Some first)) t.0))) (sym here) now
+first_cast s kept txn other first h e unvoted false apart = h.prepared other ∙ sym (ap (option_and_then cast_in) (entry_elsewhere s txn other (Some first) apart))
+
+begins_lawful : (V : TxnId → Outcome → Type 0) (M : TxnId → Type 0) (s : Server) (kept : List Record) (sent : ℕ) (q : QueryRequest) (deed : Deed) → ServerAgrees s kept
+    → settled_in q.txn kept ≡ None → entry_at s q.txn ≡ None → ServerLawful V M s kept (begins s sent q (Some deed))
+begins_lawful V M s kept sent q deed h new none =
+    let first = first_entry s sent q deed in
+    record {
+      agrees = record {
+        settled = h.settled;
+        unsettled = placed_set (IsUnsettled kept) s.entries q.txn.0 first h.unsettled new;
+        prepared = λ txn. first_cast s kept q.txn txn first h none refl (same_txn q.txn txn) refl;
+      };
+      rests = tt;
+      replies = (record { from_is = refl; says = tt }, tt);
+    }
+
+-- ---- Prepare
+
+-- what a log has prepared once a vote YES was forced
+voted_so : (b : Bool) (forced : Prepared) (settled : Option Settled) (old : Option Prepared) → b ≡ true → settled ≡ None
+    → while_unsettled (first_of settled None) (first_of (if b then Some forced else None) old) ≡ Some forced
+voted_so true forced None old e new = refl
+voted_so true forced (Some s) old e new = absurd (cc)
+voted_so false forced settled old e new = absurd (cc)
+
+voted_else : (b : Bool) (forced : Prepared) (settled : Option Settled) (old : Option Prepared) → b ≡ false
+    → while_unsettled (first_of settled None) (first_of (if b then Some forced else None) old) ≡ while_unsettled settled old
+voted_else true forced settled old e = absurd (cc)
+voted_else false forced settled old e = ap (λ (s : Option Settled). while_unsettled s old) (first_none settled)
+
+pub prepared_now : (txn : TxnId) (kept : List Record) (forced : Prepared) → forced.txn ≡ txn → settled_in txn kept ≡ None → prepared_in txn (log_with kept (Some (log.Prepared forced))) ≡ Some forced
+prepared_now txn kept forced own new =
+    prepared_with txn kept (Some (log.Prepared forced))
+    ∙ voted_so (same_txn forced.txn txn) forced (settled_in txn kept) (voted_in txn kept) (ap (λ (t : TxnId). same_txn t txn) own ∙ number_itself txn.0) new
+
+prepared_else : (other : TxnId) (kept : List Record) (forced : Prepared) → same_txn forced.txn other ≡ false → prepared_in other (log_with kept (Some (log.Prepared forced))) ≡ prepared_in other kept
+prepared_else other kept forced apart =
+    prepared_with other kept (Some (log.Prepared forced)) ∙ voted_else (same_txn forced.txn other) forced (settled_in other kept) (voted_in other kept) apart
+
+votes_cast : (s : Server) (kept : List Record) (txn other : TxnId) (forced : Prepared) (entry now : Entry) → ServerAgrees s kept → settled_in txn kept ≡ None → forced.txn ≡ txn → entry_at s txn ≡ Some entry
+    → cast_in now ≡ Some (vote_of forced) → (b : Bool) → same_txn txn other ≡ b
+    → option_map vote_of (prepared_in other (log_with kept (Some (log.Prepared forced)))) ≡ option_and_then cast_in (flattened (slice_get (slice_set s.entries txn.0 (Some now)) other.0))
+votes_cast s kept txn other forced entry now h new own e cast true same =
+    let here : other ≡ txn = sym (same_txn_is txn other same) in
+    let log_is : option_map vote_of (prepared_in txn (log_with kept (Some (log.Prepared forced)))) ≡ Some (vote_of forced) = ap (option_map vote_of) (prepared_now txn kept forced own new) in
+    let table_is : option_and_then cast_in (flattened (slice_get (slice_set s.entries txn.0 (Some now)) txn.0)) ≡ Some (vote_of forced) =
+    ap (option_and_then cast_in) (written_over s.entries txn.0 entry (Some now) e) ∙ cast in
+    subst (λ (t : TxnId). option_map vote_of (prepared_in t (log_with kept (Some (log.Prepared forced)))) ≡ option_and_then cast_in (flattened (slice_get (slice_set s.entries txn.0 (Some now)) t.0)))
+    (sym here) (log_is ∙ sym table_is)
+votes_cast s kept txn other forced entry now h new own e cast false apart =
+    ap (option_map vote_of) (prepared_else other kept forced (ap (λ (t : TxnId). same_txn t other) own ∙ apart))
+    ∙ (h.prepared other ∙ sym (ap (option_and_then cast_in) (entry_elsewhere s txn other (Some now) apart)))
+
+-- a vote YES settles nothing, and is prepared
+votes_lawful : (V : TxnId → Outcome → Type 0) (M : TxnId → Type 0) (sc : Scenario) (s : Server) (kept : List Record) (p : PrepareRequest) (place : ℕ) (entry : Entry) → ServerAgrees s kept
+    → settled_in p.txn kept ≡ None → entry_at s p.txn ≡ Some entry → ServerLawful V M s kept (votes sc s p place entry)
+votes_lawful V M sc s kept p place entry h new e =
+    let voting = prepared s p entry (map (verdict_on sc s place) entry.deeds) in
+    let forced = (votes sc s p place entry).reaction.append in
+    let now : Entry = record entry { ballot = Some (record { turn = voting.turn; verdicts = voting.verdicts }) } in
+    let same : (txn : TxnId) → settled_in txn (log_with kept forced) ≡ settled_in txn kept = λ txn. settled_with txn kept forced ∙ first_none (settled_in txn kept) in
+    record {
+      agrees = record {
+        settled = λ txn. h.settled txn ∙ sym (same txn);
+        unsettled = placed_set (IsUnsettled (log_with kept forced)) s.entries p.txn.0 now
+            (λ n found at_n. same (record { 0 = n }) ∙ h.unsettled n found at_n) (same p.txn ∙ new);
+        prepared = λ txn. votes_cast s kept p.txn txn voting entry now h new refl e refl (same_txn p.txn txn) refl;
+      };
+      rests = tt;
+      replies = (record { from_is = refl; says = ap is_some (prepared_now p.txn kept voting refl new) }, tt);
+    }
+
+-- ---- Decide
+
+settled_here : (b : Bool) (order : Settled) (other : Option (Option Settled)) (old : Option Settled) → flattened other ≡ old → (b ≡ true → old ≡ None)
+    → flattened (if b then Some (Some order) else other) ≡ first_of old (if b then Some order else None)
+settled_here true order other old e fresh = sym (ap (λ (x : Option Settled). first_of x (Some order)) (fresh refl))
+settled_here false order other old e fresh = e ∙ sym (first_none old)
+
+emptied : {A : Type 0} (table : List (Option A)) (n : ℕ) → flattened (slice_get (slice_set table n None) n) ≡ None
+emptied table n = written_there (λ found. found ≡ None) table n None refl refl
+
+-- the entry of what is settled ends, and those of others stay
+others_unsettled : (s : Server) (kept : List Record) (order : Settled) → ServerAgrees s kept → (b : Bool) (n : ℕ) (found : Entry) → (order.txn.0 == n) ≡ b
+    → flattened (slice_get (slice_set s.entries order.txn.0 None) n) ≡ Some found → settled_in (record { 0 = n }) (log_with kept (Some (log.Settled order))) ≡ None
+others_unsettled s kept order h true n found same e =
+    let none : flattened (slice_get (slice_set s.entries order.txn.0 None) n) ≡ None =
+    subst (λ (m : ℕ). flattened (slice_get (slice_set s.entries order.txn.0 None) m) ≡ None) (eqb-true order.txn.0 n same) (emptied s.entries order.txn.0) in
+    absurd (cc)
+others_unsettled s kept order h false n found apart e =
+    let old : settled_in (record { 0 = n }) kept ≡ None = placed_emptied (IsUnsettled kept) s.entries order.txn.0 h.unsettled n found e in
+    settled_with (record { 0 = n }) kept (Some (log.Settled order))
+    ∙ (ap (λ (b : Bool). first_of (settled_in (record { 0 = n }) kept) (if b then Some order else None)) apart
+    ∙ (first_none (settled_in (record { 0 = n }) kept) ∙ old))
+
+ended_so : (b : Bool) (order : Settled) (settled : Option Settled) (voted : Option Prepared) → b ≡ true → while_unsettled (first_of settled (if b then Some order else None)) (first_of None voted) ≡ None
+ended_so true order None voted e = refl
+ended_so true order (Some s) voted e = refl
+ended_so false order settled voted e = absurd (cc)
+
+ended_else : (b : Bool) (order : Settled) (settled : Option Settled) (voted : Option Prepared) → b ≡ false
+    → while_unsettled (first_of settled (if b then Some order else None)) (first_of None voted) ≡ while_unsettled settled voted
+ended_else true order settled voted e = absurd (cc)
+ended_else false order settled voted e = ap (λ (s : Option Settled). while_unsettled s voted) (first_none settled)
+
+-- what is settled is prepared no more, and what is prepared of others stays
+ends_cast : (s : Server) (kept : List Record) (order : Settled) (other : TxnId) → ServerAgrees s kept → (b : Bool) → same_txn order.txn other ≡ b
+    → option_map vote_of (prepared_in other (log_with kept (Some (log.Settled order)))) ≡ option_and_then cast_in (flattened (slice_get (slice_set s.entries order.txn.0 None) other.0))
+ends_cast s kept order other h true same =
+    let none : flattened (slice_get (slice_set s.entries order.txn.0 None) other.0) ≡ None =
+    subst (λ (m : ℕ). flattened (slice_get (slice_set s.entries order.txn.0 None) m) ≡ None) (eqb-true order.txn.0 other.0 same) (emptied s.entries order.txn.0) in
+    ap (option_map vote_of) (prepared_with other kept (Some (log.Settled order)) ∙ ended_so (same_txn order.txn other) order (settled_in other kept) (voted_in other kept) same)
+    ∙ sym (ap (option_and_then cast_in) none)
+ends_cast s kept order other h false apart =
+    ap (option_map vote_of) (prepared_with other kept (Some (log.Settled order)) ∙ ended_else (same_txn order.txn other) order (settled_in other kept) (voted_in other kept) apart)
+    ∙ (h.prepared other ∙ sym (ap (option_and_then cast_in) (entry_elsewhere s order.txn other None apart)))
+
+settled_now : (b : Bool) (order : Settled) (old : Option Settled) → b ≡ true → is_some (first_of old (if b then Some order else None)) ≡ true
+settled_now true order None e = refl
+settled_now true order (Some s) e = refl
+settled_now false order old e = absurd (cc)
+
+-- an order to end a transaction that is open is forced as it is
+settles_lawful : (V : TxnId → Outcome → Type 0) (M : TxnId → Type 0) (s : Server) (kept : List Record) (d : DecideRequest) → ServerAgrees s kept → is_open s d.txn ≡ true → V d.txn d.outcome → M d.txn
+    → ServerLawful V M s kept (settles s d)
+settles_lawful V M s kept d h unsettled decided asked =
+    let empty : slice_get s.settled d.txn.0 ≡ Some None = unset_is (slice_get s.settled d.txn.0) unsettled in
+    let fresh : settled_in d.txn kept ≡ None = open_unsettled s kept d.txn h unsettled in
+    let order = settled_as d in
+    let forced = (settles s d).reaction.append in
+    record {
+      agrees = record {
+        settled = λ txn.
+            ap flattened (get_set s.settled d.txn.0 txn.0 None (Some order) empty)
+            ∙ (settled_here (d.txn.0 == txn.0) order (slice_get s.settled txn.0) (settled_in txn kept) (h.settled txn)
+            (λ same. sym (h.settled txn) ∙ ap flattened (subst (λ (n : ℕ). slice_get s.settled n ≡ Some None) (eqb-true d.txn.0 txn.0 same) empty))
+            ∙ sym (settled_with txn kept forced));
+        unsettled = λ n found e. others_unsettled s kept order h (d.txn.0 == n) n found refl e;
+        prepared = λ txn. ends_cast s kept order txn h (same_txn d.txn txn) refl;
+      };
+      rests = record { fresh = fresh; asked = asked; ordered = λ none. decided; refused = λ some. absurd (cc) };
+      replies = (
+        record {
+          from_is = refl;
+          says = ap is_some (settled_with d.txn kept forced) ∙ settled_now (same_txn d.txn d.txn) order (settled_in d.txn kept) (number_itself d.txn.0);
+        },
+        tt,
+      );
+    }
+
+-- every row of a server on receipt of a mail
+pub server_row_lawful : (V : TxnId → Outcome → Type 0) (M : TxnId → Type 0) (sc : Scenario) (s : Server) (kept : List Record) (mail : Mail) → ServerAgrees s kept → RequestRests V M mail.letter.body
+    → ServerLawful V M s kept (server_row sc s mail)
+server_row_lawful V M sc s kept mail h m =
+    server_by sc s mail (ServerLawful V M s kept)
+    (record {
+      ignored = ignores_lawful V M s kept h;
+      begun = λ q deed k. begins_lawful V M s kept mail.sent q deed h (open_unsettled s kept q.txn h k.unsettled) k.no_entry;
+      voted = λ p entry staple k. votes_lawful V M sc s kept p staple.place entry h (open_unsettled s kept p.txn h k.unsettled) k.found;
+      settled = λ d k. let rests = subst (RequestRests V M) k.said_is m in settles_lawful V M s kept d h k.unsettled rests.0 rests.1;
+    })

@@ -1,0 +1,253 @@
+-- Agreement, step by step: it holds before the first step, each step keeps it, and so it holds after every list of steps.
+use Rattle.std.specs.List.{range_with_len}
+use Rattle.std.proofs.Common.{IfSome, List, None, Option, Some, [], ap, arith, false, length, map, option_and_then, option_map, refl, replicate, slice_get, subst, suc, sym, true, zero, ℕ, ◌+◌, ◌∙◌, ◌∷◌, ◌≡◌}
+use Rattle.tp_types.specs.Table.{flattened}
+use Rattle.tp_model.specs.Built.{is_built}
+use Rattle.tp_model.specs.Words.{Actor, Body, Decision, Mail, Scenario, ServerId, Settled, Step, TxnId, Vote, What}
+use Rattle.tp_model.specs.Words.actor
+use Rattle.tp_model.specs.Words.body
+use Rattle.tp_model.specs.Words.step
+use Rattle.tp_model.specs.Words.vote
+use Rattle.tp_model.specs.Words.what
+use Rattle.tp_machine.specs.Logs.{decided_at, decided_by, decided_in, settled_by, settled_in}
+use Rattle.tp_machine.specs.Machine.{Machine, State, acts_by, coordinator_acted, coordinator_fact, done, idles, is_part_submitted, log_with, opened_actors, opened_part, opening_state, refusal, server_acted, server_fact, submitted, with_age}
+use Rattle.tp_machine.specs.Parts.{Part}
+use Rattle.tp_machine.specs.Sound.{Each, EachAt, IsSound, IsSoundBody, IsSoundCoordinatorUp, IsSoundLetter, IsSoundMail, IsSoundServerUp, IsStepOf, IsTxn}
+use Rattle.tp_machine.specs.coord.Opened as coord
+use Rattle.tp_machine.specs.coord.Row.{agrees, coordinator_row, replied, submit_row}
+use Rattle.tp_machine.specs.coord.State.{Coordinator}
+use Rattle.tp_machine.specs.declared.actors.Actors.{Actors}
+use Rattle.tp_machine.specs.offices.Authority as office
+use Rattle.tp_machine.specs.offices.State.{Authority}
+use Rattle.tp_machine.specs.server.Opened as server
+use Rattle.tp_machine.specs.server.Row.{prepared, server_row}
+use Rattle.tp_machine.specs.server.State.{Server}
+use Rattle.tp_machine.proofs.agreement.ServerActs.{SaysOnly, server_acts_agrees, unmoved_agrees}
+use Rattle.tp_machine.proofs.agreement.Coordinator.{CoordinatorLawful, Keeps, ReplyRests, SubmissionLawful, YesRests, coordinator_row_lawful, submit_row_lawful}
+use Rattle.tp_machine.proofs.agreement.CoordinatorActs.{coordinator_acts_agrees, received_acts, submission_acts}
+use Rattle.tp_machine.proofs.agreement.Logs.{DecidedAs, IsAsked, IsPrepared, IsSettled, outcome_settled, submitted_count, submitted_up}
+use Rattle.tp_machine.proofs.agreement.Server.{IsUnsettled, LetterKept, RequestRests, ServerAgrees, ServerLawful, cast_in, server_row_lawful}
+use Rattle.tp_machine.proofs.agreement.World.{Agrees, BodyRests, CoordinatorUpAgrees, DecidedServed, LetterRests, MailRests, TurnAgrees, VoteRests, concluded_agrees}
+use Rattle.tp_machine.proofs.walks.Steps.{Cases, IsCoordinatorUp, IsServerUp, SaysIdle, WasSent, done_by}
+use Rattle.tp_machine.proofs.basics.Logs.{listed}
+use Rattle.tp_machine.proofs.serial_data.Built.{first_row_begins}
+use Rattle.tp_machine.proofs.basics.Lists.{at_made, each_get, placed_none}
+
+-- ---- what a step says by itself
+
+silent_says : (sc : Scenario) (w : State) → SaysOnly sc w.facts []
+silent_says sc w = record { follows = tt; no_submission = λ txn. refl; no_decision = λ txn. refl; no_settlement = λ at txn. refl }
+
+lost_says : (sc : Scenario) (w : State) (mail : ℕ) → SaysOnly sc w.facts (what.Lost mail ∷ [])
+lost_says sc w mail = record { follows = (tt, tt); no_submission = λ txn. refl; no_decision = λ txn. refl; no_settlement = λ at txn. refl }
+
+idle_agrees : (sc : Scenario) (w : State) → Agrees sc w → (taken : Step) (happened : List What) → SaysIdle taken happened → TurnAgrees sc w (idles w.actors happened)
+idle_agrees sc w h (step.Deliver mail) happened e = subst (λ (hs : List What). TurnAgrees sc w (idles w.actors hs)) (sym e) (unmoved_agrees sc w [] [] h (silent_says sc w) tt)
+idle_agrees sc w h (step.Lose mail) happened e = subst (λ (hs : List What). TurnAgrees sc w (idles w.actors hs)) (sym e) (unmoved_agrees sc w (what.Lost mail ∷ []) [] h (lost_says sc w mail) tt)
+idle_agrees sc w h _ happened e = absurd e
+
+-- ---- what is known of actors that are up
+
+-- what a mail to a server rests on
+pub request_rests : (sc : Scenario) (w : State) (from : Actor) (at : ServerId) (said : Body) → BodyRests sc w.actors from (actor.Server at) said
+    → RequestRests (DecidedAs w.actors.coordinators) (IsAsked sc w.actors.coordinators at) said
+request_rests sc w from at (body.Query q) h = h
+request_rests sc w from at (body.Validate v) h = h
+request_rests sc w from at (body.Prepare p) h = h
+request_rests sc w from at (body.Decide order) h = h
+request_rests sc w from at _ h = tt
+
+-- the state of a coordinator that is up is its transaction's
+pub own_txn : (sc : Scenario) (w : State) (txn : TxnId) (part : Part Coordinator) (c : Coordinator) → IsSound sc w → slice_get w.actors.coordinators txn.0 ≡ Some part → part.up ≡ Some c → c.txn ≡ txn
+own_txn sc w txn part c sound found up = (subst (λ (u : Option Coordinator). IfSome u (IsSoundCoordinatorUp sc txn)) up (sound.actors_are.coordinators txn.0 part found).state).txn_is
+
+-- an actor that is up agrees with its log
+pub server_agrees : (sc : Scenario) (w : State) (at : ServerId) (part : Part Server) (s : Server) → Agrees sc w → IsServerUp w at part s → ServerAgrees s part.log
+server_agrees sc w at part s h up = subst (λ (u : Option Server). IfSome u (λ (t : Server). ServerAgrees t part.log)) up.up (h.servers at.0 part up.found).state
+
+pub coordinator_agrees : (sc : Scenario) (w : State) (txn : TxnId) (part : Part Coordinator) (c : Coordinator) → Agrees sc w → IsCoordinatorUp w txn part c
+    → Keeps sc (IsPrepared w.actors.servers txn) (IsSettled w.actors.servers txn) c part.log
+coordinator_agrees sc w txn part c h up =
+    let here : CoordinatorUpAgrees sc w.actors.servers txn part.log c = subst (λ (u : Option Coordinator). IfSome u (CoordinatorUpAgrees sc w.actors.servers txn part.log)) up.up (h.coordinators txn.0 part up.found).state in
+    record { agrees = here.agrees; replied = here.replied }
+
+-- what a mail that was sent to an actor rests on
+pub mail_rests : (sc : Scenario) (w : State) (n : ℕ) (mail : Mail) (to : Actor) → Agrees sc w → WasSent w n mail to → BodyRests sc w.actors mail.letter.from to mail.letter.body
+mail_rests sc w n mail to h sent =
+    subst (λ (t : Actor). BodyRests sc w.actors mail.letter.from t mail.letter.body) sent.goes_to (each_get (MailRests sc w.actors) w.mails n mail h.mails sent.sent)
+
+-- a reply to a coordinator is of its transaction
+pub same_txn_from : (one other : TxnId) → actor.Coordinator one ≡ actor.Coordinator other → other ≡ one
+same_txn_from one other e = grind arith
+
+yes_kept : (actors : Actors) (at : ServerId) (txn other : TxnId) (decided : Option Decision) (said : Vote) → other ≡ txn → decided_at actors.coordinators txn.0 ≡ decided → VoteRests actors at other said
+    → YesRests (decided ≡ None → IsPrepared actors.servers txn at) said
+yes_kept actors at txn other decided (vote.Yes verdicts) same here h =
+    λ none. subst (λ (t : TxnId). IsPrepared actors.servers t at) same (h.prepared (ap (λ (t : TxnId). decided_at actors.coordinators t.0) same ∙ (here ∙ none)))
+yes_kept actors at txn other decided (vote.No why) same here h = tt
+
+-- what a reply to the coordinator of a transaction says of its sender
+reply_rests : (sc : Scenario) (w : State) (txn : TxnId) (part : Part Coordinator) (from : Actor) (said : Body) → slice_get w.actors.coordinators txn.0 ≡ Some part → IsSoundBody sc (actor.Coordinator txn) said
+    → BodyRests sc w.actors from (actor.Coordinator txn) said → ReplyRests (IsPrepared w.actors.servers txn) (IsSettled w.actors.servers txn) (decided_in part.log) from said
+reply_rests sc w txn part (actor.Server at) (body.Vote reply) found sound h =
+    yes_kept w.actors at txn reply.txn (decided_in part.log) reply.vote (same_txn_from txn reply.txn sound.goes_to) (ap (option_and_then decided_by) found) h
+reply_rests sc w txn part (actor.Server at) (body.Ack ack) found sound h = subst (λ (t : TxnId). IsSettled w.actors.servers t at) (same_txn_from txn ack.txn sound.goes_to) h
+reply_rests sc w txn part _ _ found sound h = tt
+
+-- what a mail that was sent says is sound
+pub mail_sound : (sc : Scenario) (w : State) (n : ℕ) (mail : Mail) (to : Actor) → IsSound sc w → WasSent w n mail to → IsSoundBody sc to mail.letter.body
+mail_sound sc w n mail to sound sent =
+    let letter : IsSoundLetter sc mail.letter = each_get (IsSoundMail sc) w.mails n mail sound.mails_are sent.sent in
+    subst (λ (t : Actor). IsSoundBody sc t mail.letter.body) sent.goes_to letter.says
+
+-- the state of a server that is up is its own
+pub own_server : (sc : Scenario) (w : State) (at : ServerId) (part : Part Server) (s : Server) → IsSound sc w → slice_get w.actors.servers at.0 ≡ Some part → part.up ≡ Some s → s.server ≡ at
+own_server sc w at part s sound found up = (subst (λ (u : Option Server). IfSome u (IsSoundServerUp sc at)) up (sound.actors_are.servers at.0 part found).state).server_is
+
+-- the authority's answers rest on nothing
+tells_rest : (sc : Scenario) (actors : Actors) (authority : Authority) (said : Body) → Each (LetterRests sc actors) (office.on_body authority said).reaction.letters
+tells_rest sc actors authority (body.Ask ask) = (tt, tt)
+tells_rest sc actors authority _ = tt
+
+-- ---- submissions
+
+pub begun_lawful : (sc : Scenario) (w : State) → is_built sc ≡ true → IsSound sc w → Agrees sc w → (txn : TxnId) (part : Part Coordinator) (c : Coordinator) → IsTxn sc txn → IsCoordinatorUp w txn part c
+    → is_part_submitted (Some c) ≡ false → SubmissionLawful sc (IsPrepared w.actors.servers txn) (IsSettled w.actors.servers txn) c part.log (with_age (submit_row sc c) (length w.steps))
+begun_lawful sc w built sound h txn part c exists up new =
+    submit_row_lawful sc (IsPrepared w.actors.servers txn) (IsSettled w.actors.servers txn) c part.log (length w.steps) (coordinator_agrees sc w txn part c h up) new
+    (first_row_begins sc c built (subst (IsTxn sc) (sym (own_txn sc w txn part c sound up.found up.up)) exists))
+
+begun_agrees : (sc : Scenario) (w : State) → is_built sc ≡ true → IsSound sc w → Agrees sc w → (txn : TxnId) (part : Part Coordinator) (c : Coordinator) → IsTxn sc txn → IsCoordinatorUp w txn part c
+    → is_part_submitted (Some c) ≡ false
+    → TurnAgrees sc w (coordinator_acted w.actors txn (acts_by coordinator_fact (what.Submitted txn ∷ []) part.log (with_age (submit_row sc c) (length w.steps))))
+begun_agrees sc w built sound h txn part c exists up new =
+    let own : c.txn ≡ txn = own_txn sc w txn part c sound up.found up.up in
+    let effect = with_age (submit_row sc c) (length w.steps) in
+    coordinator_acts_agrees sc w txn part (Some effect.state) (what.Submitted txn ∷ []) effect.reaction.append effect.reaction.letters h up.found
+    (submission_acts sc w txn part c effect up.up own new (begun_lawful sc w built sound h txn part c exists up new))
+
+-- ---- receipts
+
+-- a server's row on a mail that was sent
+pub server_lawful : (sc : Scenario) (w : State) → Agrees sc w → (n : ℕ) (mail : Mail) (at : ServerId) (part : Part Server) (s : Server) → WasSent w n mail (actor.Server at) → IsServerUp w at part s
+    → ServerLawful (DecidedAs w.actors.coordinators) (IsAsked sc w.actors.coordinators at) s part.log (server_row sc s mail)
+server_lawful sc w h n mail at part s sent up =
+    server_row_lawful (DecidedAs w.actors.coordinators) (IsAsked sc w.actors.coordinators at) sc s part.log mail (server_agrees sc w at part s h up)
+    (request_rests sc w mail.letter.from at mail.letter.body (mail_rests sc w n mail (actor.Server at) h sent))
+
+-- a coordinator's row on a mail that was sent
+pub coordinator_lawful : (sc : Scenario) (w : State) → IsSound sc w → Agrees sc w → (n : ℕ) (mail : Mail) (txn : TxnId) (part : Part Coordinator) (c : Coordinator) → WasSent w n mail (actor.Coordinator txn)
+    → IsCoordinatorUp w txn part c → CoordinatorLawful sc (IsPrepared w.actors.servers txn) (IsSettled w.actors.servers txn) c part.log (coordinator_row sc c mail)
+coordinator_lawful sc w sound h n mail txn part c sent up =
+    coordinator_row_lawful sc (IsPrepared w.actors.servers txn) (IsSettled w.actors.servers txn) c part.log mail (coordinator_agrees sc w txn part c h up)
+    (reply_rests sc w txn part mail.letter.from mail.letter.body up.found (mail_sound sc w n mail (actor.Coordinator txn) sound sent) (mail_rests sc w n mail (actor.Coordinator txn) h sent))
+
+received_by_server : (sc : Scenario) (w : State) → IsSound sc w → Agrees sc w → (n : ℕ) (mail : Mail) (at : ServerId) (part : Part Server) (s : Server) → WasSent w n mail (actor.Server at) → IsServerUp w at part s
+    → TurnAgrees sc w (server_acted w.actors at (acts_by (server_fact at) [] part.log (server_row sc s mail)))
+received_by_server sc w sound h n mail at part s sent up =
+    let effect = server_row sc s mail in
+    let l = server_lawful sc w h n mail at part s sent up in
+    server_acts_agrees sc w at part (Some effect.state) [] effect.reaction.append effect.reaction.letters h up.found
+    (record {
+      state = l.agrees;
+      rests = l.rests;
+      own_says = silent_says sc w;
+      replies = subst (λ (x : ServerId). Each (LetterKept x (log_with part.log effect.reaction.append)) effect.reaction.letters) (own_server sc w at part s sound up.found up.up) l.replies;
+    })
+
+received_by_coordinator : (sc : Scenario) (w : State) → IsSound sc w → Agrees sc w → (n : ℕ) (mail : Mail) (txn : TxnId) (part : Part Coordinator) (c : Coordinator) → WasSent w n mail (actor.Coordinator txn)
+    → IsCoordinatorUp w txn part c → TurnAgrees sc w (coordinator_acted w.actors txn (acts_by coordinator_fact [] part.log (coordinator_row sc c mail)))
+received_by_coordinator sc w sound h n mail txn part c sent up =
+    let effect = coordinator_row sc c mail in
+    coordinator_acts_agrees sc w txn part (Some effect.state) [] effect.reaction.append effect.reaction.letters h up.found
+    (received_acts sc w txn part c effect h up.found up.up (own_txn sc w txn part c sound up.found up.up) (coordinator_lawful sc w sound h n mail txn part c sent up))
+
+-- ---- steps
+
+agrees_cases : (sc : Scenario) (w : State) → is_built sc ≡ true → IsSound sc w → Agrees sc w → Cases sc w (λ taken turn. TurnAgrees sc w turn)
+agrees_cases sc w built sound h =
+    record {
+      idle = idle_agrees sc w h;
+      server_received = λ n mail at part s sent up. received_by_server sc w sound h n mail at part s sent up;
+      coordinator_received = λ n mail txn part c sent up. received_by_coordinator sc w sound h n mail txn part c sent up;
+      authority_told = λ n mail sent.
+          unmoved_agrees sc w [] (office.authority_row w.actors.authority mail).reaction.letters h (silent_says sc w) (tells_rest sc w.actors w.actors.authority mail.letter.body);
+      begun = λ txn part c exists up new. begun_agrees sc w built sound h txn part c exists up new;
+    }
+
+-- a step that is not refused keeps agreement
+pub agrees_done : (sc : Scenario) (m : Machine) (taken : Step) → is_built sc ≡ true → IsStepOf sc taken → refusal m.state taken ≡ None → IsSound sc m.state → Agrees sc m.state → Agrees sc (done sc m taken).state
+agrees_done sc m taken built exists allowed sound h =
+    done_by sc m (λ taken turn. TurnAgrees sc m.state turn) (Agrees sc) (agrees_cases sc m.state built sound h) h.coordinator_count
+    (λ taken turn t. concluded_agrees sc m.state taken turn h t) h taken exists allowed
+
+-- ---- before the first step
+
+pub made_count : {A : Type 0} (f : ℕ → A) (low count : ℕ) → length (map f (range_with_len low count)) ≡ count
+made_count f low zero = refl
+made_count f low (suc count) = let later = made_count f (low + 1) count in omega (arith, later)
+
+unset_at : {A : Type 0} (count n : ℕ) → flattened (slice_get (replicate {A = Option A} count None) n) ≡ None
+unset_at zero n = refl
+unset_at (suc count) zero = refl
+unset_at (suc count) (suc n) = unset_at count n
+
+none_submitted : (found : Option (Part Coordinator)) → ((part : Part Coordinator) → found ≡ Some part → submitted_up part.up ≡ 0) → 0 ≡ submitted_count found
+none_submitted None h = refl
+none_submitted (Some part) h = sym (h part refl)
+
+none_found : {A : Type 0} {B : Type 0} (look : A → Option B) (found : Option A) → ((x : A) → found ≡ Some x → look x ≡ None) → option_and_then look found ≡ None
+none_found look None h = refl
+none_found look (Some x) h = h x refl
+
+none_settled : (found : Option Settled) (s : Settled) → found ≡ None → found ≡ Some s → ⊥
+none_settled found s e f = cc
+
+-- a coordinator before its submission, and a server that has done nothing
+record IsIdlePart (sc : Scenario) (servers : List (Part Server)) (part : Part Coordinator) : Type 0 where
+  pub state : (txn : TxnId) → IfSome part.up (CoordinatorUpAgrees sc servers txn part.log)
+  pub empty : part.log ≡ []
+  pub unsubmitted : submitted_up part.up ≡ 0
+
+record IsOpenedPart (part : Part Server) : Type 0 where
+  pub agrees : IfSome part.up (λ (s : Server). ServerAgrees s part.log)
+  pub empty : part.log ≡ []
+
+-- the world before the first step agrees
+pub agrees_opening : (sc : Scenario) → Agrees sc (opening_state sc)
+agrees_opening sc =
+    let coordinators = (opened_actors sc).coordinators in
+    let servers = (opened_actors sc).servers in
+    let idle : EachAt (λ (n : ℕ) (part : Part Coordinator). IsIdlePart sc servers part) coordinators =
+    λ n part e. at_made (λ (k : ℕ) (found : Part Coordinator). IsIdlePart sc servers found) (λ (k : ℕ). opened_part (coord.idle sc (record { 0 = k }))) 0 (length sc.txns)
+    (λ k within. record { state = λ txn. record { agrees = record { decided = refl; servers = refl; awaited = tt }; replied = tt }; empty = refl; unsubmitted = refl }) n part e in
+    let open_ones : EachAt (λ (n : ℕ) (part : Part Server). IsOpenedPart part) servers =
+    λ n part e. at_made (λ (k : ℕ) (found : Part Server). IsOpenedPart found) (λ (k : ℕ). opened_part (server.opened sc (record { 0 = k }))) 0 (length sc.servers)
+    (λ k within. record {
+      agrees = record {
+        settled = λ txn. unset_at (length sc.txns) txn.0;
+        unsettled = placed_none (IsUnsettled []) (length sc.txns);
+        prepared = λ txn. sym (ap (option_and_then cast_in) (unset_at (length sc.txns) txn.0));
+      };
+      empty = refl;
+    }) n part e in
+    record {
+      past = tt;
+      coordinator_count = made_count (λ (n : ℕ). opened_part (coord.idle sc (record { 0 = n }))) 0 (length sc.txns);
+      server_count = made_count (λ (n : ℕ). opened_part (server.opened sc (record { 0 = n }))) 0 (length sc.servers);
+      coordinators = λ n part e. record {
+        state = (idle n part e).state (record { 0 = n });
+        served = subst (DecidedServed sc servers (record { 0 = n })) (sym (idle n part e).empty) tt;
+      };
+      servers = λ n part e. record {
+        state = (open_ones n part e).agrees;
+        settled = λ txn s f. absurd (none_settled (settled_in txn part.log) s (ap (settled_in txn) (open_ones n part e).empty) f);
+      };
+      mails = tt;
+      numbered = tt;
+      facts = tt;
+      submitted = λ txn. none_submitted (slice_get coordinators txn.0) (λ part e. (idle txn.0 part e).unsubmitted);
+      decided = λ txn. ap listed (sym (none_found decided_by (slice_get coordinators txn.0) (λ part e. ap decided_in (idle txn.0 part e).empty)));
+      settled = λ at txn. ap (λ (found : Option Settled). listed (option_map outcome_settled found))
+          (sym (none_found (settled_by txn) (slice_get servers at.0) (λ part e. ap (settled_in txn) (open_ones at.0 part e).empty)));
+    }

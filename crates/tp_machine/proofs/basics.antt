@@ -1,0 +1,12 @@
+-- Lemmas on lists, tables, ids, logs, facts and the machine, which know no theorem.
+pub mod Facts
+pub mod Flags
+pub mod Ids
+pub mod Lists
+pub mod Logs
+pub mod Machine
+pub mod Opened
+pub mod Phases
+pub mod Servers
+pub mod Tables
+pub mod World

@@ -1,0 +1,21 @@
+-- Ids and their numbers.
+use Rattle.std.proofs.Common.{ap, arith, true, ℕ, ◌==◌, ◌≡◌}
+use Rattle.std.proofs.lemmas.Bool.Decides.{nat_tests}
+use Rattle.std.proofs.lemmas.Bool.{eqb-true}
+use Rattle.tp_model.specs.Words.{ServerId, TxnId}
+use Rattle.tp_model.specs.Ids.{same_txn}
+
+pub number_itself : (n : ℕ) → (n == n) ≡ true
+number_itself n = grind (arith, nat_tests)
+
+abbrev pub txn_number : ℕ → TxnId
+txn_number n = record { 0 = n }
+
+pub same_txn_is : (one other : TxnId) → same_txn one other ≡ true → one ≡ other
+same_txn_is one other e = ap txn_number (eqb-true one.0 other.0 e)
+
+abbrev pub server_number : ℕ → ServerId
+server_number n = record { 0 = n }
+
+pub same_server_is : (one other : ServerId) → (one.0 == other.0) ≡ true → one ≡ other
+same_server_is one other e = ap server_number (eqb-true one.0 other.0 e)

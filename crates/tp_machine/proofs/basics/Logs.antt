@@ -1,0 +1,189 @@
+-- Laws of what logs say as they grow, and of look-ups in lists of which one member changes.
+use Rattle.std.specs.Option.{option_map_or}
+use Rattle.std.proofs.Common.{Bool, IfSome, List, None, Option, Some, [], ap, arith, drop, false, flat_map, if◌then◌else◌, is_some, length, option_and_then, refl, slice_get, slice_set, subst, suc, sym, true, zero, ℕ, ◌++◌, ◌==◌, ◌∙◌, ◌∷◌, ◌≡◌}
+use Rattle.std.proofs.lemmas.Bool.Decides.{nat_tests}
+use Rattle.std.proofs.lemmas.Option.{same_Some}
+use Rattle.tp_model.specs.Facts.{first_of}
+use Rattle.tp_model.specs.Ids.{same_txn}
+use Rattle.tp_model.specs.Words.{Prepared, Record, Settled, TxnId, What}
+use Rattle.tp_model.specs.Words.log
+use Rattle.tp_machine.specs.Logs.{decided_in, decision_in, has_voted, is_prepared_or_settled, preparation_in, prepared_in, settled_in, settlement_in, voted_in, while_unsettled}
+use Rattle.tp_machine.specs.Machine.{log_with}
+use Rattle.tp_machine.proofs.basics.Facts.{append_none}
+use Rattle.tp_machine.proofs.basics.Ids.{same_txn_is}
+
+-- ---- the first of two
+
+pub first_none : {A : Type 0} (x : Option A) → first_of x None ≡ x
+first_none None = refl
+first_none (Some found) = refl
+
+pub first_first : {A : Type 0} (x y z : Option A) → first_of (first_of x y) z ≡ first_of x (first_of y z)
+first_first None y z = refl
+first_first (Some found) y z = refl
+
+-- what is found stays found
+pub first_stays : {A : Type 0} (x y : Option A) (found : A) → x ≡ Some found → first_of x y ≡ Some found
+first_stays x y found e = ap (λ z. first_of z y) e
+
+abbrev pub listed : {A : Type 0} → Option A → List A
+listed None = []
+listed (Some found) = found ∷ []
+
+abbrev pub IsFresh : {A : Type 0} {B : Type 0} → Option A → Option B → Type 0
+IsFresh None old = Unit {0}
+IsFresh (Some new) old = old ≡ None
+
+-- two lists of at most one member each, of which the second comes only where the first is empty
+pub listed_first : {A : Type 0} (old new : Option A) → IsFresh new old → listed old ++ listed new ≡ listed (first_of old new)
+listed_first None new fresh = refl
+listed_first (Some found) None fresh = refl
+listed_first (Some found) (Some new) fresh = absurd (cc)
+
+-- ---- one more record
+
+abbrev pub appended : {A : Type 0} → (Record → Option A) → Option Record → Option A
+appended look append = option_and_then look append
+
+decided_push : (kept : List Record) (forced : Record) → decided_in (kept ++ forced ∷ []) ≡ first_of (decided_in kept) (decision_in forced)
+decided_push [] forced = first_none (decision_in forced)
+decided_push (first ∷ kept) forced =
+    ap (first_of (decision_in first)) (decided_push kept forced) ∙ sym (first_first (decision_in first) (decided_in kept) (decision_in forced))
+
+pub decided_with : (kept : List Record) (append : Option Record) → decided_in (log_with kept append) ≡ first_of (decided_in kept) (appended decision_in append)
+decided_with kept None = sym (first_none (decided_in kept))
+decided_with kept (Some forced) = decided_push kept forced
+
+settled_push : (txn : TxnId) (kept : List Record) (forced : Record) → settled_in txn (kept ++ forced ∷ []) ≡ first_of (settled_in txn kept) (settlement_in txn forced)
+settled_push txn [] forced = first_none (settlement_in txn forced)
+settled_push txn (first ∷ kept) forced =
+    ap (first_of (settlement_in txn first)) (settled_push txn kept forced) ∙ sym (first_first (settlement_in txn first) (settled_in txn kept) (settlement_in txn forced))
+
+pub settled_with : (txn : TxnId) (kept : List Record) (append : Option Record) → settled_in txn (log_with kept append) ≡ first_of (settled_in txn kept) (appended (settlement_in txn) append)
+settled_with txn kept None = sym (first_none (settled_in txn kept))
+settled_with txn kept (Some forced) = settled_push txn kept forced
+
+voted_push : (txn : TxnId) (kept : List Record) (forced : Record) → voted_in txn (kept ++ forced ∷ []) ≡ first_of (preparation_in txn forced) (voted_in txn kept)
+voted_push txn [] forced = sym (first_none (preparation_in txn forced))
+voted_push txn (first ∷ kept) forced =
+    ap (λ found. first_of found (preparation_in txn first)) (voted_push txn kept forced) ∙ first_first (preparation_in txn forced) (voted_in txn kept) (preparation_in txn first)
+
+pub voted_with : (txn : TxnId) (kept : List Record) (append : Option Record) → voted_in txn (log_with kept append) ≡ first_of (appended (preparation_in txn) append) (voted_in txn kept)
+voted_with txn kept None = refl
+voted_with txn kept (Some forced) = voted_push txn kept forced
+
+-- a record keeps what is prepared or settled so
+voted_more : (settled more : Option Settled) (voted new : Option Prepared) → is_prepared_or_settled settled voted ≡ true → is_prepared_or_settled (first_of settled more) (first_of new voted) ≡ true
+voted_more (Some s) more voted new e = refl
+voted_more None (Some s) voted new e = refl
+voted_more None None None new e = absurd (cc)
+voted_more None None (Some p) None e = refl
+voted_more None None (Some p) (Some q) e = refl
+
+pub has_voted_with : (txn : TxnId) (kept : List Record) (append : Option Record) → has_voted txn kept ≡ true → has_voted txn (log_with kept append) ≡ true
+has_voted_with txn kept append e =
+    ap (λ (s : Option Settled). is_prepared_or_settled s (voted_in txn (log_with kept append))) (settled_with txn kept append)
+    ∙ (ap (is_prepared_or_settled (first_of (settled_in txn kept) (appended (settlement_in txn) append))) (voted_with txn kept append)
+    ∙ voted_more (settled_in txn kept) (appended (settlement_in txn) append) (voted_in txn kept) (appended (preparation_in txn) append) e)
+
+-- what is prepared on a log after a record
+pub prepared_with : (txn : TxnId) (kept : List Record) (append : Option Record) → prepared_in txn (log_with kept append)
+    ≡ while_unsettled (first_of (settled_in txn kept) (appended (settlement_in txn) append)) (first_of (appended (preparation_in txn) append) (voted_in txn kept))
+prepared_with txn kept append =
+    ap (λ (s : Option Settled). while_unsettled s (voted_in txn (log_with kept append))) (settled_with txn kept append)
+    ∙ ap (while_unsettled (first_of (settled_in txn kept) (appended (settlement_in txn) append))) (voted_with txn kept append)
+
+-- a record that prepares a transaction does it so that P holds
+abbrev pub Prepares : (TxnId → Prepared → Type 0) → Record → Type 0
+Prepares P (log.Prepared p) = P p.txn p
+Prepares P _ = Unit {0}
+
+grown_from : (P : TxnId → Prepared → Type 0) (append : Option Record) (txn : TxnId) (settled : Option Settled) (voted : Option Prepared) (now : Prepared)
+    → ((p : Prepared) → while_unsettled settled voted ≡ Some p → P txn p) → IfSome append (Prepares P)
+    → while_unsettled (first_of settled (appended (settlement_in txn) append)) (first_of (appended (preparation_in txn) append) voted) ≡ Some now → P txn now
+grown_from P append txn (Some s) voted now h r e = absurd (cc)
+grown_from P None txn None voted now h r e = h now e
+grown_from P (Some (log.Prepared p)) txn None voted now h r e = chosen (same_txn p.txn txn) refl e
+  where
+    chosen : (b : Bool) → same_txn p.txn txn ≡ b → first_of (if b then Some p else None) voted ≡ Some now → P txn now
+    chosen true same f = subst (P txn) (same_Some p now f) (subst (λ (t : TxnId). P t p) (same_txn_is p.txn txn same) r)
+    chosen false apart f = h now f
+grown_from P (Some (log.Settled s)) txn None voted now h r e = chosen (same_txn s.txn txn) e
+  where
+    chosen : (b : Bool) → while_unsettled (if b then Some s else None) voted ≡ Some now → P txn now
+    chosen true f = absurd (cc)
+    chosen false f = h now f
+grown_from P (Some _) txn None voted now h r e = h now e
+
+-- what holds of what was prepared, and of what a record prepares, holds of what is prepared after it
+pub prepared_grown : (P : TxnId → Prepared → Type 0) (kept : List Record) (append : Option Record) (txn : TxnId) (now : Prepared) → ((p : Prepared) → prepared_in txn kept ≡ Some p → P txn p)
+    → IfSome append (Prepares P) → prepared_in txn (log_with kept append) ≡ Some now → P txn now
+prepared_grown P kept append txn now h r e = grown_from P append txn (settled_in txn kept) (voted_in txn kept) now h r (sym (prepared_with txn kept append) ∙ e)
+
+either_prepared : (settled more : Option Settled) (voted new : Option Prepared) (P : Prepared → Type 0) → ((p : Prepared) → while_unsettled settled voted ≡ Some p → P p) → ((p : Prepared) → new ≡ Some p → P p)
+    → (p : Prepared) → while_unsettled (first_of settled more) (first_of new voted) ≡ Some p → P p
+either_prepared (Some s) more voted new P old now p e = absurd (cc)
+either_prepared None (Some s) voted new P old now p e = absurd (cc)
+either_prepared None None voted None P old now p e = old p e
+either_prepared None None voted (Some q) P old now p e = now p e
+
+-- what is prepared after a record was prepared before it, or is the record
+pub prepared_either : (txn : TxnId) (kept : List Record) (append : Option Record) (P : Prepared → Type 0) → ((p : Prepared) → prepared_in txn kept ≡ Some p → P p)
+    → ((p : Prepared) → appended (preparation_in txn) append ≡ Some p → P p) → (p : Prepared) → prepared_in txn (log_with kept append) ≡ Some p → P p
+prepared_either txn kept append P old now p e =
+    either_prepared (settled_in txn kept) (appended (settlement_in txn) append) (voted_in txn kept) (appended (preparation_in txn) append) P old now p (sym (prepared_with txn kept append) ∙ e)
+
+-- what has voted and is not settled is prepared
+pub voted_open : (settled : Option Settled) (voted : Option Prepared) → settled ≡ None → is_prepared_or_settled settled voted ≡ true → is_some (while_unsettled settled voted) ≡ true
+voted_open (Some s) voted e h = absurd (cc)
+voted_open None None e h = absurd (cc)
+voted_open None (Some p) e h = refl
+
+-- ---- what a log gained
+
+drop_kept : (kept : List Record) → drop (length kept) kept ≡ []
+drop_kept [] = refl
+drop_kept (first ∷ kept) = drop_kept kept
+
+drop_front : (kept more : List Record) → drop (length kept) (kept ++ more) ≡ more
+drop_front [] more = refl
+drop_front (first ∷ kept) more = drop_front kept more
+
+-- the facts of the records that a log gained are those of the record that was appended
+pub gained : (fact : Record → List What) (kept : List Record) (append : Option Record) → flat_map fact (drop (length kept) (log_with kept append)) ≡ option_map_or fact append []
+gained fact kept None = ap (flat_map fact) (drop_kept kept)
+gained fact kept (Some forced) = ap (flat_map fact) (drop_front kept (forced ∷ [])) ∙ append_none (fact forced)
+
+-- ---- one member changes
+
+zero_not_suc : (m : ℕ) → (0 == suc m) ≡ false
+zero_not_suc m = grind (arith, nat_tests)
+
+suc_not_zero : (m : ℕ) → (suc m == 0) ≡ false
+suc_not_zero m = grind (arith, nat_tests)
+
+both_suc : (n m : ℕ) → (suc n == suc m) ≡ (n == m)
+both_suc n m = grind (arith, nat_tests)
+
+pub get_set : {A : Type 0} (xs : List A) (n m : ℕ) (old new : A) → slice_get xs n ≡ Some old → slice_get (slice_set xs n new) m ≡ (if n == m then Some new else slice_get xs m)
+get_set [] n m old new e = absurd (cc)
+get_set (x ∷ xs) zero zero old new e = refl
+get_set (x ∷ xs) zero (suc m) old new e = sym (ap (λ (b : Bool). if b then Some new else slice_get xs m) (zero_not_suc m))
+get_set (x ∷ xs) (suc n) zero old new e = sym (ap (λ (b : Bool). if b then Some new else Some x) (suc_not_zero n))
+get_set (x ∷ xs) (suc n) (suc m) old new e =
+    get_set xs n m old new e ∙ sym (ap (λ (b : Bool). if b then Some new else slice_get xs m) (both_suc n m))
+
+chosen : {A : Type 0} {B : Type 0} (look : A → Option B) (b : Bool) (new : A) (other : Option A) → option_and_then look (if b then Some new else other) ≡ (if b then look new else option_and_then look other)
+chosen look true new other = refl
+chosen look false new other = refl
+
+-- what is looked up after one member changed
+pub look_set : {A : Type 0} {B : Type 0} (look : A → Option B) (xs : List A) (n m : ℕ) (old new : A) → slice_get xs n ≡ Some old
+    → option_and_then look (slice_get (slice_set xs n new) m) ≡ (if n == m then look new else option_and_then look (slice_get xs m))
+look_set look xs n m old new e = ap (option_and_then look) (get_set xs n m old new e) ∙ chosen look (n == m) new (slice_get xs m)
+
+-- a member that is put where it stands
+pub set_same : {A : Type 0} (xs : List A) (n : ℕ) (x : A) → slice_get xs n ≡ Some x → slice_set xs n x ≡ xs
+set_same [] n x e = refl
+set_same (y ∷ xs) zero x e = ap (λ z. z ∷ xs) (sym (same_Some y x e))
+set_same (y ∷ xs) (suc n) x e = ap (λ zs. y ∷ zs) (set_same xs n x e)

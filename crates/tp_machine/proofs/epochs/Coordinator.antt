@@ -1,0 +1,157 @@
+-- Epochs, the coordinator's other rows: they name what is kept, and keep it.
+use Rattle.std.proofs.Common.{Bool, List, None, Option, Some, [], ap, false, is_some, map, not, refl, subst, true, unwrap_or, ℕ, ℤ, ◌==◌, ◌||◌, ◌∙◌, ◌∷◌, ◌≡◌}
+use Rattle.tp_types.specs.Effect.{Effect, ignores, sends}
+use Rattle.tp_model.specs.Words.{Actor, Body, Mail, Outcome, Scenario, ServerId, Staple, Verdict}
+use Rattle.tp_model.specs.Words.body
+use Rattle.tp_model.specs.Words.outcome
+use Rattle.tp_machine.specs.Machine.{with_age}
+use Rattle.tp_machine.specs.Sound.{Each}
+use Rattle.tp_machine.specs.coord.Opened.{servers_at}
+use Rattle.tp_machine.specs.coord.Row as coord
+use Rattle.tp_machine.specs.coord.State.{Coordinator}
+use Rattle.tp_machine.specs.declared.coord.Phase.TheVariants as phase
+use Rattle.tp_machine.specs.declared.coord.Phase.{Phase}
+use Rattle.tp_machine.specs.declared.coord.Reply.{Reply}
+use Rattle.tp_machine.specs.declared.coord.Round.{Round}
+use Rattle.tp_machine.proofs.agreement.Coordinator.{idle_is}
+use Rattle.tp_machine.proofs.epochs.Asked.{Asking, NamesKept, asked_then, kept_are_asked, kept_are_own, then_kept}
+use Rattle.tp_machine.proofs.walks.CoordinatorRows.{coordinator_by, submit_by}
+use Rattle.tp_machine.proofs.epochs.Server.{IsPlainLetter, LetterFirst, LetterTold}
+use Rattle.tp_machine.proofs.epochs.Kept.{CoordinatorKeeps, IsDoneMail, KeepsAsked, KeepsEpoch, PhaseKept, RoundKept, RowKeeps, ignores_keeps, kept_epoch, plain_keeps, ran_last_keeps}
+use Rattle.tp_machine.proofs.basics.Ids.{server_number}
+use Rattle.tp_machine.proofs.basics.Phases.{has_run_at, is_undecided}
+use Rattle.tp_machine.proofs.ids.Built.{number_is}
+use Rattle.tp_machine.proofs.basics.Lists.{each_filter, each_more}
+
+-- ---- Tell
+
+some_is : (kept : Option ℕ) → is_some kept ≡ true → kept ≡ Some (unwrap_or kept 0)
+some_is None e = absurd (cc)
+some_is (Some n) e = refl
+
+prepares_name : (c : Coordinator) (staple : Staple) (servers : List ServerId) → Each (KeepsEpoch c) servers → Each (NamesKept c.txn (kept_epoch c)) (map (coord.prepare_letter c staple) servers)
+prepares_name c staple [] h = tt
+prepares_name c staple (at ∷ servers) h = ((refl, some_is (kept_epoch c at) h.0), prepares_name c staple servers h.1)
+
+prepares_first : (sc : Scenario) (c : Coordinator) (staple : Staple) (servers : List ServerId) → Each (LetterFirst sc) (map (coord.prepare_letter c staple) servers)
+prepares_first sc c staple [] = tt
+prepares_first sc c staple (at ∷ servers) = (tt, prepares_first sc c staple servers)
+
+prepares_told : (sc : Scenario) (A : Asking) (E : ℕ → ℕ) (c : Coordinator) (staple : Staple) (servers : List ServerId) → Each (LetterTold sc A E) (map (coord.prepare_letter c staple) servers)
+prepares_told sc A E c staple [] = tt
+prepares_told sc A E c staple (at ∷ servers) = (tt, prepares_told sc A E c staple servers)
+
+prepares_keeps : (sc : Scenario) (E : ℕ → ℕ) (A : Asking) (c : Coordinator) (round : Round) (staple : Staple) → CoordinatorKeeps sc E (A c.txn) c → c.phase ≡ phase.Asking round
+    → RowKeeps sc E A c (coord.prepares c round staple)
+prepares_keeps sc E A c round staple h e =
+    let k : KeepsAsked sc (A c.txn) c = h.undecided (ap is_undecided e) in
+    let kept : RoundKept (KeepsEpoch c) round = subst (PhaseKept (KeepsEpoch c)) e k.round in
+    let letters = map (coord.prepare_letter c staple) round.awaited in
+    let names : Each (NamesKept c.txn (kept_epoch c)) letters = prepares_name c staple round.awaited kept.awaited in
+    record {
+      keeps = record {
+        places = h.places;
+        past = h.past;
+        undecided = λ unsure. record {
+          asked = λ at epoch. then_kept A c.txn at (kept_epoch c) letters (k.asked at) names epoch;
+          ran = λ at. k.ran at ∙ ap (λ (p : Phase). has_run_at sc c.txn p at) e;
+          round = kept;
+        };
+      };
+      own = kept_are_own c.txn (kept_epoch c) letters names;
+      sent = record {
+        named = kept_are_asked A c.txn (kept_epoch c) letters k.asked names;
+        first = prepares_first sc c staple round.awaited;
+        told = prepares_told sc (asked_then A letters) E c staple round.awaited;
+      };
+    }
+
+-- ---- Vote
+
+orders_plain : (c : Coordinator) (ended : Outcome) (servers : List ServerId) → Each IsPlainLetter (coord.requests c (body.Decide (record { txn = c.txn; outcome = ended })) servers)
+orders_plain c ended [] = tt
+orders_plain c ended (at ∷ servers) = (tt, orders_plain c ended servers)
+
+either_keeps : (K : ServerId → Type 0) (other at : ServerId) (later b : Bool) → (other.0 == at.0) ≡ b → (b || later) ≡ true → K other → (later ≡ true → K at) → K at
+either_keeps K other at later true same e here rest = subst K (ap server_number (number_is other.0 at.0 same)) here
+either_keeps K other at later false apart e here rest = rest e
+
+awaited_keeps : (K : ServerId → Type 0) (servers : List ServerId) (at : ServerId) → coord.is_awaited servers at ≡ true → Each K servers → K at
+awaited_keeps K [] at e h = absurd (cc)
+awaited_keeps K (other ∷ servers) at e h = either_keeps K other at (coord.is_awaited servers at) (other.0 == at.0) refl e h.0 (λ later. awaited_keeps K servers at later h.1)
+
+counted_keeps : (sc : Scenario) (E : ℕ → ℕ) (A : Asking) (c : Coordinator) (round : Round) (staple : Staple) (at : ServerId) (verdicts : List Verdict) → CoordinatorKeeps sc E (A c.txn) c
+    → c.phase ≡ phase.Checking round staple → coord.is_awaited round.awaited at ≡ true → RowKeeps sc E A c (sends (record c { phase = phase.Checking (coord.with_reply round at verdicts) staple }) [])
+counted_keeps sc E A c round staple at verdicts h e awaited =
+    let k : KeepsAsked sc (A c.txn) c = h.undecided (ap is_undecided e) in
+    let kept : RoundKept (KeepsEpoch c) round = subst (PhaseKept (KeepsEpoch c)) e k.round in
+    plain_keeps sc E A c.txn (Some (record c { phase = phase.Checking (coord.with_reply round at verdicts) staple })) []
+    (record {
+      places = h.places;
+      past = h.past;
+      undecided = λ unsure. record {
+        asked = k.asked;
+        ran = λ s. k.ran s ∙ ap (λ (p : Phase). has_run_at sc c.txn p s) e;
+        round = record {
+          awaited = each_filter (KeepsEpoch c) (λ (s : ServerId). not (s.0 == at.0)) round.awaited kept.awaited;
+          replied = each_more (λ (reply : Reply). KeepsEpoch c reply.server) round.kept (record { server = at; verdicts = verdicts }) kept.replied (awaited_keeps (KeepsEpoch c) round.awaited at awaited kept.awaited);
+        };
+      };
+    }) tt
+
+-- ---- all mails
+
+-- what a mail tells a coordinator of epochs
+abbrev pub IsMail : Scenario → (ℕ → ℕ) → Asking → Coordinator → Actor → Body → Type 0
+IsMail sc E A c from (body.Done done) = IsDoneMail sc E A c from done
+IsMail sc E A c from _ = Unit {0}
+
+-- every row of a coordinator on receipt of a mail
+pub coordinator_row_keeps : (sc : Scenario) (E : ℕ → ℕ) (A : Asking) (c : Coordinator) (mail : Mail) → CoordinatorKeeps sc E (A c.txn) c → c.servers ≡ servers_at sc c.txn
+    → IsMail sc E A c mail.letter.from mail.letter.body → RowKeeps sc E A c (coord.coordinator_row sc c mail)
+coordinator_row_keeps sc E A c mail h servers m =
+    coordinator_by sc c mail (RowKeeps sc E A c)
+    (record {
+      ignored = ignores_keeps sc E A c h;
+      ran_last = λ done at asked value k. ran_last_keeps sc E A c mail done at asked value h servers (subst (IsMail sc E A c mail.letter.from) k.said_is m) k;
+      told_first = λ tell round k. prepares_keeps sc E A c round (coord.staple_of tell mail.sent) h k.asking;
+      counted = λ reply round staple at verdicts other others y e. counted_keeps sc E A c round staple at verdicts h y.checking y.awaited;
+      committed = λ reply round staple at verdicts y e first agreed.
+          plain_keeps sc E A c.txn (Some (coord.commits c round.number verdicts).state) (coord.decide_letters c outcome.Commit)
+          (record { places = h.places; past = h.past; undecided = λ unsure. absurd (cc) }) (orders_plain c outcome.Commit c.servers);
+      acknowledged = λ ack ended awaited at k.
+          plain_keeps sc E A c.txn (Some (record c { phase = phase.Ending ended (coord.without awaited at) })) []
+          (record { places = h.places; past = h.past; undecided = λ unsure. absurd (cc) }) tt;
+    })
+
+-- ---- Submit
+
+unsent_keeps : (sc : Scenario) (E : ℕ → ℕ) (A : Asking) (c : Coordinator) (age : ℕ) → CoordinatorKeeps sc E (A c.txn) c → RowKeeps sc E A c (with_age (ignores c) age)
+unsent_keeps sc E A c age h =
+    plain_keeps sc E A c.txn (Some (coord.placed c age)) []
+    (record { places = h.places; past = h.past; undecided = λ unsure. let k = h.undecided unsure in record { asked = k.asked; ran = k.ran; round = k.round } }) tt
+
+sends_first_keeps : (sc : Scenario) (E : ℕ → ℕ) (A : Asking) (c : Coordinator) (age : ℕ) (at : ServerId) (value : ℤ) → CoordinatorKeeps sc E (A c.txn) c → c.phase ≡ phase.Idle
+    → RowKeeps sc E A c (with_age (coord.sends_first c (Some at) (Some value)) age)
+sends_first_keeps sc E A c age at value h e =
+    let k : KeepsAsked sc (A c.txn) c = h.undecided (ap is_undecided e) in
+    let letters = (coord.sends_first c (Some at) (Some value)).reaction.letters in
+    record {
+      keeps = record {
+        places = h.places;
+        past = h.past;
+        undecided = λ unsure. record {
+          asked = λ s epoch. then_kept A c.txn s (kept_epoch c) letters (k.asked s) (tt, tt) epoch;
+          ran = λ s. k.ran s ∙ ap (λ (p : Phase). has_run_at sc c.txn p s) e;
+          round = tt;
+        };
+      };
+      own = (tt, tt);
+      sent = record { named = (tt, tt); first = (refl, tt); told = (tt, tt) };
+    }
+
+-- the submission of a transaction
+pub submit_row_keeps : (sc : Scenario) (E : ℕ → ℕ) (A : Asking) (c : Coordinator) (age : ℕ) → CoordinatorKeeps sc E (A c.txn) c → coord.is_begun c.phase ≡ false → RowKeeps sc E A c (with_age (coord.submit_row sc c) age)
+submit_row_keeps sc E A c age h b =
+    submit_by sc c (λ (effect : Effect Coordinator). RowKeeps sc E A c (with_age effect age))
+    (record { ignored = unsent_keeps sc E A c age h; sent = λ asked at value k. sends_first_keeps sc E A c age at value h (idle_is c.phase b) })

@@ -1,0 +1,225 @@
+-- Epochs, the actors' rows: what a server does it does in its epoch, and of a server that has told its epoch a coordinator keeps and
+-- names the one that was asked. A says which epochs were asked, E the present epoch of each server.
+use Rattle.std.proofs.Common.{Bool, IfSome, List, None, Option, Some, [], ap, arith, false, is_none, map, refl, subst, sym, true, ℕ, ◌++◌, ◌+◌, ◌∙◌, ◌∷◌, ◌≡◌, ◌≤◌}
+use Rattle.tp_types.specs.Effect.{Effect, ignores}
+use Rattle.tp_model.specs.Words.{Actor, Answer, Body, DecideRequest, Deed, DoneReply, Letter, Mail, PrepareRequest, Prepared, QueryRequest, Record, Scenario, ServerId, TxnId}
+use Rattle.tp_model.specs.Words.actor
+use Rattle.tp_model.specs.Words.answer
+use Rattle.tp_model.specs.Words.body
+use Rattle.tp_model.specs.Words.log
+use Rattle.tp_machine.specs.Logs.{boots_in, epoch_in}
+use Rattle.tp_machine.specs.Machine.{log_with}
+use Rattle.tp_machine.specs.Sound.{Each, EachPlaced}
+use Rattle.tp_machine.specs.declared.server.Entry.{Entry}
+use Rattle.tp_machine.specs.server.Row as server
+use Rattle.tp_machine.specs.server.State.{Server}
+use Rattle.tp_machine.proofs.epochs.Asked.{Asking, IsAsked, IsOwnNaming, LetterNamed, NamesNone, NamesOwn, naming_of}
+use Rattle.tp_machine.proofs.basics.Phases.{is_first_at}
+use Rattle.tp_machine.proofs.walks.ServerRows.{server_by}
+use Rattle.tp_machine.proofs.ids.Built.{number_is}
+use Rattle.tp_machine.proofs.basics.Lists.{each_as, placed_emptied, placed_set}
+
+-- ---- what is said of epochs
+
+-- a query names no epoch exactly where it is its transaction's first at that server
+abbrev pub QueryFirst : Scenario → Actor → Body → Type 0
+QueryFirst sc (actor.Server at) (body.Query q) = is_none q.epoch ≡ is_first_at sc at q.txn q.query
+QueryFirst sc _ _ = Unit {0}
+
+abbrev pub LetterFirst : Scenario → Letter → Type 0
+LetterFirst sc letter = QueryFirst sc letter.to letter.body
+
+abbrev pub has_restarted : Answer → Bool
+has_restarted answer.Restarted = true
+has_restarted _ = false
+
+-- an answer tells an epoch that its server had; to a query that is not the first there, unless the server has restarted, the one that is asked
+pub record DoneMade (sc : Scenario) (A : Asking) (at : ServerId) (epoch : ℕ) (done : DoneReply) : Type 0 where
+  pub past : done.epoch ≤ epoch
+  pub asked : has_restarted done.answer ≡ false → is_first_at sc at done.txn done.query ≡ false → A done.txn at ≡ Some done.epoch
+
+abbrev pub DoneTold : Scenario → Asking → (ℕ → ℕ) → Actor → DoneReply → Type 0
+DoneTold sc A E (actor.Server at) done = DoneMade sc A at (E at.0) done
+DoneTold sc A E _ done = Unit {0}
+
+abbrev pub BodyTold : Scenario → Asking → (ℕ → ℕ) → Actor → Body → Type 0
+BodyTold sc A E from (body.Done done) = DoneTold sc A E from done
+BodyTold sc A E from _ = Unit {0}
+
+abbrev pub LetterTold : Scenario → Asking → (ℕ → ℕ) → Letter → Type 0
+LetterTold sc A E letter = BodyTold sc A E letter.from letter.body
+
+-- letters that are sent where these epochs are asked
+pub record LettersEpochs (sc : Scenario) (A : Asking) (E : ℕ → ℕ) (letters : List Letter) : Type 0 where
+  pub named : Each (LetterNamed A) letters
+  pub first : Each (LetterFirst sc) letters
+  pub told : Each (LetterTold sc A E) letters
+
+-- ---- letters that name no epoch and tell none
+
+abbrev pub IsPlain : Body → Type 0
+IsPlain (body.Query q) = ⊥
+IsPlain (body.Validate v) = ⊥
+IsPlain (body.Prepare p) = ⊥
+IsPlain (body.Done done) = ⊥
+IsPlain _ = Unit {0}
+
+abbrev pub IsPlainLetter : Letter → Type 0
+IsPlainLetter letter = IsPlain letter.body
+
+plain_none : (said : Body) → IsPlain said → naming_of said ≡ None
+plain_none (body.Query q) h = absurd h
+plain_none (body.Validate v) h = absurd h
+plain_none (body.Prepare p) h = absurd h
+plain_none _ h = refl
+
+if_none : {A : Type 0} (P : A → Type 0) (found : Option A) → found ≡ None → IfSome found P
+if_none P None e = tt
+if_none P (Some x) e = absurd (cc)
+
+plain_first : (sc : Scenario) (to : Actor) (said : Body) → IsPlain said → QueryFirst sc to said
+plain_first sc (actor.Server at) (body.Query q) h = absurd h
+plain_first sc _ _ h = tt
+
+plain_told : (sc : Scenario) (A : Asking) (E : ℕ → ℕ) (from : Actor) (said : Body) → IsPlain said → BodyTold sc A E from said
+plain_told sc A E from (body.Done done) h = absurd h
+plain_told sc A E from _ h = tt
+
+pub plain_names_none : (letters : List Letter) → Each IsPlainLetter letters → Each NamesNone letters
+plain_names_none letters h = each_as IsPlainLetter NamesNone (λ letter k. plain_none letter.body k) letters h
+
+pub plain_names_own : (txn : TxnId) (letters : List Letter) → Each IsPlainLetter letters → Each (NamesOwn txn) letters
+plain_names_own txn letters h = each_as IsPlainLetter (NamesOwn txn) (λ letter k. if_none (IsOwnNaming txn) (naming_of letter.body) (plain_none letter.body k)) letters h
+
+pub plain_letters : (sc : Scenario) (A : Asking) (E : ℕ → ℕ) (letters : List Letter) → Each IsPlainLetter letters → LettersEpochs sc A E letters
+plain_letters sc A E letters h =
+    record {
+      named = each_as IsPlainLetter (LetterNamed A) (λ letter k. if_none (IsAsked A letter.to) (naming_of letter.body) (plain_none letter.body k)) letters h;
+      first = each_as IsPlainLetter (LetterFirst sc) (λ letter k. plain_first sc letter.to letter.body k) letters h;
+      told = each_as IsPlainLetter (LetterTold sc A E) (λ letter k. plain_told sc A E letter.from letter.body k) letters h;
+    }
+
+-- ---- logs
+
+abbrev pub boot_of : Record → ℕ
+boot_of log.Boot = 1
+boot_of _ = 0
+
+boots_first : (first : Record) (kept : List Record) → boots_in (first ∷ kept) ≡ boots_in kept + boot_of first
+boots_first log.Boot kept = refl
+boots_first (log.Told t) kept = omega arith
+boots_first (log.Prepared p) kept = omega arith
+boots_first (log.Settled s) kept = omega arith
+boots_first (log.Decided d) kept = omega arith
+
+-- an epoch is one more after each boot
+pub boots_push : (kept : List Record) (forced : Record) → boots_in (kept ++ forced ∷ []) ≡ boots_in kept + boot_of forced
+boots_push [] forced = boots_first forced []
+boots_push (first ∷ kept) forced = omega (arith, boots_first first (kept ++ forced ∷ []), boots_first first kept, boots_push kept forced)
+
+-- and never falls
+pub epoch_rises : (kept : List Record) (append : Option Record) → epoch_in kept ≤ epoch_in (log_with kept append)
+epoch_rises kept None = omega arith
+epoch_rises kept (Some forced) = omega (arith, boots_push kept forced)
+
+-- ---- a server
+
+-- a query that waits is asked like its mail, and of the entry's epoch
+pub record WaitsMade (sc : Scenario) (A : Asking) (at : ServerId) (epoch : ℕ) (q : QueryRequest) : Type 0 where
+  pub first : is_none q.epoch ≡ is_first_at sc at q.txn q.query
+  pub named : IfSome q.epoch (λ (named : ℕ). (A q.txn at ≡ Some named) × (named ≡ epoch))
+
+-- an entry was made in the server's epoch or before; one that is not prepared in that epoch
+pub record EntryMade (sc : Scenario) (A : Asking) (at : ServerId) (epoch : ℕ) (entry : Entry) : Type 0 where
+  pub past : entry.epoch ≤ epoch
+  pub present : is_none entry.ballot ≡ true → entry.epoch ≡ epoch
+  pub waiting : IfSome entry.waiting (WaitsMade sc A at entry.epoch)
+
+-- a server's epoch is that of its log
+pub record ServerMade (sc : Scenario) (A : Asking) (at : ServerId) (s : Server) (kept : List Record) : Type 0 where
+  pub epoch_is : s.epoch ≡ epoch_in kept
+  pub entries : EachPlaced (λ (n : ℕ) (entry : Entry). EntryMade sc A at s.epoch entry) s.entries
+
+-- what is prepared was made in an epoch that the server had, and in the one that is asked
+pub record PreparedMade (A : Asking) (at : ServerId) (epoch : ℕ) (txn : TxnId) (p : Prepared) : Type 0 where
+  pub past : p.epoch ≤ epoch
+  pub asked : A txn at ≡ Some p.epoch
+
+abbrev pub RecordMade : Asking → ServerId → ℕ → Record → Type 0
+RecordMade A at epoch (log.Prepared p) = PreparedMade A at epoch p.txn p
+RecordMade A at epoch _ = Unit {0}
+
+-- a reply names no epoch, and tells one of the server
+abbrev pub ReplyMade : Scenario → Asking → ServerId → ℕ → Actor → Body → Type 0
+ReplyMade sc A at epoch from (body.Done done) = (from ≡ actor.Server at) × DoneMade sc A at epoch done
+ReplyMade sc A at epoch from (body.Query q) = ⊥
+ReplyMade sc A at epoch from (body.Validate v) = ⊥
+ReplyMade sc A at epoch from (body.Prepare p) = ⊥
+ReplyMade sc A at epoch from _ = Unit {0}
+
+-- an act of a server: what it is after it, if it is up, the record that it forced, and its letters
+pub record ServerEpochs (sc : Scenario) (A : Asking) (at : ServerId) (kept : List Record) (now : Option Server) (append : Option Record) (letters : List Letter) : Type 0 where
+  pub made : IfSome now (λ (s : Server). ServerMade sc A at s (log_with kept append))
+  pub forces : IfSome append (RecordMade A at (epoch_in kept))
+  pub replies : Each (λ (letter : Letter). ReplyMade sc A at (epoch_in (log_with kept append)) letter.from letter.body) letters
+
+-- that of a row
+abbrev pub RowEpochs : Scenario → Asking → Server → List Record → Effect Server → Type 0
+RowEpochs sc A s kept effect = ServerEpochs sc A s.server kept (Some effect.state) effect.reaction.append effect.reaction.letters
+
+ignores_made : (sc : Scenario) (A : Asking) (s : Server) (kept : List Record) → ServerMade sc A s.server s kept → RowEpochs sc A s kept (ignores s)
+ignores_made sc A s kept h = record { made = h; forces = tt; replies = tt }
+
+begins_made : (sc : Scenario) (A : Asking) (s : Server) (kept : List Record) (sent : ℕ) (q : QueryRequest) (deed : Deed) → ServerMade sc A s.server s kept → is_first_at sc s.server q.txn q.query ≡ true
+    → RowEpochs sc A s kept (server.begins s sent q (Some deed))
+begins_made sc A s kept sent q deed h first =
+    record {
+      made = record {
+        epoch_is = h.epoch_is;
+        entries = placed_set (λ (n : ℕ) (entry : Entry). EntryMade sc A s.server s.epoch entry) s.entries q.txn.0 (server.first_entry s sent q deed) h.entries
+            (record { past = omega arith; present = λ none. refl; waiting = tt });
+      };
+      forces = tt;
+      replies = ((refl, record { past = omega (arith, h.epoch_is); asked = λ ran later. absurd (cc) }), tt);
+    }
+
+votes_made : (sc : Scenario) (A : Asking) (s : Server) (kept : List Record) (p : PrepareRequest) (place : ℕ) (entry : Entry) → ServerMade sc A s.server s kept → server.entry_at s p.txn ≡ Some entry
+    → entry.epoch ≡ p.epoch → A p.txn s.server ≡ Some p.epoch → RowEpochs sc A s kept (server.votes sc s p place entry)
+votes_made sc A s kept p place entry h e same m =
+    let old : EntryMade sc A s.server s.epoch entry = h.entries p.txn.0 entry e in
+    record {
+      made = record {
+        epoch_is = omega (arith, h.epoch_is, boots_push kept (log.Prepared (server.prepared s p entry (map (server.verdict_on sc s place) entry.deeds))));
+        entries = placed_set (λ (n : ℕ) (found : Entry). EntryMade sc A s.server s.epoch found) s.entries p.txn.0 _ h.entries
+            (record { past = old.past; present = λ none. absurd (cc); waiting = old.waiting });
+      };
+      forces = record { past = omega (arith, old.past, h.epoch_is); asked = m ∙ ap (λ (n : ℕ). Some n) (sym same) };
+      replies = (tt, tt);
+    }
+
+settles_made : (sc : Scenario) (A : Asking) (s : Server) (kept : List Record) (d : DecideRequest) → ServerMade sc A s.server s kept → RowEpochs sc A s kept (server.settles s d)
+settles_made sc A s kept d h =
+    record {
+      made = record {
+        epoch_is = omega (arith, h.epoch_is, boots_push kept (log.Settled (server.settled_as d)));
+        entries = placed_emptied (λ (n : ℕ) (entry : Entry). EntryMade sc A s.server s.epoch entry) s.entries d.txn.0 h.entries;
+      };
+      forces = tt;
+      replies = (tt, tt);
+    }
+
+-- every row of a server on receipt of a mail
+pub server_row_made : (sc : Scenario) (A : Asking) (s : Server) (kept : List Record) (mail : Mail) → ServerMade sc A s.server s kept → QueryFirst sc (actor.Server s.server) mail.letter.body
+    → IfSome (naming_of mail.letter.body) (IsAsked A (actor.Server s.server)) → RowEpochs sc A s kept (server.server_row sc s mail)
+server_row_made sc A s kept mail h first m =
+    server_by sc s mail (RowEpochs sc A s kept)
+    (record {
+      ignored = ignores_made sc A s kept h;
+      begun = λ q deed k.
+          let is_first : is_none q.epoch ≡ is_first_at sc s.server q.txn q.query = subst (QueryFirst sc (actor.Server s.server)) k.said_is first in
+          begins_made sc A s kept mail.sent q deed h (sym is_first ∙ k.unnamed);
+      voted = λ p entry staple k.
+          let asked : A p.txn s.server ≡ Some p.epoch = subst (λ (said : Body). IfSome (naming_of said) (IsAsked A (actor.Server s.server))) k.said_is m in
+          votes_made sc A s kept p staple.place entry h k.found (number_is entry.epoch p.epoch k.same_epoch) asked;
+      settled = λ d k. settles_made sc A s kept d h;
+    })

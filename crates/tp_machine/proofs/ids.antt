@@ -1,0 +1,6 @@
+-- All that mails, records and facts name exists.
+pub mod Acts
+pub mod Built
+pub mod Coordinator
+pub mod Server
+pub mod Steps

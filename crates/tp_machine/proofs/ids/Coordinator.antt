@@ -1,0 +1,228 @@
+-- The coordinator's rows keep its state sound, force a sound record, and send sound letters.
+use Rattle.std.specs.List.{list_all}
+use Rattle.std.proofs.Common.{IfSome, List, None, Option, Some, [], arith, false, option_map, refl, slice_get, subst, true, ℕ, ℤ, ◌++◌, ◌∷◌, ◌≡◌}
+use Rattle.std.proofs.lemmas.Option.{same_Some}
+use Rattle.tp_types.specs.Effect.{Effect, ignores, sends}
+use Rattle.tp_model.specs.Queries.{item_of}
+use Rattle.tp_model.specs.Words.{Body, DoneReply, Item, Mail, Outcome, Query, Scenario, ServerId, Staple, Transaction, TxnId, Verdict, VoteReply}
+use Rattle.tp_model.specs.Words.actor
+use Rattle.tp_model.specs.Words.query
+use Rattle.tp_machine.specs.Sound.{AreSoundVerdicts, Each, HasValue, IsActor, IsItemOf, IsServer, IsSoundBallot, IsSoundBody, IsSoundCoordinator, IsSoundCoordinatorRecord, IsSoundDeed, IsSoundInstance, IsSoundLetter, IsSoundPhase, IsSoundProof, IsSoundQuery, IsSoundReply, IsSoundRound, IsSoundStaple, IsSoundVerdict, ProvesEach, proves_each, query_in}
+use Rattle.tp_machine.specs.coord.Row.{are_agreed, asks, closed, commits, coordinator_row, deed_of, first_round, is_true_verdict, next_turn, placed, prepare_letter, prepares, ran, request, sends_first, server_of, staple_of, submit_row, with_reply, without}
+use Rattle.tp_machine.specs.coord.State.{Coordinator}
+use Rattle.tp_machine.specs.declared.coord.Phase.TheVariants as phase
+use Rattle.tp_machine.specs.declared.coord.Phase.{Phase}
+use Rattle.tp_machine.specs.declared.coord.Round.{Round}
+use Rattle.tp_machine.proofs.walks.CoordinatorRows.{IsYes, coordinator_by, submit_by}
+use Rattle.tp_machine.proofs.ids.Built.{IsValid, IsValidItem}
+use Rattle.tp_machine.proofs.basics.Lists.{each_filter, each_get, each_map, each_more, each_passing}
+
+-- what a coordinator's act leaves is sound: its state, still of the same transaction, what it forces and what it sends
+pub record IsSoundCoordinatorEffect (sc : Scenario) (c : Coordinator) (effect : Effect Coordinator) : Type 0 where
+  pub same_txn : effect.state.txn ≡ c.txn
+  pub state_is : IsSoundCoordinator sc effect.state
+  pub forces : IfSome effect.reaction.append (IsSoundCoordinatorRecord sc c.txn)
+  pub sends_only : Each (IsSoundLetter sc) effect.reaction.letters
+
+ignores_sound : (sc : Scenario) (c : Coordinator) → IsSoundCoordinator sc c → IsSoundCoordinatorEffect sc c (ignores c)
+ignores_sound sc c h = record { same_txn = refl; state_is = h; forces = tt; sends_only = tt }
+
+-- a coordinator that awaits something else; its other numbers may change too
+moved : (sc : Scenario) (c : Coordinator) (next : Phase) (turn : ℕ) (epochs : List (Option ℕ)) → IsSoundCoordinator sc c → IsSoundPhase sc c.txn next
+    → IsSoundCoordinator sc (record c { turn = turn; epochs = epochs; phase = next })
+moved sc c next turn epochs h n =
+    record { exists = h.exists; servers = h.servers; deeds = h.deeds; gathered = h.gathered; instances = h.instances; awaits = n }
+
+-- a letter to a server that exists
+request_sound : (sc : Scenario) (c : Coordinator) (server : ServerId) (said : Body) → IsSoundCoordinator sc c → IsServer sc server → IsSoundBody sc (actor.Server server) said
+    → IsSoundLetter sc (request c server said)
+request_sound sc c server said h exists says = record { from_is_actor = h.exists; to_is_actor = exists; says = says }
+
+-- ---- Submit
+
+-- a server that is found is an item's
+record IsServerOf (sc : Scenario) (asked : Query) (server : ServerId) : Type 0 where
+  pub exists : IsServer sc server
+  pub kept : IsItemOf sc server (item_of asked)
+
+server_found : (sc : Scenario) (asked : Query) (server : ServerId) (item : Option Item) → IsValid sc → slice_get sc.items (item_of asked).0 ≡ item
+    → option_map (λ (i : Item). i.server) item ≡ Some server → IsServerOf sc asked server
+server_found sc asked server (Some item) valid e f =
+    let same : item.server ≡ server = same_Some item.server server f in
+    let item_is : IsValidItem sc item = each_get (IsValidItem sc) sc.items (item_of asked).0 item valid.items e in
+    record {
+      exists = subst (IsServer sc) same item_is.server;
+      kept = record { declared = item; declared_is = e; server_is = same };
+    }
+server_found sc asked server None valid e f = absurd (cc)
+
+-- no transaction is proved as it runs
+proves_none : (sc : Scenario) (txn : TxnId) (found : Option Transaction) → IsValid sc → slice_get sc.txns txn.0 ≡ found
+    → option_map (λ (declared : Transaction). proves_each declared.scheme) found ≡ Some true → ⊥
+proves_none sc txn (Some declared) valid f e =
+    let plain : proves_each declared.scheme ≡ false = each_get (λ (d : Transaction). proves_each d.scheme ≡ false) sc.txns txn.0 declared valid.deferred f in
+    let each : proves_each declared.scheme ≡ true = same_Some (proves_each declared.scheme) true e in
+    cc
+proves_none sc txn None valid f e = cc
+
+not_each : (sc : Scenario) (txn : TxnId) → IsValid sc → ProvesEach sc txn → ⊥
+not_each sc txn valid e = proves_none sc txn (slice_get sc.txns txn.0) valid refl e
+
+has_value : (asked : Query) (value : ℤ) → HasValue asked (Some value)
+has_value (query.Write item expr) value = refl
+has_value (query.Read item into) value = tt
+
+sends_first_sound : (sc : Scenario) (c : Coordinator) (asked : Query) (server : ServerId) (value : ℤ) → IsValid sc → IsSoundCoordinator sc c
+    → query_in sc c.txn 1 ≡ Some asked → server_of sc asked ≡ Some server → IsSoundCoordinatorEffect sc c (sends_first c (Some server) (Some value))
+sends_first_sound sc c asked server value valid h e f =
+    let at : IsServerOf sc asked server = server_found sc asked server (slice_get sc.items (item_of asked).0) valid refl f in
+    let asks_of : IsSoundQuery sc (actor.Server server)
+    (record { txn = c.txn; turn = next_turn c; query = 1; age = None; epoch = None; value = Some value; staple = None; pin = None }) =
+    record {
+      txn = h.exists;
+      asked = asked;
+      asked_is = e;
+      at = server;
+      goes_to = refl;
+      kept = at.kept;
+      has_value = has_value asked value;
+      stapled = λ each. absurd (not_each sc c.txn valid each);
+      staple = tt;
+      pin = tt;
+    } in
+    record {
+      same_txn = refl;
+      state_is = moved sc c (phase.Querying 1 None) (next_turn c) c.epochs h (record { asked = asked; asked_is = e }, tt);
+      forces = tt;
+      sends_only = (request_sound sc c server _ h at.exists asks_of, tt);
+    }
+
+pub submit_row_sound : (sc : Scenario) (c : Coordinator) → IsValid sc → IsSoundCoordinator sc c → IsSoundCoordinatorEffect sc c (submit_row sc c)
+submit_row_sound sc c valid h =
+    submit_by sc c (IsSoundCoordinatorEffect sc c)
+    (record { ignored = ignores_sound sc c h; sent = λ asked server value k. sends_first_sound sc c asked server value valid h k.asked_is k.server_is })
+
+-- the place of the submission changes nothing of this
+pub placed_sound : (sc : Scenario) (c : Coordinator) (place : ℕ) → IsSoundCoordinator sc c → IsSoundCoordinator sc (placed c place)
+placed_sound sc c place h =
+    record { exists = h.exists; servers = h.servers; deeds = h.deeds; gathered = h.gathered; instances = h.instances; awaits = h.awaits }
+
+-- ---- Done
+
+asks_sound : (sc : Scenario) (c : Coordinator) → IsSoundCoordinator sc c → IsSoundCoordinatorEffect sc c (asks c)
+asks_sound sc c h =
+    record {
+      same_txn = refl;
+      state_is = moved sc c (phase.Asking (first_round c)) (next_turn c) c.epochs h (record { aim = tt; kept = tt; awaited = h.servers; mets = tt });
+      forces = tt;
+      sends_only = (record { from_is_actor = h.exists; to_is_actor = tt; says = record { txn = h.exists; goes_to = refl } }, tt);
+    }
+
+ran_sound : (sc : Scenario) (c : Coordinator) (server : ServerId) (done : DoneReply) (asked : Query) (value : ℤ) → IsSoundCoordinator sc c
+    → query_in sc c.txn done.query ≡ Some asked → IsSoundCoordinator sc (ran c server done asked value)
+ran_sound sc c server done asked value h e =
+    record {
+      exists = h.exists;
+      servers = h.servers;
+      deeds = each_more (IsSoundDeed sc c.txn) c.deeds (deed_of done.query asked value) h.deeds (record { asked = asked; asked_is = e; item_is = refl });
+      gathered = h.gathered;
+      instances = h.instances;
+      awaits = h.awaits;
+    }
+
+-- ---- Tell
+
+prepares_sound : (sc : Scenario) (c : Coordinator) (round : Round) (staple : Staple) → IsSoundCoordinator sc c → IsSoundRound sc c.txn round → IsSoundStaple sc staple
+    → IsSoundCoordinatorEffect sc c (prepares c round staple)
+prepares_sound sc c round staple h r t =
+    record {
+      same_txn = refl;
+      state_is = moved sc c (phase.Checking round staple) (next_turn c) c.epochs h (r, t);
+      forces = tt;
+      sends_only = each_map (IsServer sc) (IsSoundLetter sc) (prepare_letter c staple)
+          (λ server exists. request_sound sc c server _ h exists (record { txn = h.exists; goes_to = tt; staple = t; want = tt })) round.awaited r.awaited;
+    }
+
+-- ---- Vote
+
+-- verdicts that agreed are proofs
+proofs_sound : (sc : Scenario) (txn : TxnId) (verdicts : List Verdict) → are_agreed verdicts ≡ true → AreSoundVerdicts sc txn verdicts → Each (IsSoundProof sc txn) verdicts
+proofs_sound sc txn verdicts e h =
+    let all_true : list_all is_true_verdict verdicts ≡ true = grind arith in
+    each_passing (IsSoundVerdict sc txn) (IsSoundProof sc txn) is_true_verdict (λ verdict sound passes. record { sound = sound; has_rule = passes }) verdicts all_true h
+
+commits_sound : (sc : Scenario) (c : Coordinator) (rounds : ℕ) (proofs : List Verdict) → IsSoundCoordinator sc c → Each (IsSoundProof sc c.txn) proofs
+    → IsSoundCoordinatorEffect sc c (commits c rounds proofs)
+commits_sound sc c rounds proofs h p =
+    let instances : Each (IsSoundInstance sc c.txn) (closed c proofs) =
+    each_more (IsSoundInstance sc c.txn) c.instances (record { reading = None; proofs = proofs }) h.instances p in
+    record {
+      same_txn = refl;
+      state_is = record { exists = h.exists; servers = h.servers; deeds = h.deeds; gathered = h.gathered; instances = instances; awaits = h.servers };
+      forces = record { txn_is = refl; rests_on = record { instances = instances; deeds = h.deeds } };
+      sends_only = each_map (IsServer sc) (IsSoundLetter sc) _
+          (λ server exists. request_sound sc c server _ h exists (record { txn = h.exists; goes_to = tt })) c.servers h.servers;
+    }
+
+without_sound : (sc : Scenario) (awaited : List ServerId) (server : ServerId) → Each (IsServer sc) awaited → Each (IsServer sc) (without awaited server)
+without_sound sc awaited server h = each_filter (IsServer sc) _ awaited h
+
+counted_sound : (sc : Scenario) (c : Coordinator) (round : Round) (staple : Staple) (server : ServerId) (verdicts : List Verdict) → IsSoundCoordinator sc c → IsSoundPhase sc c.txn (phase.Checking round staple)
+    → IsServer sc server → AreSoundVerdicts sc c.txn verdicts → IsSoundCoordinatorEffect sc c (sends (record c { phase = phase.Checking (with_reply round server verdicts) staple }) [])
+counted_sound sc c round staple server verdicts h a exists v =
+    let kept : Each (IsSoundReply sc c.txn) (round.kept ++ record { server = server; verdicts = verdicts } ∷ []) =
+    each_more (IsSoundReply sc c.txn) round.kept (record { server = server; verdicts = verdicts }) a.0.kept (record { server = exists; verdicts = v }) in
+    let next : IsSoundRound sc c.txn (with_reply round server verdicts) =
+    record { aim = a.0.aim; kept = kept; awaited = without_sound sc round.awaited server a.0.awaited; mets = a.0.mets } in
+    record {
+      same_txn = refl;
+      state_is = moved sc c (phase.Checking (with_reply round server verdicts) staple) c.turn c.epochs h (next, a.1);
+      forces = tt;
+      sends_only = tt;
+    }
+
+-- ---- Ack
+
+acknowledged_sound : (sc : Scenario) (c : Coordinator) (outcome : Outcome) (awaited : List ServerId) (server : ServerId) → IsSoundCoordinator sc c → Each (IsServer sc) awaited
+    → IsSoundCoordinatorEffect sc c (sends (record c { phase = phase.Ending outcome (without awaited server) }) [])
+acknowledged_sound sc c outcome awaited server h a =
+    record {
+      same_txn = refl;
+      state_is = moved sc c (phase.Ending outcome (without awaited server)) c.turn c.epochs h (without_sound sc awaited server a);
+      forces = tt;
+      sends_only = tt;
+    }
+
+-- ---- all mails
+
+-- a mail to a coordinator is of its transaction
+same_txn_of : (one other : TxnId) → actor.Coordinator one ≡ actor.Coordinator other → other ≡ one
+same_txn_of one other e = cc
+
+-- the verdicts of an awaited vote YES
+yes_sound : (sc : Scenario) (c : Coordinator) (mail : Mail) (reply : VoteReply) (round : Round) (staple : Staple) (server : ServerId) (verdicts : List Verdict)
+    → IsSoundBody sc (actor.Coordinator c.txn) mail.letter.body → IsYes c mail reply round staple server verdicts → AreSoundVerdicts sc c.txn verdicts
+yes_sound sc c mail reply round staple server verdicts m y =
+    let said = subst (IsSoundBody sc (actor.Coordinator c.txn)) y.said_is m in
+    let ballot : IsSoundBallot sc c.txn reply.vote = subst (λ (txn : TxnId). IsSoundBallot sc txn reply.vote) (same_txn_of c.txn reply.txn said.goes_to) said.ballot in
+    subst (IsSoundBallot sc c.txn) y.vote_is ballot
+
+pub coordinator_row_sound : (sc : Scenario) (c : Coordinator) (mail : Mail) → IsSoundCoordinator sc c → IsActor sc mail.letter.from
+    → IsSoundBody sc (actor.Coordinator c.txn) mail.letter.body → IsSoundCoordinatorEffect sc c (coordinator_row sc c mail)
+coordinator_row_sound sc c mail h a m =
+    coordinator_by sc c mail (IsSoundCoordinatorEffect sc c)
+    (record {
+      ignored = ignores_sound sc c h;
+      ran_last = λ done server asked value k.
+          let on = asks_sound sc (ran c server done asked value) (ran_sound sc c server done asked value h k.asked_is) in
+          record { same_txn = refl; state_is = on.state_is; forces = tt; sends_only = on.sends_only };
+      told_first = λ tell round k. prepares_sound sc c round (staple_of tell mail.sent) h (awaits k.asking) (subst (IsSoundBody sc (actor.Coordinator c.txn)) k.said_is m).revoked;
+      counted = λ reply round staple server verdicts other others y e.
+          counted_sound sc c round staple server verdicts h (awaits y.checking) (subst (IsActor sc) y.from_is a) (yes_sound sc c mail reply round staple server verdicts m y);
+      committed = λ reply round staple server verdicts y e first agreed.
+          commits_sound sc c round.number verdicts h (proofs_sound sc c.txn verdicts agreed (yes_sound sc c mail reply round staple server verdicts m y));
+      acknowledged = λ ack ended awaited server k. acknowledged_sound sc c ended awaited server h (awaits k.ending);
+    })
+  where
+    awaits : {awaited : Phase} → c.phase ≡ awaited → IsSoundPhase sc c.txn awaited
+    awaits e = subst (IsSoundPhase sc c.txn) e h.awaits

@@ -1,0 +1,175 @@
+-- The server's row keeps its state sound, forces a sound record, and sends sound letters.
+use Rattle.std.proofs.Common.{Bool, IfSome, List, None, Option, Some, [], ap, arith, false, is_none, is_some, length, map, option_map, refl, slice_get, subst, suc, sym, true, unwrap_or, zero, ℕ, ℤ, ◌&&◌, ◌<◌, ◌∙◌, ◌∷◌, ◌≡◌}
+use Rattle.std.proofs.lemmas.Option.{cond_some, same_Some}
+use Rattle.tp_types.specs.Effect.{Effect, ignores}
+use Rattle.tp_model.specs.Queries.{item_of}
+use Rattle.tp_model.specs.Words.{Admin, AdminId, Body, DecideRequest, Deed, Item, ItemId, Mail, PrepareRequest, QueryRequest, Scenario, ServerId, Settled, TxnId, Version}
+use Rattle.tp_model.specs.Words.action
+use Rattle.tp_model.specs.Words.actor
+use Rattle.tp_model.specs.Words.body
+use Rattle.tp_machine.specs.Sound.{AreSoundVerdicts, AreVersionsOf, Each, IsAdmin, IsItemOf, IsSoundBody, IsSoundDeedAt, IsSoundDone, IsSoundEntry, IsSoundLetter, IsSoundQuery, IsSoundServer, IsSoundServerRecord, IsSoundSettled, IsSoundVerdict, IsTxn, IsVersion, IsVersionOf, query_in}
+use Rattle.tp_machine.specs.declared.server.Entry.{Entry}
+use Rattle.tp_machine.specs.server.Row.{admin_of, asked_item, begins, done, first_entry, plain_write, reply, server_row, settled_as, settles, verdict_on, version_known, votes}
+use Rattle.tp_machine.specs.server.State.{Server}
+use Rattle.tp_machine.proofs.walks.ServerRows.{server_by}
+use Rattle.tp_machine.proofs.ids.Built.{IsValid, IsValidItem}
+use Rattle.tp_machine.proofs.basics.Lists.{each_get, each_map, placed_emptied, placed_set}
+
+-- what a server's act leaves is sound: its state, still of the same server, what it forces and what it sends
+pub record IsSoundServerEffect (sc : Scenario) (s : Server) (effect : Effect Server) : Type 0 where
+  pub same_server : effect.state.server ≡ s.server
+  pub state_is : IsSoundServer sc effect.state
+  pub forces : IfSome effect.reaction.append (IsSoundServerRecord sc s.server)
+  pub sends_only : Each (IsSoundLetter sc) effect.reaction.letters
+
+ignores_sound : (sc : Scenario) (s : Server) → IsSoundServer sc s → IsSoundServerEffect sc s (ignores s)
+ignores_sound sc s h = record { same_server = refl; state_is = h; forces = tt; sends_only = tt }
+
+-- a server's letter to the coordinator of an existing transaction
+reply_sound : (sc : Scenario) (s : Server) (txn : TxnId) (said : Body) → IsSoundServer sc s → IsTxn sc txn → IsSoundBody sc (actor.Coordinator txn) said
+    → IsSoundLetter sc (reply s txn said)
+reply_sound sc s txn said h exists says = record { from_is_actor = h.exists; to_is_actor = exists; says = says }
+
+-- ---- Query
+
+-- the deed that a request asks for, where it asks for one
+record IsAskedDeed (q : QueryRequest) (item : Option ItemId) (deed : Deed) : Type 0 where
+  pub query_is : deed.query ≡ q.query
+  pub item_is : item ≡ Some deed.item
+  pub value_is : q.value ≡ Some deed.value
+  pub unstapled : is_some q.staple ≡ false
+
+not_some : {A : Type 0} (found : Option A) (other : Bool) → (is_none found && other) ≡ true → is_some found ≡ false
+not_some None other e = refl
+not_some (Some x) other e = absurd (cc)
+
+asked_deed : (q : QueryRequest) (item : Option ItemId) (value : Option ℤ) (deed : Deed) → q.value ≡ value → plain_write q item value ≡ Some deed → IsAskedDeed q item deed
+asked_deed q (Some item) (Some value) deed same e =
+    let parts = cond_some (is_none q.staple && is_none q.pin) (record { query = q.query; item = item; action = action.Write; value = value }) deed e in
+    record {
+      query_is = sym (ap (λ (d : Deed). d.query) parts.1);
+      item_is = ap (λ (d : Deed). Some d.item) parts.1;
+      value_is = same ∙ ap (λ (d : Deed). Some d.value) parts.1;
+      unstapled = not_some q.staple (is_none q.pin) parts.0;
+    }
+asked_deed q (Some item) None deed same e = absurd (cc)
+asked_deed q None value deed same e = absurd (cc)
+
+begins_sound : (sc : Scenario) (s : Server) (sent : ℕ) (q : QueryRequest) (deed : Deed) → IsSoundServer sc s → IsSoundQuery sc (actor.Server s.server) q
+    → plain_write q (asked_item sc q) q.value ≡ Some deed → IsSoundServerEffect sc s (begins s sent q (Some deed))
+begins_sound sc s sent q deed h m e =
+    let d : IsAskedDeed q (asked_item sc q) deed = asked_deed q (asked_item sc q) q.value deed refl e in
+    let item_is : deed.item ≡ item_of m.asked = same_Some deed.item (item_of m.asked) (sym d.item_is ∙ ap (option_map item_of) m.asked_is) in
+    let at_is : m.at ≡ s.server = cc in
+    let kept : IsItemOf sc s.server deed.item = subst (IsItemOf sc s.server) (sym item_is) (subst (λ (at : ServerId). IsItemOf sc at (item_of m.asked)) at_is m.kept) in
+    let asked_is : query_in sc q.txn deed.query ≡ Some m.asked = subst (λ (n : ℕ). query_in sc q.txn n ≡ Some m.asked) (sym d.query_is) m.asked_is in
+    let deed_sound : IsSoundDeedAt sc s.server q.txn deed =
+    record { sound = record { asked = m.asked; asked_is = asked_is; item_is = item_is }; kept = kept } in
+    let done_sound : IsSoundDone sc (actor.Coordinator q.txn) (done q s.epoch deed) =
+    record {
+      txn = m.txn;
+      goes_to = refl;
+      query = record { asked = m.asked; asked_is = m.asked_is };
+      answer_is_sound = tt;
+      proved = λ each. let stapled = m.stapled each in let unstapled = d.unstapled in absurd (cc);
+    } in
+    record {
+      same_server = refl;
+      state_is = record {
+        exists = h.exists;
+        known = h.known;
+        settled = h.settled;
+        entries = placed_set (λ (n : ℕ) (found : Entry). IsSoundEntry sc s.server (record { 0 = n }) found) s.entries q.txn.0 (first_entry s sent q deed) h.entries
+            (record { answers = (done_sound, tt); waiting = tt; deeds = (deed_sound, tt); ballot = tt });
+      };
+      forces = tt;
+      sends_only = (reply_sound sc s q.txn (body.Done (done q s.epoch deed)) h m.txn done_sound, tt);
+    }
+
+-- ---- Prepare
+
+-- of sound versions the one of an administrator that exists
+version_of : (admins : List Admin) (versions : List Version) (n : ℕ) (default : Version) → AreVersionsOf admins versions → n < length admins
+    → (declared : Admin) × (slice_get admins n ≡ Some declared) × IsVersionOf declared (unwrap_or (slice_get versions n) default)
+version_of [] versions n default h within = absurd (omega arith)
+version_of (admin ∷ admins) [] n default h within = absurd h
+version_of (admin ∷ admins) (version ∷ versions) zero default h within = (admin, refl, h.0)
+version_of (admin ∷ admins) (version ∷ versions) (suc n) default h within = version_of admins versions n default h.1 (omega arith)
+
+-- the version that a sound server knows of an administrator that exists
+pub known_version : (sc : Scenario) (s : Server) (admin : AdminId) → IsSoundServer sc s → IsAdmin sc admin → IsVersion sc admin (version_known s admin)
+known_version sc s admin h within =
+    let found = version_of sc.admins s.known admin.0 (record { 0 = 1 }) h.known within in
+    record { declared = found.0; declared_is = found.1; in_library = found.2 }
+
+pub verdict_sound : (sc : Scenario) (s : Server) (txn : TxnId) (place : ℕ) (deed : Deed) → IsValid sc → IsSoundServer sc s → IsSoundDeedAt sc s.server txn deed
+    → IsSoundVerdict sc txn (verdict_on sc s place deed)
+verdict_sound sc s txn place deed valid h d =
+    let item_is : IsValidItem sc d.kept.declared = each_get (IsValidItem sc) sc.items deed.item.0 d.kept.declared valid.items d.kept.declared_is in
+    let admin_is : d.kept.declared.admin ≡ admin_of sc deed.item =
+    sym (ap (λ (found : Option Item). unwrap_or (option_map (λ (i : Item). i.admin) found) (record { 0 = 0 })) d.kept.declared_is) in
+    record {
+      query = record {
+        asked = d.sound.asked;
+        asked_is = d.sound.asked_is;
+        kept = record {
+          declared = d.kept.declared;
+          declared_is = subst (λ (item : ItemId). slice_get sc.items item.0 ≡ Some d.kept.declared) d.sound.item_is d.kept.declared_is;
+          server_is = d.kept.server_is;
+        };
+        admin_is = admin_is;
+      };
+      version = subst (λ (admin : AdminId). IsVersion sc admin (version_known s admin)) admin_is (known_version sc s d.kept.declared.admin h item_is.admin);
+      uses = tt;
+    }
+
+casts_sound : (sc : Scenario) (s : Server) (p : PrepareRequest) (place : ℕ) (entry : Entry) → IsValid sc → IsSoundServer sc s → IsTxn sc p.txn → IsSoundEntry sc s.server p.txn entry
+    → IsSoundServerEffect sc s (votes sc s p place entry)
+casts_sound sc s p place entry valid h exists k =
+    let verdicts : AreSoundVerdicts sc p.txn (map (verdict_on sc s place) entry.deeds) =
+    each_map (IsSoundDeedAt sc s.server p.txn) (IsSoundVerdict sc p.txn) (verdict_on sc s place) (λ deed d. verdict_sound sc s p.txn place deed valid h d) entry.deeds k.deeds in
+    record {
+      same_server = refl;
+      state_is = record {
+        exists = h.exists;
+        known = h.known;
+        settled = h.settled;
+        entries = placed_set (λ (n : ℕ) (found : Entry). IsSoundEntry sc s.server (record { 0 = n }) found) s.entries p.txn.0 _ h.entries
+            (record { answers = k.answers; waiting = k.waiting; deeds = k.deeds; ballot = verdicts });
+      };
+      forces = record { txn = exists; deeds = k.deeds; verdicts = verdicts; told = h.known };
+      sends_only = (reply_sound sc s p.txn _ h exists (record { txn = exists; goes_to = refl; ballot = verdicts }), tt);
+    }
+
+-- ---- Decide
+
+settles_sound : (sc : Scenario) (s : Server) (d : DecideRequest) → IsSoundServer sc s → IsTxn sc d.txn → IsSoundServerEffect sc s (settles s d)
+settles_sound sc s d h exists =
+    let settled : IsSoundSettled sc (settled_as d) = record { txn = exists; why = tt } in
+    record {
+      same_server = refl;
+      state_is = record {
+        exists = h.exists;
+        known = h.known;
+        settled = placed_set (λ (n : ℕ) (found : Settled). IsSoundSettled sc found) s.settled d.txn.0 (settled_as d) h.settled settled;
+        entries = placed_emptied (λ (n : ℕ) (found : Entry). IsSoundEntry sc s.server (record { 0 = n }) found) s.entries d.txn.0 h.entries;
+      };
+      forces = settled;
+      sends_only = (reply_sound sc s d.txn _ h exists (record { txn = exists; goes_to = refl }), tt);
+    }
+
+-- ---- all mails
+
+pub server_row_sound : (sc : Scenario) (s : Server) (mail : Mail) → IsValid sc → IsSoundServer sc s → IsSoundBody sc (actor.Server s.server) mail.letter.body
+    → IsSoundServerEffect sc s (server_row sc s mail)
+server_row_sound sc s mail valid h m =
+    server_by sc s mail (IsSoundServerEffect sc s)
+    (record {
+      ignored = ignores_sound sc s h;
+      begun = λ q deed k. begins_sound sc s mail.sent q deed h (said k.said_is) k.writes;
+      voted = λ p entry staple k. casts_sound sc s p staple.place entry valid h (said k.said_is).txn (h.entries p.txn.0 entry k.found);
+      settled = λ d k. settles_sound sc s d h (said k.said_is).txn;
+    })
+  where
+    said : {body : Body} → mail.letter.body ≡ body → IsSoundBody sc (actor.Server s.server) body
+    said e = subst (IsSoundBody sc (actor.Server s.server)) e m

@@ -1,0 +1,2 @@
+-- Facts of steps are those of the steps.
+pub mod Steps

@@ -1,0 +1,123 @@
+-- Deeds whose reads have the values of a store, own writes among them. They stay so as deeds are applied that are clear of them.
+use Rattle.std.proofs.Common.{◌≡◌, ℕ, ◌+◌, List, [], ◌∷◌, ◌++◌, length, slice_get, slice_set, Option, Some, unwrap_or, ℤ, pos, refl, sym, ap, subst, ◌∙◌, arith}
+use Rattle.std.proofs.lemmas.Bool.{ne_eqb}
+use Rattle.std.proofs.lemmas.List.{set_comm}
+use Rattle.tp_model.specs.Words.{Action, Deed, Query, Transaction}
+use Rattle.tp_model.specs.Words.action
+use Rattle.tp_types.specs.declared.scenario.Query.TheVariants.{Read, Write}
+use Rattle.tp_model.specs.SerialRun.{cleared_registers, deeds_from, number_at, serial_run, stored, stored_all, stored_by}
+use Rattle.tp_machine.specs.Sound.{Each}
+use Rattle.tp_machine.proofs.serial_data.Lists.{set_elsewhere}
+use Rattle.tp_machine.proofs.serial_data.Runs.{RunsFrom, RunsSoFar, deed_of}
+
+-- ---- reads
+
+-- a read has the store's value of its item
+abbrev pub IsReadBy : Action → List ℤ → Deed → Type 0
+IsReadBy action.Read store deed = deed.value ≡ number_at store deed.item.0
+IsReadBy action.Write store deed = Unit {0}
+
+abbrev pub IsReadFrom : List ℤ → Deed → Type 0
+IsReadFrom store deed = IsReadBy deed.action store deed
+
+-- each read has the value that its item has by then
+abbrev pub ReadsFrom : List ℤ → List Deed → Type 0
+ReadsFrom store [] = Unit {0}
+ReadsFrom store (deed ∷ deeds) = IsReadFrom store deed × ReadsFrom (stored store deed) deeds
+
+-- one deed more
+pub reads_more : (store : List ℤ) (deeds : List Deed) (deed : Deed) → ReadsFrom store deeds → IsReadFrom (stored_all store deeds) deed → ReadsFrom store (deeds ++ deed ∷ [])
+reads_more store [] deed h r = (r, tt)
+reads_more store (first ∷ deeds) deed h r = (h.0, reads_more (stored store first) deeds deed h.1 r)
+
+-- what is read where two stores have the same
+pub read_as : (a : Action) (store other : List ℤ) (deed : Deed) → slice_get store deed.item.0 ≡ slice_get other deed.item.0 → IsReadBy a store deed → IsReadBy a other deed
+read_as action.Read store other deed same h = h ∙ ap (λ (found : Option ℤ). unwrap_or found (pos 0)) same
+read_as action.Write store other deed same h = tt
+
+-- ---- clear deeds
+
+abbrev pub AreReads : Action → Action → Type 0
+AreReads one other = (one ≡ action.Read) × (other ≡ action.Read)
+
+-- two deeds of one item both read
+abbrev pub IsClear : Deed → Deed → Type 0
+IsClear one other = one.item.0 ≡ other.item.0 → AreReads one.action other.action
+
+-- each of these deeds is clear of each of those
+abbrev pub AreClear : List Deed → List Deed → Type 0
+AreClear deeds others = Each (λ (one : Deed). Each (IsClear one) others) deeds
+
+clear_back : (one other : Deed) → IsClear one other → IsClear other one
+clear_back one other clear = λ same. let reads = clear (sym same) in (reads.1, reads.0)
+
+clear_more : (deed : Deed) (deeds others : List Deed) → Each (IsClear deed) others → AreClear others deeds → AreClear others (deed ∷ deeds)
+clear_more deed deeds [] clear rest = tt
+clear_more deed deeds (other ∷ others) clear rest = ((clear_back deed other clear.0, rest.0), clear_more deed deeds others clear.1 rest.1)
+
+clear_of_none : (others : List Deed) → AreClear others []
+clear_of_none [] = tt
+clear_of_none (other ∷ others) = (tt, clear_of_none others)
+
+-- and the other way round
+pub clear_both : (deeds others : List Deed) → AreClear deeds others → AreClear others deeds
+clear_both [] others clear = clear_of_none others
+clear_both (deed ∷ deeds) others clear = clear_more deed deeds others clear.0 (clear_both deeds others clear.1)
+
+swapped_by : (a b : Action) (store : List ℤ) (one other : Deed) → (one.item.0 ≡ other.item.0 → AreReads a b) → stored_by b (stored_by a store one) other ≡ stored_by a (stored_by b store other) one
+swapped_by action.Read b store one other clear = refl
+swapped_by action.Write action.Read store one other clear = refl
+swapped_by action.Write action.Write store one other clear =
+    set_comm store one.item.0 other.item.0 one.value other.value (λ same. let writes : action.Write ≡ action.Read = (clear same).0 in cc)
+
+-- clear deeds may be applied in either order
+pub swapped : (store : List ℤ) (one other : Deed) → IsClear one other → stored (stored store one) other ≡ stored (stored store other) one
+swapped store one other clear = swapped_by one.action other.action store one other clear
+
+untouched_by : (a b : Action) (store : List ℤ) (one other : Deed) → (one.item.0 ≡ other.item.0 → AreReads a b) → IsReadBy b store other → IsReadBy b (stored_by a store one) other
+untouched_by action.Read b store one other clear h = h
+untouched_by action.Write action.Write store one other clear h = tt
+untouched_by action.Write action.Read store one other clear h =
+    let apart = ne_eqb one.item.0 other.item.0 (λ same. let writes : action.Write ≡ action.Read = (clear same).0 in cc) in
+    read_as action.Read store (slice_set store one.item.0 one.value) other (sym (set_elsewhere store one.item.0 other.item.0 one.value apart)) h
+
+-- one deed of another transaction is applied
+reads_past : (store : List ℤ) (deeds : List Deed) (one : Deed) → Each (IsClear one) deeds → ReadsFrom store deeds → ReadsFrom (stored store one) deeds
+reads_past store [] one clear h = tt
+reads_past store (deed ∷ deeds) one clear h =
+    let later : ReadsFrom (stored (stored store deed) one) deeds = reads_past (stored store deed) deeds one clear.1 h.1 in
+    (untouched_by one.action deed.action store one deed clear.0 h.0, subst (λ (other : List ℤ). ReadsFrom other deeds) (sym (swapped store one deed clear.0)) later)
+
+-- reads stay true as another transaction's deeds are applied that are clear of them
+pub reads_clear : (store : List ℤ) (deeds others : List Deed) → AreClear others deeds → ReadsFrom store deeds → ReadsFrom (stored_all store others) deeds
+reads_clear store deeds [] clear h = h
+reads_clear store deeds (one ∷ others) clear h = reads_clear (stored store one) deeds others clear.1 (reads_past store deeds one clear.0 h)
+
+-- ---- the run
+
+abbrev ReadsOn : List ℤ → List Deed → Deed → Type 0
+ReadsOn store deeds deed = IsReadFrom store deed × ReadsFrom (stored store deed) deeds
+
+run_from : (number : ℕ) (queries : List Query) (registers store : List ℤ) (deeds : List Deed) → RunsFrom number queries registers deeds → length deeds ≡ length queries → ReadsFrom store deeds
+    → deeds ≡ deeds_from number queries registers store
+run_from number [] registers store [] h all reads = refl
+run_from number [] registers store (deed ∷ deeds) h all reads = absurd h
+run_from number (query ∷ queries) registers store [] h all reads = absurd (omega (arith, all))
+run_from number (Read item into ∷ queries) registers store (deed ∷ deeds) h all reads =
+    let is = h.0.deed_is in
+    let here : ReadsOn store deeds (deed_of number (Some (Read item into)) deed.value) = subst (ReadsOn store deeds) is reads in
+    let later : deeds ≡ deeds_from (number + 1) queries (slice_set registers into deed.value) store = run_from (number + 1) queries (slice_set registers into deed.value) store deeds h.1 (omega (arith, all)) here.1 in
+    ap (λ (first : Deed). first ∷ deeds) is
+    ∙ (ap (λ (rest : List Deed). deed_of number (Some (Read item into)) deed.value ∷ rest) later
+    ∙ ap (λ (value : ℤ). deed_of number (Some (Read item into)) value ∷ deeds_from (number + 1) queries (slice_set registers into value) store) here.0)
+run_from number (Write item expr ∷ queries) registers store (deed ∷ deeds) h all reads =
+    let is = h.0.deed_is in
+    let here : ReadsOn store deeds (deed_of number (Some (Write item expr)) deed.value) = subst (ReadsOn store deeds) is reads in
+    let later : deeds ≡ deeds_from (number + 1) queries registers (slice_set store item.0 deed.value) = run_from (number + 1) queries registers (slice_set store item.0 deed.value) deeds h.1 (omega (arith, all)) here.1 in
+    ap (λ (first : Deed). first ∷ deeds) is
+    ∙ (ap (λ (rest : List Deed). deed_of number (Some (Write item expr)) deed.value ∷ rest) later
+    ∙ ap (λ (value : ℤ). deed_of number (Some (Write item expr)) value ∷ deeds_from (number + 1) queries registers (slice_set store item.0 value)) h.0.value_is)
+
+-- deeds of all queries whose reads are those of a store are the transaction's run by itself on that store
+pub run_is : (txn : Transaction) (store : List ℤ) (deeds : List Deed) → RunsSoFar txn deeds → length deeds ≡ length txn.queries → ReadsFrom store deeds → deeds ≡ serial_run txn store
+run_is txn store deeds h all reads = run_from 1 txn.queries cleared_registers store deeds h all reads

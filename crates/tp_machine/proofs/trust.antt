@@ -1,0 +1,12 @@
+-- Commits are trusted, and aborts have causes.
+pub mod Acts
+pub mod Built
+pub mod Coordinator
+pub mod End
+pub mod Evaluation
+pub mod Fit
+pub mod Kept
+pub mod Server
+pub mod Steps
+pub mod Turns
+pub mod World

@@ -1,0 +1,223 @@
+-- Trust, step by step: it holds before the first step, and each step keeps it.
+use Rattle.std.specs.Option.{option_map_or}
+use Rattle.std.proofs.Common.{Bool, IfSome, List, None, Option, Some, [], arith, false, length, refl, slice_get, subst, suc, sym, true, unwrap_or, zero, ℕ, ℤ, ◌+◌, ◌==◌, ◌||◌, ◌∙◌, ◌∷◌, ◌≡◌}
+use Rattle.tp_model.specs.Built.{is_built}
+use Rattle.tp_model.specs.Facts.{is_submission}
+use Rattle.tp_model.specs.Queries.{written_constant}
+use Rattle.tp_model.specs.Words.{Actor, AdminId, Body, Fact, Mail, Query, Scenario, ServerDecl, ServerId, Step, TxnId, Version, What}
+use Rattle.tp_model.specs.Words.actor
+use Rattle.tp_model.specs.Words.body
+use Rattle.tp_model.specs.Words.step
+use Rattle.tp_model.specs.Words.what
+use Rattle.tp_model.proofs.RuleLemmas as rules
+use Rattle.tp_machine.specs.Machine.{Machine, State, acts_by, coordinator_acted, coordinator_fact, done, idles, is_part_submitted, noted, opened_part, opening_state, refusal, server_acted, server_fact, with_age}
+use Rattle.tp_machine.specs.Parts.{Part}
+use Rattle.tp_machine.specs.Sound.{Each, IsSound, IsSoundBody, IsSoundLetter, IsSoundMail, IsSoundServerUp, IsStepOf}
+use Rattle.tp_machine.specs.coord.Opened as coord
+use Rattle.tp_machine.specs.coord.Row.{begins, coordinator_row, is_begun, query_of, sends_first, server_of, submit_row}
+use Rattle.tp_machine.specs.coord.State.{Coordinator}
+use Rattle.tp_machine.specs.declared.server.Entry.{Entry}
+use Rattle.tp_machine.specs.offices.Authority as office
+use Rattle.tp_machine.specs.server.Opened as server
+use Rattle.tp_machine.specs.server.Row.{server_row}
+use Rattle.tp_machine.specs.server.State.{Server}
+use Rattle.tp_machine.proofs.agreement.CoordinatorActs.{told_of}
+use Rattle.tp_machine.proofs.agreement.Steps.{own_txn}
+use Rattle.tp_machine.proofs.agreement.World.{Agrees}
+use Rattle.tp_machine.proofs.walks.Steps.{Cases, IsCoordinatorUp, IsServerUp, SaysIdle, WasSent, done_by}
+use Rattle.tp_machine.proofs.basics.Facts.{ArePast, any_append}
+use Rattle.tp_machine.proofs.basics.Ids.{number_itself}
+use Rattle.tp_machine.proofs.ids.Built.{IsValid, valid_built}
+use Rattle.tp_machine.proofs.basics.Lists.{at_made, each_get, placed_none}
+use Rattle.tp_machine.proofs.trust.Acts.{ActTrusts, act_trusts, coordinator_acts_trusts, server_acts_trusts, tells_fit, tells_timely, timely_closed, unmoved_trusts}
+use Rattle.tp_machine.proofs.trust.Built.{IsFirstForm, first_form}
+use Rattle.tp_machine.proofs.trust.Coordinator.{CoordinatorFits, CoordinatorTrusts, LetterOfTurn, RecordDecides, coordinator_row_trusts, submit_row_trusts}
+use Rattle.tp_machine.proofs.trust.Fit.{AreAll, BodyFits, IsSubmitted, Later, MailFits, ServerFits, deed_numbers, maybe_stays}
+use Rattle.tp_machine.proofs.trust.Kept.{AreKept, IsKept, IsTrusted}
+use Rattle.tp_machine.proofs.trust.Server.{ServerTrusted, server_row_trusts}
+use Rattle.tp_machine.proofs.trust.Turns.{AreFew, IsNoTell, TurnFits, few_queries, stamp_of, timely_anywhere}
+use Rattle.tp_machine.proofs.trust.World.{BodyTimely, CoordinatorPartFits, MailTimely, ServerPartFits, StampFits, Timely, Trusts, TurnTrusts, concluded_trusts, coordinator_stays, facts_after, later_noted, up_at}
+
+-- ---- what is known of actors that are up
+
+idle_trusts : (sc : Scenario) (w : State) → ArePast (length w.steps) w.facts → Trusts sc w → (taken : Step) (happened : List What) → SaysIdle taken happened → TurnTrusts sc w (idles w.actors happened)
+idle_trusts sc w past h (step.Deliver mail) happened e =
+    subst (λ (hs : List What). TurnTrusts sc w (idles w.actors hs)) (sym e) (unmoved_trusts sc w [] [] past h (record { still = tt; fit = λ facts. tt }) tt tt)
+idle_trusts sc w past h (step.Lose mail) happened e =
+    subst (λ (hs : List What). TurnTrusts sc w (idles w.actors hs)) (sym e) (unmoved_trusts sc w (what.Lost mail ∷ []) [] past h (record { still = (tt, tt); fit = λ facts. (tt, tt) }) tt tt)
+idle_trusts sc w past h _ happened e = absurd e
+
+-- what a mail that was sent says is sound, fits, and is timely
+record MailTrusted (sc : Scenario) (w : State) (mail : Mail) (to : Actor) : Type 0 where
+  pub says : IsSoundBody sc to mail.letter.body
+  pub fits : BodyFits sc w.facts (length w.steps) mail.sent mail.letter.body
+  pub timely : BodyTimely sc w.actors.coordinators mail.sent mail.letter.body
+
+mail_trusted : (sc : Scenario) (w : State) (n : ℕ) (mail : Mail) (to : Actor) → IsSound sc w → Trusts sc w → WasSent w n mail to → MailTrusted sc w mail to
+mail_trusted sc w n mail to sound h sent =
+    let m : IsSoundLetter sc mail.letter = each_get (IsSoundMail sc) w.mails n mail sound.mails_are sent.sent in
+    record {
+      says = subst (λ (t : Actor). IsSoundBody sc t mail.letter.body) sent.goes_to m.says;
+      fits = each_get (MailFits sc w.facts (length w.steps)) w.mails n mail h.mails_fit sent.sent;
+      timely = each_get (MailTimely sc w.actors.coordinators) w.mails n mail h.mails_timely sent.sent;
+    }
+
+-- what a server is told depends on no place
+no_tell : (sc : Scenario) (at : ServerId) (said : Body) → IsSoundBody sc (actor.Server at) said → IsNoTell said
+no_tell sc at (body.Tell tell) m = let other : actor.Server at ≡ actor.Coordinator tell.txn = m.goes_to in absurd (cc)
+no_tell sc at _ m = tt
+
+heard_anywhere : (sc : Scenario) (coordinators : List (Part Coordinator)) (sent : ℕ) (said : Body) → IsNoTell said → BodyTimely sc coordinators sent said → Timely sc coordinators said
+heard_anywhere sc coordinators sent said other h place =
+    maybe_stays (StampFits sc coordinators sent said) (StampFits sc coordinators place said) (stamp_of said)
+    (λ stamped k. maybe_stays (TurnFits sc sent stamped.turn said) (TurnFits sc place stamped.turn said) (up_at coordinators stamped.txn.0)
+    (λ c t. timely_anywhere sc c sent place stamped.turn said other t) k) h
+
+received_by_server : (sc : Scenario) (w : State) → IsFirstForm sc → IsValid sc → IsSound sc w → ArePast (length w.steps) w.facts → Trusts sc w → (n : ℕ) (mail : Mail) (at : ServerId) (part : Part Server) (s : Server)
+    → WasSent w n mail (actor.Server at) → IsServerUp w at part s → TurnTrusts sc w (server_acted w.actors at (acts_by (server_fact at) [] part.log (server_row sc s mail)))
+received_by_server sc w form valid sound past h n mail at part s sent up =
+    let place = length w.steps in
+    let T = Timely sc w.actors.coordinators in
+    let effect = server_row sc s mail in
+    let m = mail_trusted sc w n mail (actor.Server at) sound h sent in
+    let here : IsSoundServerUp sc at s = subst (λ (u : Option Server). IfSome u (IsSoundServerUp sc at)) up.up (sound.actors_are.servers at.0 part up.found).state in
+    let fits = h.servers at.0 part up.found in
+    let trusted : ServerTrusted sc w.facts place T s = record {
+      fits = subst (λ (u : Option Server). IfSome u (ServerFits sc w.facts place)) up.up fits.state;
+      keeps = subst (λ (u : Option Server). IfSome u (AreKept (IsTrusted sc w.facts place T))) up.up fits.kept.state;
+    } in
+    server_acts_trusts sc w at part [] (Some effect.state) effect.reaction.append effect.reaction.letters past h up.found (record { still = tt; fit = λ facts. tt })
+    (server_row_trusts sc w.facts place T s mail form valid here.sound trusted (subst (λ (a : ServerId). IsSoundBody sc (actor.Server a) mail.letter.body) (sym here.server_is) m.says) m.fits
+    (timely_closed sc w.actors.coordinators) (heard_anywhere sc w.actors.coordinators mail.sent mail.letter.body (no_tell sc at mail.letter.body m.says) m.timely))
+
+coordinator_fits : (sc : Scenario) (w : State) (txn : TxnId) (part : Part Coordinator) (c : Coordinator) → Trusts sc w → IsCoordinatorUp w txn part c → CoordinatorFits sc w.facts (length w.steps) c
+coordinator_fits sc w txn part c h up = subst (λ (u : Option Coordinator). IfSome u (CoordinatorFits sc w.facts (length w.steps))) up.up (h.coordinators txn.0 part up.found)
+
+received_by_coordinator : (sc : Scenario) (w : State) → AreFew sc → IsSound sc w → ArePast (length w.steps) w.facts → Trusts sc w → (n : ℕ) (mail : Mail) (txn : TxnId) (part : Part Coordinator) (c : Coordinator)
+    → WasSent w n mail (actor.Coordinator txn) → IsCoordinatorUp w txn part c → TurnTrusts sc w (coordinator_acted w.actors txn (acts_by coordinator_fact [] part.log (coordinator_row sc c mail)))
+received_by_coordinator sc w few sound past h n mail txn part c sent up =
+    let place = length w.steps in
+    let effect = coordinator_row sc c mail in
+    let append = effect.reaction.append in
+    let letters = effect.reaction.letters in
+    let m = mail_trusted sc w n mail (actor.Coordinator txn) sound h sent in
+    let same : c.txn ≡ txn = own_txn sc w txn part c sound up.found up.up in
+    let row : CoordinatorTrusts sc w.facts place c.txn (Some c) (Some effect.state) append letters =
+    coordinator_row_trusts sc w.facts place c mail few (coordinator_fits sc w txn part c h up) (subst (λ (t : TxnId). IsSoundBody sc (actor.Coordinator t) mail.letter.body) (sym same) m.says) m.fits in
+    coordinator_acts_trusts sc w txn part [] (Some effect.state) append letters past h up.found
+    (act_trusts sc w txn part.up (Some effect.state) [] append letters (record { still = tt; fit = λ facts. tt })
+    (subst (λ (was : Option Coordinator). CoordinatorTrusts sc w.facts place txn was (Some effect.state) append letters) (sym up.up)
+    (subst (λ (t : TxnId). CoordinatorTrusts sc w.facts place t (Some c) (Some effect.state) append letters) same row)))
+
+-- ---- submissions
+
+later_true : (a b : Bool) → b ≡ true → (a || b) ≡ true
+later_true a b e = grind arith
+
+first_true : (a b : Bool) → a ≡ true → (a || b) ≡ true
+first_true a b e = grind arith
+
+-- the facts after a submission tell of it
+now_submitted : (w : State) (txn : TxnId) (more : List What) → IsSubmitted (facts_after w (what.Submitted txn ∷ more)) txn
+now_submitted w txn more =
+    any_append (is_submission txn) w.facts (noted (length w.steps) (what.Submitted txn ∷ more)) ∙ later_true _ _ (first_true (txn.0 == txn.0) _ (number_itself txn.0))
+
+-- a submission decides nothing
+begins_nothing : (sc : Scenario) (w : State) (c : Coordinator) (asked : Option Query) → IfSome (begins sc c asked).reaction.append (RecordDecides sc w.facts (length w.steps))
+begins_nothing sc w c None = tt
+begins_nothing sc w c (Some asked) = first (server_of sc asked) (written_constant asked)
+  where
+    first : (at : Option ServerId) (value : Option ℤ) → IfSome (sends_first c at value).reaction.append (RecordDecides sc w.facts (length w.steps))
+    first (Some at) (Some value) = tt
+    first _ _ = tt
+
+submission_fits : (sc : Scenario) (w : State) (txn : TxnId) (c : Coordinator) → c.txn ≡ txn → CoordinatorFits sc w.facts (length w.steps) c → is_begun c.phase ≡ false
+    → ActTrusts sc w txn (Some c) (Some (with_age (submit_row sc c) (length w.steps)).state) (what.Submitted txn ∷ []) (submit_row sc c).reaction.append (submit_row sc c).reaction.letters
+submission_fits sc w txn c same fits begun =
+    let place = length w.steps in
+    let effect = with_age (submit_row sc c) place in
+    let after = facts_after w (what.Submitted txn ∷ told_of effect.reaction.append) in
+    let row : (facts : List Fact) → facts ≡ after → CoordinatorTrusts sc facts (place + 1) c.txn (Some c) (Some effect.state) effect.reaction.append effect.reaction.letters =
+    λ facts e. submit_row_trusts sc facts (place + 1) place c
+    (coordinator_stays sc w.facts facts place (place + 1) c (subst (λ (fs : List Fact). Later w.facts fs place (place + 1)) (sym e) (later_noted w (what.Submitted txn ∷ told_of effect.reaction.append) (place + 1) (omega arith))) fits)
+    begun
+    (subst (λ (fs : List Fact). IsSubmitted fs c.txn) (sym e) (subst (λ (t : TxnId). IsSubmitted after t) (sym same) (now_submitted w txn (told_of effect.reaction.append)))) in
+    record {
+      says = record { still = (tt, tt); fit = λ facts. (tt, tt) };
+      fits = λ facts e. (row facts e).fits;
+      decides = begins_nothing sc w c (query_of sc c 1);
+      letters = λ facts e. (row facts e).says place;
+      timely = subst (λ (u : TxnId). Each (LetterOfTurn sc u (Some effect.state) place) effect.reaction.letters) same ((row after refl).timely place);
+      old = (row after refl).old;
+    }
+
+begun_trusts : (sc : Scenario) (w : State) → IsSound sc w → ArePast (length w.steps) w.facts → Trusts sc w → (txn : TxnId) (part : Part Coordinator) (c : Coordinator) → IsCoordinatorUp w txn part c
+    → is_part_submitted (Some c) ≡ false
+    → TurnTrusts sc w (coordinator_acted w.actors txn (acts_by coordinator_fact (what.Submitted txn ∷ []) part.log (with_age (submit_row sc c) (length w.steps))))
+begun_trusts sc w sound past h txn part c up new =
+    let effect = with_age (submit_row sc c) (length w.steps) in
+    let own = what.Submitted txn ∷ [] in
+    coordinator_acts_trusts sc w txn part own (Some effect.state) effect.reaction.append effect.reaction.letters past h up.found
+    (subst (λ (was : Option Coordinator). ActTrusts sc w txn was (Some effect.state) own effect.reaction.append effect.reaction.letters) (sym up.up)
+    (submission_fits sc w txn c (own_txn sc w txn part c sound up.found up.up) (coordinator_fits sc w txn part c h up) new))
+
+-- ---- steps
+
+trusts_cases : (sc : Scenario) (w : State) → IsFirstForm sc → IsValid sc → AreFew sc → IsSound sc w → Agrees sc w → Trusts sc w → Cases sc w (λ taken turn. TurnTrusts sc w turn)
+trusts_cases sc w form valid few sound a h =
+    record {
+      idle = idle_trusts sc w a.past h;
+      server_received = λ n mail at part s sent up. received_by_server sc w form valid sound a.past h n mail at part s sent up;
+      coordinator_received = λ n mail txn part c sent up. received_by_coordinator sc w few sound a.past h n mail txn part c sent up;
+      authority_told = λ n mail sent.
+          let m = mail_trusted sc w n mail actor.Authority sound h sent in
+          unmoved_trusts sc w [] (office.authority_row w.actors.authority mail).reaction.letters a.past h (record { still = tt; fit = λ facts. tt })
+          (tells_fit sc w mail.letter.body mail.sent a h.authority m.fits) (tells_timely sc w mail.letter.body mail.sent h m.timely);
+      begun = λ txn part c exists up new. begun_trusts sc w sound a.past h txn part c up new;
+    }
+
+-- a step that is not refused keeps what trust rests on
+pub trusts_done : (sc : Scenario) (m : Machine) (taken : Step) → is_built sc ≡ true → IsStepOf sc taken → refusal m.state taken ≡ None → IsSound sc m.state → Agrees sc m.state → Trusts sc m.state
+    → Trusts sc (done sc m taken).state
+trusts_done sc m taken built exists allowed sound a h =
+    done_by sc m (λ taken turn. TurnTrusts sc m.state turn) (Trusts sc)
+    (trusts_cases sc m.state (first_form sc built) (valid_built sc built) (few_queries sc (rules.valid_built sc built)) sound a h) a.coordinator_count
+    (λ taken turn t. concluded_trusts sc m.state taken turn a h t) h taken exists allowed
+
+-- ---- before the first step
+
+one_known : (knows : List Version) (n : ℕ) → Each (λ (version : Version). version.0 ≡ 1) knows → (unwrap_or (slice_get knows n) (record { 0 = 1 })).0 ≡ 1
+one_known [] n h = refl
+one_known (version ∷ knows) zero h = h.0
+one_known (version ∷ knows) (suc n) h = one_known knows n h.1
+
+known_at : (sc : Scenario) (n : ℕ) (admin : AdminId) (found : Option ServerDecl) → slice_get sc.servers n ≡ found → Each (λ (declared : ServerDecl). Each (λ (version : Version). version.0 ≡ 1) declared.knows) sc.servers
+    → (unwrap_or (slice_get (option_map_or (λ (declared : ServerDecl). declared.knows) found []) admin.0) (record { 0 = 1 })).0 ≡ 1
+known_at sc n admin None e h = refl
+known_at sc n admin (Some declared) e h = one_known declared.knows admin.0 (each_get (λ (d : ServerDecl). Each (λ (version : Version). version.0 ≡ 1) d.knows) sc.servers n declared h e)
+
+-- the world before the first step
+pub trusts_opening : (sc : Scenario) → is_built sc ≡ true → Trusts sc (opening_state sc)
+trusts_opening sc built =
+    let form : IsFirstForm sc = first_form sc built in
+    let T = Timely sc (opening_state sc).actors.coordinators in
+    record {
+      authority = record { clock_is = omega arith; revoked_is = λ cred. refl };
+      servers = λ n part e. at_made (λ (k : ℕ) (found : Part Server). ServerPartFits sc [] 0 T found) (λ (k : ℕ). opened_part (server.opened sc (record { 0 = k }))) 0 (length sc.servers)
+          (λ k within. record {
+            state = record {
+              known = λ admin exists. let one = known_at sc k admin (slice_get sc.servers k) refl form.known in
+                  omega (arith, one, form.opening admin exists);
+              all = placed_none (λ (m : ℕ) (entry : Entry). AreAll sc (record { 0 = m }) (deed_numbers entry.deeds)) (length sc.txns);
+            };
+            kept = record {
+              state = placed_none (λ (m : ℕ) (entry : Entry). IsKept (IsTrusted sc [] 0 T) (record { 0 = m }) entry) (length sc.txns);
+              prepared = λ txn p f. absurd (cc);
+            };
+          }) n part e;
+      coordinators = λ n part e. at_made (λ (k : ℕ) (found : Part Coordinator). CoordinatorPartFits sc [] 0 found) (λ (k : ℕ). opened_part (coord.idle sc (record { 0 = k }))) 0 (length sc.txns)
+          (λ k within. record { awaits = tt; unclosed = λ unsure. refl; above = λ unsure. record { closed = tt; gathered_before = tt }; turn = omega arith }) n part e;
+      mails_fit = tt;
+      mails_timely = tt;
+      facts_fit = tt;
+    }

@@ -1,0 +1,245 @@
+-- Trust over every list of steps: what is kept of a world, and what a step has to leave.
+use Rattle.std.specs.List.{cons_option, filter_map, sum_by}
+use Rattle.std.proofs.Common.{Bool, IfSome, List, None, Option, Some, [], ap, arith, length, option_and_then, refl, slice_get, subst, sym, true, ℕ, ◌++◌, ◌+◌, ◌<◌, ◌||◌, ◌∙◌, ◌∷◌, ◌≡◌, ◌≤◌}
+use Rattle.std.proofs.lemmas.List.Sums.{sum_by-append, sum_by-cons}
+use Rattle.tp_model.specs.Credentials.{is_among, revoked_by, revoked_what, ticks, ticks_what}
+use Rattle.tp_model.specs.Facts.{before, is_submission}
+use Rattle.tp_model.specs.Words.{Body, CredId, Decision, Fact, Instance, Letter, Mail, Scenario, Step, TxnId, Verdict, What}
+use Rattle.tp_model.specs.Words.decision
+use Rattle.tp_model.specs.Words.what
+use Rattle.tp_machine.specs.Machine.{State, Turn, concluded, noted, posted}
+use Rattle.tp_machine.specs.Parts.{Part}
+use Rattle.tp_machine.specs.Sound.{Each, EachAt}
+use Rattle.tp_machine.specs.coord.State.{Coordinator}
+use Rattle.tp_machine.specs.declared.actors.Actors.{Actors}
+use Rattle.tp_machine.specs.offices.State.{Authority}
+use Rattle.tp_machine.specs.server.State.{Server}
+use Rattle.tp_machine.proofs.agreement.World.{Agrees, steps_more}
+use Rattle.tp_machine.proofs.basics.Facts.{ArePast, any_append, append_none, before_past, filter_map_append, grows_noted, noted_past, past_as}
+use Rattle.tp_machine.proofs.basics.Lists.{each_append, each_as}
+use Rattle.tp_machine.proofs.trust.Coordinator.{CoordinatorFits, DecisionFits}
+use Rattle.tp_machine.proofs.trust.Fit.{AuthorityFits, BodyFits, Later, MailFits, ServerFits, body_stays, maybe_stays, phase_stays, server_stays, verdicts_stay}
+use Rattle.tp_machine.proofs.trust.Kept.{IsTrusted, PartKept, part_as, trusted_stays}
+use Rattle.tp_machine.proofs.trust.Turns.{AreEarlier, IsAbove, Stamp, TurnFits, stamp_of}
+
+-- ---- the invariant
+
+-- a server that is up fits; and all that it keeps, and has prepared on its log, fits too, and T of it
+pub record ServerPartFits (sc : Scenario) (facts : List Fact) (place : ℕ) (T : Body → Type 0) (part : Part Server) : Type 0 where
+  pub state : IfSome part.up (ServerFits sc facts place)
+  pub kept : PartKept (IsTrusted sc facts place T) part
+
+abbrev pub CoordinatorPartFits : Scenario → List Fact → ℕ → Part Coordinator → Type 0
+CoordinatorPartFits sc facts place part = IfSome part.up (CoordinatorFits sc facts place)
+
+abbrev pub up_of : Part Coordinator → Option Coordinator
+up_of part = part.up
+
+-- the coordinator of a transaction, by its number, where it is up
+abbrev pub up_at : List (Part Coordinator) → ℕ → Option Coordinator
+up_at coordinators txn = option_and_then up_of (slice_get coordinators txn)
+
+-- what a mail says where its turn is the present one of its transaction's coordinator; one that is down promises nothing
+abbrev pub StampFits : Scenario → List (Part Coordinator) → ℕ → Body → Stamp → Type 0
+StampFits sc coordinators sent said stamped = IfSome (up_at coordinators stamped.txn.0) (TurnFits sc sent stamped.turn said)
+
+abbrev pub BodyTimely : Scenario → List (Part Coordinator) → ℕ → Body → Type 0
+BodyTimely sc coordinators sent said = IfSome (stamp_of said) (StampFits sc coordinators sent said)
+
+abbrev pub MailTimely : Scenario → List (Part Coordinator) → Mail → Type 0
+MailTimely sc coordinators mail = BodyTimely sc coordinators mail.sent mail.letter.body
+
+-- the same of what may yet be sent, at any place
+abbrev pub Timely : Scenario → List (Part Coordinator) → Body → Type 0
+Timely sc coordinators said = (sent : ℕ) → BodyTimely sc coordinators sent said
+
+-- what a fact of a place shows by the facts before it
+abbrev pub WhatFits : Scenario → List Fact → ℕ → What → Type 0
+WhatFits sc facts place (what.Decided txn decided) = DecisionFits sc facts place txn decided
+WhatFits sc facts place _ = Unit {0}
+
+abbrev pub FactFits : Scenario → List Fact → Fact → Type 0
+FactFits sc facts fact = WhatFits sc facts fact.place fact.what
+
+-- all that trust rests on: each actor, all that servers keep, each mail ever sent and each fact fits the facts so far
+pub record TrustsAt (sc : Scenario) (facts : List Fact) (place : ℕ) (actors : Actors) (mails : List Mail) : Type 0 where
+  pub authority : AuthorityFits sc facts place actors.authority
+  pub servers : EachAt (λ (n : ℕ) (part : Part Server). ServerPartFits sc facts place (Timely sc actors.coordinators) part) actors.servers
+  pub coordinators : EachAt (λ (n : ℕ) (part : Part Coordinator). CoordinatorPartFits sc facts place part) actors.coordinators
+  pub mails_fit : Each (MailFits sc facts place) mails
+  pub mails_timely : Each (MailTimely sc actors.coordinators) mails
+  pub facts_fit : Each (FactFits sc facts) facts
+
+abbrev pub Trusts : Scenario → State → Type 0
+Trusts sc w = TrustsAt sc w.facts (length w.steps) w.actors w.mails
+
+-- ---- a turn
+
+-- the facts after a turn
+abbrev pub facts_after : State → List What → List Fact
+facts_after w happened = w.facts ++ noted (length w.steps) happened
+
+-- a step leaves actors, letters and facts that fit the facts after it
+pub record TurnTrusts (sc : Scenario) (w : State) (turn : Turn) : Type 0 where
+  pub authority : AuthorityFits sc (facts_after w turn.happened) (length w.steps + 1) turn.actors.authority
+  pub servers : EachAt (λ (n : ℕ) (part : Part Server). ServerPartFits sc (facts_after w turn.happened) (length w.steps + 1) (Timely sc turn.actors.coordinators) part) turn.actors.servers
+  pub coordinators : EachAt (λ (n : ℕ) (part : Part Coordinator). CoordinatorPartFits sc (facts_after w turn.happened) (length w.steps + 1) part) turn.actors.coordinators
+  pub letters : Each (λ (letter : Letter). BodyFits sc (facts_after w turn.happened) (length w.steps + 1) (length w.steps) letter.body) turn.letters
+  pub old_timely : Each (MailTimely sc turn.actors.coordinators) w.mails
+  pub new_timely : Each (λ (letter : Letter). BodyTimely sc turn.actors.coordinators (length w.steps) letter.body) turn.letters
+  pub facts : Each (WhatFits sc (facts_after w turn.happened) (length w.steps)) turn.happened
+
+-- ---- growth
+
+either_true : (a b : Bool) → a ≡ true → (a || b) ≡ true
+either_true a b e = grind arith
+
+-- the facts after a turn are later ones
+pub later_noted : (w : State) (happened : List What) (high : ℕ) → length w.steps ≤ high → Later w.facts (facts_after w happened) (length w.steps) high
+later_noted w happened high le =
+    record {
+      grows = grows_noted w.facts (length w.steps) happened;
+      le = le;
+      more = λ txn e. any_append (is_submission txn) w.facts (noted (length w.steps) happened) ∙ either_true _ _ e;
+    }
+
+pub server_part_stays : (sc : Scenario) (old new : List Fact) (low high : ℕ) (T U : Body → Type 0) (part : Part Server) → Later old new low high → ((said : Body) → T said → U said)
+    → ServerPartFits sc old low T part → ServerPartFits sc new high U part
+server_part_stays sc old new low high T U part l step h =
+    record {
+      state = maybe_stays (ServerFits sc old low) (ServerFits sc new high) part.up (λ s k. server_stays sc old new low high s l k) h.state;
+      kept = part_as (IsTrusted sc old low T) (IsTrusted sc new high U) part (λ said k. trusted_stays sc old new low high T U said l step k) h.kept;
+    }
+
+-- what was made before a place was made before a later one
+above_stays : (low high : ℕ) (instances : List Instance) (gathered : List Verdict) → low ≤ high → IsAbove low instances gathered → IsAbove high instances gathered
+above_stays low high instances gathered le h =
+    let earlier : (verdicts : List Verdict) → AreEarlier low verdicts → AreEarlier high verdicts =
+    λ verdicts k. each_as (λ (verdict : Verdict). verdict.place < low) (λ (verdict : Verdict). verdict.place < high) (λ verdict less. omega (arith, less, le)) verdicts k in
+    record {
+      closed = each_as (λ (closed : Instance). AreEarlier low closed.proofs) (λ (closed : Instance). AreEarlier high closed.proofs) (λ closed k. earlier closed.proofs k) instances h.closed;
+      gathered_before = earlier gathered h.gathered_before;
+    }
+
+pub coordinator_stays : (sc : Scenario) (old new : List Fact) (low high : ℕ) (c : Coordinator) → Later old new low high → CoordinatorFits sc old low c → CoordinatorFits sc new high c
+coordinator_stays sc old new low high c l h =
+    record {
+      awaits = phase_stays sc old new low high c.txn c.phase l h.awaits;
+      unclosed = h.unclosed;
+      above = λ undecided. above_stays low high c.instances c.gathered l.le (h.above undecided);
+      turn = h.turn;
+    }
+
+pub coordinator_up_stays : (sc : Scenario) (old new : List Fact) (low high : ℕ) (up : Option Coordinator) → Later old new low high → IfSome up (CoordinatorFits sc old low) → IfSome up (CoordinatorFits sc new high)
+coordinator_up_stays sc old new low high None l h = tt
+coordinator_up_stays sc old new low high (Some c) l h = coordinator_stays sc old new low high c l h
+
+pub decision_stays : (sc : Scenario) (old new : List Fact) (low high : ℕ) (txn : TxnId) (decided : Decision) → Later old new low high → DecisionFits sc old low txn decided → DecisionFits sc new high txn decided
+decision_stays sc old new low high txn (decision.Commit committed) l h =
+    record { rounds = h.rounds; proofs = h.proofs; instances = h.instances; fit = verdicts_stay sc old new low high txn h.proofs l h.fit; agreed = h.agreed }
+decision_stays sc old new low high txn (decision.Abort why) l h = h
+
+-- what holds up to a place holds up to an earlier one
+earlier_too : (old new : List Fact) (low high first : ℕ) → first ≤ low → Later old new low high → Later old new first first
+earlier_too old new low high first le l = record { grows = record { same = λ k small. l.grows.same k (omega (arith, small, le)) }; le = omega arith; more = l.more }
+
+what_stays : (sc : Scenario) (old new : List Fact) (low high place : ℕ) (w : What) → place ≤ low → Later old new low high → WhatFits sc old place w → WhatFits sc new place w
+what_stays sc old new low high place (what.Decided txn decided) le l h = decision_stays sc old new place place txn decided (earlier_too old new low high place le l) h
+what_stays sc old new low high place _ le l h = tt
+
+facts_stay : (sc : Scenario) (old new : List Fact) (low high : ℕ) (facts : List Fact) → Later old new low high → ArePast low facts → Each (FactFits sc old) facts → Each (FactFits sc new) facts
+facts_stay sc old new low high [] l past h = tt
+facts_stay sc old new low high (fact ∷ facts) l past h =
+    (what_stays sc old new low high fact.place fact.what (omega (arith, past.0)) l h.0, facts_stay sc old new low high facts l past.1 h.1)
+
+noted_fit : (sc : Scenario) (facts : List Fact) (place : ℕ) (happened : List What) → Each (WhatFits sc facts place) happened → Each (FactFits sc facts) (noted place happened)
+noted_fit sc facts place [] h = tt
+noted_fit sc facts place (w ∷ happened) h = (h.0, noted_fit sc facts place happened h.1)
+
+posted_fit : (sc : Scenario) (facts : List Fact) (place sent number : ℕ) (letters : List Letter) → Each (λ (letter : Letter). BodyFits sc facts place sent letter.body) letters
+    → Each (MailFits sc facts place) (posted sent number letters)
+posted_fit sc facts place sent number [] h = tt
+posted_fit sc facts place sent number (letter ∷ letters) h = (h.0, posted_fit sc facts place sent (number + 1) letters h.1)
+
+posted_timely : (sc : Scenario) (coordinators : List (Part Coordinator)) (sent number : ℕ) (letters : List Letter) → Each (λ (letter : Letter). BodyTimely sc coordinators sent letter.body) letters
+    → Each (MailTimely sc coordinators) (posted sent number letters)
+posted_timely sc coordinators sent number [] h = tt
+posted_timely sc coordinators sent number (letter ∷ letters) h = (h.0, posted_timely sc coordinators sent (number + 1) letters h.1)
+
+-- ---- the authority's facts
+
+-- the clock and the revocations stay
+abbrev pub IsStill : What → Type 0
+IsStill (what.Ticked by) = ⊥
+IsStill (what.Revoked cred) = ⊥
+IsStill _ = Unit {0}
+
+no_ticks : (place : ℕ) (happened : List What) → Each IsStill happened → sum_by ticks (noted place happened) ≡ 0
+no_ticks place [] h = refl
+no_ticks place (w ∷ happened) h =
+    let whole : sum_by ticks (noted place (w ∷ happened)) ≡ ticks (record { place = place; what = w }) + sum_by ticks (noted place happened) = sum_by-cons ticks (record { place = place; what = w }) (noted place happened) in
+    let later : sum_by ticks (noted place happened) ≡ 0 = no_ticks place happened h.1 in
+    let here : ticks (record { place = place; what = w }) ≡ 0 = still w h.0 in
+    omega (arith, whole, later, here)
+  where
+    still : (v : What) → IsStill v → ticks_what v ≡ 0
+    still (what.Ticked by) n = absurd n
+    still _ n = refl
+
+no_revocation : (place : ℕ) (happened : List What) → Each IsStill happened → filter_map revoked_by (noted place happened) ≡ []
+no_revocation place [] h = refl
+no_revocation place (w ∷ happened) h =
+    ap (λ (found : Option CredId). cons_option found (filter_map revoked_by (noted place happened))) (still w h.0) ∙ no_revocation place happened h.1
+  where
+    still : (v : What) → IsStill v → revoked_what v ≡ None
+    still (what.Revoked other) n = absurd n
+    still _ n = refl
+
+past_after : (w : State) (happened : List What) → ArePast (length w.steps) w.facts → ArePast (length w.steps + 1) (facts_after w happened)
+past_after w happened past =
+    let place = length w.steps in
+    each_append (λ (fact : Fact). fact.place < place + 1) w.facts (noted place happened) (past_as place (place + 1) (omega arith) w.facts past) (noted_past place happened)
+
+-- an authority that stays fits the facts after a turn in which no time passes and nothing is revoked
+pub authority_stays : (sc : Scenario) (w : State) (happened : List What) (authority : Authority) → ArePast (length w.steps) w.facts → Each IsStill happened → AuthorityFits sc w.facts (length w.steps) authority
+    → AuthorityFits sc (facts_after w happened) (length w.steps + 1) authority
+authority_stays sc w happened authority past still h =
+    let place = length w.steps in
+    let now = facts_after w happened in
+    let was : before place w.facts ≡ w.facts = before_past place w.facts past in
+    let all : before (place + 1) now ≡ now = before_past (place + 1) now (past_after w happened past) in
+    let sum_now : sum_by ticks now ≡ sum_by ticks w.facts + sum_by ticks (noted place happened) = sum_by-append ticks w.facts (noted place happened) in
+    let none : sum_by ticks (noted place happened) ≡ 0 = no_ticks place happened still in
+    let same : sum_by ticks w.facts ≡ sum_by ticks now = omega (arith, sum_now, none) in
+    record {
+      clock_is = h.clock_is ∙ ap (λ (n : ℕ). sc.clock + n) (ap (sum_by ticks) was ∙ (same ∙ ap (sum_by ticks) (sym all)));
+      revoked_is = λ cred. h.revoked_is cred
+          ∙ (ap (λ (earlier : List Fact). is_among (filter_map revoked_by earlier) cred) was
+          ∙ ap (λ (revoked : List CredId). is_among revoked cred)
+          (sym (filter_map_append revoked_by w.facts (noted place happened)
+          ∙ (ap (λ (more : List CredId). filter_map revoked_by w.facts ++ more) (no_revocation place happened still) ∙ append_none (filter_map revoked_by w.facts)))
+          ∙ ap (filter_map revoked_by) (sym all)));
+    }
+
+-- ---- a step
+
+-- a step whose turn fits leaves a world that fits
+pub concluded_trusts : (sc : Scenario) (w : State) (taken : Step) (turn : Turn) → Agrees sc w → Trusts sc w → TurnTrusts sc w turn → Trusts sc (concluded w taken turn)
+concluded_trusts sc w taken turn a h t =
+    let place = length w.steps in
+    let now = facts_after w turn.happened in
+    let l = later_noted w turn.happened (place + 1) (omega arith) in
+    let mails = w.mails ++ posted place (length w.mails) turn.letters in
+    let made : TrustsAt sc now (place + 1) turn.actors mails = record {
+      authority = t.authority;
+      servers = t.servers;
+      coordinators = t.coordinators;
+      mails_fit = each_append (MailFits sc now (place + 1)) w.mails (posted place (length w.mails) turn.letters)
+          (each_as (MailFits sc w.facts place) (MailFits sc now (place + 1)) (λ mail m. body_stays sc w.facts now place (place + 1) mail.sent mail.letter.body l m) w.mails h.mails_fit)
+          (posted_fit sc now (place + 1) place (length w.mails) turn.letters t.letters);
+      mails_timely = each_append (MailTimely sc turn.actors.coordinators) w.mails (posted place (length w.mails) turn.letters) t.old_timely
+          (posted_timely sc turn.actors.coordinators place (length w.mails) turn.letters t.new_timely);
+      facts_fit = each_append (FactFits sc now) w.facts (noted place turn.happened) (facts_stay sc w.facts now place (place + 1) w.facts l a.past h.facts_fit)
+          (noted_fit sc now place turn.happened t.facts);
+    } in
+    subst (λ (p : ℕ). TrustsAt sc now p turn.actors mails) (sym (steps_more w.steps taken)) made

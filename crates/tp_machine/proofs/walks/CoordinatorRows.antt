@@ -1,0 +1,191 @@
+-- A coordinator's rows are walked once: what is shown of each of their outcomes holds of the rows. A new outcome is a field here, and of each
+-- theorem's cases.
+use Rattle.std.proofs.Common.{List, None, Option, Some, [], is_none, refl, true, ℤ, ◌&&◌, ◌==◌, ◌∷◌, ◌≡◌}
+use Rattle.std.proofs.lemmas.Bool.{and_parts}
+use Rattle.tp_types.specs.Effect.{Effect, ignores, sends}
+use Rattle.tp_model.specs.Queries.{written_constant}
+use Rattle.tp_model.specs.Stage.{is_empty}
+use Rattle.tp_model.specs.Words.{AckReply, Actor, Answer, Body, DoneReply, Mail, Outcome, Query, Scenario, ServerId, Staple, TellReply, Verdict, Vote, VoteReply}
+use Rattle.tp_model.specs.Words.actor
+use Rattle.tp_model.specs.Words.answer
+use Rattle.tp_model.specs.Words.body
+use Rattle.tp_model.specs.Words.vote
+use Rattle.tp_machine.specs.coord.Row.{ack_from, answered, are_agreed, asks, awaits_query, awaits_vote, begins, commits, coordinator_row, done_of, is_awaited, is_from, is_last_write, is_plain, on_ack, on_body, on_vote, prepares, query_of, ran, replied, replied_by, sends_first, server_of, staple_of, submit_row, told, vote_at, voted, with_reply, without}
+use Rattle.tp_machine.specs.coord.State.{Coordinator}
+use Rattle.tp_machine.specs.declared.coord.Phase.TheVariants as phase
+use Rattle.tp_machine.specs.declared.coord.Phase.{Phase}
+use Rattle.tp_machine.specs.declared.coord.Round.{Round}
+use Rattle.tp_machine.proofs.basics.Lists.{by_cond}
+
+-- ---- outcomes of a receipt
+
+-- the awaited answer to the last query, which ran
+pub record IsLastAnswer (sc : Scenario) (c : Coordinator) (mail : Mail) (done : DoneReply) (server : ServerId) (asked : Query) (value : ℤ) : Type 0 where
+  pub said_is : mail.letter.body ≡ body.Done done
+  pub from_is : is_from mail.letter.from server ≡ true
+  pub awaited : awaits_query c c.phase done ≡ true
+  pub plain : is_plain c.phase ≡ true
+  pub asked_is : query_of sc c done.query ≡ Some asked
+  pub server_is : server_of sc asked ≡ Some server
+  pub answer_is : done.answer ≡ answer.Ran value None
+  pub last : is_last_write sc c asked done.query ≡ true
+
+-- the awaited answer of the authority, before a first round
+pub record IsTold (c : Coordinator) (mail : Mail) (tell : TellReply) (round : Round) : Type 0 where
+  pub said_is : mail.letter.body ≡ body.Tell tell
+  pub present : (tell.turn == c.turn) ≡ true
+  pub asking : c.phase ≡ phase.Asking round
+  pub first : is_none round.aim ≡ true
+
+-- an awaited vote YES
+pub record IsYes (c : Coordinator) (mail : Mail) (reply : VoteReply) (round : Round) (staple : Staple) (server : ServerId) (verdicts : List Verdict) : Type 0 where
+  pub said_is : mail.letter.body ≡ body.Vote reply
+  pub from_is : mail.letter.from ≡ actor.Server server
+  pub present : (reply.turn == c.turn) ≡ true
+  pub checking : c.phase ≡ phase.Checking round staple
+  pub awaited : is_awaited round.awaited server ≡ true
+  pub vote_is : reply.vote ≡ vote.Yes verdicts
+
+-- an acknowledgement of what was decided
+pub record IsAck (c : Coordinator) (mail : Mail) (ack : AckReply) (ended : Outcome) (awaited : List ServerId) (server : ServerId) : Type 0 where
+  pub said_is : mail.letter.body ≡ body.Ack ack
+  pub from_is : mail.letter.from ≡ actor.Server server
+  pub ending : c.phase ≡ phase.Ending ended awaited
+
+-- what is to be shown of the outcomes of a receipt: P of the effect
+pub record CoordinatorCases (sc : Scenario) (c : Coordinator) (mail : Mail) (P : Effect Coordinator → Type 0) : Type 0 where
+  pub ignored : P (ignores c)
+  pub ran_last : (done : DoneReply) (server : ServerId) (asked : Query) (value : ℤ) → IsLastAnswer sc c mail done server asked value → P (asks (ran c server done asked value))
+  pub told_first : (tell : TellReply) (round : Round) → IsTold c mail tell round → P (prepares c round (staple_of tell mail.sent))
+  pub counted : (reply : VoteReply) (round : Round) (staple : Staple) (server : ServerId) (verdicts : List Verdict) (other : ServerId) (others : List ServerId) → IsYes c mail reply round staple server verdicts
+      → without round.awaited server ≡ other ∷ others → P (sends (record c { phase = phase.Checking (with_reply round server verdicts) staple }) [])
+  pub committed : (reply : VoteReply) (round : Round) (staple : Staple) (server : ServerId) (verdicts : List Verdict) → IsYes c mail reply round staple server verdicts
+      → without round.awaited server ≡ [] → is_empty round.kept ≡ true → are_agreed verdicts ≡ true → P (commits c round.number verdicts)
+  pub acknowledged : (ack : AckReply) (ended : Outcome) (awaited : List ServerId) (server : ServerId) → IsAck c mail ack ended awaited server
+      → P (sends (record c { phase = phase.Ending ended (without awaited server) }) [])
+
+-- ---- Done
+
+answered_by : (sc : Scenario) (c : Coordinator) (mail : Mail) (P : Effect Coordinator → Type 0) → CoordinatorCases sc c mail P → (done : DoneReply) (server : ServerId) (asked : Query) (given : Answer)
+    → ((value : ℤ) → given ≡ answer.Ran value None → is_last_write sc c asked done.query ≡ true → IsLastAnswer sc c mail done server asked value) → P (answered sc c server done asked given)
+answered_by sc c mail P cases done server asked (answer.Ran value None) last =
+    by_cond P (is_last_write sc c asked done.query) (λ is_last. cases.ran_last done server asked value (last value refl is_last)) (λ further. cases.ignored)
+answered_by sc c mail P cases done server asked _ last = cases.ignored
+
+replied_by_server : (sc : Scenario) (c : Coordinator) (mail : Mail) (P : Effect Coordinator → Type 0) → CoordinatorCases sc c mail P → (done : DoneReply) (asked : Query) (server : Option ServerId)
+    → mail.letter.body ≡ body.Done done → awaits_query c c.phase done ≡ true → is_plain c.phase ≡ true → query_of sc c done.query ≡ Some asked → server_of sc asked ≡ server
+    → P (replied_by sc c mail.letter.from done asked server)
+replied_by_server sc c mail P cases done asked None e awaited plain asked_is server_is = cases.ignored
+replied_by_server sc c mail P cases done asked (Some server) e awaited plain asked_is server_is =
+    by_cond P (is_from mail.letter.from server)
+    (λ from. answered_by sc c mail P cases done server asked done.answer
+    (λ value given last. record {
+      said_is = e;
+      from_is = from;
+      awaited = awaited;
+      plain = plain;
+      asked_is = asked_is;
+      server_is = server_is;
+      answer_is = given;
+      last = last;
+    }))
+    (λ other. cases.ignored)
+
+asked_by : (sc : Scenario) (c : Coordinator) (mail : Mail) (P : Effect Coordinator → Type 0) → CoordinatorCases sc c mail P → (done : DoneReply) (asked : Option Query)
+    → mail.letter.body ≡ body.Done done → awaits_query c c.phase done ≡ true → is_plain c.phase ≡ true → query_of sc c done.query ≡ asked → P (done_of sc c mail.letter.from done asked)
+asked_by sc c mail P cases done None e awaited plain asked_is = cases.ignored
+asked_by sc c mail P cases done (Some asked) e awaited plain asked_is = replied_by_server sc c mail P cases done asked (server_of sc asked) e awaited plain asked_is refl
+
+-- ---- Tell
+
+told_by_phase : (sc : Scenario) (c : Coordinator) (mail : Mail) (P : Effect Coordinator → Type 0) → CoordinatorCases sc c mail P → (tell : TellReply) (awaited : Phase) → mail.letter.body ≡ body.Tell tell
+    → (tell.turn == c.turn) ≡ true → c.phase ≡ awaited → P (told c awaited (staple_of tell mail.sent))
+told_by_phase sc c mail P cases tell (phase.Asking round) e present asking =
+    by_cond P (is_none round.aim) (λ first. cases.told_first tell round (record { said_is = e; present = present; asking = asking; first = first })) (λ later. cases.ignored)
+told_by_phase sc c mail P cases tell _ e present asking = cases.ignored
+
+-- ---- Vote
+
+counted_by : (sc : Scenario) (c : Coordinator) (mail : Mail) (P : Effect Coordinator → Type 0) → CoordinatorCases sc c mail P → (reply : VoteReply) (round : Round) (staple : Staple) (server : ServerId)
+    (verdicts : List Verdict) (left : List ServerId) → IsYes c mail reply round staple server verdicts → without round.awaited server ≡ left → P (replied c round staple server verdicts left)
+counted_by sc c mail P cases reply round staple server verdicts [] y e =
+    by_cond P (is_empty round.kept && are_agreed verdicts)
+    (λ agreed. let parts = and_parts (is_empty round.kept) (are_agreed verdicts) agreed in cases.committed reply round staple server verdicts y e parts.0 parts.1)
+    (λ other. cases.ignored)
+counted_by sc c mail P cases reply round staple server verdicts (other ∷ others) y e = cases.counted reply round staple server verdicts other others y e
+
+voted_by : (sc : Scenario) (c : Coordinator) (mail : Mail) (P : Effect Coordinator → Type 0) → CoordinatorCases sc c mail P → (reply : VoteReply) (round : Round) (staple : Staple) (server : ServerId) (said : Vote)
+    → ((verdicts : List Verdict) → said ≡ vote.Yes verdicts → IsYes c mail reply round staple server verdicts) → P (voted c round staple server said)
+voted_by sc c mail P cases reply round staple server (vote.Yes verdicts) y = counted_by sc c mail P cases reply round staple server verdicts (without round.awaited server) (y verdicts refl) refl
+voted_by sc c mail P cases reply round staple server (vote.No why) y = cases.ignored
+
+vote_by_phase : (sc : Scenario) (c : Coordinator) (mail : Mail) (P : Effect Coordinator → Type 0) → CoordinatorCases sc c mail P → (reply : VoteReply) (awaited : Phase) (server : ServerId)
+    → mail.letter.body ≡ body.Vote reply → mail.letter.from ≡ actor.Server server → (reply.turn == c.turn) ≡ true → c.phase ≡ awaited → awaits_vote awaited server ≡ true
+    → P (vote_at c awaited server reply.vote)
+vote_by_phase sc c mail P cases reply (phase.Checking round staple) server e from present checking is_awaited_here =
+    voted_by sc c mail P cases reply round staple server reply.vote
+    (λ verdicts yes_is. record { said_is = e; from_is = from; present = present; checking = checking; awaited = is_awaited_here; vote_is = yes_is })
+vote_by_phase sc c mail P cases reply _ server e from present checking is_awaited_here = cases.ignored
+
+vote_by_sender : (sc : Scenario) (c : Coordinator) (mail : Mail) (P : Effect Coordinator → Type 0) → CoordinatorCases sc c mail P → (reply : VoteReply) (from : Actor)
+    → mail.letter.body ≡ body.Vote reply → mail.letter.from ≡ from → P (on_vote c c.phase from reply)
+vote_by_sender sc c mail P cases reply (actor.Server server) e from =
+    by_cond P ((reply.turn == c.turn) && awaits_vote c.phase server)
+    (λ now. let parts = and_parts (reply.turn == c.turn) (awaits_vote c.phase server) now in vote_by_phase sc c mail P cases reply c.phase server e from parts.0 refl parts.1)
+    (λ other. cases.ignored)
+vote_by_sender sc c mail P cases reply _ e from = cases.ignored
+
+-- ---- Ack
+
+ack_by_sender : (sc : Scenario) (c : Coordinator) (mail : Mail) (P : Effect Coordinator → Type 0) → CoordinatorCases sc c mail P → (ack : AckReply) (ended : Outcome) (awaited : List ServerId) (from : Actor)
+    → mail.letter.body ≡ body.Ack ack → mail.letter.from ≡ from → c.phase ≡ phase.Ending ended awaited → P (ack_from c ended awaited from)
+ack_by_sender sc c mail P cases ack ended awaited (actor.Server server) e from ending = cases.acknowledged ack ended awaited server (record { said_is = e; from_is = from; ending = ending })
+ack_by_sender sc c mail P cases ack ended awaited _ e from ending = cases.ignored
+
+ack_by_phase : (sc : Scenario) (c : Coordinator) (mail : Mail) (P : Effect Coordinator → Type 0) → CoordinatorCases sc c mail P → (ack : AckReply) (awaited : Phase)
+    → mail.letter.body ≡ body.Ack ack → c.phase ≡ awaited → P (on_ack c awaited mail.letter.from)
+ack_by_phase sc c mail P cases ack (phase.Ending ended awaited) e ending = ack_by_sender sc c mail P cases ack ended awaited mail.letter.from e refl ending
+ack_by_phase sc c mail P cases ack _ e ending = cases.ignored
+
+-- ---- all mails
+
+said_by : (sc : Scenario) (c : Coordinator) (mail : Mail) (P : Effect Coordinator → Type 0) → CoordinatorCases sc c mail P → (said : Body) → mail.letter.body ≡ said
+    → P (on_body sc c mail.sent mail.letter.from said)
+said_by sc c mail P cases (body.Done done) e =
+    by_cond P (awaits_query c c.phase done)
+    (λ awaited. by_cond P (is_plain c.phase) (λ plain. asked_by sc c mail P cases done (query_of sc c done.query) e awaited plain refl) (λ stapled. cases.ignored))
+    (λ other. cases.ignored)
+said_by sc c mail P cases (body.Tell tell) e =
+    by_cond P (tell.turn == c.turn) (λ present. told_by_phase sc c mail P cases tell c.phase e present refl) (λ late. cases.ignored)
+said_by sc c mail P cases (body.Vote reply) e = vote_by_sender sc c mail P cases reply mail.letter.from e refl
+said_by sc c mail P cases (body.Ack ack) e = ack_by_phase sc c mail P cases ack c.phase e refl
+said_by sc c mail P cases _ e = cases.ignored
+
+-- what is shown of each outcome holds of the row
+pub coordinator_by : (sc : Scenario) (c : Coordinator) (mail : Mail) (P : Effect Coordinator → Type 0) → CoordinatorCases sc c mail P → P (coordinator_row sc c mail)
+coordinator_by sc c mail P cases = said_by sc c mail P cases mail.letter.body refl
+
+-- ---- submission
+
+-- the first query is a write of a constant
+pub record IsFirstQuery (sc : Scenario) (c : Coordinator) (asked : Query) (server : ServerId) (value : ℤ) : Type 0 where
+  pub asked_is : query_of sc c 1 ≡ Some asked
+  pub server_is : server_of sc asked ≡ Some server
+  pub written : written_constant asked ≡ Some value
+
+-- what is to be shown of the outcomes of a submission
+pub record SubmitCases (sc : Scenario) (c : Coordinator) (P : Effect Coordinator → Type 0) : Type 0 where
+  pub ignored : P (ignores c)
+  pub sent : (asked : Query) (server : ServerId) (value : ℤ) → IsFirstQuery sc c asked server value → P (sends_first c (Some server) (Some value))
+
+sent_by : (sc : Scenario) (c : Coordinator) (P : Effect Coordinator → Type 0) → SubmitCases sc c P → (asked : Query) (server : Option ServerId) (value : Option ℤ) → query_of sc c 1 ≡ Some asked
+    → server_of sc asked ≡ server → written_constant asked ≡ value → P (sends_first c server value)
+sent_by sc c P cases asked (Some server) (Some value) e f g = cases.sent asked server value (record { asked_is = e; server_is = f; written = g })
+sent_by sc c P cases asked _ _ e f g = cases.ignored
+
+begins_by : (sc : Scenario) (c : Coordinator) (P : Effect Coordinator → Type 0) → SubmitCases sc c P → (asked : Option Query) → query_of sc c 1 ≡ asked → P (begins sc c asked)
+begins_by sc c P cases None e = cases.ignored
+begins_by sc c P cases (Some asked) e = sent_by sc c P cases asked (server_of sc asked) (written_constant asked) e refl refl
+
+pub submit_by : (sc : Scenario) (c : Coordinator) (P : Effect Coordinator → Type 0) → SubmitCases sc c P → P (submit_row sc c)
+submit_by sc c P cases = begins_by sc c P cases (query_of sc c 1) refl

@@ -1,0 +1,125 @@
+-- All invariants together, after every list of steps that name what exists.
+use Rattle.std.proofs.Common.{◌≡◌, List, [], ◌∷◌, true, Option, Some, None, is_some, if◌then◌else◌, refl, sym, ap, subst, ◌∙◌}
+use Rattle.tp_model.specs.Words.{Fact, Scenario, Step}
+use Rattle.tp_model.specs.Agreement.{is_agreed}
+use Rattle.tp_model.specs.Built.{is_built}
+use Rattle.tp_model.specs.Causes.{is_caused}
+use Rattle.tp_model.specs.Outside.{IsOutside}
+use Rattle.tp_model.specs.Commits.{are_lone}
+use Rattle.tp_model.specs.SerialRun.{is_serial}
+use Rattle.tp_model.specs.Trust.{is_trusted}
+use Rattle.tp_machine.specs.declared.error.StepError.{StepError}
+use Rattle.tp_machine.specs.Machine.{Machine, State, after, after_step, after_steps, done, opening, opening_state, refusal}
+use Rattle.tp_machine.specs.Laws.{HasAllCommits, IsTrustedState}
+use Rattle.tp_machine.specs.Sound.{Each, IsSound, IsStepOf}
+use Rattle.tp_machine.proofs.agreement.World.{Agrees}
+use Rattle.tp_machine.proofs.ages.World.{Ages, ages_done, ages_opening}
+use Rattle.tp_machine.proofs.agreement.End.{facts_agreed}
+use Rattle.tp_machine.proofs.agreement.Steps.{agrees_done, agrees_opening}
+use Rattle.tp_machine.proofs.epochs.World.{Epochs, epochs_done, epochs_opening}
+use Rattle.tp_machine.proofs.serial_data.Lone.{AreLone, facts_lone, lone_done, lone_opening}
+use Rattle.tp_machine.proofs.outside.Steps.{outside_done, outside_opening}
+use Rattle.tp_machine.proofs.ids.Steps.{sound_done, sound_opening}
+use Rattle.tp_machine.proofs.serial_data.End.{serial_facts, serial_values, values_at_end}
+use Rattle.tp_machine.proofs.serial_data.Steps.{serial_done, serial_opening}
+use Rattle.tp_machine.proofs.serial_data.World.{Serial}
+use Rattle.tp_machine.proofs.trust.End.{facts_caused, facts_trusted}
+use Rattle.tp_machine.proofs.trust.Steps.{trusts_done, trusts_opening}
+use Rattle.tp_machine.proofs.trust.World.{Trusts}
+
+-- what holds of every world: its ids exist, its actors agree, its commits are trusted and serial, and what
+-- comes from outside is what its steps say
+pub record Holds (sc : Scenario) (w : State) : Type 0 where
+  pub sound : IsSound sc w
+  pub agrees : Agrees sc w
+  pub epochs : Epochs sc w
+  pub ages : Ages w
+  pub lone : AreLone w.facts
+  pub outside : IsOutside sc w.steps w.facts
+  pub trusts : Trusts sc w
+  pub serial : Serial sc w
+
+pub holds_opening : (sc : Scenario) → is_built sc ≡ true → Holds sc (opening_state sc)
+holds_opening sc built =
+    record { sound = sound_opening sc built; agrees = agrees_opening sc; epochs = epochs_opening sc; ages = ages_opening sc; lone = lone_opening; outside = outside_opening sc; trusts = trusts_opening sc built; serial = serial_opening sc built }
+
+-- each invariant may lean on all the others before the step
+pub holds_done : (sc : Scenario) (m : Machine) (taken : Step) → is_built sc ≡ true → IsStepOf sc taken → refusal m.state taken ≡ None → Holds sc m.state → Holds sc (done sc m taken).state
+holds_done sc m taken built exists allowed h =
+    record {
+      sound = sound_done sc m taken built exists allowed h.agrees.coordinator_count h.sound;
+      agrees = agrees_done sc m taken built exists allowed h.sound h.agrees;
+      epochs = epochs_done sc m taken exists allowed h.sound h.agrees h.epochs;
+      ages = ages_done sc m taken exists allowed h.sound h.agrees h.ages;
+      lone = lone_done sc m taken exists allowed h.agrees.coordinator_count h.agrees.past h.lone;
+      outside = outside_done sc m taken exists allowed h.agrees.coordinator_count h.agrees.past h.outside;
+      trusts = trusts_done sc m taken built exists allowed h.sound h.agrees h.trusts;
+      serial = serial_done sc m taken built exists allowed h.sound h.agrees h.serial;
+    }
+
+step_holds : (sc : Scenario) (m : Machine) (taken : Step) (why : Option StepError) → refusal m.state taken ≡ why → is_built sc ≡ true → IsStepOf sc taken → Holds sc m.state
+    → Holds sc (if is_some why then m else done sc m taken).state
+step_holds sc m taken None e built exists h = holds_done sc m taken built exists e h
+step_holds sc m taken (Some why) e built exists h = h
+
+steps_hold : (sc : Scenario) (m : Machine) (steps : List Step) → is_built sc ≡ true → Each (IsStepOf sc) steps → Holds sc m.state → Holds sc (after_steps sc m steps).state
+steps_hold sc m [] built exist h = h
+steps_hold sc m (taken ∷ steps) built exist h =
+    steps_hold sc (after_step sc m taken) steps built exist.1 (step_holds sc m taken (refusal m.state taken) refl built exist.0 h)
+
+-- after every list of steps
+pub holds_after : (sc : Scenario) (steps : List Step) → is_built sc ≡ true → Each (IsStepOf sc) steps → Holds sc (after sc steps).state
+holds_after sc steps built exist = steps_hold sc (opening sc) steps built exist (holds_opening sc built)
+
+-- ---- what the facts show
+
+shows : (sc : Scenario) (w : State) → is_built sc ≡ true → Holds sc w → IsTrustedState sc w
+shows sc w built h =
+    record {
+      outside = h.outside;
+      agreed = facts_agreed sc w h.agrees;
+      trusted = facts_trusted sc w built h.sound h.trusts;
+      caused = facts_caused sc w h.trusts;
+      serial = serial_facts sc w h.serial;
+      lone = facts_lone w.facts h.lone;
+      values_are = serial_values sc w built h.sound h.agrees h.serial;
+    }
+
+-- after every list of steps the history is trusted so far
+pub always_trusted : (sc : Scenario) (steps : List Step) → is_built sc ≡ true → Each (IsStepOf sc) steps → IsTrustedState sc (after sc steps).state
+always_trusted sc steps built exist = shows sc (after sc steps).state built (holds_after sc steps built exist)
+
+-- and where all transactions have ended the values are those of all commits
+pub has_all_commits : (sc : Scenario) (steps : List Step) → is_built sc ≡ true → Each (IsStepOf sc) steps → HasAllCommits sc (after sc steps).state
+has_all_commits sc steps built exist ended =
+    let w = (after sc steps).state in
+    let h = holds_after sc steps built exist in
+    serial_values sc w built h.sound h.agrees h.serial ∙ values_at_end sc w built h.agrees h.serial ended
+
+-- ---- the same of a world that the steps give
+
+pub sound_after : (sc : Scenario) (steps : List Step) (m : Machine) → is_built sc ≡ true → Each (IsStepOf sc) steps → m ≡ after sc steps → IsSound sc m.state
+sound_after sc steps m built exist e = subst (λ (k : Machine). IsSound sc k.state) (sym e) (holds_after sc steps built exist).sound
+
+pub so_far_after : (sc : Scenario) (steps : List Step) (w : State) → is_built sc ≡ true → Each (IsStepOf sc) steps → w ≡ (after sc steps).state → IsTrustedState sc w
+so_far_after sc steps w built exist e = subst (IsTrustedState sc) (sym e) (always_trusted sc steps built exist)
+
+pub whole_after : (sc : Scenario) (steps : List Step) (w : State) → is_built sc ≡ true → Each (IsStepOf sc) steps → w ≡ (after sc steps).state → HasAllCommits sc w
+whole_after sc steps w built exist e = subst (HasAllCommits sc) (sym e) (has_all_commits sc steps built exist)
+
+-- of facts, which stand when a world is given up
+
+pub agreed_after : (sc : Scenario) (steps : List Step) (facts : List Fact) → is_built sc ≡ true → Each (IsStepOf sc) steps → facts ≡ (after sc steps).state.facts → is_agreed sc facts ≡ true
+agreed_after sc steps facts built exist e = ap (is_agreed sc) e ∙ (always_trusted sc steps built exist).agreed
+
+pub trusted_after : (sc : Scenario) (steps : List Step) (facts : List Fact) → is_built sc ≡ true → Each (IsStepOf sc) steps → facts ≡ (after sc steps).state.facts → is_trusted sc facts ≡ true
+trusted_after sc steps facts built exist e = ap (is_trusted sc) e ∙ (always_trusted sc steps built exist).trusted
+
+pub caused_after : (sc : Scenario) (steps : List Step) (facts : List Fact) → is_built sc ≡ true → Each (IsStepOf sc) steps → facts ≡ (after sc steps).state.facts → is_caused sc facts ≡ true
+caused_after sc steps facts built exist e = ap (is_caused sc) e ∙ (always_trusted sc steps built exist).caused
+
+pub serial_after : (sc : Scenario) (steps : List Step) (facts : List Fact) → is_built sc ≡ true → Each (IsStepOf sc) steps → facts ≡ (after sc steps).state.facts → is_serial sc facts ≡ true
+serial_after sc steps facts built exist e = ap (is_serial sc) e ∙ (always_trusted sc steps built exist).serial
+
+pub lone_after : (sc : Scenario) (steps : List Step) (facts : List Fact) → is_built sc ≡ true → Each (IsStepOf sc) steps → facts ≡ (after sc steps).state.facts → are_lone facts ≡ true
+lone_after sc steps facts built exist e = ap are_lone e ∙ (always_trusted sc steps built exist).lone

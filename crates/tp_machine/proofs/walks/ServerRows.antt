@@ -1,0 +1,109 @@
+-- A server's row is walked once: what is shown of each of its outcomes holds of the row. A new outcome is a field here, and of each theorem's cases.
+use Rattle.std.proofs.Common.{Bool, None, Option, Some, false, is_none, is_some, not, refl, true, ◌==◌, ◌≡◌}
+use Rattle.tp_types.specs.Effect.{Effect, ignores}
+use Rattle.tp_model.specs.Stage.{is_empty}
+use Rattle.tp_model.specs.Words.{Body, DecideRequest, Deed, Mail, PrepareRequest, QueryRequest, Scenario, Staple}
+use Rattle.tp_model.specs.Words.body
+use Rattle.tp_machine.specs.declared.server.Entry.{Entry}
+use Rattle.tp_machine.specs.server.Row.{are_in_range, asked_item, asked_to_vote, begins, entry_at, evaluates, has_answered, is_open, names_another_epoch, on_body, plain_write, queried, server_row, settles, votes}
+use Rattle.tp_machine.specs.server.State.{Server}
+use Rattle.tp_machine.proofs.basics.Lists.{by_cond}
+
+-- ---- outcomes
+
+-- a first write of a transaction without an entry is delivered
+pub record IsFirstWrite (sc : Scenario) (s : Server) (mail : Mail) (q : QueryRequest) (deed : Deed) : Type 0 where
+  pub said_is : mail.letter.body ≡ body.Query q
+  pub unsettled : is_open s q.txn ≡ true
+  pub no_entry : entry_at s q.txn ≡ None
+  pub unnamed : is_none q.epoch ≡ true
+  pub writes : plain_write q (asked_item sc q) q.value ≡ Some deed
+
+-- a request to prepare an entry that may be voted on
+pub record IsVote (sc : Scenario) (s : Server) (mail : Mail) (p : PrepareRequest) (entry : Entry) (staple : Staple) : Type 0 where
+  pub said_is : mail.letter.body ≡ body.Prepare p
+  pub unsettled : is_open s p.txn ≡ true
+  pub found : entry_at s p.txn ≡ Some entry
+  pub same_epoch : (entry.epoch == p.epoch) ≡ true
+  pub unvoted : is_some entry.ballot ≡ false
+  pub in_range : are_in_range sc entry.deeds ≡ true
+  pub stapled : p.staple ≡ Some staple
+
+-- an order to end a transaction that is not settled
+pub record IsOrder (s : Server) (mail : Mail) (d : DecideRequest) : Type 0 where
+  pub said_is : mail.letter.body ≡ body.Decide d
+  pub unsettled : is_open s d.txn ≡ true
+
+-- what is to be shown of the outcomes of a receipt: P of the effect
+pub record ServerCases (sc : Scenario) (s : Server) (mail : Mail) (P : Effect Server → Type 0) : Type 0 where
+  pub ignored : P (ignores s)
+  pub begun : (q : QueryRequest) (deed : Deed) → IsFirstWrite sc s mail q deed → P (begins s mail.sent q (Some deed))
+  pub voted : (p : PrepareRequest) (entry : Entry) (staple : Staple) → IsVote sc s mail p entry staple → P (votes sc s p staple.place entry)
+  pub settled : (d : DecideRequest) → IsOrder s mail d → P (settles s d)
+
+-- ---- Query
+
+none_of : {A : Type 0} (found : Option A) → is_some found ≡ false → is_none found ≡ true
+none_of None e = refl
+none_of (Some x) e = absurd (cc)
+
+begun_by : (sc : Scenario) (s : Server) (mail : Mail) (P : Effect Server → Type 0) → ServerCases sc s mail P → (q : QueryRequest) (asked : Option Deed) → mail.letter.body ≡ body.Query q
+    → is_open s q.txn ≡ true → entry_at s q.txn ≡ None → is_some q.epoch ≡ false → plain_write q (asked_item sc q) q.value ≡ asked → P (begins s mail.sent q asked)
+begun_by sc s mail P cases q None e unsettled none unnamed w = cases.ignored
+begun_by sc s mail P cases q (Some deed) e unsettled none unnamed w =
+    cases.begun q deed (record { said_is = e; unsettled = unsettled; no_entry = none; unnamed = none_of q.epoch unnamed; writes = w })
+
+queried_by : (sc : Scenario) (s : Server) (mail : Mail) (P : Effect Server → Type 0) → ServerCases sc s mail P → (q : QueryRequest) (entry : Option Entry) → mail.letter.body ≡ body.Query q
+    → is_open s q.txn ≡ true → entry_at s q.txn ≡ entry → P (queried sc s mail.sent q entry)
+queried_by sc s mail P cases q None e unsettled found =
+    by_cond P (is_some q.epoch) (λ named. cases.ignored) (λ unnamed. begun_by sc s mail P cases q (plain_write q (asked_item sc q) q.value) e unsettled found unnamed refl)
+queried_by sc s mail P cases q (Some entry) e unsettled found =
+    by_cond P (is_some entry.ballot) (λ voted. cases.ignored)
+    (λ unvoted. by_cond P (names_another_epoch q entry) (λ another. cases.ignored)
+    (λ same. by_cond P (has_answered entry q) (λ answered. cases.ignored)
+    (λ new. by_cond P (is_some entry.waiting) (λ waits. cases.ignored) (λ further. cases.ignored))))
+
+-- ---- Prepare
+
+evaluates_by : (sc : Scenario) (s : Server) (mail : Mail) (P : Effect Server → Type 0) → ServerCases sc s mail P → (p : PrepareRequest) (entry : Entry) (staple : Option Staple)
+    → ((given : Staple) → staple ≡ Some given → IsVote sc s mail p entry given) → P (evaluates sc s p entry staple)
+evaluates_by sc s mail P cases p entry None vote_is = cases.ignored
+evaluates_by sc s mail P cases p entry (Some staple) vote_is = by_cond P (is_empty p.want) (λ none_wanted. cases.voted p entry staple (vote_is staple refl)) (λ wanted. cases.ignored)
+
+not_false : (b : Bool) → not b ≡ false → b ≡ true
+not_false true e = refl
+not_false false e = absurd (cc)
+
+asked_to_vote_by : (sc : Scenario) (s : Server) (mail : Mail) (P : Effect Server → Type 0) → ServerCases sc s mail P → (p : PrepareRequest) (entry : Option Entry) → mail.letter.body ≡ body.Prepare p
+    → is_open s p.txn ≡ true → entry_at s p.txn ≡ entry → P (asked_to_vote sc s p entry)
+asked_to_vote_by sc s mail P cases p None e unsettled found = cases.ignored
+asked_to_vote_by sc s mail P cases p (Some entry) e unsettled found =
+    by_cond P (not (entry.epoch == p.epoch)) (λ another. cases.ignored)
+    (λ same. by_cond P (is_some entry.ballot) (λ voted. cases.ignored)
+    (λ unvoted. by_cond P (are_in_range sc entry.deeds)
+    (λ in_range. evaluates_by sc s mail P cases p entry p.staple
+    (λ staple given. record {
+      said_is = e;
+      unsettled = unsettled;
+      found = found;
+      same_epoch = not_false (entry.epoch == p.epoch) same;
+      unvoted = unvoted;
+      in_range = in_range;
+      stapled = given;
+    }))
+    (λ outside. cases.ignored)))
+
+-- ---- all mails
+
+said_by : (sc : Scenario) (s : Server) (mail : Mail) (P : Effect Server → Type 0) → ServerCases sc s mail P → (said : Body) → mail.letter.body ≡ said → P (on_body sc s mail.sent said)
+said_by sc s mail P cases (body.Query q) e =
+    by_cond P (is_open s q.txn) (λ unsettled. queried_by sc s mail P cases q (entry_at s q.txn) e unsettled refl) (λ settled. cases.ignored)
+said_by sc s mail P cases (body.Prepare p) e =
+    by_cond P (is_open s p.txn) (λ unsettled. asked_to_vote_by sc s mail P cases p (entry_at s p.txn) e unsettled refl) (λ settled. cases.ignored)
+said_by sc s mail P cases (body.Decide d) e =
+    by_cond P (is_open s d.txn) (λ unsettled. cases.settled d (record { said_is = e; unsettled = unsettled })) (λ settled. cases.ignored)
+said_by sc s mail P cases _ e = cases.ignored
+
+-- what is shown of each outcome holds of the row
+pub server_by : (sc : Scenario) (s : Server) (mail : Mail) (P : Effect Server → Type 0) → ServerCases sc s mail P → P (server_row sc s mail)
+server_by sc s mail P cases = said_by sc s mail P cases mail.letter.body refl

@@ -1,0 +1,23 @@
+-- What the code of an act promises: it did what the machine says.
+use Rattle.std.specs.Prelude.{◌≡◌, map}
+use Rattle.tp_machine.specs.declared.actors.Actors.{Actors}
+use Rattle.tp_machine.specs.declared.part.Act.{Act}
+use Rattle.tp_machine.specs.Parts.{Part}
+use Rattle.tp_machine.specs.Machine.{Acted, Turn, is_part_down}
+
+-- an actor acted so
+pub record Acts {S : Type 0} (acted : Acted S) (part : Part S) (act : Act) : Type 0 where
+  pub part_is : part ≡ acted.part
+  pub happened_is : act.happened ≡ acted.happened
+  pub letters_are : act.letters ≡ acted.letters
+
+-- the actors took this turn
+pub record Turns (turn : Turn) (actors : Actors) (act : Act) : Type 0 where
+  pub actors_are : actors ≡ turn.actors
+  pub happened_is : act.happened ≡ turn.happened
+  pub letters_are : act.letters ≡ turn.letters
+
+-- each actor is up where it was, and down where it was
+pub record SameUp (old new : Actors) : Type 0 where
+  pub servers : map is_part_down new.servers ≡ map is_part_down old.servers
+  pub coordinators : map is_part_down new.coordinators ≡ map is_part_down old.coordinators
