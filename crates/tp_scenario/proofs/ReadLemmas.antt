@@ -1,10 +1,13 @@
 -- Bytes have at most one answer.
 use Rattle.std.proofs.Common.{◌≡◌, ◌⊎◌, inl, inr, ℕ, List, [], Bool, true, false, if◌then◌else◌, Option, Some, None, option_map, Result, Ok, Err, refl, sym, ap, subst, ◌∙◌, arith}
 use Rattle.std.specs.Prelude.{IfOk}
+use Rattle.std.proofs.lemmas.Bool.{and_from}
 use Rattle.serde_json.specs.Data.{Data}
 use Rattle.serde_json.specs.Read.{read}
 use Rattle.tp_types.specs.declared.scenario.Scenario.{Scenario}
 use Rattle.tp_model.specs.Built.{is_built}
+use Rattle.tp_model.specs.Stage.{is_stage}
+use Rattle.tp_model.specs.Valid.{is_valid}
 use Rattle.tp_scenario.specs.declared.fault.Fault.{Fault}
 use Rattle.tp_scenario.specs.declared.from_bytes.ScenarioError.{ScenarioError}
 use Rattle.tp_scenario.specs.declared.path.Path.TheVariants.{Whole}
@@ -13,6 +16,7 @@ use Rattle.tp_scenario.specs.declared.path.Site.TheVariants.{At}
 use Rattle.tp_scenario.specs.Forms.{data_form, first_form, or_else, rest_form, scripted_form, servers_form, step_site, steps_form, txns_form}
 use Rattle.tp_scenario.specs.Reads.{Says, SaysNoJson, SaysValue, IsOutOfMemory, IsText, answer_by, answer_to, built_or}
 use Rattle.tp_scenario.specs.Walk.{walked}
+use Rattle.tp_scenario.proofs.KeptRules.{walked_valid}
 
 same_value : (bytes : List ℕ) (one other : Data) → read bytes ≡ Some one → read bytes ≡ Some other → one ≡ other
 same_value bytes one other e f = cc
@@ -56,11 +60,11 @@ none_built : (answer : Bool) → (if answer then None else Some (At Whole)) ≡ 
 none_built true e = refl
 none_built false e = cc
 
--- a scenario without a form that is not built is built
-built_of_none : (sc : Scenario) → first_form sc ≡ None → is_built sc ≡ true
+-- a scenario without a form that is not built is of the present stage
+stage_of_none : (sc : Scenario) → first_form sc ≡ None → is_stage sc ≡ true
 unfolding first_form
-built_of_none sc e =
-    none_built (is_built sc)
+stage_of_none sc e =
+    none_built (is_stage sc)
     (or_else_none (option_map step_site (steps_form [] 0 sc.steps)) (rest_form sc)
     (or_else_none (txns_form sc.txns) (scripted_form sc)
     (or_else_none (servers_form sc.admins sc.servers) (data_form sc) e)))
@@ -79,9 +83,18 @@ read_so : (walk : Result Scenario Fault) (sc : Scenario) → answer_by walk ≡ 
 read_so (Ok made) sc e = built_or_read made sc (first_form made) refl e
 read_so (Err fault) sc e = cc
 
--- what is read of a value is built
+-- what is read of a value keeps every rule, since the walk gave it, and is built
+pub valid_from : (value : Data) (result : Result Scenario ScenarioError) → IsOutOfMemory result ⊎ (result ≡ answer_to value)
+    → IfOk result (λ sc. is_valid sc ≡ true)
+valid_from value (Ok sc) (inl out) = cc
+valid_from value (Ok sc) (inr e) = walked_valid value sc (read_so (walked value) sc (sym e)).form
+valid_from value (Err why) h = tt
+
 pub built_from : (value : Data) (result : Result Scenario ScenarioError) → IsOutOfMemory result ⊎ (result ≡ answer_to value)
     → IfOk result (λ sc. is_built sc ≡ true)
+unfolding is_built
 built_from value (Ok sc) (inl out) = cc
-built_from value (Ok sc) (inr e) = built_of_none sc (read_so (walked value) sc (sym e)).none
+built_from value (Ok sc) (inr e) =
+    let read_as = read_so (walked value) sc (sym e) in
+    and_from _ _ (walked_valid value sc read_as.form) (stage_of_none sc read_as.none)
 built_from value (Err why) h = tt

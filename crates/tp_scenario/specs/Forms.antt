@@ -11,8 +11,7 @@ use Rattle.tp_types.specs.declared.scenario.ServerDecl.{ServerDecl}
 use Rattle.tp_types.specs.declared.scenario.Step.{Step}
 use Rattle.tp_types.specs.declared.scenario.Step.TheVariants as step
 use Rattle.tp_types.specs.declared.scenario.Transaction.{Transaction}
-use Rattle.tp_model.specs.Built.{is_built}
-use Rattle.tp_model.specs.Stage.{is_deferred, is_view}
+use Rattle.tp_model.specs.Stage.{is_deferred, is_stage, is_view}
 use Rattle.tp_scenario.specs.declared.path.Key.TheVariants.{Servers, Transactions, Scheme, Level, Steps}
 use Rattle.tp_scenario.specs.declared.path.Path.TheVariants.{Whole, Top, Member, Field}
 use Rattle.tp_scenario.specs.declared.path.Site.{Site}
@@ -89,7 +88,7 @@ or_else None later = later
 
 -- what is left is built only as far as the scenario is of the first form
 abbrev pub rest_form : Scenario → Option Site
-rest_form sc = if is_built sc then None else Some (At Whole)
+rest_form sc = if is_stage sc then None else Some (At Whole)
 
 abbrev pub scripted_form : Scenario → Option Site
 scripted_form sc = or_else (option_map step_site (steps_form [] 0 sc.steps)) (rest_form sc)

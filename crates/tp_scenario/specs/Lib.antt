@@ -8,6 +8,7 @@ pub mod Queries
 pub mod Reads
 pub mod Scripts
 pub mod Servers
+pub mod Spelled
 pub mod Steps
 pub mod Txns
 pub mod Values

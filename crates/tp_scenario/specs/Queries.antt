@@ -15,7 +15,7 @@ use Rattle.tp_scenario.specs.Chain.{◌>>=◌}
 use Rattle.tp_scenario.specs.Faults.{range, shape}
 use Rattle.tp_scenario.specs.Names.{Names, is_same}
 use Rattle.tp_scenario.specs.Values.{text_at, used}
-use Rattle.tp_scenario.specs.Words.{words_of}
+use Rattle.tp_scenario.specs.Words.{only, words_of}
 
 -- ---- terms
 
@@ -49,16 +49,19 @@ first_term (byte ∷ bytes) = if byte == 45 then constant_term true bytes else t
 unfoldable pub sign_of : List ℕ → Option Bool
 sign_of word = if is_same word (codes "+") then Some false else (if is_same word (codes "-") then Some true else None)
 
--- further terms, each after its sign; a sign that was read waits for its term
-abbrev pub terms_after : Option Bool → List Term → List (List ℕ) → Option (List Term)
-terms_after None made [] = Some made
-terms_after (Some negated) made [] = None
-terms_after None made (word ∷ words) = option_and_then (λ negated. terms_after (Some negated) made words) (sign_of word)
-terms_after (Some negated) made (word ∷ words) = option_and_then (λ term. terms_after None (made ++ term ∷ []) words) (term_of negated word)
+-- a sign, and the term behind it
+unfoldable pub signed_term : List ℕ → List ℕ → Option Term
+signed_term sign word = option_and_then (λ negated. term_of negated word) (sign_of sign)
+
+-- further terms, each behind its sign
+abbrev pub terms_after : List Term → List (List ℕ) → Option (List Term)
+terms_after made [] = Some made
+terms_after made (sign ∷ []) = None
+terms_after made (sign ∷ word ∷ words) = option_and_then (λ term. terms_after (made ++ term ∷ []) words) (signed_term sign word)
 
 abbrev pub sum_of : List (List ℕ) → Option (List Term)
 sum_of [] = None
-sum_of (word ∷ words) = option_and_then (λ term. terms_after None (term ∷ []) words) (first_term word)
+sum_of (word ∷ words) = option_and_then (λ term. terms_after (term ∷ []) words) (first_term word)
 
 -- ---- queries as they are spelled
 
@@ -68,9 +71,10 @@ pub data Asked : Type 0 where
 
 -- `ITEM into rK`
 unfoldable pub read_of : List (List ℕ) → Option Asked
-read_of (name ∷ into ∷ register ∷ []) =
-    if is_name name && is_same into (codes "into") then option_map (reads name) (register_of register) else None
-read_of _ = None
+read_of [] = None
+read_of (name ∷ []) = None
+read_of (name ∷ into ∷ words) =
+    if is_name name && is_same into (codes "into") then option_map (reads name) (option_and_then register_of (only words)) else None
 
 -- `ITEM := TERM` and further terms
 unfoldable pub write_of : List (List ℕ) → Option Asked
@@ -88,7 +92,7 @@ asked_in (verb ∷ words) = asked_by verb words
 
 -- the query that a text spells
 unfoldable pub asked_of : List ℕ → Option Asked
-asked_of text = option_and_then asked_in (words_of text)
+asked_of text = asked_in (words_of text)
 
 -- ---- queries
 

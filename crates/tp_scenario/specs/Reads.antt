@@ -1,9 +1,10 @@
 -- Which scenario bytes are, and why others are refused.
-use Rattle.std.specs.Prelude.{◌≡◌, ◌⊎◌, ℕ, ◌≤◌, ◌<◌, List, length, Option, Some, None, Result, Ok, Err, IsUtf8}
+use Rattle.std.specs.Prelude.{◌≡◌, ◌⊎◌, true, ℕ, ◌≤◌, ◌<◌, List, length, Option, Some, None, Result, Ok, Err, IsUtf8}
 use Rattle.serde_json.specs.Data.{Data}
 use Rattle.serde_json.specs.Read.{read}
 use Rattle.tp_types.specs.declared.name.Text.{Text}
 use Rattle.tp_types.specs.declared.scenario.Scenario.{Scenario}
+use Rattle.tp_model.specs.Valid.{is_valid}
 use Rattle.tp_scenario.specs.declared.fault.Fault.{Fault}
 use Rattle.tp_scenario.specs.declared.fault.Kind.{Kind}
 use Rattle.tp_scenario.specs.declared.fault.Kind.TheVariants as kind
@@ -87,3 +88,7 @@ HasOneAnswer = (bytes : List ℕ) (one other : Result Scenario ScenarioError) �
 -- no bytes are a text of two scenarios
 abbrev pub IsTextOfOne : Type 0
 IsTextOfOne = (bytes : List ℕ) (one other : Scenario) → IsText bytes one → IsText bytes other → one ≡ other
+
+-- what the walk gives keeps every rule of a scenario
+abbrev pub GivesValid : Type 0
+GivesValid = (value : Data) (scenario : Scenario) → walked value ≡ Ok scenario → is_valid scenario ≡ true

@@ -20,7 +20,7 @@ use Rattle.tp_scenario.specs.Chain.{◌>>=◌}
 use Rattle.tp_scenario.specs.Faults.{range, shape}
 use Rattle.tp_scenario.specs.Names.{is_same, place_of}
 use Rattle.tp_scenario.specs.Values.{each, items_or, text_at, used}
-use Rattle.tp_scenario.specs.Words.{words_of}
+use Rattle.tp_scenario.specs.Words.{is_end, named, only, words_of}
 
 -- ---- steps as they are spelled
 
@@ -48,48 +48,63 @@ count_verb word =
     else (if is_same word (codes "lose") then Some counting.Lose else None))
 
 -- exactly one word, which is spelled as a name
-unfoldable pub one_name : List (List ℕ) → Option (List ℕ)
-one_name [] = None
-one_name (word ∷ []) = if is_name word then Some word else None
-one_name (word ∷ other ∷ words) = None
+abbrev pub one_name : List (List ℕ) → Option (List ℕ)
+one_name words = option_and_then named (only words)
 
 -- exactly one word, which is a number
-unfoldable pub one_number : List (List ℕ) → Option ℕ
-one_number [] = None
-one_number (word ∷ []) = number_of word
-one_number (word ∷ other ∷ words) = None
+abbrev pub one_number : List (List ℕ) → Option ℕ
+one_number words = option_and_then number_of (only words)
 
--- exactly two names
+-- two names
+abbrev pub pushed : List ℕ → Option (List ℕ) → Option Command
+pushed admin None = None
+pushed admin (Some server) = if is_name admin then Some (push admin server) else None
+
 unfoldable pub push_of : List (List ℕ) → Option Command
-push_of (admin ∷ server ∷ []) = if is_name admin && is_name server then Some (push admin server) else None
-push_of _ = None
+push_of [] = None
+push_of (admin ∷ words) = pushed admin (one_name words)
 
--- the words `in`, `at` and `fill`
-abbrev pub are_cut_words : List ℕ → List ℕ → List ℕ → Bool
-are_cut_words first second third = is_same first (codes "in") && is_same second (codes "at") && is_same third (codes "fill")
+-- `fill F`
+unfoldable pub fill_of : List (List ℕ) → Option ℕ
+fill_of [] = None
+fill_of (key ∷ words) = if is_same key (codes "fill") then one_number words else None
 
-unfoldable pub cut_numbers : List ℕ → List ℕ → List ℕ → List ℕ → Option Command
-cut_numbers name mail calls fill =
-    option_and_then (λ k. option_and_then (λ c. option_map (λ f. cut name k c f) (number_of fill)) (number_of calls)) (number_of mail)
+-- `at C fill F`
+abbrev pub filled : List ℕ → ℕ → List ℕ → Option ℕ → Option Command
+filled name mail calls None = None
+filled name mail calls (Some fill) = option_map (λ c. cut name mail c fill) (number_of calls)
 
--- `ACTOR in K at C fill F`
-unfoldable pub cut_of : List (List ℕ) → Option Command
-cut_of (name ∷ first ∷ mail ∷ second ∷ calls ∷ third ∷ fill ∷ []) =
-    if is_name name && are_cut_words first second third then cut_numbers name mail calls fill else None
-cut_of _ = None
+unfoldable pub calls_of : List ℕ → ℕ → List (List ℕ) → Option Command
+calls_of name mail [] = None
+calls_of name mail (key ∷ []) = None
+calls_of name mail (key ∷ calls ∷ words) = if is_same key (codes "at") then filled name mail calls (fill_of words) else None
+
+-- `in K at C fill F`
+abbrev pub received : List ℕ → Option ℕ → List (List ℕ) → Option Command
+received name None words = None
+received name (Some mail) words = calls_of name mail words
+
+unfoldable pub mail_of : List ℕ → List (List ℕ) → Option Command
+mail_of name [] = None
+mail_of name (key ∷ []) = None
+mail_of name (key ∷ mail ∷ words) = if is_same key (codes "in") then received name (number_of mail) words else None
+
+-- `ACTOR`, or `ACTOR in K at C fill F`
+abbrev pub crashed : List ℕ → List (List ℕ) → Option Command
+crashed name words = if is_end words then Some (of_name verb.Crash name) else mail_of name words
+
+unfoldable pub crash_of : List (List ℕ) → Option Command
+crash_of [] = None
+crash_of (name ∷ words) = if is_name name then crashed name words else None
 
 -- a crash may be cut; no other verb has more words than a name
-abbrev pub or_cut : NameVerb → List (List ℕ) → Option Command
-or_cut verb.Crash words = cut_of words
-or_cut _ words = None
-
-abbrev pub named_or : NameVerb → Option (List ℕ) → List (List ℕ) → Option Command
-named_or verb (Some name) words = Some (of_name verb name)
-named_or verb None words = or_cut verb words
+abbrev pub by_verb : NameVerb → List (List ℕ) → Option Command
+by_verb verb.Crash words = crash_of words
+by_verb verb words = option_map (of_name verb) (one_name words)
 
 abbrev pub named_by : Option NameVerb → List (List ℕ) → Option Command
 named_by None words = None
-named_by (Some verb) words = named_or verb (one_name words) words
+named_by (Some verb) words = by_verb verb words
 
 abbrev pub counted_or : Option CountVerb → Option NameVerb → List (List ℕ) → Option Command
 counted_or (Some verb) other words = option_map (by_number verb) (one_number words)
@@ -104,7 +119,7 @@ command_in (word ∷ words) = command_by word words
 
 -- the step that a text spells
 unfoldable pub command_of : List ℕ → Option Command
-command_of text = option_and_then command_in (words_of text)
+command_of text = command_in (words_of text)
 
 unfoldable pub command_at : Path → Data → Result Command Fault
 command_at path d = do

@@ -1,5 +1,5 @@
 //! Administrators and their policies.
-ghost use Rattle.std.specs.Prelude.{◌≡◌, ◌≤◌, ◌⊎◌, [], length, map, option_map, IfOk};
+ghost use Rattle.std.specs.Prelude.{◌≡◌, ◌≤◌, ◌⊎◌, ◌++◌, ◌∷◌, [], length, map, option_map, IfOk};
 ghost use Rattle.serde_json.specs.View.{view, items_view};
 ghost use Rattle.tp_policy_text.specs.Parses.{IsOutOfMemory};
 ghost use Rattle.tp_scenario.specs.Admins as admins;
@@ -64,8 +64,14 @@ fn policies_at(alloc: Global, at: usize, value: Option<&Value>) -> Result<List<P
 }
 
 #[tactic(auto, unfolding(crate::specs::Admins::admin_at))]
-fn admin_at(alloc: Global, names: &Names, at: usize, value: &Value) -> Result<Admin, WalkError>
-    ensures { Gives result (admins.admin_at names.now at (view value.now)) }
+fn admin_at<'a>(
+    alloc: Global,
+    names: &mut Names<'a>,
+    at: usize,
+    value: &'a Value,
+) -> Result<Admin, WalkError>
+    ensures value { Gives result (admins.admin_at names.old at (view value.now)) }
+    ensures named { IfOk result (λ admin. names.new ≡ names.old ++ admin.name ∷ []) }
 {
     let fields = object_at(
         Path::Member(Key::Admins, at),
@@ -99,26 +105,28 @@ fn opening_at(at: usize, count: usize, value: Option<&Value>) -> Result<Version,
     Ok(Version(opening as u32))
 }
 
-fn each_admin(alloc: Global, names: &mut Names, values: &[Value]) -> Result<List<Admin>, WalkError>
+fn each_admin<'a>(
+    alloc: Global,
+    names: &mut Names<'a>,
+    values: &'a [Value],
+) -> Result<List<Admin>, WalkError>
     requires { names.old ≡ [] }
     ensures value { Gives result (each admins.admin_in [] (items_view values.now)) }
     ensures named { IfOk result (λ made. names.new ≡ map admins.admin_name made) }
 {
     let mut made = List::new(alloc);
     for value in values {
-        let admin = admin_at(alloc, &*names, made.len(), value)?;
-        names.add(alloc, &admin.name)?;
-        made.push(admin)?;
+        made.push(admin_at(alloc, names, made.len(), value)?)?;
     }
     Ok(made)
 }
 
 /// The administrators, whose names are added to none so far.
 #[tactic(auto, unfolding(crate::specs::Admins::admins_at))]
-pub(crate) fn admins_at(
+pub(crate) fn admins_at<'a>(
     alloc: Global,
-    names: &mut Names,
-    value: Option<&Value>,
+    names: &mut Names<'a>,
+    value: Option<&'a Value>,
 ) -> Result<List<Admin>, WalkError>
     requires { names.old ≡ [] }
     ensures value { Gives result (admins.admins_at (option_map (λ v. view v.now) value.entry)) }

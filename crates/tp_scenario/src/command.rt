@@ -1,21 +1,18 @@
 //! The text of a step.
-ghost use Rattle.std.specs.Prelude.{◌≡◌, ◌&&◌, option_map, IfOk};
-ghost use Rattle.tp_types.specs.Spelling.{is_name as is_name_text};
+ghost use Rattle.std.specs.Prelude.{◌≡◌, option_map};
 ghost use Rattle.serde_json.specs.View.{view};
 ghost use Rattle.tp_scenario.specs.Steps as steps;
-ghost use Rattle.tp_scenario.specs.Steps.{by_number};
+ghost use Rattle.tp_scenario.specs.Steps.{by_number, of_name};
 ghost use Rattle.tp_scenario.specs.mirrors.Commands.{command};
 ghost use Rattle.tp_scenario.specs.mirrors.Gives.{GivesAs};
-ghost use Rattle.tp_scenario.specs.mirrors.Texts.{texts};
 
 use crate::fault::{WalkError, shape_at};
 use crate::path::Path;
 use crate::spelling::is_name;
 use crate::values::text_at;
-use crate::words::words_of;
+use crate::words::Words;
 use serde_json::Value;
-use std::alloc::Global;
-use tp_types::{NoMemory, number_of};
+use tp_types::number_of;
 
 /// A verb that a name follows.
 #[derive(Clone, Copy)]
@@ -83,123 +80,129 @@ fn count_verb(word: &[u8]) -> Option<CountVerb>
 }
 
 /// The only word, where it is spelled as a name.
-#[tactic(auto, unfolding(crate::specs::Steps::one_name))]
-fn one_name<'a>(words: &[&'a [u8]]) -> Option<&'a [u8]>
-    ensures { option_map (λ name. name.now) result ≡ steps.one_name (texts words.now) }
+fn one_name<'a>(words: Words<'a>) -> Option<&'a [u8]>
+    ensures { option_map (λ name. name.now) result ≡ steps.one_name words.entry }
 {
-    match words {
-        [word] => { if is_name(*word) { Some(*word) } else { None } }
-        _ => None,
-    }
+    let word = words.only()?;
+    if is_name(word) { Some(word) } else { None }
 }
 
 /// The number that the only word is.
-#[tactic(auto, unfolding(crate::specs::Steps::one_number))]
-fn one_number(words: &[&[u8]]) -> Option<u64>
-    ensures { result ≡ steps.one_number (texts words.now) }
+fn one_number(words: Words<'_>) -> Option<u64>
+    ensures { result ≡ steps.one_number words.entry }
 {
-    match words {
-        [word] => number_of(*word),
-        _ => None,
-    }
-}
-
-fn are_names(first: &[u8], second: &[u8]) -> bool
-    ensures { result ≡ (is_name_text first.now && is_name_text second.now) }
-{
-    is_name(first) && is_name(second)
+    number_of(words.only()?)
 }
 
 #[tactic(auto, unfolding(crate::specs::Steps::push_of))]
-fn push_of<'a>(words: &[&'a [u8]]) -> Option<Command<'a>>
-    ensures { option_map command result ≡ steps.push_of (texts words.now) }
+fn push_of<'a>(mut words: Words<'a>) -> Option<Command<'a>>
+    ensures { option_map command result ≡ steps.push_of words.entry }
 {
-    match words {
-        [admin, server] => {
-            if are_names(*admin, *server) {
-                Some(Command::Push(*admin, *server))
-            } else {
-                None
-            }
-        }
-        _ => None,
+    let admin = words.next()?;
+    let server = one_name(words)?;
+    if is_name(admin) {
+        Some(Command::Push(admin, server))
+    } else {
+        None
     }
 }
 
-fn are_cut_words(first: &[u8], second: &[u8], third: &[u8]) -> bool
-    ensures { result ≡ steps.are_cut_words first.now second.now third.now }
+#[tactic(auto, unfolding(crate::specs::Steps::fill_of))]
+fn fill_of(mut words: Words<'_>) -> Option<u64>
+    ensures { result ≡ steps.fill_of words.entry }
 {
-    first == b"in".as_slice() && second == b"at".as_slice() && third == b"fill".as_slice()
-}
-
-#[tactic(auto, unfolding(crate::specs::Steps::cut_numbers))]
-fn cut_numbers<'a>(name: &'a [u8], mail: &[u8], calls: &[u8], fill: &[u8]) -> Option<Command<'a>>
-    ensures { option_map command result ≡ steps.cut_numbers name.now mail.now calls.now fill.now }
-{
-    let mail = number_of(mail)?;
-    let calls = number_of(calls)?;
-    let fill = number_of(fill)?;
-    Some(Command::Cut(name, mail, calls, fill))
-}
-
-fn is_cut_of(name: &[u8], first: &[u8], second: &[u8], third: &[u8]) -> bool
-    ensures { result ≡ (is_name_text name.now && steps.are_cut_words first.now second.now third.now) }
-{
-    is_name(name) && are_cut_words(first, second, third)
-}
-
-#[tactic(auto, unfolding(crate::specs::Steps::cut_of))]
-fn cut_of<'a>(words: &[&'a [u8]]) -> Option<Command<'a>>
-    ensures { option_map command result ≡ steps.cut_of (texts words.now) }
-{
-    match words {
-        [name, first, mail, second, calls, third, fill] => {
-            if is_cut_of(*name, *first, *second, *third) {
-                cut_numbers(*name, *mail, *calls, *fill)
-            } else {
-                None
-            }
-        }
-        _ => None,
+    let key = words.next()?;
+    if key == b"fill".as_slice() {
+        one_number(words)
+    } else {
+        None
     }
 }
 
-fn or_cut<'a>(verb: NameVerb, words: &[&'a [u8]]) -> Option<Command<'a>>
-    ensures { option_map command result ≡ steps.or_cut verb (texts words.now) }
+#[tactic(auto, unfolding(crate::specs::Steps::calls_of))]
+fn calls_of<'a>(name: &'a [u8], mail: u64, mut words: Words<'a>) -> Option<Command<'a>>
+    ensures { option_map command result ≡ steps.calls_of name.now mail words.entry }
+{
+    let key = words.next()?;
+    let calls = words.next()?;
+    if key == b"at".as_slice() {
+        let fill = fill_of(words)?;
+        let calls = number_of(calls)?;
+        Some(Command::Cut(name, mail, calls, fill))
+    } else {
+        None
+    }
+}
+
+#[tactic(auto, unfolding(crate::specs::Steps::mail_of))]
+fn mail_of<'a>(name: &'a [u8], mut words: Words<'a>) -> Option<Command<'a>>
+    ensures { option_map command result ≡ steps.mail_of name.now words.entry }
+{
+    let key = words.next()?;
+    let mail = words.next()?;
+    if key == b"in".as_slice() {
+        calls_of(name, number_of(mail)?, words)
+    } else {
+        None
+    }
+}
+
+fn crashed<'a>(name: &'a [u8], words: Words<'a>) -> Option<Command<'a>>
+    ensures { option_map command result ≡ steps.crashed name.now words.entry }
+{
+    if words.is_at_end() {
+        Some(Command::OfName(NameVerb::Crash, name))
+    } else {
+        mail_of(name, words)
+    }
+}
+
+#[tactic(auto, unfolding(crate::specs::Steps::crash_of))]
+fn crash_of<'a>(mut words: Words<'a>) -> Option<Command<'a>>
+    ensures { option_map command result ≡ steps.crash_of words.entry }
+{
+    let name = words.next()?;
+    if is_name(name) {
+        crashed(name, words)
+    } else {
+        None
+    }
+}
+
+fn of_one_name<'a>(verb: NameVerb, words: Words<'a>) -> Option<Command<'a>>
+    ensures { option_map command result ≡ option_map (of_name verb) (steps.one_name words.entry) }
+{
+    let name = one_name(words)?;
+    Some(Command::OfName(verb, name))
+}
+
+fn by_verb<'a>(verb: NameVerb, words: Words<'a>) -> Option<Command<'a>>
+    ensures { option_map command result ≡ steps.by_verb verb words.entry }
 {
     match verb {
-        NameVerb::Crash => cut_of(words),
-        _ => None,
+        NameVerb::Crash => crash_of(words),
+        _ => of_one_name(verb, words),
     }
 }
 
-fn named_or<'a>(verb: NameVerb, words: &[&'a [u8]]) -> Option<Command<'a>>
-    ensures { option_map command result ≡ steps.named_or verb (steps.one_name (texts words.now)) (texts words.now) }
-{
-    match one_name(words) {
-        Some(name) => Some(Command::OfName(verb, name)),
-        None => or_cut(verb, words),
-    }
-}
-
-fn named_by<'a>(word: &[u8], words: &[&'a [u8]]) -> Option<Command<'a>>
-    ensures { option_map command result ≡ steps.named_by (steps.name_verb word.now) (texts words.now) }
+fn named_by<'a>(word: &[u8], words: Words<'a>) -> Option<Command<'a>>
+    ensures { option_map command result ≡ steps.named_by (steps.name_verb word.now) words.entry }
 {
     match name_verb(word) {
         None => None,
-        Some(verb) => named_or(verb, words),
+        Some(verb) => by_verb(verb, words),
     }
 }
 
-fn counted_by<'a>(verb: CountVerb, words: &[&'a [u8]]) -> Option<Command<'a>>
-    ensures { option_map command result ≡ option_map (by_number verb) (steps.one_number (texts words.now)) }
+fn counted_by<'a>(verb: CountVerb, words: Words<'a>) -> Option<Command<'a>>
+    ensures { option_map command result ≡ option_map (by_number verb) (steps.one_number words.entry) }
 {
     let number = one_number(words)?;
     Some(Command::ByNumber(verb, number))
 }
 
-fn counted_or<'a>(word: &[u8], words: &[&'a [u8]]) -> Option<Command<'a>>
-    ensures { option_map command result ≡ steps.counted_or (steps.count_verb word.now) (steps.name_verb word.now) (texts words.now) }
+fn counted_or<'a>(word: &[u8], words: Words<'a>) -> Option<Command<'a>>
+    ensures { option_map command result ≡ steps.counted_or (steps.count_verb word.now) (steps.name_verb word.now) words.entry }
 {
     match count_verb(word) {
         Some(verb) => counted_by(verb, words),
@@ -208,8 +211,8 @@ fn counted_or<'a>(word: &[u8], words: &[&'a [u8]]) -> Option<Command<'a>>
 }
 
 #[tactic(auto, unfolding(crate::specs::Steps::command_by))]
-fn command_by<'a>(word: &[u8], words: &[&'a [u8]]) -> Option<Command<'a>>
-    ensures { option_map command result ≡ steps.command_by word.now (texts words.now) }
+fn command_by<'a>(word: &[u8], words: Words<'a>) -> Option<Command<'a>>
+    ensures { option_map command result ≡ steps.command_by word.now words.entry }
 {
     if word == b"push".as_slice() {
         push_of(words)
@@ -218,32 +221,27 @@ fn command_by<'a>(word: &[u8], words: &[&'a [u8]]) -> Option<Command<'a>>
     }
 }
 
-fn command_in<'a>(words: &[&'a [u8]]) -> Option<Command<'a>>
-    ensures { option_map command result ≡ steps.command_in (texts words.now) }
+fn command_in<'a>(mut words: Words<'a>) -> Option<Command<'a>>
+    ensures { option_map command result ≡ steps.command_in words.entry }
 {
-    match words.split_first() {
-        None => None,
-        Some((word, others)) => command_by(*word, others),
-    }
+    let verb = words.next()?;
+    command_by(verb, words)
 }
 
 #[tactic(auto, unfolding(crate::specs::Steps::command_of))]
-fn command_of(alloc: Global, text: &[u8]) -> Result<Option<Command<'_>>, NoMemory>
-    ensures { IfOk result (λ found. option_map command found ≡ steps.command_of text.now) }
+fn command_of(text: &[u8]) -> Option<Command<'_>>
+    ensures { option_map command result ≡ steps.command_of text.now }
 {
-    match words_of(alloc, text)? {
-        None => Ok(None),
-        Some(words) => Ok(command_in(words.as_slice())),
-    }
+    command_in(Words::of(text))
 }
 
 /// The step that a value spells.
 #[tactic(auto, unfolding(crate::specs::Steps::command_at))]
-pub(crate) fn command_at(alloc: Global, path: Path, value: &Value) -> Result<Command<'_>, WalkError>
+pub(crate) fn command_at(path: Path, value: &Value) -> Result<Command<'_>, WalkError>
     ensures { GivesAs result command (steps.command_at path (view value.now)) }
 {
     let text = text_at(path, Some(value))?;
-    match command_of(alloc, text)? {
+    match command_of(text) {
         None => Err(shape_at(path)),
         Some(found) => Ok(found),
     }

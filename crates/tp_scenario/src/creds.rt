@@ -1,5 +1,5 @@
 //! Credentials.
-ghost use Rattle.std.specs.Prelude.{◌≡◌, [], map, option_map, IfOk};
+ghost use Rattle.std.specs.Prelude.{◌≡◌, ◌++◌, ◌∷◌, [], map, option_map, IfOk};
 ghost use Rattle.serde_json.specs.View.{view, items_view};
 ghost use Rattle.tp_scenario.specs.Creds as creds;
 ghost use Rattle.tp_scenario.specs.declared.path.Key.TheVariants as Key;
@@ -62,8 +62,14 @@ fn path_of(at: usize, key: Key) -> Path
 }
 
 #[tactic(auto, unfolding(crate::specs::Creds::cred_at))]
-fn cred_at(alloc: Global, names: &Names, at: usize, value: &Json) -> Result<Credential, WalkError>
-    ensures { Gives result (creds.cred_at names.now at (view value.now)) }
+fn cred_at<'a>(
+    alloc: Global,
+    names: &mut Names<'a>,
+    at: usize,
+    value: &'a Json,
+) -> Result<Credential, WalkError>
+    ensures value { Gives result (creds.cred_at names.old at (view value.now)) }
+    ensures named { IfOk result (λ cred. names.new ≡ names.old ++ cred.name ∷ []) }
 {
     let fields = object_at(
         Path::Member(Key::Credentials, at),
@@ -110,10 +116,10 @@ fn cred_at(alloc: Global, names: &Names, at: usize, value: &Json) -> Result<Cred
     })
 }
 
-fn each_cred(
+fn each_cred<'a>(
     alloc: Global,
-    names: &mut Names,
-    values: &[Json],
+    names: &mut Names<'a>,
+    values: &'a [Json],
 ) -> Result<List<Credential>, WalkError>
     requires { names.old ≡ [] }
     ensures value { Gives result (each creds.cred_in [] (items_view values.now)) }
@@ -121,19 +127,17 @@ fn each_cred(
 {
     let mut made = List::new(alloc);
     for value in values {
-        let cred = cred_at(alloc, &*names, made.len(), value)?;
-        names.add(alloc, &cred.name)?;
-        made.push(cred)?;
+        made.push(cred_at(alloc, names, made.len(), value)?)?;
     }
     Ok(made)
 }
 
 /// The credentials, whose names are added to none so far.
 #[tactic(auto, unfolding(crate::specs::Creds::creds_at))]
-pub(crate) fn creds_at(
+pub(crate) fn creds_at<'a>(
     alloc: Global,
-    names: &mut Names,
-    value: Option<&Json>,
+    names: &mut Names<'a>,
+    value: Option<&'a Json>,
 ) -> Result<List<Credential>, WalkError>
     requires { names.old ≡ [] }
     ensures value { Gives result (creds.creds_at (option_map (λ v. view v.now) value.entry)) }

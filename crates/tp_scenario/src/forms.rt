@@ -8,7 +8,7 @@ ghost use Rattle.tp_scenario.specs.Forms as forms;
 use crate::path::{Key, Path, Site};
 use indexmap::IndexSet;
 use std::alloc::Global;
-use tp_model::is_built;
+use tp_model::is_stage;
 use tp_types::{
     Admin, Level, List, Name, NoMemory, Scenario, Scheme, ServerDecl, Step, Transaction, TryClone,
     Version,
@@ -182,7 +182,7 @@ fn steps_site(alloc: Global, steps: &[Step]) -> Result<Option<Site>, NoMemory>
 fn rest_form(scenario: &Scenario) -> Option<Site>
     ensures { result ≡ forms.rest_form scenario.now }
 {
-    if is_built(scenario) {
+    if is_stage(scenario) {
         None
     } else {
         Some(Site::At(Path::Whole))

@@ -4,10 +4,12 @@ ghost use Rattle.serde_json.specs.Read.{read as read_json};
 ghost use Rattle.serde_json.specs.View.{view};
 ghost use Rattle.tp_types.specs.declared.scenario.Scenario.{Scenario};
 ghost use Rattle.tp_model.specs.Built.{is_built};
+ghost use Rattle.tp_model.specs.Valid.{is_valid};
 ghost use Rattle.tp_scenario.specs.declared.from_bytes.ScenarioError.{ScenarioError};
 ghost use Rattle.tp_scenario.specs.Forms as forms;
 ghost use Rattle.tp_scenario.specs.Reads as reads;
-ghost use Rattle.tp_scenario.specs.Reads.{Says, IsOutOfMemory, IsText, HasOneAnswer, IsTextOfOne, length_max};
+ghost use Rattle.tp_scenario.specs.Reads.{Says, IsOutOfMemory, IsText, GivesValid, HasOneAnswer, IsTextOfOne, length_max};
+ghost use Rattle.tp_scenario.specs.Spelled.{HasOneSplit, ReadsQueries, SaysOneQuery, ReadsSteps, SaysOneStep, GivesQueries, GivesSteps};
 ghost use Rattle.tp_scenario.specs.Walk as walk;
 ghost use Rattle.tp_scenario.specs.mirrors.Refusing.{IsRefusal, IsTextError};
 
@@ -126,6 +128,7 @@ pub fn read(alloc: Global, bytes: &[u8]) -> Result<Scenario, ScenarioError>
     ensures answer { IsOutOfMemory result ⊎ Says bytes.now result }
     ensures only { (answer : Result Scenario ScenarioError) → Says bytes.now answer → IsOutOfMemory result ⊎ (result ≡ answer) }
     ensures text { IfOk result (λ scenario. IsText bytes.now scenario) }
+    ensures valid { IfOk result (λ scenario. is_valid scenario ≡ true) }
     ensures built { IfOk result (λ scenario. is_built scenario ≡ true) }
     ensures too_long { length_max < length bytes.now → result ≡ Err ScenarioError.TooLong }
 {
@@ -136,8 +139,22 @@ pub fn read(alloc: Global, bytes: &[u8]) -> Result<Scenario, ScenarioError>
     scenario_of(alloc, &value)
 }
 
-/// Bytes have at most one answer, and are a text of at most one scenario.
+/// Bytes have at most one answer, and are a text of at most one scenario. What the walk over a JSON value gives keeps every rule of a
+/// scenario, whether it is built or not.
 pub fn reading_is_exact()
     ensures answer { HasOneAnswer }
     ensures text { IsTextOfOne }
+    ensures valid { GivesValid }
+{}
+
+/// What the text of a query or of a step says is told by a relation, and that is what is read of it: a query or a step is read of a
+/// text exactly where the text says it, and a text says one.
+pub fn texts_have_one_reading()
+    ensures words { HasOneSplit }
+    ensures queries { ReadsQueries }
+    ensures one_query { SaysOneQuery }
+    ensures steps { ReadsSteps }
+    ensures one_step { SaysOneStep }
+    ensures query_values { GivesQueries }
+    ensures step_values { GivesSteps }
 {}

@@ -21,5 +21,5 @@ mod whole;
 mod words;
 
 pub use fault::{Fault, Kind};
-pub use from_bytes::{ScenarioError, read, reading_is_exact};
+pub use from_bytes::{ScenarioError, read, reading_is_exact, texts_have_one_reading};
 pub use path::{Key, Path, Site};

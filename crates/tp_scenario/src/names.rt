@@ -1,49 +1,36 @@
 //! Names that were declared so far.
-ghost use Rattle.std.specs.Prelude.{◌≡◌, ◌<◌, ◌^◌, ◌++◌, ◌∷◌, [], length, IfSome, OnOk, OnErr};
-ghost use Rattle.tp_scenario.specs.Names.{is_same, place_of};
+ghost use Rattle.std.specs.Prelude.{◌≡◌, ◌<◌, [], length, IfOk, IfSome, OnOk};
+ghost use Rattle.tp_scenario.specs.Names.{declared, is_new, place_of};
 
+use indexmap::IndexSet;
 use std::alloc::Global;
 use std::marker::Model;
-use tp_types::{List, Name, NoMemory, TryClone};
+use tp_types::NoMemory;
 
-/// The names of one kind in their order, each with its place.
+/// The names of one kind in their order, each with its place. They are the texts of the JSON that declares them.
 #[derive(Drop)]
-pub(crate) struct Names {
-    names: List<Name>,
+pub(crate) struct Names<'a> {
+    names: IndexSet<&'a [u8]>,
 }
 
-fn is_named(name: &Name, bytes: &[u8]) -> bool
-    ensures { result ≡ is_same name.now bytes.now }
-{
-    name.bytes() == bytes
-}
-
-fn place_in(names: &[Name], bytes: &[u8]) -> Option<usize>
-    ensures place { result ≡ place_of bytes.now names.now }
-    ensures bound { IfSome result (λ at. at < length names.now) }
-{
-    names.iter().position(|name| is_named(name, bytes))
-}
-
-impl Model for Names {
+impl<'a> Model for Names<'a> {
     ghost use Rattle.std.specs.Prelude.{◌<◌, ◌^◌, length};
     ghost use Rattle.tp_scenario.specs.Names.{Names as Seen};
+    ghost use Rattle.tp_scenario.specs.mirrors.Texts.{texts};
 
     ghost Value = { Seen };
 
-    ghost view = { λ n. n.names };
+    ghost view = { λ n. texts n.names.keys };
 
-    ghost invariant = { λ n. length n.names < 2 ^ 32 };
-
-    ghost inverse = { λ d. record { names = d } };
+    ghost invariant = { λ n. length n.names.keys < 2 ^ 32 };
 }
 
-impl Names {
-    pub fn new(alloc: Global) -> Names
+impl<'a> Names<'a> {
+    pub fn new(alloc: Global) -> Names<'a>
         ensures { result ≡ [] }
     {
         Names {
-            names: List::new(alloc),
+            names: IndexSet::new(alloc),
         }
     }
 
@@ -55,34 +42,36 @@ impl Names {
     }
 
     /// The place of a name among them.
+    #[tactic(auto, using(crate::proofs::NameLemmas::place_found))]
     pub fn place_of(&self, name: &[u8]) -> Option<u32>
         ensures value { result ≡ place_of name.now self.now }
         ensures within { IfSome result (λ at. at < length self.now) }
     {
-        match place_in(self.names.as_slice(), name) {
+        match self.names.get_index_of(name) {
             None => None,
             Some(at) => Some(at as u32),
         }
     }
 
-    /// Adds a name at the end. More than four thousand million find no room.
-    pub fn add(&mut self, alloc: Global, name: &Name) -> Result<(), NoMemory>
-        ensures ok { OnOk result (self.new ≡ self.old ++ name.now ∷ []) }
-        ensures err { OnErr result (self.new ≡ self.old) }
+    /// Adds a name at the end where it is new, and tells whether it is. More than four thousand million find no room.
+    #[tactic(auto, using(crate::proofs::NameLemmas::name_added, crate::proofs::NameLemmas::name_found))]
+    pub fn declare(&mut self, name: &'a [u8]) -> Result<bool, NoMemory>
+        ensures new { IfOk result (λ new. new ≡ is_new name.now self.old) }
+        ensures names { OnOk result (self.new ≡ declared name.now self.old) }
     {
         if self.names.len() >= u32::MAX as usize {
             return Err(NoMemory);
         }
-        self.names.push(name.try_clone(alloc)?)
+        Ok(self.names.insert(name)?)
     }
 }
 
 /// The names of all kinds.
 #[derive(Drop)]
-pub(crate) struct Declared {
-    pub admins: Names,
-    pub creds: Names,
-    pub servers: Names,
-    pub items: Names,
-    pub txns: Names,
+pub(crate) struct Declared<'a> {
+    pub admins: Names<'a>,
+    pub creds: Names<'a>,
+    pub servers: Names<'a>,
+    pub items: Names<'a>,
+    pub txns: Names<'a>,
 }

@@ -9,14 +9,13 @@ ghost use Rattle.tp_model.specs.Valid.{has_constant};
 ghost use Rattle.tp_scenario.specs.Queries as queries;
 ghost use Rattle.tp_scenario.specs.mirrors.Asks.{asked};
 ghost use Rattle.tp_scenario.specs.mirrors.Gives.{Gives};
-ghost use Rattle.tp_scenario.specs.mirrors.Texts.{texts};
 
 use crate::fault::{WalkError, range_at, shape_at};
 use crate::names::Names;
 use crate::path::Path;
 use crate::spelling::is_name;
 use crate::values::{text_at, used};
-use crate::words::words_of;
+use crate::words::Words;
 use serde_json::Value;
 use std::alloc::Global;
 use tp_types::{ItemId, List, NoMemory, Operand, Query, Term, number_of};
@@ -100,40 +99,39 @@ fn sign_of(word: &[u8]) -> Option<bool>
     }
 }
 
-fn terms_after(alloc: Global, first: Term, words: &[&[u8]]) -> Result<Option<List<Term>>, NoMemory>
-    ensures { IfOk result (λ found. found ≡ queries.terms_after None (first ∷ []) (texts words.now)) }
+/// A sign, and the term behind it.
+#[tactic(auto, unfolding(crate::specs::Queries::signed_term))]
+fn signed_term(sign: &[u8], word: &[u8]) -> Option<Term>
+    ensures { result ≡ queries.signed_term sign.now word.now }
+{
+    term_of(sign_of(sign)?, word)
+}
+
+fn terms_after(alloc: Global, first: Term, words: Words<'_>) -> Result<Option<List<Term>>, NoMemory>
+    ensures { IfOk result (λ found. found ≡ queries.terms_after (first ∷ []) words.entry) }
 {
     let mut made = List::of_one(alloc, first)?;
-    let mut sign = None;
-    for word in words {
-        match sign {
-            None => match sign_of(*word) {
-                None => return Ok(None),
-                Some(minus) => sign = Some(minus),
-            },
-            Some(minus) => match term_of(minus, *word) {
-                None => return Ok(None),
-                Some(term) => {
-                    made.push(term)?;
-                    sign = None;
-                }
-            },
-        }
-    }
-    if sign.is_some() {
-        return Ok(None);
+    let mut left = words;
+    while let Some(sign) = left.next() {
+        let Some(word) = left.next() else {
+            return Ok(None);
+        };
+        let Some(term) = signed_term(sign, word) else {
+            return Ok(None);
+        };
+        made.push(term)?;
     }
     Ok(Some(made))
 }
 
-fn sum_of(alloc: Global, words: &[&[u8]]) -> Result<Option<List<Term>>, NoMemory>
-    ensures { IfOk result (λ found. found ≡ queries.sum_of (texts words.now)) }
+fn sum_of(alloc: Global, mut words: Words<'_>) -> Result<Option<List<Term>>, NoMemory>
+    ensures { IfOk result (λ found. found ≡ queries.sum_of words.entry) }
 {
-    match words.split_first() {
+    match words.next() {
         None => Ok(None),
-        Some((word, others)) => match first_term(*word) {
+        Some(word) => match first_term(word) {
             None => Ok(None),
-            Some(first) => terms_after(alloc, first, others),
+            Some(first) => terms_after(alloc, first, words),
         },
     }
 }
@@ -151,28 +149,25 @@ fn is_write(name: &[u8], sign: &[u8]) -> bool
 }
 
 #[tactic(auto, unfolding(crate::specs::Queries::read_of))]
-fn read_of<'a>(words: &[&'a [u8]]) -> Option<Asked<'a>>
-    ensures { option_map asked result ≡ queries.read_of (texts words.now) }
+fn read_of<'a>(mut words: Words<'a>) -> Option<Asked<'a>>
+    ensures { option_map asked result ≡ queries.read_of words.entry }
 {
-    match words {
-        [name, into, register] => {
-            if is_read(*name, *into) {
-                let into = register_of(*register)?;
-                Some(Asked::Read { item: *name, into })
-            } else {
-                None
-            }
-        }
-        _ => None,
+    let item = words.next()?;
+    let into = words.next()?;
+    if is_read(item, into) {
+        let into = register_of(words.only()?)?;
+        Some(Asked::Read { item, into })
+    } else {
+        None
     }
 }
 
 fn written<'a>(
     alloc: Global,
     item: &'a [u8],
-    words: &[&[u8]],
+    words: Words<'a>,
 ) -> Result<Option<Asked<'a>>, NoMemory>
-    ensures { IfOk result (λ found. option_map asked found ≡ option_map (writes item.now) (queries.sum_of (texts words.now))) }
+    ensures { IfOk result (λ found. option_map asked found ≡ option_map (writes item.now) (queries.sum_of words.entry)) }
 {
     match sum_of(alloc, words)? {
         None => Ok(None),
@@ -181,27 +176,24 @@ fn written<'a>(
 }
 
 #[tactic(auto, unfolding(crate::specs::Queries::write_of))]
-fn write_of<'a>(alloc: Global, words: &[&'a [u8]]) -> Result<Option<Asked<'a>>, NoMemory>
-    ensures { IfOk result (λ found. option_map asked found ≡ queries.write_of (texts words.now)) }
+fn write_of<'a>(alloc: Global, mut words: Words<'a>) -> Result<Option<Asked<'a>>, NoMemory>
+    ensures { IfOk result (λ found. option_map asked found ≡ queries.write_of words.entry) }
 {
-    match words {
-        [name, sign, others @ ..] => {
-            if is_write(*name, *sign) {
-                written(alloc, *name, others)
-            } else {
-                Ok(None)
-            }
-        }
-        _ => Ok(None),
+    let Some(item) = words.next() else {
+        return Ok(None);
+    };
+    let Some(sign) = words.next() else {
+        return Ok(None);
+    };
+    if is_write(item, sign) {
+        written(alloc, item, words)
+    } else {
+        Ok(None)
     }
 }
 
-fn asked_by<'a>(
-    alloc: Global,
-    verb: &[u8],
-    words: &[&'a [u8]],
-) -> Result<Option<Asked<'a>>, NoMemory>
-    ensures { IfOk result (λ found. option_map asked found ≡ queries.asked_by verb.now (texts words.now)) }
+fn asked_by<'a>(alloc: Global, verb: &[u8], words: Words<'a>) -> Result<Option<Asked<'a>>, NoMemory>
+    ensures { IfOk result (λ found. option_map asked found ≡ queries.asked_by verb.now words.entry) }
 {
     if verb == b"read".as_slice() {
         Ok(read_of(words))
@@ -212,12 +204,12 @@ fn asked_by<'a>(
     }
 }
 
-fn asked_in<'a>(alloc: Global, words: &[&'a [u8]]) -> Result<Option<Asked<'a>>, NoMemory>
-    ensures { IfOk result (λ found. option_map asked found ≡ queries.asked_in (texts words.now)) }
+fn asked_in<'a>(alloc: Global, mut words: Words<'a>) -> Result<Option<Asked<'a>>, NoMemory>
+    ensures { IfOk result (λ found. option_map asked found ≡ queries.asked_in words.entry) }
 {
-    match words.split_first() {
+    match words.next() {
         None => Ok(None),
-        Some((verb, others)) => asked_by(alloc, *verb, others),
+        Some(verb) => asked_by(alloc, verb, words),
     }
 }
 
@@ -226,10 +218,7 @@ fn asked_in<'a>(alloc: Global, words: &[&'a [u8]]) -> Result<Option<Asked<'a>>, 
 fn asked_of(alloc: Global, text: &[u8]) -> Result<Option<Asked<'_>>, NoMemory>
     ensures { IfOk result (λ found. option_map asked found ≡ queries.asked_of text.now) }
 {
-    match words_of(alloc, text)? {
-        None => Ok(None),
-        Some(words) => asked_in(alloc, words.as_slice()),
-    }
+    asked_in(alloc, Words::of(text))
 }
 
 fn count_constants(expr: &List<Term>) -> usize

@@ -165,15 +165,10 @@ fn allowed_step(
 }
 
 #[tactic(auto, unfolding(crate::specs::Scripts::official_at))]
-fn official_at(
-    alloc: Global,
-    path: Path,
-    names: &Declared,
-    value: &Value,
-) -> Result<Step, WalkError>
+fn official_at(path: Path, names: &Declared, value: &Value) -> Result<Step, WalkError>
     ensures { Gives result (scripts.official_at path names.now (view value.now)) }
 {
-    let command = command_at(alloc, path, value)?;
+    let command = command_at(path, value)?;
     allowed_step(is_official(command), path, names, command)
 }
 
@@ -188,7 +183,7 @@ fn each_official(
     let mut made = List::new(alloc);
     for value in values {
         let path = Path::Line(Key::Officers, at, made.len());
-        let step = official_at(alloc, path, names, value)?;
+        let step = official_at(path, names, value)?;
         made.push(step)?;
     }
     Ok(made)
@@ -273,7 +268,7 @@ fn published_at(
 ) -> Result<(), WalkError>
     ensures { GivesNew result state.new (scripts.published_at path names.now state.old (view value.now)) }
 {
-    let command = command_at(alloc, path, value)?;
+    let command = command_at(path, value)?;
     let made = allowed_step(is_publishing(command), path, names, command)?;
     take_left(path, &mut state.left, made)?;
     state.script.push(made)?;

@@ -1,5 +1,5 @@
 //! Servers: what they know at the start, and their items.
-ghost use Rattle.std.specs.Prelude.{◌≡◌, ◌≤◌, ◌-◌, [], length, map, option_map, IfOk, OnOk};
+ghost use Rattle.std.specs.Prelude.{◌≡◌, ◌≤◌, ◌-◌, ◌++◌, ◌∷◌, [], length, map, option_map, IfOk, OnOk};
 ghost use Rattle.serde_json.specs.View.{view, items_view, members_view};
 ghost use Rattle.tp_scenario.specs.Admins.{admin_name};
 ghost use Rattle.tp_scenario.specs.Servers as servers;
@@ -214,15 +214,16 @@ fn knows_at(
 
 /// An item of a server, after those of these names.
 #[tactic(auto, unfolding(crate::specs::Servers::item_at))]
-fn item_at(
+fn item_at<'a>(
     alloc: Global,
-    admins: &Names,
-    names: &Names,
+    admins: &Names<'a>,
+    names: &mut Names<'a>,
     server: u32,
     at: usize,
-    value: &Value,
+    value: &'a Value,
 ) -> Result<Item, WalkError>
-    ensures { Gives result (servers.item_at admins.now names.now server at (view value.now)) }
+    ensures value { Gives result (servers.item_at admins.now names.old server at (view value.now)) }
+    ensures named { IfOk result (λ item. names.new ≡ names.old ++ item.name ∷ []) }
 {
     let fields = object_at(
         Path::Entry(Key::Servers, server as usize, Key::Items, at),
@@ -276,13 +277,13 @@ fn path_of(server: u32, at: usize, key: Key) -> Path
 }
 
 /// Adds the items of a server to those of earlier ones.
-fn each_item(
+fn each_item<'a>(
     alloc: Global,
-    admins: &Names,
-    names: &mut Names,
+    admins: &Names<'a>,
+    names: &mut Names<'a>,
     server: u32,
     made: &mut List<Item>,
-    values: &[Value],
+    values: &'a [Value],
 ) -> Result<(), WalkError>
     requires { names.old ≡ map servers.item_name made.old }
     ensures value { GivesNew result made.new (each (servers.item_in admins.now server (length made.old)) made.old (items_view values.now)) }
@@ -290,8 +291,7 @@ fn each_item(
 {
     let before = made.len();
     for value in values {
-        let item = item_at(alloc, admins, &*names, server, made.len() - before, value)?;
-        names.add(alloc, &item.name)?;
+        let item = item_at(alloc, admins, names, server, made.len() - before, value)?;
         made.push(item)?;
     }
     Ok(())
@@ -299,13 +299,13 @@ fn each_item(
 
 /// The items of a server after those of earlier ones.
 #[tactic(auto, unfolding(crate::specs::Servers::items_in))]
-fn items_in(
+fn items_in<'a>(
     alloc: Global,
-    admins: &Names,
-    names: &mut Names,
+    admins: &Names<'a>,
+    names: &mut Names<'a>,
     server: u32,
     made: &mut List<Item>,
-    value: Option<&Value>,
+    value: Option<&'a Value>,
 ) -> Result<(), WalkError>
     requires { names.old ≡ map servers.item_name made.old }
     ensures value { GivesNew result made.new (servers.items_in admins.now server made.old (option_map (λ v. view v.now) value.entry)) }
@@ -329,12 +329,12 @@ fn numbered(alloc: Global, first: u32, end: u32) -> Result<List<ItemId>, NoMemor
 
 /// The next server, whose items are added to those of earlier ones.
 #[tactic(auto, unfolding(crate::specs::Servers::server_in))]
-fn server_in(
+fn server_in<'a>(
     alloc: Global,
     admins: &[Admin],
-    names: &mut Declared,
+    names: &mut Declared<'a>,
     served: &mut Served,
-    value: &Value,
+    value: &'a Value,
 ) -> Result<(), WalkError>
     requires admins { names.old.admins ≡ map admin_name admins.now }
     requires servers { names.old.servers ≡ map servers.server_name served.old.servers }
@@ -352,7 +352,7 @@ fn server_in(
         value,
     )?;
     let path = Path::Field(Key::Servers, server, Key::Name);
-    let name = new_name_at(alloc, path, &names.servers, field(fields, Key::Name))?;
+    let name = new_name_at(alloc, path, &mut names.servers, field(fields, Key::Name))?;
     let knows = knows_at(
         alloc,
         admins,
@@ -370,16 +370,15 @@ fn server_in(
         value,
     )?;
     let items = numbered(alloc, first, names.items.count())?;
-    names.servers.add(alloc, &name)?;
     served.servers.push(ServerDecl { name, knows, items })?;
     Ok(())
 }
 
-fn each_server(
+fn each_server<'a>(
     alloc: Global,
     admins: &[Admin],
-    names: &mut Declared,
-    values: &[Value],
+    names: &mut Declared<'a>,
+    values: &'a [Value],
 ) -> Result<Served, WalkError>
     requires admins { names.old.admins ≡ map admin_name admins.now }
     requires servers { names.old.servers ≡ [] }
@@ -399,11 +398,11 @@ fn each_server(
 
 /// The servers and their items, whose names are added to none so far.
 #[tactic(auto, unfolding(crate::specs::Servers::servers_at))]
-pub(crate) fn servers_at(
+pub(crate) fn servers_at<'a>(
     alloc: Global,
     admins: &[Admin],
-    names: &mut Declared,
-    value: Option<&Value>,
+    names: &mut Declared<'a>,
+    value: Option<&'a Value>,
 ) -> Result<Served, WalkError>
     requires admins { names.old.admins ≡ map admin_name admins.now }
     requires servers { names.old.servers ≡ [] }

@@ -154,15 +154,10 @@ pub(crate) fn step_for(
 
 /// The step that a value spells.
 #[tactic(auto, unfolding(crate::specs::Steps::step_at))]
-pub(crate) fn step_at(
-    alloc: Global,
-    names: &Declared,
-    path: Path,
-    value: &Value,
-) -> Result<Step, WalkError>
+pub(crate) fn step_at(names: &Declared, path: Path, value: &Value) -> Result<Step, WalkError>
     ensures { Gives result (steps.step_at names.now path (view value.now)) }
 {
-    let command = command_at(alloc, path, value)?;
+    let command = command_at(path, value)?;
     step_for(path, names, command)
 }
 
@@ -172,7 +167,7 @@ fn each_step(alloc: Global, names: &Declared, values: &[Value]) -> Result<List<S
     let mut made = List::new(alloc);
     for value in values {
         let path = Path::Member(Key::Steps, made.len());
-        made.push(step_at(alloc, names, path, value)?)?;
+        made.push(step_at(names, path, value)?)?;
     }
     Ok(made)
 }

@@ -1,5 +1,5 @@
 //! Transactions.
-ghost use Rattle.std.specs.Prelude.{◌≡◌, [], map, option_map, IfOk};
+ghost use Rattle.std.specs.Prelude.{◌≡◌, ◌++◌, ◌∷◌, [], map, option_map, IfOk};
 ghost use Rattle.std.specs.List.{list_any};
 ghost use Rattle.serde_json.specs.View.{view, items_view};
 ghost use Rattle.tp_model.specs.Ids.{same_cred};
@@ -175,14 +175,15 @@ fn queries_at(
 
 /// The name of a transaction, which no other transaction has and no server.
 #[tactic(auto, unfolding(crate::specs::Txns::txn_name_at))]
-fn txn_name_at(
+fn txn_name_at<'a>(
     alloc: Global,
-    servers: &Names,
-    others: &Names,
+    servers: &Names<'a>,
+    others: &mut Names<'a>,
     at: usize,
-    value: Option<&Value>,
+    value: Option<&'a Value>,
 ) -> Result<Name, WalkError>
-    ensures { Gives result (txns.txn_name_at servers.now others.now at (option_map (λ v. view v.now) value.entry)) }
+    ensures value { Gives result (txns.txn_name_at servers.now others.old at (option_map (λ v. view v.now) value.entry)) }
+    ensures named { IfOk result (λ name. others.new ≡ others.old ++ name ∷ []) }
 {
     let path = path_of(at, Key::Name);
     let name = new_name_at(alloc, path, others, value)?;
@@ -193,13 +194,14 @@ fn txn_name_at(
 }
 
 #[tactic(auto, unfolding(crate::specs::Txns::txn_at))]
-fn txn_at(
+fn txn_at<'a>(
     alloc: Global,
-    names: &Declared,
+    names: &mut Declared<'a>,
     at: usize,
-    value: &Value,
+    value: &'a Value,
 ) -> Result<Transaction, WalkError>
-    ensures { Gives result (txns.txn_at names.now at (view value.now)) }
+    ensures value { Gives result (txns.txn_at names.old at (view value.now)) }
+    ensures named { IfOk result (λ txn. names.new ≡ record names.old { txns = names.old.txns ++ txn.name ∷ [] }) }
 {
     let fields = object_at(
         Path::Member(Key::Transactions, at),
@@ -210,7 +212,7 @@ fn txn_at(
     let name = txn_name_at(
         alloc,
         &names.servers,
-        &names.txns,
+        &mut names.txns,
         at,
         field(fields, Key::Name),
     )?;
@@ -241,10 +243,10 @@ fn txn_at(
     })
 }
 
-fn each_txn(
+fn each_txn<'a>(
     alloc: Global,
-    names: &mut Declared,
-    values: &[Value],
+    names: &mut Declared<'a>,
+    values: &'a [Value],
 ) -> Result<List<Transaction>, WalkError>
     requires { names.old.txns ≡ [] }
     ensures value { Gives result (each (txns.txn_in names.old) [] (items_view values.now)) }
@@ -252,19 +254,17 @@ fn each_txn(
 {
     let mut made = List::new(alloc);
     for value in values {
-        let txn = txn_at(alloc, &*names, made.len(), value)?;
-        names.txns.add(alloc, &txn.name)?;
-        made.push(txn)?;
+        made.push(txn_at(alloc, names, made.len(), value)?)?;
     }
     Ok(made)
 }
 
 /// The transactions, whose names are added to none so far.
 #[tactic(auto, unfolding(crate::specs::Txns::txns_at))]
-pub(crate) fn txns_at(
+pub(crate) fn txns_at<'a>(
     alloc: Global,
-    names: &mut Declared,
-    value: Option<&Value>,
+    names: &mut Declared<'a>,
+    value: Option<&'a Value>,
 ) -> Result<List<Transaction>, WalkError>
     requires { names.old.txns ≡ [] }
     ensures value { Gives result (txns.txns_at names.old (option_map (λ v. view v.now) value.entry)) }

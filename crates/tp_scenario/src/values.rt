@@ -1,5 +1,5 @@
 //! Single values of a scenario's JSON.
-ghost use Rattle.std.specs.Prelude.{◌≡◌, ◌≤◌, ◌<◌, length, max, option_map, pos, IfOk};
+ghost use Rattle.std.specs.Prelude.{◌≡◌, ◌≤◌, ◌<◌, ◌++◌, ◌∷◌, [], length, max, option_map, pos, IfOk};
 ghost use Rattle.serde_json.specs.View.{view, items_view};
 ghost use Rattle.tp_model.specs.Limits as limits;
 ghost use Rattle.tp_scenario.specs.Values as values;
@@ -57,20 +57,27 @@ pub(crate) fn name_at(alloc: Global, path: Path, value: Option<&Value>) -> Resul
     }
 }
 
-/// A name that is declared, and is not among the names of its kind so far.
-#[tactic(auto, unfolding(crate::specs::Values::new_name_at))]
-pub(crate) fn new_name_at(
+/// A name that is declared, and is not among the names of its kind so far. It is added to them.
+#[tactic(auto, unfolding(crate::specs::Values::new_name_at, crate::specs::Values::name_at))]
+pub(crate) fn new_name_at<'a>(
     alloc: Global,
     path: Path,
-    names: &Names,
-    value: Option<&Value>,
+    names: &mut Names<'a>,
+    value: Option<&'a Value>,
 ) -> Result<Name, WalkError>
-    ensures { Gives result (values.new_name_at path names.now (option_map (λ v. view v.now) value.entry)) }
+    ensures value { Gives result (values.new_name_at path names.old (option_map (λ v. view v.now) value.entry)) }
+    ensures named { IfOk result (λ name. names.new ≡ names.old ++ name ∷ []) }
 {
-    let name = name_at(alloc, path, value)?;
-    match names.place_of(name.bytes()) {
-        None => Ok(name),
-        Some(_) => Err(range_at(path)),
+    let text = text_at(path, value)?;
+    match Name::of(alloc, text)? {
+        None => Err(range_at(path)),
+        Some(name) => {
+            if names.declare(text)? {
+                Ok(name)
+            } else {
+                Err(range_at(path))
+            }
+        }
     }
 }
 

@@ -22,7 +22,7 @@ use tp_types::Scenario;
 /// The last time of a clock at the start.
 const CLOCK_MAX: u64 = 1_000_000_000_000;
 
-fn no_names(alloc: Global) -> Declared
+fn no_names<'a>(alloc: Global) -> Declared<'a>
     ensures { result ≡ walk.no_names }
 {
     Declared {
@@ -34,9 +34,14 @@ fn no_names(alloc: Global) -> Declared
     }
 }
 
-/// The scenario that a value is, or the first fault in it.
+/// The scenario that a value is, or the first fault in it. What it declares is added to the names, of which there are none so far.
 #[tactic(auto, unfolding(crate::specs::Walk::walked))]
-pub(crate) fn walked(alloc: Global, value: &Value) -> Result<Scenario, WalkError>
+fn walked_with<'a>(
+    alloc: Global,
+    names: &mut Declared<'a>,
+    value: &'a Value,
+) -> Result<Scenario, WalkError>
+    requires { names.old ≡ walk.no_names }
     ensures { Gives result (walk.walked (view value.now)) }
 {
     let fields = object_at(
@@ -52,7 +57,6 @@ pub(crate) fn walked(alloc: Global, value: &Value) -> Result<Scenario, WalkError
         ],
         value,
     )?;
-    let mut names = no_names(alloc);
     let admins = admins_at(alloc, &mut names.admins, field(fields, Key::Admins))?;
     let clock = count_or(
         Path::Top(Key::Clock),
@@ -65,19 +69,19 @@ pub(crate) fn walked(alloc: Global, value: &Value) -> Result<Scenario, WalkError
     let Served { servers, items } = servers_at(
         alloc,
         admins.as_slice(),
-        &mut names,
+        names,
         field(fields, Key::Servers),
     )?;
-    let txns = txns_at(alloc, &mut names, field(fields, Key::Transactions))?;
-    let steps = steps_at(alloc, &names, field(fields, Key::Steps))?;
+    let txns = txns_at(alloc, names, field(fields, Key::Transactions))?;
+    let steps = steps_at(alloc, names, field(fields, Key::Steps))?;
     let clients = clients_at(alloc, &names.txns, field(fields, Key::Clients))?;
     let publishers = publishers_at(
         alloc,
-        &names,
+        names,
         admins.as_slice(),
         field(fields, Key::Publishers),
     )?;
-    let officers = officers_at(alloc, &names, field(fields, Key::Officers))?;
+    let officers = officers_at(alloc, names, field(fields, Key::Officers))?;
     Ok(Scenario {
         admins,
         clock,
@@ -90,4 +94,12 @@ pub(crate) fn walked(alloc: Global, value: &Value) -> Result<Scenario, WalkError
         publishers,
         officers,
     })
+}
+
+/// The scenario that a value is, or the first fault in it.
+pub(crate) fn walked(alloc: Global, value: &Value) -> Result<Scenario, WalkError>
+    ensures { Gives result (walk.walked (view value.now)) }
+{
+    let mut names = no_names(alloc);
+    walked_with(alloc, &mut names, value)
 }

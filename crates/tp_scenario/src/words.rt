@@ -1,57 +1,94 @@
-//! The words of a text.
-ghost use Rattle.std.specs.Prelude.{◌≡◌, ◌-◌, length, filter, option_map, IfOk};
-ghost use Rattle.std.specs.List.{slice_split};
+//! The words of a text, one after another.
+ghost use Rattle.std.specs.Prelude.{◌≡◌, ◌≤◌, ◌∷◌, [], length, option_map, IfSome, IfNone};
 ghost use Rattle.tp_scenario.specs.Words as words;
-ghost use Rattle.tp_scenario.specs.mirrors.Texts.{texts};
 
-use std::alloc::{AllocError, Global};
-use tp_types::NoMemory;
+use std::marker::Model;
 
-fn begins_well(text: &[u8]) -> bool
-    ensures { result ≡ words.is_solid_at text.now 0 }
-{
-    match text.first() {
-        None => false,
-        Some(byte) => *byte != b' ',
-    }
+/// The words that are left of a text. Contracts see them as a list.
+#[derive(Drop)]
+pub(crate) struct Words<'a> {
+    /// What stands behind the words that were taken, and behind the spaces after them.
+    rest: Option<&'a [u8]>,
 }
 
-fn ends_well(text: &[u8]) -> bool
-    ensures { result ≡ words.is_solid_at text.now (length text.now - 1) }
-{
-    match text.last() {
-        None => false,
-        Some(byte) => *byte != b' ',
-    }
+impl<'a> Model for Words<'a> {
+    ghost use Rattle.std.specs.Prelude.{ℕ, List};
+    ghost use Rattle.tp_scenario.specs.mirrors.Texts.{words_left};
+
+    ghost Value = { List (List ℕ) };
+
+    ghost view = { λ w. words_left w.rest };
 }
 
-fn pieces_of(alloc: Global, text: &[u8]) -> Result<Vec<&[u8]>, AllocError>
-    ensures { IfOk result (λ pieces. texts pieces.items ≡ slice_split words.is_space text.now) }
+/// How many bytes stand before the first space.
+fn reach(text: &[u8]) -> usize
+    ensures value { result ≡ words.reach text.now }
+    ensures within { result ≤ length text.now }
 {
-    text.split(|byte| *byte == b' ').collect(alloc)
-}
-
-fn filled_of<'a>(alloc: Global, pieces: &[&'a [u8]]) -> Result<Vec<&'a [u8]>, NoMemory>
-    ensures { IfOk result (λ filled. texts filled.items ≡ filter words.is_filled (texts pieces.now)) }
-{
-    let mut filled = Vec::new(alloc);
-    for piece in pieces {
-        if !piece.is_empty() {
-            filled.push(*piece)?;
+    for (count, byte) in text.iter().enumerate() {
+        if *byte == b' ' {
+            return count;
         }
     }
-    Ok(filled)
+    text.len()
 }
 
-/// The words of a text, or None where a space stands at an end or the text is empty.
-#[tactic(auto, unfolding(crate::specs::Words::words_of))]
-pub(crate) fn words_of(alloc: Global, text: &[u8]) -> Result<Option<Vec<&[u8]>>, NoMemory>
-    ensures { IfOk result (λ found. option_map (λ v. texts v.items) found ≡ words.words_of text.now) }
+/// What stands behind the spaces in front.
+fn behind_spaces(text: &[u8]) -> &[u8]
+    ensures { result.now ≡ words.skip_spaces text.now }
 {
-    if !begins_well(text) || !ends_well(text) {
-        return Ok(None);
+    for (count, byte) in text.iter().enumerate() {
+        if *byte != b' ' {
+            return text.split_at(count).1;
+        }
     }
-    let pieces = pieces_of(alloc, text)?;
-    let filled = filled_of(alloc, pieces.as_slice())?;
-    Ok(Some(filled))
+    &[]
+}
+
+/// What stands behind a word and the spaces after it, where there are some.
+fn behind_word(text: &[u8]) -> Option<&[u8]>
+    ensures { option_map (λ t. t.now) result ≡ words.behind_word text.now }
+{
+    if text.is_empty() {
+        None
+    } else {
+        Some(behind_spaces(text))
+    }
+}
+
+impl<'a> Words<'a> {
+    pub fn of(text: &'a [u8]) -> Words<'a>
+        ensures { result ≡ words.words_of text.now }
+    {
+        Words { rest: Some(text) }
+    }
+
+    /// Takes the next word.
+    #[tactic(auto, using(crate::proofs::WordLemmas::word_taken))]
+    pub fn next(&mut self) -> Option<&'a [u8]>
+        ensures some { IfSome result (λ word. self.old ≡ word.now ∷ self.new) }
+        ensures none { IfNone result ((self.old ≡ []) × (self.new ≡ [])) }
+    {
+        let text = self.rest?;
+        let (word, behind) = text.split_at(reach(text));
+        self.rest = behind_word(behind);
+        Some(word)
+    }
+
+    /// No word is left.
+    #[tactic(auto, using(crate::proofs::WordLemmas::some_left))]
+    pub fn is_at_end(&self) -> bool
+        ensures { result ≡ words.is_end self.now }
+    {
+        self.rest.is_none()
+    }
+
+    /// The one word that is left.
+    pub fn only(self) -> Option<&'a [u8]>
+        ensures { option_map (λ word. word.now) result ≡ words.only self.entry }
+    {
+        let mut words = self;
+        let word = words.next()?;
+        if words.is_at_end() { Some(word) } else { None }
+    }
 }

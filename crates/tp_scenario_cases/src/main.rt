@@ -1,6 +1,10 @@
-//! Reads scenarios, most of which are damaged, and says how many are answered as their table wants.
+//! Reads scenarios, most of which are damaged, and says how many are answered as their table wants: with what they say, or
+//! with why they are refused.
 #![tactic(auto)]
 
+mod said;
+
+use said::line_of;
 use std::alloc::Global;
 use std::fs::{self, Files};
 use std::io;
@@ -48,7 +52,10 @@ fn refusal(alloc: Global, why: &ScenarioError) -> Result<String, NoMemory> {
 
 fn answer(alloc: Global, text: &str) -> Result<String, NoMemory> {
     match read(alloc, text.as_bytes()) {
-        Ok(_) => Ok(String::from_str(alloc, "ok")?),
+        Ok(scenario) => match line_of(alloc, &scenario)? {
+            Some(line) => Ok(line),
+            None => Ok(String::from_str(alloc, "ok, and a part is missing")?),
+        },
         Err(why) => refusal(alloc, &why),
     }
 }

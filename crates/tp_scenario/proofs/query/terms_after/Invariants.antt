@@ -1,7 +1,9 @@
-use Rattle.std.proofs.Common.{◌≡◌, ◌∷◌, [], None, drop}
+use Rattle.std.proofs.Common.{◌≡◌, ◌∷◌, [], length}
 use Rattle.tp_scenario.specs.Queries.{terms_after}
-use Rattle.tp_scenario.specs.mirrors.Texts.{texts}
 use Rattle.tp_scenario.proofs.query.terms_after.Given as goal
 
-abbrev pub invariant-loop-word : goal.invariant-loop-word
-invariant-loop-word l = terms_after l.sign l.made (texts (drop l.word-index l.words)) ≡ terms_after None (l.fn.first ∷ []) (texts l.words)
+abbrev pub invariant-loop-sign : goal.invariant-loop-sign
+invariant-loop-sign l = terms_after l.made l.left ≡ terms_after (l.fn.first ∷ []) l.initial.left
+
+abbrev pub decreases-loop-sign : goal.decreases-loop-sign
+decreases-loop-sign l = length l.left
