@@ -4,13 +4,12 @@ use Rattle.std.specs.Option.{option_map_or}
 use Rattle.std.specs.Prelude.{Err, IsErrOf}
 use Rattle.std.proofs.Math.Seq.{take-add}
 use Rattle.std.proofs.lemmas.List.{drop-drop, length-drop, take_all}
-use Rattle.tp_types.specs.declared.scenario.Scenario.{Scenario}
-use Rattle.tp_types.specs.declared.scenario.Step.{Step}
+use Rattle.tp_model.specs.Words.{Scenario, Step}
 use Rattle.tp_machine.specs.declared.error.StepError.{StepError}
 use Rattle.tp_machine.specs.declared.error.StepError.TheVariants as error
 use Rattle.tp_machine.specs.Machine.{Machine, after_step, after_steps, done, refusal}
 use Rattle.tp_machine.specs.Seen.{Does, GivesUp, Refuses, Seen}
-use Rattle.tp_machine.proofs.MachineLemmas.{after_steps-snoc}
+use Rattle.tp_machine.proofs.basics.Machine.{after_steps-snoc}
 use Rattle.tp_top.specs.Auto.{Drains, IsSpent, Stops, automatic_from, next_of, stepped, steps_of}
 
 -- ---- lists

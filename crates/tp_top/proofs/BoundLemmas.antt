@@ -1,7 +1,7 @@
 -- What the numbers of the bound are at most.
 use Rattle.std.proofs.Common.{◌≡◌, ℕ, ◌+◌, ◌*◌, ◌≤◌, max, length, true, ap, ◌∙◌, arith}
 use Rattle.std.proofs.lemmas.Nat.{mul-le}
-use Rattle.tp_types.specs.declared.scenario.Scenario.{Scenario}
+use Rattle.tp_model.specs.Words.{Scenario}
 use Rattle.tp_model.specs.Built.{is_built}
 use Rattle.tp_model.proofs.RuleLemmas.{few_servers, few_txns, valid_built}
 use Rattle.tp_model.proofs.WorkLemmas.{txn_built}

@@ -1,32 +1,17 @@
 -- A built scenario is of one shape: all but names, an item's bounds and value, and one constant is fixed.
 use Rattle.std.proofs.lemmas.Bool.{and_parts}
 use Rattle.std.proofs.Common.{◌≡◌, ℕ, ◌==◌, List, [], ◌∷◌, Bool, true, ℤ, refl, ap, ◌∙◌}
-use Rattle.tp_types.specs.declared.ids.ItemId.{ItemId}
-use Rattle.tp_types.specs.declared.ids.TxnId.{TxnId}
-use Rattle.tp_types.specs.declared.ids.Version.{Version}
-use Rattle.tp_types.specs.declared.ids.CredId.{CredId}
-use Rattle.tp_types.specs.declared.scenario.Admin.{Admin}
-use Rattle.tp_types.specs.declared.scenario.Credential.{Credential}
-use Rattle.tp_types.specs.declared.scenario.Item.{Item}
-use Rattle.tp_types.specs.declared.scenario.Level.{Level}
+use Rattle.tp_model.specs.Words.{Admin, CredId, Credential, Item, ItemId, Level, Operand, Query, Scenario, Scheme, ServerDecl, Step, Term, Transaction, TxnId, Version}
+use Rattle.tp_model.specs.Words.scheme
 use Rattle.tp_types.specs.declared.scenario.Level.TheVariants.{View, Global}
-use Rattle.tp_types.specs.declared.scenario.Operand.{Operand}
 use Rattle.tp_types.specs.declared.scenario.Operand.TheVariants.{Constant, Register}
-use Rattle.tp_types.specs.declared.scenario.Query.{Query}
 use Rattle.tp_types.specs.declared.scenario.Query.TheVariants.{Read, Write}
-use Rattle.tp_types.specs.declared.scenario.Scenario.{Scenario}
-use Rattle.tp_types.specs.declared.scenario.Scheme.{Scheme}
-use Rattle.tp_types.specs.declared.scenario.Scheme.TheVariants as scheme
-use Rattle.tp_types.specs.declared.scenario.ServerDecl.{ServerDecl}
-use Rattle.tp_types.specs.declared.scenario.Step.{Step}
-use Rattle.tp_types.specs.declared.scenario.Term.{Term}
-use Rattle.tp_types.specs.declared.scenario.Transaction.{Transaction}
 use Rattle.tp_model.specs.Built.{is_built}
 use Rattle.tp_model.specs.Stage.{is_deferred, is_empty, is_view}
 use Rattle.tp_model.proofs.FirstForm.{form_built, is_first_constant, is_first_item, is_first_query, is_first_server, is_first_term, is_first_txn}
 use Rattle.tp_model.specs.Limits.{is_between}
 use Rattle.tp_model.specs.Queries.{signed, term_value}
-use Rattle.tp_machine.proofs.SoundBuilt.{HasForm, IsOnly, has_form, number_is, single_is}
+use Rattle.tp_machine.proofs.ids.Built.{HasForm, IsOnly, has_form, number_is, single_is}
 
 -- ---- the shape
 

@@ -1,26 +1,20 @@
 -- Provisional: that the one run of a built scenario ends with all decided and settled, by walking its nine automatic steps. The rule of
 -- timers will replace it. Nothing about proofs, agreement or data rests on it.
 use Rattle.std.proofs.Common.{◌≡◌, ℕ, ◌&&◌, [], ◌∷◌, Bool, true, Option, Some, None, unwrap_or, if◌then◌else◌, refl, sym, ap, subst, ◌∙◌}
-use Rattle.tp_types.specs.declared.ids.ServerId.{ServerId}
-use Rattle.tp_types.specs.declared.ids.TxnId.{TxnId}
-use Rattle.tp_types.specs.declared.mail.Body.{Body}
-use Rattle.tp_types.specs.declared.mail.Body.TheVariants as body
-use Rattle.tp_types.specs.declared.mail.Mail.{Mail}
-use Rattle.tp_types.specs.declared.mail.PrepareRequest.{PrepareRequest}
-use Rattle.tp_types.specs.declared.records.Staple.{Staple}
-use Rattle.tp_types.specs.declared.scenario.Scenario.{Scenario}
-use Rattle.tp_types.specs.declared.scenario.Step.TheVariants as step
+use Rattle.tp_model.specs.Words.{Body, Mail, PrepareRequest, Scenario, ServerId, Staple, TxnId}
+use Rattle.tp_model.specs.Words.body
+use Rattle.tp_model.specs.Words.step
 use Rattle.std.specs.Prelude.{slice_get}
 use Rattle.tp_model.specs.Built.{is_built}
 use Rattle.tp_model.specs.Limits.{is_between}
 use Rattle.tp_model.specs.TrustedHistory.{have_ended}
-use Rattle.tp_machine.specs.declared.part.Part.{Part}
+use Rattle.tp_machine.specs.Parts.{Part}
 use Rattle.tp_machine.specs.declared.server.Entry.{Entry}
-use Rattle.tp_machine.specs.declared.server.Server.{Server}
-use Rattle.tp_types.specs.Effect.{Effect, silent}
+use Rattle.tp_machine.specs.server.State.{Server}
+use Rattle.tp_types.specs.Effect.{Effect, unbuilt}
 use Rattle.tp_machine.specs.Machine.{Machine, acts_by, after_steps, concluded, opening, server_acted, server_fact, with_new, without_number}
 use Rattle.tp_machine.specs.server.Opened as server
-use Rattle.tp_machine.specs.server.Row.{entry_at, may_prepare, votes}
+use Rattle.tp_machine.specs.server.Row.{are_in_range, entry_at, votes}
 use Rattle.tp_top.specs.Auto.{automatic_from}
 use Rattle.tp_top.specs.Run.{final}
 use Rattle.tp_top.proofs.FirstForm.{HasLeaves, Leaves, has_leaves, scenario_of, written}
@@ -84,16 +78,16 @@ abbrev vote_of : Leaves → Effect Server
 vote_of l = votes (scenario_of l) (server_asked l) (request_asked l) (place_of (request_asked l).staple) (entry_asked l)
 
 sixth : (l : Leaves) → settled_by (scenario_of l) 3711 (asked l)
-    ≡ settled_by (scenario_of l) 3710 (after_act l (if may_prepare (scenario_of l) (request_asked l) (entry_asked l) then vote_of l else silent (server_asked l)))
+    ≡ settled_by (scenario_of l) 3710 (after_act l (if are_in_range (scenario_of l) (entry_asked l).deeds then vote_of l else unbuilt (server_asked l)))
 sixth l = refl
 
-may_vote : (l : Leaves) → is_between l.min l.max (written l) ≡ true → may_prepare (scenario_of l) (request_asked l) (entry_asked l) ≡ true
-may_vote l e = ap (λ (b : Bool). (b && true) && true) e
+may_vote : (l : Leaves) → is_between l.min l.max (written l) ≡ true → are_in_range (scenario_of l) (entry_asked l).deeds ≡ true
+may_vote l e = ap (λ (b : Bool). b && true) e
 
 voted : (l : Leaves) → is_between l.min l.max (written l) ≡ true → final (scenario_of l) ≡ settled_by (scenario_of l) 3710 (after_act l (vote_of l))
 voted l e =
     first_five l
-    ∙ (sixth l ∙ ap (λ (b : Bool). settled_by (scenario_of l) 3710 (after_act l (if b then vote_of l else silent (server_asked l)))) (may_vote l e))
+    ∙ (sixth l ∙ ap (λ (b : Bool). settled_by (scenario_of l) 3710 (after_act l (if b then vote_of l else unbuilt (server_asked l)))) (may_vote l e))
 
 -- ---- the end
 

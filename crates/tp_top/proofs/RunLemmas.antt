@@ -1,8 +1,7 @@
 -- What the run of a built scenario gives: no steps are listed, so the automatic ones begin at the opening world.
 use Rattle.std.proofs.Common.{◌≡◌, ◌⊎◌, inl, inr, ℕ, zero, suc, ◌≤◌, List, [], ◌∷◌, length, Bool, true, Option, Some, None, Ok, sym, ap, subst, ◌∙◌, arith}
 use Rattle.std.specs.Option.{option_map_or}
-use Rattle.tp_types.specs.declared.scenario.Scenario.{Scenario}
-use Rattle.tp_types.specs.declared.scenario.Step.{Step}
+use Rattle.tp_model.specs.Words.{Scenario, Step}
 use Rattle.tp_model.specs.Built.{is_built}
 use Rattle.tp_model.proofs.BuiltLemmas.{steps_built}
 use Rattle.tp_machine.specs.Machine.{Machine, State, after, after_step, after_steps, ending_of, opening}

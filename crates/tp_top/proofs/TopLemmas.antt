@@ -3,7 +3,7 @@ use Rattle.std.proofs.Common.{◌≡◌, inl, inr, ℕ, ◌+◌, ◌<◌, List, 
 use Rattle.std.proofs.lemmas.List.{length-append, append-nil}
 use Rattle.std.specs.Prelude.{IfSome}
 use Rattle.std.specs.Io.KnownBytes.{Appends, Consumes}
-use Rattle.tp_types.specs.declared.scenario.Scenario.{Scenario}
+use Rattle.tp_model.specs.Words.{Scenario}
 use Rattle.tp_scenario.proofs.ReadLemmas.{says_one}
 use Rattle.tp_io.specs.Whole.{TakesAtMost, TakesExactly, input_max}
 use Rattle.tp_scenario.specs.declared.from_bytes.ScenarioError.{ScenarioError}

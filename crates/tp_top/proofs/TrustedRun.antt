@@ -4,11 +4,9 @@ use Rattle.std.specs.List.{range_with_len}
 use Rattle.std.proofs.lemmas.Bool.Decides.{nat_tests}
 use Rattle.std.proofs.lemmas.List.{length-append}
 use Rattle.std.proofs.lemmas.Option.{same_Some}
-use Rattle.tp_types.specs.declared.fact.What.TheVariants as what
-use Rattle.tp_types.specs.declared.ids.TxnId.{TxnId}
-use Rattle.tp_types.specs.declared.scenario.Scenario.{Scenario}
-use Rattle.tp_types.specs.declared.scenario.Step.{Step}
-use Rattle.tp_types.specs.declared.scenario.Step.TheVariants as step
+use Rattle.tp_model.specs.Words.{Scenario, Step, TxnId}
+use Rattle.tp_model.specs.Words.step
+use Rattle.tp_model.specs.Words.what
 use Rattle.tp_model.specs.Built.{is_built}
 use Rattle.tp_model.specs.TrustedHistory.{TrustedHistory, TrustedSoFar, have_ended}
 use Rattle.tp_model.proofs.BuiltLemmas.{steps_built}
@@ -18,8 +16,8 @@ use Rattle.tp_machine.specs.Laws.{HasAllCommits, IsTrustedState}
 use Rattle.tp_machine.specs.Machine.{Machine, State, Turn, after, after_step, after_steps, concluded, delivered, done, ending_of, idles, is_submitted, opening, posted, refusal, submitted, with_new, without_number}
 use Rattle.tp_machine.specs.Seen.{IsTaken}
 use Rattle.tp_machine.specs.Sound.{Each, IsStepOf, IsTxn}
-use Rattle.tp_machine.proofs.MachineLemmas.{steps_done}
-use Rattle.tp_machine.proofs.SoundLists.{each_append, each_as, each_filter, each_map}
+use Rattle.tp_machine.proofs.basics.Machine.{steps_done}
+use Rattle.tp_machine.proofs.basics.Lists.{each_append, each_as, each_filter, each_map}
 use Rattle.tp_top.specs.Auto.{automatic_from, lowest_unsubmitted, next_by, next_of, txns_of}
 use Rattle.tp_top.specs.Run.{all_steps, automatic, automatic_bound, final, listed}
 use Rattle.tp_top.proofs.AutoLemmas.{after_done, automatic-none, automatic-some}

@@ -2,11 +2,8 @@
 use Rattle.std.specs.Prelude.{◌≡◌, ◌<◌, ℕ, ◌+◌, ◌*◌, max, List, [], ◌∷◌, length, map, find, fold, slice_get, take, Bool, false, not, Option, Some, None, is_none, option_map, zero, suc}
 use Rattle.std.specs.List.{range_with_len}
 use Rattle.std.specs.Option.{option_map_or}
-use Rattle.tp_types.specs.declared.ids.TxnId.{TxnId}
-use Rattle.tp_types.specs.declared.scenario.Scenario.{Scenario}
-use Rattle.tp_types.specs.declared.scenario.Step.{Step}
-use Rattle.tp_types.specs.declared.scenario.Step.TheVariants as step
-use Rattle.tp_types.specs.declared.scenario.Transaction.{Transaction}
+use Rattle.tp_model.specs.Words.{Scenario, Step, Transaction, TxnId}
+use Rattle.tp_model.specs.Words.step
 use Rattle.tp_machine.specs.declared.actors.Actors.{Actors}
 use Rattle.tp_machine.specs.Machine.{Machine, after_step, after_steps, is_submitted}
 use Rattle.tp_machine.specs.Seen.{GivesUp, Seen}

@@ -3,33 +3,13 @@ use Rattle.std.specs.Prelude.{ℕ, ◌+◌, List, [], ◌∷◌, ◌++◌, Optio
 use Rattle.std.specs.Fmt.{signed_decimal}
 use Rattle.std.specs.List.{flat_map}
 use Rattle.std.specs.Option.{option_map_or}
-use Rattle.tp_types.specs.declared.fact.Ending.{Ending}
-use Rattle.tp_types.specs.declared.fact.Fact.{Fact}
-use Rattle.tp_types.specs.declared.fact.What.{What}
+use Rattle.tp_model.specs.Words.{Action, Actor, AdminId, Cause, CommitRecord, CredId, Decision, Deed, Ending, Fact, Instance, ItemId, Met, Outcome, Scenario, ServerDecl, ServerId, TxnId, Verdict, Version, What}
 use Rattle.tp_types.specs.declared.fact.What.TheVariants.{Submitted, Published, Revoked, Ticked, Crashed, Lost, Decided, Settled}
-use Rattle.tp_types.specs.declared.ids.AdminId.{AdminId}
-use Rattle.tp_types.specs.declared.ids.CredId.{CredId}
-use Rattle.tp_types.specs.declared.ids.ItemId.{ItemId}
-use Rattle.tp_types.specs.declared.ids.ServerId.{ServerId}
-use Rattle.tp_types.specs.declared.ids.TxnId.{TxnId}
-use Rattle.tp_types.specs.declared.ids.Version.{Version}
-use Rattle.tp_types.specs.declared.policy.Action.{Action}
 use Rattle.tp_types.specs.declared.policy.Action.TheVariants.{Read, Write}
-use Rattle.tp_types.specs.declared.records.Cause.{Cause}
 use Rattle.tp_types.specs.declared.records.Cause.TheVariants.{Denied, No, Died, Newer, Rounds, Restarted, Halted}
-use Rattle.tp_types.specs.declared.records.CommitRecord.{CommitRecord}
-use Rattle.tp_types.specs.declared.records.Decision.{Decision}
 use Rattle.tp_types.specs.declared.records.Decision.TheVariants.{Commit as Commits, Abort as Aborts}
-use Rattle.tp_types.specs.declared.records.Deed.{Deed}
-use Rattle.tp_types.specs.declared.records.Instance.{Instance}
-use Rattle.tp_types.specs.declared.records.Met.{Met}
-use Rattle.tp_types.specs.declared.records.Outcome.{Outcome}
 use Rattle.tp_types.specs.declared.records.Outcome.TheVariants.{Commit, Abort}
-use Rattle.tp_types.specs.declared.records.Verdict.{Verdict}
-use Rattle.tp_types.specs.declared.scenario.Actor.{Actor}
 use Rattle.tp_types.specs.declared.scenario.Actor.TheVariants.{Server, Coordinator, Master, Authority}
-use Rattle.tp_types.specs.declared.scenario.Scenario.{Scenario}
-use Rattle.tp_types.specs.declared.scenario.ServerDecl.{ServerDecl}
 
 -- the name of an administrator, or nothing where the scenario does not have it
 abbrev pub admin_name : Scenario → AdminId → List ℕ

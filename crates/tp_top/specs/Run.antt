@@ -1,9 +1,7 @@
 -- What a run is: from bytes to the world after all steps, and its report.
 use Rattle.std.specs.Prelude.{◌≡◌, ℕ, ◌+◌, ◌≤◌, List, [], ◌∷◌, ◌++◌, length, true, false, Option, Some, None, Ok, Err, codes}
 use Rattle.std.specs.Io.KnownBytes.{Consumes, IsAtEnd}
-use Rattle.tp_types.specs.declared.name.Text.{Text}
-use Rattle.tp_types.specs.declared.scenario.Scenario.{Scenario}
-use Rattle.tp_types.specs.declared.scenario.Step.{Step}
+use Rattle.tp_model.specs.Words.{Scenario, Step, Text}
 use Rattle.tp_io.specs.Faults.{Rose}
 use Rattle.tp_io.specs.Whole.{TakesAtMost, TakesExactly, input_max}
 use Rattle.tp_model.specs.TrustedHistory.{TrustedHistory}

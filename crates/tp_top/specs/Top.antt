@@ -1,110 +1,137 @@
 -- What the top call promises at each status: what was read, what was written, and why.
 use Rattle.std.specs.Prelude.{◌≡◌, ◌⊎◌, ◌<◌, ℕ, ◌+◌, List, [], length, true, false, Option}
 use Rattle.std.specs.Io.KnownBytes.{Appends}
-use Rattle.tp_types.specs.declared.name.Text.{Text}
-use Rattle.tp_types.specs.declared.scenario.Scenario.{Scenario}
+use Rattle.tp_model.specs.Words.{Scenario, Text}
 use Rattle.tp_io.specs.Faults.{Rose}
 use Rattle.tp_io.specs.Whole.{AppendsFront, TakesAtMost, input_max}
 use Rattle.tp_scenario.specs.declared.from_bytes.ScenarioError.{ScenarioError}
 use Rattle.tp_scenario.specs.declared.from_bytes.ScenarioError.TheVariants as error
 use Rattle.tp_top.specs.declared.status.Status.{Status}
-use Rattle.tp_top.specs.declared.status.Status.TheVariants.{Done, Refused, NoMemory, Budget}
+use Rattle.tp_top.specs.declared.status.Status.TheVariants.{Done, Refused, Usage, ReadFault, WriteFault, NoMemory, Budget}
 use Rattle.tp_top.specs.Auto.{is_quiet}
 use Rattle.tp_top.specs.Refusals.{refusal_line, usage_line}
 use Rattle.tp_top.specs.Run.{IsRun, IsRefusedFor, IsRefusedWith, Reads, RunsOut, RunsTo, final}
 
+-- what a call saw of a stream: what it tells before the call and after it, and its counts of faults
+pub record Stream : Type 0 where
+  pub old : Option (List ℕ)
+  pub new : Option (List ℕ)
+  pub faults_old : ℕ
+  pub faults_new : ℕ
+
+-- a call: its words, and what it saw of its streams
+pub record Call : Type 0 where
+  pub words : List Text
+  pub input : Stream
+  pub out : Stream
+  pub notes : Stream
+
 -- nothing was written
-abbrev pub Untouched : Option (List ℕ) → Option (List ℕ) → Type 0
-Untouched old new = Appends old new []
+abbrev pub Untouched : Stream → Type 0
+Untouched sink = Appends sink.old sink.new []
+
+-- the count of faults rose
+abbrev pub Failed : Stream → Type 0
+Failed stream = Rose stream.faults_old stream.faults_new
 
 -- the input was read whole as a scenario whose run comes to rest, and exactly its report was written
-pub record WritesReport (left left' out out' : Option (List ℕ)) : Type 0 where
+pub record WritesReport (input out : Stream) : Type 0 where
   pub text : List ℕ
-  pub runs : RunsTo left left' text
-  pub written : Appends out out' text
+  pub runs : RunsTo input.old input.new text
+  pub written : Appends out.old out.new text
 
 -- the input was refused, and exactly the line that says why was written
-pub record WritesRefusal (left left' notes notes' : Option (List ℕ)) : Type 0 where
+pub record WritesRefusal (input notes : Stream) : Type 0 where
   pub why : ScenarioError
-  pub cause : IsRefusedFor left left' why
-  pub written : Appends notes notes' (refusal_line why)
+  pub cause : IsRefusedFor input.old input.new why
+  pub written : Appends notes.old notes.new (refusal_line why)
 
 -- the report was to be written, and the sink failed after a part of it
-pub record FailsInReport (left left' out out' : Option (List ℕ)) (faults faults' : ℕ) : Type 0 where
+pub record FailsInReport (input out : Stream) : Type 0 where
   pub text : List ℕ
-  pub runs : RunsTo left left' text
-  pub front : AppendsFront out out' text
-  pub rose : Rose faults faults'
+  pub runs : RunsTo input.old input.new text
+  pub front : AppendsFront out.old out.new text
+  pub rose : Failed out
 
 -- the line of a refusal was to be written, and the sink failed after a part of it
-pub record FailsInRefusal (left left' notes notes' : Option (List ℕ)) (faults faults' : ℕ) : Type 0 where
+pub record FailsInRefusal (input notes : Stream) : Type 0 where
   pub why : ScenarioError
-  pub cause : IsRefusedFor left left' why
-  pub front : AppendsFront notes notes' (refusal_line why)
-  pub rose : Rose faults faults'
+  pub cause : IsRefusedFor input.old input.new why
+  pub front : AppendsFront notes.old notes.new (refusal_line why)
+  pub rose : Failed notes
 
 -- the line on usage was to be written, and the sink failed after a part of it
-pub record FailsInUsage (notes notes' : Option (List ℕ)) (faults faults' : ℕ) : Type 0 where
-  pub front : AppendsFront notes notes' usage_line
-  pub rose : Rose faults faults'
+pub record FailsInUsage (notes : Stream) : Type 0 where
+  pub front : AppendsFront notes.old notes.new usage_line
+  pub rose : Failed notes
 
 -- ---- at each status
 
 -- the words are the one word run, the report was written to out, and nothing to notes
-pub record IsDone (words : List Text) (left left' out out' notes notes' : Option (List ℕ)) : Type 0 where
-  pub words_are : IsRun words
-  pub report : WritesReport left left' out out'
-  pub notes_kept : Untouched notes notes'
+pub record IsDone (call : Call) : Type 0 where
+  pub words_are : IsRun call.words
+  pub report : WritesReport call.input call.out
+  pub notes_kept : Untouched call.notes
 
 -- the words are the one word run, the refusal was written to notes, and nothing to out
-pub record IsRefused (words : List Text) (left left' out out' notes notes' : Option (List ℕ)) : Type 0 where
-  pub words_are : IsRun words
-  pub refusal : WritesRefusal left left' notes notes'
-  pub out_kept : Untouched out out'
+pub record IsRefused (call : Call) : Type 0 where
+  pub words_are : IsRun call.words
+  pub refusal : WritesRefusal call.input call.notes
+  pub out_kept : Untouched call.out
 
 -- the words are another command, the line on usage was written to notes, and nothing to out
-pub record IsUsage (words : List Text) (out out' notes notes' : Option (List ℕ)) : Type 0 where
-  pub no_command : ¬ (IsRun words)
-  pub written : Appends notes notes' usage_line
-  pub out_kept : Untouched out out'
+pub record IsUsage (call : Call) : Type 0 where
+  pub no_command : ¬ (IsRun call.words)
+  pub written : Appends call.notes.old call.notes.new usage_line
+  pub out_kept : Untouched call.out
 
 -- the words are the one word run, the input failed after a part of it, and nothing was written
-pub record IsReadFault (words : List Text) (left left' out out' notes notes' : Option (List ℕ)) (faults faults' : ℕ) : Type 0 where
-  pub words_are : IsRun words
-  pub rose : Rose faults faults'
-  pub taken : TakesAtMost (input_max + 1) left left'
-  pub out_kept : Untouched out out'
-  pub notes_kept : Untouched notes notes'
+pub record IsReadFault (call : Call) : Type 0 where
+  pub words_are : IsRun call.words
+  pub rose : Failed call.input
+  pub taken : TakesAtMost (input_max + 1) call.input.old call.input.new
+  pub out_kept : Untouched call.out
+  pub notes_kept : Untouched call.notes
 
 -- the words are the one word run, the automatic steps came to their bound, and nothing was written
-pub record IsBudget (words : List Text) (left left' out out' notes notes' : Option (List ℕ)) : Type 0 where
-  pub words_are : IsRun words
-  pub runs_out : RunsOut left left'
-  pub out_kept : Untouched out out'
-  pub notes_kept : Untouched notes notes'
+pub record IsBudget (call : Call) : Type 0 where
+  pub words_are : IsRun call.words
+  pub runs_out : RunsOut call.input.old call.input.new
+  pub out_kept : Untouched call.out
+  pub notes_kept : Untouched call.notes
 
 -- nothing was written
-pub record IsNoMemory (out out' notes notes' : Option (List ℕ)) : Type 0 where
-  pub out_kept : Untouched out out'
-  pub notes_kept : Untouched notes notes'
+pub record IsNoMemory (call : Call) : Type 0 where
+  pub out_kept : Untouched call.out
+  pub notes_kept : Untouched call.notes
 
 -- out failed in the report, and notes were kept
-pub record IsOutFault (words : List Text) (left left' out out' notes notes' : Option (List ℕ)) (faults faults' : ℕ) : Type 0 where
-  pub words_are : IsRun words
-  pub report : FailsInReport left left' out out' faults faults'
-  pub notes_kept : Untouched notes notes'
+pub record IsOutFault (call : Call) : Type 0 where
+  pub words_are : IsRun call.words
+  pub report : FailsInReport call.input call.out
+  pub notes_kept : Untouched call.notes
 
 -- notes failed in the line of a refusal, and out was kept
-pub record IsRefusalFault (words : List Text) (left left' out out' notes notes' : Option (List ℕ)) (faults faults' : ℕ) : Type 0 where
-  pub words_are : IsRun words
-  pub refusal : FailsInRefusal left left' notes notes' faults faults'
-  pub out_kept : Untouched out out'
+pub record IsRefusalFault (call : Call) : Type 0 where
+  pub words_are : IsRun call.words
+  pub refusal : FailsInRefusal call.input call.notes
+  pub out_kept : Untouched call.out
 
 -- notes failed in the line on usage, and out was kept
-pub record IsUsageFault (words : List Text) (out out' notes notes' : Option (List ℕ)) (faults faults' : ℕ) : Type 0 where
-  pub no_command : ¬ (IsRun words)
-  pub usage : FailsInUsage notes notes' faults faults'
-  pub out_kept : Untouched out out'
+pub record IsUsageFault (call : Call) : Type 0 where
+  pub no_command : ¬ (IsRun call.words)
+  pub usage : FailsInUsage call.notes
+  pub out_kept : Untouched call.out
+
+-- what a call was, by its status
+abbrev pub EndsWith : Status → Call → Type 0
+EndsWith Done call = IsDone call
+EndsWith Refused call = IsRefused call
+EndsWith Usage call = IsUsage call
+EndsWith ReadFault call = IsReadFault call
+EndsWith WriteFault call = IsOutFault call ⊎ (IsRefusalFault call ⊎ IsUsageFault call)
+EndsWith NoMemory call = IsNoMemory call
+EndsWith Budget call = IsBudget call
 
 -- ---- which status comes, where the input is told and no count rose
 

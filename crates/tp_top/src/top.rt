@@ -6,8 +6,7 @@ ghost use Rattle.tp_io.specs.Whole.{TakesAtMost, input_max};
 ghost use Rattle.tp_top.specs.declared.status.Status.TheVariants as Status;
 ghost use Rattle.tp_top.specs.Refusals.{usage_line};
 ghost use Rattle.tp_top.specs.Run.{IsRun, IsRefusedFor, RunsTo};
-ghost use Rattle.tp_top.specs.Top as top;
-ghost use Rattle.tp_top.specs.Top.{IsDone, IsRefused, IsUsage, IsReadFault, IsBudget, IsNoMemory, IsOutFault, IsRefusalFault, IsUsageFault, EndsRightly};
+ghost use Rattle.tp_top.specs.Top.{EndsWith, EndsRightly};
 
 use crate::answer::{Answer, answer_to, refusal_line};
 use crate::status::Status;
@@ -25,22 +24,12 @@ pub fn tpvc<I: Source, O: Sink, N: Sink>(
     out: &mut O,
     notes: &mut N,
 ) -> Status
-    ensures done { result ≡ Status.Done
-        → IsDone words.now (I.left input.old) (I.left input.new) (O.written out.old) (O.written out.new) (N.written notes.old) (N.written notes.new) }
-    ensures refused { result ≡ Status.Refused
-        → IsRefused words.now (I.left input.old) (I.left input.new) (O.written out.old) (O.written out.new) (N.written notes.old) (N.written notes.new) }
-    ensures usage { result ≡ Status.Usage
-        → IsUsage words.now (O.written out.old) (O.written out.new) (N.written notes.old) (N.written notes.new) }
-    ensures read_fault { result ≡ Status.ReadFault
-        → IsReadFault words.now (I.left input.old) (I.left input.new) (O.written out.old) (O.written out.new) (N.written notes.old) (N.written notes.new) (I.faults input.old) (I.faults input.new) }
-    ensures write_fault { result ≡ Status.WriteFault
-        → IsOutFault words.now (I.left input.old) (I.left input.new) (O.written out.old) (O.written out.new) (N.written notes.old) (N.written notes.new) (O.faults out.old) (O.faults out.new)
-        ⊎ (IsRefusalFault words.now (I.left input.old) (I.left input.new) (O.written out.old) (O.written out.new) (N.written notes.old) (N.written notes.new) (N.faults notes.old) (N.faults notes.new)
-        ⊎ IsUsageFault words.now (O.written out.old) (O.written out.new) (N.written notes.old) (N.written notes.new) (N.faults notes.old) (N.faults notes.new)) }
-    ensures no_memory { result ≡ Status.NoMemory
-        → IsNoMemory (O.written out.old) (O.written out.new) (N.written notes.old) (N.written notes.new) }
-    ensures budget { result ≡ Status.Budget
-        → IsBudget words.now (I.left input.old) (I.left input.new) (O.written out.old) (O.written out.new) (N.written notes.old) (N.written notes.new) }
+    ensures ended { EndsWith result (record {
+        words = words.now;
+        input = record { old = I.left input.old; new = I.left input.new; faults_old = I.faults input.old; faults_new = I.faults input.new };
+        out = record { old = O.written out.old; new = O.written out.new; faults_old = O.faults out.old; faults_new = O.faults out.new };
+        notes = record { old = N.written notes.old; new = N.written notes.new; faults_old = N.faults notes.old; faults_new = N.faults notes.new };
+    }) }
 
     // Where no count rose, another command is answered by usage, and each cause in an input that is told by its status.
     ensures called { ¬ (IsRun words.now) → ¬ (Rose (N.faults notes.old) (N.faults notes.new)) → result ≡ Status.Usage }

@@ -3,10 +3,10 @@ use Rattle.std.proofs.KnownBytes.{Appends-nil}
 use Rattle.tp_top.proofs.TopLemmas.{refusal_complete, report_complete, budget_complete}
 use Rattle.tp_top.proofs.top.tpvc.Goals as goal
 
-pub returns-in-Refused-clause-write_fault : goal.returns-in-Refused-clause-write_fault
-returns-in-Refused-clause-write_fault g c =
+pub returns-in-Refused-clause-ended : goal.returns-in-Refused-clause-ended
+returns-in-Refused-clause-ended g c =
     let line = c.as_slice-in-Ok-refusal_line.ensures ∙ c.in-Ok-refusal_line.ensures in
-    λ _. inr (inl (record {
+    inr (inl (record {
       words_are = search rules;
       refusal = record {
         why = c.in-Refused.why;
@@ -28,8 +28,8 @@ returns-in-Ok-write_all-clause-complete g c = λ _ _ _ _. report_complete _ _ _ 
 pub returns-in-Budget-clause-complete : goal.returns-in-Budget-clause-complete
 returns-in-Budget-clause-complete g c = λ _ _ _ _. budget_complete _ _ _ _ c.in-Budget.ensures.cause
 
-pub returns-in-Ok-write_all-clause-done : goal.returns-in-Ok-write_all-clause-done
-returns-in-Ok-write_all-clause-done g c = λ _. record {
+pub returns-in-Ok-write_all-clause-ended : goal.returns-in-Ok-write_all-clause-ended
+returns-in-Ok-write_all-clause-ended g c = record {
   words_are = search rules;
   report = record {
     text = c.in-Report.text.0;
@@ -39,8 +39,8 @@ returns-in-Ok-write_all-clause-done g c = λ _. record {
   notes_kept = Appends-nil _;
 }
 
-pub returns-in-Report-clause-write_fault : goal.returns-in-Report-clause-write_fault
-returns-in-Report-clause-write_fault g c = λ _. inl (record {
+pub returns-in-Report-clause-ended : goal.returns-in-Report-clause-ended
+returns-in-Report-clause-ended g c = inl (record {
   words_are = search rules;
   report = record {
     text = c.in-Report.text.0;
