@@ -4,3 +4,4 @@ pub mod Built
 pub mod Coordinator
 pub mod Server
 pub mod Steps
+pub mod Valid

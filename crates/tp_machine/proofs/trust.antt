@@ -10,3 +10,4 @@ pub mod Server
 pub mod Steps
 pub mod Turns
 pub mod World
+pub mod Offices

@@ -7,5 +7,4 @@ pub mod Seen
 pub mod Sound
 pub mod coord
 pub mod mirrors
-pub mod offices
 pub mod server

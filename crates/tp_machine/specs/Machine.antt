@@ -1,8 +1,8 @@
 -- The cluster as a machine: its state, what a step does to it, and the state after a list of steps.
-use Rattle.std.specs.Prelude.{ℕ, ◌+◌, ◌-◌, ◌==◌, List, [], ◌∷◌, ◌++◌, length, map, filter, drop, slice_get, slice_set, Bool, true, false, not, Option, Some, None, is_some, is_none, nat_lt, unwrap_or, ℤ, if◌then◌else◌}
+use Rattle.std.specs.Prelude.{ℕ, ◌+◌, ◌-◌, ◌^◌, ◌==◌, List, [], ◌∷◌, ◌++◌, length, map, filter, drop, slice_get, slice_set, Bool, true, false, not, Option, Some, None, is_some, is_none, nat_lt, unwrap_or, ℤ, if◌then◌else◌}
 use Rattle.std.specs.List.{flat_map, range_with_len}
 use Rattle.std.specs.Option.{option_map_or}
-use Rattle.tp_model.specs.Words.{Actor, Ending, Fact, Item, Letter, Mail, Record, Scenario, ServerId, Step, TxnId, What}
+use Rattle.tp_model.specs.Words.{Actor, CredId, Ending, Fact, Item, Letter, Mail, Record, Scenario, ServerId, Step, TxnId, What}
 use Rattle.tp_model.specs.Words.actor
 use Rattle.tp_model.specs.Words.log
 use Rattle.tp_model.specs.Words.step
@@ -16,7 +16,8 @@ use Rattle.tp_machine.specs.server.State.{Server}
 use Rattle.tp_types.specs.Effect.{Effect}
 use Rattle.tp_machine.specs.coord.Opened as coord
 use Rattle.tp_machine.specs.coord.Row.{coordinator_row, is_begun, submit_row, placed}
-use Rattle.tp_machine.specs.offices.Authority as office
+use Rattle.tp_offices.specs.Authority as office
+use Rattle.tp_offices.specs.Master as master
 use Rattle.tp_machine.specs.server.Opened as server
 use Rattle.tp_machine.specs.server.Row.{server_row}
 
@@ -155,12 +156,16 @@ abbrev pub to_authority : Actors → Mail → Turn
 to_authority actors mail =
     record { actors = actors; happened = []; letters = (office.authority_row actors.authority mail).reaction.letters }
 
--- a mail is delivered to its actor. The master is not built: what is sent to it is gone
+abbrev pub to_master : Actors → Mail → Turn
+to_master actors mail =
+    record { actors = actors; happened = []; letters = (master.master_row actors.master mail).reaction.letters }
+
+-- a mail is delivered to its actor
 abbrev pub received : Scenario → Actors → Mail → Actor → Turn
 received sc actors mail (actor.Server at) = to_server sc actors mail at (slice_get actors.servers at.0)
 received sc actors mail (actor.Coordinator txn) = to_coordinator sc actors mail txn (slice_get actors.coordinators txn.0)
 received sc actors mail actor.Authority = to_authority actors mail
-received sc actors mail actor.Master = idles actors []
+received sc actors mail actor.Master = to_master actors mail
 
 -- a transaction is submitted
 abbrev pub submitted : Scenario → Actors → TxnId → ℕ → Turn
@@ -169,6 +174,16 @@ submitted sc actors txn place = submitted_by sc actors txn place (slice_get acto
 abbrev pub delivered : Scenario → Actors → Option Mail → Turn
 delivered sc actors None = idles actors []
 delivered sc actors (Some mail) = received sc actors mail mail.letter.to
+
+-- the clock moves
+abbrev pub ticks : Actors → ℕ → Turn
+ticks actors by =
+    record { actors = record actors { authority = office.ticked by actors.authority }; happened = what.Ticked by ∷ []; letters = [] }
+
+-- a credential is revoked
+abbrev pub revokes : Actors → CredId → Turn
+revokes actors cred =
+    record { actors = record actors { authority = office.revoked_with cred actors.authority }; happened = what.Revoked cred ∷ []; letters = [] }
 
 -- the numbers but this one
 abbrev pub without_number : List ℕ → ℕ → List ℕ
@@ -179,15 +194,20 @@ abbrev pub with_new : State → State → List ℕ → Machine
 with_new before after undelivered =
     record { state = after; undelivered = undelivered ++ range_with_len (length before.mails) (length after.mails - length before.mails) }
 
+-- a step is done that delivers and loses no mail
+abbrev pub does : Machine → Step → Turn → Machine
+does m taken turn = with_new m.state (concluded m.state taken turn) m.undelivered
+
 -- what a step does that is not refused. Other steps are not built, and change nothing
 abbrev pub done : Scenario → Machine → Step → Machine
-done sc m (step.Submit txn) =
-    with_new m.state (concluded m.state (step.Submit txn) (submitted sc m.state.actors txn (length m.state.steps))) m.undelivered
+done sc m (step.Submit txn) = does m (step.Submit txn) (submitted sc m.state.actors txn (length m.state.steps))
 done sc m (step.Deliver mail) =
     with_new m.state (concluded m.state (step.Deliver mail) (delivered sc m.state.actors (slice_get m.state.mails mail)))
     (without_number m.undelivered mail)
 done sc m (step.Lose mail) =
     with_new m.state (concluded m.state (step.Lose mail) (idles m.state.actors (what.Lost mail ∷ []))) (without_number m.undelivered mail)
+done sc m (step.Tick by) = does m (step.Tick by) (ticks m.state.actors by)
+done sc m (step.Revoke cred) = does m (step.Revoke cred) (revokes m.state.actors cred)
 done sc m _ = m
 
 -- a coordinator that is down was submitted before
@@ -202,11 +222,16 @@ is_submitted actors txn = option_map_or (λ (part : Part Coordinator). is_part_s
 abbrev pub missing_mail : List Mail → ℕ → Option StepError
 missing_mail mails mail = if nat_lt mail (length mails) then None else Some (error.NoSuchMail mail (length mails))
 
+-- a clock that would reach 2^63
+abbrev pub too_late : ℕ → ℕ → Option StepError
+too_late clock by = if nat_lt (clock + by) (2 ^ 63) then None else Some (error.TooLate clock)
+
 -- why a step is refused, if it is
 abbrev pub refusal : State → Step → Option StepError
 refusal w (step.Submit txn) = if is_submitted w.actors txn then Some (error.AlreadySubmitted txn) else None
 refusal w (step.Deliver mail) = missing_mail w.mails mail
 refusal w (step.Lose mail) = missing_mail w.mails mail
+refusal w (step.Tick by) = too_late w.actors.authority.clock by
 refusal w _ = None
 
 -- a step that is refused changes nothing
@@ -238,6 +263,7 @@ opened_actors sc =
       servers = opened_servers sc (length sc.servers);
       coordinators = idle_coordinators sc (length sc.txns);
       authority = office.opened sc;
+      master = master.opened sc;
     }
 
 abbrev pub opening_state : Scenario → State

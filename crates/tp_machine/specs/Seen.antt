@@ -50,10 +50,12 @@ pub record IsWorld (world : Seen) : Type 0 where
 abbrev pub IsTrustedSoFar : Seen → Type 0
 IsTrustedSoFar world = IsTrustedState world.scenario world.machine.state
 
--- a step of a kind that is built: a submission, or the delivery of a mail
+-- a step of a kind that is built: a submission, the delivery of a mail, or what the authority is told
 abbrev pub IsTaken : Step → Type 0
 IsTaken (step.Submit txn) = Unit {0}
 IsTaken (step.Deliver mail) = Unit {0}
+IsTaken (step.Tick by) = Unit {0}
+IsTaken (step.Revoke cred) = Unit {0}
 IsTaken _ = ⊥
 
 -- the step was not refused, and was done

@@ -21,7 +21,8 @@ use Rattle.tp_machine.specs.declared.coord.Phase.{Phase}
 use Rattle.tp_machine.specs.declared.coord.Phase.TheVariants as phase
 use Rattle.tp_machine.specs.declared.coord.Reply.{Reply}
 use Rattle.tp_machine.specs.declared.coord.Round.{Round}
-use Rattle.tp_machine.specs.offices.State.{Authority}
+use Rattle.tp_offices.specs.declared.authority.Authority.{Authority}
+use Rattle.tp_offices.specs.declared.master.Master.{Master}
 use Rattle.tp_machine.specs.Parts.{Part}
 use Rattle.tp_machine.specs.declared.server.Ballot.{Ballot}
 use Rattle.tp_machine.specs.declared.server.Entry.{Entry}
@@ -487,7 +488,11 @@ pub record IsSoundCoordinatorPart (sc : Scenario) (txn : TxnId) (part : Part Coo
 
 -- the credentials that the authority revoked exist
 abbrev pub IsSoundAuthority : Scenario → Authority → Type 0
-IsSoundAuthority sc authority = AreCreds sc authority.revoked
+IsSoundAuthority sc authority = Each (λ (place : Option CredId). IfSome place (IsCred sc)) authority.revoked
+
+-- the master knows a version of each administrator
+abbrev pub IsSoundMaster : Scenario → Master → Type 0
+IsSoundMaster sc master = AreVersions sc master.newest
 
 -- ---- the world
 
@@ -496,6 +501,7 @@ pub record AreSoundActors (sc : Scenario) (actors : Actors) : Type 0 where
   pub servers : EachAt (λ (n : ℕ) (part : Part Server). IsSoundServerPart sc (record { 0 = n }) part) actors.servers
   pub coordinators : EachAt (λ (n : ℕ) (part : Part Coordinator). IsSoundCoordinatorPart sc (record { 0 = n }) part) actors.coordinators
   pub authority : IsSoundAuthority sc actors.authority
+  pub master : IsSoundMaster sc actors.master
 
 -- each actor, each mail ever sent and each fact is sound
 pub record IsSound (sc : Scenario) (w : State) : Type 0 where

@@ -1,15 +1,15 @@
 //! All the actors of a world, and what a step does to them.
-ghost use Rattle.std.specs.Prelude.{◌≡◌, ◌<◌, ◌^◌, ◌∷◌, [], length, map, slice_get, IfOk};
+ghost use Rattle.std.specs.Prelude.{◌≡◌, ◌+◌, ◌<◌, ◌^◌, ◌∷◌, [], length, map, slice_get, IfOk};
 ghost use Rattle.std.specs.Option.{option_copied};
 ghost use Rattle.tp_machine.specs.Machine as machine;
 
 use crate::coord::Coordinator;
-use crate::offices::Authority;
 use crate::part::{Act, Part, coordinator_submits, coordinator_takes, no_act, server_takes};
 use crate::server::Server;
 use std::alloc::Global;
+use tp_offices::{Authority, Master};
 use tp_types::{
-    Actor, Item, List, Mail, NoMemory, Place, Reaction, Scenario, ServerId, TxnId, What,
+    Actor, CredId, Item, List, Mail, NoMemory, Place, Reaction, Scenario, ServerId, TxnId, What,
 };
 
 /// The servers, the coordinators, each with its log, and the offices.
@@ -18,6 +18,7 @@ pub struct Actors {
     pub servers: List<Part<Server>>,
     pub coordinators: List<Part<Coordinator>>,
     pub authority: Authority,
+    pub master: Master,
 }
 
 impl Actors {
@@ -33,6 +34,7 @@ impl Actors {
             servers: opened_servers(alloc, scenario)?,
             coordinators: idle_coordinators(alloc, scenario)?,
             authority: Authority::opened(alloc, scenario)?,
+            master: Master::opened(alloc, scenario)?,
         })
     }
 
@@ -74,7 +76,7 @@ impl Actors {
             Actor::Server(at) => self.to_server(alloc, scenario, mail, at),
             Actor::Coordinator(txn) => self.to_coordinator(alloc, scenario, mail, txn),
             Actor::Authority => self.to_authority(alloc, mail),
-            Actor::Master => Ok(no_act(alloc)),
+            Actor::Master => self.to_master(alloc, mail),
         }
     }
 
@@ -117,6 +119,43 @@ impl Actors {
         Ok(Act {
             happened: List::new(alloc),
             letters,
+        })
+    }
+
+    fn to_master(&self, alloc: Global, mail: &Mail) -> Result<Act, NoMemory>
+        ensures { IfOk result (λ act. Turns (machine.to_master self.now mail.now) self.now act) }
+    {
+        let Reaction { append: _, letters } = self.master.receive(alloc, mail)?;
+        Ok(Act {
+            happened: List::new(alloc),
+            letters,
+        })
+    }
+
+    /// The clock moves.
+    pub fn tick(&mut self, alloc: Global, by: u64) -> Result<Act, NoMemory>
+        requires { self.old.authority.clock + by < 2 ^ 63 }
+        ensures ok { IfOk result (λ act. Turns (machine.ticks self.old by) self.new act) }
+        ensures up { SameUp self.old self.new }
+    {
+        let happened = List::of_one(alloc, What::Ticked(by))?;
+        self.authority.tick(by);
+        Ok(Act {
+            happened,
+            letters: List::new(alloc),
+        })
+    }
+
+    /// A credential is revoked.
+    pub fn revoke(&mut self, alloc: Global, cred: CredId) -> Result<Act, NoMemory>
+        ensures ok { IfOk result (λ act. Turns (machine.revokes self.old cred) self.new act) }
+        ensures up { SameUp self.old self.new }
+    {
+        let happened = List::of_one(alloc, What::Revoked(cred))?;
+        self.authority.revoke(cred);
+        Ok(Act {
+            happened,
+            letters: List::new(alloc),
         })
     }
 

@@ -1,5 +1,5 @@
 //! What a step does to the actors and the history.
-ghost use Rattle.std.specs.Prelude.{◌≡◌, ◌<◌, length, Some, None, slice_get, IfOk, OnOk, OnErr};
+ghost use Rattle.std.specs.Prelude.{◌≡◌, ◌+◌, ◌<◌, ◌^◌, length, Some, None, slice_get, IfOk, OnOk, OnErr};
 ghost use Rattle.std.specs.Option.{option_copied};
 ghost use Rattle.tp_model.specs.Words.step;
 ghost use Rattle.tp_machine.specs.mirrors.Acts.{SameUp, Turns};
@@ -13,7 +13,7 @@ use crate::error::StepError;
 use crate::history::History;
 use crate::part::{Act, no_act};
 use std::alloc::Global;
-use tp_types::{Mail, NoMemory, Scenario, Step, TxnId};
+use tp_types::{CredId, Mail, NoMemory, Scenario, Step, TxnId};
 
 /// Whether a transaction was submitted.
 pub fn is_submitted(actors: &Actors, txn: TxnId) -> bool
@@ -48,6 +48,7 @@ pub fn refusal(actors: &Actors, history: &History, taken: &Step) -> Option<StepE
         }
         Step::Deliver { mail } => missing_mail(history.mails.as_slice(), mail),
         Step::Lose { mail } => missing_mail(history.mails.as_slice(), mail),
+        Step::Tick { by } => too_late(actors.authority.clock, by),
         _ => None,
     }
 }
@@ -60,6 +61,15 @@ fn missing_mail(mails: &[Mail], mail: u64) -> Option<StepError>
         None
     } else {
         Some(StepError::NoSuchMail { mail, mails })
+    }
+}
+
+fn too_late(clock: u64, by: u64) -> Option<StepError>
+    ensures { result ≡ machine.too_late clock by }
+{
+    match clock.checked_add(by) {
+        Some(sum) if sum < 1 << 63 => None,
+        _ => Some(StepError::TooLate { clock }),
     }
 }
 
@@ -80,6 +90,8 @@ pub fn act(
     match *taken {
         Step::Submit { txn } => submit(actors, history, alloc, scenario, txn),
         Step::Deliver { mail } => deliver(actors, history, alloc, scenario, mail),
+        Step::Tick { by } => tick(actors, history, alloc, by),
+        Step::Revoke { cred } => revoke(actors, history, alloc, cred),
         _ => Ok(()),
     }
 }
@@ -115,6 +127,30 @@ fn deliver(
     history.note(Step::Deliver { mail }, act.happened, act.letters)?;
     history.mark(mail as usize);
     Ok(())
+}
+
+fn tick(actors: &mut Actors, history: &mut History, alloc: Global, by: u64) -> Result<(), NoMemory>
+    requires { actors.old.authority.clock + by < 2 ^ 63 }
+    ensures ok { OnOk result (machine_of actors.new history.new ≡ machine.does (machine_of actors.old history.old) (step.Tick by) (machine.ticks actors.old by)) }
+    ensures same_history { OnErr result (SameHistory history.old history.new) }
+    ensures up { SameUp actors.old actors.new }
+{
+    let act = actors.tick(alloc, by)?;
+    history.note(Step::Tick { by }, act.happened, act.letters)
+}
+
+fn revoke(
+    actors: &mut Actors,
+    history: &mut History,
+    alloc: Global,
+    cred: CredId,
+) -> Result<(), NoMemory>
+    ensures ok { OnOk result (machine_of actors.new history.new ≡ machine.does (machine_of actors.old history.old) (step.Revoke cred) (machine.revokes actors.old cred)) }
+    ensures same_history { OnErr result (SameHistory history.old history.new) }
+    ensures up { SameUp actors.old actors.new }
+{
+    let act = actors.revoke(alloc, cred)?;
+    history.note(Step::Revoke { cred }, act.happened, act.letters)
 }
 
 fn receive(

@@ -8,6 +8,8 @@ pub enum StepError {
     NoSuchMail { mail: u64, mails: u64 },
     /// The transaction was submitted before.
     AlreadySubmitted { txn: TxnId },
+    /// The clock is at this moment, and would pass the last one, 2^63 - 1.
+    TooLate { clock: u64 },
     /// Memory was refused: the world is given up.
     NoMemory,
 }

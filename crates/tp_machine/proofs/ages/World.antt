@@ -13,10 +13,12 @@ use Rattle.tp_machine.specs.coord.Opened.{idle}
 use Rattle.tp_machine.specs.coord.Row.{coordinator_row, submit_row}
 use Rattle.tp_machine.specs.declared.actors.Actors.{Actors}
 use Rattle.tp_machine.specs.coord.State.{Coordinator}
-use Rattle.tp_machine.specs.offices.State.{Authority}
+use Rattle.tp_offices.specs.declared.authority.Authority.{Authority}
+use Rattle.tp_offices.specs.declared.master.Master.{Master}
+use Rattle.tp_offices.specs.Master as master
 use Rattle.tp_machine.specs.Parts.{Part}
 use Rattle.tp_machine.specs.server.State.{Server}
-use Rattle.tp_machine.specs.offices.Authority as office
+use Rattle.tp_offices.specs.Authority as office
 use Rattle.tp_machine.specs.server.Opened as server_opened
 use Rattle.tp_machine.specs.server.Row.{age_of, server_row}
 use Rattle.tp_machine.proofs.ages.Actors.{BodyAged, CoordinatorAges, EntryAged, LetterAged, PreparedAged, RecordAged, SubmissionAges, coordinator_row_ages, server_row_ages, submit_row_ages}
@@ -176,6 +178,16 @@ tells_no_age : (A : TxnId → ℕ → Type 0) (place : ℕ) (authority : Authori
 tells_no_age A place authority (body.Ask ask) = (tt, tt)
 tells_no_age A place authority _ = tt
 
+newest_no_age : (A : TxnId → ℕ → Type 0) (place : ℕ) (held : Master) (said : Body) → Each (LetterAged A place) (master.on_body held said).reaction.letters
+newest_no_age A place held (body.Probe probe) = (tt, tt)
+newest_no_age A place held _ = tt
+
+-- the authority alone acts
+authority_ages : (w : State) (taken : Step) (authority : Authority) (happened : List What) → Ages w → TurnAges w taken (record { actors = record w.actors { authority = authority }; happened = happened; letters = [] })
+authority_ages w taken authority happened h =
+    let now = ages_now w taken h in
+    record { actors_are = record { servers = now.servers; coordinators = now.coordinators; sent = now.sent }; letters = tt }
+
 begun_ages : (sc : Scenario) (w : State) → IsSound sc w → Ages w → (txn : TxnId) (part : Part Coordinator) (c : Coordinator) → IsCoordinatorUp w txn part c
     → TurnAges w (step.Submit txn) (coordinator_acted w.actors txn (acts_by coordinator_fact (what.Submitted txn ∷ []) part.log (with_age (submit_row sc c) (length w.steps))))
 begun_ages sc w sound h txn part c up =
@@ -208,6 +220,9 @@ ages_cases sc w sound h =
           let effect = coordinator_row sc c mail in
           coordinator_acts_ages w taken txn part.log (Some effect.state) [] effect.reaction.append effect.reaction.letters h (aged_still (Now w taken) (length w.steps) c (coordinator_row sc c mail) t aged) t.letters;
       authority_told = λ n mail sent. record { actors_are = ages_now w (step.Deliver n) h; letters = tells_no_age (Now w (step.Deliver n)) (length w.steps) w.actors.authority mail.letter.body };
+      master_told = λ n mail sent. record { actors_are = ages_now w (step.Deliver n) h; letters = newest_no_age (Now w (step.Deliver n)) (length w.steps) w.actors.master mail.letter.body };
+      ticked = λ by. authority_ages w (step.Tick by) (office.ticked by w.actors.authority) (what.Ticked by ∷ []) h;
+      revoked = λ cred exists. authority_ages w (step.Revoke cred) (office.revoked_with cred w.actors.authority) (what.Revoked cred ∷ []) h;
       begun = λ txn part c exists up new. begun_ages sc w sound h txn part c up;
     }
 

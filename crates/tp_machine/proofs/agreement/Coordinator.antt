@@ -19,7 +19,7 @@ use Rattle.tp_machine.specs.Logs.{decided_in, decision_in}
 use Rattle.tp_machine.specs.Machine.{log_with, with_age}
 use Rattle.tp_machine.specs.Sound.{Each}
 use Rattle.tp_machine.specs.coord.Opened.{servers_at}
-use Rattle.tp_machine.specs.coord.Row.{asks, awaits_query, commits, coordinator_row, is_awaited, is_begun, prepare_letter, prepares, query_of, ran, replied, request, server_of, staple_of, submit_row, without}
+use Rattle.tp_machine.specs.coord.Row.{asks, awaits_query, commits, coordinator_row, is_awaited, is_begun, prepare_letter, prepares, query_of, ran, request, server_of, staple_of, submit_row, without}
 use Rattle.tp_machine.specs.coord.State.{Coordinator}
 use Rattle.tp_machine.specs.declared.coord.Phase.TheVariants as phase
 use Rattle.tp_machine.specs.declared.coord.Phase.{Phase}

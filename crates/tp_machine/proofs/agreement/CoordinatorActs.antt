@@ -20,7 +20,7 @@ use Rattle.tp_machine.specs.Logs.{decided_at, decided_by, decided_in, decision_i
 use Rattle.tp_machine.specs.Machine.{State, acts, coordinator_acted, coordinator_fact, log_with}
 use Rattle.tp_machine.specs.Sound.{Each}
 use Rattle.tp_machine.specs.coord.Opened.{servers_at}
-use Rattle.tp_machine.specs.coord.Row.{agrees, is_begun, replied, voted}
+use Rattle.tp_machine.specs.coord.Row.{is_begun}
 use Rattle.tp_machine.specs.declared.actors.Actors.{Actors}
 use Rattle.tp_machine.specs.coord.State.{Coordinator}
 use Rattle.tp_machine.specs.Parts.{Part}

@@ -17,10 +17,10 @@ use Rattle.tp_model.specs.Agreement.{has_item_at}
 use Rattle.tp_model.specs.Facts.{first_of, is_decided_as, is_submission, outcome_of, same_outcome}
 use Rattle.tp_model.specs.Ids.{same_server, same_txn}
 use Rattle.tp_machine.specs.Logs.{decided_at, decided_by, decided_in, has_voted, prepared_by, prepared_in, settled_at, settled_by, settled_in, settlement_in, voted_by}
-use Rattle.tp_machine.specs.Machine.{State, acts, log_with, server_acted, server_fact, submitted}
+use Rattle.tp_machine.specs.Machine.{State, acts, log_with, server_acted, server_fact}
 use Rattle.tp_machine.specs.Sound.{Each, IsServer}
 use Rattle.tp_machine.specs.coord.Opened.{servers_at}
-use Rattle.tp_machine.specs.coord.Row.{agrees, is_awaited, is_begun, replied}
+use Rattle.tp_machine.specs.coord.Row.{is_awaited, is_begun}
 use Rattle.tp_machine.specs.declared.actors.Actors.{Actors}
 use Rattle.tp_machine.specs.coord.State.{Coordinator}
 use Rattle.tp_machine.specs.declared.coord.Phase.TheVariants as phase

@@ -3,24 +3,26 @@ use Rattle.std.specs.List.{range_with_len}
 use Rattle.std.proofs.Common.{IfSome, List, None, Option, Some, [], ap, arith, false, length, map, option_and_then, option_map, refl, replicate, slice_get, subst, suc, sym, true, zero, ℕ, ◌+◌, ◌∙◌, ◌∷◌, ◌≡◌}
 use Rattle.tp_types.specs.Table.{flattened}
 use Rattle.tp_model.specs.Built.{is_built}
-use Rattle.tp_model.specs.Words.{Actor, Body, Decision, Mail, Scenario, ServerId, Settled, Step, TxnId, Vote, What}
+use Rattle.tp_model.specs.Words.{Actor, Body, CredId, Decision, Mail, Scenario, ServerId, Settled, Step, TxnId, Vote, What}
 use Rattle.tp_model.specs.Words.actor
 use Rattle.tp_model.specs.Words.body
 use Rattle.tp_model.specs.Words.step
 use Rattle.tp_model.specs.Words.vote
 use Rattle.tp_model.specs.Words.what
 use Rattle.tp_machine.specs.Logs.{decided_at, decided_by, decided_in, settled_by, settled_in}
-use Rattle.tp_machine.specs.Machine.{Machine, State, acts_by, coordinator_acted, coordinator_fact, done, idles, is_part_submitted, log_with, opened_actors, opened_part, opening_state, refusal, server_acted, server_fact, submitted, with_age}
+use Rattle.tp_machine.specs.Machine.{Machine, State, acts_by, coordinator_acted, coordinator_fact, done, idles, is_part_submitted, log_with, opened_actors, opened_part, opening_state, refusal, server_acted, server_fact, with_age}
 use Rattle.tp_machine.specs.Parts.{Part}
 use Rattle.tp_machine.specs.Sound.{Each, EachAt, IsSound, IsSoundBody, IsSoundCoordinatorUp, IsSoundLetter, IsSoundMail, IsSoundServerUp, IsStepOf, IsTxn}
 use Rattle.tp_machine.specs.coord.Opened as coord
-use Rattle.tp_machine.specs.coord.Row.{agrees, coordinator_row, replied, submit_row}
+use Rattle.tp_machine.specs.coord.Row.{coordinator_row, submit_row}
 use Rattle.tp_machine.specs.coord.State.{Coordinator}
 use Rattle.tp_machine.specs.declared.actors.Actors.{Actors}
-use Rattle.tp_machine.specs.offices.Authority as office
-use Rattle.tp_machine.specs.offices.State.{Authority}
+use Rattle.tp_offices.specs.Authority as office
+use Rattle.tp_offices.specs.declared.authority.Authority.{Authority}
+use Rattle.tp_offices.specs.declared.master.Master.{Master}
+use Rattle.tp_offices.specs.Master as master
 use Rattle.tp_machine.specs.server.Opened as server
-use Rattle.tp_machine.specs.server.Row.{prepared, server_row}
+use Rattle.tp_machine.specs.server.Row.{server_row}
 use Rattle.tp_machine.specs.server.State.{Server}
 use Rattle.tp_machine.proofs.agreement.ServerActs.{SaysOnly, server_acts_agrees, unmoved_agrees}
 use Rattle.tp_machine.proofs.agreement.Coordinator.{CoordinatorLawful, Keeps, ReplyRests, SubmissionLawful, YesRests, coordinator_row_lawful, submit_row_lawful}
@@ -45,6 +47,30 @@ idle_agrees : (sc : Scenario) (w : State) → Agrees sc w → (taken : Step) (ha
 idle_agrees sc w h (step.Deliver mail) happened e = subst (λ (hs : List What). TurnAgrees sc w (idles w.actors hs)) (sym e) (unmoved_agrees sc w [] [] h (silent_says sc w) tt)
 idle_agrees sc w h (step.Lose mail) happened e = subst (λ (hs : List What). TurnAgrees sc w (idles w.actors hs)) (sym e) (unmoved_agrees sc w (what.Lost mail ∷ []) [] h (lost_says sc w mail) tt)
 idle_agrees sc w h _ happened e = absurd e
+
+-- the authority alone acts
+authority_agrees : (sc : Scenario) (w : State) (authority : Authority) (happened : List What) → Agrees sc w → SaysOnly sc w.facts happened
+    → TurnAgrees sc w (record { actors = record w.actors { authority = authority }; happened = happened; letters = [] })
+authority_agrees sc w authority happened h o =
+    let t = unmoved_agrees sc w happened [] h o tt in
+    record {
+      coordinator_count = t.coordinator_count;
+      server_count = t.server_count;
+      coordinators = t.coordinators;
+      servers = t.servers;
+      letters = tt;
+      stays = record { submitted = t.stays.submitted; decided = t.stays.decided; settled = t.stays.settled; voted = t.stays.voted; prepared = t.stays.prepared; served = t.stays.served };
+      happened = t.happened;
+      submitted = t.submitted;
+      decided = t.decided;
+      settled = t.settled;
+    }
+
+ticked_says : (sc : Scenario) (w : State) (by : ℕ) → SaysOnly sc w.facts (what.Ticked by ∷ [])
+ticked_says sc w by = record { follows = (tt, tt); no_submission = λ txn. refl; no_decision = λ txn. refl; no_settlement = λ at txn. refl }
+
+revoked_says : (sc : Scenario) (w : State) (cred : CredId) → SaysOnly sc w.facts (what.Revoked cred ∷ [])
+revoked_says sc w cred = record { follows = (tt, tt); no_submission = λ txn. refl; no_decision = λ txn. refl; no_settlement = λ at txn. refl }
 
 -- ---- what is known of actors that are up
 
@@ -109,6 +135,10 @@ tells_rest : (sc : Scenario) (actors : Actors) (authority : Authority) (said : B
 tells_rest sc actors authority (body.Ask ask) = (tt, tt)
 tells_rest sc actors authority _ = tt
 
+newest_rests : (sc : Scenario) (actors : Actors) (held : Master) (said : Body) → Each (LetterRests sc actors) (master.on_body held said).reaction.letters
+newest_rests sc actors held (body.Probe probe) = (tt, tt)
+newest_rests sc actors held _ = tt
+
 -- ---- submissions
 
 pub begun_lawful : (sc : Scenario) (w : State) → is_built sc ≡ true → IsSound sc w → Agrees sc w → (txn : TxnId) (part : Part Coordinator) (c : Coordinator) → IsTxn sc txn → IsCoordinatorUp w txn part c
@@ -172,6 +202,10 @@ agrees_cases sc w built sound h =
       coordinator_received = λ n mail txn part c sent up. received_by_coordinator sc w sound h n mail txn part c sent up;
       authority_told = λ n mail sent.
           unmoved_agrees sc w [] (office.authority_row w.actors.authority mail).reaction.letters h (silent_says sc w) (tells_rest sc w.actors w.actors.authority mail.letter.body);
+      master_told = λ n mail sent.
+          unmoved_agrees sc w [] (master.master_row w.actors.master mail).reaction.letters h (silent_says sc w) (newest_rests sc w.actors w.actors.master mail.letter.body);
+      ticked = λ by. authority_agrees sc w (office.ticked by w.actors.authority) (what.Ticked by ∷ []) h (ticked_says sc w by);
+      revoked = λ cred exists. authority_agrees sc w (office.revoked_with cred w.actors.authority) (what.Revoked cred ∷ []) h (revoked_says sc w cred);
       begun = λ txn part c exists up new. begun_agrees sc w built sound h txn part c exists up new;
     }
 

@@ -91,6 +91,8 @@ allowed sc m taken (Some why) e = absurd (cc)
 pub steps_done : (sc : Scenario) (m : Machine) (taken : Step) → IsTaken taken → (done sc m taken).state.steps ≡ m.state.steps ++ taken ∷ []
 steps_done sc m (step.Submit txn) h = refl
 steps_done sc m (step.Deliver mail) h = refl
+steps_done sc m (step.Tick by) h = refl
+steps_done sc m (step.Revoke cred) h = refl
 steps_done sc m _ h = absurd h
 
 -- a machine that its steps give is given by them after one more step

@@ -22,8 +22,10 @@ use Rattle.tp_machine.specs.coord.Row.{coordinator_row, submit_row}
 use Rattle.tp_machine.specs.coord.State.{Coordinator}
 use Rattle.tp_machine.specs.declared.actors.Actors.{Actors}
 use Rattle.tp_machine.specs.declared.server.Entry.{Entry}
-use Rattle.tp_machine.specs.offices.Authority as office
-use Rattle.tp_machine.specs.offices.State.{Authority}
+use Rattle.tp_offices.specs.Authority as office
+use Rattle.tp_offices.specs.declared.authority.Authority.{Authority}
+use Rattle.tp_offices.specs.declared.master.Master.{Master}
+use Rattle.tp_offices.specs.Master as master
 use Rattle.tp_machine.specs.server.Opened as server_opened
 use Rattle.tp_machine.specs.server.Row.{server_row}
 use Rattle.tp_machine.specs.server.State.{Server}
@@ -334,6 +336,20 @@ tells_plain : (authority : Authority) (said : Body) → Each IsPlainLetter (offi
 tells_plain authority (body.Ask ask) = (tt, tt)
 tells_plain authority _ = tt
 
+newest_plain : (held : Master) (said : Body) → Each IsPlainLetter (master.on_body held said).reaction.letters
+newest_plain held (body.Probe probe) = (tt, tt)
+newest_plain held _ = tt
+
+-- the authority alone acts
+authority_epochs : (sc : Scenario) (w : State) (authority : Authority) (happened : List What) → Epochs sc w
+    → StepEpochs sc w (record { actors = record w.actors { authority = authority }; happened = happened; letters = [] })
+authority_epochs sc w authority happened h =
+    same_asked sc w (record { actors = record w.actors { authority = authority }; happened = happened; letters = [] }) tt
+    (record {
+      actors_are = record { servers = h.servers; coordinators = h.coordinators; named = h.named; first = h.first; told = h.told };
+      sent = plain_letters sc (asked_in w.mails) (epoch_at w.actors.servers) [] tt;
+    })
+
 -- ---- steps
 
 epochs_cases : (sc : Scenario) (w : State) → IsSound sc w → Agrees sc w → Epochs sc w → Cases sc w (λ taken turn. StepEpochs sc w turn)
@@ -343,6 +359,9 @@ epochs_cases sc w sound a h =
       server_received = λ n mail at part s sent up. received_by_server sc w sound h n mail at part s sent up;
       coordinator_received = λ n mail txn part c sent up. received_by_coordinator sc w sound a h n mail txn part c sent up;
       authority_told = λ n mail sent. unmoved_epochs sc w [] (office.authority_row w.actors.authority mail).reaction.letters h (tells_plain w.actors.authority mail.letter.body);
+      master_told = λ n mail sent. unmoved_epochs sc w [] (master.master_row w.actors.master mail).reaction.letters h (newest_plain w.actors.master mail.letter.body);
+      ticked = λ by. authority_epochs sc w (office.ticked by w.actors.authority) (what.Ticked by ∷ []) h;
+      revoked = λ cred exists. authority_epochs sc w (office.revoked_with cred w.actors.authority) (what.Revoked cred ∷ []) h;
       begun = λ txn part c exists up new. begun_epochs sc w sound h txn part c up new;
     }
 

@@ -1,30 +1,32 @@
 -- What an actor does when it acts keeps its part sound, and gives sound facts and letters; and the actors before the first
 -- step are sound.
-use Rattle.std.proofs.Common.{◌≡◌, ℕ, zero, suc, ◌+◌, List, [], ◌∷◌, ◌++◌, length, drop, flat_map, slice_get, Option, Some, None, IfSome, refl, sym, subst, arith}
+use Rattle.std.proofs.Common.{◌≡◌, ℕ, zero, suc, ◌+◌, List, [], ◌∷◌, ◌++◌, length, drop, flat_map, replicate, slice_get, Option, Some, None, IfSome, refl, sym, subst, arith}
 use Rattle.std.specs.List.{list_any}
 use Rattle.std.specs.Option.{option_map_or}
-use Rattle.tp_model.specs.Words.{Body, Letter, Mail, Query, Record, Scenario, ServerDecl, ServerId, Settled, Transaction, TxnId, What}
+use Rattle.tp_model.specs.Words.{Body, CredId, Letter, Mail, Query, Record, Scenario, ServerDecl, ServerId, Settled, Transaction, TxnId, What}
 use Rattle.tp_model.specs.Words.actor
 use Rattle.tp_model.specs.Words.body
 use Rattle.tp_model.specs.Words.log
 use Rattle.tp_model.specs.Words.what
 use Rattle.tp_model.specs.Queries.{is_at_server, servers_from, servers_of}
 use Rattle.tp_machine.specs.coord.State.{Coordinator}
-use Rattle.tp_machine.specs.offices.State.{Authority}
+use Rattle.tp_offices.specs.declared.authority.Authority.{Authority}
+use Rattle.tp_offices.specs.declared.master.Master.{Master}
 use Rattle.tp_machine.specs.Parts.{Part}
 use Rattle.tp_machine.specs.declared.server.Entry.{Entry}
 use Rattle.tp_machine.specs.server.State.{Server}
 use Rattle.tp_types.specs.Effect.{Effect}
 use Rattle.tp_machine.specs.Machine.{Acted, acts_by, coordinator_fact, log_with, opened_part, server_fact, with_age}
-use Rattle.tp_machine.specs.Sound.{AreVersions, Each, IsActor, IsServer, IsSoundAuthority, IsSoundBody, IsSoundCoordinatorPart, IsSoundCoordinatorRecord, IsSoundCoordinatorUp, IsSoundDecision, IsSoundEntry, IsSoundLetter, IsSoundServerPart, IsSoundServerRecord, IsSoundServerUp, IsSoundSettled, IsSoundWhat, IsTxn}
+use Rattle.tp_machine.specs.Sound.{AreCreds, AreVersions, Each, IsActor, IsServer, IsCred, IsSoundAuthority, IsSoundBody, IsSoundCoordinatorPart, IsSoundCoordinatorRecord, IsSoundCoordinatorUp, IsSoundDecision, IsSoundEntry, IsSoundLetter, IsSoundMaster, IsSoundServerPart, IsSoundServerRecord, IsSoundServerUp, IsSoundSettled, IsSoundWhat, IsTxn}
 use Rattle.tp_machine.specs.coord.Opened as coord
 use Rattle.tp_machine.specs.coord.Row.{coordinator_row, submit_row}
-use Rattle.tp_machine.specs.offices.Authority as office
+use Rattle.tp_offices.specs.Authority as office
+use Rattle.tp_offices.specs.Master as master
 use Rattle.tp_machine.specs.server.Opened as server
 use Rattle.tp_machine.specs.server.Row.{server_row}
-use Rattle.tp_machine.proofs.ids.Built.{IsValid}
+use Rattle.tp_machine.proofs.ids.Valid.{IsValid}
 use Rattle.tp_machine.proofs.ids.Coordinator.{IsSoundCoordinatorEffect, coordinator_row_sound, placed_sound, submit_row_sound}
-use Rattle.tp_machine.proofs.basics.Lists.{by_cond, each_append, each_drop, each_flat_map, each_get, each_more, missing, placed_none}
+use Rattle.tp_machine.proofs.basics.Lists.{by_cond, each_append, each_drop, each_flat_map, each_get, each_more, each_set, missing, placed_none}
 use Rattle.tp_machine.proofs.ids.Server.{IsSoundServerEffect, server_row_sound}
 
 -- ---- what all actors share
@@ -133,15 +135,41 @@ coordinator_begun_sound sc txn part c place valid h e =
 
 -- ---- the authority
 
+-- the places that have an id give the revocations
+revocations_sound : (sc : Scenario) (places : List (Option CredId)) → Each (λ (place : Option CredId). IfSome place (IsCred sc)) places → AreCreds sc (office.revocations places)
+revocations_sound sc [] h = tt
+revocations_sound sc (None ∷ places) h = revocations_sound sc places h.1
+revocations_sound sc (Some cred ∷ places) h = (h.0, revocations_sound sc places h.1)
+
+pub revoked_sound : (sc : Scenario) (authority : Authority) (cred : CredId) → IsSoundAuthority sc authority → IsCred sc cred → IsSoundAuthority sc (office.revoked_with cred authority)
+revoked_sound sc authority cred h exists = each_set (λ (place : Option CredId). IfSome place (IsCred sc)) authority.revoked cred.0 (Some cred) h exists
+
+-- before the first step nothing is revoked
+pub none_sound : (sc : Scenario) (count : ℕ) → Each (λ (place : Option CredId). IfSome place (IsCred sc)) (replicate count None)
+none_sound sc zero = tt
+none_sound sc (suc count) = (tt, none_sound sc count)
+
 told_sound : (sc : Scenario) (authority : Authority) (said : Body) → IsSoundAuthority sc authority → IsSoundBody sc actor.Authority said
     → Each (IsSoundLetter sc) (office.on_body authority said).reaction.letters
-told_sound sc authority (body.Ask ask) h m = (record { from_is_actor = tt; to_is_actor = m.txn; says = record { txn = m.txn; goes_to = refl; revoked = h } }, tt)
+told_sound sc authority (body.Ask ask) h m =
+    (record { from_is_actor = tt; to_is_actor = m.txn; says = record { txn = m.txn; goes_to = refl; revoked = revocations_sound sc authority.revoked h } }, tt)
 told_sound sc authority _ h m = tt
 
 -- what the authority sends on receipt of a mail to it
 pub authority_sends_sound : (sc : Scenario) (authority : Authority) (mail : Mail) → IsSoundAuthority sc authority → IsSoundBody sc actor.Authority mail.letter.body
     → Each (IsSoundLetter sc) (office.authority_row authority mail).reaction.letters
 authority_sends_sound sc authority mail h m = told_sound sc authority mail.letter.body h m
+
+-- ---- the master
+
+newest_sound : (sc : Scenario) (held : Master) (said : Body) → IsSoundMaster sc held → IsSoundBody sc actor.Master said → Each (IsSoundLetter sc) (master.on_body held said).reaction.letters
+newest_sound sc held (body.Probe probe) h m = (record { from_is_actor = tt; to_is_actor = m.txn; says = record { txn = m.txn; goes_to = refl; newest = h } }, tt)
+newest_sound sc held _ h m = tt
+
+-- what the master sends on receipt of a mail to it
+pub master_sends_sound : (sc : Scenario) (held : Master) (mail : Mail) → IsSoundMaster sc held → IsSoundBody sc actor.Master mail.letter.body
+    → Each (IsSoundLetter sc) (master.master_row held mail).reaction.letters
+master_sends_sound sc held mail h m = newest_sound sc held mail.letter.body h m
 
 -- ---- before the first step
 

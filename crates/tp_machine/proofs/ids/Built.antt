@@ -1,32 +1,15 @@
--- What the proofs of soundness take from a scenario. Here alone they lean on the form of scenarios that is built: where it
--- widens, each field of IsValid is to be shown anew, and the last of them goes.
+-- What the form of scenarios that is built says, one by one. Where it widens these go.
 use Rattle.std.proofs.lemmas.Bool.{and_parts}
-use Rattle.std.proofs.Common.{◌≡◌, ℕ, ◌<ℤ◌, ◌≤ℤ◌, List, [], ◌∷◌, length, Bool, true, false, not, ◌&&◌, ◌==◌, Option, Some, None, ℤ, pos, neg_ℤ, ◌^◌, Ordering, Less, Equal, Greater, is_gt, int_cmp, refl, sym, subst, ap, arith}
+use Rattle.std.proofs.Common.{◌≡◌, ℕ, List, [], ◌∷◌, length, Bool, true, false, not, ◌&&◌, ◌==◌, Option, Some, None, refl, sym, subst, ap, arith}
 use Rattle.std.specs.Cmp.Lexicographic.{pointwise}
-use Rattle.std.specs.Ordering.{MatchOrdering}
 use Rattle.std.proofs.lemmas.Bool.Decides.{nat_tests}
-use Rattle.std.proofs.lemmas.Cmp.{int_ranked}
-use Rattle.std.proofs.lemmas.Int.{ints}
-use Rattle.tp_model.specs.Words.{Admin, Item, Scenario, Scheme, ServerDecl, Transaction, Version}
+use Rattle.tp_model.specs.Words.{Item, Scenario, Scheme, ServerDecl, Transaction}
 use Rattle.tp_model.specs.Words.scheme
 use Rattle.tp_model.specs.Built.{is_built}
-use Rattle.tp_model.specs.Stage.{is_deferred, is_empty, is_open_policy, is_single, is_view}
+use Rattle.tp_model.specs.Stage.{is_deferred, is_empty, is_single, is_view}
 use Rattle.tp_model.proofs.FirstForm.{are_first_parts, form_built, is_first_admin, is_first_item, is_first_query, is_first_server, is_first_txn}
 use Rattle.tp_model.specs.Queries.{only}
-use Rattle.tp_machine.specs.Sound.{AreVersions, AreVersionsOf, Each, IsAdmin, IsServer, IsVersionOf, proves_each}
-
--- ---- what is taken
-
--- the item's server and administrator exist
-pub record IsValidItem (sc : Scenario) (item : Item) : Type 0 where
-  pub server : IsServer sc item.server
-  pub admin : IsAdmin sc item.admin
-
--- what the scenario names exists; no query is proved as it runs, which goes when schemes are built
-pub record IsValid (sc : Scenario) : Type 0 where
-  pub items : Each (IsValidItem sc) sc.items
-  pub servers : Each (λ (declared : ServerDecl). AreVersions sc declared.knows) sc.servers
-  pub deferred : Each (λ (declared : Transaction). proves_each declared.scheme ≡ false) sc.txns
+use Rattle.tp_machine.specs.Sound.{Each, proves_each}
 
 -- ---- tests
 
@@ -95,31 +78,7 @@ has_form sc e =
     let parts = and_parts (is_single is_first_admin sc.admins) (are_first_parts (only sc.servers) (only sc.items) (only sc.txns)) front in
     form_of sc (only sc.servers) (only sc.items) (only sc.txns) refl refl refl (single_is is_first_admin sc.admins parts.0) parts.1
 
--- ---- the scenario is valid
-
--- one administrator and a server that knows its version
-knows_valid : (admins : List Admin) (server : ServerDecl) → IsOnly is_first_admin admins → is_first_server server ≡ true → AreVersionsOf admins server.knows
-knows_valid admins server one e =
-    let known : is_single (λ (version : Version). version.0 == 1) server.knows ≡ true = grind arith in
-    let only_known : IsOnly (λ (version : Version). version.0 == 1) server.knows = single_is (λ (version : Version). version.0 == 1) server.knows known in
-    let library : is_single is_open_policy one.member.library ≡ true = grind arith in
-    let only_policy : IsOnly is_open_policy one.member.library = single_is is_open_policy one.member.library library in
-    let first : only_known.member.0 ≡ 1 = number_is only_known.member.0 1 only_known.passes in
-    let count : length one.member.library ≡ 1 = count_of one.member.library only_policy.member only_policy.is_list in
-    let fits : IsVersionOf one.member only_known.member = (omega (arith, first), omega (arith, first, count)) in
-    let made : AreVersionsOf (one.member ∷ []) (only_known.member ∷ []) = (fits, tt) in
-    subst (λ (xs : List Admin). AreVersionsOf xs server.knows) (sym one.is_list)
-    (subst (λ (vs : List Version). AreVersionsOf (one.member ∷ []) vs) (sym only_known.is_list) made)
-
--- an item of the one server and the one administrator
-item_valid : (sc : Scenario) (item : Item) → length sc.servers ≡ 1 → length sc.admins ≡ 1 → is_first_item item ≡ true → IsValidItem sc item
-item_valid sc item one_server one_admin e =
-    let server_is : (item.server.0 == 0) ≡ true = grind arith in
-    let admin_is : (item.admin.0 == 0) ≡ true = grind arith in
-    record {
-      server = omega (arith, number_is item.server.0 0 server_is, one_server);
-      admin = omega (arith, number_is item.admin.0 0 admin_is, one_admin);
-    }
+-- ---- its scheme
 
 deferred_proves : (s : Scheme) → is_deferred s ≡ true → proves_each s ≡ false
 deferred_proves scheme.Deferred e = refl
@@ -142,17 +101,9 @@ txn_parts server item txn e =
     second_and_last (not (pointwise ◌==◌ txn.name server.name)) (is_deferred txn.scheme) (is_view txn.level) (txn.rounds == 8) (is_empty txn.creds)
     (is_single (is_first_query item) txn.queries) e
 
-valid_form : (sc : Scenario) → HasForm sc → IsValid sc
-valid_form sc form =
-    let one_server : length sc.servers ≡ 1 = count_of sc.servers form.server form.servers_are in
-    let one_admin : length sc.admins ≡ 1 = count_of sc.admins form.admins.member form.admins.is_list in
+-- in the form that is built no query is proved as it runs
+pub deferred_built : (sc : Scenario) → is_built sc ≡ true → Each (λ (declared : Transaction). proves_each declared.scheme ≡ false) sc.txns
+deferred_built sc built =
+    let form = has_form sc built in
     let parts = txn_parts form.server form.item form.txn form.txn_fits in
-    record {
-      items = each_of_one (IsValidItem sc) sc.items form.item form.items_are (item_valid sc form.item one_server one_admin form.item_fits);
-      servers = each_of_one (λ (declared : ServerDecl). AreVersions sc declared.knows) sc.servers form.server form.servers_are (knows_valid sc.admins form.server form.admins form.server_fits);
-      deferred = each_of_one (λ (declared : Transaction). proves_each declared.scheme ≡ false) sc.txns form.txn form.txns_are (deferred_proves form.txn.scheme parts.0);
-    }
-
--- the form that is built is valid
-pub valid_built : (sc : Scenario) → is_built sc ≡ true → IsValid sc
-valid_built sc e = valid_form sc (has_form sc e)
+    each_of_one (λ (declared : Transaction). proves_each declared.scheme ≡ false) sc.txns form.txn form.txns_are (deferred_proves form.txn.scheme parts.0)

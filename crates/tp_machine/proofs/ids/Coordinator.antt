@@ -14,7 +14,7 @@ use Rattle.tp_machine.specs.declared.coord.Phase.TheVariants as phase
 use Rattle.tp_machine.specs.declared.coord.Phase.{Phase}
 use Rattle.tp_machine.specs.declared.coord.Round.{Round}
 use Rattle.tp_machine.proofs.walks.CoordinatorRows.{IsYes, coordinator_by, submit_by}
-use Rattle.tp_machine.proofs.ids.Built.{IsValid, IsValidItem}
+use Rattle.tp_machine.proofs.ids.Valid.{IsValid, IsValidItem}
 use Rattle.tp_machine.proofs.basics.Lists.{each_filter, each_get, each_map, each_more, each_passing}
 
 -- what a coordinator's act leaves is sound: its state, still of the same transaction, what it forces and what it sends

@@ -12,7 +12,7 @@ use Rattle.tp_machine.specs.declared.server.Entry.{Entry}
 use Rattle.tp_machine.specs.server.Row.{admin_of, asked_item, begins, done, first_entry, plain_write, reply, server_row, settled_as, settles, verdict_on, version_known, votes}
 use Rattle.tp_machine.specs.server.State.{Server}
 use Rattle.tp_machine.proofs.walks.ServerRows.{server_by}
-use Rattle.tp_machine.proofs.ids.Built.{IsValid, IsValidItem}
+use Rattle.tp_machine.proofs.ids.Valid.{IsValid, IsValidItem}
 use Rattle.tp_machine.proofs.basics.Lists.{each_get, each_map, placed_emptied, placed_set}
 
 -- what a server's act leaves is sound: its state, still of the same server, what it forces and what it sends

@@ -1,5 +1,5 @@
 -- The world is sound before the first step, and each step keeps it sound.
-use Rattle.std.proofs.Common.{◌≡◌, ℕ, ◌+◌, List, [], ◌∷◌, length, slice_get, slice_set, true, Option, Some, None, refl, subst, arith, sym}
+use Rattle.std.proofs.Common.{◌≡◌, ℕ, ◌+◌, List, [], ◌∷◌, length, slice_set, true, None, subst, arith, sym}
 use Rattle.tp_model.specs.Words.{Actor, Letter, Mail, Scenario, ServerId, Step, TxnId, What}
 use Rattle.tp_model.specs.Words.actor
 use Rattle.tp_model.specs.Words.step
@@ -10,11 +10,12 @@ use Rattle.tp_machine.specs.coord.State.{Coordinator}
 use Rattle.tp_machine.specs.Parts.{Part}
 use Rattle.tp_machine.specs.server.State.{Server}
 use Rattle.tp_machine.specs.Machine.{Machine, State, Turn, concluded, done, idles, noted, opened_part, opening_state, posted, refusal}
-use Rattle.tp_machine.specs.Sound.{AreSoundActors, Each, IsActor, IsSound, IsSoundBody, IsSoundCoordinatorPart, IsSoundFact, IsSoundLetter, IsSoundMail, IsSoundServerPart, IsSoundWhat, IsStepOf}
+use Rattle.tp_machine.specs.Sound.{AreSoundActors, Each, IsActor, IsSound, IsSoundAuthority, IsSoundBody, IsSoundCoordinatorPart, IsSoundFact, IsSoundLetter, IsSoundMail, IsSoundServerPart, IsSoundWhat, IsStepOf}
+use Rattle.tp_offices.specs.declared.authority.Authority.{Authority}
 use Rattle.tp_machine.specs.coord.Opened as coord
 use Rattle.tp_machine.specs.server.Opened as server
-use Rattle.tp_machine.proofs.ids.Acts.{IsSoundAct, authority_sends_sound, coordinator_idle_sound, server_opened_sound, coordinator_begun_sound, coordinator_received_sound, server_received_sound}
-use Rattle.tp_machine.proofs.ids.Built.{IsValid, valid_built}
+use Rattle.tp_machine.proofs.ids.Acts.{IsSoundAct, authority_sends_sound, master_sends_sound, none_sound, revoked_sound, coordinator_idle_sound, server_opened_sound, coordinator_begun_sound, coordinator_received_sound, server_received_sound}
+use Rattle.tp_machine.proofs.ids.Valid.{IsValid, valid_built}
 use Rattle.tp_machine.proofs.basics.Lists.{at_made, at_set, each_append, each_get, each_map}
 use Rattle.tp_machine.proofs.walks.Steps.{Cases, SaysIdle, WasSent, done_by}
 
@@ -42,6 +43,7 @@ servers_sound sc actors at part h p =
       servers = at_set (λ (n : ℕ) (found : Part Server). IsSoundServerPart sc (record { 0 = n }) found) actors.servers at.0 part h.servers p;
       coordinators = h.coordinators;
       authority = h.authority;
+      master = h.master;
     }
 
 -- the coordinators after one of them acted
@@ -52,7 +54,12 @@ coordinators_sound sc actors txn part h p =
       servers = h.servers;
       coordinators = at_set (λ (n : ℕ) (found : Part Coordinator). IsSoundCoordinatorPart sc (record { 0 = n }) found) actors.coordinators txn.0 part h.coordinators p;
       authority = h.authority;
+      master = h.master;
     }
+
+-- the actors with an authority that acted
+authority_sound : (sc : Scenario) (actors : Actors) (authority : Authority) → AreSoundActors sc actors → IsSoundAuthority sc authority → AreSoundActors sc (record actors { authority = authority })
+authority_sound sc actors authority h a = record { servers = h.servers; coordinators = h.coordinators; authority = a; master = h.master }
 
 -- what a mail that was sent says is sound
 letter_sound : (sc : Scenario) (w : State) (n : ℕ) (mail : Mail) (to : Actor) → IsSound sc w → WasSent w n mail to → IsActor sc mail.letter.from × IsSoundBody sc to mail.letter.body
@@ -73,6 +80,14 @@ sound_cases sc w valid h =
           record { actors_are = coordinators_sound sc w.actors txn _ h.actors_are acted.part_is; left = acted.left };
       authority_told = λ n mail sent.
           record { actors_are = h.actors_are; left = record { facts_are = tt; letters_are = authority_sends_sound sc w.actors.authority mail h.actors_are.authority (letter_sound sc w n mail actor.Authority h sent).1 } };
+      master_told = λ n mail sent.
+          record { actors_are = h.actors_are; left = record { facts_are = tt; letters_are = master_sends_sound sc w.actors.master mail h.actors_are.master (letter_sound sc w n mail actor.Master h sent).1 } };
+      ticked = λ by. record { actors_are = authority_sound sc w.actors _ h.actors_are h.actors_are.authority; left = record { facts_are = (tt, tt); letters_are = tt } };
+      revoked = λ cred exists.
+          record {
+            actors_are = authority_sound sc w.actors _ h.actors_are (revoked_sound sc w.actors.authority cred h.actors_are.authority exists);
+            left = record { facts_are = (exists, tt); letters_are = tt };
+          };
       begun = λ txn part c exists up new.
           let acted = coordinator_begun_sound sc txn part c (length w.steps) valid (h.actors_are.coordinators txn.0 part up.found) up.up in
           record { actors_are = coordinators_sound sc w.actors txn _ h.actors_are acted.part_is; left = acted.left };
@@ -112,7 +127,8 @@ sound_opening sc built =
         coordinators = λ n part e. subst (λ (k : ℕ). IsSoundCoordinatorPart sc (record { 0 = k }) part) (omega arith)
             (at_made (λ (k : ℕ) (found : Part Coordinator). IsSoundCoordinatorPart sc (record { 0 = k }) found) (λ (k : ℕ). opened_part (coord.idle sc (record { 0 = k }))) 0 (length sc.txns)
             (λ k within. coordinator_idle_sound sc (record { 0 = k }) (omega arith)) n part e);
-        authority = tt;
+        authority = none_sound sc (length sc.creds);
+        master = valid.openings;
       };
       mails_are = tt;
       facts_are = tt;

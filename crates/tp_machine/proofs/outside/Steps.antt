@@ -1,5 +1,5 @@
 -- What comes from outside: the facts that the steps say by themselves, after every list of steps.
-use Rattle.std.proofs.Common.{◌≡◌, ℕ, ◌+◌, ◌<◌, ◌≤◌, ◌&&◌, nat_le, List, [], ◌∷◌, ◌++◌, length, filter, slice_get, Bool, true, false, cond, Option, Some, None, refl, sym, ap, subst, ◌∙◌, arith, drop, flat_map}
+use Rattle.std.proofs.Common.{◌≡◌, ℕ, ◌+◌, ◌<◌, ◌≤◌, ◌&&◌, nat_le, List, [], ◌∷◌, ◌++◌, length, filter, Bool, true, false, cond, Option, Some, None, refl, sym, ap, subst, ◌∙◌, arith, drop, flat_map}
 use Rattle.std.specs.List.{count_by, list_all}
 use Rattle.std.proofs.lemmas.Bool.Decides.{nat_tests}
 use Rattle.tp_model.specs.Words.{Fact, Record, Scenario, ServerId, Step, What}
@@ -154,6 +154,9 @@ outside_cases sc w =
           ap own_of (gained (server_fact at) part.log append) ∙ own_told_by at append;
       coordinator_received = λ n mail txn part c sent up. coordinator_says part (coordinator_row sc c mail);
       authority_told = λ n mail sent. refl;
+      master_told = λ n mail sent. refl;
+      ticked = λ by. refl;
+      revoked = λ cred exists. refl;
       begun = λ txn part c exists up new. ap (λ (told : List What). what.Submitted txn ∷ told) (coordinator_says part (submit_row sc c));
     }
 

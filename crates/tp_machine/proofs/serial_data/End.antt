@@ -33,7 +33,7 @@ use Rattle.tp_machine.proofs.serial_data.Built.{IsOneTransaction, first_server, 
 use Rattle.tp_machine.proofs.serial_data.Lists.{each_of_all, fold_as, fold_keeps}
 use Rattle.tp_machine.proofs.serial_data.Plan.{is_at, planned}
 use Rattle.tp_machine.proofs.serial_data.World.{IsPlannedCommit, Serial, ServerUpSerial}
-use Rattle.tp_machine.proofs.ids.Built.{IsValidItem, valid_built}
+use Rattle.tp_machine.proofs.ids.Valid.{IsValidItem, valid_built}
 use Rattle.tp_machine.proofs.basics.Lists.{by_cond, each_as, each_get, missing}
 
 -- ---- commits

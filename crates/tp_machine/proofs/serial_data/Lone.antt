@@ -146,6 +146,9 @@ lone_cases sc w =
           subst (λ (told : List What). commits told ≤ 1) (sym (gained (server_fact at) part.log append)) (by_none at append);
       coordinator_received = λ n mail txn part c sent up. coordinator_one sc part (coordinator_row sc c mail);
       authority_told = λ n mail sent. omega arith;
+      master_told = λ n mail sent. omega arith;
+      ticked = λ by. omega arith;
+      revoked = λ cred exists. omega arith;
       begun = λ txn part c exists up new. after_submission txn (flat_map coordinator_fact (drop (length part.log) (log_with part.log (submit_row sc c).reaction.append))) (coordinator_one sc part (submit_row sc c));
     }
 

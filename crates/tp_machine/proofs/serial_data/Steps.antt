@@ -13,19 +13,21 @@ use Rattle.tp_machine.specs.coord.Opened as coord
 use Rattle.tp_machine.specs.coord.Opened.{idle}
 use Rattle.tp_machine.specs.coord.Row.{coordinator_row, submit_row}
 use Rattle.tp_machine.specs.coord.State.{Coordinator}
-use Rattle.tp_machine.specs.offices.State.{Authority}
+use Rattle.tp_offices.specs.declared.authority.Authority.{Authority}
+use Rattle.tp_offices.specs.declared.master.Master.{Master}
+use Rattle.tp_offices.specs.Master as master
 use Rattle.tp_machine.specs.Parts.{Part}
 use Rattle.tp_machine.specs.server.State.{Server}
-use Rattle.tp_machine.specs.offices.Authority as office
+use Rattle.tp_offices.specs.Authority as office
 use Rattle.tp_machine.specs.server.Opened as server
-use Rattle.tp_machine.specs.server.Row.{prepared, server_row}
+use Rattle.tp_machine.specs.server.Row.{server_row}
 use Rattle.tp_machine.proofs.agreement.ServerActs.{served_here}
 use Rattle.tp_machine.proofs.agreement.Coordinator.{IsFirst}
 use Rattle.tp_machine.proofs.agreement.Logs.{DecidedAs, IsPrepared}
 use Rattle.tp_machine.proofs.agreement.Steps.{begun_lawful, coordinator_lawful, mail_rests, mail_sound, own_server, own_txn, server_agrees, server_lawful}
 use Rattle.tp_machine.proofs.agreement.World.{Agrees, BodyRests}
 use Rattle.tp_machine.proofs.walks.Steps.{Cases, IsCoordinatorUp, IsServerUp, SaysIdle, WasSent, done_by}
-use Rattle.tp_machine.proofs.serial_data.Acts.{coordinator_acts_serial, received_serial, row_serial, server_acts_serial, unmoved_serial}
+use Rattle.tp_machine.proofs.serial_data.Acts.{IsQuiet, coordinator_acts_serial, received_serial, row_serial, server_acts_serial, unmoved_serial}
 use Rattle.tp_machine.proofs.serial_data.Built.{opening_in_range}
 use Rattle.tp_machine.proofs.serial_data.Coordinator.{CoordinatorSerial, PhaseDeeds, coordinator_row_keeps, submit_row_keeps}
 use Rattle.tp_machine.proofs.serial_data.Plan.{BodySerial, LetterSerial, MailSerial, planned}
@@ -84,6 +86,17 @@ tells_serial : (sc : Scenario) (authority : Authority) (said : Body) → Each (L
 tells_serial sc authority (body.Ask ask) = (tt, tt)
 tells_serial sc authority _ = tt
 
+newest_serial : (sc : Scenario) (held : Master) (said : Body) → Each (LetterSerial sc) (master.on_body held said).reaction.letters
+newest_serial sc held (body.Probe probe) = (tt, tt)
+newest_serial sc held _ = tt
+
+-- the authority alone acts
+authority_serial : (sc : Scenario) (w : State) (authority : Authority) (happened : List What) → Serial sc w → Each IsQuiet happened
+    → TurnSerial sc w (record { actors = record w.actors { authority = authority }; happened = happened; letters = [] })
+authority_serial sc w authority happened h q =
+    let t = unmoved_serial sc w happened [] h q tt in
+    record { coordinators = t.coordinators; servers = t.servers; servers_up = t.servers_up; letters = tt; happened = t.happened }
+
 begun_serial : (sc : Scenario) (w : State) → is_built sc ≡ true → IsSound sc w → Agrees sc w → Serial sc w → (txn : TxnId) (part : Part Coordinator) (c : Coordinator) → IsTxn sc txn → IsCoordinatorUp w txn part c
     → is_part_submitted (Some c) ≡ false → TurnSerial sc w (coordinator_acted w.actors txn (acts_by coordinator_fact (what.Submitted txn ∷ []) part.log (with_age (submit_row sc c) (length w.steps))))
 begun_serial sc w built sound agrees h txn part c exists up new =
@@ -104,6 +117,9 @@ serial_cases sc w built sound agrees h =
       coordinator_received = λ n mail txn part c sent up. received_by_coordinator sc w built sound agrees h n mail txn part c sent up;
       authority_told = λ n mail sent.
           unmoved_serial sc w [] (office.authority_row w.actors.authority mail).reaction.letters h tt (tells_serial sc w.actors.authority mail.letter.body);
+      master_told = λ n mail sent. unmoved_serial sc w [] (master.master_row w.actors.master mail).reaction.letters h tt (newest_serial sc w.actors.master mail.letter.body);
+      ticked = λ by. authority_serial sc w (office.ticked by w.actors.authority) (what.Ticked by ∷ []) h (tt, tt);
+      revoked = λ cred exists. authority_serial sc w (office.revoked_with cred w.actors.authority) (what.Revoked cred ∷ []) h (tt, tt);
       begun = λ txn part c exists up new. begun_serial sc w built sound agrees h txn part c exists up new;
     }
 

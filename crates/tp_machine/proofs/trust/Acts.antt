@@ -14,7 +14,7 @@ use Rattle.tp_machine.specs.Sound.{Each}
 use Rattle.tp_machine.specs.coord.State.{Coordinator}
 use Rattle.tp_machine.specs.declared.coord.Phase.TheVariants as phase
 use Rattle.tp_machine.specs.declared.coord.Phase.{Phase}
-use Rattle.tp_machine.specs.offices.Authority as office
+use Rattle.tp_offices.specs.Authority as office
 use Rattle.tp_machine.specs.server.State.{Server}
 use Rattle.tp_machine.proofs.agreement.ServerActs.{number_itself, told_by}
 use Rattle.tp_machine.proofs.agreement.CoordinatorActs.{told_of}
@@ -233,7 +233,7 @@ act_trusts sc w txn was now own append letters says t =
 
 -- the authority's answer is right at its place
 tell_fits : (sc : Scenario) (w : State) (ask : AskRequest) (happened : List What) → Agrees sc w → AuthorityFits sc w.facts (length w.steps) w.actors.authority → IsSubmitted w.facts ask.txn
-    → StapleFits sc (facts_after w happened) (length w.steps + 1) ask.txn (record { place = length w.steps; clock = w.actors.authority.clock; revoked = w.actors.authority.revoked })
+    → StapleFits sc (facts_after w happened) (length w.steps + 1) ask.txn (record { place = length w.steps; clock = w.actors.authority.clock; revoked = office.revocations w.actors.authority.revoked })
 tell_fits sc w ask happened a h submitted =
     let place = length w.steps in
     let l = later_noted w happened (place + 1) (omega arith) in
@@ -269,7 +269,7 @@ pub tells_timely : (sc : Scenario) (w : State) (said : Body) (sent : ℕ) → Tr
     → Each (λ (letter : Letter). BodyTimely sc w.actors.coordinators (length w.steps) letter.body) (office.on_body w.actors.authority said).reaction.letters
 tells_timely sc w (body.Ask ask) sent h m =
     let place = length w.steps in
-    let tell = body.Tell (record { txn = ask.txn; turn = ask.turn; clock = w.actors.authority.clock; revoked = w.actors.authority.revoked }) in (
+    let tell = body.Tell (record { txn = ask.txn; turn = ask.turn; clock = w.actors.authority.clock; revoked = office.revocations w.actors.authority.revoked }) in (
       both_up (CoordinatorFits sc w.facts place) (TurnFits sc sent ask.turn (body.Ask ask)) (TurnFits sc place ask.turn tell) (up_at w.actors.coordinators ask.txn.0)
           (λ c fits k unsure. record { past = (k unsure).past; now = λ same. tell_now c c.phase place (fits.above unsure) })
           (up_fits sc w ask.txn.0 (slice_get w.actors.coordinators ask.txn.0) h refl) m,

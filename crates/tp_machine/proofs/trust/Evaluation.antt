@@ -1,14 +1,14 @@
 -- What is evaluated with a staple of a place of a history is right there.
-use Rattle.std.proofs.Common.{◌≡◌, ℕ, ◌&&◌, List, Bool, true, false, Option, Some, None, option_map, slice_get, refl, sym, ap, subst, ◌∙◌}
+use Rattle.std.proofs.Common.{◌≡◌, ℕ, ◌&&◌, List, Bool, true, false, Option, Some, None, option_map, slice_get, refl, sym, ap, ◌∙◌}
 use Rattle.std.specs.List.{list_all}
 use Rattle.std.specs.Option.{is_some}
 use Rattle.tp_model.specs.Words.{Action, AdminId, Fact, Item, Policy, Query, Scenario, ServerId, Staple, Transaction, Verdict, Version}
-use Rattle.tp_model.specs.Authorisation.{action_of, allows_held, is_allowed, is_certified, is_own_query, is_true_verdict, policy_at, tests_item, tests_query, tests_version}
+use Rattle.tp_model.specs.Authorisation.{action_of, allows_held, is_allowed, is_certified, is_own_query, policy_at, tests_item, tests_query, tests_version}
 use Rattle.tp_model.specs.Credentials.{is_presented}
 use Rattle.tp_model.specs.Policies.{allows}
 use Rattle.tp_model.specs.Queries.{item_of, query_at}
 use Rattle.tp_eval.specs.declared.policies.Certificate.{Certificate}
-use Rattle.tp_eval.specs.mirrors.Gathered.{rule_of, uses_in}
+use Rattle.tp_eval.specs.mirrors.Gathered.{rule_of}
 use Rattle.tp_eval.proofs.CertificateLemmas.{exists_where_allowed, passes_where, presented_where}
 use Rattle.tp_eval.proofs.SoundLemmas.{Asked}
 use Rattle.tp_check.specs.OfHistory.{IsAt, is_checked_of, is_verdict_checked}

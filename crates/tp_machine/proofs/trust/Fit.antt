@@ -19,7 +19,8 @@ use Rattle.tp_machine.specs.declared.coord.Phase.{Phase}
 use Rattle.tp_machine.specs.declared.coord.Reply.{Reply}
 use Rattle.tp_machine.specs.declared.coord.Round.{Round}
 use Rattle.tp_machine.specs.declared.server.Entry.{Entry}
-use Rattle.tp_machine.specs.offices.State.{Authority}
+use Rattle.tp_offices.specs.Authority.{revocations}
+use Rattle.tp_offices.specs.declared.authority.Authority.{Authority}
 use Rattle.tp_machine.specs.server.Row.{version_known}
 use Rattle.tp_machine.specs.server.State.{Server}
 use Rattle.tp_machine.proofs.basics.Facts.{Grows}
@@ -92,10 +93,12 @@ pub record ServerFits (sc : Scenario) (facts : List Fact) (place : ℕ) (s : Ser
   pub known : (admin : AdminId) → IsAdmin sc admin → (version_known s admin).0 ≤ newest sc admin place facts
   pub all : EachPlaced (λ (n : ℕ) (entry : Entry). AreAll sc (record { 0 = n }) (deed_numbers entry.deeds)) s.entries
 
--- the authority's clock and revocations are those of the facts
+-- the authority's clock and revocations are those of the facts; each credential that was revoked stands at its own place
 pub record AuthorityFits (sc : Scenario) (facts : List Fact) (place : ℕ) (authority : Authority) : Type 0 where
   pub clock_is : authority.clock ≡ clock_at sc place facts
-  pub revoked_is : (cred : CredId) → is_among authority.revoked cred ≡ is_among (revoked_at place facts) cred
+  pub revoked_is : (cred : CredId) → is_among (revocations authority.revoked) cred ≡ is_among (revoked_at place facts) cred
+  pub placed : EachPlaced (λ (n : ℕ) (cred : CredId). cred.0 ≡ n) authority.revoked
+  pub places : length authority.revoked ≡ length sc.creds
 
 -- a round is the first, and the replies that it keeps fit
 pub record RoundFits (sc : Scenario) (facts : List Fact) (place : ℕ) (txn : TxnId) (round : Round) : Type 0 where

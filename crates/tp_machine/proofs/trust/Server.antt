@@ -21,7 +21,7 @@ use Rattle.tp_machine.specs.server.Row.{asked_item, begins, done, entry_at, firs
 use Rattle.tp_machine.specs.server.State.{Server}
 use Rattle.tp_machine.proofs.basics.Ids.{number_itself}
 use Rattle.tp_machine.proofs.walks.ServerRows.{server_by}
-use Rattle.tp_machine.proofs.ids.Built.{IsValid}
+use Rattle.tp_machine.proofs.ids.Valid.{IsValid}
 use Rattle.tp_machine.proofs.basics.Lists.{each_get, each_map, placed_emptied, placed_set}
 use Rattle.tp_machine.proofs.ids.Server.{verdict_sound}
 use Rattle.tp_machine.proofs.trust.Built.{IsFirstForm, both_true, open_policy_allows, open_policy_proves}

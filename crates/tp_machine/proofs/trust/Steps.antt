@@ -1,10 +1,11 @@
 -- Trust, step by step: it holds before the first step, and each step keeps it.
 use Rattle.std.specs.Option.{option_map_or}
+use Rattle.std.proofs.lemmas.List.{length-replicate}
 use Rattle.std.proofs.Common.{Bool, IfSome, List, None, Option, Some, [], arith, false, length, refl, slice_get, subst, suc, sym, true, unwrap_or, zero, ℕ, ℤ, ◌+◌, ◌==◌, ◌||◌, ◌∙◌, ◌∷◌, ◌≡◌}
 use Rattle.tp_model.specs.Built.{is_built}
 use Rattle.tp_model.specs.Facts.{is_submission}
 use Rattle.tp_model.specs.Queries.{written_constant}
-use Rattle.tp_model.specs.Words.{Actor, AdminId, Body, Fact, Mail, Query, Scenario, ServerDecl, ServerId, Step, TxnId, Version, What}
+use Rattle.tp_model.specs.Words.{Actor, AdminId, Body, CredId, Fact, Mail, Query, Scenario, ServerDecl, ServerId, Step, TxnId, Version, What}
 use Rattle.tp_model.specs.Words.actor
 use Rattle.tp_model.specs.Words.body
 use Rattle.tp_model.specs.Words.step
@@ -17,7 +18,8 @@ use Rattle.tp_machine.specs.coord.Opened as coord
 use Rattle.tp_machine.specs.coord.Row.{begins, coordinator_row, is_begun, query_of, sends_first, server_of, submit_row}
 use Rattle.tp_machine.specs.coord.State.{Coordinator}
 use Rattle.tp_machine.specs.declared.server.Entry.{Entry}
-use Rattle.tp_machine.specs.offices.Authority as office
+use Rattle.tp_offices.specs.Authority as office
+use Rattle.tp_offices.specs.Master as master
 use Rattle.tp_machine.specs.server.Opened as server
 use Rattle.tp_machine.specs.server.Row.{server_row}
 use Rattle.tp_machine.specs.server.State.{Server}
@@ -27,13 +29,14 @@ use Rattle.tp_machine.proofs.agreement.World.{Agrees}
 use Rattle.tp_machine.proofs.walks.Steps.{Cases, IsCoordinatorUp, IsServerUp, SaysIdle, WasSent, done_by}
 use Rattle.tp_machine.proofs.basics.Facts.{ArePast, any_append}
 use Rattle.tp_machine.proofs.basics.Ids.{number_itself}
-use Rattle.tp_machine.proofs.ids.Built.{IsValid, valid_built}
+use Rattle.tp_machine.proofs.ids.Valid.{IsValid, valid_built}
 use Rattle.tp_machine.proofs.basics.Lists.{at_made, each_get, placed_none}
 use Rattle.tp_machine.proofs.trust.Acts.{ActTrusts, act_trusts, coordinator_acts_trusts, server_acts_trusts, tells_fit, tells_timely, timely_closed, unmoved_trusts}
 use Rattle.tp_machine.proofs.trust.Built.{IsFirstForm, first_form}
 use Rattle.tp_machine.proofs.trust.Coordinator.{CoordinatorFits, CoordinatorTrusts, LetterOfTurn, RecordDecides, coordinator_row_trusts, submit_row_trusts}
 use Rattle.tp_machine.proofs.trust.Fit.{AreAll, BodyFits, IsSubmitted, Later, MailFits, ServerFits, deed_numbers, maybe_stays}
 use Rattle.tp_machine.proofs.trust.Kept.{AreKept, IsKept, IsTrusted}
+use Rattle.tp_machine.proofs.trust.Offices.{newest_fits, newest_timely, none_revoked, revoked_trusts, ticked_trusts}
 use Rattle.tp_machine.proofs.trust.Server.{ServerTrusted, server_row_trusts}
 use Rattle.tp_machine.proofs.trust.Turns.{AreFew, IsNoTell, TurnFits, few_queries, stamp_of, timely_anywhere}
 use Rattle.tp_machine.proofs.trust.World.{BodyTimely, CoordinatorPartFits, MailTimely, ServerPartFits, StampFits, Timely, Trusts, TurnTrusts, concluded_trusts, coordinator_stays, facts_after, later_noted, up_at}
@@ -173,6 +176,11 @@ trusts_cases sc w form valid few sound a h =
           let m = mail_trusted sc w n mail actor.Authority sound h sent in
           unmoved_trusts sc w [] (office.authority_row w.actors.authority mail).reaction.letters a.past h (record { still = tt; fit = λ facts. tt })
           (tells_fit sc w mail.letter.body mail.sent a h.authority m.fits) (tells_timely sc w mail.letter.body mail.sent h m.timely);
+      master_told = λ n mail sent.
+          unmoved_trusts sc w [] (master.master_row w.actors.master mail).reaction.letters a.past h (record { still = tt; fit = λ facts. tt })
+          (newest_fits sc w mail.letter.body) (newest_timely sc w mail.letter.body mail.sent (mail_trusted sc w n mail actor.Master sound h sent).timely);
+      ticked = λ by. ticked_trusts sc w by a.past h;
+      revoked = λ cred exists. revoked_trusts sc w cred exists a.past h;
       begun = λ txn part c exists up new. begun_trusts sc w sound a.past h txn part c up new;
     }
 
@@ -202,7 +210,12 @@ trusts_opening sc built =
     let form : IsFirstForm sc = first_form sc built in
     let T = Timely sc (opening_state sc).actors.coordinators in
     record {
-      authority = record { clock_is = omega arith; revoked_is = λ cred. refl };
+      authority = record {
+        clock_is = omega arith;
+        revoked_is = λ cred. none_revoked (length sc.creds) cred;
+        placed = placed_none (λ (n : ℕ) (cred : CredId). cred.0 ≡ n) (length sc.creds);
+        places = length-replicate {A = Option CredId} (length sc.creds) None;
+      };
       servers = λ n part e. at_made (λ (k : ℕ) (found : Part Server). ServerPartFits sc [] 0 T found) (λ (k : ℕ). opened_part (server.opened sc (record { 0 = k }))) 0 (length sc.servers)
           (λ k within. record {
             state = record {

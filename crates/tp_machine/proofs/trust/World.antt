@@ -2,8 +2,8 @@
 use Rattle.std.specs.List.{cons_option, filter_map, sum_by}
 use Rattle.std.proofs.Common.{Bool, IfSome, List, None, Option, Some, [], ap, arith, length, option_and_then, refl, slice_get, subst, sym, true, ℕ, ◌++◌, ◌+◌, ◌<◌, ◌||◌, ◌∙◌, ◌∷◌, ◌≡◌, ◌≤◌}
 use Rattle.std.proofs.lemmas.List.Sums.{sum_by-append, sum_by-cons}
-use Rattle.tp_model.specs.Credentials.{is_among, revoked_by, revoked_what, ticks, ticks_what}
-use Rattle.tp_model.specs.Facts.{before, is_submission}
+use Rattle.tp_model.specs.Credentials.{clock_at, is_among, revoked_at, revoked_by, revoked_what, ticks, ticks_what}
+use Rattle.tp_model.specs.Facts.{is_submission}
 use Rattle.tp_model.specs.Words.{Body, CredId, Decision, Fact, Instance, Letter, Mail, Scenario, Step, TxnId, Verdict, What}
 use Rattle.tp_model.specs.Words.decision
 use Rattle.tp_model.specs.Words.what
@@ -12,7 +12,7 @@ use Rattle.tp_machine.specs.Parts.{Part}
 use Rattle.tp_machine.specs.Sound.{Each, EachAt}
 use Rattle.tp_machine.specs.coord.State.{Coordinator}
 use Rattle.tp_machine.specs.declared.actors.Actors.{Actors}
-use Rattle.tp_machine.specs.offices.State.{Authority}
+use Rattle.tp_offices.specs.declared.authority.Authority.{Authority}
 use Rattle.tp_machine.specs.server.State.{Server}
 use Rattle.tp_machine.proofs.agreement.World.{Agrees, steps_more}
 use Rattle.tp_machine.proofs.basics.Facts.{ArePast, any_append, append_none, before_past, filter_map_append, grows_noted, noted_past, past_as}
@@ -200,25 +200,41 @@ past_after w happened past =
     let place = length w.steps in
     each_append (λ (fact : Fact). fact.place < place + 1) w.facts (noted place happened) (past_as place (place + 1) (omega arith) w.facts past) (noted_past place happened)
 
+-- the clock after a turn
+pub clock_after : (sc : Scenario) (w : State) (happened : List What) → ArePast (length w.steps) w.facts
+    → clock_at sc (length w.steps + 1) (facts_after w happened) ≡ clock_at sc (length w.steps) w.facts + sum_by ticks (noted (length w.steps) happened)
+clock_after sc w happened past =
+    let place = length w.steps in
+    let now = facts_after w happened in
+    let was : clock_at sc place w.facts ≡ sc.clock + sum_by ticks w.facts = ap (λ (facts : List Fact). sc.clock + sum_by ticks facts) (before_past place w.facts past) in
+    let all : clock_at sc (place + 1) now ≡ sc.clock + sum_by ticks now = ap (λ (facts : List Fact). sc.clock + sum_by ticks facts) (before_past (place + 1) now (past_after w happened past)) in
+    let sum_now : sum_by ticks now ≡ sum_by ticks w.facts + sum_by ticks (noted place happened) = sum_by-append ticks w.facts (noted place happened) in
+    omega (arith, was, all, sum_now)
+
+-- the revocations after a turn
+pub revoked_after : (w : State) (happened : List What) → ArePast (length w.steps) w.facts
+    → revoked_at (length w.steps + 1) (facts_after w happened) ≡ revoked_at (length w.steps) w.facts ++ filter_map revoked_by (noted (length w.steps) happened)
+revoked_after w happened past =
+    let place = length w.steps in
+    ap (filter_map revoked_by) (before_past (place + 1) (facts_after w happened) (past_after w happened past))
+    ∙ (filter_map_append revoked_by w.facts (noted place happened)
+    ∙ ap (λ (facts : List Fact). filter_map revoked_by facts ++ filter_map revoked_by (noted place happened)) (sym (before_past place w.facts past)))
+
 -- an authority that stays fits the facts after a turn in which no time passes and nothing is revoked
 pub authority_stays : (sc : Scenario) (w : State) (happened : List What) (authority : Authority) → ArePast (length w.steps) w.facts → Each IsStill happened → AuthorityFits sc w.facts (length w.steps) authority
     → AuthorityFits sc (facts_after w happened) (length w.steps + 1) authority
 authority_stays sc w happened authority past still h =
     let place = length w.steps in
-    let now = facts_after w happened in
-    let was : before place w.facts ≡ w.facts = before_past place w.facts past in
-    let all : before (place + 1) now ≡ now = before_past (place + 1) now (past_after w happened past) in
-    let sum_now : sum_by ticks now ≡ sum_by ticks w.facts + sum_by ticks (noted place happened) = sum_by-append ticks w.facts (noted place happened) in
-    let none : sum_by ticks (noted place happened) ≡ 0 = no_ticks place happened still in
-    let same : sum_by ticks w.facts ≡ sum_by ticks now = omega (arith, sum_now, none) in
+    let clock = clock_after sc w happened past in
+    let none = no_ticks place happened still in
+    let was = h.clock_is in
+    let same : revoked_at (place + 1) (facts_after w happened) ≡ revoked_at place w.facts =
+    revoked_after w happened past ∙ (ap (λ (more : List CredId). revoked_at place w.facts ++ more) (no_revocation place happened still) ∙ append_none (revoked_at place w.facts)) in
     record {
-      clock_is = h.clock_is ∙ ap (λ (n : ℕ). sc.clock + n) (ap (sum_by ticks) was ∙ (same ∙ ap (sum_by ticks) (sym all)));
-      revoked_is = λ cred. h.revoked_is cred
-          ∙ (ap (λ (earlier : List Fact). is_among (filter_map revoked_by earlier) cred) was
-          ∙ ap (λ (revoked : List CredId). is_among revoked cred)
-          (sym (filter_map_append revoked_by w.facts (noted place happened)
-          ∙ (ap (λ (more : List CredId). filter_map revoked_by w.facts ++ more) (no_revocation place happened still) ∙ append_none (filter_map revoked_by w.facts)))
-          ∙ ap (filter_map revoked_by) (sym all)));
+      clock_is = omega (arith, was, clock, none);
+      revoked_is = λ cred. h.revoked_is cred ∙ ap (λ (revoked : List CredId). is_among revoked cred) (sym same);
+      placed = h.placed;
+      places = h.places;
     }
 
 -- ---- a step

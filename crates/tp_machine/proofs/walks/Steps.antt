@@ -1,8 +1,8 @@
 -- One walk of a step: what a theorem shows of each kind of step it shows of every step. A new kind of step is a new field here, and a
 -- field of each theorem's cases.
-use Rattle.std.proofs.Common.{◌≡◌, ℕ, ◌<◌, List, [], ◌∷◌, length, slice_get, slice_set, Bool, true, false, Option, Some, None, if◌then◌else◌, refl, sym, subst, arith}
+use Rattle.std.proofs.Common.{◌≡◌, ℕ, List, [], ◌∷◌, length, slice_get, Bool, true, false, Option, Some, None, if◌then◌else◌, refl, sym, subst, arith}
 use Rattle.std.specs.Option.{option_map_or}
-use Rattle.tp_model.specs.Words.{Actor, Mail, Scenario, ServerId, Step, TxnId, What}
+use Rattle.tp_model.specs.Words.{Actor, CredId, Mail, Scenario, ServerId, Step, TxnId, What}
 use Rattle.tp_model.specs.Words.actor
 use Rattle.tp_model.specs.Words.step
 use Rattle.tp_model.specs.Words.what
@@ -11,8 +11,8 @@ use Rattle.tp_machine.specs.declared.error.StepError.{StepError}
 use Rattle.tp_machine.specs.declared.error.StepError.TheVariants as error
 use Rattle.tp_machine.specs.Parts.{Part}
 use Rattle.tp_machine.specs.server.State.{Server}
-use Rattle.tp_machine.specs.Machine.{Machine, State, Turn, acts_by, concluded, coordinator_acted, coordinator_fact, coordinator_submits_up, coordinator_takes_up, delivered, done, idles, is_part_submitted, is_submitted, received, refusal, server_acted, server_fact, server_takes_up, submitted, submitted_by, to_authority, to_coordinator, to_server, with_age}
-use Rattle.tp_machine.specs.Sound.{IsStepOf, IsTxn}
+use Rattle.tp_machine.specs.Machine.{Machine, State, Turn, acts_by, concluded, coordinator_acted, coordinator_fact, coordinator_submits_up, coordinator_takes_up, delivered, done, idles, is_part_submitted, is_submitted, received, refusal, revokes, server_acted, server_fact, server_takes_up, submitted, submitted_by, ticks, to_authority, to_coordinator, to_master, to_server, with_age}
+use Rattle.tp_machine.specs.Sound.{IsCred, IsStepOf, IsTxn}
 use Rattle.tp_machine.specs.coord.Row.{coordinator_row, submit_row}
 use Rattle.tp_machine.specs.server.Row.{server_row}
 use Rattle.tp_machine.proofs.basics.Logs.{set_same}
@@ -47,6 +47,9 @@ pub record Cases (sc : Scenario) (w : State) (P : Step → Turn → Type 0) : Ty
   pub coordinator_received : (n : ℕ) (mail : Mail) (txn : TxnId) (part : Part Coordinator) (c : Coordinator) → WasSent w n mail (actor.Coordinator txn) → IsCoordinatorUp w txn part c
       → P (step.Deliver n) (coordinator_acted w.actors txn (acts_by coordinator_fact [] part.log (coordinator_row sc c mail)))
   pub authority_told : (n : ℕ) (mail : Mail) → WasSent w n mail actor.Authority → P (step.Deliver n) (to_authority w.actors mail)
+  pub master_told : (n : ℕ) (mail : Mail) → WasSent w n mail actor.Master → P (step.Deliver n) (to_master w.actors mail)
+  pub ticked : (by : ℕ) → P (step.Tick by) (ticks w.actors by)
+  pub revoked : (cred : CredId) → IsCred sc cred → P (step.Revoke cred) (revokes w.actors cred)
   pub begun : (txn : TxnId) (part : Part Coordinator) (c : Coordinator) → IsTxn sc txn → IsCoordinatorUp w txn part c → is_part_submitted (Some c) ≡ false
       → P (step.Submit txn) (coordinator_acted w.actors txn (acts_by coordinator_fact (what.Submitted txn ∷ []) part.log (with_age (submit_row sc c) (length w.steps))))
 
@@ -81,7 +84,7 @@ received_by : (sc : Scenario) (w : State) (P : Step → Turn → Type 0) → Cas
 received_by sc w P cases n mail (actor.Server at) sent = server_by_part sc w P cases n mail at (slice_get w.actors.servers at.0) sent refl
 received_by sc w P cases n mail (actor.Coordinator txn) sent = coordinator_by_part sc w P cases n mail txn (slice_get w.actors.coordinators txn.0) sent refl
 received_by sc w P cases n mail actor.Authority sent = cases.authority_told n mail sent
-received_by sc w P cases n mail actor.Master sent = cases.idle (step.Deliver n) [] refl
+received_by sc w P cases n mail actor.Master sent = cases.master_told n mail sent
 
 delivered_by : (sc : Scenario) (w : State) (P : Step → Turn → Type 0) → Cases sc w P → (n : ℕ) (found : Option Mail) → slice_get w.mails n ≡ found → P (step.Deliver n) (delivered sc w.actors found)
 delivered_by sc w P cases n None e = cases.idle (step.Deliver n) [] refl
@@ -118,4 +121,6 @@ done_by sc m P Q cases count ends unchanged (step.Deliver mail) exists allowed =
     ends (step.Deliver mail) (delivered sc m.state.actors (slice_get m.state.mails mail)) (delivered_by sc m.state P cases mail (slice_get m.state.mails mail) refl)
 done_by sc m P Q cases count ends unchanged (step.Lose mail) exists allowed =
     ends (step.Lose mail) (idles m.state.actors (what.Lost mail ∷ [])) (cases.idle (step.Lose mail) (what.Lost mail ∷ []) refl)
+done_by sc m P Q cases count ends unchanged (step.Tick by) exists allowed = ends (step.Tick by) (ticks m.state.actors by) (cases.ticked by)
+done_by sc m P Q cases count ends unchanged (step.Revoke cred) exists allowed = ends (step.Revoke cred) (revokes m.state.actors cred) (cases.revoked cred exists)
 done_by sc m P Q cases count ends unchanged _ exists allowed = unchanged

@@ -16,7 +16,6 @@ use Rattle.tp_types.specs.declared.records.Outcome.TheVariants.{Commit}
 use Rattle.tp_model.specs.Limits.{is_between}
 use Rattle.tp_model.specs.Queries.{item_of, query_at}
 use Rattle.tp_model.specs.Stage.{is_empty}
-use Rattle.tp_machine.specs.coord.Row.{told}
 use Rattle.tp_machine.specs.declared.server.Entry.{Entry}
 use Rattle.tp_machine.specs.server.State.{Server}
 

@@ -1,2 +1,0 @@
-pub mod Authority
-pub mod State
