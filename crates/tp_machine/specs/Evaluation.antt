@@ -39,8 +39,8 @@ verdict_of server number admin version place found =
     }
 
 -- the verdict on a query of the transaction by a version of the administrator's policy, at the place of the staple
-abbrev pub evaluated : Scenario → Transaction → Staple → ServerId → ℕ → AdminId → Version → Verdict
-evaluated sc txn staple server number admin version =
+abbrev pub evaluation : Scenario → Transaction → Staple → ServerId → ℕ → AdminId → Version → Verdict
+evaluation sc txn staple server number admin version =
     verdict_of server number admin version staple.place (certificate_of_version sc txn staple number (policy_at sc admin version))
 
 -- ---- what it says of a history
@@ -55,4 +55,4 @@ pub record IsRightVerdict (sc : Scenario) (facts : List Fact) (txn : Transaction
 -- where the clock and the revocations of a staple are those of its place, what is evaluated with it is right there
 abbrev pub EvaluatesRight : Type 0
 EvaluatesRight = (sc : Scenario) (facts : List Fact) (txn : Transaction) (staple : Staple) (server : ServerId) (number : ℕ) (admin : AdminId) (version : Version)
-    → IsAt sc staple.place facts staple.clock staple.revoked → IsRightVerdict sc facts txn (evaluated sc txn staple server number admin version)
+    → IsAt sc staple.place facts staple.clock staple.revoked → IsRightVerdict sc facts txn (evaluation sc txn staple server number admin version)

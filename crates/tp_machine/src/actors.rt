@@ -22,7 +22,7 @@ pub struct Actors {
 }
 
 impl Actors {
-    ghost use Rattle.tp_machine.specs.mirrors.Acts.{Turns, SameUp};
+    ghost use Rattle.tp_machine.specs.mirrors.Acts.{Moves, SameUp};
 
     /// The actors as they stand before the first step.
     pub fn opened(alloc: Global, scenario: &Scenario) -> Result<Actors, NoMemory>
@@ -69,7 +69,7 @@ impl Actors {
         scenario: &Scenario,
         mail: &Mail,
     ) -> Result<Act, NoMemory>
-        ensures ok { IfOk result (λ act. Turns (machine.received scenario.now self.old mail.now mail.now.letter.to) self.new act) }
+        ensures ok { IfOk result (λ act. Moves (machine.receipt scenario.now self.old mail.now mail.now.letter.to) self.new act) }
         ensures up { SameUp self.old self.new }
     {
         match mail.letter.to {
@@ -87,7 +87,7 @@ impl Actors {
         mail: &Mail,
         at: ServerId,
     ) -> Result<Act, NoMemory>
-        ensures ok { IfOk result (λ act. Turns (machine.to_server scenario.now self.old mail.now at (slice_get self.old.servers at.0)) self.new act) }
+        ensures ok { IfOk result (λ act. Moves (machine.to_server scenario.now self.old mail.now at (slice_get self.old.servers at.0)) self.new act) }
         ensures up { SameUp self.old self.new }
     {
         match self.servers.get_mut(at.0 as usize) {
@@ -103,7 +103,7 @@ impl Actors {
         mail: &Mail,
         txn: TxnId,
     ) -> Result<Act, NoMemory>
-        ensures ok { IfOk result (λ act. Turns (machine.to_coordinator scenario.now self.old mail.now txn (slice_get self.old.coordinators txn.0)) self.new act) }
+        ensures ok { IfOk result (λ act. Moves (machine.to_coordinator scenario.now self.old mail.now txn (slice_get self.old.coordinators txn.0)) self.new act) }
         ensures up { SameUp self.old self.new }
     {
         match self.coordinators.get_mut(txn.0 as usize) {
@@ -113,7 +113,7 @@ impl Actors {
     }
 
     fn to_authority(&self, alloc: Global, mail: &Mail) -> Result<Act, NoMemory>
-        ensures { IfOk result (λ act. Turns (machine.to_authority self.now mail.now) self.now act) }
+        ensures { IfOk result (λ act. Moves (machine.to_authority self.now mail.now) self.now act) }
     {
         let Reaction { append: _, letters } = self.authority.receive(alloc, mail)?;
         Ok(Act {
@@ -123,7 +123,7 @@ impl Actors {
     }
 
     fn to_master(&self, alloc: Global, mail: &Mail) -> Result<Act, NoMemory>
-        ensures { IfOk result (λ act. Turns (machine.to_master self.now mail.now) self.now act) }
+        ensures { IfOk result (λ act. Moves (machine.to_master self.now mail.now) self.now act) }
     {
         let Reaction { append: _, letters } = self.master.receive(alloc, mail)?;
         Ok(Act {
@@ -135,7 +135,7 @@ impl Actors {
     /// The clock moves.
     pub fn tick(&mut self, alloc: Global, by: u64) -> Result<Act, NoMemory>
         requires { self.old.authority.clock + by < 2 ^ 63 }
-        ensures ok { IfOk result (λ act. Turns (machine.ticks self.old by) self.new act) }
+        ensures ok { IfOk result (λ act. Moves (machine.ticks self.old by) self.new act) }
         ensures up { SameUp self.old self.new }
     {
         let happened = List::of_one(alloc, What::Ticked(by))?;
@@ -148,7 +148,7 @@ impl Actors {
 
     /// A credential is revoked.
     pub fn revoke(&mut self, alloc: Global, cred: CredId) -> Result<Act, NoMemory>
-        ensures ok { IfOk result (λ act. Turns (machine.revokes self.old cred) self.new act) }
+        ensures ok { IfOk result (λ act. Moves (machine.revokes self.old cred) self.new act) }
         ensures up { SameUp self.old self.new }
     {
         let happened = List::of_one(alloc, What::Revoked(cred))?;
@@ -167,7 +167,7 @@ impl Actors {
         txn: TxnId,
         place: Place,
     ) -> Result<Act, NoMemory>
-        ensures ok { IfOk result (λ act. Turns (machine.submitted scenario.now self.old txn place) self.new act) }
+        ensures ok { IfOk result (λ act. Moves (machine.submission scenario.now self.old txn place) self.new act) }
         ensures up { SameUp self.old self.new }
     {
         match self.coordinators.get_mut(txn.0 as usize) {

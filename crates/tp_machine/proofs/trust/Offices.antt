@@ -17,7 +17,7 @@ use Rattle.tp_machine.proofs.basics.Facts.{ArePast, any_append, append_none}
 use Rattle.tp_machine.proofs.basics.Lists.{placed_set}
 use Rattle.tp_machine.proofs.trust.Fit.{AuthorityFits, BodyFits, maybe_stays}
 use Rattle.tp_machine.proofs.trust.Turns.{TurnFits}
-use Rattle.tp_machine.proofs.trust.World.{BodyTimely, Timely, Trusts, TurnTrusts, WhatFits, clock_after, coordinator_up_stays, facts_after, later_noted, revoked_after, server_part_stays, up_at}
+use Rattle.tp_machine.proofs.trust.World.{BodyTimely, MoveTrusts, Timely, Trusts, WhatFits, clock_after, coordinator_up_stays, facts_after, later_with_facts, revoked_after, server_part_stays, up_at}
 
 -- ---- one credential more
 
@@ -96,15 +96,15 @@ revoked_fits sc w cred authority exists past h =
       places = set_length authority.revoked cred.0 (Some cred) ∙ count;
     }
 
--- ---- the turn
+-- ---- the move
 
 -- the authority alone acts
 authority_trusts : (sc : Scenario) (w : State) (authority : Authority) (happened : List What) → Trusts sc w → AuthorityFits sc (facts_after w happened) (length w.steps + 1) authority
-    → ((facts : List Fact) → Each (WhatFits sc facts (length w.steps)) happened) → TurnTrusts sc w (record { actors = record w.actors { authority = authority }; happened = happened; letters = [] })
+    → ((facts : List Fact) → Each (WhatFits sc facts (length w.steps)) happened) → MoveTrusts sc w (record { actors = record w.actors { authority = authority }; happened = happened; letters = [] })
 authority_trusts sc w authority happened h fits facts =
     let place = length w.steps in
     let T = Timely sc w.actors.coordinators in
-    let l = later_noted w happened (place + 1) (omega arith) in
+    let l = later_with_facts w happened (place + 1) (omega arith) in
     record {
       authority = fits;
       servers = λ n part e. server_part_stays sc w.facts (facts_after w happened) place (place + 1) T T part l (λ said t. t) (h.servers n part e);
@@ -115,11 +115,11 @@ authority_trusts sc w authority happened h fits facts =
       facts = facts (facts_after w happened);
     }
 
-pub ticked_trusts : (sc : Scenario) (w : State) (by : ℕ) → ArePast (length w.steps) w.facts → Trusts sc w → TurnTrusts sc w (moves w.actors by)
+pub ticked_trusts : (sc : Scenario) (w : State) (by : ℕ) → ArePast (length w.steps) w.facts → Trusts sc w → MoveTrusts sc w (moves w.actors by)
 ticked_trusts sc w by past h =
     authority_trusts sc w (office.ticked by w.actors.authority) (what.Ticked by ∷ []) h (ticked_fits sc w by w.actors.authority past h.authority) (λ facts. (tt, tt))
 
-pub revoked_trusts : (sc : Scenario) (w : State) (cred : CredId) → IsCred sc cred → ArePast (length w.steps) w.facts → Trusts sc w → TurnTrusts sc w (revokes w.actors cred)
+pub revoked_trusts : (sc : Scenario) (w : State) (cred : CredId) → IsCred sc cred → ArePast (length w.steps) w.facts → Trusts sc w → MoveTrusts sc w (revokes w.actors cred)
 revoked_trusts sc w cred exists past h =
     authority_trusts sc w (office.revoked_with cred w.actors.authority) (what.Revoked cred ∷ []) h (revoked_fits sc w cred w.actors.authority exists past h.authority) (λ facts. (tt, tt))
 
