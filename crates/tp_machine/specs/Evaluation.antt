@@ -1,5 +1,5 @@
 -- The verdict that the evaluation of a query gives, with the clock and the revocations of a staple.
-use Rattle.std.specs.Prelude.{◌≡◌, ℕ, ◌&&◌, List, Bool, true, Option, Some, None, option_map, slice_get}
+use Rattle.std.specs.Prelude.{◌≡◌, ℕ, ◌&&◌, List, true, Option, Some, None, option_map, slice_get}
 use Rattle.std.specs.Option.{is_some}
 use Rattle.tp_model.specs.Words.{Action, AdminId, Fact, Item, Policy, Query, Scenario, ServerId, Staple, Transaction, Verdict, Version}
 use Rattle.tp_model.specs.Authorisation.{action_of, is_allowed, is_certified, is_own_query, is_true_verdict, policy_at}
@@ -39,8 +39,8 @@ verdict_of server number admin version place found =
     }
 
 -- the verdict on a query of the transaction by a version of the administrator's policy, at the place of the staple
-abbrev pub evaluated : Scenario → Transaction → Staple → ServerId → ℕ → AdminId → Version → Verdict
-evaluated sc txn staple server number admin version =
+abbrev pub evaluation : Scenario → Transaction → Staple → ServerId → ℕ → AdminId → Version → Verdict
+evaluation sc txn staple server number admin version =
     verdict_of server number admin version staple.place (certificate_of_version sc txn staple number (policy_at sc admin version))
 
 -- ---- what it says of a history
@@ -55,4 +55,4 @@ pub record IsRightVerdict (sc : Scenario) (facts : List Fact) (txn : Transaction
 -- where the clock and the revocations of a staple are those of its place, what is evaluated with it is right there
 abbrev pub EvaluatesRight : Type 0
 EvaluatesRight = (sc : Scenario) (facts : List Fact) (txn : Transaction) (staple : Staple) (server : ServerId) (number : ℕ) (admin : AdminId) (version : Version)
-    → IsAt sc staple.place facts staple.clock staple.revoked → IsRightVerdict sc facts txn (evaluated sc txn staple server number admin version)
+    → IsAt sc staple.place facts staple.clock staple.revoked → IsRightVerdict sc facts txn (evaluation sc txn staple server number admin version)

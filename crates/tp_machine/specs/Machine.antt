@@ -15,7 +15,7 @@ use Rattle.tp_machine.specs.Parts.{Part}
 use Rattle.tp_machine.specs.server.State.{Server}
 use Rattle.tp_types.specs.Effect.{Effect}
 use Rattle.tp_machine.specs.coord.Opened as coord
-use Rattle.tp_machine.specs.coord.Row.{coordinator_row, is_begun, submit_row, placed}
+use Rattle.tp_machine.specs.coord.Row.{coordinator_row, is_begun, submit_row, coordinator_with_age}
 use Rattle.tp_machine.specs.offices.Authority as office
 use Rattle.tp_machine.specs.server.Opened as server
 use Rattle.tp_machine.specs.server.Row.{server_row}
@@ -34,45 +34,45 @@ pub record Machine : Type 0 where
 
 -- ---- what all steps share
 
--- what a step did: the actors after it, what happened, and what was sent
-pub record Turn : Type 0 where
+-- what a step did to all actors: the actors after it, what happened, and what was sent
+pub record Move : Type 0 where
   pub actors : Actors
   pub happened : List What
   pub letters : List Letter
 
 -- the letters as mails of these numbers, sent at a place
-abbrev pub posted : ℕ → ℕ → List Letter → List Mail
-posted place number [] = []
-posted place number (letter ∷ letters) = record { number = number; sent = place; letter = letter } ∷ posted place (number + 1) letters
+abbrev pub mails_of : ℕ → ℕ → List Letter → List Mail
+mails_of place number [] = []
+mails_of place number (letter ∷ letters) = record { number = number; sent = place; letter = letter } ∷ mails_of place (number + 1) letters
 
 -- what happened, at a place
-abbrev pub noted : ℕ → List What → List Fact
-noted place happened = map (λ (w : What). record { place = place; what = w }) happened
+abbrev pub facts_of : ℕ → List What → List Fact
+facts_of place happened = map (λ (w : What). record { place = place; what = w }) happened
 
--- a step ends: its letters are posted, its facts are noted, and it is added to the steps
-abbrev pub concluded : State → Step → Turn → State
-concluded w taken turn =
+-- the state after a step: its letters are mails, what happened are facts of its place, and it is added to the steps
+abbrev pub state_after : State → Step → Move → State
+state_after w taken move =
     record {
-      actors = turn.actors;
-      mails = w.mails ++ posted (length w.steps) (length w.mails) turn.letters;
-      facts = w.facts ++ noted (length w.steps) turn.happened;
+      actors = move.actors;
+      mails = w.mails ++ mails_of (length w.steps) (length w.mails) move.letters;
+      facts = w.facts ++ facts_of (length w.steps) move.happened;
       steps = w.steps ++ taken ∷ [];
     }
 
--- no actor acts
-abbrev pub idles : Actors → List What → Turn
-idles actors happened = record { actors = actors; happened = happened; letters = [] }
+-- the move in which no actor acts
+abbrev pub idle_move : Actors → List What → Move
+idle_move actors happened = record { actors = actors; happened = happened; letters = [] }
 
 -- ---- an actor acts
 
--- an actor after it acted: its part, what happened, and what it sends
-pub record Acted (S : Type 0) : Type 0 where
+-- what an actor's act leaves: its part, what happened, and what it sends
+pub record PartMove (S : Type 0) : Type 0 where
   pub part : Part S
   pub happened : List What
   pub letters : List Letter
 
 -- the facts of the records that a log gained follow the step's own
-abbrev pub acts : {S : Type 0} → (Record → List What) → List What → List Record → Option S → List Record → List Letter → Acted S
+abbrev pub acts : {S : Type 0} → (Record → List What) → List What → List Record → Option S → List Record → List Letter → PartMove S
 acts fact own old up kept letters =
     record { part = record { up = up; log = kept }; happened = own ++ flat_map fact (drop (length old) kept); letters = letters }
 
@@ -82,11 +82,11 @@ log_with kept None = kept
 log_with kept (Some forced) = kept ++ forced ∷ []
 
 -- an actor that is up acts by its row
-abbrev pub acts_by : {S : Type 0} → (Record → List What) → List What → List Record → Effect S → Acted S
+abbrev pub acts_by : {S : Type 0} → (Record → List What) → List What → List Record → Effect S → PartMove S
 acts_by fact own old effect = acts fact own old (Some effect.state) (log_with old effect.reaction.append) effect.reaction.letters
 
 -- an actor that is down does nothing, and what was sent to it is gone
-abbrev pub stays_down : {S : Type 0} → Part S → List What → Acted S
+abbrev pub stays_down : {S : Type 0} → Part S → List What → PartMove S
 stays_down part own = record { part = part; happened = own; letters = [] }
 
 -- ---- servers
@@ -95,21 +95,21 @@ abbrev pub server_fact : ServerId → Record → List What
 server_fact at (log.Settled s) = what.Settled at s.txn s.outcome ∷ []
 server_fact at _ = []
 
-abbrev pub server_takes_up : Scenario → ServerId → Part Server → Mail → Option Server → Acted Server
+abbrev pub server_takes_up : Scenario → ServerId → Part Server → Mail → Option Server → PartMove Server
 server_takes_up sc at part mail None = stays_down part []
 server_takes_up sc at part mail (Some s) = acts_by (server_fact at) [] part.log (server_row sc s mail)
 
-abbrev pub server_takes : Scenario → ServerId → Part Server → Mail → Acted Server
+abbrev pub server_takes : Scenario → ServerId → Part Server → Mail → PartMove Server
 server_takes sc at part mail = server_takes_up sc at part mail part.up
 
--- the step in which a server acted
-abbrev pub server_acted : Actors → ServerId → Acted Server → Turn
-server_acted actors at acted =
-    record { actors = record actors { servers = slice_set actors.servers at.0 acted.part }; happened = acted.happened; letters = acted.letters }
+-- the move in which a server acted
+abbrev pub server_move : Actors → ServerId → PartMove Server → Move
+server_move actors at move =
+    record { actors = record actors { servers = slice_set actors.servers at.0 move.part }; happened = move.happened; letters = move.letters }
 
-abbrev pub to_server : Scenario → Actors → Mail → ServerId → Option (Part Server) → Turn
-to_server sc actors mail at None = idles actors []
-to_server sc actors mail at (Some part) = server_acted actors at (server_takes sc at part mail)
+abbrev pub to_server : Scenario → Actors → Mail → ServerId → Option (Part Server) → Move
+to_server sc actors mail at None = idle_move actors []
+to_server sc actors mail at (Some part) = server_move actors at (server_takes sc at part mail)
 
 -- ---- coordinators
 
@@ -117,58 +117,58 @@ abbrev pub coordinator_fact : Record → List What
 coordinator_fact (log.Decided d) = what.Decided d.txn d.decision ∷ []
 coordinator_fact _ = []
 
-abbrev pub coordinator_takes_up : Scenario → Part Coordinator → Mail → Option Coordinator → Acted Coordinator
+abbrev pub coordinator_takes_up : Scenario → Part Coordinator → Mail → Option Coordinator → PartMove Coordinator
 coordinator_takes_up sc part mail None = stays_down part []
 coordinator_takes_up sc part mail (Some c) = acts_by coordinator_fact [] part.log (coordinator_row sc c mail)
 
-abbrev pub coordinator_takes : Scenario → Part Coordinator → Mail → Acted Coordinator
+abbrev pub coordinator_takes : Scenario → Part Coordinator → Mail → PartMove Coordinator
 coordinator_takes sc part mail = coordinator_takes_up sc part mail part.up
 
 -- the effect of a submission, with its place
 abbrev pub with_age : Effect Coordinator → ℕ → Effect Coordinator
-with_age effect place = record { state = placed effect.state place; reaction = effect.reaction }
+with_age effect place = record { state = coordinator_with_age effect.state place; reaction = effect.reaction }
 
-abbrev pub coordinator_submits_up : Scenario → Part Coordinator → TxnId → ℕ → Option Coordinator → Acted Coordinator
+abbrev pub coordinator_submits_up : Scenario → Part Coordinator → TxnId → ℕ → Option Coordinator → PartMove Coordinator
 coordinator_submits_up sc part txn place None = stays_down part (what.Submitted txn ∷ [])
 coordinator_submits_up sc part txn place (Some c) =
     acts_by coordinator_fact (what.Submitted txn ∷ []) part.log (with_age (submit_row sc c) place)
 
-abbrev pub coordinator_submits : Scenario → Part Coordinator → TxnId → ℕ → Acted Coordinator
+abbrev pub coordinator_submits : Scenario → Part Coordinator → TxnId → ℕ → PartMove Coordinator
 coordinator_submits sc part txn place = coordinator_submits_up sc part txn place part.up
 
--- the step in which a coordinator acted
-abbrev pub coordinator_acted : Actors → TxnId → Acted Coordinator → Turn
-coordinator_acted actors txn acted =
-    record { actors = record actors { coordinators = slice_set actors.coordinators txn.0 acted.part }; happened = acted.happened; letters = acted.letters }
+-- the move in which a coordinator acted
+abbrev pub coordinator_move : Actors → TxnId → PartMove Coordinator → Move
+coordinator_move actors txn move =
+    record { actors = record actors { coordinators = slice_set actors.coordinators txn.0 move.part }; happened = move.happened; letters = move.letters }
 
-abbrev pub to_coordinator : Scenario → Actors → Mail → TxnId → Option (Part Coordinator) → Turn
-to_coordinator sc actors mail txn None = idles actors []
-to_coordinator sc actors mail txn (Some part) = coordinator_acted actors txn (coordinator_takes sc part mail)
+abbrev pub to_coordinator : Scenario → Actors → Mail → TxnId → Option (Part Coordinator) → Move
+to_coordinator sc actors mail txn None = idle_move actors []
+to_coordinator sc actors mail txn (Some part) = coordinator_move actors txn (coordinator_takes sc part mail)
 
-abbrev pub submitted_by : Scenario → Actors → TxnId → ℕ → Option (Part Coordinator) → Turn
-submitted_by sc actors txn place None = idles actors (what.Submitted txn ∷ [])
-submitted_by sc actors txn place (Some part) = coordinator_acted actors txn (coordinator_submits sc part txn place)
+abbrev pub submission_by : Scenario → Actors → TxnId → ℕ → Option (Part Coordinator) → Move
+submission_by sc actors txn place None = idle_move actors (what.Submitted txn ∷ [])
+submission_by sc actors txn place (Some part) = coordinator_move actors txn (coordinator_submits sc part txn place)
 
 -- ---- steps
 
-abbrev pub to_authority : Actors → Mail → Turn
+abbrev pub to_authority : Actors → Mail → Move
 to_authority actors mail =
     record { actors = actors; happened = []; letters = (office.authority_row actors.authority mail).reaction.letters }
 
 -- a mail is delivered to its actor. The master is not built: what is sent to it is gone
-abbrev pub received : Scenario → Actors → Mail → Actor → Turn
-received sc actors mail (actor.Server at) = to_server sc actors mail at (slice_get actors.servers at.0)
-received sc actors mail (actor.Coordinator txn) = to_coordinator sc actors mail txn (slice_get actors.coordinators txn.0)
-received sc actors mail actor.Authority = to_authority actors mail
-received sc actors mail actor.Master = idles actors []
+abbrev pub receipt : Scenario → Actors → Mail → Actor → Move
+receipt sc actors mail (actor.Server at) = to_server sc actors mail at (slice_get actors.servers at.0)
+receipt sc actors mail (actor.Coordinator txn) = to_coordinator sc actors mail txn (slice_get actors.coordinators txn.0)
+receipt sc actors mail actor.Authority = to_authority actors mail
+receipt sc actors mail actor.Master = idle_move actors []
 
 -- a transaction is submitted
-abbrev pub submitted : Scenario → Actors → TxnId → ℕ → Turn
-submitted sc actors txn place = submitted_by sc actors txn place (slice_get actors.coordinators txn.0)
+abbrev pub submission : Scenario → Actors → TxnId → ℕ → Move
+submission sc actors txn place = submission_by sc actors txn place (slice_get actors.coordinators txn.0)
 
-abbrev pub delivered : Scenario → Actors → Option Mail → Turn
-delivered sc actors None = idles actors []
-delivered sc actors (Some mail) = received sc actors mail mail.letter.to
+abbrev pub delivery : Scenario → Actors → Option Mail → Move
+delivery sc actors None = idle_move actors []
+delivery sc actors (Some mail) = receipt sc actors mail mail.letter.to
 
 -- the numbers but this one
 abbrev pub without_number : List ℕ → ℕ → List ℕ
@@ -179,16 +179,16 @@ abbrev pub with_new : State → State → List ℕ → Machine
 with_new before after undelivered =
     record { state = after; undelivered = undelivered ++ range_with_len (length before.mails) (length after.mails - length before.mails) }
 
--- what a step does that is not refused. Other steps are not built, and change nothing
-abbrev pub done : Scenario → Machine → Step → Machine
-done sc m (step.Submit txn) =
-    with_new m.state (concluded m.state (step.Submit txn) (submitted sc m.state.actors txn (length m.state.steps))) m.undelivered
-done sc m (step.Deliver mail) =
-    with_new m.state (concluded m.state (step.Deliver mail) (delivered sc m.state.actors (slice_get m.state.mails mail)))
+-- the machine after a step that is not refused. Other steps are not built, and change nothing
+abbrev pub machine_after : Scenario → Machine → Step → Machine
+machine_after sc m (step.Submit txn) =
+    with_new m.state (state_after m.state (step.Submit txn) (submission sc m.state.actors txn (length m.state.steps))) m.undelivered
+machine_after sc m (step.Deliver mail) =
+    with_new m.state (state_after m.state (step.Deliver mail) (delivery sc m.state.actors (slice_get m.state.mails mail)))
     (without_number m.undelivered mail)
-done sc m (step.Lose mail) =
-    with_new m.state (concluded m.state (step.Lose mail) (idles m.state.actors (what.Lost mail ∷ []))) (without_number m.undelivered mail)
-done sc m _ = m
+machine_after sc m (step.Lose mail) =
+    with_new m.state (state_after m.state (step.Lose mail) (idle_move m.state.actors (what.Lost mail ∷ []))) (without_number m.undelivered mail)
+machine_after sc m _ = m
 
 -- a coordinator that is down was submitted before
 abbrev pub is_part_submitted : Option Coordinator → Bool
@@ -211,7 +211,7 @@ refusal w _ = None
 
 -- a step that is refused changes nothing
 abbrev pub after_step : Scenario → Machine → Step → Machine
-after_step sc m taken = if is_some (refusal m.state taken) then m else done sc m taken
+after_step sc m taken = if is_some (refusal m.state taken) then m else machine_after sc m taken
 
 -- the machine after a list of steps
 abbrev pub after_steps : Scenario → Machine → List Step → Machine
@@ -225,7 +225,7 @@ opened_part state = record { up = Some state; log = [] }
 
 -- the first servers of a scenario, so many
 abbrev pub opened_servers : Scenario → ℕ → List (Part Server)
-opened_servers sc count = map (λ (n : ℕ). opened_part (server.opened sc (record { 0 = n }))) (range_with_len 0 count)
+opened_servers sc count = map (λ (n : ℕ). opened_part (server.opening sc (record { 0 = n }))) (range_with_len 0 count)
 
 -- the coordinators of its first transactions, so many
 abbrev pub idle_coordinators : Scenario → ℕ → List (Part Coordinator)
@@ -237,7 +237,7 @@ opened_actors sc =
     record {
       servers = opened_servers sc (length sc.servers);
       coordinators = idle_coordinators sc (length sc.txns);
-      authority = office.opened sc;
+      authority = office.opening sc;
     }
 
 abbrev pub opening_state : Scenario → State

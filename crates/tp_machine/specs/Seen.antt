@@ -10,7 +10,7 @@ use Rattle.tp_machine.specs.mirrors.Acts.{SameUp}
 use Rattle.tp_machine.specs.mirrors.Flags.{marked}
 use Rattle.tp_machine.specs.Sound.{Each, IsSound, IsStepOf}
 use Rattle.tp_machine.specs.Laws.{IsTrustedState}
-use Rattle.tp_machine.specs.Machine.{State, Machine, after, done, opening, refusal}
+use Rattle.tp_machine.specs.Machine.{State, Machine, after, machine_after, opening, refusal}
 
 -- the state of these actors with this history
 abbrev pub state_of : Actors → History → State
@@ -26,23 +26,23 @@ pub record Seen : Type 0 where
   pub machine : Machine
 
 -- the world before the first step
-abbrev pub started : Scenario → Seen
-started sc = record { scenario = sc; given_up = false; machine = opening sc }
+abbrev pub start : Scenario → Seen
+start sc = record { scenario = sc; given_up = false; machine = opening sc }
 
 -- the machine is what the scenario and its steps give
 abbrev pub IsReached : Seen → Type 0
 IsReached world = world.given_up ≡ false → world.machine ≡ after world.scenario world.machine.state.steps
 
--- the facts are those that the scenario and the steps give
-abbrev pub IsTold : Seen → Type 0
-IsTold world = world.machine.state.facts ≡ (after world.scenario world.machine.state.steps).state.facts
+-- its facts are those that the scenario and the steps give
+abbrev pub HasItsFacts : Seen → Type 0
+HasItsFacts world = world.machine.state.facts ≡ (after world.scenario world.machine.state.steps).state.facts
 
 -- what is so of every world: its scenario is of the form that is built, its steps name what exists, and its facts are those
 -- that they give; and while it is not given up it is reached, and all that its mails, records and facts name exists
 pub record IsWorld (world : Seen) : Type 0 where
   pub built : is_built world.scenario ≡ true
   pub named : Each (IsStepOf world.scenario) world.machine.state.steps
-  pub told : IsTold world
+  pub told : HasItsFacts world
   pub reached : IsReached world
   pub sound : world.given_up ≡ false → IsSound world.scenario world.machine.state
 
@@ -51,16 +51,16 @@ abbrev pub IsTrustedSoFar : Seen → Type 0
 IsTrustedSoFar world = IsTrustedState world.scenario world.machine.state
 
 -- a step of a kind that is built: a submission, or the delivery of a mail
-abbrev pub IsTaken : Step → Type 0
-IsTaken (step.Submit txn) = Unit {0}
-IsTaken (step.Deliver mail) = Unit {0}
-IsTaken _ = ⊥
+abbrev pub IsBuiltStep : Step → Type 0
+IsBuiltStep (step.Submit txn) = Unit {0}
+IsBuiltStep (step.Deliver mail) = Unit {0}
+IsBuiltStep _ = ⊥
 
 -- the step was not refused, and was done
 pub record Does (old new : Seen) (taken : Step) : Type 0 where
   pub was_up : old.given_up ≡ false
   pub not_refused : refusal old.machine.state taken ≡ None
-  pub now : new ≡ record old { machine = done old.scenario old.machine taken }
+  pub now : new ≡ record old { machine = machine_after old.scenario old.machine taken }
 
 -- the step was refused, and nothing changed
 pub record Refuses (old new : Seen) (taken : Step) (why : StepError) : Type 0 where

@@ -21,7 +21,7 @@ pub struct Actors {
 }
 
 impl Actors {
-    ghost use Rattle.tp_machine.specs.mirrors.Acts.{Turns, SameUp};
+    ghost use Rattle.tp_machine.specs.mirrors.Acts.{Moves, SameUp};
 
     /// The actors as they stand before the first step.
     pub fn opened(alloc: Global, scenario: &Scenario) -> Result<Actors, NoMemory>
@@ -67,7 +67,7 @@ impl Actors {
         scenario: &Scenario,
         mail: &Mail,
     ) -> Result<Act, NoMemory>
-        ensures ok { IfOk result (λ act. Turns (machine.received scenario.now self.old mail.now mail.now.letter.to) self.new act) }
+        ensures ok { IfOk result (λ act. Moves (machine.receipt scenario.now self.old mail.now mail.now.letter.to) self.new act) }
         ensures up { SameUp self.old self.new }
     {
         match mail.letter.to {
@@ -85,7 +85,7 @@ impl Actors {
         mail: &Mail,
         at: ServerId,
     ) -> Result<Act, NoMemory>
-        ensures ok { IfOk result (λ act. Turns (machine.to_server scenario.now self.old mail.now at (slice_get self.old.servers at.0)) self.new act) }
+        ensures ok { IfOk result (λ act. Moves (machine.to_server scenario.now self.old mail.now at (slice_get self.old.servers at.0)) self.new act) }
         ensures up { SameUp self.old self.new }
     {
         match self.servers.get_mut(at.0 as usize) {
@@ -101,7 +101,7 @@ impl Actors {
         mail: &Mail,
         txn: TxnId,
     ) -> Result<Act, NoMemory>
-        ensures ok { IfOk result (λ act. Turns (machine.to_coordinator scenario.now self.old mail.now txn (slice_get self.old.coordinators txn.0)) self.new act) }
+        ensures ok { IfOk result (λ act. Moves (machine.to_coordinator scenario.now self.old mail.now txn (slice_get self.old.coordinators txn.0)) self.new act) }
         ensures up { SameUp self.old self.new }
     {
         match self.coordinators.get_mut(txn.0 as usize) {
@@ -111,7 +111,7 @@ impl Actors {
     }
 
     fn to_authority(&self, alloc: Global, mail: &Mail) -> Result<Act, NoMemory>
-        ensures { IfOk result (λ act. Turns (machine.to_authority self.now mail.now) self.now act) }
+        ensures { IfOk result (λ act. Moves (machine.to_authority self.now mail.now) self.now act) }
     {
         let Reaction { append: _, letters } = self.authority.receive(alloc, mail)?;
         Ok(Act {
@@ -128,7 +128,7 @@ impl Actors {
         txn: TxnId,
         place: Place,
     ) -> Result<Act, NoMemory>
-        ensures ok { IfOk result (λ act. Turns (machine.submitted scenario.now self.old txn place) self.new act) }
+        ensures ok { IfOk result (λ act. Moves (machine.submission scenario.now self.old txn place) self.new act) }
         ensures up { SameUp self.old self.new }
     {
         match self.coordinators.get_mut(txn.0 as usize) {

@@ -2,10 +2,10 @@
 ghost use Rattle.std.specs.Prelude.{◌≡◌, ◌<◌, length, Some, None, slice_get, IfOk, OnOk, OnErr};
 ghost use Rattle.std.specs.Option.{option_copied};
 ghost use Rattle.tp_model.specs.Words.step;
-ghost use Rattle.tp_machine.specs.mirrors.Acts.{SameUp, Turns};
+ghost use Rattle.tp_machine.specs.mirrors.Acts.{Moves, SameUp};
 ghost use Rattle.tp_machine.specs.mirrors.History.{SameHistory};
 ghost use Rattle.tp_machine.specs.Machine as machine;
-ghost use Rattle.tp_machine.specs.Seen.{IsTaken, machine_of, state_of};
+ghost use Rattle.tp_machine.specs.Seen.{IsBuiltStep, machine_of, state_of};
 
 use crate::actors::Actors;
 use crate::coord::Coordinator;
@@ -71,9 +71,9 @@ pub fn act(
     scenario: &Scenario,
     taken: &Step,
 ) -> Result<(), NoMemory>
-    requires built { IsTaken taken.now }
+    requires built { IsBuiltStep taken.now }
     requires allowed { machine.refusal (state_of actors.old history.old) taken.now ≡ None }
-    ensures ok { OnOk result (machine_of actors.new history.new ≡ machine.done scenario.now (machine_of actors.old history.old) taken.now) }
+    ensures ok { OnOk result (machine_of actors.new history.new ≡ machine.machine_after scenario.now (machine_of actors.old history.old) taken.now) }
     ensures same_history { OnErr result (SameHistory history.old history.new) }
     ensures up { SameUp actors.old actors.new }
 {
@@ -91,7 +91,7 @@ fn submit(
     scenario: &Scenario,
     txn: TxnId,
 ) -> Result<(), NoMemory>
-    ensures ok { OnOk result (machine_of actors.new history.new ≡ machine.done scenario.now (machine_of actors.old history.old) (step.Submit txn)) }
+    ensures ok { OnOk result (machine_of actors.new history.new ≡ machine.machine_after scenario.now (machine_of actors.old history.old) (step.Submit txn)) }
     ensures same_history { OnErr result (SameHistory history.old history.new) }
     ensures up { SameUp actors.old actors.new }
 {
@@ -107,7 +107,7 @@ fn deliver(
     mail: u64,
 ) -> Result<(), NoMemory>
     requires { mail < length history.old.mails }
-    ensures ok { OnOk result (machine_of actors.new history.new ≡ machine.done scenario.now (machine_of actors.old history.old) (step.Deliver mail)) }
+    ensures ok { OnOk result (machine_of actors.new history.new ≡ machine.machine_after scenario.now (machine_of actors.old history.old) (step.Deliver mail)) }
     ensures same_history { OnErr result (SameHistory history.old history.new) }
     ensures up { SameUp actors.old actors.new }
 {
@@ -124,7 +124,7 @@ fn receive(
     mails: &[Mail],
     mail: u64,
 ) -> Result<Act, NoMemory>
-    ensures ok { IfOk result (λ act. Turns (machine.delivered scenario.now actors.old (slice_get mails.now mail)) actors.new act) }
+    ensures ok { IfOk result (λ act. Moves (machine.delivery scenario.now actors.old (slice_get mails.now mail)) actors.new act) }
     ensures up { SameUp actors.old actors.new }
 {
     match mails.get(mail as usize) {

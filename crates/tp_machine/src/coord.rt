@@ -138,7 +138,7 @@ impl Coordinator {
 
     /// Tells the place of the submission, once it is known.
     pub fn placed(&mut self, place: Place)
-        ensures { self.new ≡ row.placed self.old place }
+        ensures { self.new ≡ row.coordinator_with_age self.old place }
     {
         self.age = Some(place);
     }
@@ -264,7 +264,7 @@ impl Coordinator {
         done: &DoneReply,
         query: &Query,
     ) -> Result<Reaction, NoMemory>
-        ensures { IfOk result (λ reaction. Gives (row.answered scenario.now self.old server done.now query.now done.now.answer) self.new reaction) }
+        ensures { IfOk result (λ reaction. Gives (row.on_answer scenario.now self.old server done.now query.now done.now.answer) self.new reaction) }
     {
         match &done.answer {
             Answer::Ran {
@@ -305,7 +305,7 @@ impl Coordinator {
         query: &Query,
         value: i128,
     ) -> Result<(), NoMemory>
-        ensures { OnOk result (self.new ≡ row.ran self.old server done.now query.now value) }
+        ensures { OnOk result (self.new ≡ row.with_deed self.old server done.now query.now value) }
     {
         let deed = Deed {
             query: done.query,
@@ -471,7 +471,7 @@ impl Coordinator {
         server: ServerId,
         verdicts: &List<Verdict>,
     ) -> Result<Reaction, NoMemory>
-        ensures { IfOk result (λ reaction. Gives (row.voted (record self.old { phase = Phase.Checking round staple }) round staple server (vote.Yes verdicts.now)) self.new reaction) }
+        ensures { IfOk result (λ reaction. Gives (row.on_vote_of (record self.old { phase = Phase.Checking round staple }) round staple server (vote.Yes verdicts.now)) self.new reaction) }
     {
         let left = without(alloc, round.awaited.as_slice(), server)?;
         if !left.is_empty() {

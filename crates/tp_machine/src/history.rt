@@ -2,7 +2,7 @@
 ghost use Rattle.std.specs.Prelude.{◌≡◌, ◌+◌, ◌≤◌, ◌<◌, ℕ, [], ◌∷◌, ◌++◌, length, take, drop, replicate, slice_get, slice_set, ◌==◌, true, false, IfOk, IfSome, OnOk, OnErr};
 ghost use Rattle.tp_machine.specs.mirrors.Flags.{first_marked, marked};
 ghost use Rattle.std.specs.List.{list_any};
-ghost use Rattle.tp_machine.specs.Machine.{noted, posted};
+ghost use Rattle.tp_machine.specs.Machine.{facts_of, mails_of};
 
 use std::alloc::Global;
 use tp_types::{Fact, Letter, List, Mail, NoMemory, Place, Step, What};
@@ -119,8 +119,8 @@ fn add(
     letters: List<Letter>,
 ) -> Result<(), NoMemory>
     ensures steps { OnOk result (steps.new ≡ steps.old ++ taken ∷ []) }
-    ensures facts { OnOk result (facts.new ≡ facts.old ++ noted (length steps.old) happened) }
-    ensures mails { OnOk result (mails.new ≡ mails.old ++ posted (length steps.old) (length mails.old) letters) }
+    ensures facts { OnOk result (facts.new ≡ facts.old ++ facts_of (length steps.old) happened) }
+    ensures mails { OnOk result (mails.new ≡ mails.old ++ mails_of (length steps.old) (length mails.old) letters) }
     ensures pending { OnOk result (pending.new ≡ pending.old ++ replicate (length letters) true) }
     ensures steps_kept { take (length steps.old) steps.new ≡ steps.old }
     ensures facts_kept { take (length facts.old) facts.new ≡ facts.old }
@@ -134,7 +134,7 @@ fn add(
 }
 
 fn add_facts(facts: &mut List<Fact>, place: Place, happened: List<What>) -> Result<(), NoMemory>
-    ensures ok { OnOk result (facts.new ≡ facts.old ++ noted place happened) }
+    ensures ok { OnOk result (facts.new ≡ facts.old ++ facts_of place happened) }
     ensures kept { take (length facts.old) facts.new ≡ facts.old }
 {
     let mut left = happened.into_vec();
@@ -151,7 +151,7 @@ fn post(
     sent: Place,
     letters: List<Letter>,
 ) -> Result<(), NoMemory>
-    ensures mails { OnOk result (mails.new ≡ mails.old ++ posted sent (length mails.old) letters) }
+    ensures mails { OnOk result (mails.new ≡ mails.old ++ mails_of sent (length mails.old) letters) }
     ensures pending { OnOk result (pending.new ≡ pending.old ++ replicate (length letters) true) }
     ensures mails_kept { take (length mails.old) mails.new ≡ mails.old }
     ensures pending_kept { take (length pending.old) pending.new ≡ pending.old }

@@ -29,7 +29,7 @@ impl Model for Authority {
 impl Authority {
     /// The authority as it stands before the first step.
     pub fn opened(alloc: Global, scenario: &Scenario) -> Result<Authority, NoMemory>
-        ensures { IfOk result (λ made. made ≡ office.opened scenario.now) }
+        ensures { IfOk result (λ made. made ≡ office.opening scenario.now) }
     {
         Ok(Authority {
             clock: scenario.clock,

@@ -77,7 +77,7 @@ impl Model for Server {
 impl Server {
     /// A server as it stands before the first step.
     pub fn opened(alloc: Global, scenario: &Scenario, server: ServerId) -> Result<Server, NoMemory>
-        ensures { IfOk result (λ made. made ≡ opened.opened scenario.now server) }
+        ensures { IfOk result (λ made. made ≡ opened.opening scenario.now server) }
     {
         Ok(Server {
             server,
@@ -225,7 +225,7 @@ impl Server {
         place: Place,
         entry: &Entry,
     ) -> Result<Prepared, NoMemory>
-        ensures { IfOk result (λ made. made ≡ row.prepared self.now request.now entry.now (map (row.verdict_on scenario.now self.now place) entry.now.deeds)) }
+        ensures { IfOk result (λ made. made ≡ row.prepared_record self.now request.now entry.now (map (row.verdict_on scenario.now self.now place) entry.now.deeds)) }
     {
         Ok(Prepared {
             txn: request.txn,
@@ -415,7 +415,7 @@ fn plain_write(request: &QueryRequest, item: Option<ItemId>) -> Option<Deed>
 }
 
 fn done(request: &QueryRequest, epoch: u64, deed: Deed) -> DoneReply
-    ensures { result ≡ row.done request.now epoch deed }
+    ensures { result ≡ row.done_reply request.now epoch deed }
 {
     DoneReply {
         txn: request.txn,

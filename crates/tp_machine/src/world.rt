@@ -5,7 +5,7 @@ ghost use Rattle.tp_model.specs.Built as built;
 ghost use Rattle.tp_model.specs.SerialRun.{overlaid, store_of};
 ghost use Rattle.tp_model.specs.TrustedHistory.{have_ended};
 ghost use Rattle.tp_machine.specs.declared.error.StepError.{StepError};
-ghost use Rattle.tp_machine.specs.Seen.{started, IsReached, IsTaken, IsTold, IsTrustedSoFar, Does, Refuses, GivesUp};
+ghost use Rattle.tp_machine.specs.Seen.{start, IsReached, IsBuiltStep, HasItsFacts, IsTrustedSoFar, Does, Refuses, GivesUp};
 ghost use Rattle.tp_machine.specs.Machine as machine;
 ghost use Rattle.tp_machine.specs.Sound.{Each, IsSound, IsStepOf};
 
@@ -46,7 +46,7 @@ impl World {
     /// The world of a scenario before the first step.
     pub fn start(alloc: Global, scenario: &Scenario) -> Result<World, NoMemory>
         requires { built.is_built scenario.now ≡ true }
-        ensures { IfOk result (λ world. world ≡ started scenario.now) }
+        ensures { IfOk result (λ world. world ≡ start scenario.now) }
     {
         let actors = Actors::opened(alloc, scenario)?;
         Ok(World {
@@ -60,7 +60,7 @@ impl World {
     /// Does a step. A refused step changes nothing. Where memory is refused the world is given up, and each later step answers
     /// NoMemory.
     pub fn step(&mut self, alloc: Global, taken: &Step) -> Result<(), StepError>
-        requires built { IsTaken taken.now }
+        requires built { IsBuiltStep taken.now }
         requires ids { IsStepOf self.old.scenario taken.now }
         ensures done { OnOk result (Does self.old self.new taken.now) }
         ensures refused { IfErr result (λ why. why ≢ StepError.NoMemory → Refuses self.old self.new taken.now why) }
@@ -92,7 +92,7 @@ impl World {
         ensures value { result.now ≡ self.now.machine.state.facts }
         ensures reached { IsReached self.now }
         ensures named { Each (IsStepOf self.now.scenario) self.now.machine.state.steps }
-        ensures told { IsTold self.now }
+        ensures told { HasItsFacts self.now }
         ensures built { built.is_built self.now.scenario ≡ true }
         ensures so_far { self.now.given_up ≡ false → IsTrustedSoFar self.now }
         ensures sound { self.now.given_up ≡ false → IsSound self.now.scenario self.now.machine.state }

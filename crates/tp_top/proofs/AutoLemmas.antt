@@ -1,4 +1,4 @@
--- How far a drain has come after so many of its turns.
+-- How far a drain has come after so many of its steps.
 use Rattle.std.proofs.Common.{◌≡◌, ◌≢◌, ℕ, ◌+◌, ◌-◌, ◌<◌, ◌≤◌, List, [], ◌∷◌, ◌++◌, length, take, drop, false, Option, Some, None, is_some, is_none, zero, suc, if◌then◌else◌, refl, sym, ap, subst, ◌∙◌, arith}
 use Rattle.std.specs.Option.{option_map_or}
 use Rattle.std.specs.Prelude.{Err, IsErrOf}
@@ -7,7 +7,7 @@ use Rattle.std.proofs.lemmas.List.{drop-drop, length-drop, take_all}
 use Rattle.tp_model.specs.Words.{Scenario, Step}
 use Rattle.tp_machine.specs.declared.error.StepError.{StepError}
 use Rattle.tp_machine.specs.declared.error.StepError.TheVariants as error
-use Rattle.tp_machine.specs.Machine.{Machine, after_step, after_steps, done, refusal}
+use Rattle.tp_machine.specs.Machine.{Machine, after_step, after_steps, machine_after, refusal}
 use Rattle.tp_machine.specs.Seen.{Does, GivesUp, Refuses, Seen}
 use Rattle.tp_machine.proofs.basics.Machine.{after_steps-snoc}
 use Rattle.tp_top.specs.Auto.{Drains, IsSpent, Stops, automatic_from, next_of, stepped, steps_of}
@@ -28,14 +28,14 @@ none_more k xs e = omega (arith, length-drop k xs, ap length e)
 
 -- ---- automatic steps
 
-pub after_done : (sc : Scenario) (m : Machine) (taken : Step) → refusal m.state taken ≡ None → after_step sc m taken ≡ done sc m taken
-after_done sc m taken ok = ap (λ (why : Option StepError). if is_some why then m else done sc m taken) ok
+pub after_allowed : (sc : Scenario) (m : Machine) (taken : Step) → refusal m.state taken ≡ None → after_step sc m taken ≡ machine_after sc m taken
+after_allowed sc m taken ok = ap (λ (why : Option StepError). if is_some why then m else machine_after sc m taken) ok
 
 pub automatic-some : (sc : Scenario) (left : ℕ) (m : Machine) (taken : Step) → next_of sc m 0 ≡ Some taken → refusal m.state taken ≡ None
-    → automatic_from sc (suc left) 0 m ≡ taken ∷ automatic_from sc left 0 (done sc m taken)
+    → automatic_from sc (suc left) 0 m ≡ taken ∷ automatic_from sc left 0 (machine_after sc m taken)
 automatic-some sc left m taken e ok =
     ap (λ (o : Option Step). option_map_or (λ (s : Step). s ∷ automatic_from sc left 0 (after_step sc m s)) o []) e
-    ∙ ap (λ (k : Machine). taken ∷ automatic_from sc left 0 k) (after_done sc m taken ok)
+    ∙ ap (λ (k : Machine). taken ∷ automatic_from sc left 0 k) (after_allowed sc m taken ok)
 
 pub automatic-none : (sc : Scenario) (left : ℕ) (m : Machine) → next_of sc m 0 ≡ None → automatic_from sc left 0 m ≡ []
 automatic-none sc zero m e = refl
@@ -45,37 +45,37 @@ automatic-none sc (suc left) m e =
 -- ---- the drain
 
 -- so many of the automatic steps of the old world are done
-pub record SoFar (old new : Seen) (budget turn : ℕ) : Type 0 where
+pub record SoFar (old new : Seen) (budget count : ℕ) : Type 0 where
   pub was_up : old.given_up ≡ false
-  pub within : turn ≤ length (steps_of old budget)
-  pub now : new ≡ stepped old (take turn (steps_of old budget))
-  pub rest : drop turn (steps_of old budget) ≡ automatic_from old.scenario (budget - turn) 0 new.machine
+  pub within : count ≤ length (steps_of old budget)
+  pub now : new ≡ stepped old (take count (steps_of old budget))
+  pub rest : drop count (steps_of old budget) ≡ automatic_from old.scenario (budget - count) 0 new.machine
 
 pub so_far_none : (old : Seen) (budget : ℕ) → old.given_up ≡ false → SoFar old old budget 0
 so_far_none old budget up =
     let left : budget ≡ budget - 0 = omega arith in
     record { was_up = up; within = omega arith; now = refl; rest = ap (λ n. automatic_from old.scenario n 0 old.machine) left }
 
-same_scenario : (old new : Seen) (budget turn : ℕ) → SoFar old new budget turn → new.scenario ≡ old.scenario
-same_scenario old new budget turn so = ap (λ (w : Seen). w.scenario) so.now
+same_scenario : (old new : Seen) (budget count : ℕ) → SoFar old new budget count → new.scenario ≡ old.scenario
+same_scenario old new budget count so = ap (λ (w : Seen). w.scenario) so.now
 
-next_here : (old new : Seen) (budget turn : ℕ) (next : Option Step) → SoFar old new budget turn
+next_here : (old new : Seen) (budget count : ℕ) (next : Option Step) → SoFar old new budget count
     → next ≡ next_of new.scenario new.machine 0 → next_of old.scenario new.machine 0 ≡ next
-next_here old new budget turn next so e =
-    sym (e ∙ ap (λ (sc : Scenario). next_of sc new.machine 0) (same_scenario old new budget turn so))
+next_here old new budget count next so e =
+    sym (e ∙ ap (λ (sc : Scenario). next_of sc new.machine 0) (same_scenario old new budget count so))
 
 -- what is left begins with the next step
-rest_more : (old mid : Seen) (budget turn : ℕ) (taken : Step) → SoFar old mid budget turn → turn < budget
+rest_more : (old mid : Seen) (budget count : ℕ) (taken : Step) → SoFar old mid budget count → count < budget
     → Some taken ≡ next_of mid.scenario mid.machine 0 → refusal mid.machine.state taken ≡ None
-    → drop turn (steps_of old budget) ≡ taken ∷ automatic_from old.scenario (budget - (turn + 1)) 0 (done old.scenario mid.machine taken)
-rest_more old mid budget turn taken so more e ok =
-    let left : budget - turn ≡ suc (budget - (turn + 1)) = omega arith in
+    → drop count (steps_of old budget) ≡ taken ∷ automatic_from old.scenario (budget - (count + 1)) 0 (machine_after old.scenario mid.machine taken)
+rest_more old mid budget count taken so more e ok =
+    let left : budget - count ≡ suc (budget - (count + 1)) = omega arith in
     so.rest ∙ (ap (λ n. automatic_from old.scenario n 0 mid.machine) left
-    ∙ automatic-some old.scenario (budget - (turn + 1)) mid.machine taken (next_here old mid budget turn (Some taken) so e) ok)
+    ∙ automatic-some old.scenario (budget - (count + 1)) mid.machine taken (next_here old mid budget count (Some taken) so e) ok)
 
 -- the world after one step more
 with_step : Seen → Step → Seen
-with_step world taken = record world { machine = done world.scenario world.machine taken }
+with_step world taken = record world { machine = machine_after world.scenario world.machine taken }
 
 stepped-snoc : (world : Seen) (steps : List Step) (taken : Step) → refusal (stepped world steps).machine.state taken ≡ None
     → stepped world (steps ++ taken ∷ []) ≡ with_step (stepped world steps) taken
@@ -83,38 +83,38 @@ unfolding with_step
 stepped-snoc world steps taken ok =
     ap (λ (m : Machine). record world { machine = m })
     (after_steps-snoc world.scenario world.machine steps taken
-    ∙ after_done world.scenario (after_steps world.scenario world.machine steps) taken ok)
+    ∙ after_allowed world.scenario (after_steps world.scenario world.machine steps) taken ok)
 
 -- one step more
-pub so_far_more : (old mid new : Seen) (budget turn : ℕ) (taken : Step) → SoFar old mid budget turn → turn < budget
-    → Some taken ≡ next_of mid.scenario mid.machine 0 → Does mid new taken → SoFar old new budget (turn + 1)
+pub so_far_more : (old mid new : Seen) (budget count : ℕ) (taken : Step) → SoFar old mid budget count → count < budget
+    → Some taken ≡ next_of mid.scenario mid.machine 0 → Does mid new taken → SoFar old new budget (count + 1)
 unfolding with_step
-so_far_more old mid new budget turn taken so more e did =
+so_far_more old mid new budget count taken so more e did =
     let all = steps_of old budget in
     let ok = did.not_refused in
-    let rest = rest_more old mid budget turn taken so more e ok in
-    let before : refusal (stepped old (take turn all)).machine.state taken ≡ None =
+    let rest = rest_more old mid budget count taken so more e ok in
+    let before : refusal (stepped old (take count all)).machine.state taken ≡ None =
     subst (λ (w : Seen). refusal w.machine.state taken ≡ None) so.now ok in
-    let machine : new.machine ≡ done old.scenario mid.machine taken =
-    ap (λ (w : Seen). w.machine) did.now ∙ ap (λ (sc : Scenario). done sc mid.machine taken) (same_scenario old mid budget turn so) in
+    let machine : new.machine ≡ machine_after old.scenario mid.machine taken =
+    ap (λ (w : Seen). w.machine) did.now ∙ ap (λ (sc : Scenario). machine_after sc mid.machine taken) (same_scenario old mid budget count so) in
     record {
       was_up = so.was_up;
-      within = omega (arith, within_more turn all taken _ rest);
+      within = omega (arith, within_more count all taken _ rest);
       now = did.now ∙ (ap (λ (w : Seen). with_step w taken) so.now
-          ∙ (sym (stepped-snoc old (take turn all) taken before) ∙ ap (stepped old) (sym (take_more turn all taken _ rest))));
-      rest = drop_more turn all taken _ rest ∙ ap (automatic_from old.scenario (budget - (turn + 1)) 0) (sym machine);
+          ∙ (sym (stepped-snoc old (take count all) taken before) ∙ ap (stepped old) (sym (take_more count all taken _ rest))));
+      rest = drop_more count all taken _ rest ∙ ap (automatic_from old.scenario (budget - (count + 1)) 0) (sym machine);
     }
 
 -- all are done where no step is left
-drains_all : (old new : Seen) (budget turn : ℕ) → SoFar old new budget turn → drop turn (steps_of old budget) ≡ [] → Drains old new budget
-drains_all old new budget turn so e =
-    record { was_up = so.was_up; now = so.now ∙ ap (stepped old) (take_all turn (steps_of old budget) (none_more turn (steps_of old budget) e)) }
+drains_all : (old new : Seen) (budget count : ℕ) → SoFar old new budget count → drop count (steps_of old budget) ≡ [] → Drains old new budget
+drains_all old new budget count so e =
+    record { was_up = so.was_up; now = so.now ∙ ap (stepped old) (take_all count (steps_of old budget) (none_more count (steps_of old budget) e)) }
 
 -- the world is quiet
-pub drains_quiet : (old new : Seen) (budget turn : ℕ) → SoFar old new budget turn → None ≡ next_of new.scenario new.machine 0 → Drains old new budget
-drains_quiet old new budget turn so e =
-    drains_all old new budget turn so
-    (so.rest ∙ automatic-none old.scenario (budget - turn) new.machine (next_here old new budget turn None so e))
+pub drains_quiet : (old new : Seen) (budget count : ℕ) → SoFar old new budget count → None ≡ next_of new.scenario new.machine 0 → Drains old new budget
+drains_quiet old new budget count so e =
+    drains_all old new budget count so
+    (so.rest ∙ automatic-none old.scenario (budget - count) new.machine (next_here old new budget count None so e))
 
 -- the budget is spent
 rest_spent : (old new : Seen) (budget : ℕ) → SoFar old new budget budget → drop budget (steps_of old budget) ≡ []
@@ -134,12 +134,12 @@ is_spent old new budget taken so e =
     }
 
 -- memory is refused in the next step
-pub stops : (old mid new : Seen) (budget turn : ℕ) (taken : Step) → SoFar old mid budget turn → turn < budget
+pub stops : (old mid new : Seen) (budget count : ℕ) (taken : Step) → SoFar old mid budget count → count < budget
     → Some taken ≡ next_of mid.scenario mid.machine 0 → refusal mid.machine.state taken ≡ None → GivesUp mid new → Stops old new budget
-stops old mid new budget turn taken so more e ok gave =
+stops old mid new budget count taken so more e ok gave =
     record {
-      count = turn;
-      within = within_more turn (steps_of old budget) taken _ (rest_more old mid budget turn taken so more e ok);
+      count = count;
+      within = within_more count (steps_of old budget) taken _ (rest_more old mid budget count taken so more e ok);
       gave_up = subst (λ (w : Seen). GivesUp w new) so.now gave;
     }
 

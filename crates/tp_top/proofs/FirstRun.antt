@@ -12,7 +12,7 @@ use Rattle.tp_machine.specs.Parts.{Part}
 use Rattle.tp_machine.specs.declared.server.Entry.{Entry}
 use Rattle.tp_machine.specs.server.State.{Server}
 use Rattle.tp_types.specs.Effect.{Effect, unbuilt}
-use Rattle.tp_machine.specs.Machine.{Machine, acts_by, after_steps, concluded, opening, server_acted, server_fact, with_new, without_number}
+use Rattle.tp_machine.specs.Machine.{Machine, acts_by, after_steps, opening, server_fact, server_move, state_after, with_new, without_number}
 use Rattle.tp_machine.specs.server.Opened as server
 use Rattle.tp_machine.specs.server.Row.{are_in_range, entry_at, votes}
 use Rattle.tp_top.specs.Auto.{automatic_from}
@@ -44,7 +44,7 @@ abbrev part_asked : Leaves → Part Server
 part_asked l = unwrap_or (slice_get (asked l).state.actors.servers 0) (record { up = None; log = [] })
 
 abbrev server_asked : Leaves → Server
-server_asked l = unwrap_or (part_asked l).up (server.opened (scenario_of l) the_server)
+server_asked l = unwrap_or (part_asked l).up (server.opening (scenario_of l) the_server)
 
 abbrev entry_asked : Leaves → Entry
 entry_asked l = unwrap_or (entry_at (server_asked l) the_txn) (record { age = 0; epoch = 0; answers = []; waiting = None; deeds = []; ballot = None })
@@ -71,7 +71,7 @@ place_of (Some staple) = staple.place
 abbrev after_act : Leaves → Effect Server → Machine
 after_act l effect =
     with_new (asked l).state
-    (concluded (asked l).state (step.Deliver 4) (server_acted (asked l).state.actors the_server (acts_by (server_fact the_server) [] (part_asked l).log effect)))
+    (state_after (asked l).state (step.Deliver 4) (server_move (asked l).state.actors the_server (acts_by (server_fact the_server) [] (part_asked l).log effect)))
     (without_number (asked l).undelivered 4)
 
 abbrev vote_of : Leaves → Effect Server

@@ -5,7 +5,7 @@ use Rattle.tp_model.specs.Words.{Scenario, Step}
 use Rattle.tp_model.specs.Built.{is_built}
 use Rattle.tp_model.proofs.BuiltLemmas.{steps_built}
 use Rattle.tp_machine.specs.Machine.{Machine, State, after, after_step, after_steps, ending_of, opening}
-use Rattle.tp_machine.specs.Seen.{Seen, started}
+use Rattle.tp_machine.specs.Seen.{Seen, start}
 use Rattle.tp_top.proofs.TrustedRun.{trusted_run}
 use Rattle.tp_top.specs.declared.answer.Answer.{Answer}
 use Rattle.tp_top.specs.declared.answer.Answer.TheVariants as answer
@@ -28,7 +28,7 @@ final_built : (sc : Scenario) → is_built sc ≡ true → final sc ≡ after_st
 final_built sc h = ap (λ (m : Machine). after_steps sc m (automatic_steps sc (bound sc (length m.undelivered)) m)) (listed_built sc h)
 
 -- the drained world is the last one of the run
-pub drained_final : (sc : Scenario) (old new : Seen) (budget : ℕ) → is_built sc ≡ true → old ≡ started sc → budget ≡ bound sc 0
+pub drained_final : (sc : Scenario) (old new : Seen) (budget : ℕ) → is_built sc ≡ true → old ≡ start sc → budget ≡ bound sc 0
     → Drains old new budget → new.machine ≡ final sc
 drained_final sc old new budget built old_is budget_is drains =
     ap (λ (w : Seen). w.machine) drains.now
@@ -36,14 +36,14 @@ drained_final sc old new budget built old_is budget_is drains =
     ∙ (ap (λ (k : ℕ). after_steps sc (opening sc) (automatic_steps sc k (opening sc))) budget_is ∙ sym (final_built sc built)))
 
 -- and it is quiet, or not, as that one
-pub quiet_final : (sc : Scenario) (old new : Seen) (budget : ℕ) (answer : Bool) → is_built sc ≡ true → old ≡ started sc → budget ≡ bound sc 0
+pub quiet_final : (sc : Scenario) (old new : Seen) (budget : ℕ) (answer : Bool) → is_built sc ≡ true → old ≡ start sc → budget ≡ bound sc 0
     → Drains old new budget → new.scenario ≡ old.scenario → is_quiet new.scenario new.machine ≡ answer → is_quiet sc (final sc) ≡ answer
 quiet_final sc old new budget answer built old_is budget_is drains same quiet =
     ap (is_quiet sc) (sym (drained_final sc old new budget built old_is budget_is drains))
     ∙ (ap (λ (x : Scenario). is_quiet x new.machine) (sym (same ∙ ap (λ (w : Seen). w.scenario) old_is)) ∙ quiet)
 
 -- as many steps as the bound are as many as the run's bound
-pub spent_final : (sc : Scenario) (old new : Seen) (budget : ℕ) → is_built sc ≡ true → old ≡ started sc → budget ≡ bound sc 0
+pub spent_final : (sc : Scenario) (old new : Seen) (budget : ℕ) → is_built sc ≡ true → old ≡ start sc → budget ≡ bound sc 0
     → IsSpent old new budget → length (automatic sc) ≡ automatic_bound sc
 spent_final sc old new budget built old_is budget_is spent =
     ap (length {A = Step}) (automatic_built sc built)
@@ -52,7 +52,7 @@ spent_final sc old new budget built old_is budget_is spent =
     ∙ (spent.all ∙ (budget_is ∙ sym (bound_built sc built)))))
 
 -- the text of the drained world is the report
-pub text_final : (sc : Scenario) (old new : Seen) (budget : ℕ) (text : List ℕ) → is_built sc ≡ true → old ≡ started sc → budget ≡ bound sc 0
+pub text_final : (sc : Scenario) (old new : Seen) (budget : ℕ) (text : List ℕ) → is_built sc ≡ true → old ≡ start sc → budget ≡ bound sc 0
     → Drains old new budget → new.scenario ≡ old.scenario
     → text ≡ report_text new.scenario new.machine.state.facts (ending_of new.scenario new.machine.state) → text ≡ report_of sc
 text_final sc old new budget text built old_is budget_is drains same e =
@@ -61,7 +61,7 @@ text_final sc old new budget text built old_is budget_is drains same e =
     ∙ ap (λ (m : Machine). report_text sc m.state.facts (ending_of sc m.state)) (drained_final sc old new budget built old_is budget_is drains))
 
 -- what holds of the drained world holds of the last state of the run
-pub state_final : (P : Scenario → State → Type 0) (sc : Scenario) (old new : Seen) (budget : ℕ) → is_built sc ≡ true → old ≡ started sc → budget ≡ bound sc 0
+pub state_final : (P : Scenario → State → Type 0) (sc : Scenario) (old new : Seen) (budget : ℕ) → is_built sc ≡ true → old ≡ start sc → budget ≡ bound sc 0
     → Drains old new budget → new.scenario ≡ old.scenario → P new.scenario new.machine.state → P sc (final sc).state
 state_final P sc old new budget built old_is budget_is drains same h =
     subst (λ (m : Machine). P sc m.state) (drained_final sc old new budget built old_is budget_is drains)

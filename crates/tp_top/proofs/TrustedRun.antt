@@ -13,14 +13,14 @@ use Rattle.tp_model.proofs.BuiltLemmas.{steps_built}
 use Rattle.tp_machine.specs.declared.error.StepError.{StepError}
 use Rattle.tp_machine.specs.declared.error.StepError.TheVariants as error
 use Rattle.tp_machine.specs.Laws.{HasAllCommits, IsTrustedState}
-use Rattle.tp_machine.specs.Machine.{Machine, State, Turn, after, after_step, after_steps, concluded, delivered, done, ending_of, idles, is_submitted, opening, posted, refusal, submitted, with_new, without_number}
-use Rattle.tp_machine.specs.Seen.{IsTaken}
+use Rattle.tp_machine.specs.Machine.{Machine, Move, State, after, after_step, after_steps, delivery, ending_of, idle_move, is_submitted, machine_after, mails_of, opening, refusal, state_after, submission, with_new, without_number}
+use Rattle.tp_machine.specs.Seen.{IsBuiltStep}
 use Rattle.tp_machine.specs.Sound.{Each, IsStepOf, IsTxn}
-use Rattle.tp_machine.proofs.basics.Machine.{steps_done}
+use Rattle.tp_machine.proofs.basics.Machine.{steps_next}
 use Rattle.tp_machine.proofs.basics.Lists.{each_append, each_as, each_filter, each_map}
 use Rattle.tp_top.specs.Auto.{automatic_from, lowest_unsubmitted, next_by, next_of, txns_of}
 use Rattle.tp_top.specs.Run.{all_steps, automatic, automatic_bound, final, listed}
-use Rattle.tp_top.proofs.AutoLemmas.{after_done, automatic-none, automatic-some}
+use Rattle.tp_top.proofs.AutoLemmas.{after_allowed, automatic-none, automatic-some}
 use Rattle.tp_top.proofs.FirstRun.{first_run_ends}
 
 -- ---- the undelivered mails were sent
@@ -39,29 +39,29 @@ sent_new before after undelivered le h =
     (each_as (λ (number : ℕ). number < length before.mails) (λ (number : ℕ). number < length after.mails) (λ number low. omega (arith, low, le)) undelivered h)
     (below (length before.mails) (length after.mails - length before.mails) (length after.mails) (omega (arith, le)))
 
-more_mails : (w : State) (taken : Step) (turn : Turn) → length w.mails ≤ length (concluded w taken turn).mails
-more_mails w taken turn = omega (arith, length-append w.mails (posted (length w.steps) (length w.mails) turn.letters))
+more_mails : (w : State) (taken : Step) (move : Move) → length w.mails ≤ length (state_after w taken move).mails
+more_mails w taken move = omega (arith, length-append w.mails (mails_of (length w.steps) (length w.mails) move.letters))
 
-sent_after : (w : State) (taken : Step) (turn : Turn) (undelivered : List ℕ) → Each (λ (number : ℕ). number < length w.mails) undelivered → AreSent (with_new w (concluded w taken turn) undelivered)
-sent_after w taken turn undelivered h = sent_new w (concluded w taken turn) undelivered (more_mails w taken turn) h
+sent_after : (w : State) (taken : Step) (move : Move) (undelivered : List ℕ) → Each (λ (number : ℕ). number < length w.mails) undelivered → AreSent (with_new w (state_after w taken move) undelivered)
+sent_after w taken move undelivered h = sent_new w (state_after w taken move) undelivered (more_mails w taken move) h
 
 sent_without : (w : State) (undelivered : List ℕ) (mail : ℕ) → Each (λ (number : ℕ). number < length w.mails) undelivered → Each (λ (number : ℕ). number < length w.mails) (without_number undelivered mail)
 sent_without w undelivered mail h = each_filter (λ (number : ℕ). number < length w.mails) (λ (other : ℕ). not (other == mail)) undelivered h
 
-sent_done : (sc : Scenario) (m : Machine) (taken : Step) → AreSent m → AreSent (done sc m taken)
-sent_done sc m (step.Submit txn) h = sent_after m.state (step.Submit txn) (submitted sc m.state.actors txn (length m.state.steps)) m.undelivered h
-sent_done sc m (step.Deliver mail) h =
-    sent_after m.state (step.Deliver mail) (delivered sc m.state.actors (slice_get m.state.mails mail)) (without_number m.undelivered mail) (sent_without m.state m.undelivered mail h)
-sent_done sc m (step.Lose mail) h =
-    sent_after m.state (step.Lose mail) (idles m.state.actors (what.Lost mail ∷ [])) (without_number m.undelivered mail) (sent_without m.state m.undelivered mail h)
-sent_done sc m _ h = h
+sent_next : (sc : Scenario) (m : Machine) (taken : Step) → AreSent m → AreSent (machine_after sc m taken)
+sent_next sc m (step.Submit txn) h = sent_after m.state (step.Submit txn) (submission sc m.state.actors txn (length m.state.steps)) m.undelivered h
+sent_next sc m (step.Deliver mail) h =
+    sent_after m.state (step.Deliver mail) (delivery sc m.state.actors (slice_get m.state.mails mail)) (without_number m.undelivered mail) (sent_without m.state m.undelivered mail h)
+sent_next sc m (step.Lose mail) h =
+    sent_after m.state (step.Lose mail) (idle_move m.state.actors (what.Lost mail ∷ [])) (without_number m.undelivered mail) (sent_without m.state m.undelivered mail h)
+sent_next sc m _ h = h
 
 -- ---- the next automatic step is done
 
 -- it names what exists, is of a kind that is built, and is not refused
 record IsDone (sc : Scenario) (m : Machine) (taken : Step) : Type 0 where
   pub exists : IsStepOf sc taken
-  pub kind : IsTaken taken
+  pub kind : IsBuiltStep taken
   pub allowed : refusal m.state taken ≡ None
 
 first_holds : (P : ℕ → Type 0) (numbers : List ℕ) (number : ℕ) → Each P numbers → slice_get numbers 0 ≡ Some number → P number
@@ -121,22 +121,22 @@ append_one : {A : Type 0} (xs : List A) (x : A) (ys : List A) → (xs ++ x ∷ [
 append_one [] x ys = refl
 append_one (first ∷ xs) x ys = ap (λ zs. first ∷ zs) (append_one xs x ys)
 
-one_more : (sc : Scenario) (left : ℕ) (m : Machine) (taken : Step) → next_of sc m 0 ≡ Some taken → IsDone sc m taken → AreDone sc (done sc m taken) (automatic_from sc left 0 (done sc m taken))
+one_more : (sc : Scenario) (left : ℕ) (m : Machine) (taken : Step) → next_of sc m 0 ≡ Some taken → IsDone sc m taken → AreDone sc (machine_after sc m taken) (automatic_from sc left 0 (machine_after sc m taken))
     → AreDone sc m (automatic_from sc (suc left) 0 m)
 one_more sc left m taken e d rest =
-    let others = automatic_from sc left 0 (done sc m taken) in
+    let others = automatic_from sc left 0 (machine_after sc m taken) in
     subst (AreDone sc m) (sym (automatic-some sc left m taken e d.allowed))
     (record {
       exist = (d.exists, rest.exist);
-      steps_are = ap (λ (k : Machine). (after_steps sc k others).state.steps) (after_done sc m taken d.allowed)
-          ∙ (rest.steps_are ∙ (ap (λ (steps : List Step). steps ++ others) (steps_done sc m taken d.kind) ∙ append_one m.state.steps taken others));
+      steps_are = ap (λ (k : Machine). (after_steps sc k others).state.steps) (after_allowed sc m taken d.allowed)
+          ∙ (rest.steps_are ∙ (ap (λ (steps : List Step). steps ++ others) (steps_next sc m taken d.kind) ∙ append_one m.state.steps taken others));
     })
 
 by_next : (sc : Scenario) (left : ℕ) (m : Machine) (next : Option Step) → next_of sc m 0 ≡ next → AreSent m → ((k : Machine) → AreSent k → AreDone sc k (automatic_from sc left 0 k))
     → AreDone sc m (automatic_from sc (suc left) 0 m)
 by_next sc left m None e h rest = subst (AreDone sc m) (sym (automatic-none sc (suc left) m e)) (record { exist = tt; steps_are = sym (append_none m.state.steps) })
 by_next sc left m (Some taken) e h rest =
-    one_more sc left m taken e (next_done sc m (slice_get m.undelivered 0) taken h refl e) (rest (done sc m taken) (sent_done sc m taken h))
+    one_more sc left m taken e (next_done sc m (slice_get m.undelivered 0) taken h refl e) (rest (machine_after sc m taken) (sent_next sc m taken h))
 
 automatic_done : (sc : Scenario) (count : ℕ) (m : Machine) → AreSent m → AreDone sc m (automatic_from sc count 0 m)
 automatic_done sc zero m h = record { exist = tt; steps_are = sym (append_none m.state.steps) }

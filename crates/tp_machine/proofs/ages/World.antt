@@ -6,7 +6,7 @@ use Rattle.tp_model.specs.Words.body
 use Rattle.tp_model.specs.Words.step
 use Rattle.tp_model.specs.Words.what
 use Rattle.tp_machine.specs.Logs.{prepared_in}
-use Rattle.tp_machine.specs.Machine.{Machine, State, Turn, acts, acts_by, concluded, coordinator_acted, coordinator_fact, done, log_with, opened_part, opening_state, posted, refusal, server_acted, server_fact, with_age}
+use Rattle.tp_machine.specs.Machine.{Machine, Move, State, acts, acts_by, coordinator_fact, coordinator_move, log_with, machine_after, mails_of, opened_part, opening_state, refusal, server_fact, server_move, state_after, with_age}
 use Rattle.tp_machine.specs.Sound.{Each, EachAt, EachPlaced, IsSound, IsStepOf}
 use Rattle.tp_machine.specs.coord.Opened as coord_opened
 use Rattle.tp_machine.specs.coord.Opened.{idle}
@@ -22,7 +22,7 @@ use Rattle.tp_machine.specs.server.Row.{age_of, server_row}
 use Rattle.tp_machine.proofs.ages.Actors.{BodyAged, CoordinatorAges, EntryAged, LetterAged, PreparedAged, RecordAged, SubmissionAges, coordinator_row_ages, server_row_ages, submit_row_ages}
 use Rattle.tp_machine.proofs.agreement.Steps.{own_txn}
 use Rattle.tp_machine.proofs.agreement.World.{Agrees}
-use Rattle.tp_machine.proofs.walks.Steps.{Cases, IsCoordinatorUp, done_by}
+use Rattle.tp_machine.proofs.walks.Steps.{Cases, IsCoordinatorUp, machine_after_by}
 use Rattle.tp_machine.proofs.basics.Logs.{prepared_grown}
 use Rattle.tp_machine.proofs.basics.Lists.{at_made, at_set, each_append, each_as, each_get, placed_none}
 
@@ -102,23 +102,23 @@ Now w taken = IsSubmission (w.steps ++ taken ∷ [])
 ages_now : (w : State) (taken : Step) → Ages w → AreAged (Now w taken) w.actors w.mails
 ages_now w taken h = all_widen (IsSubmission w.steps) (Now w taken) w.actors w.mails (λ txn place e. found_still w.steps (taken ∷ []) place (step.Submit txn) e) h
 
--- ---- a turn
+-- ---- a move
 
-pub record TurnAges (w : State) (taken : Step) (turn : Turn) : Type 0 where
-  pub actors_are : AreAged (Now w taken) turn.actors w.mails
-  pub letters : Each (LetterAged (Now w taken) (length w.steps)) turn.letters
+pub record MoveAges (w : State) (taken : Step) (move : Move) : Type 0 where
+  pub actors_are : AreAged (Now w taken) move.actors w.mails
+  pub letters : Each (LetterAged (Now w taken) (length w.steps)) move.letters
 
-posted_aged : (A : TxnId → ℕ → Type 0) (sent number : ℕ) (letters : List Letter) → Each (LetterAged A sent) letters → Each (MailAged A) (posted sent number letters)
-posted_aged A sent number [] h = tt
-posted_aged A sent number (letter ∷ letters) h = (h.0, posted_aged A sent (number + 1) letters h.1)
+new_mails_aged : (A : TxnId → ℕ → Type 0) (sent number : ℕ) (letters : List Letter) → Each (LetterAged A sent) letters → Each (MailAged A) (mails_of sent number letters)
+new_mails_aged A sent number [] h = tt
+new_mails_aged A sent number (letter ∷ letters) h = (h.0, new_mails_aged A sent (number + 1) letters h.1)
 
-concluded_ages : (w : State) (taken : Step) (turn : Turn) → TurnAges w taken turn → Ages (concluded w taken turn)
-concluded_ages w taken turn t =
+state_after_ages : (w : State) (taken : Step) (move : Move) → MoveAges w taken move → Ages (state_after w taken move)
+state_after_ages w taken move t =
     record {
       servers = t.actors_are.servers;
       coordinators = t.actors_are.coordinators;
-      sent = each_append (MailAged (Now w taken)) w.mails (posted (length w.steps) (length w.mails) turn.letters) t.actors_are.sent
-          (posted_aged (Now w taken) (length w.steps) (length w.mails) turn.letters t.letters);
+      sent = each_append (MailAged (Now w taken)) w.mails (mails_of (length w.steps) (length w.mails) move.letters) t.actors_are.sent
+          (new_mails_aged (Now w taken) (length w.steps) (length w.mails) move.letters t.letters);
     }
 
 -- ---- acts
@@ -131,7 +131,7 @@ record ServerActsAges (A : TxnId → ℕ → Type 0) (place : ℕ) (now : Option
 
 server_acts_ages : (w : State) (taken : Step) (at : ServerId) (part : Part Server) (now : Option Server) (own : List What) (append : Option Record) (letters : List Letter) → Ages w
     → slice_get w.actors.servers at.0 ≡ Some part → ServerActsAges (Now w taken) (length w.steps) now append letters
-    → TurnAges w taken (server_acted w.actors at (acts (server_fact at) own part.log now (log_with part.log append) letters))
+    → MoveAges w taken (server_move w.actors at (acts (server_fact at) own part.log now (log_with part.log append) letters))
 server_acts_ages w taken at part now own append letters h found t =
     let aged = ages_now w taken h in
     let next : Part Server = record { up = now; log = log_with part.log append } in
@@ -150,7 +150,7 @@ server_acts_ages w taken at part now own append letters h found t =
 
 coordinator_acts_ages : (w : State) (taken : Step) (txn : TxnId) (kept : List Record) (now : Option Coordinator) (own : List What) (append : Option Record) (letters : List Letter) → Ages w
     → IfSome now (CoordinatorAged (Now w taken)) → Each (LetterAged (Now w taken) (length w.steps)) letters
-    → TurnAges w taken (coordinator_acted w.actors txn (acts coordinator_fact own kept now (log_with kept append) letters))
+    → MoveAges w taken (coordinator_move w.actors txn (acts coordinator_fact own kept now (log_with kept append) letters))
 coordinator_acts_ages w taken txn kept now own append letters h aged_is letters_are =
     let aged = ages_now w taken h in
     let next : Part Coordinator = record { up = now; log = log_with kept append } in
@@ -177,7 +177,7 @@ tells_no_age A place authority (body.Ask ask) = (tt, tt)
 tells_no_age A place authority _ = tt
 
 begun_ages : (sc : Scenario) (w : State) → IsSound sc w → Ages w → (txn : TxnId) (part : Part Coordinator) (c : Coordinator) → IsCoordinatorUp w txn part c
-    → TurnAges w (step.Submit txn) (coordinator_acted w.actors txn (acts_by coordinator_fact (what.Submitted txn ∷ []) part.log (with_age (submit_row sc c) (length w.steps))))
+    → MoveAges w (step.Submit txn) (coordinator_move w.actors txn (acts_by coordinator_fact (what.Submitted txn ∷ []) part.log (with_age (submit_row sc c) (length w.steps))))
 begun_ages sc w sound h txn part c up =
     let A = Now w (step.Submit txn) in
     let place = length w.steps in
@@ -188,7 +188,7 @@ begun_ages sc w sound h txn part c up =
 
 -- ---- steps
 
-ages_cases : (sc : Scenario) (w : State) → IsSound sc w → Ages w → Cases sc w (TurnAges w)
+ages_cases : (sc : Scenario) (w : State) → IsSound sc w → Ages w → Cases sc w (MoveAges w)
 ages_cases sc w sound h =
     record {
       idle = λ taken happened e. record { actors_are = ages_now w taken h; letters = tt };
@@ -212,16 +212,16 @@ ages_cases sc w sound h =
     }
 
 -- a step that is not refused keeps what is said of ages
-pub ages_done : (sc : Scenario) (m : Machine) (taken : Step) → IsStepOf sc taken → refusal m.state taken ≡ None → IsSound sc m.state → Agrees sc m.state → Ages m.state → Ages (done sc m taken).state
-ages_done sc m taken exists allowed sound a h =
-    done_by sc m (TurnAges m.state) Ages (ages_cases sc m.state sound h) a.coordinator_count
-    (λ taken_is turn t. concluded_ages m.state taken_is turn t) h taken exists allowed
+pub ages_next : (sc : Scenario) (m : Machine) (taken : Step) → IsStepOf sc taken → refusal m.state taken ≡ None → IsSound sc m.state → Agrees sc m.state → Ages m.state → Ages (machine_after sc m taken).state
+ages_next sc m taken exists allowed sound a h =
+    machine_after_by sc m (MoveAges m.state) Ages (ages_cases sc m.state sound h) a.coordinator_count
+    (λ taken_is move t. state_after_ages m.state taken_is move t) h taken exists allowed
 
 -- before the first step nobody knows an age
 pub ages_opening : (sc : Scenario) → Ages (opening_state sc)
 ages_opening sc =
     record {
-      servers = λ n part e. at_made (λ (k : ℕ) (found : Part Server). ServerPartAged (IsSubmission []) found) (λ (k : ℕ). opened_part (server_opened.opened sc (record { 0 = k }))) 0 (length sc.servers)
+      servers = λ n part e. at_made (λ (k : ℕ) (found : Part Server). ServerPartAged (IsSubmission []) found) (λ (k : ℕ). opened_part (server_opened.opening sc (record { 0 = k }))) 0 (length sc.servers)
           (λ k within. record { entries = placed_none (EntryAged (IsSubmission [])) (length sc.txns); prepared = λ txn p f. absurd (cc) }) n part e;
       coordinators = λ n part e. at_made (λ (k : ℕ) (found : Part Coordinator). IfSome found.up (CoordinatorAged (IsSubmission []))) (λ (k : ℕ). opened_part (coord_opened.idle sc (record { 0 = k }))) 0 (length sc.txns)
           (λ k within. tt) n part e;

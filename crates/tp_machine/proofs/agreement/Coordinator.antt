@@ -19,7 +19,7 @@ use Rattle.tp_machine.specs.Logs.{decided_in, decision_in}
 use Rattle.tp_machine.specs.Machine.{log_with, with_age}
 use Rattle.tp_machine.specs.Sound.{Each}
 use Rattle.tp_machine.specs.coord.Opened.{servers_at}
-use Rattle.tp_machine.specs.coord.Row.{asks, awaits_query, commits, coordinator_row, is_awaited, is_begun, prepare_letter, prepares, query_of, ran, replied, request, server_of, staple_of, submit_row, without}
+use Rattle.tp_machine.specs.coord.Row.{asks, awaits_query, commits, coordinator_row, is_awaited, is_begun, prepare_letter, prepares, query_of, request, server_of, staple_of, submit_row, with_deed, without}
 use Rattle.tp_machine.specs.coord.State.{Coordinator}
 use Rattle.tp_machine.specs.declared.coord.Phase.TheVariants as phase
 use Rattle.tp_machine.specs.declared.coord.Phase.{Phase}
@@ -376,7 +376,7 @@ coordinator_row_lawful sc P S c kept mail h m =
       ignored = ignores_lawful sc P S c kept h;
       ran_last = λ done server asked value k.
           let now = awaiting_query c c.phase done (decided_in kept) k.awaited h.agrees.decided in
-          let on = asks_lawful sc P S (ran c server done asked value) kept now.0 now.1 h.agrees.servers in
+          let on = asks_lawful sc P S (with_deed c server done asked value) kept now.0 now.1 h.agrees.servers in
           record { agrees = on.agrees; replied = on.replied; same_begun = sym now.1; same_txn = refl; fresh = tt; letters = on.letters };
       told_first = λ tell round k. prepares_lawful sc P S c kept round (staple_of tell mail.sent) h k.asking;
       counted = λ reply round staple server verdicts other others y e.

@@ -17,10 +17,10 @@ use Rattle.tp_model.specs.Agreement.{has_item_at}
 use Rattle.tp_model.specs.Facts.{first_of, is_submission, outcome_of}
 use Rattle.tp_model.specs.Ids.{same_txn}
 use Rattle.tp_machine.specs.Logs.{decided_at, decided_by, decided_in, decision_in, prepared_by, settled_in}
-use Rattle.tp_machine.specs.Machine.{State, acts, coordinator_acted, coordinator_fact, log_with}
+use Rattle.tp_machine.specs.Machine.{State, acts, coordinator_fact, coordinator_move, log_with}
 use Rattle.tp_machine.specs.Sound.{Each}
 use Rattle.tp_machine.specs.coord.Opened.{servers_at}
-use Rattle.tp_machine.specs.coord.Row.{agrees, is_begun, replied, voted}
+use Rattle.tp_machine.specs.coord.Row.{is_begun}
 use Rattle.tp_machine.specs.declared.actors.Actors.{Actors}
 use Rattle.tp_machine.specs.coord.State.{Coordinator}
 use Rattle.tp_machine.specs.Parts.{Part}
@@ -28,7 +28,7 @@ use Rattle.tp_machine.specs.server.State.{Server}
 use Rattle.tp_machine.proofs.agreement.ServerActs.{begun_count, none_more, number_itself, server_exists, submitted_told}
 use Rattle.tp_machine.proofs.agreement.Coordinator.{BodyAgrees, CoordinatorAgrees, CoordinatorLawful, DecisionRests, IsFirst, LetterAgrees, PhaseRests, RequestAgrees, SubmissionLawful, decided_begun}
 use Rattle.tp_machine.proofs.agreement.Logs.{DecidedAs, IsPrepared, IsServed, IsSettled, LogPrepared, LogsStay, WasSubmitted, decided_stays, once, prepared_open, settled_outcome, submitted_count, submitted_up}
-use Rattle.tp_machine.proofs.agreement.World.{Agrees, BodyRests, CoordinatorPartAgrees, CoordinatorUpAgrees, LetterRests, RequestMade, SettledRests, TurnAgrees, WhatFollows}
+use Rattle.tp_machine.proofs.agreement.World.{Agrees, BodyRests, CoordinatorPartAgrees, CoordinatorUpAgrees, LetterRests, MoveAgrees, RequestMade, SettledRests, WhatFollows}
 use Rattle.tp_machine.proofs.basics.Servers.{among_servers}
 use Rattle.tp_machine.proofs.basics.Facts.{append_none, decided_what, decisions, filter_map_append, settled_what, settlements, submissions, submitted_what}
 use Rattle.tp_machine.proofs.basics.Ids.{same_txn_is}
@@ -37,18 +37,18 @@ use Rattle.tp_machine.proofs.basics.Lists.{at_set, each_as}
 
 -- ---- what a record tells
 
-abbrev pub told_of : Option Record → List What
-told_of append = option_map_or coordinator_fact append []
+abbrev pub coordinator_facts : Option Record → List What
+coordinator_facts append = option_map_or coordinator_fact append []
 
-told_submissions : (append : Option Record) (txn : TxnId) → submissions txn (told_of append) ≡ []
-told_submissions None txn = refl
-told_submissions (Some (log.Decided d)) txn = refl
-told_submissions (Some _) txn = refl
+facts_submissions : (append : Option Record) (txn : TxnId) → submissions txn (coordinator_facts append) ≡ []
+facts_submissions None txn = refl
+facts_submissions (Some (log.Decided d)) txn = refl
+facts_submissions (Some _) txn = refl
 
-told_settlements : (append : Option Record) (at : ServerId) (txn : TxnId) → settlements at txn (told_of append) ≡ []
-told_settlements None at txn = refl
-told_settlements (Some (log.Decided d)) at txn = refl
-told_settlements (Some _) at txn = refl
+facts_settlements : (append : Option Record) (at : ServerId) (txn : TxnId) → settlements at txn (coordinator_facts append) ≡ []
+facts_settlements None at txn = refl
+facts_settlements (Some (log.Decided d)) at txn = refl
+facts_settlements (Some _) at txn = refl
 
 one_decided : (b : Bool) (d : Decision) → b ≡ true → cons_option (if b then Some d else None) [] ≡ d ∷ []
 one_decided true d e = refl
@@ -58,12 +58,12 @@ none_decided : (b : Bool) (d : Decision) → b ≡ false → cons_option (if b t
 none_decided true d e = absurd (cc)
 none_decided false d e = refl
 
-decisions_here : (sc : Scenario) (P : ServerId → Type 0) (txn other : TxnId) (kept : List Record) (append : Option Record) → same_txn txn other ≡ true → IfSome append (IsFirst sc P txn kept) → decisions other (told_of append) ≡ listed (appended decision_in append)
+decisions_here : (sc : Scenario) (P : ServerId → Type 0) (txn other : TxnId) (kept : List Record) (append : Option Record) → same_txn txn other ≡ true → IfSome append (IsFirst sc P txn kept) → decisions other (coordinator_facts append) ≡ listed (appended decision_in append)
 decisions_here sc P txn other kept None e h = refl
 decisions_here sc P txn other kept (Some (log.Decided d)) e h = one_decided (same_txn d.txn other) d.decision (ap (λ (t : TxnId). same_txn t other) h.own ∙ e)
 decisions_here sc P txn other kept (Some _) e h = refl
 
-decisions_elsewhere : (sc : Scenario) (P : ServerId → Type 0) (txn other : TxnId) (kept : List Record) (append : Option Record) → same_txn txn other ≡ false → IfSome append (IsFirst sc P txn kept) → decisions other (told_of append) ≡ []
+decisions_elsewhere : (sc : Scenario) (P : ServerId → Type 0) (txn other : TxnId) (kept : List Record) (append : Option Record) → same_txn txn other ≡ false → IfSome append (IsFirst sc P txn kept) → decisions other (coordinator_facts append) ≡ []
 decisions_elsewhere sc P txn other kept None e h = refl
 decisions_elsewhere sc P txn other kept (Some (log.Decided d)) e h = none_decided (same_txn d.txn other) d.decision (ap (λ (t : TxnId). same_txn t other) h.own ∙ e)
 decisions_elsewhere sc P txn other kept (Some _) e h = refl
@@ -74,11 +74,11 @@ fresh_decided sc P txn kept (Some (log.Decided d)) h = h.undecided
 fresh_decided sc P txn kept (Some _) h = tt
 
 -- a decision comes after the submission
-told_follows : (sc : Scenario) (P : ServerId → Type 0) (facts : List Fact) (txn : TxnId) (kept : List Record) (append : Option Record) → IfSome append (IsFirst sc P txn kept) → (is_some (appended decision_in append) ≡ true → list_any (is_submission txn) facts ≡ true)
-    → Each (WhatFollows sc facts) (told_of append)
-told_follows sc P facts txn kept None h submitted = tt
-told_follows sc P facts txn kept (Some (log.Decided d)) h submitted = (subst (λ (t : TxnId). list_any (is_submission t) facts ≡ true) (sym h.own) (submitted refl), tt)
-told_follows sc P facts txn kept (Some _) h submitted = tt
+facts_follow : (sc : Scenario) (P : ServerId → Type 0) (facts : List Fact) (txn : TxnId) (kept : List Record) (append : Option Record) → IfSome append (IsFirst sc P txn kept) → (is_some (appended decision_in append) ≡ true → list_any (is_submission txn) facts ≡ true)
+    → Each (WhatFollows sc facts) (coordinator_facts append)
+facts_follow sc P facts txn kept None h submitted = tt
+facts_follow sc P facts txn kept (Some (log.Decided d)) h submitted = (subst (λ (t : TxnId). list_any (is_submission t) facts ≡ true) (sym h.own) (submitted refl), tt)
+facts_follow sc P facts txn kept (Some _) h submitted = tt
 
 -- ---- a coordinator acts
 
@@ -88,7 +88,7 @@ pub record CoordinatorActs (sc : Scenario) (w : State) (txn : TxnId) (kept : Lis
   pub state : IfSome now (CoordinatorUpAgrees sc w.actors.servers txn (log_with kept append))
   pub fresh : IfSome append (IsFirst sc (IsPrepared w.actors.servers txn) txn kept)
   pub letters_agree : Each (LetterAgrees sc txn (submitted_up now == 1) (decided_in (log_with kept append))) letters
-  pub follows : Each (WhatFollows sc w.facts) (own ++ told_of append)
+  pub follows : Each (WhatFollows sc w.facts) (own ++ coordinator_facts append)
   pub counts : (other : TxnId) → same_txn txn other ≡ true → submitted_up was + length (submissions other own) ≡ submitted_up now
   pub apart : (other : TxnId) → same_txn txn other ≡ false → submissions other own ≡ []
   pub undecided : (other : TxnId) → decisions other own ≡ []
@@ -155,16 +155,16 @@ coordinator_logs_stay w txn part next append own found grown counts =
 
 -- ---- facts
 
-decided_turn : (sc : Scenario) (P : ServerId → Type 0) (coordinators : List (Part Coordinator)) (txn other : TxnId) (part next : Part Coordinator) (append : Option Record) (own : List What) (b : Bool)
+decided_move : (sc : Scenario) (P : ServerId → Type 0) (coordinators : List (Part Coordinator)) (txn other : TxnId) (part next : Part Coordinator) (append : Option Record) (own : List What) (b : Bool)
     → same_txn txn other ≡ b → slice_get coordinators txn.0 ≡ Some part → next.log ≡ log_with part.log append → IfSome append (IsFirst sc P txn part.log) → decisions other own ≡ []
-    → listed (decided_at coordinators other.0) ++ decisions other (own ++ told_of append) ≡ listed (decided_at (slice_set coordinators txn.0 next) other.0)
-decided_turn sc P coordinators txn other part next append own b same found grown h o =
-    ap (λ (xs : List Decision). listed (decided_at coordinators other.0) ++ xs) (filter_map_append (decided_what other) own (told_of append) ∙ ap (λ (xs : List Decision). xs ++ decisions other (told_of append)) o)
+    → listed (decided_at coordinators other.0) ++ decisions other (own ++ coordinator_facts append) ≡ listed (decided_at (slice_set coordinators txn.0 next) other.0)
+decided_move sc P coordinators txn other part next append own b same found grown h o =
+    ap (λ (xs : List Decision). listed (decided_at coordinators other.0) ++ xs) (filter_map_append (decided_what other) own (coordinator_facts append) ∙ ap (λ (xs : List Decision). xs ++ decisions other (coordinator_facts append)) o)
     ∙ told b same
   where
-    told : (c : Bool) → same_txn txn other ≡ c → listed (decided_at coordinators other.0) ++ decisions other (told_of append) ≡ listed (decided_at (slice_set coordinators txn.0 next) other.0)
+    told : (c : Bool) → same_txn txn other ≡ c → listed (decided_at coordinators other.0) ++ decisions other (coordinator_facts append) ≡ listed (decided_at (slice_set coordinators txn.0 next) other.0)
     told true e =
-        ap (λ (x : Option Decision). listed x ++ decisions other (told_of append)) (ap (option_and_then decided_by) (was_at coordinators txn other part found e))
+        ap (λ (x : Option Decision). listed x ++ decisions other (coordinator_facts append)) (ap (option_and_then decided_by) (was_at coordinators txn other part found e))
         ∙ (ap (λ (xs : List Decision). listed (decided_in part.log) ++ xs) (decisions_here sc P txn other part.log append e h)
         ∙ (listed_first (decided_in part.log) (appended decision_in append) (fresh_decided sc P txn part.log append h)
         ∙ ap listed (sym (at_itself coordinators txn other part next found e ∙ (ap decided_in grown ∙ decided_with part.log append)))))
@@ -172,13 +172,13 @@ decided_turn sc P coordinators txn other part next append own b same found grown
         ap (λ (xs : List Decision). listed (decided_at coordinators other.0) ++ xs) (decisions_elsewhere sc P txn other part.log append e h)
         ∙ (append_none _ ∙ ap listed (sym (elsewhere coordinators txn other part next found e)))
 
-submitted_turn : (coordinators : List (Part Coordinator)) (txn other : TxnId) (part next : Part Coordinator) (append : Option Record) (own : List What) (b : Bool)
+submitted_move : (coordinators : List (Part Coordinator)) (txn other : TxnId) (part next : Part Coordinator) (append : Option Record) (own : List What) (b : Bool)
     → same_txn txn other ≡ b → slice_get coordinators txn.0 ≡ Some part
     → (same_txn txn other ≡ true → submitted_up part.up + length (submissions other own) ≡ submitted_up next.up) → (same_txn txn other ≡ false → submissions other own ≡ [])
-    → submitted_count (slice_get coordinators other.0) + length (submissions other (own ++ told_of append)) ≡ submitted_count (slice_get (slice_set coordinators txn.0 next) other.0)
-submitted_turn coordinators txn other part next append own b same found here apart =
+    → submitted_count (slice_get coordinators other.0) + length (submissions other (own ++ coordinator_facts append)) ≡ submitted_count (slice_get (slice_set coordinators txn.0 next) other.0)
+submitted_move coordinators txn other part next append own b same found here apart =
     ap (λ (xs : List TxnId). submitted_count (slice_get coordinators other.0) + length xs)
-    (filter_map_append (submitted_what other) own (told_of append) ∙ (ap (λ (xs : List TxnId). submissions other own ++ xs) (told_submissions append other) ∙ append_none (submissions other own)))
+    (filter_map_append (submitted_what other) own (coordinator_facts append) ∙ (ap (λ (xs : List TxnId). submissions other own ++ xs) (facts_submissions append other) ∙ append_none (submissions other own)))
     ∙ counted b same
   where
     counted : (d : Bool) → same_txn txn other ≡ d → submitted_count (slice_get coordinators other.0) + length (submissions other own) ≡ submitted_count (slice_get (slice_set coordinators txn.0 next) other.0)
@@ -268,7 +268,7 @@ abort_stays sc w txn other part next append n p s h found grown f e settled r ab
         (ap (option_map outcome_of) (sym (at_itself w.actors.coordinators txn other part next found same ∙ (ap decided_in grown ∙ decided_with part.log append))) ∙ d)
     by_txn false apart = r.abort abort (ap (option_map outcome_of) (sym (elsewhere w.actors.coordinators txn other part next found apart)) ∙ d)
 
--- ---- the turn
+-- ---- the move
 
 prepared_serves : (servers : List (Part Server)) (txn : TxnId) (at : ServerId) → IsPrepared servers txn at → IsServed servers txn at
 prepared_serves servers txn at p = inl p
@@ -289,10 +289,10 @@ decided_served sc servers txn kept (Some _) None e h f = tt
 begun_one : (up : Option Coordinator) → (submitted_up up == 1) ≡ true → submitted_up up ≡ 1
 begun_one up e = eqb-true (submitted_up up) 1 e
 
--- the turn of a coordinator that acts lawfully, whether it is up before and after it or down
+-- the move of a coordinator that acts lawfully, whether it is up before and after it or down
 pub coordinator_acts_agrees : (sc : Scenario) (w : State) (txn : TxnId) (part : Part Coordinator) (now : Option Coordinator) (own : List What) (append : Option Record) (letters : List Letter) → Agrees sc w
     → slice_get w.actors.coordinators txn.0 ≡ Some part → CoordinatorActs sc w txn part.log part.up now own append letters
-    → TurnAgrees sc w (coordinator_acted w.actors txn (acts coordinator_fact own part.log now (log_with part.log append) letters))
+    → MoveAgrees sc w (coordinator_move w.actors txn (acts coordinator_fact own part.log now (log_with part.log append) letters))
 coordinator_acts_agrees sc w txn part now own append letters h found l =
     let next : Part Coordinator = record { up = now; log = log_with part.log append } in
     let old = w.actors.coordinators in
@@ -300,7 +300,7 @@ coordinator_acts_agrees sc w txn part now own append letters h found l =
     let actors = record w.actors { coordinators = new } in
     let P = IsPrepared w.actors.servers txn in
     let stays : LogsStay w.actors actors = coordinator_logs_stay w txn part next append own found refl l.counts in
-    let tells : own ++ flat_map coordinator_fact (drop (length part.log) (log_with part.log append)) ≡ own ++ told_of append = ap (λ (xs : List What). own ++ xs) (gained coordinator_fact part.log append) in
+    let tells : own ++ flat_map coordinator_fact (drop (length part.log) (log_with part.log append)) ≡ own ++ coordinator_facts append = ap (λ (xs : List What). own ++ xs) (gained coordinator_fact part.log append) in
     let here : slice_get new txn.0 ≡ Some next = get_set old txn.0 txn.0 part next found ∙ ap (λ (b : Bool). if b then Some next else slice_get old txn.0) (number_itself txn.0) in
     record {
       coordinator_count = length-set old txn.0 next;
@@ -328,12 +328,12 @@ coordinator_acts_agrees sc w txn part now own append letters h found l =
       stays = stays;
       happened = subst (Each (WhatFollows sc w.facts)) (sym tells) l.follows;
       submitted = λ other. ap (λ (xs : List What). submitted_count (slice_get old other.0) + length (submissions other xs)) tells
-          ∙ submitted_turn old txn other part next append own (same_txn txn other) refl found (l.counts other) (l.apart other);
+          ∙ submitted_move old txn other part next append own (same_txn txn other) refl found (l.counts other) (l.apart other);
       decided = λ other. ap (λ (xs : List What). listed (decided_at old other.0) ++ decisions other xs) tells
-          ∙ decided_turn sc P old txn other part next append own (same_txn txn other) refl found refl l.fresh (l.undecided other);
+          ∙ decided_move sc P old txn other part next append own (same_txn txn other) refl found refl l.fresh (l.undecided other);
       settled = λ at other. ap (λ (xs : List What). listed (settled_outcome w.actors.servers at other) ++ settlements at other xs) tells
           ∙ (ap (λ (xs : List Outcome). listed (settled_outcome w.actors.servers at other) ++ xs)
-          (filter_map_append (settled_what at other) own (told_of append) ∙ (ap (λ (xs : List Outcome). settlements at other own ++ xs) (told_settlements append at other) ∙ (append_none (settlements at other own) ∙ l.unsettled at other)))
+          (filter_map_append (settled_what at other) own (coordinator_facts append) ∙ (ap (λ (xs : List Outcome). settlements at other own ++ xs) (facts_settlements append at other) ∙ (append_none (settlements at other own) ∙ l.unsettled at other)))
           ∙ append_none _);
     }
 
@@ -351,11 +351,11 @@ begun_test true = refl
 begun_test false = refl
 
 -- a receipt: the step says nothing by itself
-pub received_acts : (sc : Scenario) (w : State) (txn : TxnId) (part : Part Coordinator) (c : Coordinator) (effect : Effect Coordinator) → Agrees sc w
+pub receipt_acts : (sc : Scenario) (w : State) (txn : TxnId) (part : Part Coordinator) (c : Coordinator) (effect : Effect Coordinator) → Agrees sc w
     → slice_get w.actors.coordinators txn.0 ≡ Some part → part.up ≡ Some c → c.txn ≡ txn
     → CoordinatorLawful sc (IsPrepared w.actors.servers txn) (IsSettled w.actors.servers txn) c part.log effect
     → CoordinatorActs sc w txn part.log part.up (Some effect.state) [] effect.reaction.append effect.reaction.letters
-received_acts sc w txn part c effect h found up same l =
+receipt_acts sc w txn part c effect h found up same l =
     let P = IsPrepared w.actors.servers txn in
     let S = IsSettled w.actors.servers txn in
     let fresh : IfSome effect.reaction.append (IsFirst sc P txn part.log) = subst (λ (t : TxnId). IfSome effect.reaction.append (IsFirst sc P t part.log)) same l.fresh in
@@ -365,7 +365,7 @@ received_acts sc w txn part c effect h found up same l =
       fresh = fresh;
       letters_agree = subst (λ (begun : Bool). Each (LetterAgrees sc txn begun (decided_in now)) effect.reaction.letters) (sym (begun_test (is_begun effect.state.phase)))
           (subst (λ (t : TxnId). Each (LetterAgrees sc t (is_begun effect.state.phase) (decided_in now)) effect.reaction.letters) same l.letters);
-      follows = told_follows sc P w.facts txn part.log effect.reaction.append fresh
+      follows = facts_follow sc P w.facts txn part.log effect.reaction.append fresh
           (λ decides. submitted_told txn w.facts
           (h.submitted txn ∙ (ap submitted_count found ∙ (ap submitted_up up ∙ begun_count (is_begun c.phase)
           (sym l.same_begun ∙ decided_begun effect.state.phase (decided_in now) l.agrees.decided (some_decided part.log effect.reaction.append decides))))));
@@ -403,7 +403,7 @@ submission_acts sc w txn part c effect up same unborn l =
       letters_agree = subst (λ (begun : Bool). Each (LetterAgrees sc txn begun (decided_in (log_with part.log effect.reaction.append))) effect.reaction.letters) (sym (begun_test (is_begun effect.state.phase)))
           (subst (λ (log_is : List Record). Each (LetterAgrees sc txn (is_begun effect.state.phase) (decided_in log_is)) effect.reaction.letters) (sym kept)
           (subst (λ (t : TxnId). Each (LetterAgrees sc t (is_begun effect.state.phase) (decided_in part.log)) effect.reaction.letters) same l.letters));
-      follows = subst (λ (append : Option Record). Each (WhatFollows sc w.facts) (what.Submitted txn ∷ told_of append)) (sym l.forces) (tt, tt);
+      follows = subst (λ (append : Option Record). Each (WhatFollows sc w.facts) (what.Submitted txn ∷ coordinator_facts append)) (sym l.forces) (tt, tt);
       counts = λ other e. ap (λ (u : Option Coordinator). submitted_up u + length (submissions other (what.Submitted txn ∷ []))) up
           ∙ (ap (λ (b : Bool). once b + length (submissions other (what.Submitted txn ∷ []))) unborn
           ∙ (zero_more _ ∙ (one_submission (same_txn txn other) txn e ∙ sym (ap once l.begun))));

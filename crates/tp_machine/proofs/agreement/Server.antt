@@ -19,7 +19,7 @@ use Rattle.tp_machine.specs.Machine.{log_with}
 use Rattle.tp_machine.specs.Sound.{Each, EachPlaced}
 use Rattle.tp_machine.specs.declared.server.Ballot.{Ballot}
 use Rattle.tp_machine.specs.declared.server.Entry.{Entry}
-use Rattle.tp_machine.specs.server.Row.{begins, entry_at, first_entry, is_open, prepared, reply, server_row, settled_as, settles, verdict_on, votes}
+use Rattle.tp_machine.specs.server.Row.{begins, entry_at, first_entry, is_open, prepared_record, reply, server_row, settled_as, settles, verdict_on, votes}
 use Rattle.tp_machine.specs.server.State.{Server}
 use Rattle.tp_machine.proofs.agreement.Logs.{LogPrepared}
 use Rattle.tp_machine.proofs.basics.Ids.{number_itself, same_txn_is}
@@ -223,7 +223,7 @@ votes_cast s kept txn other forced entry now h new own e cast false apart =
 votes_lawful : (V : TxnId → Outcome → Type 0) (M : TxnId → Type 0) (sc : Scenario) (s : Server) (kept : List Record) (p : PrepareRequest) (place : ℕ) (entry : Entry) → ServerAgrees s kept
     → settled_in p.txn kept ≡ None → entry_at s p.txn ≡ Some entry → ServerLawful V M s kept (votes sc s p place entry)
 votes_lawful V M sc s kept p place entry h new e =
-    let voting = prepared s p entry (map (verdict_on sc s place) entry.deeds) in
+    let voting = prepared_record s p entry (map (verdict_on sc s place) entry.deeds) in
     let forced = (votes sc s p place entry).reaction.append in
     let now : Entry = record entry { ballot = Some (record { turn = voting.turn; verdicts = voting.verdicts }) } in
     let same : (txn : TxnId) → settled_in txn (log_with kept forced) ≡ settled_in txn kept = λ txn. settled_with txn kept forced ∙ first_none (settled_in txn kept) in

@@ -17,10 +17,10 @@ use Rattle.tp_model.specs.Agreement.{has_item_at}
 use Rattle.tp_model.specs.Facts.{first_of, is_decided_as, is_submission, outcome_of, same_outcome}
 use Rattle.tp_model.specs.Ids.{same_server, same_txn}
 use Rattle.tp_machine.specs.Logs.{decided_at, decided_by, decided_in, has_voted, prepared_by, prepared_in, settled_at, settled_by, settled_in, settlement_in, voted_by}
-use Rattle.tp_machine.specs.Machine.{State, acts, log_with, server_acted, server_fact, submitted}
+use Rattle.tp_machine.specs.Machine.{State, acts, log_with, server_fact, server_move}
 use Rattle.tp_machine.specs.Sound.{Each, IsServer}
 use Rattle.tp_machine.specs.coord.Opened.{servers_at}
-use Rattle.tp_machine.specs.coord.Row.{agrees, is_awaited, is_begun, replied}
+use Rattle.tp_machine.specs.coord.Row.{is_awaited, is_begun}
 use Rattle.tp_machine.specs.declared.actors.Actors.{Actors}
 use Rattle.tp_machine.specs.coord.State.{Coordinator}
 use Rattle.tp_machine.specs.declared.coord.Phase.TheVariants as phase
@@ -30,7 +30,7 @@ use Rattle.tp_machine.specs.server.State.{Server}
 use Rattle.tp_machine.proofs.agreement.Coordinator.{DecisionRests, PhaseAgrees, PhaseRests, decided_begun}
 use Rattle.tp_machine.proofs.agreement.Logs.{DecidedAs, IsAsked, IsPrepared, IsServed, IsSettled, LogPrepared, LogServed, LogsStay, Settles, WasSubmitted, logs_same, once, outcome_settled, part_stays, prepared_kept, prepared_open, prepared_voted, settled_outcome, settled_stays, settles_is, submitted_count, submitted_up}
 use Rattle.tp_machine.proofs.agreement.Server.{LetterKept, RecordRests, ReplyKept, ServerAgrees, SettlementRests, VoteKept}
-use Rattle.tp_machine.proofs.agreement.World.{Agrees, BodyRests, CoordinatorPartAgrees, CoordinatorUpAgrees, CoordinatorsAgree, Follows, LetterRests, ServerPartAgrees, SettledRests, TurnAgrees, VoteRests, WhatFollows}
+use Rattle.tp_machine.proofs.agreement.World.{Agrees, BodyRests, CoordinatorPartAgrees, CoordinatorUpAgrees, CoordinatorsAgree, Follows, LetterRests, MoveAgrees, ServerPartAgrees, SettledRests, VoteRests, WhatFollows}
 use Rattle.tp_machine.proofs.basics.Servers.{among_servers}
 use Rattle.tp_machine.proofs.basics.Facts.{any_decided, any_submitted, append_none, decided_what, decisions, filter_map_append, said, settled_what, settlements, submissions, submitted_what}
 use Rattle.tp_machine.proofs.basics.Logs.{IsFresh, appended, first_stays, gained, get_set, has_voted_with, listed, listed_first, look_set, settled_with}
@@ -119,9 +119,9 @@ pub record SaysOnly (sc : Scenario) (facts : List Fact) (happened : List What) :
   pub no_decision : (txn : TxnId) → decisions txn happened ≡ []
   pub no_settlement : (at : ServerId) (txn : TxnId) → settlements at txn happened ≡ []
 
--- a turn in which the servers and the coordinators stay
+-- a move in which the servers and the coordinators stay
 pub unmoved_agrees : (sc : Scenario) (w : State) (happened : List What) (letters : List Letter) → Agrees sc w → SaysOnly sc w.facts happened → Each (LetterRests sc w.actors) letters
-    → TurnAgrees sc w (record { actors = w.actors; happened = happened; letters = letters })
+    → MoveAgrees sc w (record { actors = w.actors; happened = happened; letters = letters })
 unmoved_agrees sc w happened letters h o r =
     record {
       coordinator_count = refl;
@@ -145,15 +145,15 @@ pub record ServerActs (sc : Scenario) (w : State) (at : ServerId) (kept : List R
   pub own_says : SaysOnly sc w.facts own
   pub replies : Each (LetterKept at (log_with kept append)) letters
 
-abbrev pub told_by : ServerId → Option Record → List What
-told_by at append = option_map_or (server_fact at) append []
+abbrev pub server_facts : ServerId → Option Record → List What
+server_facts at append = option_map_or (server_fact at) append []
 
-server_submissions : (at : ServerId) (append : Option Record) (txn : TxnId) → submissions txn (told_by at append) ≡ []
+server_submissions : (at : ServerId) (append : Option Record) (txn : TxnId) → submissions txn (server_facts at append) ≡ []
 server_submissions at None txn = refl
 server_submissions at (Some (log.Settled s)) txn = refl
 server_submissions at (Some _) txn = refl
 
-server_decisions : (at : ServerId) (append : Option Record) (txn : TxnId) → decisions txn (told_by at append) ≡ []
+server_decisions : (at : ServerId) (append : Option Record) (txn : TxnId) → decisions txn (server_facts at append) ≡ []
 server_decisions at None txn = refl
 server_decisions at (Some (log.Settled s)) txn = refl
 server_decisions at (Some _) txn = refl
@@ -169,12 +169,12 @@ none_settled false c s e = refl
 
 -- what the acting server's record says of a transaction
 settlements_here : (at other : ServerId) (append : Option Record) (txn : TxnId) → same_server at other ≡ true
-    → settlements other txn (told_by at append) ≡ listed (option_map outcome_settled (appended (settlement_in txn) append))
+    → settlements other txn (server_facts at append) ≡ listed (option_map outcome_settled (appended (settlement_in txn) append))
 settlements_here at other None txn e = refl
 settlements_here at other (Some (log.Settled s)) txn e = one_settled (same_server at other) (same_txn s.txn txn) s e
 settlements_here at other (Some _) txn e = refl
 
-settlements_elsewhere : (at other : ServerId) (append : Option Record) (txn : TxnId) → same_server at other ≡ false → settlements other txn (told_by at append) ≡ []
+settlements_elsewhere : (at other : ServerId) (append : Option Record) (txn : TxnId) → same_server at other ≡ false → settlements other txn (server_facts at append) ≡ []
 settlements_elsewhere at other None txn e = refl
 settlements_elsewhere at other (Some (log.Settled s)) txn e = none_settled (same_server at other) (same_txn s.txn txn) s e
 settlements_elsewhere at other (Some _) txn e = refl
@@ -203,18 +203,18 @@ outcome_after V M kept append txn h =
     ∙ ap listed (map_first outcome_settled (settled_in txn kept) (appended (settlement_in txn) append)
     ∙ ap (option_map outcome_settled) (sym (settled_with txn kept append)))
 
-settled_turn : (V : TxnId → Outcome → Type 0) (M : TxnId → Type 0) (servers : List (Part Server)) (at other : ServerId) (part next : Part Server) (append : Option Record) (txn : TxnId) (b : Bool) → (at.0 == other.0) ≡ b
+settled_move : (V : TxnId → Outcome → Type 0) (M : TxnId → Type 0) (servers : List (Part Server)) (at other : ServerId) (part next : Part Server) (append : Option Record) (txn : TxnId) (b : Bool) → (at.0 == other.0) ≡ b
     → slice_get servers at.0 ≡ Some part → next.log ≡ log_with part.log append → IfSome append (RecordRests V M part.log)
-    → listed (settled_outcome servers other txn) ++ settlements other txn (told_by at append) ≡ listed (settled_outcome (slice_set servers at.0 next) other txn)
-settled_turn V M servers at other part next append txn true same found grown h =
+    → listed (settled_outcome servers other txn) ++ settlements other txn (server_facts at append) ≡ listed (settled_outcome (slice_set servers at.0 next) other txn)
+settled_move V M servers at other part next append txn true same found grown h =
     let old : settled_at servers other.0 txn ≡ settled_in txn part.log = ap (option_and_then (settled_by txn)) (subst (λ (n : ℕ). slice_get servers n ≡ Some part) (eqb-true at.0 other.0 same) found) in
     let new : settled_at (slice_set servers at.0 next) other.0 txn ≡ settled_in txn (log_with part.log append) =
     look_set (settled_by txn) servers at.0 other.0 part next found
     ∙ (ap (λ (c : Bool). if c then settled_by txn next else settled_at servers other.0 txn) same ∙ ap (settled_in txn) grown) in
-    ap (λ (x : Option Settled). listed (option_map outcome_settled x) ++ settlements other txn (told_by at append)) old
+    ap (λ (x : Option Settled). listed (option_map outcome_settled x) ++ settlements other txn (server_facts at append)) old
     ∙ (ap (λ (xs : List Outcome). listed (option_map outcome_settled (settled_in txn part.log)) ++ xs) (settlements_here at other append txn same)
     ∙ (outcome_after V M part.log append txn h ∙ ap (λ (x : Option Settled). listed (option_map outcome_settled x)) (sym new)))
-settled_turn V M servers at other part next append txn false apart found grown h =
+settled_move V M servers at other part next append txn false apart found grown h =
     let new : settled_at (slice_set servers at.0 next) other.0 txn ≡ settled_at servers other.0 txn =
     look_set (settled_by txn) servers at.0 other.0 part next found ∙ ap (λ (c : Bool). if c then settled_by txn next else settled_at servers other.0 txn) apart in
     ap (λ (xs : List Outcome). listed (settled_outcome servers other txn) ++ xs) (settlements_elsewhere at other append txn apart)
@@ -261,10 +261,10 @@ settled_after sc w at part append txn None now a found h r e =
     })
 
 -- the fact of a settlement follows the submission, and a commit its decision
-told_follows : (sc : Scenario) (w : State) (at : ServerId) (kept : List Record) (append : Option Record) → Agrees sc w
-    → IfSome append (RecordRests (DecidedAs w.actors.coordinators) (IsAsked sc w.actors.coordinators at) kept) → Each (WhatFollows sc w.facts) (told_by at append)
-told_follows sc w at kept None h r = tt
-told_follows sc w at kept (Some (log.Settled s)) h r = (
+facts_follow : (sc : Scenario) (w : State) (at : ServerId) (kept : List Record) (append : Option Record) → Agrees sc w
+    → IfSome append (RecordRests (DecidedAs w.actors.coordinators) (IsAsked sc w.actors.coordinators at) kept) → Each (WhatFollows sc w.facts) (server_facts at append)
+facts_follow sc w at kept None h r = tt
+facts_follow sc w at kept (Some (log.Settled s)) h r = (
   record {
     submitted = submitted_told s.txn w.facts (h.submitted s.txn ∙ r.asked.submitted);
     item = r.asked.item;
@@ -276,7 +276,7 @@ told_follows sc w at kept (Some (log.Settled s)) h r = (
     follows : (ended : Outcome) → s.outcome ≡ ended → Follows w.facts s.txn ended
     follows outcome.Commit e = decided_told sc w s.txn outcome.Commit h (ordered_commit (DecidedAs w.actors.coordinators) (IsAsked sc w.actors.coordinators at) kept s s.why refl r e).1
     follows outcome.Abort e = tt
-told_follows sc w at kept (Some _) h r = tt
+facts_follow sc w at kept (Some _) h r = tt
 
 -- ---- what a server's act does not undo
 
@@ -395,7 +395,7 @@ coordinator_stays sc old new txn part stays was is h =
       served = served_stays old new txn (servers_at sc txn) (decided_in part.log) stays was h.served;
     }
 
--- ---- the turn
+-- ---- the move
 
 -- a letter of a server rests on its log
 letter_rests : (sc : Scenario) (servers : List (Part Server)) (rest : Actors) (at : ServerId) (part next : Part Server) (from to : Actor) (said_is : Body)
@@ -436,17 +436,17 @@ letters_rest sc w at part next [] found h = tt
 letters_rest sc w at part next (letter ∷ letters) found h =
     (letter_rests sc w.actors.servers w.actors at part next letter.from letter.to letter.body found h.0.from_is h.0.says, letters_rest sc w at part next letters found h.1)
 
--- the turn of a server that acts lawfully, whether it is up after it or down
+-- the move of a server that acts lawfully, whether it is up after it or down
 pub server_acts_agrees : (sc : Scenario) (w : State) (at : ServerId) (part : Part Server) (now : Option Server) (own : List What) (append : Option Record) (letters : List Letter) → Agrees sc w
     → slice_get w.actors.servers at.0 ≡ Some part → ServerActs sc w at part.log now own append letters
-    → TurnAgrees sc w (server_acted w.actors at (acts (server_fact at) own part.log now (log_with part.log append) letters))
+    → MoveAgrees sc w (server_move w.actors at (acts (server_fact at) own part.log now (log_with part.log append) letters))
 server_acts_agrees sc w at part now own append letters h found l =
     let next : Part Server = record { up = now; log = log_with part.log append } in
     let V = DecidedAs w.actors.coordinators in
     let M = IsAsked sc w.actors.coordinators at in
     let actors = record w.actors { servers = slice_set w.actors.servers at.0 next } in
     let stays : LogsStay w.actors actors = server_logs_stay sc w at part next append found refl l.rests in
-    let tells : own ++ flat_map (server_fact at) (drop (length part.log) (log_with part.log append)) ≡ own ++ told_by at append = ap (λ (xs : List What). own ++ xs) (gained (server_fact at) part.log append) in
+    let tells : own ++ flat_map (server_fact at) (drop (length part.log) (log_with part.log append)) ≡ own ++ server_facts at append = ap (λ (xs : List What). own ++ xs) (gained (server_fact at) part.log append) in
     let here = h.servers at.0 part found in
     record {
       coordinator_count = refl;
@@ -461,17 +461,17 @@ server_acts_agrees sc w at part now own append letters h found l =
       letters = letters_rest sc w at part next letters found l.replies;
       stays = stays;
       happened = subst (Each (WhatFollows sc w.facts)) (sym tells)
-          (each_append (WhatFollows sc w.facts) own (told_by at append) l.own_says.follows (told_follows sc w at part.log append h l.rests));
+          (each_append (WhatFollows sc w.facts) own (server_facts at append) l.own_says.follows (facts_follow sc w at part.log append h l.rests));
       submitted = λ txn. ap (λ (xs : List What). submitted_count (slice_get w.actors.coordinators txn.0) + length (submissions txn xs)) tells
           ∙ (ap (λ (xs : List TxnId). submitted_count (slice_get w.actors.coordinators txn.0) + length xs)
-          (filter_map_append (submitted_what txn) own (told_by at append) ∙ (ap (λ (xs : List TxnId). xs ++ submissions txn (told_by at append)) (l.own_says.no_submission txn) ∙ server_submissions at append txn))
+          (filter_map_append (submitted_what txn) own (server_facts at append) ∙ (ap (λ (xs : List TxnId). xs ++ submissions txn (server_facts at append)) (l.own_says.no_submission txn) ∙ server_submissions at append txn))
           ∙ none_more _);
       decided = λ txn. ap (λ (xs : List What). listed (decided_at w.actors.coordinators txn.0) ++ decisions txn xs) tells
           ∙ (ap (λ (xs : List Decision). listed (decided_at w.actors.coordinators txn.0) ++ xs)
-          (filter_map_append (decided_what txn) own (told_by at append) ∙ (ap (λ (xs : List Decision). xs ++ decisions txn (told_by at append)) (l.own_says.no_decision txn) ∙ server_decisions at append txn))
+          (filter_map_append (decided_what txn) own (server_facts at append) ∙ (ap (λ (xs : List Decision). xs ++ decisions txn (server_facts at append)) (l.own_says.no_decision txn) ∙ server_decisions at append txn))
           ∙ append_none _);
       settled = λ other txn. ap (λ (xs : List What). listed (settled_outcome w.actors.servers other txn) ++ settlements other txn xs) tells
           ∙ (ap (λ (xs : List Outcome). listed (settled_outcome w.actors.servers other txn) ++ xs)
-          (filter_map_append (settled_what other txn) own (told_by at append) ∙ ap (λ (xs : List Outcome). xs ++ settlements other txn (told_by at append)) (l.own_says.no_settlement other txn))
-          ∙ settled_turn V M w.actors.servers at other part next append txn (at.0 == other.0) refl found refl l.rests);
+          (filter_map_append (settled_what other txn) own (server_facts at append) ∙ ap (λ (xs : List Outcome). xs ++ settlements other txn (server_facts at append)) (l.own_says.no_settlement other txn))
+          ∙ settled_move V M w.actors.servers at other part next append txn (at.0 == other.0) refl found refl l.rests);
     }

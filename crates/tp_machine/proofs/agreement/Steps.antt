@@ -10,25 +10,25 @@ use Rattle.tp_model.specs.Words.step
 use Rattle.tp_model.specs.Words.vote
 use Rattle.tp_model.specs.Words.what
 use Rattle.tp_machine.specs.Logs.{decided_at, decided_by, decided_in, settled_by, settled_in}
-use Rattle.tp_machine.specs.Machine.{Machine, State, acts_by, coordinator_acted, coordinator_fact, done, idles, is_part_submitted, log_with, opened_actors, opened_part, opening_state, refusal, server_acted, server_fact, submitted, with_age}
+use Rattle.tp_machine.specs.Machine.{Machine, State, acts_by, coordinator_fact, coordinator_move, idle_move, is_part_submitted, log_with, machine_after, opened_actors, opened_part, opening_state, refusal, server_fact, server_move, with_age}
 use Rattle.tp_machine.specs.Parts.{Part}
 use Rattle.tp_machine.specs.Sound.{Each, EachAt, IsSound, IsSoundBody, IsSoundCoordinatorUp, IsSoundLetter, IsSoundMail, IsSoundServerUp, IsStepOf, IsTxn}
 use Rattle.tp_machine.specs.coord.Opened as coord
-use Rattle.tp_machine.specs.coord.Row.{agrees, coordinator_row, replied, submit_row}
+use Rattle.tp_machine.specs.coord.Row.{coordinator_row, submit_row}
 use Rattle.tp_machine.specs.coord.State.{Coordinator}
 use Rattle.tp_machine.specs.declared.actors.Actors.{Actors}
 use Rattle.tp_machine.specs.offices.Authority as office
 use Rattle.tp_machine.specs.offices.State.{Authority}
 use Rattle.tp_machine.specs.server.Opened as server
-use Rattle.tp_machine.specs.server.Row.{prepared, server_row}
+use Rattle.tp_machine.specs.server.Row.{server_row}
 use Rattle.tp_machine.specs.server.State.{Server}
 use Rattle.tp_machine.proofs.agreement.ServerActs.{SaysOnly, server_acts_agrees, unmoved_agrees}
 use Rattle.tp_machine.proofs.agreement.Coordinator.{CoordinatorLawful, Keeps, ReplyRests, SubmissionLawful, YesRests, coordinator_row_lawful, submit_row_lawful}
-use Rattle.tp_machine.proofs.agreement.CoordinatorActs.{coordinator_acts_agrees, received_acts, submission_acts}
+use Rattle.tp_machine.proofs.agreement.CoordinatorActs.{coordinator_acts_agrees, receipt_acts, submission_acts}
 use Rattle.tp_machine.proofs.agreement.Logs.{DecidedAs, IsAsked, IsPrepared, IsSettled, outcome_settled, submitted_count, submitted_up}
 use Rattle.tp_machine.proofs.agreement.Server.{IsUnsettled, LetterKept, RequestRests, ServerAgrees, ServerLawful, cast_in, server_row_lawful}
-use Rattle.tp_machine.proofs.agreement.World.{Agrees, BodyRests, CoordinatorUpAgrees, DecidedServed, LetterRests, MailRests, TurnAgrees, VoteRests, concluded_agrees}
-use Rattle.tp_machine.proofs.walks.Steps.{Cases, IsCoordinatorUp, IsServerUp, SaysIdle, WasSent, done_by}
+use Rattle.tp_machine.proofs.agreement.World.{Agrees, BodyRests, CoordinatorUpAgrees, DecidedServed, LetterRests, MailRests, MoveAgrees, VoteRests, state_after_agrees}
+use Rattle.tp_machine.proofs.walks.Steps.{Cases, IsCoordinatorUp, IsServerUp, SaysIdle, WasSent, machine_after_by}
 use Rattle.tp_machine.proofs.basics.Logs.{listed}
 use Rattle.tp_machine.proofs.serial_data.Built.{first_row_begins}
 use Rattle.tp_machine.proofs.basics.Lists.{at_made, each_get, placed_none}
@@ -41,9 +41,9 @@ silent_says sc w = record { follows = tt; no_submission = λ txn. refl; no_decis
 lost_says : (sc : Scenario) (w : State) (mail : ℕ) → SaysOnly sc w.facts (what.Lost mail ∷ [])
 lost_says sc w mail = record { follows = (tt, tt); no_submission = λ txn. refl; no_decision = λ txn. refl; no_settlement = λ at txn. refl }
 
-idle_agrees : (sc : Scenario) (w : State) → Agrees sc w → (taken : Step) (happened : List What) → SaysIdle taken happened → TurnAgrees sc w (idles w.actors happened)
-idle_agrees sc w h (step.Deliver mail) happened e = subst (λ (hs : List What). TurnAgrees sc w (idles w.actors hs)) (sym e) (unmoved_agrees sc w [] [] h (silent_says sc w) tt)
-idle_agrees sc w h (step.Lose mail) happened e = subst (λ (hs : List What). TurnAgrees sc w (idles w.actors hs)) (sym e) (unmoved_agrees sc w (what.Lost mail ∷ []) [] h (lost_says sc w mail) tt)
+idle_agrees : (sc : Scenario) (w : State) → Agrees sc w → (taken : Step) (happened : List What) → SaysIdle taken happened → MoveAgrees sc w (idle_move w.actors happened)
+idle_agrees sc w h (step.Deliver mail) happened e = subst (λ (hs : List What). MoveAgrees sc w (idle_move w.actors hs)) (sym e) (unmoved_agrees sc w [] [] h (silent_says sc w) tt)
+idle_agrees sc w h (step.Lose mail) happened e = subst (λ (hs : List What). MoveAgrees sc w (idle_move w.actors hs)) (sym e) (unmoved_agrees sc w (what.Lost mail ∷ []) [] h (lost_says sc w mail) tt)
 idle_agrees sc w h _ happened e = absurd e
 
 -- ---- what is known of actors that are up
@@ -119,7 +119,7 @@ begun_lawful sc w built sound h txn part c exists up new =
 
 begun_agrees : (sc : Scenario) (w : State) → is_built sc ≡ true → IsSound sc w → Agrees sc w → (txn : TxnId) (part : Part Coordinator) (c : Coordinator) → IsTxn sc txn → IsCoordinatorUp w txn part c
     → is_part_submitted (Some c) ≡ false
-    → TurnAgrees sc w (coordinator_acted w.actors txn (acts_by coordinator_fact (what.Submitted txn ∷ []) part.log (with_age (submit_row sc c) (length w.steps))))
+    → MoveAgrees sc w (coordinator_move w.actors txn (acts_by coordinator_fact (what.Submitted txn ∷ []) part.log (with_age (submit_row sc c) (length w.steps))))
 begun_agrees sc w built sound h txn part c exists up new =
     let own : c.txn ≡ txn = own_txn sc w txn part c sound up.found up.up in
     let effect = with_age (submit_row sc c) (length w.steps) in
@@ -142,9 +142,9 @@ coordinator_lawful sc w sound h n mail txn part c sent up =
     coordinator_row_lawful sc (IsPrepared w.actors.servers txn) (IsSettled w.actors.servers txn) c part.log mail (coordinator_agrees sc w txn part c h up)
     (reply_rests sc w txn part mail.letter.from mail.letter.body up.found (mail_sound sc w n mail (actor.Coordinator txn) sound sent) (mail_rests sc w n mail (actor.Coordinator txn) h sent))
 
-received_by_server : (sc : Scenario) (w : State) → IsSound sc w → Agrees sc w → (n : ℕ) (mail : Mail) (at : ServerId) (part : Part Server) (s : Server) → WasSent w n mail (actor.Server at) → IsServerUp w at part s
-    → TurnAgrees sc w (server_acted w.actors at (acts_by (server_fact at) [] part.log (server_row sc s mail)))
-received_by_server sc w sound h n mail at part s sent up =
+receipt_by_server : (sc : Scenario) (w : State) → IsSound sc w → Agrees sc w → (n : ℕ) (mail : Mail) (at : ServerId) (part : Part Server) (s : Server) → WasSent w n mail (actor.Server at) → IsServerUp w at part s
+    → MoveAgrees sc w (server_move w.actors at (acts_by (server_fact at) [] part.log (server_row sc s mail)))
+receipt_by_server sc w sound h n mail at part s sent up =
     let effect = server_row sc s mail in
     let l = server_lawful sc w h n mail at part s sent up in
     server_acts_agrees sc w at part (Some effect.state) [] effect.reaction.append effect.reaction.letters h up.found
@@ -155,31 +155,31 @@ received_by_server sc w sound h n mail at part s sent up =
       replies = subst (λ (x : ServerId). Each (LetterKept x (log_with part.log effect.reaction.append)) effect.reaction.letters) (own_server sc w at part s sound up.found up.up) l.replies;
     })
 
-received_by_coordinator : (sc : Scenario) (w : State) → IsSound sc w → Agrees sc w → (n : ℕ) (mail : Mail) (txn : TxnId) (part : Part Coordinator) (c : Coordinator) → WasSent w n mail (actor.Coordinator txn)
-    → IsCoordinatorUp w txn part c → TurnAgrees sc w (coordinator_acted w.actors txn (acts_by coordinator_fact [] part.log (coordinator_row sc c mail)))
-received_by_coordinator sc w sound h n mail txn part c sent up =
+receipt_by_coordinator : (sc : Scenario) (w : State) → IsSound sc w → Agrees sc w → (n : ℕ) (mail : Mail) (txn : TxnId) (part : Part Coordinator) (c : Coordinator) → WasSent w n mail (actor.Coordinator txn)
+    → IsCoordinatorUp w txn part c → MoveAgrees sc w (coordinator_move w.actors txn (acts_by coordinator_fact [] part.log (coordinator_row sc c mail)))
+receipt_by_coordinator sc w sound h n mail txn part c sent up =
     let effect = coordinator_row sc c mail in
     coordinator_acts_agrees sc w txn part (Some effect.state) [] effect.reaction.append effect.reaction.letters h up.found
-    (received_acts sc w txn part c effect h up.found up.up (own_txn sc w txn part c sound up.found up.up) (coordinator_lawful sc w sound h n mail txn part c sent up))
+    (receipt_acts sc w txn part c effect h up.found up.up (own_txn sc w txn part c sound up.found up.up) (coordinator_lawful sc w sound h n mail txn part c sent up))
 
 -- ---- steps
 
-agrees_cases : (sc : Scenario) (w : State) → is_built sc ≡ true → IsSound sc w → Agrees sc w → Cases sc w (λ taken turn. TurnAgrees sc w turn)
+agrees_cases : (sc : Scenario) (w : State) → is_built sc ≡ true → IsSound sc w → Agrees sc w → Cases sc w (λ taken move. MoveAgrees sc w move)
 agrees_cases sc w built sound h =
     record {
       idle = idle_agrees sc w h;
-      server_received = λ n mail at part s sent up. received_by_server sc w sound h n mail at part s sent up;
-      coordinator_received = λ n mail txn part c sent up. received_by_coordinator sc w sound h n mail txn part c sent up;
+      server_received = λ n mail at part s sent up. receipt_by_server sc w sound h n mail at part s sent up;
+      coordinator_received = λ n mail txn part c sent up. receipt_by_coordinator sc w sound h n mail txn part c sent up;
       authority_told = λ n mail sent.
           unmoved_agrees sc w [] (office.authority_row w.actors.authority mail).reaction.letters h (silent_says sc w) (tells_rest sc w.actors w.actors.authority mail.letter.body);
       begun = λ txn part c exists up new. begun_agrees sc w built sound h txn part c exists up new;
     }
 
 -- a step that is not refused keeps agreement
-pub agrees_done : (sc : Scenario) (m : Machine) (taken : Step) → is_built sc ≡ true → IsStepOf sc taken → refusal m.state taken ≡ None → IsSound sc m.state → Agrees sc m.state → Agrees sc (done sc m taken).state
-agrees_done sc m taken built exists allowed sound h =
-    done_by sc m (λ taken turn. TurnAgrees sc m.state turn) (Agrees sc) (agrees_cases sc m.state built sound h) h.coordinator_count
-    (λ taken turn t. concluded_agrees sc m.state taken turn h t) h taken exists allowed
+pub agrees_next : (sc : Scenario) (m : Machine) (taken : Step) → is_built sc ≡ true → IsStepOf sc taken → refusal m.state taken ≡ None → IsSound sc m.state → Agrees sc m.state → Agrees sc (machine_after sc m taken).state
+agrees_next sc m taken built exists allowed sound h =
+    machine_after_by sc m (λ taken move. MoveAgrees sc m.state move) (Agrees sc) (agrees_cases sc m.state built sound h) h.coordinator_count
+    (λ taken move t. state_after_agrees sc m.state taken move h t) h taken exists allowed
 
 -- ---- before the first step
 
@@ -222,7 +222,7 @@ agrees_opening sc =
     λ n part e. at_made (λ (k : ℕ) (found : Part Coordinator). IsIdlePart sc servers found) (λ (k : ℕ). opened_part (coord.idle sc (record { 0 = k }))) 0 (length sc.txns)
     (λ k within. record { state = λ txn. record { agrees = record { decided = refl; servers = refl; awaited = tt }; replied = tt }; empty = refl; unsubmitted = refl }) n part e in
     let open_ones : EachAt (λ (n : ℕ) (part : Part Server). IsOpenedPart part) servers =
-    λ n part e. at_made (λ (k : ℕ) (found : Part Server). IsOpenedPart found) (λ (k : ℕ). opened_part (server.opened sc (record { 0 = k }))) 0 (length sc.servers)
+    λ n part e. at_made (λ (k : ℕ) (found : Part Server). IsOpenedPart found) (λ (k : ℕ). opened_part (server.opening sc (record { 0 = k }))) 0 (length sc.servers)
     (λ k within. record {
       agrees = record {
         settled = λ txn. unset_at (length sc.txns) txn.0;
@@ -234,7 +234,7 @@ agrees_opening sc =
     record {
       past = tt;
       coordinator_count = made_count (λ (n : ℕ). opened_part (coord.idle sc (record { 0 = n }))) 0 (length sc.txns);
-      server_count = made_count (λ (n : ℕ). opened_part (server.opened sc (record { 0 = n }))) 0 (length sc.servers);
+      server_count = made_count (λ (n : ℕ). opened_part (server.opening sc (record { 0 = n }))) 0 (length sc.servers);
       coordinators = λ n part e. record {
         state = (idle n part e).state (record { 0 = n });
         served = subst (DecidedServed sc servers (record { 0 = n })) (sym (idle n part e).empty) tt;

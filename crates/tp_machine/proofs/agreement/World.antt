@@ -11,7 +11,7 @@ use Rattle.tp_model.specs.Words.what
 use Rattle.tp_model.specs.Agreement.{has_item_at}
 use Rattle.tp_model.specs.Facts.{before, is_decided_as, is_submission}
 use Rattle.tp_machine.specs.Logs.{decided_at, decided_in, settled_at, settled_in}
-use Rattle.tp_machine.specs.Machine.{State, Turn, concluded, noted, posted}
+use Rattle.tp_machine.specs.Machine.{Move, State, facts_of, mails_of, state_after}
 use Rattle.tp_machine.specs.Sound.{Each, EachAt}
 use Rattle.tp_machine.specs.coord.Opened.{servers_at}
 use Rattle.tp_machine.specs.declared.actors.Actors.{Actors}
@@ -21,7 +21,7 @@ use Rattle.tp_machine.specs.server.State.{Server}
 use Rattle.tp_machine.proofs.agreement.Coordinator.{CoordinatorAgrees, DecisionRests, PhaseRests}
 use Rattle.tp_machine.proofs.agreement.Logs.{DecidedAs, HasVoted, IsAsked, IsPrepared, IsServed, IsSettled, LogsStay, decided_stays, settled_outcome, settled_stays, submitted_count, undecided_before}
 use Rattle.tp_machine.proofs.agreement.Server.{ServerAgrees}
-use Rattle.tp_machine.proofs.basics.Facts.{ArePast, Grows, before_past, decided_what, decisions, filter_map_append, grows_noted, noted_past, past_as, said, said_noted, settled_what, settlements, submissions, submitted_what}
+use Rattle.tp_machine.proofs.basics.Facts.{ArePast, Grows, before_past, decided_what, decisions, filter_map_append, grows_with_facts, new_facts_past, past_as, said, said_with_facts, settled_what, settlements, submissions, submitted_what}
 use Rattle.tp_machine.proofs.basics.Logs.{listed}
 use Rattle.tp_machine.proofs.basics.Lists.{each_append}
 
@@ -140,22 +140,22 @@ pub record Agrees (sc : Scenario) (w : State) : Type 0 where
   pub decided : (txn : TxnId) → decisions txn (said w.facts) ≡ listed (decided_at w.actors.coordinators txn.0)
   pub settled : (at : ServerId) (txn : TxnId) → settlements at txn (said w.facts) ≡ listed (settled_outcome w.actors.servers at txn)
 
--- ---- a turn
+-- ---- a move
 
 -- a step leaves actors that agree, letters that rest on logs, and facts that tell of what the logs gained; and it undoes nothing
-pub record TurnAgrees (sc : Scenario) (w : State) (turn : Turn) : Type 0 where
-  pub coordinator_count : length turn.actors.coordinators ≡ length w.actors.coordinators
-  pub server_count : length turn.actors.servers ≡ length w.actors.servers
-  pub coordinators : CoordinatorsAgree sc turn.actors.servers turn.actors.coordinators
-  pub servers : ServersAgree sc turn.actors.coordinators turn.actors.servers
-  pub letters : Each (LetterRests sc turn.actors) turn.letters
-  pub stays : LogsStay w.actors turn.actors
-  pub happened : Each (WhatFollows sc w.facts) turn.happened
-  pub submitted : (txn : TxnId) → submitted_count (slice_get w.actors.coordinators txn.0) + length (submissions txn turn.happened)
-      ≡ submitted_count (slice_get turn.actors.coordinators txn.0)
-  pub decided : (txn : TxnId) → listed (decided_at w.actors.coordinators txn.0) ++ decisions txn turn.happened ≡ listed (decided_at turn.actors.coordinators txn.0)
-  pub settled : (at : ServerId) (txn : TxnId) → listed (settled_outcome w.actors.servers at txn) ++ settlements at txn turn.happened
-      ≡ listed (settled_outcome turn.actors.servers at txn)
+pub record MoveAgrees (sc : Scenario) (w : State) (move : Move) : Type 0 where
+  pub coordinator_count : length move.actors.coordinators ≡ length w.actors.coordinators
+  pub server_count : length move.actors.servers ≡ length w.actors.servers
+  pub coordinators : CoordinatorsAgree sc move.actors.servers move.actors.coordinators
+  pub servers : ServersAgree sc move.actors.coordinators move.actors.servers
+  pub letters : Each (LetterRests sc move.actors) move.letters
+  pub stays : LogsStay w.actors move.actors
+  pub happened : Each (WhatFollows sc w.facts) move.happened
+  pub submitted : (txn : TxnId) → submitted_count (slice_get w.actors.coordinators txn.0) + length (submissions txn move.happened)
+      ≡ submitted_count (slice_get move.actors.coordinators txn.0)
+  pub decided : (txn : TxnId) → listed (decided_at w.actors.coordinators txn.0) ++ decisions txn move.happened ≡ listed (decided_at move.actors.coordinators txn.0)
+  pub settled : (at : ServerId) (txn : TxnId) → listed (settled_outcome w.actors.servers at txn) ++ settlements at txn move.happened
+      ≡ listed (settled_outcome move.actors.servers at txn)
 
 -- ---- growth
 
@@ -198,36 +198,36 @@ facts_stay sc old new place (fact ∷ facts) g past h = (
   facts_stay sc old new place facts g past.1 h.1,
 )
 
-posted_rest : (sc : Scenario) (actors : Actors) (place number : ℕ) (letters : List Letter) → Each (LetterRests sc actors) letters → Each (MailRests sc actors) (posted place number letters)
-posted_rest sc actors place number [] h = tt
-posted_rest sc actors place number (letter ∷ letters) h = (h.0, posted_rest sc actors place (number + 1) letters h.1)
+new_mails_rest : (sc : Scenario) (actors : Actors) (place number : ℕ) (letters : List Letter) → Each (LetterRests sc actors) letters → Each (MailRests sc actors) (mails_of place number letters)
+new_mails_rest sc actors place number [] h = tt
+new_mails_rest sc actors place number (letter ∷ letters) h = (h.0, new_mails_rest sc actors place (number + 1) letters h.1)
 
-noted_follow : (sc : Scenario) (earlier facts : List Fact) (place : ℕ) (happened : List What) → before place facts ≡ earlier → Each (WhatFollows sc earlier) happened
-    → Each (FactFollows sc facts) (noted place happened)
-noted_follow sc earlier facts place [] e h = tt
-noted_follow sc earlier facts place (w ∷ happened) e h =
-    (subst (λ (xs : List Fact). WhatFollows sc xs w) (sym e) h.0, noted_follow sc earlier facts place happened e h.1)
+new_facts_follow : (sc : Scenario) (earlier facts : List Fact) (place : ℕ) (happened : List What) → before place facts ≡ earlier → Each (WhatFollows sc earlier) happened
+    → Each (FactFollows sc facts) (facts_of place happened)
+new_facts_follow sc earlier facts place [] e h = tt
+new_facts_follow sc earlier facts place (w ∷ happened) e h =
+    (subst (λ (xs : List Fact). WhatFollows sc xs w) (sym e) h.0, new_facts_follow sc earlier facts place happened e h.1)
 
 pub steps_more : (steps : List Step) (taken : Step) → length (steps ++ taken ∷ []) ≡ length steps + 1
 steps_more [] taken = refl
 steps_more (first ∷ steps) taken = let later = steps_more steps taken in omega (arith, later)
 
--- what is found of all facts once some were noted
-pub found_noted : {B : Type 0} (h : What → Option B) (facts : List Fact) (place : ℕ) (happened : List What)
-    → filter_map h (said (facts ++ noted place happened)) ≡ filter_map h (said facts) ++ filter_map h happened
-found_noted h facts place happened = ap (filter_map h) (said_noted facts place happened) ∙ filter_map_append h (said facts) happened
+-- what is found of facts with those of a step
+pub found_with_facts : {B : Type 0} (h : What → Option B) (facts : List Fact) (place : ℕ) (happened : List What)
+    → filter_map h (said (facts ++ facts_of place happened)) ≡ filter_map h (said facts) ++ filter_map h happened
+found_with_facts h facts place happened = ap (filter_map h) (said_with_facts facts place happened) ∙ filter_map_append h (said facts) happened
 
 -- ---- a step
 
-posted_numbered : (place number : ℕ) (letters : List Letter) → AreNumbered number (posted place number letters)
-posted_numbered place number [] = tt
-posted_numbered place number (letter ∷ letters) = (refl, posted_numbered place (number + 1) letters)
+new_mails_numbered : (place number : ℕ) (letters : List Letter) → AreNumbered number (mails_of place number letters)
+new_mails_numbered place number [] = tt
+new_mails_numbered place number (letter ∷ letters) = (refl, new_mails_numbered place (number + 1) letters)
 
-more_numbered : (number place : ℕ) (mails : List Mail) (letters : List Letter) → AreNumbered number mails → AreNumbered number (mails ++ posted place (number + length mails) letters)
+more_numbered : (number place : ℕ) (mails : List Mail) (letters : List Letter) → AreNumbered number mails → AreNumbered number (mails ++ mails_of place (number + length mails) letters)
 more_numbered number place [] letters h =
-    subst (λ (next : ℕ). AreNumbered number (posted place next letters)) (omega arith) (posted_numbered place number letters)
+    subst (λ (next : ℕ). AreNumbered number (mails_of place next letters)) (omega arith) (new_mails_numbered place number letters)
 more_numbered number place (mail ∷ mails) letters h =
-    (h.0, subst (λ (next : ℕ). AreNumbered (number + 1) (mails ++ posted place next letters)) (omega arith) (more_numbered (number + 1) place mails letters h.1))
+    (h.0, subst (λ (next : ℕ). AreNumbered (number + 1) (mails ++ mails_of place next letters)) (omega arith) (more_numbered (number + 1) place mails letters h.1))
 
 -- the mail that is looked up by a number has it
 pub number_is_place : (number : ℕ) (mails : List Mail) (n : ℕ) (mail : Mail) → AreNumbered number mails → slice_get mails n ≡ Some mail → mail.number ≡ number + n
@@ -235,33 +235,33 @@ number_is_place number [] n mail h e = absurd (cc)
 number_is_place number (first ∷ mails) zero mail h e = let same : first ≡ mail = grind arith in omega (arith, h.0, ap (λ (m : Mail). m.number) same)
 number_is_place number (first ∷ mails) (suc n) mail h e = let later = number_is_place (number + 1) mails n mail h.1 e in omega (arith, later)
 
--- a step whose turn agrees leaves a world that agrees
-pub concluded_agrees : (sc : Scenario) (w : State) (taken : Step) (turn : Turn) → Agrees sc w → TurnAgrees sc w turn → Agrees sc (concluded w taken turn)
-concluded_agrees sc w taken turn h t =
+-- a step whose move agrees leaves a world that agrees
+pub state_after_agrees : (sc : Scenario) (w : State) (taken : Step) (move : Move) → Agrees sc w → MoveAgrees sc w move → Agrees sc (state_after w taken move)
+state_after_agrees sc w taken move h t =
     let place = length w.steps in
     let next : length (w.steps ++ taken ∷ []) ≡ place + 1 = steps_more w.steps taken in
-    let now = w.facts ++ noted place turn.happened in
-    let g : Grows w.facts now place = grows_noted w.facts place turn.happened in
+    let now = w.facts ++ facts_of place move.happened in
+    let g : Grows w.facts now place = grows_with_facts w.facts place move.happened in
     let all : before place now ≡ w.facts = g.same place (omega arith) ∙ before_past place w.facts h.past in
     record {
       past = subst (λ (p : ℕ). ArePast p now) (sym next)
-          (each_append (λ (fact : Fact). fact.place < place + 1) w.facts (noted place turn.happened) (past_as place (place + 1) (omega arith) w.facts h.past) (noted_past place turn.happened));
+          (each_append (λ (fact : Fact). fact.place < place + 1) w.facts (facts_of place move.happened) (past_as place (place + 1) (omega arith) w.facts h.past) (new_facts_past place move.happened));
       coordinator_count = t.coordinator_count ∙ h.coordinator_count;
       server_count = t.server_count ∙ h.server_count;
       coordinators = t.coordinators;
       servers = t.servers;
-      mails = each_append (MailRests sc turn.actors) w.mails (posted place (length w.mails) turn.letters)
-          (mails_stay sc w.actors turn.actors w.mails t.stays h.mails)
-          (posted_rest sc turn.actors place (length w.mails) turn.letters t.letters);
-      numbered = subst (λ (next : ℕ). AreNumbered 0 (w.mails ++ posted place next turn.letters)) (omega arith) (more_numbered 0 place w.mails turn.letters h.numbered);
-      facts = each_append (FactFollows sc now) w.facts (noted place turn.happened)
+      mails = each_append (MailRests sc move.actors) w.mails (mails_of place (length w.mails) move.letters)
+          (mails_stay sc w.actors move.actors w.mails t.stays h.mails)
+          (new_mails_rest sc move.actors place (length w.mails) move.letters t.letters);
+      numbered = subst (λ (next : ℕ). AreNumbered 0 (w.mails ++ mails_of place next move.letters)) (omega arith) (more_numbered 0 place w.mails move.letters h.numbered);
+      facts = each_append (FactFollows sc now) w.facts (facts_of place move.happened)
           (facts_stay sc w.facts now place w.facts g h.past h.facts)
-          (noted_follow sc w.facts now place turn.happened all t.happened);
-      submitted = λ txn. ap length (found_noted (submitted_what txn) w.facts place turn.happened)
-          ∙ (length-append (submissions txn (said w.facts)) (submissions txn turn.happened)
-          ∙ (ap (λ (n : ℕ). n + length (submissions txn turn.happened)) (h.submitted txn) ∙ t.submitted txn));
-      decided = λ txn. found_noted (decided_what txn) w.facts place turn.happened
-          ∙ (ap (λ (ds : List Decision). ds ++ decisions txn turn.happened) (h.decided txn) ∙ t.decided txn);
-      settled = λ at txn. found_noted (settled_what at txn) w.facts place turn.happened
-          ∙ (ap (λ (os : List Outcome). os ++ settlements at txn turn.happened) (h.settled at txn) ∙ t.settled at txn);
+          (new_facts_follow sc w.facts now place move.happened all t.happened);
+      submitted = λ txn. ap length (found_with_facts (submitted_what txn) w.facts place move.happened)
+          ∙ (length-append (submissions txn (said w.facts)) (submissions txn move.happened)
+          ∙ (ap (λ (n : ℕ). n + length (submissions txn move.happened)) (h.submitted txn) ∙ t.submitted txn));
+      decided = λ txn. found_with_facts (decided_what txn) w.facts place move.happened
+          ∙ (ap (λ (ds : List Decision). ds ++ decisions txn move.happened) (h.decided txn) ∙ t.decided txn);
+      settled = λ at txn. found_with_facts (settled_what at txn) w.facts place move.happened
+          ∙ (ap (λ (os : List Outcome). os ++ settlements at txn move.happened) (h.settled at txn) ∙ t.settled at txn);
     }

@@ -8,7 +8,7 @@ use Rattle.tp_model.specs.Words.{CommitRecord, Decision, Fact, Outcome, ServerId
 use Rattle.tp_model.specs.Words.what
 use Rattle.tp_model.specs.Facts.{before, commit_in_what, commit_of, first_of, is_decided_as, is_decided_what, is_decision, is_decision_what, is_earlier, is_settled_as, is_settled_what, is_settlement, is_settlement_what, is_submission, is_submission_what, outcome_of, record_of, same_outcome}
 use Rattle.tp_model.specs.Ids.{same_server, same_txn}
-use Rattle.tp_machine.specs.Machine.{noted}
+use Rattle.tp_machine.specs.Machine.{facts_of}
 use Rattle.tp_machine.specs.Sound.{Each}
 
 -- ---- lists
@@ -107,21 +107,21 @@ before_later place facts more h =
     ∙ append_none (before place facts))
 
 -- what a step notes is at its place
-pub noted_later : (place : ℕ) (happened : List What) → AreLater place (noted place happened)
-noted_later place [] = tt
-noted_later place (w ∷ happened) = (omega arith, noted_later place happened)
+pub new_facts_later : (place : ℕ) (happened : List What) → AreLater place (facts_of place happened)
+new_facts_later place [] = tt
+new_facts_later place (w ∷ happened) = (omega arith, new_facts_later place happened)
 
-pub noted_past : (place : ℕ) (happened : List What) → ArePast (place + 1) (noted place happened)
-noted_past place [] = tt
-noted_past place (w ∷ happened) = (omega arith, noted_past place happened)
+pub new_facts_past : (place : ℕ) (happened : List What) → ArePast (place + 1) (facts_of place happened)
+new_facts_past place [] = tt
+new_facts_past place (w ∷ happened) = (omega arith, new_facts_past place happened)
 
 -- later facts change nothing before a place: the one law of growth
 pub record Grows (old new : List Fact) (place : ℕ) : Type 0 where
   pub same : (k : ℕ) → k ≤ place → before k new ≡ before k old
 
-pub grows_noted : (facts : List Fact) (place : ℕ) (happened : List What) → Grows facts (facts ++ noted place happened) place
-grows_noted facts place happened =
-    record { same = λ k le. before_later k facts (noted place happened) (later_as k place le (noted place happened) (noted_later place happened)) }
+pub grows_with_facts : (facts : List Fact) (place : ℕ) (happened : List What) → Grows facts (facts ++ facts_of place happened) place
+grows_with_facts facts place happened =
+    record { same = λ k le. before_later k facts (facts_of place happened) (later_as k place le (facts_of place happened) (new_facts_later place happened)) }
 
 pub grows_same : (facts : List Fact) (place : ℕ) → Grows facts facts place
 grows_same facts place = record { same = λ k le. refl }
@@ -131,10 +131,10 @@ grows_same facts place = record { same = λ k le. refl }
 abbrev pub said : List Fact → List What
 said facts = map (λ (fact : Fact). fact.what) facts
 
-pub said_noted : (facts : List Fact) (place : ℕ) (happened : List What) → said (facts ++ noted place happened) ≡ said facts ++ happened
-said_noted [] place [] = refl
-said_noted [] place (w ∷ happened) = ap (λ ws. w ∷ ws) (said_noted [] place happened)
-said_noted (fact ∷ facts) place happened = ap (λ ws. fact.what ∷ ws) (said_noted facts place happened)
+pub said_with_facts : (facts : List Fact) (place : ℕ) (happened : List What) → said (facts ++ facts_of place happened) ≡ said facts ++ happened
+said_with_facts [] place [] = refl
+said_with_facts [] place (w ∷ happened) = ap (λ ws. w ∷ ws) (said_with_facts [] place happened)
+said_with_facts (fact ∷ facts) place happened = ap (λ ws. fact.what ∷ ws) (said_with_facts facts place happened)
 
 abbrev pub submitted_what : TxnId → What → Option TxnId
 submitted_what txn (what.Submitted other) = if same_txn other txn then Some other else None

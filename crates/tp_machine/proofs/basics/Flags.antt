@@ -6,12 +6,12 @@ use Rattle.std.proofs.lemmas.List.{length-append, length-replicate}
 use Rattle.std.proofs.lemmas.List.Elements.{filter-append}
 use Rattle.tp_model.specs.Words.{Letter, Mail}
 use Rattle.tp_machine.specs.mirrors.Flags.{marked, first_marked}
-use Rattle.tp_machine.specs.Machine.{posted, without_number}
+use Rattle.tp_machine.specs.Machine.{mails_of, without_number}
 
 -- each letter becomes one mail
-pub length_posted : (place number : ℕ) (letters : List Letter) → length (posted place number letters) ≡ length letters
-length_posted place number [] = refl
-length_posted place number (letter ∷ letters) = ap suc (length_posted place (number + 1) letters)
+pub length_mails_of : (place number : ℕ) (letters : List Letter) → length (mails_of place number letters) ≡ length letters
+length_mails_of place number [] = refl
+length_mails_of place number (letter ∷ letters) = ap suc (length_mails_of place (number + 1) letters)
 
 -- the first flag that is set is within the flags, or past them
 pub first_marked-le : (flags : List Bool) → first_marked flags ≤ length flags
@@ -104,11 +104,11 @@ any-marked n (suc k) (false ∷ flags) =
     let same : (n + 1) + k ≡ n + suc k = omega arith in
     subst (λ (j : ℕ). list_any (λ (m : ℕ). m == j) (marked (n + 1) flags) ≡ unwrap_or (slice_get flags k) false) same (any-marked (n + 1) k flags)
 
--- with each mail that is posted a flag is set
-pub length-flags_posted : (place : ℕ) (flags : List Bool) (mails : List Mail) (letters : List Letter) → length flags ≡ length mails
-    → length (flags ++ replicate (length letters) true) ≡ length (mails ++ posted place (length mails) letters)
-length-flags_posted place flags mails letters same =
-    omega (arith, same, length-append flags (replicate (length letters) true), length-replicate (length letters) true, length-append mails (posted place (length mails) letters), length_posted place (length mails) letters)
+-- with each new mail a flag is set
+pub length-flags_mails_of : (place : ℕ) (flags : List Bool) (mails : List Mail) (letters : List Letter) → length flags ≡ length mails
+    → length (flags ++ replicate (length letters) true) ≡ length (mails ++ mails_of place (length mails) letters)
+length-flags_mails_of place flags mails letters same =
+    omega (arith, same, length-append flags (replicate (length letters) true), length-replicate (length letters) true, length-append mails (mails_of place (length mails) letters), length_mails_of place (length mails) letters)
 
 -- the same from the first flag on
 pub any-marked_all : (k : ℕ) (flags : List Bool) → list_any (λ (m : ℕ). m == k) (marked 0 flags) ≡ unwrap_or (slice_get flags k) false
@@ -117,21 +117,21 @@ any-marked_all k flags =
     subst (λ (j : ℕ). list_any (λ (m : ℕ). m == j) (marked 0 flags) ≡ unwrap_or (slice_get flags k) false) same (any-marked 0 k flags)
 
 -- flags that are added at the end add their numbers
-pub marked-posted : (flags : List Bool) (count : ℕ) → marked 0 (flags ++ replicate count true) ≡ marked 0 flags ++ range_with_len (length flags) count
-marked-posted flags count =
+pub marked-mails_of : (flags : List Bool) (count : ℕ) → marked 0 (flags ++ replicate count true) ≡ marked 0 flags ++ range_with_len (length flags) count
+marked-mails_of flags count =
     marked-append 0 flags (replicate count true)
     ∙ (ap (λ k. marked 0 flags ++ marked k (replicate count true)) (omega arith) ∙ ap (λ ns. marked 0 flags ++ ns) (marked-replicate (length flags) count))
 
 -- and one before them may be taken down
-pub marked-posted_cleared : (flags : List Bool) (count k : ℕ) → k < length flags
+pub marked-mails_of_cleared : (flags : List Bool) (count k : ℕ) → k < length flags
     → marked 0 (slice_set (flags ++ replicate count true) k false) ≡ without_number (marked 0 flags) k ++ range_with_len (length flags) count
-marked-posted_cleared flags count k h =
+marked-mails_of_cleared flags count k h =
     let same : 0 + k ≡ k = omega arith in
     let all = marked-cleared 0 k (flags ++ replicate count true) in
     let later : without_number (range_with_len (length flags) count) k ≡ range_with_len (length flags) count =
     subst (λ (ns : List ℕ). without_number ns k ≡ ns) (marked-replicate (length flags) count) (marked-without_below (length flags) k (replicate count true) h) in
     all
     ∙ (ap (without_number (marked 0 (flags ++ replicate count true))) same
-    ∙ (ap (λ (ns : List ℕ). without_number ns k) (marked-posted flags count)
+    ∙ (ap (λ (ns : List ℕ). without_number ns k) (marked-mails_of flags count)
     ∙ (filter-append (λ (other : ℕ). not (other == k)) (marked 0 flags) (range_with_len (length flags) count)
     ∙ ap (λ (ns : List ℕ). without_number (marked 0 flags) k ++ ns) later)))

@@ -8,12 +8,12 @@ use Rattle.tp_machine.specs.declared.actors.Actors.{Actors}
 use Rattle.tp_machine.specs.declared.error.StepError.{StepError}
 use Rattle.tp_machine.specs.declared.history.History.{History}
 use Rattle.tp_machine.specs.declared.part.Act.{Act}
-use Rattle.tp_machine.specs.mirrors.Acts.{Turns}
+use Rattle.tp_machine.specs.mirrors.Acts.{Moves}
 use Rattle.tp_machine.specs.mirrors.Flags.{marked}
 use Rattle.tp_machine.specs.mirrors.History.{Notes}
-use Rattle.tp_machine.specs.Machine.{State, Machine, Turn, concluded, noted, posted, with_new, without_number, after, after_step, after_steps, done, opening, refusal}
-use Rattle.tp_machine.specs.Seen.{IsTaken, machine_of, state_of}
-use Rattle.tp_machine.proofs.basics.Flags.{length_posted, marked-posted, marked-posted_cleared}
+use Rattle.tp_machine.specs.Machine.{State, Machine, Move, state_after, facts_of, mails_of, with_new, without_number, after, after_step, after_steps, machine_after, opening, refusal}
+use Rattle.tp_machine.specs.Seen.{IsBuiltStep, machine_of, state_of}
+use Rattle.tp_machine.proofs.basics.Flags.{length_mails_of, marked-mails_of, marked-mails_of_cleared}
 
 pub same_state : (actors actors' : Actors) (mails mails' : List Mail) (facts facts' : List Fact) (steps steps' : List Step)
     → actors ≡ actors' → mails ≡ mails' → facts ≡ facts' → steps ≡ steps'
@@ -30,53 +30,53 @@ same_machine state state' undelivered undelivered' s u =
     ap (λ (x : State). record { state = x; undelivered = undelivered }) s
     ∙ ap (λ (x : List ℕ). record { state = state'; undelivered = x }) u
 
--- the new state is the old one with its turn concluded
-pub state_noted : (actors actors' : Actors) (history history' : History) (taken : Step) (turn : Turn) (act : Act)
-    → Turns turn actors' act → Notes history history' taken act.happened act.letters
-    → state_of actors' history' ≡ concluded (state_of actors history) taken turn
-state_noted actors actors' history history' taken turn act t n =
+-- the new state is the one after the move
+pub state_noted : (actors actors' : Actors) (history history' : History) (taken : Step) (move : Move) (act : Act)
+    → Moves move actors' act → Notes history history' taken act.happened act.letters
+    → state_of actors' history' ≡ state_after (state_of actors history) taken move
+state_noted actors actors' history history' taken move act t n =
     same_state _ _ _ _ _ _ _ _ t.actors_are
-    (n.mails ∙ ap (λ ls. history.mails ++ posted (length history.steps) (length history.mails) ls) t.letters_are)
-    (n.facts ∙ ap (λ hs. history.facts ++ noted (length history.steps) hs) t.happened_is)
+    (n.mails ∙ ap (λ ls. history.mails ++ mails_of (length history.steps) (length history.mails) ls) t.letters_are)
+    (n.facts ∙ ap (λ hs. history.facts ++ facts_of (length history.steps) hs) t.happened_is)
     n.steps
 
 -- as many mails are new as letters were sent
 new_mails : (history : History) (letters : List Letter)
-    → length (history.mails ++ posted (length history.steps) (length history.mails) letters) - length history.mails ≡ length letters
+    → length (history.mails ++ mails_of (length history.steps) (length history.mails) letters) - length history.mails ≡ length letters
 new_mails history letters =
-    omega (arith, length-append history.mails (posted (length history.steps) (length history.mails) letters), length_posted (length history.steps) (length history.mails) letters)
+    omega (arith, length-append history.mails (mails_of (length history.steps) (length history.mails) letters), length_mails_of (length history.steps) (length history.mails) letters)
 
 -- the mails that are new are undelivered
 new_numbers : (history : History) (letters letters' : List Letter) → letters ≡ letters'
     → range_with_len (length history.pending) (length letters)
-    ≡ range_with_len (length history.mails) (length (history.mails ++ posted (length history.steps) (length history.mails) letters') - length history.mails)
+    ≡ range_with_len (length history.mails) (length (history.mails ++ mails_of (length history.steps) (length history.mails) letters') - length history.mails)
 new_numbers history letters letters' e =
     ap (λ k. range_with_len k (length letters)) history.flagged
     ∙ ap (range_with_len (length history.mails)) (ap length e ∙ sym (new_mails history letters'))
 
 -- a step that delivers nothing gives the machine of the definition
-pub machine_noted : (actors actors' : Actors) (history history' : History) (taken : Step) (turn : Turn) (act : Act)
-    → Turns turn actors' act → Notes history history' taken act.happened act.letters
-    → machine_of actors' history' ≡ with_new (state_of actors history) (concluded (state_of actors history) taken turn) (marked 0 history.pending)
-machine_noted actors actors' history history' taken turn act t n =
-    same_machine _ _ _ _ (state_noted actors actors' history history' taken turn act t n)
+pub machine_noted : (actors actors' : Actors) (history history' : History) (taken : Step) (move : Move) (act : Act)
+    → Moves move actors' act → Notes history history' taken act.happened act.letters
+    → machine_of actors' history' ≡ with_new (state_of actors history) (state_after (state_of actors history) taken move) (marked 0 history.pending)
+machine_noted actors actors' history history' taken move act t n =
+    same_machine _ _ _ _ (state_noted actors actors' history history' taken move act t n)
     (ap (marked 0) n.pending
-    ∙ (marked-posted history.pending (length act.letters)
-    ∙ ap (λ ns. marked 0 history.pending ++ ns) (new_numbers history act.letters turn.letters t.letters_are)))
+    ∙ (marked-mails_of history.pending (length act.letters)
+    ∙ ap (λ ns. marked 0 history.pending ++ ns) (new_numbers history act.letters move.letters t.letters_are)))
 
 -- so does one that delivers a mail, which is then marked
-pub machine_marked : (actors actors' : Actors) (history history' marks : History) (taken : Step) (turn : Turn) (act : Act) (mail : ℕ)
-    → mail < length history.mails → Turns turn actors' act → Notes history history' taken act.happened act.letters
+pub machine_marked : (actors actors' : Actors) (history history' marks : History) (taken : Step) (move : Move) (act : Act) (mail : ℕ)
+    → mail < length history.mails → Moves move actors' act → Notes history history' taken act.happened act.letters
     → marks.steps ≡ history'.steps → marks.facts ≡ history'.facts → marks.mails ≡ history'.mails → marks.pending ≡ slice_set history'.pending mail false
     → machine_of actors' marks
-    ≡ with_new (state_of actors history) (concluded (state_of actors history) taken turn) (without_number (marked 0 history.pending) mail)
-machine_marked actors actors' history history' marks taken turn act mail within t n steps facts mails pending =
+    ≡ with_new (state_of actors history) (state_after (state_of actors history) taken move) (without_number (marked 0 history.pending) mail)
+machine_marked actors actors' history history' marks taken move act mail within t n steps facts mails pending =
     let before : mail < length history.pending = omega (arith, history.flagged) in
     same_machine _ _ _ _
-    (same_state _ _ _ _ _ _ _ _ refl mails facts steps ∙ state_noted actors actors' history history' taken turn act t n)
+    (same_state _ _ _ _ _ _ _ _ refl mails facts steps ∙ state_noted actors actors' history history' taken move act t n)
     (ap (marked 0) (pending ∙ ap (λ flags. slice_set flags mail false) n.pending)
-    ∙ (marked-posted_cleared history.pending (length act.letters) mail before
-    ∙ ap (λ ns. without_number (marked 0 history.pending) mail ++ ns) (new_numbers history act.letters turn.letters t.letters_are)))
+    ∙ (marked-mails_of_cleared history.pending (length act.letters) mail before
+    ∙ ap (λ ns. without_number (marked 0 history.pending) mail ++ ns) (new_numbers history act.letters move.letters t.letters_are)))
 
 -- a list of steps with one more
 pub after_steps-snoc : (sc : Scenario) (m : Machine) (steps : List Step) (taken : Step)
@@ -84,19 +84,19 @@ pub after_steps-snoc : (sc : Scenario) (m : Machine) (steps : List Step) (taken 
 after_steps-snoc sc m [] taken = refl
 after_steps-snoc sc m (first ∷ others) taken = after_steps-snoc sc (after_step sc m first) others taken
 
-allowed : (sc : Scenario) (m : Machine) (taken : Step) (why : Option StepError) → why ≡ None → (if is_some why then m else done sc m taken) ≡ done sc m taken
+allowed : (sc : Scenario) (m : Machine) (taken : Step) (why : Option StepError) → why ≡ None → (if is_some why then m else machine_after sc m taken) ≡ machine_after sc m taken
 allowed sc m taken None e = refl
 allowed sc m taken (Some why) e = absurd (cc)
 
-pub steps_done : (sc : Scenario) (m : Machine) (taken : Step) → IsTaken taken → (done sc m taken).state.steps ≡ m.state.steps ++ taken ∷ []
-steps_done sc m (step.Submit txn) h = refl
-steps_done sc m (step.Deliver mail) h = refl
-steps_done sc m _ h = absurd h
+pub steps_next : (sc : Scenario) (m : Machine) (taken : Step) → IsBuiltStep taken → (machine_after sc m taken).state.steps ≡ m.state.steps ++ taken ∷ []
+steps_next sc m (step.Submit txn) h = refl
+steps_next sc m (step.Deliver mail) h = refl
+steps_next sc m _ h = absurd h
 
 -- a machine that its steps give is given by them after one more step
-pub reached_done : (sc : Scenario) (m next : Machine) (taken : Step) → IsTaken taken → m ≡ after sc m.state.steps → refusal m.state taken ≡ None
-    → next ≡ done sc m taken → next ≡ after sc next.state.steps
-reached_done sc m next taken is_taken reached ok e =
-    let steps : next.state.steps ≡ m.state.steps ++ taken ∷ [] = ap (λ (k : Machine). k.state.steps) e ∙ steps_done sc m taken is_taken in
+pub reached_next : (sc : Scenario) (m next : Machine) (taken : Step) → IsBuiltStep taken → m ≡ after sc m.state.steps → refusal m.state taken ≡ None
+    → next ≡ machine_after sc m taken → next ≡ after sc next.state.steps
+reached_next sc m next taken is_taken reached ok e =
+    let steps : next.state.steps ≡ m.state.steps ++ taken ∷ [] = ap (λ (k : Machine). k.state.steps) e ∙ steps_next sc m taken is_taken in
     let more = after_steps-snoc sc (opening sc) m.state.steps taken in
     e ∙ sym (ap (after sc) steps ∙ (more ∙ (ap (λ (k : Machine). after_step sc k taken) (sym reached) ∙ allowed sc m taken (refusal m.state taken) ok)))

@@ -6,8 +6,8 @@ use Rattle.tp_machine.specs.coord.Opened as coord
 use Rattle.tp_machine.specs.server.Opened as server
 use Rattle.tp_machine.specs.Machine.{opened_part, opened_servers, idle_coordinators}
 
-pub opened_servers_more : (sc : Scenario) (n : ℕ) → opened_servers sc (n + 1) ≡ opened_servers sc n ++ opened_part (server.opened sc (record { 0 = n })) ∷ []
-opened_servers_more sc n = map-range_with_len_more (λ (k : ℕ). opened_part (server.opened sc (record { 0 = k }))) 0 n n (omega arith)
+pub opened_servers_more : (sc : Scenario) (n : ℕ) → opened_servers sc (n + 1) ≡ opened_servers sc n ++ opened_part (server.opening sc (record { 0 = n })) ∷ []
+opened_servers_more sc n = map-range_with_len_more (λ (k : ℕ). opened_part (server.opening sc (record { 0 = k }))) 0 n n (omega arith)
 
 pub idle_coordinators_more : (sc : Scenario) (n : ℕ) → idle_coordinators sc (n + 1) ≡ idle_coordinators sc n ++ opened_part (coord.idle sc (record { 0 = n })) ∷ []
 idle_coordinators_more sc n = map-range_with_len_more (λ (k : ℕ). opened_part (coord.idle sc (record { 0 = k }))) 0 n n (omega arith)

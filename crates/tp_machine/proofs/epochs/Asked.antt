@@ -7,7 +7,7 @@ use Rattle.tp_model.specs.Ids.{same_txn}
 use Rattle.tp_model.specs.Words.{Actor, Body, Letter, Mail, ServerId, TxnId}
 use Rattle.tp_model.specs.Words.actor
 use Rattle.tp_model.specs.Words.body
-use Rattle.tp_machine.specs.Machine.{posted}
+use Rattle.tp_machine.specs.Machine.{mails_of}
 use Rattle.tp_machine.specs.Sound.{Each}
 use Rattle.tp_machine.proofs.agreement.End.{each_found}
 use Rattle.tp_machine.proofs.basics.Ids.{number_itself, server_number}
@@ -80,14 +80,14 @@ asked_append txn at [] new = refl
 asked_append txn at (mail ∷ old) new =
     ap (first_of (named_by txn at mail.letter)) (asked_append txn at old new) ∙ sym (first_first (named_by txn at mail.letter) (asked txn at old) (asked txn at new))
 
-pub asked_posted : (txn : TxnId) (at : ServerId) (sent number : ℕ) (letters : List Letter) → asked txn at (posted sent number letters) ≡ asked_by txn at letters
-asked_posted txn at sent number [] = refl
-asked_posted txn at sent number (letter ∷ letters) = ap (first_of (named_by txn at letter)) (asked_posted txn at sent (number + 1) letters)
+pub asked_new_mails : (txn : TxnId) (at : ServerId) (sent number : ℕ) (letters : List Letter) → asked txn at (mails_of sent number letters) ≡ asked_by txn at letters
+asked_new_mails txn at sent number [] = refl
+asked_new_mails txn at sent number (letter ∷ letters) = ap (first_of (named_by txn at letter)) (asked_new_mails txn at sent (number + 1) letters)
 
--- what is asked after letters were posted
-pub asked_more : (mails : List Mail) (sent number : ℕ) (letters : List Letter) → asked_in (mails ++ posted sent number letters) ≡ asked_then (asked_in mails) letters
+-- what is asked with the mails of more letters
+pub asked_more : (mails : List Mail) (sent number : ℕ) (letters : List Letter) → asked_in (mails ++ mails_of sent number letters) ≡ asked_then (asked_in mails) letters
 asked_more mails sent number letters =
-    λ i txn at. (asked_append txn at mails (posted sent number letters) ∙ ap (first_of (asked txn at mails)) (asked_posted txn at sent number letters)) i
+    λ i txn at. (asked_append txn at mails (mails_of sent number letters) ∙ ap (first_of (asked txn at mails)) (asked_new_mails txn at sent number letters)) i
 
 -- what is asked stays asked
 pub asked_stays : (txn : TxnId) (at : ServerId) (old new : List Mail) (epoch : ℕ) → asked txn at old ≡ Some epoch → asked txn at (old ++ new) ≡ Some epoch

@@ -128,7 +128,7 @@ coordinator_row_keeps sc E A c mail h servers m =
 
 unsent_keeps : (sc : Scenario) (E : ℕ → ℕ) (A : Asking) (c : Coordinator) (age : ℕ) → CoordinatorKeeps sc E (A c.txn) c → RowKeeps sc E A c (with_age (ignores c) age)
 unsent_keeps sc E A c age h =
-    plain_keeps sc E A c.txn (Some (coord.placed c age)) []
+    plain_keeps sc E A c.txn (Some (coord.coordinator_with_age c age)) []
     (record { places = h.places; past = h.past; undecided = λ unsure. let k = h.undecided unsure in record { asked = k.asked; ran = k.ran; round = k.round } }) tt
 
 sends_first_keeps : (sc : Scenario) (E : ℕ → ℕ) (A : Asking) (c : Coordinator) (age : ℕ) (at : ServerId) (value : ℤ) → CoordinatorKeeps sc E (A c.txn) c → c.phase ≡ phase.Idle

@@ -146,10 +146,10 @@ each_server sc c K e h =
 
 -- the last query ran: its server's epoch is kept, and all servers are asked to prepare
 last_keeps : (sc : Scenario) (E : ℕ → ℕ) (A : Asking) (c : Coordinator) (done : DoneReply) (asked : Query) (at : ServerId) (value : ℤ) → CoordinatorKeeps sc E (A c.txn) c → c.servers ≡ servers_at sc c.txn
-    → IsAnswer sc E A c done asked at → query_in sc c.txn (done.query + 1) ≡ None → RowKeeps sc E A c (coord.asks (coord.ran c at done asked value))
+    → IsAnswer sc E A c done asked at → query_in sc c.txn (done.query + 1) ≡ None → RowKeeps sc E A c (coord.asks (coord.with_deed c at done asked value))
 last_keeps sc E A c done asked at value h servers m last =
     let k : KeepsAsked sc (A c.txn) c = h.undecided (ap is_undecided m.awaits) in
-    let next = (coord.asks (coord.ran c at done asked value)).state in
+    let next = (coord.asks (coord.with_deed c at done asked value)).state in
     let within : at.0 < length c.epochs = omega (arith, h.places, m.exists) in
     let now : (s : ServerId) → kept_epoch next s ≡ (if at.0 == s.0 then Some done.epoch else kept_epoch c s) = λ s. kept_set c.epochs at.0 s.0 done.epoch within in
     let ran : (s : ServerId) → is_some (kept_epoch next s) ≡ has_run_at sc c.txn next.phase s = λ s.
@@ -159,7 +159,7 @@ last_keeps sc E A c done asked at value h servers m last =
     ∙ (ap (λ (b : Bool). has_run_at sc c.txn (phase.Querying done.query None) s || b) (sym (sent_to_server sc asked at s.0 m.at_is))
     ∙ (sym (next_ran sc c.txn done.query asked (is_at_server sc s.0) m.asked_is)
     ∙ ap (list_any (is_at_server sc s.0)) (all_ran sc c.txn done.query last))))) in
-    plain_keeps sc E A c.txn (Some next) (coord.asks (coord.ran c at done asked value)).reaction.letters
+    plain_keeps sc E A c.txn (Some next) (coord.asks (coord.with_deed c at done asked value)).reaction.letters
     (record {
       places = length-set c.epochs at.0 (Some done.epoch) ∙ h.places;
       past = placed_set (λ (n : ℕ) (epoch : ℕ). epoch ≤ E n) c.epochs at.0 done.epoch h.past m.told.past;
@@ -192,7 +192,7 @@ pub record IsDoneMail (sc : Scenario) (E : ℕ → ℕ) (A : Asking) (c : Coordi
 
 -- the answer to the last query
 pub ran_last_keeps : (sc : Scenario) (E : ℕ → ℕ) (A : Asking) (c : Coordinator) (mail : Mail) (done : DoneReply) (at : ServerId) (asked : Query) (value : ℤ) → CoordinatorKeeps sc E (A c.txn) c
-    → c.servers ≡ servers_at sc c.txn → IsDoneMail sc E A c mail.letter.from done → IsLastAnswer sc c mail done at asked value → RowKeeps sc E A c (coord.asks (coord.ran c at done asked value))
+    → c.servers ≡ servers_at sc c.txn → IsDoneMail sc E A c mail.letter.from done → IsLastAnswer sc c mail done at asked value → RowKeeps sc E A c (coord.asks (coord.with_deed c at done asked value))
 ran_last_keeps sc E A c mail done at asked value h servers m k =
     let is : mail.letter.from ≡ actor.Server at = from_server mail.letter.from at k.from_is in
     last_keeps sc E A c done asked at value h servers

@@ -189,7 +189,7 @@ votes_made sc A s kept p place entry h e same m =
     let old : EntryMade sc A s.server s.epoch entry = h.entries p.txn.0 entry e in
     record {
       made = record {
-        epoch_is = omega (arith, h.epoch_is, boots_push kept (log.Prepared (server.prepared s p entry (map (server.verdict_on sc s place) entry.deeds))));
+        epoch_is = omega (arith, h.epoch_is, boots_push kept (log.Prepared (server.prepared_record s p entry (map (server.verdict_on sc s place) entry.deeds))));
         entries = placed_set (λ (n : ℕ) (found : Entry). EntryMade sc A s.server s.epoch found) s.entries p.txn.0 _ h.entries
             (record { past = old.past; present = λ none. absurd (cc); waiting = old.waiting });
       };

@@ -14,7 +14,7 @@ use Rattle.tp_model.specs.Words.body
 use Rattle.tp_model.specs.Words.log
 use Rattle.tp_model.specs.Words.what
 use Rattle.tp_machine.specs.Logs.{epoch_at, epoch_by, epoch_in, preparation_in, prepared_in}
-use Rattle.tp_machine.specs.Machine.{Machine, State, Turn, acts, acts_by, concluded, coordinator_acted, coordinator_fact, done, is_part_submitted, log_with, opened_part, opening_state, posted, refusal, server_acted, server_fact, with_age}
+use Rattle.tp_machine.specs.Machine.{Machine, Move, State, acts, acts_by, coordinator_fact, coordinator_move, is_part_submitted, log_with, machine_after, mails_of, opened_part, opening_state, refusal, server_fact, server_move, state_after, with_age}
 use Rattle.tp_machine.specs.Parts.{Part}
 use Rattle.tp_machine.specs.Sound.{Each, EachAt, IsSound, IsSoundLetter, IsSoundMail, IsSoundServerUp, IsStepOf}
 use Rattle.tp_machine.specs.coord.Opened as coord_opened
@@ -31,7 +31,7 @@ use Rattle.tp_machine.proofs.agreement.ServerActs.{number_itself}
 use Rattle.tp_machine.proofs.agreement.Steps.{own_txn}
 use Rattle.tp_machine.proofs.agreement.World.{Agrees, CoordinatorUpAgrees}
 use Rattle.tp_machine.proofs.epochs.Asked.{Asking, IsAsked, LetterNamed, NamesNone, StaysAsked, asked_in, asked_more, asked_then, letter_stays, naming_of, none_then, other_then, then_stays}
-use Rattle.tp_machine.proofs.walks.Steps.{Cases, IsCoordinatorUp, IsServerUp, WasSent, done_by}
+use Rattle.tp_machine.proofs.walks.Steps.{Cases, IsCoordinatorUp, IsServerUp, WasSent, machine_after_by}
 use Rattle.tp_machine.proofs.epochs.Server.{BodyTold, DoneTold, EntryMade, IsPlainLetter, LetterFirst, LetterTold, LettersEpochs, PreparedMade, QueryFirst, RecordMade, ReplyMade, ServerEpochs, ServerMade, WaitsMade, epoch_rises, plain_letters, plain_names_none, server_row_made}
 use Rattle.tp_machine.proofs.epochs.Coordinator.{IsMail, coordinator_row_keeps, submit_row_keeps}
 use Rattle.tp_machine.proofs.epochs.Kept.{CoordinatorEpochs, CoordinatorKeeps}
@@ -62,37 +62,37 @@ abbrev pub Epochs : Scenario → State → Type 0
 Epochs sc w = AreEpochs sc (asked_in w.mails) w.actors w.mails
 
 -- what a step leaves where these epochs are asked
-pub record TurnEpochs (sc : Scenario) (A : Asking) (w : State) (turn : Turn) : Type 0 where
-  pub actors_are : AreEpochs sc A turn.actors w.mails
-  pub sent : LettersEpochs sc A (epoch_at turn.actors.servers) turn.letters
+pub record MoveEpochs (sc : Scenario) (A : Asking) (w : State) (move : Move) : Type 0 where
+  pub actors_are : AreEpochs sc A move.actors w.mails
+  pub sent : LettersEpochs sc A (epoch_at move.actors.servers) move.letters
 
 -- and that is those that are asked after it
-abbrev pub StepEpochs : Scenario → State → Turn → Type 0
-StepEpochs sc w turn = TurnEpochs sc (asked_then (asked_in w.mails) turn.letters) w turn
+abbrev pub StepEpochs : Scenario → State → Move → Type 0
+StepEpochs sc w move = MoveEpochs sc (asked_then (asked_in w.mails) move.letters) w move
 
-posted_each : (P : Letter → Type 0) (sent number : ℕ) (letters : List Letter) → Each P letters → Each (λ (mail : Mail). P mail.letter) (posted sent number letters)
-posted_each P sent number [] h = tt
-posted_each P sent number (letter ∷ letters) h = (h.0, posted_each P sent (number + 1) letters h.1)
+new_mails_each : (P : Letter → Type 0) (sent number : ℕ) (letters : List Letter) → Each P letters → Each (λ (mail : Mail). P mail.letter) (mails_of sent number letters)
+new_mails_each P sent number [] h = tt
+new_mails_each P sent number (letter ∷ letters) h = (h.0, new_mails_each P sent (number + 1) letters h.1)
 
-concluded_epochs : (sc : Scenario) (w : State) (taken : Step) (turn : Turn) → StepEpochs sc w turn → Epochs sc (concluded w taken turn)
-concluded_epochs sc w taken turn t =
-    let A = asked_then (asked_in w.mails) turn.letters in
-    let E = epoch_at turn.actors.servers in
-    let new = posted (length w.steps) (length w.mails) turn.letters in
-    let more : (P : Letter → Type 0) → Each (λ (mail : Mail). P mail.letter) w.mails → Each P turn.letters → Each (λ (mail : Mail). P mail.letter) (w.mails ++ new) =
-    λ P old sent. each_append (λ (mail : Mail). P mail.letter) w.mails new old (posted_each P (length w.steps) (length w.mails) turn.letters sent) in
-    let made : AreEpochs sc A turn.actors (w.mails ++ new) = record {
+state_after_epochs : (sc : Scenario) (w : State) (taken : Step) (move : Move) → StepEpochs sc w move → Epochs sc (state_after w taken move)
+state_after_epochs sc w taken move t =
+    let A = asked_then (asked_in w.mails) move.letters in
+    let E = epoch_at move.actors.servers in
+    let new = mails_of (length w.steps) (length w.mails) move.letters in
+    let more : (P : Letter → Type 0) → Each (λ (mail : Mail). P mail.letter) w.mails → Each P move.letters → Each (λ (mail : Mail). P mail.letter) (w.mails ++ new) =
+    λ P old sent. each_append (λ (mail : Mail). P mail.letter) w.mails new old (new_mails_each P (length w.steps) (length w.mails) move.letters sent) in
+    let made : AreEpochs sc A move.actors (w.mails ++ new) = record {
       servers = t.actors_are.servers;
       coordinators = t.actors_are.coordinators;
       named = more (LetterNamed A) t.actors_are.named t.sent.named;
       first = more (LetterFirst sc) t.actors_are.first t.sent.first;
       told = more (LetterTold sc A E) t.actors_are.told t.sent.told;
     } in
-    subst (λ (B : Asking). AreEpochs sc B turn.actors (w.mails ++ new)) (sym (asked_more w.mails (length w.steps) (length w.mails) turn.letters)) made
+    subst (λ (B : Asking). AreEpochs sc B move.actors (w.mails ++ new)) (sym (asked_more w.mails (length w.steps) (length w.mails) move.letters)) made
 
 -- letters that name nothing leave what is asked as it was
-same_asked : (sc : Scenario) (w : State) (turn : Turn) → Each NamesNone turn.letters → TurnEpochs sc (asked_in w.mails) w turn → StepEpochs sc w turn
-same_asked sc w turn none t = subst (λ (B : Asking). TurnEpochs sc B w turn) (sym (none_then (asked_in w.mails) turn.letters none)) t
+same_asked : (sc : Scenario) (w : State) (move : Move) → Each NamesNone move.letters → MoveEpochs sc (asked_in w.mails) w move → StepEpochs sc w move
+same_asked sc w move none t = subst (λ (B : Asking). MoveEpochs sc B w move) (sym (none_then (asked_in w.mails) move.letters none)) t
 
 unmoved_epochs : (sc : Scenario) (w : State) (happened : List What) (letters : List Letter) → Epochs sc w → Each IsPlainLetter letters
     → StepEpochs sc w (record { actors = w.actors; happened = happened; letters = letters })
@@ -197,7 +197,7 @@ reply_told sc A E at epoch from _ e h = tt
 -- a server that was up or down, and is up or down after it: what it forced and what it sent
 server_acts_epochs : (sc : Scenario) (w : State) (at : ServerId) (part : Part Server) (own : List What) (now : Option Server) (append : Option Record) (letters : List Letter) → Epochs sc w
     → slice_get w.actors.servers at.0 ≡ Some part → ServerEpochs sc (asked_in w.mails) at part.log now append letters
-    → StepEpochs sc w (server_acted w.actors at (acts (server_fact at) own part.log now (log_with part.log append) letters))
+    → StepEpochs sc w (server_move w.actors at (acts (server_fact at) own part.log now (log_with part.log append) letters))
 server_acts_epochs sc w at part own now append letters h found t =
     let A = asked_in w.mails in
     let kept = log_with part.log append in
@@ -207,7 +207,7 @@ server_acts_epochs sc w at part own now append letters h found t =
     let rise : EpochsRise (epoch_at w.actors.servers) (epoch_at servers) = set_rises w.actors.servers at.0 part next found longer in
     let here : epoch_at servers at.0 ≡ epoch_in kept = set_there w.actors.servers at.0 part next found in
     let Made = λ (letter : Letter). ReplyMade sc A at (epoch_in kept) letter.from letter.body in
-    same_asked sc w (server_acted w.actors at (acts (server_fact at) own part.log now kept letters))
+    same_asked sc w (server_move w.actors at (acts (server_fact at) own part.log now kept letters))
     (each_as Made NamesNone (λ letter k. reply_none sc A at (epoch_in kept) letter.from letter.body k) letters t.replies)
     (record {
       actors_are = record {
@@ -244,7 +244,7 @@ set_apart P xs k old new found others here n x e = by_number (k == n) refl (sym 
 -- a coordinator that was up or down, and is up or down after it
 coordinator_acts_epochs : (sc : Scenario) (w : State) (txn : TxnId) (part : Part Coordinator) (own : List What) (now : Option Coordinator) (append : Option Record) (letters : List Letter) → Epochs sc w
     → slice_get w.actors.coordinators txn.0 ≡ Some part → CoordinatorEpochs sc (epoch_at w.actors.servers) (asked_in w.mails) txn now letters
-    → StepEpochs sc w (coordinator_acted w.actors txn (acts coordinator_fact own part.log now (log_with part.log append) letters))
+    → StepEpochs sc w (coordinator_move w.actors txn (acts coordinator_fact own part.log now (log_with part.log append) letters))
 coordinator_acts_epochs sc w txn part own now append letters h found t =
     let A = asked_in w.mails in
     let B = asked_then A letters in
@@ -276,9 +276,9 @@ row_at sc A s at kept mail same made first named =
     (server_row_made sc A s kept mail (subst (λ (a : ServerId). ServerMade sc A a s kept) (sym same) made) (subst (λ (a : ServerId). QueryFirst sc (actor.Server a) mail.letter.body) (sym same) first)
     (subst (λ (a : ServerId). IfSome (naming_of mail.letter.body) (IsAsked A (actor.Server a))) (sym same) named))
 
-received_by_server : (sc : Scenario) (w : State) → IsSound sc w → Epochs sc w → (n : ℕ) (mail : Mail) (at : ServerId) (part : Part Server) (s : Server) → WasSent w n mail (actor.Server at) → IsServerUp w at part s
-    → StepEpochs sc w (server_acted w.actors at (acts_by (server_fact at) [] part.log (server_row sc s mail)))
-received_by_server sc w sound h n mail at part s sent up =
+receipt_by_server : (sc : Scenario) (w : State) → IsSound sc w → Epochs sc w → (n : ℕ) (mail : Mail) (at : ServerId) (part : Part Server) (s : Server) → WasSent w n mail (actor.Server at) → IsServerUp w at part s
+    → StepEpochs sc w (server_move w.actors at (acts_by (server_fact at) [] part.log (server_row sc s mail)))
+receipt_by_server sc w sound h n mail at part s sent up =
     let A = asked_in w.mails in
     let effect = server_row sc s mail in
     let here : IsSoundServerUp sc at s = subst (λ (u : Option Server). IfSome u (IsSoundServerUp sc at)) up.up (sound.actors_are.servers at.0 part up.found).state in
@@ -305,9 +305,9 @@ mail_is sc E A c from to (body.Done done) sound e told =
     same_coordinator one other f = cc
 mail_is sc E A c from to _ sound e told = tt
 
-received_by_coordinator : (sc : Scenario) (w : State) → IsSound sc w → Agrees sc w → Epochs sc w → (n : ℕ) (mail : Mail) (txn : TxnId) (part : Part Coordinator) (c : Coordinator)
-    → WasSent w n mail (actor.Coordinator txn) → IsCoordinatorUp w txn part c → StepEpochs sc w (coordinator_acted w.actors txn (acts_by coordinator_fact [] part.log (coordinator_row sc c mail)))
-received_by_coordinator sc w sound a h n mail txn part c sent up =
+receipt_by_coordinator : (sc : Scenario) (w : State) → IsSound sc w → Agrees sc w → Epochs sc w → (n : ℕ) (mail : Mail) (txn : TxnId) (part : Part Coordinator) (c : Coordinator)
+    → WasSent w n mail (actor.Coordinator txn) → IsCoordinatorUp w txn part c → StepEpochs sc w (coordinator_move w.actors txn (acts_by coordinator_fact [] part.log (coordinator_row sc c mail)))
+receipt_by_coordinator sc w sound a h n mail txn part c sent up =
     let E = epoch_at w.actors.servers in
     let A = asked_in w.mails in
     let effect = coordinator_row sc c mail in
@@ -320,7 +320,7 @@ received_by_coordinator sc w sound a h n mail txn part c sent up =
     (each_get (λ (m : Mail). LetterTold sc A E m.letter) w.mails n mail h.told sent.sent))))
 
 begun_epochs : (sc : Scenario) (w : State) → IsSound sc w → Epochs sc w → (txn : TxnId) (part : Part Coordinator) (c : Coordinator) → IsCoordinatorUp w txn part c → is_part_submitted (Some c) ≡ false
-    → StepEpochs sc w (coordinator_acted w.actors txn (acts_by coordinator_fact (what.Submitted txn ∷ []) part.log (with_age (submit_row sc c) (length w.steps))))
+    → StepEpochs sc w (coordinator_move w.actors txn (acts_by coordinator_fact (what.Submitted txn ∷ []) part.log (with_age (submit_row sc c) (length w.steps))))
 begun_epochs sc w sound h txn part c up new =
     let E = epoch_at w.actors.servers in
     let A = asked_in w.mails in
@@ -336,21 +336,21 @@ tells_plain authority _ = tt
 
 -- ---- steps
 
-epochs_cases : (sc : Scenario) (w : State) → IsSound sc w → Agrees sc w → Epochs sc w → Cases sc w (λ taken turn. StepEpochs sc w turn)
+epochs_cases : (sc : Scenario) (w : State) → IsSound sc w → Agrees sc w → Epochs sc w → Cases sc w (λ taken move. StepEpochs sc w move)
 epochs_cases sc w sound a h =
     record {
       idle = λ taken happened e. unmoved_epochs sc w happened [] h tt;
-      server_received = λ n mail at part s sent up. received_by_server sc w sound h n mail at part s sent up;
-      coordinator_received = λ n mail txn part c sent up. received_by_coordinator sc w sound a h n mail txn part c sent up;
+      server_received = λ n mail at part s sent up. receipt_by_server sc w sound h n mail at part s sent up;
+      coordinator_received = λ n mail txn part c sent up. receipt_by_coordinator sc w sound a h n mail txn part c sent up;
       authority_told = λ n mail sent. unmoved_epochs sc w [] (office.authority_row w.actors.authority mail).reaction.letters h (tells_plain w.actors.authority mail.letter.body);
       begun = λ txn part c exists up new. begun_epochs sc w sound h txn part c up new;
     }
 
 -- a step that is not refused keeps what is said of epochs
-pub epochs_done : (sc : Scenario) (m : Machine) (taken : Step) → IsStepOf sc taken → refusal m.state taken ≡ None → IsSound sc m.state → Agrees sc m.state → Epochs sc m.state → Epochs sc (done sc m taken).state
-epochs_done sc m taken exists allowed sound a h =
-    done_by sc m (λ taken turn. StepEpochs sc m.state turn) (Epochs sc) (epochs_cases sc m.state sound a h) a.coordinator_count
-    (λ taken turn t. concluded_epochs sc m.state taken turn t) h taken exists allowed
+pub epochs_next : (sc : Scenario) (m : Machine) (taken : Step) → IsStepOf sc taken → refusal m.state taken ≡ None → IsSound sc m.state → Agrees sc m.state → Epochs sc m.state → Epochs sc (machine_after sc m taken).state
+epochs_next sc m taken exists allowed sound a h =
+    machine_after_by sc m (λ taken move. StepEpochs sc m.state move) (Epochs sc) (epochs_cases sc m.state sound a h) a.coordinator_count
+    (λ taken move t. state_after_epochs sc m.state taken move t) h taken exists allowed
 
 -- ---- before the first step
 
@@ -369,7 +369,7 @@ pub epochs_opening : (sc : Scenario) → Epochs sc (opening_state sc)
 epochs_opening sc =
     let E = epoch_at (opening_state sc).actors.servers in
     record {
-      servers = made_from_zero (λ (k : ℕ) (found : Part Server). ServerPartMade sc (asked_in []) (server_number k) found) (λ (k : ℕ). opened_part (server_opened.opened sc (record { 0 = k }))) (length sc.servers)
+      servers = made_from_zero (λ (k : ℕ) (found : Part Server). ServerPartMade sc (asked_in []) (server_number k) found) (λ (k : ℕ). opened_part (server_opened.opening sc (record { 0 = k }))) (length sc.servers)
           (λ k. record {
             state = record { epoch_is = refl; entries = placed_none (λ (m : ℕ) (entry : Entry). EntryMade sc (asked_in []) (server_number k) 1 entry) (length sc.txns) };
             prepared = λ txn p f. absurd (cc);

@@ -15,7 +15,7 @@ use Rattle.tp_machine.specs.Parts.{Part}
 use Rattle.tp_machine.specs.declared.server.Entry.{Entry}
 use Rattle.tp_machine.specs.server.State.{Server}
 use Rattle.tp_types.specs.Effect.{Effect}
-use Rattle.tp_machine.specs.Machine.{Acted, acts_by, coordinator_fact, log_with, opened_part, server_fact, with_age}
+use Rattle.tp_machine.specs.Machine.{PartMove, acts_by, coordinator_fact, log_with, opened_part, server_fact, with_age}
 use Rattle.tp_machine.specs.Sound.{AreVersions, Each, IsActor, IsServer, IsSoundAuthority, IsSoundBody, IsSoundCoordinatorPart, IsSoundCoordinatorRecord, IsSoundCoordinatorUp, IsSoundDecision, IsSoundEntry, IsSoundLetter, IsSoundServerPart, IsSoundServerRecord, IsSoundServerUp, IsSoundSettled, IsSoundWhat, IsTxn}
 use Rattle.tp_machine.specs.coord.Opened as coord
 use Rattle.tp_machine.specs.coord.Row.{coordinator_row, submit_row}
@@ -23,7 +23,7 @@ use Rattle.tp_machine.specs.offices.Authority as office
 use Rattle.tp_machine.specs.server.Opened as server
 use Rattle.tp_machine.specs.server.Row.{server_row}
 use Rattle.tp_machine.proofs.ids.Built.{IsValid}
-use Rattle.tp_machine.proofs.ids.Coordinator.{IsSoundCoordinatorEffect, coordinator_row_sound, placed_sound, submit_row_sound}
+use Rattle.tp_machine.proofs.ids.Coordinator.{IsSoundCoordinatorEffect, coordinator_row_sound, coordinator_with_age_sound, submit_row_sound}
 use Rattle.tp_machine.proofs.basics.Lists.{by_cond, each_append, each_drop, each_flat_map, each_get, each_more, missing, placed_none}
 use Rattle.tp_machine.proofs.ids.Server.{IsSoundServerEffect, server_row_sound}
 
@@ -50,16 +50,16 @@ facts_sound sc P fact own old kept tells o k =
 -- ---- servers
 
 -- a server's part after it acted, and what it left
-pub record IsSoundServerActed (sc : Scenario) (at : ServerId) (acted : Acted Server) : Type 0 where
-  pub part_is : IsSoundServerPart sc at acted.part
-  pub left : IsSoundAct sc acted.happened acted.letters
+pub record IsSoundServerMove (sc : Scenario) (at : ServerId) (move : PartMove Server) : Type 0 where
+  pub part_is : IsSoundServerPart sc at move.part
+  pub left : IsSoundAct sc move.happened move.letters
 
 server_fact_sound : (sc : Scenario) (at : ServerId) → IsServer sc at → (forced : Record) → IsSoundServerRecord sc at forced → Each (IsSoundWhat sc) (server_fact at forced)
 server_fact_sound sc at exists (log.Settled settled) h = ((exists, h.txn), tt)
 server_fact_sound sc at exists _ h = tt
 
 server_acts_sound : (sc : Scenario) (s : Server) (own : List What) (kept : List Record) (effect : Effect Server) → IsServer sc s.server → IsSoundServerEffect sc s effect
-    → Each (IsSoundServerRecord sc s.server) kept → Each (IsSoundWhat sc) own → IsSoundServerActed sc s.server (acts_by (server_fact s.server) own kept effect)
+    → Each (IsSoundServerRecord sc s.server) kept → Each (IsSoundWhat sc) own → IsSoundServerMove sc s.server (acts_by (server_fact s.server) own kept effect)
 server_acts_sound sc s own kept effect exists e k o =
     let longer : Each (IsSoundServerRecord sc s.server) (log_with kept effect.reaction.append) = log_sound (IsSoundServerRecord sc s.server) kept effect.reaction.append k e.forces in
     record {
@@ -72,21 +72,21 @@ server_acts_sound sc s own kept effect exists e k o =
     }
 
 -- a server that is up and receives a mail to it
-pub server_received_sound : (sc : Scenario) (at : ServerId) (part : Part Server) (s : Server) (mail : Mail) → IsValid sc → IsSoundServerPart sc at part → part.up ≡ Some s
-    → IsSoundBody sc (actor.Server at) mail.letter.body → IsSoundServerActed sc at (acts_by (server_fact at) [] part.log (server_row sc s mail))
-server_received_sound sc at part s mail valid h e m =
+pub server_receipt_sound : (sc : Scenario) (at : ServerId) (part : Part Server) (s : Server) (mail : Mail) → IsValid sc → IsSoundServerPart sc at part → part.up ≡ Some s
+    → IsSoundBody sc (actor.Server at) mail.letter.body → IsSoundServerMove sc at (acts_by (server_fact at) [] part.log (server_row sc s mail))
+server_receipt_sound sc at part s mail valid h e m =
     let state : IsSoundServerUp sc at s = subst (λ (up : Option Server). IfSome up (IsSoundServerUp sc at)) e h.state in
     let P = λ (to : ServerId). IsSoundBody sc (actor.Server to) mail.letter.body → Each (IsSoundServerRecord sc to) part.log
-    → IsSoundServerActed sc to (acts_by (server_fact to) [] part.log (server_row sc s mail)) in
+    → IsSoundServerMove sc to (acts_by (server_fact to) [] part.log (server_row sc s mail)) in
     let act : P s.server = λ said kept. server_acts_sound sc s [] part.log (server_row sc s mail) state.sound.exists (server_row_sound sc s mail valid state.sound said) kept tt in
     subst P state.server_is act m h.records
 
 -- ---- coordinators
 
 -- a coordinator's part after it acted, and what it left
-pub record IsSoundCoordinatorActed (sc : Scenario) (txn : TxnId) (acted : Acted Coordinator) : Type 0 where
-  pub part_is : IsSoundCoordinatorPart sc txn acted.part
-  pub left : IsSoundAct sc acted.happened acted.letters
+pub record IsSoundCoordinatorMove (sc : Scenario) (txn : TxnId) (move : PartMove Coordinator) : Type 0 where
+  pub part_is : IsSoundCoordinatorPart sc txn move.part
+  pub left : IsSoundAct sc move.happened move.letters
 
 coordinator_fact_sound : (sc : Scenario) (txn : TxnId) → IsTxn sc txn → (forced : Record) → IsSoundCoordinatorRecord sc txn forced → Each (IsSoundWhat sc) (coordinator_fact forced)
 coordinator_fact_sound sc txn exists (log.Decided d) h =
@@ -94,7 +94,7 @@ coordinator_fact_sound sc txn exists (log.Decided d) h =
 coordinator_fact_sound sc txn exists _ h = tt
 
 coordinator_acts_sound : (sc : Scenario) (c : Coordinator) (own : List What) (kept : List Record) (effect : Effect Coordinator) → IsTxn sc c.txn → IsSoundCoordinatorEffect sc c effect
-    → Each (IsSoundCoordinatorRecord sc c.txn) kept → Each (IsSoundWhat sc) own → IsSoundCoordinatorActed sc c.txn (acts_by coordinator_fact own kept effect)
+    → Each (IsSoundCoordinatorRecord sc c.txn) kept → Each (IsSoundWhat sc) own → IsSoundCoordinatorMove sc c.txn (acts_by coordinator_fact own kept effect)
 coordinator_acts_sound sc c own kept effect exists e k o =
     let longer : Each (IsSoundCoordinatorRecord sc c.txn) (log_with kept effect.reaction.append) = log_sound (IsSoundCoordinatorRecord sc c.txn) kept effect.reaction.append k e.forces in
     record {
@@ -107,26 +107,26 @@ coordinator_acts_sound sc c own kept effect exists e k o =
     }
 
 -- a coordinator that is up and receives a mail to it
-pub coordinator_received_sound : (sc : Scenario) (txn : TxnId) (part : Part Coordinator) (c : Coordinator) (mail : Mail) → IsSoundCoordinatorPart sc txn part → part.up ≡ Some c
-    → IsActor sc mail.letter.from → IsSoundBody sc (actor.Coordinator txn) mail.letter.body → IsSoundCoordinatorActed sc txn (acts_by coordinator_fact [] part.log (coordinator_row sc c mail))
-coordinator_received_sound sc txn part c mail h e a m =
+pub coordinator_receipt_sound : (sc : Scenario) (txn : TxnId) (part : Part Coordinator) (c : Coordinator) (mail : Mail) → IsSoundCoordinatorPart sc txn part → part.up ≡ Some c
+    → IsActor sc mail.letter.from → IsSoundBody sc (actor.Coordinator txn) mail.letter.body → IsSoundCoordinatorMove sc txn (acts_by coordinator_fact [] part.log (coordinator_row sc c mail))
+coordinator_receipt_sound sc txn part c mail h e a m =
     let state : IsSoundCoordinatorUp sc txn c = subst (λ (up : Option Coordinator). IfSome up (IsSoundCoordinatorUp sc txn)) e h.state in
     let P = λ (to : TxnId). IsSoundBody sc (actor.Coordinator to) mail.letter.body → Each (IsSoundCoordinatorRecord sc to) part.log
-    → IsSoundCoordinatorActed sc to (acts_by coordinator_fact [] part.log (coordinator_row sc c mail)) in
+    → IsSoundCoordinatorMove sc to (acts_by coordinator_fact [] part.log (coordinator_row sc c mail)) in
     let act : P c.txn = λ said kept. coordinator_acts_sound sc c [] part.log (coordinator_row sc c mail) state.sound.exists (coordinator_row_sound sc c mail state.sound a said) kept tt in
     subst P state.txn_is act m h.records
 
 with_age_sound : (sc : Scenario) (c : Coordinator) (effect : Effect Coordinator) (place : ℕ) → IsSoundCoordinatorEffect sc c effect → IsSoundCoordinatorEffect sc c (with_age effect place)
 with_age_sound sc c effect place e =
-    record { same_txn = e.same_txn; state_is = placed_sound sc effect.state place e.state_is; forces = e.forces; sends_only = e.sends_only }
+    record { same_txn = e.same_txn; state_is = coordinator_with_age_sound sc effect.state place e.state_is; forces = e.forces; sends_only = e.sends_only }
 
 -- a coordinator that is up and whose transaction is submitted
 pub coordinator_begun_sound : (sc : Scenario) (txn : TxnId) (part : Part Coordinator) (c : Coordinator) (place : ℕ) → IsValid sc → IsSoundCoordinatorPart sc txn part → part.up ≡ Some c
-    → IsSoundCoordinatorActed sc txn (acts_by coordinator_fact (what.Submitted txn ∷ []) part.log (with_age (submit_row sc c) place))
+    → IsSoundCoordinatorMove sc txn (acts_by coordinator_fact (what.Submitted txn ∷ []) part.log (with_age (submit_row sc c) place))
 coordinator_begun_sound sc txn part c place valid h e =
     let state : IsSoundCoordinatorUp sc txn c = subst (λ (up : Option Coordinator). IfSome up (IsSoundCoordinatorUp sc txn)) e h.state in
     let P = λ (to : TxnId). Each (IsSoundCoordinatorRecord sc to) part.log
-    → IsSoundCoordinatorActed sc to (acts_by coordinator_fact (what.Submitted txn ∷ []) part.log (with_age (submit_row sc c) place)) in
+    → IsSoundCoordinatorMove sc to (acts_by coordinator_fact (what.Submitted txn ∷ []) part.log (with_age (submit_row sc c) place)) in
     let act : P c.txn = λ kept. coordinator_acts_sound sc c (what.Submitted txn ∷ []) part.log (with_age (submit_row sc c) place) state.sound.exists
     (with_age_sound sc c (submit_row sc c) place (submit_row_sound sc c valid state.sound)) kept (h.exists, tt) in
     subst P state.txn_is act h.records
@@ -150,8 +150,8 @@ known_sound : (sc : Scenario) (at : ServerId) (declared : Option ServerDecl) →
 known_sound sc at (Some declared) valid exists e = each_get (λ (d : ServerDecl). AreVersions sc d.knows) sc.servers at.0 declared valid.servers e
 known_sound sc at None valid exists e = absurd (missing sc.servers at.0 exists e)
 
-pub server_opened_sound : (sc : Scenario) (at : ServerId) → IsValid sc → IsServer sc at → IsSoundServerPart sc at (opened_part (server.opened sc at))
-server_opened_sound sc at valid exists =
+pub server_opening_sound : (sc : Scenario) (at : ServerId) → IsValid sc → IsServer sc at → IsSoundServerPart sc at (opened_part (server.opening sc at))
+server_opening_sound sc at valid exists =
     record {
       exists = exists;
       state = record {

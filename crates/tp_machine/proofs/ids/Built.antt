@@ -1,12 +1,9 @@
 -- What the proofs of soundness take from a scenario. Here alone they lean on the form of scenarios that is built: where it
 -- widens, each field of IsValid is to be shown anew, and the last of them goes.
 use Rattle.std.proofs.lemmas.Bool.{and_parts}
-use Rattle.std.proofs.Common.{◌≡◌, ℕ, ◌<ℤ◌, ◌≤ℤ◌, List, [], ◌∷◌, length, Bool, true, false, not, ◌&&◌, ◌==◌, Option, Some, None, ℤ, pos, neg_ℤ, ◌^◌, Ordering, Less, Equal, Greater, is_gt, int_cmp, refl, sym, subst, ap, arith}
+use Rattle.std.proofs.Common.{◌≡◌, ℕ, List, [], ◌∷◌, length, Bool, true, false, not, ◌&&◌, ◌==◌, Option, Some, None, refl, sym, subst, ap, arith}
 use Rattle.std.specs.Cmp.Lexicographic.{pointwise}
-use Rattle.std.specs.Ordering.{MatchOrdering}
 use Rattle.std.proofs.lemmas.Bool.Decides.{nat_tests}
-use Rattle.std.proofs.lemmas.Cmp.{int_ranked}
-use Rattle.std.proofs.lemmas.Int.{ints}
 use Rattle.tp_model.specs.Words.{Admin, Item, Scenario, Scheme, ServerDecl, Transaction, Version}
 use Rattle.tp_model.specs.Words.scheme
 use Rattle.tp_model.specs.Built.{is_built}

@@ -8,7 +8,7 @@ use Rattle.tp_model.specs.Words.{Body, DoneReply, Item, Mail, Outcome, Query, Sc
 use Rattle.tp_model.specs.Words.actor
 use Rattle.tp_model.specs.Words.query
 use Rattle.tp_machine.specs.Sound.{AreSoundVerdicts, Each, HasValue, IsActor, IsItemOf, IsServer, IsSoundBallot, IsSoundBody, IsSoundCoordinator, IsSoundCoordinatorRecord, IsSoundDeed, IsSoundInstance, IsSoundLetter, IsSoundPhase, IsSoundProof, IsSoundQuery, IsSoundReply, IsSoundRound, IsSoundStaple, IsSoundVerdict, ProvesEach, proves_each, query_in}
-use Rattle.tp_machine.specs.coord.Row.{are_agreed, asks, closed, commits, coordinator_row, deed_of, first_round, is_true_verdict, next_turn, placed, prepare_letter, prepares, ran, request, sends_first, server_of, staple_of, submit_row, with_reply, without}
+use Rattle.tp_machine.specs.coord.Row.{are_agreed, asks, commits, coordinator_row, coordinator_with_age, deed_of, first_round, instances_with, is_true_verdict, next_turn, prepare_letter, prepares, request, sends_first, server_of, staple_of, submit_row, with_deed, with_reply, without}
 use Rattle.tp_machine.specs.coord.State.{Coordinator}
 use Rattle.tp_machine.specs.declared.coord.Phase.TheVariants as phase
 use Rattle.tp_machine.specs.declared.coord.Phase.{Phase}
@@ -103,8 +103,8 @@ submit_row_sound sc c valid h =
     (record { ignored = ignores_sound sc c h; sent = λ asked server value k. sends_first_sound sc c asked server value valid h k.asked_is k.server_is })
 
 -- the place of the submission changes nothing of this
-pub placed_sound : (sc : Scenario) (c : Coordinator) (place : ℕ) → IsSoundCoordinator sc c → IsSoundCoordinator sc (placed c place)
-placed_sound sc c place h =
+pub coordinator_with_age_sound : (sc : Scenario) (c : Coordinator) (place : ℕ) → IsSoundCoordinator sc c → IsSoundCoordinator sc (coordinator_with_age c place)
+coordinator_with_age_sound sc c place h =
     record { exists = h.exists; servers = h.servers; deeds = h.deeds; gathered = h.gathered; instances = h.instances; awaits = h.awaits }
 
 -- ---- Done
@@ -118,9 +118,9 @@ asks_sound sc c h =
       sends_only = (record { from_is_actor = h.exists; to_is_actor = tt; says = record { txn = h.exists; goes_to = refl } }, tt);
     }
 
-ran_sound : (sc : Scenario) (c : Coordinator) (server : ServerId) (done : DoneReply) (asked : Query) (value : ℤ) → IsSoundCoordinator sc c
-    → query_in sc c.txn done.query ≡ Some asked → IsSoundCoordinator sc (ran c server done asked value)
-ran_sound sc c server done asked value h e =
+with_deed_sound : (sc : Scenario) (c : Coordinator) (server : ServerId) (done : DoneReply) (asked : Query) (value : ℤ) → IsSoundCoordinator sc c
+    → query_in sc c.txn done.query ≡ Some asked → IsSoundCoordinator sc (with_deed c server done asked value)
+with_deed_sound sc c server done asked value h e =
     record {
       exists = h.exists;
       servers = h.servers;
@@ -154,7 +154,7 @@ proofs_sound sc txn verdicts e h =
 commits_sound : (sc : Scenario) (c : Coordinator) (rounds : ℕ) (proofs : List Verdict) → IsSoundCoordinator sc c → Each (IsSoundProof sc c.txn) proofs
     → IsSoundCoordinatorEffect sc c (commits c rounds proofs)
 commits_sound sc c rounds proofs h p =
-    let instances : Each (IsSoundInstance sc c.txn) (closed c proofs) =
+    let instances : Each (IsSoundInstance sc c.txn) (instances_with c proofs) =
     each_more (IsSoundInstance sc c.txn) c.instances (record { reading = None; proofs = proofs }) h.instances p in
     record {
       same_txn = refl;
@@ -214,7 +214,7 @@ coordinator_row_sound sc c mail h a m =
     (record {
       ignored = ignores_sound sc c h;
       ran_last = λ done server asked value k.
-          let on = asks_sound sc (ran c server done asked value) (ran_sound sc c server done asked value h k.asked_is) in
+          let on = asks_sound sc (with_deed c server done asked value) (with_deed_sound sc c server done asked value h k.asked_is) in
           record { same_txn = refl; state_is = on.state_is; forces = tt; sends_only = on.sends_only };
       told_first = λ tell round k. prepares_sound sc c round (staple_of tell mail.sent) h (awaits k.asking) (subst (IsSoundBody sc (actor.Coordinator c.txn)) k.said_is m).revoked;
       counted = λ reply round staple server verdicts other others y e.

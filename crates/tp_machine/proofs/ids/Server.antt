@@ -9,7 +9,7 @@ use Rattle.tp_model.specs.Words.actor
 use Rattle.tp_model.specs.Words.body
 use Rattle.tp_machine.specs.Sound.{AreSoundVerdicts, AreVersionsOf, Each, IsAdmin, IsItemOf, IsSoundBody, IsSoundDeedAt, IsSoundDone, IsSoundEntry, IsSoundLetter, IsSoundQuery, IsSoundServer, IsSoundServerRecord, IsSoundSettled, IsSoundVerdict, IsTxn, IsVersion, IsVersionOf, query_in}
 use Rattle.tp_machine.specs.declared.server.Entry.{Entry}
-use Rattle.tp_machine.specs.server.Row.{admin_of, asked_item, begins, done, first_entry, plain_write, reply, server_row, settled_as, settles, verdict_on, version_known, votes}
+use Rattle.tp_machine.specs.server.Row.{admin_of, asked_item, begins, done_reply, first_entry, plain_write, reply, server_row, settled_as, settles, verdict_on, version_known, votes}
 use Rattle.tp_machine.specs.server.State.{Server}
 use Rattle.tp_machine.proofs.walks.ServerRows.{server_by}
 use Rattle.tp_machine.proofs.ids.Built.{IsValid, IsValidItem}
@@ -65,7 +65,7 @@ begins_sound sc s sent q deed h m e =
     let asked_is : query_in sc q.txn deed.query ≡ Some m.asked = subst (λ (n : ℕ). query_in sc q.txn n ≡ Some m.asked) (sym d.query_is) m.asked_is in
     let deed_sound : IsSoundDeedAt sc s.server q.txn deed =
     record { sound = record { asked = m.asked; asked_is = asked_is; item_is = item_is }; kept = kept } in
-    let done_sound : IsSoundDone sc (actor.Coordinator q.txn) (done q s.epoch deed) =
+    let done_sound : IsSoundDone sc (actor.Coordinator q.txn) (done_reply q s.epoch deed) =
     record {
       txn = m.txn;
       goes_to = refl;
@@ -83,7 +83,7 @@ begins_sound sc s sent q deed h m e =
             (record { answers = (done_sound, tt); waiting = tt; deeds = (deed_sound, tt); ballot = tt });
       };
       forces = tt;
-      sends_only = (reply_sound sc s q.txn (body.Done (done q s.epoch deed)) h m.txn done_sound, tt);
+      sends_only = (reply_sound sc s q.txn (body.Done (done_reply q s.epoch deed)) h m.txn done_sound, tt);
     }
 
 -- ---- Prepare

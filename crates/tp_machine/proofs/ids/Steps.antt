@@ -1,5 +1,5 @@
 -- The world is sound before the first step, and each step keeps it sound.
-use Rattle.std.proofs.Common.{◌≡◌, ℕ, ◌+◌, List, [], ◌∷◌, length, slice_get, slice_set, true, Option, Some, None, refl, subst, arith, sym}
+use Rattle.std.proofs.Common.{◌≡◌, ℕ, ◌+◌, List, [], ◌∷◌, length, slice_set, true, None, subst, arith, sym}
 use Rattle.tp_model.specs.Words.{Actor, Letter, Mail, Scenario, ServerId, Step, TxnId, What}
 use Rattle.tp_model.specs.Words.actor
 use Rattle.tp_model.specs.Words.step
@@ -9,29 +9,29 @@ use Rattle.tp_machine.specs.declared.actors.Actors.{Actors}
 use Rattle.tp_machine.specs.coord.State.{Coordinator}
 use Rattle.tp_machine.specs.Parts.{Part}
 use Rattle.tp_machine.specs.server.State.{Server}
-use Rattle.tp_machine.specs.Machine.{Machine, State, Turn, concluded, done, idles, noted, opened_part, opening_state, posted, refusal}
+use Rattle.tp_machine.specs.Machine.{Machine, Move, State, facts_of, idle_move, machine_after, mails_of, opened_part, opening_state, refusal, state_after}
 use Rattle.tp_machine.specs.Sound.{AreSoundActors, Each, IsActor, IsSound, IsSoundBody, IsSoundCoordinatorPart, IsSoundFact, IsSoundLetter, IsSoundMail, IsSoundServerPart, IsSoundWhat, IsStepOf}
 use Rattle.tp_machine.specs.coord.Opened as coord
 use Rattle.tp_machine.specs.server.Opened as server
-use Rattle.tp_machine.proofs.ids.Acts.{IsSoundAct, authority_sends_sound, coordinator_idle_sound, server_opened_sound, coordinator_begun_sound, coordinator_received_sound, server_received_sound}
+use Rattle.tp_machine.proofs.ids.Acts.{IsSoundAct, authority_sends_sound, coordinator_idle_sound, server_opening_sound, coordinator_begun_sound, coordinator_receipt_sound, server_receipt_sound}
 use Rattle.tp_machine.proofs.ids.Built.{IsValid, valid_built}
 use Rattle.tp_machine.proofs.basics.Lists.{at_made, at_set, each_append, each_get, each_map}
-use Rattle.tp_machine.proofs.walks.Steps.{Cases, SaysIdle, WasSent, done_by}
+use Rattle.tp_machine.proofs.walks.Steps.{Cases, SaysIdle, WasSent, machine_after_by}
 
--- ---- a turn
+-- ---- a move
 
 -- a step leaves sound actors, facts and letters
-record IsSoundTurn (sc : Scenario) (turn : Turn) : Type 0 where
-  pub actors_are : AreSoundActors sc turn.actors
-  pub left : IsSoundAct sc turn.happened turn.letters
+record IsSoundMove (sc : Scenario) (move : Move) : Type 0 where
+  pub actors_are : AreSoundActors sc move.actors
+  pub left : IsSoundAct sc move.happened move.letters
 
 -- no actor acts
-idles_sound : (sc : Scenario) (actors : Actors) (happened : List What) → AreSoundActors sc actors → Each (IsSoundWhat sc) happened → IsSoundTurn sc (idles actors happened)
-idles_sound sc actors happened h w = record { actors_are = h; left = record { facts_are = w; letters_are = tt } }
+idle_move_sound : (sc : Scenario) (actors : Actors) (happened : List What) → AreSoundActors sc actors → Each (IsSoundWhat sc) happened → IsSoundMove sc (idle_move actors happened)
+idle_move_sound sc actors happened h w = record { actors_are = h; left = record { facts_are = w; letters_are = tt } }
 
-idle_sound : (sc : Scenario) (actors : Actors) → AreSoundActors sc actors → (taken : Step) (happened : List What) → SaysIdle taken happened → IsSoundTurn sc (idles actors happened)
-idle_sound sc actors h (step.Deliver mail) happened e = subst (λ (hs : List What). IsSoundTurn sc (idles actors hs)) (sym e) (idles_sound sc actors [] h tt)
-idle_sound sc actors h (step.Lose mail) happened e = subst (λ (hs : List What). IsSoundTurn sc (idles actors hs)) (sym e) (idles_sound sc actors (what.Lost mail ∷ []) h (tt, tt))
+idle_sound : (sc : Scenario) (actors : Actors) → AreSoundActors sc actors → (taken : Step) (happened : List What) → SaysIdle taken happened → IsSoundMove sc (idle_move actors happened)
+idle_sound sc actors h (step.Deliver mail) happened e = subst (λ (hs : List What). IsSoundMove sc (idle_move actors hs)) (sym e) (idle_move_sound sc actors [] h tt)
+idle_sound sc actors h (step.Lose mail) happened e = subst (λ (hs : List What). IsSoundMove sc (idle_move actors hs)) (sym e) (idle_move_sound sc actors (what.Lost mail ∷ []) h (tt, tt))
 idle_sound sc actors h _ happened e = absurd e
 
 -- the servers after one of them acted
@@ -60,42 +60,42 @@ letter_sound sc w n mail to h sent =
     let m : IsSoundLetter sc mail.letter = each_get (IsSoundMail sc) w.mails n mail h.mails_are sent.sent in
     (m.from_is_actor, subst (λ (t : Actor). IsSoundBody sc t mail.letter.body) sent.goes_to m.says)
 
-sound_cases : (sc : Scenario) (w : State) → IsValid sc → IsSound sc w → Cases sc w (λ taken turn. IsSoundTurn sc turn)
+sound_cases : (sc : Scenario) (w : State) → IsValid sc → IsSound sc w → Cases sc w (λ taken move. IsSoundMove sc move)
 sound_cases sc w valid h =
     record {
       idle = idle_sound sc w.actors h.actors_are;
       server_received = λ n mail at part s sent up.
-          let acted = server_received_sound sc at part s mail valid (h.actors_are.servers at.0 part up.found) up.up (letter_sound sc w n mail (actor.Server at) h sent).1 in
-          record { actors_are = servers_sound sc w.actors at _ h.actors_are acted.part_is; left = acted.left };
+          let move = server_receipt_sound sc at part s mail valid (h.actors_are.servers at.0 part up.found) up.up (letter_sound sc w n mail (actor.Server at) h sent).1 in
+          record { actors_are = servers_sound sc w.actors at _ h.actors_are move.part_is; left = move.left };
       coordinator_received = λ n mail txn part c sent up.
           let says = letter_sound sc w n mail (actor.Coordinator txn) h sent in
-          let acted = coordinator_received_sound sc txn part c mail (h.actors_are.coordinators txn.0 part up.found) up.up says.0 says.1 in
-          record { actors_are = coordinators_sound sc w.actors txn _ h.actors_are acted.part_is; left = acted.left };
+          let move = coordinator_receipt_sound sc txn part c mail (h.actors_are.coordinators txn.0 part up.found) up.up says.0 says.1 in
+          record { actors_are = coordinators_sound sc w.actors txn _ h.actors_are move.part_is; left = move.left };
       authority_told = λ n mail sent.
           record { actors_are = h.actors_are; left = record { facts_are = tt; letters_are = authority_sends_sound sc w.actors.authority mail h.actors_are.authority (letter_sound sc w n mail actor.Authority h sent).1 } };
       begun = λ txn part c exists up new.
-          let acted = coordinator_begun_sound sc txn part c (length w.steps) valid (h.actors_are.coordinators txn.0 part up.found) up.up in
-          record { actors_are = coordinators_sound sc w.actors txn _ h.actors_are acted.part_is; left = acted.left };
+          let move = coordinator_begun_sound sc txn part c (length w.steps) valid (h.actors_are.coordinators txn.0 part up.found) up.up in
+          record { actors_are = coordinators_sound sc w.actors txn _ h.actors_are move.part_is; left = move.left };
     }
 
 -- ---- a step
 -- ---- a step
 
-posted_sound : (sc : Scenario) (place number : ℕ) (letters : List Letter) → Each (IsSoundLetter sc) letters → Each (IsSoundMail sc) (posted place number letters)
-posted_sound sc place number [] h = tt
-posted_sound sc place number (letter ∷ letters) h = (h.0, posted_sound sc place (number + 1) letters h.1)
+new_mails_sound : (sc : Scenario) (place number : ℕ) (letters : List Letter) → Each (IsSoundLetter sc) letters → Each (IsSoundMail sc) (mails_of place number letters)
+new_mails_sound sc place number [] h = tt
+new_mails_sound sc place number (letter ∷ letters) h = (h.0, new_mails_sound sc place (number + 1) letters h.1)
 
-noted_sound : (sc : Scenario) (place : ℕ) (happened : List What) → Each (IsSoundWhat sc) happened → Each (IsSoundFact sc) (noted place happened)
-noted_sound sc place happened h = each_map (IsSoundWhat sc) (IsSoundFact sc) (λ (w : What). record { place = place; what = w }) (λ w k. k) happened h
+new_facts_sound : (sc : Scenario) (place : ℕ) (happened : List What) → Each (IsSoundWhat sc) happened → Each (IsSoundFact sc) (facts_of place happened)
+new_facts_sound sc place happened h = each_map (IsSoundWhat sc) (IsSoundFact sc) (λ (w : What). record { place = place; what = w }) (λ w k. k) happened h
 
--- a step that ends in a sound turn leaves a sound world
-concluded_sound : (sc : Scenario) (w : State) (taken : Step) (turn : Turn) → IsSound sc w → IsSoundTurn sc turn → IsSound sc (concluded w taken turn)
-concluded_sound sc w taken turn h t =
+-- a step that ends in a sound move leaves a sound world
+state_after_sound : (sc : Scenario) (w : State) (taken : Step) (move : Move) → IsSound sc w → IsSoundMove sc move → IsSound sc (state_after w taken move)
+state_after_sound sc w taken move h t =
     record {
       actors_are = t.actors_are;
-      mails_are = each_append (IsSoundMail sc) w.mails (posted (length w.steps) (length w.mails) turn.letters) h.mails_are
-          (posted_sound sc (length w.steps) (length w.mails) turn.letters t.left.letters_are);
-      facts_are = each_append (IsSoundFact sc) w.facts (noted (length w.steps) turn.happened) h.facts_are (noted_sound sc (length w.steps) turn.happened t.left.facts_are);
+      mails_are = each_append (IsSoundMail sc) w.mails (mails_of (length w.steps) (length w.mails) move.letters) h.mails_are
+          (new_mails_sound sc (length w.steps) (length w.mails) move.letters t.left.letters_are);
+      facts_are = each_append (IsSoundFact sc) w.facts (facts_of (length w.steps) move.happened) h.facts_are (new_facts_sound sc (length w.steps) move.happened t.left.facts_are);
     }
 
 -- ---- for the world
@@ -107,8 +107,8 @@ sound_opening sc built =
     record {
       actors_are = record {
         servers = λ n part e. subst (λ (k : ℕ). IsSoundServerPart sc (record { 0 = k }) part) (omega arith)
-            (at_made (λ (k : ℕ) (found : Part Server). IsSoundServerPart sc (record { 0 = k }) found) (λ (k : ℕ). opened_part (server.opened sc (record { 0 = k }))) 0 (length sc.servers)
-            (λ k within. server_opened_sound sc (record { 0 = k }) valid (omega arith)) n part e);
+            (at_made (λ (k : ℕ) (found : Part Server). IsSoundServerPart sc (record { 0 = k }) found) (λ (k : ℕ). opened_part (server.opening sc (record { 0 = k }))) 0 (length sc.servers)
+            (λ k within. server_opening_sound sc (record { 0 = k }) valid (omega arith)) n part e);
         coordinators = λ n part e. subst (λ (k : ℕ). IsSoundCoordinatorPart sc (record { 0 = k }) part) (omega arith)
             (at_made (λ (k : ℕ) (found : Part Coordinator). IsSoundCoordinatorPart sc (record { 0 = k }) found) (λ (k : ℕ). opened_part (coord.idle sc (record { 0 = k }))) 0 (length sc.txns)
             (λ k within. coordinator_idle_sound sc (record { 0 = k }) (omega arith)) n part e);
@@ -119,8 +119,8 @@ sound_opening sc built =
     }
 
 -- a step that names what exists keeps the world sound
-pub sound_done : (sc : Scenario) (m : Machine) (taken : Step) → is_built sc ≡ true → IsStepOf sc taken → refusal m.state taken ≡ None → length m.state.actors.coordinators ≡ length sc.txns
-    → IsSound sc m.state → IsSound sc (done sc m taken).state
-sound_done sc m taken built exists allowed count h =
-    done_by sc m (λ taken turn. IsSoundTurn sc turn) (IsSound sc) (sound_cases sc m.state (valid_built sc built) h) count
-    (λ taken turn t. concluded_sound sc m.state taken turn h t) h taken exists allowed
+pub sound_next : (sc : Scenario) (m : Machine) (taken : Step) → is_built sc ≡ true → IsStepOf sc taken → refusal m.state taken ≡ None → length m.state.actors.coordinators ≡ length sc.txns
+    → IsSound sc m.state → IsSound sc (machine_after sc m taken).state
+sound_next sc m taken built exists allowed count h =
+    machine_after_by sc m (λ taken move. IsSoundMove sc move) (IsSound sc) (sound_cases sc m.state (valid_built sc built) h) count
+    (λ taken move t. state_after_sound sc m.state taken move h t) h taken exists allowed

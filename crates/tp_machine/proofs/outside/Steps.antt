@@ -1,5 +1,5 @@
 -- What comes from outside: the facts that the steps say by themselves, after every list of steps.
-use Rattle.std.proofs.Common.{◌≡◌, ℕ, ◌+◌, ◌<◌, ◌≤◌, ◌&&◌, nat_le, List, [], ◌∷◌, ◌++◌, length, filter, slice_get, Bool, true, false, cond, Option, Some, None, refl, sym, ap, subst, ◌∙◌, arith, drop, flat_map}
+use Rattle.std.proofs.Common.{◌≡◌, ℕ, ◌+◌, ◌<◌, ◌≤◌, ◌&&◌, nat_le, List, [], ◌∷◌, ◌++◌, length, filter, Bool, true, false, cond, Option, Some, None, refl, sym, ap, subst, ◌∙◌, arith, drop, flat_map}
 use Rattle.std.specs.List.{count_by, list_all}
 use Rattle.std.proofs.lemmas.Bool.Decides.{nat_tests}
 use Rattle.tp_model.specs.Words.{Fact, Record, Scenario, ServerId, Step, What}
@@ -11,34 +11,34 @@ use Rattle.tp_model.specs.Outside.{IsOutside, is_outside, is_outside_what, rises
 use Rattle.tp_model.specs.Versions.{is_publication, opening_of}
 use Rattle.tp_machine.specs.coord.State.{Coordinator}
 use Rattle.tp_machine.specs.Parts.{Part}
-use Rattle.tp_machine.specs.Machine.{Machine, State, Turn, concluded, coordinator_fact, done, idles, noted, server_fact, log_with, refusal}
+use Rattle.tp_machine.specs.Machine.{Machine, State, Move, state_after, coordinator_fact, machine_after, idle_move, facts_of, server_fact, log_with, refusal}
 use Rattle.tp_machine.specs.coord.Row.{coordinator_row, submit_row}
 use Rattle.tp_machine.specs.server.Row.{server_row}
 use Rattle.tp_machine.proofs.agreement.World.{steps_more}
-use Rattle.tp_machine.proofs.agreement.CoordinatorActs.{told_of}
-use Rattle.tp_machine.proofs.agreement.ServerActs.{told_by}
-use Rattle.tp_machine.proofs.basics.Facts.{ArePast, Grows, all_from_each, append_none, filter_append, grows_noted, noted_past, past_as}
+use Rattle.tp_machine.proofs.agreement.CoordinatorActs.{coordinator_facts}
+use Rattle.tp_machine.proofs.agreement.ServerActs.{server_facts}
+use Rattle.tp_machine.proofs.basics.Facts.{ArePast, Grows, all_from_each, append_none, filter_append, grows_with_facts, new_facts_past, past_as}
 use Rattle.tp_machine.proofs.basics.Logs.{gained}
 use Rattle.tp_machine.proofs.basics.Lists.{each_append}
-use Rattle.tp_machine.proofs.walks.Steps.{Cases, SaysIdle, done_by}
+use Rattle.tp_machine.proofs.walks.Steps.{Cases, SaysIdle, machine_after_by}
 use Rattle.tp_types.specs.Effect.{Effect}
 use Rattle.tp_machine.specs.Sound.{IsStepOf}
 
--- ---- what a turn says by itself
+-- ---- what a move says by itself
 
 -- of what happened, what the step says
 abbrev pub own_of : List What → List What
 own_of happened = filter is_outside_what happened
 
-pub own_told_by : (at : ServerId) (append : Option Record) → own_of (told_by at append) ≡ []
-own_told_by at None = refl
-own_told_by at (Some (log.Settled s)) = refl
-own_told_by at (Some _) = refl
+pub own_server_facts : (at : ServerId) (append : Option Record) → own_of (server_facts at append) ≡ []
+own_server_facts at None = refl
+own_server_facts at (Some (log.Settled s)) = refl
+own_server_facts at (Some _) = refl
 
-pub own_told_of : (append : Option Record) → own_of (told_of append) ≡ []
-own_told_of None = refl
-own_told_of (Some (log.Decided d)) = refl
-own_told_of (Some _) = refl
+pub own_coordinator_facts : (append : Option Record) → own_of (coordinator_facts append) ≡ []
+own_coordinator_facts None = refl
+own_coordinator_facts (Some (log.Decided d)) = refl
+own_coordinator_facts (Some _) = refl
 
 -- ---- growth
 
@@ -72,14 +72,14 @@ said_from_more sc facts first (one ∷ steps) taken =
 abbrev fact_at : ℕ → What → Fact
 fact_at place w = record { place = place; what = w }
 
-noted_one : (b : Bool) (place : ℕ) (w : What) (rest : List Fact) (whats : List What) → rest ≡ at_place place whats
+new_facts_one : (b : Bool) (place : ℕ) (w : What) (rest : List Fact) (whats : List What) → rest ≡ at_place place whats
     → cond b (fact_at place w ∷ rest) rest ≡ at_place place (cond b (w ∷ whats) whats)
-noted_one true place w rest whats e = ap (λ (fs : List Fact). fact_at place w ∷ fs) e
-noted_one false place w rest whats e = e
+new_facts_one true place w rest whats e = ap (λ (fs : List Fact). fact_at place w ∷ fs) e
+new_facts_one false place w rest whats e = e
 
-noted_own : (place : ℕ) (happened : List What) → filter is_outside (noted place happened) ≡ at_place place (own_of happened)
-noted_own place [] = refl
-noted_own place (w ∷ happened) = noted_one (is_outside_what w) place w (filter is_outside (noted place happened)) (own_of happened) (noted_own place happened)
+new_facts_own : (place : ℕ) (happened : List What) → filter is_outside (facts_of place happened) ≡ at_place place (own_of happened)
+new_facts_own place [] = refl
+new_facts_own place (w ∷ happened) = new_facts_one (is_outside_what w) place w (filter is_outside (facts_of place happened)) (own_of happened) (new_facts_own place happened)
 
 rises_both : (b c : Bool) → b ≡ true → c ≡ true → (b && c) ≡ true
 rises_both b c e f = grind arith
@@ -90,19 +90,19 @@ le_test low high e = grind (arith, nat_tests)
 le_from : (low high : ℕ) → nat_le low high ≡ true → low ≤ high
 le_from low high e = grind (arith, nat_tests)
 
-noted_rises : (low place : ℕ) (happened : List What) → low ≤ place → rises_from low (noted place happened) ≡ true
-noted_rises low place [] le = refl
-noted_rises low place (w ∷ happened) le = rises_both (nat_le low place) (rises_from place (noted place happened)) (le_test low place le) (noted_rises place place happened (omega arith))
+new_facts_rise : (low place : ℕ) (happened : List What) → low ≤ place → rises_from low (facts_of place happened) ≡ true
+new_facts_rise low place [] le = refl
+new_facts_rise low place (w ∷ happened) le = rises_both (nat_le low place) (rises_from place (facts_of place happened)) (le_test low place le) (new_facts_rise place place happened (omega arith))
 
 rises_parts : (b c : Bool) → (b && c) ≡ true → (b ≡ true) × (c ≡ true)
 rises_parts true c e = (refl, e)
 rises_parts false c e = absurd (cc)
 
-rises_more : (low place : ℕ) (facts : List Fact) (happened : List What) → low ≤ place → ArePast place facts → rises_from low facts ≡ true → rises_from low (facts ++ noted place happened) ≡ true
-rises_more low place [] happened le past e = noted_rises low place happened le
+rises_more : (low place : ℕ) (facts : List Fact) (happened : List What) → low ≤ place → ArePast place facts → rises_from low facts ≡ true → rises_from low (facts ++ facts_of place happened) ≡ true
+rises_more low place [] happened le past e = new_facts_rise low place happened le
 rises_more low place (fact ∷ facts) happened le past e =
     let parts = rises_parts (nat_le low fact.place) (rises_from fact.place facts) e in
-    rises_both (nat_le low fact.place) (rises_from fact.place (facts ++ noted place happened)) parts.0 (rises_more fact.place place facts happened (omega (arith, past.0)) past.1 parts.1)
+    rises_both (nat_le low fact.place) (rises_from fact.place (facts ++ facts_of place happened)) parts.0 (rises_more fact.place place facts happened (omega (arith, past.0)) past.1 parts.1)
 
 past_from : (place : ℕ) (fact : Fact) → is_earlier place fact ≡ true → fact.place < place
 past_from place fact e = grind (arith, nat_tests)
@@ -113,36 +113,36 @@ past_test place fact e = grind (arith, nat_tests)
 -- ---- a step
 
 -- a step that says just what it is to say
-pub concluded_outside : (sc : Scenario) (w : State) (taken : Step) (turn : Turn) → ArePast (length w.steps) w.facts → IsOutside sc w.steps w.facts
-    → own_of turn.happened ≡ said_by sc (w.facts ++ noted (length w.steps) turn.happened) (length w.steps) taken
-    → IsOutside sc (concluded w taken turn).steps (concluded w taken turn).facts
-concluded_outside sc w taken turn past h e =
+pub state_after_outside : (sc : Scenario) (w : State) (taken : Step) (move : Move) → ArePast (length w.steps) w.facts → IsOutside sc w.steps w.facts
+    → own_of move.happened ≡ said_by sc (w.facts ++ facts_of (length w.steps) move.happened) (length w.steps) taken
+    → IsOutside sc (state_after w taken move).steps (state_after w taken move).facts
+state_after_outside sc w taken move past h e =
     let place = length w.steps in
-    let now = w.facts ++ noted place turn.happened in
+    let now = w.facts ++ facts_of place move.happened in
     let zero_place : 0 + place ≡ place = omega arith in
-    let same : said_from sc now 0 w.steps ≡ said_from sc w.facts 0 w.steps = said_from_grows sc w.facts now place 0 w.steps (grows_noted w.facts place turn.happened) (omega arith) in
+    let same : said_from sc now 0 w.steps ≡ said_from sc w.facts 0 w.steps = said_from_grows sc w.facts now place 0 w.steps (grows_with_facts w.facts place move.happened) (omega arith) in
     record {
-      said = filter_append is_outside w.facts (noted place turn.happened)
-          ∙ (ap (λ (fs : List Fact). fs ++ filter is_outside (noted place turn.happened)) (h.said ∙ sym same)
-          ∙ (ap (λ (fs : List Fact). said_from sc now 0 w.steps ++ fs) (noted_own place turn.happened ∙ ap (at_place place) e)
+      said = filter_append is_outside w.facts (facts_of place move.happened)
+          ∙ (ap (λ (fs : List Fact). fs ++ filter is_outside (facts_of place move.happened)) (h.said ∙ sym same)
+          ∙ (ap (λ (fs : List Fact). said_from sc now 0 w.steps ++ fs) (new_facts_own place move.happened ∙ ap (at_place place) e)
           ∙ (ap (λ (p : ℕ). said_from sc now 0 w.steps ++ at_place p (said_by sc now p taken)) (sym zero_place)
           ∙ sym (said_from_more sc now 0 w.steps taken))));
-      rising = rises_more 0 place w.facts turn.happened (omega arith) past h.rising;
+      rising = rises_more 0 place w.facts move.happened (omega arith) past h.rising;
       within = subst (λ (p : ℕ). list_all (is_earlier p) now ≡ true) (sym (steps_more w.steps taken))
           (all_from_each (λ (fact : Fact). fact.place < place + 1) (is_earlier (place + 1)) (past_test (place + 1)) now
-          (each_append (λ (fact : Fact). fact.place < place + 1) w.facts (noted place turn.happened) (past_as place (place + 1) (omega arith) w.facts past) (noted_past place turn.happened)));
+          (each_append (λ (fact : Fact). fact.place < place + 1) w.facts (facts_of place move.happened) (past_as place (place + 1) (omega arith) w.facts past) (new_facts_past place move.happened)));
     }
 
 coordinator_says : (part : Part Coordinator) (effect : Effect Coordinator) → own_of (flat_map coordinator_fact (drop (length part.log) (log_with part.log effect.reaction.append))) ≡ []
-coordinator_says part effect = ap own_of (gained coordinator_fact part.log effect.reaction.append) ∙ own_told_of effect.reaction.append
+coordinator_says part effect = ap own_of (gained coordinator_fact part.log effect.reaction.append) ∙ own_coordinator_facts effect.reaction.append
 
--- a turn says by itself what its step is to say
-abbrev Says : Scenario → State → Step → Turn → Type 0
-Says sc w taken turn = own_of turn.happened ≡ said_by sc (w.facts ++ noted (length w.steps) turn.happened) (length w.steps) taken
+-- a move says by itself what its step is to say
+abbrev Says : Scenario → State → Step → Move → Type 0
+Says sc w taken move = own_of move.happened ≡ said_by sc (w.facts ++ facts_of (length w.steps) move.happened) (length w.steps) taken
 
-idle_says : (sc : Scenario) (w : State) (taken : Step) (happened : List What) → SaysIdle taken happened → Says sc w taken (idles w.actors happened)
-idle_says sc w (step.Deliver mail) happened e = subst (λ (hs : List What). Says sc w (step.Deliver mail) (idles w.actors hs)) (sym e) refl
-idle_says sc w (step.Lose mail) happened e = subst (λ (hs : List What). Says sc w (step.Lose mail) (idles w.actors hs)) (sym e) refl
+idle_says : (sc : Scenario) (w : State) (taken : Step) (happened : List What) → SaysIdle taken happened → Says sc w taken (idle_move w.actors happened)
+idle_says sc w (step.Deliver mail) happened e = subst (λ (hs : List What). Says sc w (step.Deliver mail) (idle_move w.actors hs)) (sym e) refl
+idle_says sc w (step.Lose mail) happened e = subst (λ (hs : List What). Says sc w (step.Lose mail) (idle_move w.actors hs)) (sym e) refl
 idle_says sc w _ happened e = absurd e
 
 outside_cases : (sc : Scenario) (w : State) → Cases sc w (Says sc w)
@@ -151,18 +151,18 @@ outside_cases sc w =
       idle = idle_says sc w;
       server_received = λ n mail at part s sent up.
           let append = (server_row sc s mail).reaction.append in
-          ap own_of (gained (server_fact at) part.log append) ∙ own_told_by at append;
+          ap own_of (gained (server_fact at) part.log append) ∙ own_server_facts at append;
       coordinator_received = λ n mail txn part c sent up. coordinator_says part (coordinator_row sc c mail);
       authority_told = λ n mail sent. refl;
       begun = λ txn part c exists up new. ap (λ (told : List What). what.Submitted txn ∷ told) (coordinator_says part (submit_row sc c));
     }
 
 -- a step keeps that the facts from outside are what the steps say
-pub outside_done : (sc : Scenario) (m : Machine) (taken : Step) → IsStepOf sc taken → refusal m.state taken ≡ None → length m.state.actors.coordinators ≡ length sc.txns
-    → ArePast (length m.state.steps) m.state.facts → IsOutside sc m.state.steps m.state.facts → IsOutside sc (done sc m taken).state.steps (done sc m taken).state.facts
-outside_done sc m taken exists allowed count past h =
-    done_by sc m (Says sc m.state) (λ w. IsOutside sc w.steps w.facts) (outside_cases sc m.state) count
-    (λ taken turn says. concluded_outside sc m.state taken turn past h says) h taken exists allowed
+pub outside_next : (sc : Scenario) (m : Machine) (taken : Step) → IsStepOf sc taken → refusal m.state taken ≡ None → length m.state.actors.coordinators ≡ length sc.txns
+    → ArePast (length m.state.steps) m.state.facts → IsOutside sc m.state.steps m.state.facts → IsOutside sc (machine_after sc m taken).state.steps (machine_after sc m taken).state.facts
+outside_next sc m taken exists allowed count past h =
+    machine_after_by sc m (Says sc m.state) (λ w. IsOutside sc w.steps w.facts) (outside_cases sc m.state) count
+    (λ taken move says. state_after_outside sc m.state taken move past h says) h taken exists allowed
 
 -- before the first step nothing was said
 pub outside_opening : (sc : Scenario) → IsOutside sc [] []

@@ -16,7 +16,7 @@ use Rattle.tp_machine.proofs.pairs.Pair.{Asker, Held, Pair, Rests, entry_held, g
 use Rattle.tp_machine.proofs.pairs.Ran.{front_covered}
 use Rattle.tp_machine.proofs.pairs.Site.{Site, count, past_last, upto, upto_same}
 use Rattle.tp_machine.proofs.pairs.Votes.{full_covers, none_waits}
-use Rattle.tp_machine.proofs.serial_data.Joined.{is_at, part_at}
+use Rattle.tp_machine.proofs.serial_data.Joined.{is_at, share_at}
 use Rattle.tp_machine.proofs.serial_data.Runs.{IsDeedOf, RunsSoFar, runs_each}
 
 -- ---- the opening
@@ -74,7 +74,7 @@ each_here s [] h = tt
 each_here s (deed ∷ deeds) h = (deed_here s deed h.0, each_here s deeds h.1)
 
 -- what the coordinator got from the server are its deeds on the server's items
-pub got_part : (s : Site) (deeds : List Deed) → RunsSoFar s.txn deeds → got s deeds ≡ part_at s.scenario s.at deeds
+pub got_part : (s : Site) (deeds : List Deed) → RunsSoFar s.txn deeds → got s deeds ≡ share_at s.scenario s.at deeds
 got_part s deeds runs = filter_same (is_here s) (is_at s.scenario s.at) deeds (each_here s deeds (runs_each s.txn deeds runs))
 
 -- ---- a vote YES
@@ -82,7 +82,7 @@ got_part s deeds runs = filter_same (is_here s) (is_at s.scenario s.at) deeds (e
 -- what is prepared for a coordinator that is up and has not decided is its part of the coordinator's deeds, and all queries have run
 pub record IsPreparedFor (s : Site) (a : Asker) (prepared : Prepared) : Type 0 where
   pub epoch : a.epoch ≡ Some prepared.epoch
-  pub deeds : prepared.deeds ≡ part_at s.scenario s.at a.deeds
+  pub deeds : prepared.deeds ≡ share_at s.scenario s.at a.deeds
   pub all : length a.deeds ≡ count s
 
 pub prepared_for : (s : Site) (p : Pair) (a : Asker) (prepared : Prepared) → p.asker ≡ Some a → p.prepared ≡ Some prepared → Fits s p → IsPreparedFor s a prepared

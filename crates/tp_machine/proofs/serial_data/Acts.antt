@@ -16,15 +16,15 @@ use Rattle.tp_model.specs.Facts.{first_of, outcome_of}
 use Rattle.tp_model.specs.Ids.{same_server}
 use Rattle.tp_model.specs.SerialRun.{overlaid, overlaid_at, stored, stored_by}
 use Rattle.tp_machine.specs.Logs.{decided_by, decided_in, decision_in, prepared_by, prepared_in}
-use Rattle.tp_machine.specs.Machine.{State, acts, coordinator_acted, coordinator_fact, log_with, server_acted, server_fact}
+use Rattle.tp_machine.specs.Machine.{State, acts, coordinator_fact, coordinator_move, log_with, server_fact, server_move}
 use Rattle.tp_machine.specs.Sound.{Each, EachAt, EachPlaced, IsTxn}
 use Rattle.tp_machine.specs.coord.Opened.{servers_at}
 use Rattle.tp_machine.specs.coord.State.{Coordinator}
 use Rattle.tp_machine.specs.Parts.{Part}
 use Rattle.tp_machine.specs.server.State.{Server}
-use Rattle.tp_machine.proofs.agreement.ServerActs.{number_itself, ordered_commit, told_by}
+use Rattle.tp_machine.proofs.agreement.ServerActs.{number_itself, ordered_commit, server_facts}
 use Rattle.tp_machine.proofs.agreement.Coordinator.{DecisionRests, IsFirst}
-use Rattle.tp_machine.proofs.agreement.CoordinatorActs.{told_of}
+use Rattle.tp_machine.proofs.agreement.CoordinatorActs.{coordinator_facts}
 use Rattle.tp_machine.proofs.agreement.Logs.{DecidedAs, IsAsked, IsPrepared}
 use Rattle.tp_machine.proofs.agreement.Server.{RecordRests}
 use Rattle.tp_machine.proofs.agreement.World.{Agrees}
@@ -36,7 +36,7 @@ use Rattle.tp_machine.proofs.serial_data.Coordinator.{CoordinatorKeeps, PhaseDee
 use Rattle.tp_machine.proofs.serial_data.Lists.{at_changed, each_of_all, fold_both, fold_keeps, same_set, set_elsewhere}
 use Rattle.tp_machine.proofs.serial_data.Plan.{DecisionSerial, IsInRange, IsTested, LetterSerial, RecordPlanned, RecordSerial, is_at, planned, planned_at, planned_what}
 use Rattle.tp_machine.proofs.serial_data.Server.{EntryPlanned, ServerKeeps}
-use Rattle.tp_machine.proofs.serial_data.World.{CoordinatorPartSerial, HoldsValues, IsPlannedCommit, Serial, ServerPartSerial, ServerUpSerial, TurnSerial, WhatSerial, overlaid_by}
+use Rattle.tp_machine.proofs.serial_data.World.{CoordinatorPartSerial, HoldsValues, IsPlannedCommit, MoveSerial, Serial, ServerPartSerial, ServerUpSerial, WhatSerial, overlaid_by}
 use Rattle.tp_machine.proofs.basics.Lists.{at_set, by_cond, each_append, each_as, missing}
 
 -- ---- no commit
@@ -75,9 +75,9 @@ servers_stay : (sc : Scenario) (w : State) (happened : List What) → Serial sc 
     → EachAt (λ (n : ℕ) (part : Part Server). ServerPartSerial sc (overlaid_by sc w happened) (record { 0 = n }) part) w.actors.servers
 servers_stay sc w happened h u n part e = subst (λ (store : List ℤ). ServerPartSerial sc store (record { 0 = n }) part) (sym (store_stays sc happened (overlaid sc w.facts) u)) (h.servers n part e)
 
--- a turn in which the servers and the coordinators stay
+-- a move in which the servers and the coordinators stay
 pub unmoved_serial : (sc : Scenario) (w : State) (happened : List What) (letters : List Letter) → Serial sc w → Each IsQuiet happened → Each (LetterSerial sc) letters
-    → TurnSerial sc w (record { actors = w.actors; happened = happened; letters = letters })
+    → MoveSerial sc w (record { actors = w.actors; happened = happened; letters = letters })
 unmoved_serial sc w happened letters h q l =
     record {
       coordinators = h.coordinators;
@@ -157,7 +157,7 @@ overlaid_apart sc at other deed n item store found here apart =
     (λ not_there. refl)
 
 settled_apart : (sc : Scenario) (at other : ServerId) (append : Option Record) (n : ℕ) (item : Item) (store : List ℤ) → slice_get sc.items n ≡ Some item → item.server ≡ other → (at.0 == other.0) ≡ false
-    → slice_get (fold (planned_what sc) store (told_by at append)) n ≡ slice_get store n
+    → slice_get (fold (planned_what sc) store (server_facts at append)) n ≡ slice_get store n
 settled_apart sc at other None n item store found here apart = refl
 settled_apart sc at other (Some (log.Settled s)) n item store found here apart = settled s.outcome
   where
@@ -171,7 +171,7 @@ settled_apart sc at other (Some _) n item store found here apart = refl
 
 -- a server's items keep their values as another settles
 others_hold : (sc : Scenario) (at other : ServerId) (append : Option Record) (store : List ℤ) (part : Part Server) → (at.0 == other.0) ≡ false → ServerPartSerial sc store other part
-    → ServerPartSerial sc (fold (planned_what sc) store (told_by at append)) other part
+    → ServerPartSerial sc (fold (planned_what sc) store (server_facts at append)) other part
 others_hold sc at other append store part apart h =
     record {
       state = IfSome_then part.up h.state
@@ -183,7 +183,7 @@ others_hold sc at other append store part apart h =
 
 -- the fact of a settlement keeps to the plan
 settlement_serial : (sc : Scenario) (w : State) (at : ServerId) (kept : List Record) (append : Option Record) → Agrees sc w → Serial sc w
-    → IfSome append (RecordRests (DecidedAs w.actors.coordinators) (IsAsked sc w.actors.coordinators at) kept) → Each (WhatSerial sc w.facts) (told_by at append)
+    → IfSome append (RecordRests (DecidedAs w.actors.coordinators) (IsAsked sc w.actors.coordinators at) kept) → Each (WhatSerial sc w.facts) (server_facts at append)
 settlement_serial sc w at kept None agrees h r = tt
 settlement_serial sc w at kept (Some (log.Settled s)) agrees h r = (serial s.outcome refl, tt)
   where
@@ -196,27 +196,27 @@ settlement_serial sc w at kept (Some _) agrees h r = tt
 -- changed by what it settled, and so do what it forced, what the step says by itself, and letters
 pub record ServerActsSerial (sc : Scenario) (at : ServerId) (was now : Option Server) (own : List What) (append : Option Record) (letters : List Letter) : Type 0 where
   pub up : is_some now ≡ true
-  pub state : (store : List ℤ) → IfSome was (ServerUpSerial sc store at) → IfSome now (ServerUpSerial sc (fold (planned_what sc) store (own ++ told_by at append)) at)
+  pub state : (store : List ℤ) → IfSome was (ServerUpSerial sc store at) → IfSome now (ServerUpSerial sc (fold (planned_what sc) store (own ++ server_facts at append)) at)
   pub quiet : Each IsQuiet own
   pub forces : IfSome append (RecordPlanned sc at)
   pub letters_are : Each (LetterSerial sc) letters
 
--- the turn of a server whose act keeps to the plans
+-- the move of a server whose act keeps to the plans
 pub server_acts_serial : (sc : Scenario) (w : State) (at : ServerId) (part : Part Server) (now : Option Server) (own : List What) (append : Option Record) (letters : List Letter) → Agrees sc w → Serial sc w
     → slice_get w.actors.servers at.0 ≡ Some part → ServerActsSerial sc at part.up now own append letters
     → IfSome append (RecordRests (DecidedAs w.actors.coordinators) (IsAsked sc w.actors.coordinators at) part.log)
-    → TurnSerial sc w (server_acted w.actors at (acts (server_fact at) own part.log now (log_with part.log append) letters))
+    → MoveSerial sc w (server_move w.actors at (acts (server_fact at) own part.log now (log_with part.log append) letters))
 server_acts_serial sc w at part now own append letters agrees h found k rests =
     let next : Part Server = record { up = now; log = log_with part.log append } in
     let old = w.actors.servers in
     let new = slice_set old at.0 next in
-    let tells : own ++ flat_map (server_fact at) (drop (length part.log) (log_with part.log append)) ≡ own ++ told_by at append = ap (λ (xs : List What). own ++ xs) (gained (server_fact at) part.log append) in
+    let tells : own ++ flat_map (server_fact at) (drop (length part.log) (log_with part.log append)) ≡ own ++ server_facts at append = ap (λ (xs : List What). own ++ xs) (gained (server_fact at) part.log append) in
     let store = overlaid sc w.facts in
-    let after = fold (planned_what sc) store (own ++ told_by at append) in
+    let after = fold (planned_what sc) store (own ++ server_facts at append) in
     let here = h.servers at.0 part found in
     let quiet : fold (planned_what sc) store own ≡ store = store_stays sc own store (each_as IsQuiet IsUnsettled quiet_unsettled own k.quiet) in
-    let told : after ≡ fold (planned_what sc) store (told_by at append) =
-    fold-append (planned_what sc) store own (told_by at append) ∙ ap (λ (b : List ℤ). fold (planned_what sc) b (told_by at append)) quiet in
+    let told : after ≡ fold (planned_what sc) store (server_facts at append) =
+    fold-append (planned_what sc) store own (server_facts at append) ∙ ap (λ (b : List ℤ). fold (planned_what sc) b (server_facts at append)) quiet in
     let leaves : ServerPartSerial sc after at next =
     record {
       state = k.state store here.state;
@@ -231,22 +231,22 @@ server_acts_serial sc w at part now own append letters agrees h found k rests =
       servers_up = at_set (λ (n : ℕ) (p : Part Server). is_some p.up ≡ true) old at.0 next h.servers_up k.up;
       letters = k.letters_are;
       happened = subst (Each (WhatSerial sc w.facts)) (sym tells)
-          (each_append (WhatSerial sc w.facts) own (told_by at append) (each_as IsQuiet (WhatSerial sc w.facts) (quiet_serial sc w.facts) own k.quiet) (settlement_serial sc w at part.log append agrees h rests));
+          (each_append (WhatSerial sc w.facts) own (server_facts at append) (each_as IsQuiet (WhatSerial sc w.facts) (quiet_serial sc w.facts) own k.quiet) (settlement_serial sc w at part.log append agrees h rests));
     }
 
 -- a receipt: the server is up before it and after it, and the step says nothing by itself
-pub received_serial : (sc : Scenario) (at : ServerId) (part : Part Server) (s : Server) (effect : Effect Server) → part.up ≡ Some s → s.server ≡ at → ServerKeeps sc s effect
+pub receipt_serial : (sc : Scenario) (at : ServerId) (part : Part Server) (s : Server) (effect : Effect Server) → part.up ≡ Some s → s.server ≡ at → ServerKeeps sc s effect
     → ServerActsSerial sc at part.up (Some effect.state) [] effect.reaction.append effect.reaction.letters
-received_serial sc at part s effect up own k =
+receipt_serial sc at part s effect up own k =
     let append = effect.reaction.append in
-    let values_are : effect.state.values ≡ fold (planned_what sc) s.values (told_by at append) = subst (λ (x : ServerId). effect.state.values ≡ fold (planned_what sc) s.values (told_by x append)) own k.values in
+    let values_are : effect.state.values ≡ fold (planned_what sc) s.values (server_facts at append) = subst (λ (x : ServerId). effect.state.values ≡ fold (planned_what sc) s.values (server_facts x append)) own k.values in
     record {
       up = refl;
       state = λ store h.
           let was : ServerUpSerial sc store at s = subst (λ (u : Option Server). IfSome u (ServerUpSerial sc store at)) up h in
           record {
             entries = subst (λ (x : ServerId). EachPlaced (EntryPlanned sc x) effect.state.entries) own k.state;
-            values = subst (HoldsValues sc at (fold (planned_what sc) store (told_by at append))) (sym values_are) (values_overlaid sc at (told_by at append) store s.values was.values);
+            values = subst (HoldsValues sc at (fold (planned_what sc) store (server_facts at append))) (sym values_are) (values_overlaid sc at (server_facts at append) store s.values was.values);
           };
       quiet = tt;
       forces = subst (λ (x : ServerId). IfSome append (RecordPlanned sc x)) own k.forces;
@@ -269,10 +269,10 @@ decision_after sc txn None None h r = tt
 decision_after sc txn None (Some (log.Decided d)) h r = r.serial
 decision_after sc txn None (Some _) h r = tt
 
-told_unsettled : (append : Option Record) → Each IsUnsettled (told_of append)
-told_unsettled None = tt
-told_unsettled (Some (log.Decided d)) = (tt, tt)
-told_unsettled (Some _) = tt
+facts_unsettled : (append : Option Record) → Each IsUnsettled (coordinator_facts append)
+facts_unsettled None = tt
+facts_unsettled (Some (log.Decided d)) = (tt, tt)
+facts_unsettled (Some _) = tt
 
 -- what a server has prepared was tested
 server_tested : (sc : Scenario) (store : List ℤ) (at : ServerId) (txn : TxnId) (servers : List (Part Server)) (found : Option (Part Server))
@@ -299,7 +299,7 @@ plan_tested sc w txn (Some declared) built exists h found prepared =
 -- the fact of a decision keeps to the plan
 decision_serial : (sc : Scenario) (w : State) (txn : TxnId) (kept : List Record) (append : Option Record) → IsTxn sc txn
     → (Each (IsPrepared w.actors.servers txn) (servers_at sc txn) → Each (IsInRange sc) (planned sc txn)) → IfSome append (IsFirst sc (IsPrepared w.actors.servers txn) txn kept)
-    → IfSome append (RecordSerial sc txn) → Each (WhatSerial sc w.facts) (told_of append)
+    → IfSome append (RecordSerial sc txn) → Each (WhatSerial sc w.facts) (coordinator_facts append)
 decision_serial sc w txn kept None exists tested f r = tt
 decision_serial sc w txn kept (Some (log.Decided d)) exists tested f r = (subst (λ (t : TxnId). WhatSerial sc w.facts (what.Decided t d.decision)) (sym r.own) (serial d.decision f.prepared r.serial), tt)
   where
@@ -308,16 +308,16 @@ decision_serial sc w txn kept (Some (log.Decided d)) exists tested f r = (subst 
     serial (decision.Abort why) p s = tt
 decision_serial sc w txn kept (Some _) exists tested f r = tt
 
--- the turn of a coordinator whose act keeps to the plan, whether it is up after it or down
+-- the move of a coordinator whose act keeps to the plan, whether it is up after it or down
 pub coordinator_acts_serial : (sc : Scenario) (w : State) (txn : TxnId) (part : Part Coordinator) (now : Option Coordinator) (own : List What) (append : Option Record) (letters : List Letter) → is_built sc ≡ true
     → Serial sc w → IsTxn sc txn → slice_get w.actors.coordinators txn.0 ≡ Some part → IfSome append (IsFirst sc (IsPrepared w.actors.servers txn) txn part.log)
     → CoordinatorActsSerial sc txn now own append letters
-    → TurnSerial sc w (coordinator_acted w.actors txn (acts coordinator_fact own part.log now (log_with part.log append) letters))
+    → MoveSerial sc w (coordinator_move w.actors txn (acts coordinator_fact own part.log now (log_with part.log append) letters))
 coordinator_acts_serial sc w txn part now own append letters built h exists found fresh k =
     let next : Part Coordinator = record { up = now; log = log_with part.log append } in
     let old = w.actors.coordinators in
-    let tells : own ++ flat_map coordinator_fact (drop (length part.log) (log_with part.log append)) ≡ own ++ told_of append = ap (λ (xs : List What). own ++ xs) (gained coordinator_fact part.log append) in
-    let unsettled : Each IsUnsettled (own ++ told_of append) = each_append IsUnsettled own (told_of append) (each_as IsQuiet IsUnsettled quiet_unsettled own k.quiet) (told_unsettled append) in
+    let tells : own ++ flat_map coordinator_fact (drop (length part.log) (log_with part.log append)) ≡ own ++ coordinator_facts append = ap (λ (xs : List What). own ++ xs) (gained coordinator_fact part.log append) in
+    let unsettled : Each IsUnsettled (own ++ coordinator_facts append) = each_append IsUnsettled own (coordinator_facts append) (each_as IsQuiet IsUnsettled quiet_unsettled own k.quiet) (facts_unsettled append) in
     let leaves : CoordinatorPartSerial sc txn next =
     record {
       state = k.state;
@@ -330,7 +330,7 @@ coordinator_acts_serial sc w txn part now own append letters built h exists foun
       servers_up = h.servers_up;
       letters = k.letters_are;
       happened = subst (Each (WhatSerial sc w.facts)) (sym tells)
-          (each_append (WhatSerial sc w.facts) own (told_of append) (each_as IsQuiet (WhatSerial sc w.facts) (quiet_serial sc w.facts) own k.quiet)
+          (each_append (WhatSerial sc w.facts) own (coordinator_facts append) (each_as IsQuiet (WhatSerial sc w.facts) (quiet_serial sc w.facts) own k.quiet)
           (decision_serial sc w txn part.log append exists (λ prepared. plan_tested sc w txn (slice_get sc.txns txn.0) built exists h refl prepared) fresh k.forces));
     }
 

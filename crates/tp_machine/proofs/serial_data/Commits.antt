@@ -9,7 +9,7 @@ use Rattle.tp_model.specs.SerialRun.{serial_run, stored_all}
 use Rattle.tp_machine.specs.Sound.{Each}
 use Rattle.tp_machine.proofs.basics.Logs.{first_none}
 use Rattle.tp_machine.proofs.basics.Lists.{each_as}
-use Rattle.tp_machine.proofs.serial_data.Joined.{AgreesAt, at_home, is_at, joined, part_at}
+use Rattle.tp_machine.proofs.serial_data.Joined.{AgreesAt, at_home, is_at, joined, share_at}
 use Rattle.tp_machine.proofs.serial_data.Reads.{AreReads, IsClear, ReadsFrom, run_is}
 use Rattle.tp_machine.proofs.serial_data.Runs.{RunsSoFar}
 use Rattle.tp_machine.proofs.serial_data.Stores.{Adds, Drops, HasPlace, StoreFits, last_write, store_decides, store_elsewhere, store_settles, written, written_by}
@@ -27,19 +27,19 @@ written_elsewhere action.Read deed item b e apart = refl
 written_elsewhere action.Write deed item true e apart = absurd (apart (eqb-true deed.item.0 item e))
 written_elsewhere action.Write deed item false e apart = ap (λ (c : Bool). if c then Some deed.value else None) e
 
-part_written : (item : ℕ) (deed : Deed) (deeds part : List Deed) (b : Bool) → last_write item part ≡ last_write item deeds → (b ≡ false → written item deed ≡ None)
-    → last_write item (cond b (deed ∷ part) part) ≡ first_of (last_write item deeds) (written item deed)
-part_written item deed deeds part true same none = ap (λ (last : Option ℤ). first_of last (written item deed)) same
-part_written item deed deeds part false same none = same ∙ (sym (first_none (last_write item deeds)) ∙ ap (first_of (last_write item deeds)) (sym (none refl)))
+share_written : (item : ℕ) (deed : Deed) (deeds share : List Deed) (b : Bool) → last_write item share ≡ last_write item deeds → (b ≡ false → written item deed ≡ None)
+    → last_write item (cond b (deed ∷ share) share) ≡ first_of (last_write item deeds) (written item deed)
+share_written item deed deeds share true same none = ap (λ (last : Option ℤ). first_of last (written item deed)) same
+share_written item deed deeds share false same none = same ∙ (sym (first_none (last_write item deeds)) ∙ ap (first_of (last_write item deeds)) (sym (none refl)))
 
 own_at : (sc : Scenario) (at item : ℕ) (deed : Deed) → IsItemAt sc at item → deed.item.0 ≡ item → is_at sc at deed ≡ true
 own_at sc at item deed own same = at_home sc deed own.declared at (ap (slice_get sc.items) same ∙ own.declared_is) ∙ eq-eqb own.declared.server.0 at own.at_is
 
--- the server's part of deeds writes its items as all deeds do
-pub last_write_part : (sc : Scenario) (at item : ℕ) (deeds : List Deed) → IsItemAt sc at item → last_write item (part_at sc at deeds) ≡ last_write item deeds
-last_write_part sc at item [] own = refl
-last_write_part sc at item (deed ∷ deeds) own =
-    part_written item deed deeds (part_at sc at deeds) (is_at sc at deed) (last_write_part sc at item deeds own)
+-- the server's share of deeds writes its items as all deeds do
+pub last_write_share : (sc : Scenario) (at item : ℕ) (deeds : List Deed) → IsItemAt sc at item → last_write item (share_at sc at deeds) ≡ last_write item deeds
+last_write_share sc at item [] own = refl
+last_write_share sc at item (deed ∷ deeds) own =
+    share_written item deed deeds (share_at sc at deeds) (is_at sc at deed) (last_write_share sc at item deeds own)
     (λ e. written_elsewhere deed.action deed item (deed.item.0 == item) refl (λ same. let here = own_at sc at item deed own same in cc))
 
 -- ---- clear of what is not settled
@@ -74,7 +74,7 @@ clear_agrees sc P values store deed fits h =
 
 -- the deeds of a commit are those of its transaction run by itself on the store
 pub commit_serial : (sc : Scenario) (txn : Transaction) (P : ℕ → List Deed → Type 0) (values : ℕ → List ℤ) (store : List ℤ) (deeds : List Deed) → RunsSoFar txn deeds → length deeds ≡ length txn.queries
-    → ((at : ℕ) → ReadsFrom (values at) (part_at sc at deeds)) → ((at : ℕ) → StoreFits (IsItemAt sc at) (P at) (values at) store) → Each (IsClearAtHome sc P) deeds → deeds ≡ serial_run txn store
+    → ((at : ℕ) → ReadsFrom (values at) (share_at sc at deeds)) → ((at : ℕ) → StoreFits (IsItemAt sc at) (P at) (values at) store) → Each (IsClearAtHome sc P) deeds → deeds ≡ serial_run txn store
 commit_serial sc txn P values store deeds runs all reads fits clear =
     run_is txn store deeds runs all
     (joined sc values store deeds (each_as (IsClearAtHome sc P) (AgreesAt sc values store) (λ deed h. clear_agrees sc P values store deed fits h) deeds clear) reads)
@@ -102,14 +102,14 @@ pub commit_store : (sc : Scenario) (P Q : ℕ → List Deed → Type 0) (values 
 commit_store sc P Q values store deeds at has adds clear fits =
     store_decides (IsItemAt sc at) (P at) (Q at) deeds (values at) store has adds (λ item others v own p e. clear_apart sc P at item others v deeds own p e clear) fits
 
--- nor does it change what fits at a server without a part in it
-pub commit_elsewhere : (sc : Scenario) (P : List Deed → Type 0) (values store : List ℤ) (deeds : List Deed) (at : ℕ) → ((item : ℕ) → IsItemAt sc at item → HasPlace store item) → part_at sc at deeds ≡ []
+-- nor does it change what fits at a server without a share of it
+pub commit_elsewhere : (sc : Scenario) (P : List Deed → Type 0) (values store : List ℤ) (deeds : List Deed) (at : ℕ) → ((item : ℕ) → IsItemAt sc at item → HasPlace store item) → share_at sc at deeds ≡ []
     → StoreFits (IsItemAt sc at) P values store → StoreFits (IsItemAt sc at) P values (stored_all store deeds)
 commit_elsewhere sc P values store deeds at has none fits =
-    store_elsewhere (IsItemAt sc at) P deeds values store has (λ item own. sym (last_write_part sc at item deeds own) ∙ ap (last_write item) none) fits
+    store_elsewhere (IsItemAt sc at) P deeds values store has (λ item own. sym (last_write_share sc at item deeds own) ∙ ap (last_write item) none) fits
 
--- the values of a server that settles a commit, and applies its part, fit the store as before; Q says which commits are not settled after it
+-- the values of a server that settles a commit, and applies its share, fit the store as before; Q says which commits are not settled after it
 pub settle_store : (sc : Scenario) (P Q : List Deed → Type 0) (values store : List ℤ) (deeds : List Deed) (at : ℕ) → ((item : ℕ) → IsItemAt sc at item → HasPlace values item) → Drops P deeds Q
-    → StoreFits (IsItemAt sc at) P values store → StoreFits (IsItemAt sc at) Q (stored_all values (part_at sc at deeds)) store
+    → StoreFits (IsItemAt sc at) P values store → StoreFits (IsItemAt sc at) Q (stored_all values (share_at sc at deeds)) store
 settle_store sc P Q values store deeds at has drops fits =
-    store_settles (IsItemAt sc at) P Q deeds (part_at sc at deeds) values store has drops (λ item own. last_write_part sc at item deeds own) fits
+    store_settles (IsItemAt sc at) P Q deeds (share_at sc at deeds) values store has drops (λ item own. last_write_share sc at item deeds own) fits

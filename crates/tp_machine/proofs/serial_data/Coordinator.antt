@@ -12,7 +12,7 @@ use Rattle.tp_model.specs.Words.body
 use Rattle.tp_model.specs.Words.outcome
 use Rattle.tp_machine.specs.Machine.{with_age}
 use Rattle.tp_machine.specs.Sound.{Each, IsSoundBody, query_in}
-use Rattle.tp_machine.specs.coord.Row.{asks, awaits_query, commits, coordinator_row, deed_of, is_begun, prepare_letter, ran, request, staple_of, submit_row}
+use Rattle.tp_machine.specs.coord.Row.{asks, awaits_query, commits, coordinator_row, deed_of, is_begun, prepare_letter, request, staple_of, submit_row, with_deed}
 use Rattle.tp_machine.specs.coord.State.{Coordinator}
 use Rattle.tp_machine.specs.declared.coord.Phase.TheVariants as phase
 use Rattle.tp_machine.specs.declared.coord.Phase.{Phase}
@@ -69,13 +69,13 @@ awaited_deeds c (phase.Querying number staple) done deeds plan e h =
 awaited_deeds c _ done deeds plan e h = absurd (cc)
 
 ran_last_keeps : (sc : Scenario) (c : Coordinator) (mail : Mail) (done : DoneReply) (server : ServerId) (asked : Query) (value : ℤ) → is_built sc ≡ true → CoordinatorSerial sc c
-    → IsSoundBody sc (actor.Coordinator c.txn) mail.letter.body → BodySerial sc mail.letter.body → IsLastAnswer sc c mail done server asked value → CoordinatorKeeps sc c (asks (ran c server done asked value))
+    → IsSoundBody sc (actor.Coordinator c.txn) mail.letter.body → BodySerial sc mail.letter.body → IsLastAnswer sc c mail done server asked value → CoordinatorKeeps sc c (asks (with_deed c server done asked value))
 ran_last_keeps sc c mail done server asked value built h sound m k =
     let same : done.txn ≡ c.txn = same_txn_from c.txn done.txn (subst (IsSoundBody sc (actor.Coordinator c.txn)) k.said_is sound).goes_to in
     let given : IsPlannedAnswer sc done.txn done.query (answer.Ran value None) = subst (IsPlannedAnswer sc done.txn done.query) k.answer_is (subst (BodySerial sc) k.said_is m) in
     let fits : IsPlannedValue sc c.txn done.query value = subst (λ (t : TxnId). IsPlannedValue sc t done.query value) same given in
     let before = awaited_deeds c c.phase done c.deeds (planned sc c.txn) k.awaited h in
-    let on = asks_keeps sc (ran c server done asked value) (last_of_one_query sc c.txn done.query asked value c.deeds built k.asked_is before fits) in
+    let on = asks_keeps sc (with_deed c server done asked value) (last_of_one_query sc c.txn done.query asked value c.deeds built k.asked_is before fits) in
     record { state = on.state; same_txn = refl; forces = tt; letters = on.letters }
 
 -- ---- Tell

@@ -15,9 +15,9 @@ use Rattle.tp_machine.proofs.serial_data.Reads.{ReadsFrom, read_as}
 abbrev pub is_at : Scenario → ℕ → Deed → Bool
 is_at sc at deed = option_map_or (λ (item : Item). item.server.0 == at) (slice_get sc.items deed.item.0) false
 
--- the server's part of deeds
-abbrev pub part_at : Scenario → ℕ → List Deed → List Deed
-part_at sc at deeds = filter (is_at sc at) deeds
+-- the server's share of deeds
+abbrev pub share_at : Scenario → ℕ → List Deed → List Deed
+share_at sc at deeds = filter (is_at sc at) deeds
 
 -- the deed's item exists, and the values of its server have there what the store has
 pub record AgreesAt (sc : Scenario) (values : ℕ → List ℤ) (store : List ℤ) (deed : Deed) : Type 0 where
@@ -75,17 +75,17 @@ reads_after values deed deeds home at false e h = h
 -- ---- all servers
 
 -- reads at each server are reads of the store, where the server's values have at the deeds' items what the store has
-pub joined : (sc : Scenario) (values : ℕ → List ℤ) (store : List ℤ) (deeds : List Deed) → Each (AgreesAt sc values store) deeds → ((at : ℕ) → ReadsFrom (values at) (part_at sc at deeds)) → ReadsFrom store deeds
+pub joined : (sc : Scenario) (values : ℕ → List ℤ) (store : List ℤ) (deeds : List Deed) → Each (AgreesAt sc values store) deeds → ((at : ℕ) → ReadsFrom (values at) (share_at sc at deeds)) → ReadsFrom store deeds
 joined sc values store [] agree reads = tt
 joined sc values store (deed ∷ deeds) agree reads =
     let a = agree.0 in
     let home = a.item.server.0 in
     let new = with_values values home (stored (values home) deed) in
     let is_home : is_at sc home deed ≡ true = at_home sc deed a.item home a.item_is ∙ eq-eqb home home refl in
-    let here : ReadsFrom (values home) (deed ∷ part_at sc home deeds) = at_server (values home) deed (part_at sc home deeds) (is_at sc home deed) is_home (reads home) in (
+    let here : ReadsFrom (values home) (deed ∷ share_at sc home deeds) = at_server (values home) deed (share_at sc home deeds) (is_at sc home deed) is_home (reads home) in (
       read_as deed.action (values home) store deed a.same here.0,
       joined sc new (stored store deed) deeds
           (each_as (AgreesAt sc values store) (AgreesAt sc new (stored store deed)) (λ other h. agrees_after sc values store deed other a.item a.item_is h) deeds agree.1)
-          (λ at. reads_after values deed (part_at sc at deeds) home at (home == at) refl
-          (subst (λ (b : Bool). ReadsFrom (values at) (cond b (deed ∷ part_at sc at deeds) (part_at sc at deeds))) (at_home sc deed a.item at a.item_is) (reads at))),
+          (λ at. reads_after values deed (share_at sc at deeds) home at (home == at) refl
+          (subst (λ (b : Bool). ReadsFrom (values at) (cond b (deed ∷ share_at sc at deeds) (share_at sc at deeds))) (at_home sc deed a.item at a.item_is) (reads at))),
     )

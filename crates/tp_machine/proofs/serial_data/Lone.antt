@@ -13,16 +13,16 @@ use Rattle.tp_model.specs.Facts.{record_of}
 use Rattle.tp_model.specs.Commits.{are_lone, is_commit_at, is_commit_what, is_lone, is_lone_what}
 use Rattle.tp_machine.specs.coord.State.{Coordinator}
 use Rattle.tp_machine.specs.Parts.{Part}
-use Rattle.tp_machine.specs.Machine.{Machine, State, Turn, concluded, coordinator_fact, done, noted, server_fact, log_with, refusal}
+use Rattle.tp_machine.specs.Machine.{Machine, State, Move, state_after, coordinator_fact, machine_after, facts_of, server_fact, log_with, refusal}
 use Rattle.tp_machine.specs.coord.Row.{coordinator_row, submit_row}
 use Rattle.tp_machine.specs.server.Row.{server_row}
-use Rattle.tp_machine.proofs.agreement.ServerActs.{told_by}
-use Rattle.tp_machine.proofs.agreement.CoordinatorActs.{told_of}
+use Rattle.tp_machine.proofs.agreement.ServerActs.{server_facts}
+use Rattle.tp_machine.proofs.agreement.CoordinatorActs.{coordinator_facts}
 use Rattle.tp_machine.proofs.agreement.End.{each_found, member_counted}
 use Rattle.tp_machine.proofs.basics.Facts.{ArePast, all_from_each, count_append}
 use Rattle.tp_machine.proofs.basics.Logs.{gained}
 use Rattle.tp_machine.proofs.trust.Built.{both_true}
-use Rattle.tp_machine.proofs.walks.Steps.{Cases, SaysIdle, done_by}
+use Rattle.tp_machine.proofs.walks.Steps.{Cases, SaysIdle, machine_after_by}
 use Rattle.tp_types.specs.Effect.{Effect}
 use Rattle.tp_machine.specs.Sound.{IsStepOf}
 
@@ -59,27 +59,27 @@ fewer true false us vs le = omega (arith, le)
 fewer false true us vs le = omega (arith, le)
 fewer false false us vs le = omega (arith, le)
 
--- what is noted has no more commits of a place than happened
-noted_most : (k place : ℕ) (happened : List What) → count_by (is_commit_at k) (noted place happened) ≤ commits happened
-noted_most k place [] = omega arith
-noted_most k place (w ∷ happened) =
-    let later = noted_most k place happened in
-    let whole : count_by (is_commit_at k) (noted place (w ∷ happened)) ≡ cond ((place == k) && is_commit_what w) 1 0 + count_by (is_commit_at k) (noted place happened) =
-    sum_by-cons (λ z. cond (is_commit_at k z) 1 0) (record { place = place; what = w }) (noted place happened) in
+-- the facts of a step have no more commits of a place than happened
+new_facts_most : (k place : ℕ) (happened : List What) → count_by (is_commit_at k) (facts_of place happened) ≤ commits happened
+new_facts_most k place [] = omega arith
+new_facts_most k place (w ∷ happened) =
+    let later = new_facts_most k place happened in
+    let whole : count_by (is_commit_at k) (facts_of place (w ∷ happened)) ≡ cond ((place == k) && is_commit_what w) 1 0 + count_by (is_commit_at k) (facts_of place happened) =
+    sum_by-cons (λ z. cond (is_commit_at k z) 1 0) (record { place = place; what = w }) (facts_of place happened) in
     let told : commits (w ∷ happened) ≡ cond (is_commit_what w) 1 0 + commits happened = sum_by-cons (λ z. cond (is_commit_what z) 1 0) w happened in
-    let here : cond ((place == k) && is_commit_what w) 1 0 + count_by (is_commit_at k) (noted place happened) ≤ cond (is_commit_what w) 1 0 + commits happened = fewer (place == k) (is_commit_what w) _ _ later in
+    let here : cond ((place == k) && is_commit_what w) 1 0 + count_by (is_commit_at k) (facts_of place happened) ≤ cond (is_commit_what w) 1 0 + commits happened = fewer (place == k) (is_commit_what w) _ _ later in
     omega (arith, whole, told, here)
 
 none_of : (a b : Bool) (rest : ℕ) → a ≡ false → rest ≡ 0 → cond (a && b) 1 0 + rest ≡ 0
 none_of true b rest e f = absurd (cc)
 none_of false b rest e f = omega (arith, f)
 
--- at another place than the step's nothing is noted
-noted_none : (k place : ℕ) (happened : List What) → (place == k) ≡ false → count_by (is_commit_at k) (noted place happened) ≡ 0
-noted_none k place [] e = refl
-noted_none k place (w ∷ happened) e =
-    sum_by-cons (λ z. cond (is_commit_at k z) 1 0) (record { place = place; what = w }) (noted place happened)
-    ∙ none_of (place == k) (is_commit_what w) _ e (noted_none k place happened e)
+-- at another place than the step's there are none
+new_facts_none : (k place : ℕ) (happened : List What) → (place == k) ≡ false → count_by (is_commit_at k) (facts_of place happened) ≡ 0
+new_facts_none k place [] e = refl
+new_facts_none k place (w ∷ happened) e =
+    sum_by-cons (λ z. cond (is_commit_at k z) 1 0) (record { place = place; what = w }) (facts_of place happened)
+    ∙ none_of (place == k) (is_commit_what w) _ e (new_facts_none k place happened e)
 
 apart : (one other : ℕ) → one < other → (one == other) ≡ false
 apart one other e = grind (arith, nat_tests)
@@ -90,26 +90,26 @@ past_none place [] h = refl
 past_none place (fact ∷ facts) h =
     sum_by-cons (λ z. cond (is_commit_at place z) 1 0) fact facts ∙ none_of (fact.place == place) (is_commit_what fact.what) _ (apart fact.place place h.0) (past_none place facts h.1)
 
-noted_lone : (place : ℕ) (facts : List Fact) (happened : List What) (k : ℕ) (b : Bool) → (place == k) ≡ b → ArePast place facts → AreLone facts → commits happened ≤ 1
-    → count_by (is_commit_at k) facts + count_by (is_commit_at k) (noted place happened) ≤ 1
-noted_lone place facts happened k true e past h one =
+new_facts_lone : (place : ℕ) (facts : List Fact) (happened : List What) (k : ℕ) (b : Bool) → (place == k) ≡ b → ArePast place facts → AreLone facts → commits happened ≤ 1
+    → count_by (is_commit_at k) facts + count_by (is_commit_at k) (facts_of place happened) ≤ 1
+new_facts_lone place facts happened k true e past h one =
     let none : count_by (is_commit_at k) facts ≡ 0 = subst (λ (p : ℕ). count_by (is_commit_at p) facts ≡ 0) (eqb-true place k e) (past_none place facts past) in
-    let most = noted_most k place happened in
+    let most = new_facts_most k place happened in
     omega (arith, none, most, one)
-noted_lone place facts happened k false e past h one =
-    let none = noted_none k place happened e in
+new_facts_lone place facts happened k false e past h one =
+    let none = new_facts_none k place happened e in
     let most = h k in
     omega (arith, none, most)
 
-concluded_lone : (w : State) (taken : Step) (turn : Turn) → ArePast (length w.steps) w.facts → AreLone w.facts → commits turn.happened ≤ 1 → AreLone (concluded w taken turn).facts
-concluded_lone w taken turn past h one k =
-    let sum = count_append (is_commit_at k) w.facts (noted (length w.steps) turn.happened) in
-    let most = noted_lone (length w.steps) w.facts turn.happened k (length w.steps == k) refl past h one in
+state_after_lone : (w : State) (taken : Step) (move : Move) → ArePast (length w.steps) w.facts → AreLone w.facts → commits move.happened ≤ 1 → AreLone (state_after w taken move).facts
+state_after_lone w taken move past h one k =
+    let sum = count_append (is_commit_at k) w.facts (facts_of (length w.steps) move.happened) in
+    let most = new_facts_lone (length w.steps) w.facts move.happened k (length w.steps == k) refl past h one in
     omega (arith, sum, most)
 
--- ---- what a turn has of commits
+-- ---- what a move has of commits
 
-by_none : (at : ServerId) (append : Option Record) → commits (told_by at append) ≤ 1
+by_none : (at : ServerId) (append : Option Record) → commits (server_facts at append) ≤ 1
 by_none at None = omega arith
 by_none at (Some (log.Settled s)) = omega arith
 by_none at (Some _) = omega arith
@@ -118,7 +118,7 @@ at_most : (b : Bool) → 0 + cond b 1 0 ≤ 1
 at_most true = omega arith
 at_most false = omega arith
 
-of_one : (append : Option Record) → commits (told_of append) ≤ 1
+of_one : (append : Option Record) → commits (coordinator_facts append) ≤ 1
 of_one None = omega arith
 of_one (Some (log.Decided d)) = at_most (is_some (record_of d.decision))
 of_one (Some _) = omega arith
@@ -137,7 +137,7 @@ idle_one (step.Deliver mail) happened e = subst (λ (hs : List What). commits hs
 idle_one (step.Lose mail) happened e = subst (λ (hs : List What). commits hs ≤ 1) (sym e) (omega arith)
 idle_one _ happened e = absurd e
 
-lone_cases : (sc : Scenario) (w : State) → Cases sc w (λ taken turn. commits turn.happened ≤ 1)
+lone_cases : (sc : Scenario) (w : State) → Cases sc w (λ taken move. commits move.happened ≤ 1)
 lone_cases sc w =
     record {
       idle = idle_one;
@@ -150,11 +150,11 @@ lone_cases sc w =
     }
 
 -- a step keeps that no place has two commits
-pub lone_done : (sc : Scenario) (m : Machine) (taken : Step) → IsStepOf sc taken → refusal m.state taken ≡ None → length m.state.actors.coordinators ≡ length sc.txns
-    → ArePast (length m.state.steps) m.state.facts → AreLone m.state.facts → AreLone (done sc m taken).state.facts
-lone_done sc m taken exists allowed count past h =
-    done_by sc m (λ taken turn. commits turn.happened ≤ 1) (λ w. AreLone w.facts) (lone_cases sc m.state) count
-    (λ taken turn one. concluded_lone m.state taken turn past h one) h taken exists allowed
+pub lone_next : (sc : Scenario) (m : Machine) (taken : Step) → IsStepOf sc taken → refusal m.state taken ≡ None → length m.state.actors.coordinators ≡ length sc.txns
+    → ArePast (length m.state.steps) m.state.facts → AreLone m.state.facts → AreLone (machine_after sc m taken).state.facts
+lone_next sc m taken exists allowed count past h =
+    machine_after_by sc m (λ taken move. commits move.happened ≤ 1) (λ w. AreLone w.facts) (lone_cases sc m.state) count
+    (λ taken move one. state_after_lone m.state taken move past h one) h taken exists allowed
 
 pub lone_opening : AreLone []
 lone_opening place = omega arith

@@ -12,15 +12,15 @@ use Rattle.tp_machine.specs.Sound.{Each}
 -- ---- registers
 
 -- the registers after a query with this value: a read keeps it
-abbrev pub noted : Query → ℤ → List ℤ → List ℤ
-noted (Read item into) value registers = slice_set registers into value
-noted (Write item expr) value registers = registers
+abbrev pub registers_with : Query → ℤ → List ℤ → List ℤ
+registers_with (Read item into) value registers = slice_set registers into value
+registers_with (Write item expr) value registers = registers
 
 -- the registers after the deeds of queries
 abbrev pub registers_from : List Query → List Deed → List ℤ → List ℤ
 registers_from [] deeds registers = registers
 registers_from (query ∷ queries) [] registers = registers
-registers_from (query ∷ queries) (deed ∷ deeds) registers = registers_from queries deeds (noted query deed.value registers)
+registers_from (query ∷ queries) (deed ∷ deeds) registers = registers_from queries deeds (registers_with query deed.value registers)
 
 -- the registers after a transaction's first deeds
 abbrev pub registers_after : Transaction → List Deed → List ℤ
@@ -69,7 +69,7 @@ abbrev pub RunsFrom : ℕ → List Query → List ℤ → List Deed → Type 0
 RunsFrom number queries registers [] = Unit {0}
 RunsFrom number [] registers (deed ∷ deeds) = ⊥
 RunsFrom number (query ∷ queries) registers (deed ∷ deeds) =
-    IsRun number query registers deed × RunsFrom (number + 1) queries (noted query deed.value registers) deeds
+    IsRun number query registers deed × RunsFrom (number + 1) queries (registers_with query deed.value registers) deeds
 
 -- the deeds are those of the transaction's first queries
 abbrev pub RunsSoFar : Transaction → List Deed → Type 0
@@ -90,8 +90,8 @@ runs_more number (other ∷ queries) registers [] query deed h e r =
 runs_more number (other ∷ queries) registers (first ∷ deeds) query deed h e r =
     let later : number + suc (length deeds) ≡ (number + 1) + length deeds = omega arith in (
       h.0,
-      runs_more (number + 1) queries (noted other first.value registers) deeds query deed h.1 e
-          (subst (λ (n : ℕ). IsRun n query (registers_from queries deeds (noted other first.value registers)) deed) later r),
+      runs_more (number + 1) queries (registers_with other first.value registers) deeds query deed h.1 e
+          (subst (λ (n : ℕ). IsRun n query (registers_from queries deeds (registers_with other first.value registers)) deed) later r),
     )
 
 -- the query after so many
@@ -138,7 +138,7 @@ deeds_of txn number (query ∷ queries) registers (deed ∷ deeds) h places =
         item_is = ap (λ (d : Deed). d.item) is;
         action_is = ap (λ (d : Deed). d.action) is;
       },
-      deeds_of txn (number + 1) queries (noted query deed.value registers) deeds h.1
+      deeds_of txn (number + 1) queries (registers_with query deed.value registers) deeds h.1
           (λ k. let later : number + suc k ≡ (number + 1) + k = omega arith in subst (λ (n : ℕ). slice_get queries k ≡ query_at txn n) later (places (suc k))),
     )
 
@@ -164,9 +164,9 @@ ran_at number (query ∷ queries) registers (first ∷ deeds) zero deed h e =
     record { query = query; query_is = refl; run = subst (λ (n : ℕ). IsRun n query registers deed) here (subst (IsRun number query registers) same h.0) }
 ran_at number (query ∷ queries) registers (first ∷ deeds) (suc k) deed h e =
     let later : (number + 1) + k ≡ number + suc k = omega arith in
-    let ran = ran_at (number + 1) queries (noted query first.value registers) deeds k deed h.1 e in
+    let ran = ran_at (number + 1) queries (registers_with query first.value registers) deeds k deed h.1 e in
     record {
       query = ran.query;
       query_is = ran.query_is;
-      run = subst (λ (n : ℕ). IsRun n ran.query (registers_from queries (take k deeds) (noted query first.value registers)) deed) later ran.run;
+      run = subst (λ (n : ℕ). IsRun n ran.query (registers_from queries (take k deeds) (registers_with query first.value registers)) deed) later ran.run;
     }

@@ -21,7 +21,7 @@ use Rattle.tp_machine.specs.coord.Row.{deed_of}
 use Rattle.tp_machine.specs.declared.server.Entry.{Entry}
 use Rattle.tp_machine.specs.server.Row.{applied, applied_deed, are_in_range, asked_item, begins, committed, entry_at, first_entry, is_in_range, is_in_range_of, is_write, plain_write, server_row, settles, votes}
 use Rattle.tp_machine.specs.server.State.{Server}
-use Rattle.tp_machine.proofs.agreement.ServerActs.{number_itself, told_by}
+use Rattle.tp_machine.proofs.agreement.ServerActs.{number_itself, server_facts}
 use Rattle.tp_machine.proofs.agreement.Logs.{LogPrepared, LogServed, outcome_settled}
 use Rattle.tp_machine.proofs.agreement.Server.{ServerAgrees, open_unsettled, prepared_entry}
 use Rattle.tp_machine.proofs.serial_data.Built.{IsAllPlanned, one_query_is_planned}
@@ -44,7 +44,7 @@ pub record ServerKeeps (sc : Scenario) (s : Server) (effect : Effect Server) : T
   pub state : EachPlaced (EntryPlanned sc s.server) effect.state.entries
   pub same_server : effect.state.server ≡ s.server
   pub forces : IfSome effect.reaction.append (RecordPlanned sc s.server)
-  pub values : effect.state.values ≡ fold (planned_what sc) s.values (told_by s.server effect.reaction.append)
+  pub values : effect.state.values ≡ fold (planned_what sc) s.values (server_facts s.server effect.reaction.append)
   pub letters : Each (LetterSerial sc) effect.reaction.letters
 
 -- an order to commit comes where the server has prepared, or settled so

@@ -7,7 +7,7 @@ use Rattle.tp_model.specs.Words.step
 use Rattle.tp_model.specs.Words.what
 use Rattle.tp_model.specs.Built.{is_built}
 use Rattle.tp_model.specs.SerialRun.{overlaid}
-use Rattle.tp_machine.specs.Machine.{Machine, State, acts_by, coordinator_acted, coordinator_fact, done, idles, is_part_submitted, opened_part, opening_state, refusal, server_acted, server_fact, with_age}
+use Rattle.tp_machine.specs.Machine.{Machine, State, acts_by, coordinator_fact, coordinator_move, idle_move, is_part_submitted, machine_after, opened_part, opening_state, refusal, server_fact, server_move, with_age}
 use Rattle.tp_machine.specs.Sound.{Each, EachPlaced, IsSound, IsSoundBody, IsStepOf, IsTxn}
 use Rattle.tp_machine.specs.coord.Opened as coord
 use Rattle.tp_machine.specs.coord.Opened.{idle}
@@ -18,26 +18,26 @@ use Rattle.tp_machine.specs.Parts.{Part}
 use Rattle.tp_machine.specs.server.State.{Server}
 use Rattle.tp_machine.specs.offices.Authority as office
 use Rattle.tp_machine.specs.server.Opened as server
-use Rattle.tp_machine.specs.server.Row.{prepared, server_row}
+use Rattle.tp_machine.specs.server.Row.{server_row}
 use Rattle.tp_machine.proofs.agreement.ServerActs.{served_here}
 use Rattle.tp_machine.proofs.agreement.Coordinator.{IsFirst}
 use Rattle.tp_machine.proofs.agreement.Logs.{DecidedAs, IsPrepared}
 use Rattle.tp_machine.proofs.agreement.Steps.{begun_lawful, coordinator_lawful, mail_rests, mail_sound, own_server, own_txn, server_agrees, server_lawful}
 use Rattle.tp_machine.proofs.agreement.World.{Agrees, BodyRests}
-use Rattle.tp_machine.proofs.walks.Steps.{Cases, IsCoordinatorUp, IsServerUp, SaysIdle, WasSent, done_by}
-use Rattle.tp_machine.proofs.serial_data.Acts.{coordinator_acts_serial, received_serial, row_serial, server_acts_serial, unmoved_serial}
+use Rattle.tp_machine.proofs.walks.Steps.{Cases, IsCoordinatorUp, IsServerUp, SaysIdle, WasSent, machine_after_by}
+use Rattle.tp_machine.proofs.serial_data.Acts.{coordinator_acts_serial, receipt_serial, row_serial, server_acts_serial, unmoved_serial}
 use Rattle.tp_machine.proofs.serial_data.Built.{opening_in_range}
 use Rattle.tp_machine.proofs.serial_data.Coordinator.{CoordinatorSerial, PhaseDeeds, coordinator_row_keeps, submit_row_keeps}
 use Rattle.tp_machine.proofs.serial_data.Plan.{BodySerial, LetterSerial, MailSerial, planned}
 use Rattle.tp_machine.proofs.serial_data.Server.{EntryPlanned, OrderServed, ServerKeeps, server_row_keeps}
-use Rattle.tp_machine.proofs.serial_data.World.{CoordinatorPartSerial, Serial, ServerPartSerial, ServerUpSerial, TurnSerial, concluded_serial}
+use Rattle.tp_machine.proofs.serial_data.World.{CoordinatorPartSerial, MoveSerial, Serial, ServerPartSerial, ServerUpSerial, state_after_serial}
 use Rattle.tp_machine.proofs.basics.Lists.{at_made, each_get, placed_none}
 
 -- ---- what is known of actors that are up
 
-idle_serial : (sc : Scenario) (w : State) → Serial sc w → (taken : Step) (happened : List What) → SaysIdle taken happened → TurnSerial sc w (idles w.actors happened)
-idle_serial sc w h (step.Deliver mail) happened e = subst (λ (hs : List What). TurnSerial sc w (idles w.actors hs)) (sym e) (unmoved_serial sc w [] [] h tt tt)
-idle_serial sc w h (step.Lose mail) happened e = subst (λ (hs : List What). TurnSerial sc w (idles w.actors hs)) (sym e) (unmoved_serial sc w (what.Lost mail ∷ []) [] h (tt, tt) tt)
+idle_serial : (sc : Scenario) (w : State) → Serial sc w → (taken : Step) (happened : List What) → SaysIdle taken happened → MoveSerial sc w (idle_move w.actors happened)
+idle_serial sc w h (step.Deliver mail) happened e = subst (λ (hs : List What). MoveSerial sc w (idle_move w.actors hs)) (sym e) (unmoved_serial sc w [] [] h tt tt)
+idle_serial sc w h (step.Lose mail) happened e = subst (λ (hs : List What). MoveSerial sc w (idle_move w.actors hs)) (sym e) (unmoved_serial sc w (what.Lost mail ∷ []) [] h (tt, tt) tt)
 idle_serial sc w h _ happened e = absurd e
 
 -- where an order to commit is delivered, the server has prepared, or settled so
@@ -50,9 +50,9 @@ order_served sc w at part from _ agrees found rests = tt
 mail_serial : (sc : Scenario) (w : State) (n : ℕ) (mail : Mail) (to : Actor) → Serial sc w → WasSent w n mail to → BodySerial sc mail.letter.body
 mail_serial sc w n mail to h sent = each_get (MailSerial sc) w.mails n mail h.mails sent.sent
 
-received_by_server : (sc : Scenario) (w : State) → is_built sc ≡ true → IsSound sc w → Agrees sc w → Serial sc w → (n : ℕ) (mail : Mail) (at : ServerId) (part : Part Server) (s : Server)
-    → WasSent w n mail (actor.Server at) → IsServerUp w at part s → TurnSerial sc w (server_acted w.actors at (acts_by (server_fact at) [] part.log (server_row sc s mail)))
-received_by_server sc w built sound agrees h n mail at part s sent up =
+receipt_by_server : (sc : Scenario) (w : State) → is_built sc ≡ true → IsSound sc w → Agrees sc w → Serial sc w → (n : ℕ) (mail : Mail) (at : ServerId) (part : Part Server) (s : Server)
+    → WasSent w n mail (actor.Server at) → IsServerUp w at part s → MoveSerial sc w (server_move w.actors at (acts_by (server_fact at) [] part.log (server_row sc s mail)))
+receipt_by_server sc w built sound agrees h n mail at part s sent up =
     let own : s.server ≡ at = own_server sc w at part s sound up.found up.up in
     let was : ServerUpSerial sc (overlaid sc w.facts) at s = subst (λ (u : Option Server). IfSome u (ServerUpSerial sc (overlaid sc w.facts) at)) up.up (h.servers at.0 part up.found).state in
     let keeps : ServerKeeps sc s (server_row sc s mail) =
@@ -61,16 +61,16 @@ received_by_server sc w built sound agrees h n mail at part s sent up =
     (order_served sc w at part mail.letter.from mail.letter.body agrees up.found (mail_rests sc w n mail (actor.Server at) agrees sent)) in
     let effect = server_row sc s mail in
     server_acts_serial sc w at part (Some effect.state) [] effect.reaction.append effect.reaction.letters agrees h up.found
-    (received_serial sc at part s effect up.up own keeps) (server_lawful sc w agrees n mail at part s sent up).rests
+    (receipt_serial sc at part s effect up.up own keeps) (server_lawful sc w agrees n mail at part s sent up).rests
 
 coordinator_serial : (sc : Scenario) (w : State) (txn : TxnId) (part : Part Coordinator) (c : Coordinator) → Serial sc w → IsCoordinatorUp w txn part c → c.txn ≡ txn → CoordinatorSerial sc c
 coordinator_serial sc w txn part c h up own =
     subst (λ (t : TxnId). PhaseDeeds c.phase c.deeds (planned sc t)) (sym own)
     (subst (λ (u : Option Coordinator). IfSome u (λ (d : Coordinator). PhaseDeeds d.phase d.deeds (planned sc txn))) up.up (h.coordinators txn.0 part up.found).state)
 
-received_by_coordinator : (sc : Scenario) (w : State) → is_built sc ≡ true → IsSound sc w → Agrees sc w → Serial sc w → (n : ℕ) (mail : Mail) (txn : TxnId) (part : Part Coordinator) (c : Coordinator)
-    → WasSent w n mail (actor.Coordinator txn) → IsCoordinatorUp w txn part c → TurnSerial sc w (coordinator_acted w.actors txn (acts_by coordinator_fact [] part.log (coordinator_row sc c mail)))
-received_by_coordinator sc w built sound agrees h n mail txn part c sent up =
+receipt_by_coordinator : (sc : Scenario) (w : State) → is_built sc ≡ true → IsSound sc w → Agrees sc w → Serial sc w → (n : ℕ) (mail : Mail) (txn : TxnId) (part : Part Coordinator) (c : Coordinator)
+    → WasSent w n mail (actor.Coordinator txn) → IsCoordinatorUp w txn part c → MoveSerial sc w (coordinator_move w.actors txn (acts_by coordinator_fact [] part.log (coordinator_row sc c mail)))
+receipt_by_coordinator sc w built sound agrees h n mail txn part c sent up =
     let own : c.txn ≡ txn = own_txn sc w txn part c sound up.found up.up in
     let effect = coordinator_row sc c mail in
     coordinator_acts_serial sc w txn part (Some effect.state) [] effect.reaction.append effect.reaction.letters built h (sound.actors_are.coordinators txn.0 part up.found).exists up.found
@@ -85,7 +85,7 @@ tells_serial sc authority (body.Ask ask) = (tt, tt)
 tells_serial sc authority _ = tt
 
 begun_serial : (sc : Scenario) (w : State) → is_built sc ≡ true → IsSound sc w → Agrees sc w → Serial sc w → (txn : TxnId) (part : Part Coordinator) (c : Coordinator) → IsTxn sc txn → IsCoordinatorUp w txn part c
-    → is_part_submitted (Some c) ≡ false → TurnSerial sc w (coordinator_acted w.actors txn (acts_by coordinator_fact (what.Submitted txn ∷ []) part.log (with_age (submit_row sc c) (length w.steps))))
+    → is_part_submitted (Some c) ≡ false → MoveSerial sc w (coordinator_move w.actors txn (acts_by coordinator_fact (what.Submitted txn ∷ []) part.log (with_age (submit_row sc c) (length w.steps))))
 begun_serial sc w built sound agrees h txn part c exists up new =
     let own : c.txn ≡ txn = own_txn sc w txn part c sound up.found up.up in
     let effect = with_age (submit_row sc c) (length w.steps) in
@@ -96,31 +96,31 @@ begun_serial sc w built sound agrees h txn part c exists up new =
 
 -- ---- steps
 
-serial_cases : (sc : Scenario) (w : State) → is_built sc ≡ true → IsSound sc w → Agrees sc w → Serial sc w → Cases sc w (λ taken turn. TurnSerial sc w turn)
+serial_cases : (sc : Scenario) (w : State) → is_built sc ≡ true → IsSound sc w → Agrees sc w → Serial sc w → Cases sc w (λ taken move. MoveSerial sc w move)
 serial_cases sc w built sound agrees h =
     record {
       idle = idle_serial sc w h;
-      server_received = λ n mail at part s sent up. received_by_server sc w built sound agrees h n mail at part s sent up;
-      coordinator_received = λ n mail txn part c sent up. received_by_coordinator sc w built sound agrees h n mail txn part c sent up;
+      server_received = λ n mail at part s sent up. receipt_by_server sc w built sound agrees h n mail at part s sent up;
+      coordinator_received = λ n mail txn part c sent up. receipt_by_coordinator sc w built sound agrees h n mail txn part c sent up;
       authority_told = λ n mail sent.
           unmoved_serial sc w [] (office.authority_row w.actors.authority mail).reaction.letters h tt (tells_serial sc w.actors.authority mail.letter.body);
       begun = λ txn part c exists up new. begun_serial sc w built sound agrees h txn part c exists up new;
     }
 
 -- a step that is not refused keeps data serial
-pub serial_done : (sc : Scenario) (m : Machine) (taken : Step) → is_built sc ≡ true → IsStepOf sc taken → refusal m.state taken ≡ None → IsSound sc m.state → Agrees sc m.state → Serial sc m.state
-    → Serial sc (done sc m taken).state
-serial_done sc m taken built exists allowed sound agrees h =
-    done_by sc m (λ taken turn. TurnSerial sc m.state turn) (Serial sc) (serial_cases sc m.state built sound agrees h) agrees.coordinator_count
-    (λ taken turn t. concluded_serial sc m.state taken turn built agrees h t) h taken exists allowed
+pub serial_next : (sc : Scenario) (m : Machine) (taken : Step) → is_built sc ≡ true → IsStepOf sc taken → refusal m.state taken ≡ None → IsSound sc m.state → Agrees sc m.state → Serial sc m.state
+    → Serial sc (machine_after sc m taken).state
+serial_next sc m taken built exists allowed sound agrees h =
+    machine_after_by sc m (λ taken move. MoveSerial sc m.state move) (Serial sc) (serial_cases sc m.state built sound agrees h) agrees.coordinator_count
+    (λ taken move t. state_after_serial sc m.state taken move built agrees h t) h taken exists allowed
 
 -- ---- before the first step
 
 idle_part_serial : (sc : Scenario) (k : ℕ) → CoordinatorPartSerial sc (record { 0 = k }) (opened_part (coord.idle sc (record { 0 = k })))
 idle_part_serial sc k = record { state = refl; decided = tt }
 
-opened_serial : (sc : Scenario) (k : ℕ) → ServerPartSerial sc (overlaid sc []) (record { 0 = k }) (opened_part (server.opened sc (record { 0 = k })))
-opened_serial sc k =
+opening_serial : (sc : Scenario) (k : ℕ) → ServerPartSerial sc (overlaid sc []) (record { 0 = k }) (opened_part (server.opening sc (record { 0 = k })))
+opening_serial sc k =
     record {
       state = record { entries = placed_none (EntryPlanned sc (record { 0 = k })) (length sc.txns); values = λ n item found here. refl };
       prepared = λ txn p e. absurd (cc);
@@ -134,9 +134,9 @@ serial_opening sc built =
           (at_made (λ (k : ℕ) (found : Part Coordinator). CoordinatorPartSerial sc (record { 0 = k }) found) (λ (k : ℕ). opened_part (coord.idle sc (record { 0 = k }))) 0 (length sc.txns)
           (λ k within. idle_part_serial sc k) n part e);
       servers = λ n part e. subst (λ (k : ℕ). ServerPartSerial sc (overlaid sc []) (record { 0 = k }) part) (omega arith)
-          (at_made (λ (k : ℕ) (found : Part Server). ServerPartSerial sc (overlaid sc []) (record { 0 = k }) found) (λ (k : ℕ). opened_part (server.opened sc (record { 0 = k }))) 0 (length sc.servers)
-          (λ k within. opened_serial sc k) n part e);
-      servers_up = λ n part e. at_made (λ (k : ℕ) (found : Part Server). is_some found.up ≡ true) (λ (k : ℕ). opened_part (server.opened sc (record { 0 = k }))) 0 (length sc.servers) (λ k within. refl) n part e;
+          (at_made (λ (k : ℕ) (found : Part Server). ServerPartSerial sc (overlaid sc []) (record { 0 = k }) found) (λ (k : ℕ). opened_part (server.opening sc (record { 0 = k }))) 0 (length sc.servers)
+          (λ k within. opening_serial sc k) n part e);
+      servers_up = λ n part e. at_made (λ (k : ℕ) (found : Part Server). is_some found.up ≡ true) (λ (k : ℕ). opened_part (server.opening sc (record { 0 = k }))) 0 (length sc.servers) (λ k within. refl) n part e;
       mails = tt;
       facts = tt;
       range = opening_in_range sc built;

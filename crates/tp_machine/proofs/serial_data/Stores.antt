@@ -110,20 +110,20 @@ store_elsewhere Own P deeds values store has none h =
       bare = λ item own bare. stored_none store deeds item (has item own) (none item own) ∙ h.bare item own bare;
     }
 
-settled_value : (Own : ℕ → Type 0) (P Q : List Deed → Type 0) (deeds part : List Deed) (values store : List ℤ) (item : ℕ) (last : Option ℤ) → Own item → HasPlace values item → Drops P deeds Q → last_write item part ≡ last_write item deeds
-    → StoreFits Own P values store → ((other : List Deed) → Q other → last_write item other ≡ None) → last_write item deeds ≡ last → slice_get store item ≡ slice_get (stored_all values part) item
-settled_value Own P Q deeds part values store item None own has drops same h none e =
+settled_value : (Own : ℕ → Type 0) (P Q : List Deed → Type 0) (deeds share : List Deed) (values store : List ℤ) (item : ℕ) (last : Option ℤ) → Own item → HasPlace values item → Drops P deeds Q → last_write item share ≡ last_write item deeds
+    → StoreFits Own P values store → ((other : List Deed) → Q other → last_write item other ≡ None) → last_write item deeds ≡ last → slice_get store item ≡ slice_get (stored_all values share) item
+settled_value Own P Q deeds share values store item None own has drops same h none e =
     let all : (other : List Deed) → P other → last_write item other ≡ None = λ other old.
     ⊎_elim (λ (q : Q other). none other q) (λ (is : other ≡ deeds). ap (last_write item) is ∙ e) (drops.among other old) in
-    h.bare item own all ∙ sym (stored_none values part item has (same ∙ e))
-settled_value Own P Q deeds part values store item (Some v) own has drops same h none e =
-    h.covered item deeds v own drops.was e ∙ sym (stored_some values part item v has (same ∙ e))
+    h.bare item own all ∙ sym (stored_none values share item has (same ∙ e))
+settled_value Own P Q deeds share values store item (Some v) own has drops same h none e =
+    h.covered item deeds v own drops.was e ∙ sym (stored_some values share item v has (same ∙ e))
 
--- a commit is settled at the server, which applies its part of the deeds
-pub store_settles : (Own : ℕ → Type 0) (P Q : List Deed → Type 0) (deeds part : List Deed) (values store : List ℤ) → ((item : ℕ) → Own item → HasPlace values item) → Drops P deeds Q
-    → ((item : ℕ) → Own item → last_write item part ≡ last_write item deeds) → StoreFits Own P values store → StoreFits Own Q (stored_all values part) store
-store_settles Own P Q deeds part values store has drops same h =
+-- a commit is settled at the server, which applies its share of the deeds
+pub store_settles : (Own : ℕ → Type 0) (P Q : List Deed → Type 0) (deeds share : List Deed) (values store : List ℤ) → ((item : ℕ) → Own item → HasPlace values item) → Drops P deeds Q
+    → ((item : ℕ) → Own item → last_write item share ≡ last_write item deeds) → StoreFits Own P values store → StoreFits Own Q (stored_all values share) store
+store_settles Own P Q deeds share values store has drops same h =
     record {
       covered = λ item other v own q e. h.covered item other v own (drops.fewer other q) e;
-      bare = λ item own none. settled_value Own P Q deeds part values store item (last_write item deeds) own (has item own) drops (same item own) h none refl;
+      bare = λ item own none. settled_value Own P Q deeds share values store item (last_write item deeds) own (has item own) drops (same item own) h none refl;
     }

@@ -19,14 +19,14 @@ use Rattle.tp_model.specs.Limits.{is_between}
 use Rattle.tp_model.specs.Policies.{same_action}
 use Rattle.tp_model.specs.SerialRun.{are_in_range, is_serial_commit, keeps_serial, keeps_serial_what, opening_store, overlaid, overlaid_at, overlaid_deeds, overlaid_fact, overlaid_what, same_deed, serial_run, store_of, stored, stored_all, stored_by, stored_fact, stored_what}
 use Rattle.tp_machine.specs.Logs.{decided_in, prepared_in}
-use Rattle.tp_machine.specs.Machine.{State, Turn, concluded, noted, posted}
+use Rattle.tp_machine.specs.Machine.{Move, State, facts_of, mails_of, state_after}
 use Rattle.tp_machine.specs.Sound.{Each, EachAt, EachPlaced, IsTxn}
 use Rattle.tp_machine.specs.coord.State.{Coordinator}
 use Rattle.tp_machine.specs.Parts.{Part}
 use Rattle.tp_machine.specs.server.State.{Server}
 use Rattle.tp_machine.proofs.basics.Ids.{number_itself}
 use Rattle.tp_machine.proofs.agreement.World.{Agrees, FactFollows}
-use Rattle.tp_machine.proofs.basics.Facts.{ArePast, Grows, before_past, grows_noted}
+use Rattle.tp_machine.proofs.basics.Facts.{ArePast, Grows, before_past, grows_with_facts}
 use Rattle.tp_machine.proofs.basics.Logs.{first_first, first_stays}
 use Rattle.tp_machine.proofs.serial_data.Built.{constants_run_anywhere}
 use Rattle.tp_machine.proofs.serial_data.Coordinator.{PhaseDeeds}
@@ -51,7 +51,7 @@ pub record ServerUpSerial (sc : Scenario) (store : List ℤ) (at : ServerId) (s 
   pub entries : EachPlaced (EntryPlanned sc at) s.entries
   pub values : HoldsValues sc at store s.values
 
--- a server that is up keeps to the plans, and what it has prepared on its log is its part of them and was tested
+-- a server that is up keeps to the plans, and what it has prepared on its log is its share of them and was tested
 pub record ServerPartSerial (sc : Scenario) (store : List ℤ) (at : ServerId) (part : Part Server) : Type 0 where
   pub state : IfSome part.up (ServerUpSerial sc store at)
   pub prepared : (txn : TxnId) (p : Prepared) → prepared_in txn part.log ≡ Some p → IsTested sc at txn p
@@ -71,7 +71,7 @@ pub record Serial (sc : Scenario) (w : State) : Type 0 where
   -- what all commits leave is in range
   pub range : are_in_range sc.items (store_of sc w.facts) ≡ true
 
--- ---- a turn
+-- ---- a move
 
 -- a commit that is settled has its record among the facts, with the planned deeds
 pub record IsPlannedCommit (sc : Scenario) (facts : List Fact) (txn : TxnId) : Type 0 where
@@ -85,17 +85,17 @@ WhatSerial sc facts (what.Decided txn (decision.Commit committed)) = IsTxn sc tx
 WhatSerial sc facts (what.Settled at txn outcome.Commit) = IsPlannedCommit sc facts txn
 WhatSerial sc facts _ = Unit {0}
 
--- the values that the settled commits of a turn leave
+-- the values that the settled commits of a move leave
 abbrev pub overlaid_by : Scenario → State → List What → List ℤ
 overlaid_by sc w happened = fold (planned_what sc) (overlaid sc w.facts) happened
 
 -- a step leaves actors, letters and facts that keep to the plans
-pub record TurnSerial (sc : Scenario) (w : State) (turn : Turn) : Type 0 where
-  pub coordinators : EachAt (λ (n : ℕ) (part : Part Coordinator). CoordinatorPartSerial sc (record { 0 = n }) part) turn.actors.coordinators
-  pub servers : EachAt (λ (n : ℕ) (part : Part Server). ServerPartSerial sc (overlaid_by sc w turn.happened) (record { 0 = n }) part) turn.actors.servers
-  pub servers_up : EachAt (λ (n : ℕ) (part : Part Server). is_some part.up ≡ true) turn.actors.servers
-  pub letters : Each (LetterSerial sc) turn.letters
-  pub happened : Each (WhatSerial sc w.facts) turn.happened
+pub record MoveSerial (sc : Scenario) (w : State) (move : Move) : Type 0 where
+  pub coordinators : EachAt (λ (n : ℕ) (part : Part Coordinator). CoordinatorPartSerial sc (record { 0 = n }) part) move.actors.coordinators
+  pub servers : EachAt (λ (n : ℕ) (part : Part Server). ServerPartSerial sc (overlaid_by sc w move.happened) (record { 0 = n }) part) move.actors.servers
+  pub servers_up : EachAt (λ (n : ℕ) (part : Part Server). is_some part.up ≡ true) move.actors.servers
+  pub letters : Each (LetterSerial sc) move.letters
+  pub happened : Each (WhatSerial sc w.facts) move.happened
 
 -- ---- ranges
 
@@ -170,10 +170,10 @@ new_serial sc old new place (what.Decided txn (decision.Commit committed)) built
     (planned_is_serial sc (store_of sc old) txn committed (slice_get sc.txns txn.0) built refl h.0 h.1.0 h.1.1 range)
 new_serial sc old new place _ built e range h = refl
 
-noted_serial : (sc : Scenario) (old new : List Fact) (place : ℕ) (happened : List What) → is_built sc ≡ true → before place new ≡ old → are_in_range sc.items (store_of sc old) ≡ true → Each (WhatSerial sc old) happened
-    → Each (λ (fact : Fact). keeps_serial sc new fact ≡ true) (noted place happened)
-noted_serial sc old new place [] built e range h = tt
-noted_serial sc old new place (w ∷ happened) built e range h = (new_serial sc old new place w built e range h.0, noted_serial sc old new place happened built e range h.1)
+new_facts_serial : (sc : Scenario) (old new : List Fact) (place : ℕ) (happened : List What) → is_built sc ≡ true → before place new ≡ old → are_in_range sc.items (store_of sc old) ≡ true → Each (WhatSerial sc old) happened
+    → Each (λ (fact : Fact). keeps_serial sc new fact ≡ true) (facts_of place happened)
+new_facts_serial sc old new place [] built e range h = tt
+new_facts_serial sc old new place (w ∷ happened) built e range h = (new_serial sc old new place w built e range h.0, new_facts_serial sc old new place happened built e range h.1)
 
 -- ---- the store
 
@@ -181,16 +181,16 @@ what_in_range : (sc : Scenario) (old : List Fact) (w : What) (store : List ℤ) 
 what_in_range sc old (what.Decided txn (decision.Commit committed)) store h range = plan_in_range sc txn committed.deeds store h.1.1 h.1.0 range
 what_in_range sc old _ store h range = range
 
-noted_in_range : (sc : Scenario) (old : List Fact) (place : ℕ) (happened : List What) (store : List ℤ) → Each (WhatSerial sc old) happened → are_in_range sc.items store ≡ true
-    → are_in_range sc.items (fold stored_fact store (noted place happened)) ≡ true
-noted_in_range sc old place [] store h range = range
-noted_in_range sc old place (w ∷ happened) store h range = noted_in_range sc old place happened (stored_what store w) h.1 (what_in_range sc old w store h.0 range)
+new_facts_in_range : (sc : Scenario) (old : List Fact) (place : ℕ) (happened : List What) (store : List ℤ) → Each (WhatSerial sc old) happened → are_in_range sc.items store ≡ true
+    → are_in_range sc.items (fold stored_fact store (facts_of place happened)) ≡ true
+new_facts_in_range sc old place [] store h range = range
+new_facts_in_range sc old place (w ∷ happened) store h range = new_facts_in_range sc old place happened (stored_what store w) h.1 (what_in_range sc old w store h.0 range)
 
 store_in_range : (sc : Scenario) (old : List Fact) (place : ℕ) (happened : List What) → Each (WhatSerial sc old) happened → are_in_range sc.items (store_of sc old) ≡ true
-    → are_in_range sc.items (store_of sc (old ++ noted place happened)) ≡ true
+    → are_in_range sc.items (store_of sc (old ++ facts_of place happened)) ≡ true
 store_in_range sc old place happened h range =
-    subst (λ (store : List ℤ). are_in_range sc.items store ≡ true) (sym (fold-append stored_fact (opening_store sc) old (noted place happened)))
-    (noted_in_range sc old place happened (store_of sc old) h range)
+    subst (λ (store : List ℤ). are_in_range sc.items store ≡ true) (sym (fold-append stored_fact (opening_store sc) old (facts_of place happened)))
+    (new_facts_in_range sc old place happened (store_of sc old) h range)
 
 -- ---- what is settled
 
@@ -248,17 +248,17 @@ overlaid_new sc facts more (what.Settled at txn outcome.Commit) h store =
     ∙ ap (fold (overlaid_at sc at) store) h.deeds
 overlaid_new sc facts more _ h store = refl
 
-overlaid_noted : (sc : Scenario) (facts more : List Fact) (place : ℕ) (happened : List What) (store : List ℤ) → Each (WhatSerial sc facts) happened
-    → fold (overlaid_fact sc (facts ++ more)) store (noted place happened) ≡ fold (planned_what sc) store happened
-overlaid_noted sc facts more place [] store h = refl
-overlaid_noted sc facts more place (w ∷ happened) store h =
-    overlaid_noted sc facts more place happened (overlaid_what sc (facts ++ more) store w) h.1
+overlaid_with_facts : (sc : Scenario) (facts more : List Fact) (place : ℕ) (happened : List What) (store : List ℤ) → Each (WhatSerial sc facts) happened
+    → fold (overlaid_fact sc (facts ++ more)) store (facts_of place happened) ≡ fold (planned_what sc) store happened
+overlaid_with_facts sc facts more place [] store h = refl
+overlaid_with_facts sc facts more place (w ∷ happened) store h =
+    overlaid_with_facts sc facts more place happened (overlaid_what sc (facts ++ more) store w) h.1
     ∙ ap (λ (b : List ℤ). fold (planned_what sc) b happened) (overlaid_new sc facts more w h.0 store)
 
 -- what settled commits leave after a step
-overlaid_turn : (sc : Scenario) (w : State) (place : ℕ) (happened : List What) → Agrees sc w → Each (WhatSerial sc w.facts) happened → overlaid_by sc w happened ≡ overlaid sc (w.facts ++ noted place happened)
-overlaid_turn sc w place happened agrees h =
-    let more = noted place happened in
+overlaid_move : (sc : Scenario) (w : State) (place : ℕ) (happened : List What) → Agrees sc w → Each (WhatSerial sc w.facts) happened → overlaid_by sc w happened ≡ overlaid sc (w.facts ++ facts_of place happened)
+overlaid_move sc w place happened agrees h =
+    let more = facts_of place happened in
     let committed : Each (λ (fact : Fact). IsCommitted w.facts fact.what) w.facts =
     each_as (FactFollows sc w.facts) (λ (fact : Fact). IsCommitted w.facts fact.what) (λ fact follows. fact_committed sc w.facts fact.place fact.what follows) w.facts agrees.facts in
     let same : fold (overlaid_fact sc (w.facts ++ more)) (opening_store sc) w.facts ≡ overlaid sc w.facts =
@@ -266,29 +266,29 @@ overlaid_turn sc w place happened agrees h =
     (each_as (λ (fact : Fact). IsCommitted w.facts fact.what) (λ (fact : Fact). (store : List ℤ) → overlaid_fact sc (w.facts ++ more) store fact ≡ overlaid_fact sc w.facts store fact)
     (λ fact c. overlaid_same sc w.facts more fact.what c) w.facts committed) (opening_store sc) in
     sym (fold-append (overlaid_fact sc (w.facts ++ more)) (opening_store sc) w.facts more
-    ∙ (overlaid_noted sc w.facts more place happened (fold (overlaid_fact sc (w.facts ++ more)) (opening_store sc) w.facts) h
+    ∙ (overlaid_with_facts sc w.facts more place happened (fold (overlaid_fact sc (w.facts ++ more)) (opening_store sc) w.facts) h
     ∙ ap (λ (store : List ℤ). fold (planned_what sc) store happened) same))
 
 -- ---- a step
 
-posted_serial : (sc : Scenario) (place number : ℕ) (letters : List Letter) → Each (LetterSerial sc) letters → Each (MailSerial sc) (posted place number letters)
-posted_serial sc place number [] h = tt
-posted_serial sc place number (letter ∷ letters) h = (h.0, posted_serial sc place (number + 1) letters h.1)
+new_mails_serial : (sc : Scenario) (place number : ℕ) (letters : List Letter) → Each (LetterSerial sc) letters → Each (MailSerial sc) (mails_of place number letters)
+new_mails_serial sc place number [] h = tt
+new_mails_serial sc place number (letter ∷ letters) h = (h.0, new_mails_serial sc place (number + 1) letters h.1)
 
--- a step whose turn is serial leaves a world that is
-pub concluded_serial : (sc : Scenario) (w : State) (taken : Step) (turn : Turn) → is_built sc ≡ true → Agrees sc w → Serial sc w → TurnSerial sc w turn → Serial sc (concluded w taken turn)
-concluded_serial sc w taken turn built agrees h t =
+-- a step whose move is serial leaves a world that is
+pub state_after_serial : (sc : Scenario) (w : State) (taken : Step) (move : Move) → is_built sc ≡ true → Agrees sc w → Serial sc w → MoveSerial sc w move → Serial sc (state_after w taken move)
+state_after_serial sc w taken move built agrees h t =
     let place = length w.steps in
-    let now = w.facts ++ noted place turn.happened in
-    let g : Grows w.facts now place = grows_noted w.facts place turn.happened in
+    let now = w.facts ++ facts_of place move.happened in
+    let g : Grows w.facts now place = grows_with_facts w.facts place move.happened in
     let all : before place now ≡ w.facts = g.same place (omega arith) ∙ before_past place w.facts agrees.past in
     record {
       coordinators = t.coordinators;
-      servers = λ n part e. subst (λ (store : List ℤ). ServerPartSerial sc store (record { 0 = n }) part) (overlaid_turn sc w place turn.happened agrees t.happened) (t.servers n part e);
+      servers = λ n part e. subst (λ (store : List ℤ). ServerPartSerial sc store (record { 0 = n }) part) (overlaid_move sc w place move.happened agrees t.happened) (t.servers n part e);
       servers_up = t.servers_up;
-      mails = each_append (MailSerial sc) w.mails (posted place (length w.mails) turn.letters) h.mails (posted_serial sc place (length w.mails) turn.letters t.letters);
-      facts = each_append (λ (fact : Fact). keeps_serial sc now fact ≡ true) w.facts (noted place turn.happened)
+      mails = each_append (MailSerial sc) w.mails (mails_of place (length w.mails) move.letters) h.mails (new_mails_serial sc place (length w.mails) move.letters t.letters);
+      facts = each_append (λ (fact : Fact). keeps_serial sc now fact ≡ true) w.facts (facts_of place move.happened)
           (facts_stay sc w.facts now place w.facts g agrees.past h.facts)
-          (noted_serial sc w.facts now place turn.happened built all h.range t.happened);
-      range = store_in_range sc w.facts place turn.happened t.happened h.range;
+          (new_facts_serial sc w.facts now place move.happened built all h.range t.happened);
+      range = store_in_range sc w.facts place move.happened t.happened h.range;
     }

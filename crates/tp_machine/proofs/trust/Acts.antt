@@ -8,7 +8,7 @@ use Rattle.tp_model.specs.Ids.{same_txn}
 use Rattle.tp_model.specs.Words.{AskRequest, Body, Fact, Letter, Record, Scenario, ServerId, TxnId, What}
 use Rattle.tp_model.specs.Words.body
 use Rattle.tp_model.specs.Words.log
-use Rattle.tp_machine.specs.Machine.{State, acts, coordinator_acted, coordinator_fact, log_with, server_acted, server_fact}
+use Rattle.tp_machine.specs.Machine.{State, acts, coordinator_fact, coordinator_move, log_with, server_fact, server_move}
 use Rattle.tp_machine.specs.Parts.{Part}
 use Rattle.tp_machine.specs.Sound.{Each}
 use Rattle.tp_machine.specs.coord.State.{Coordinator}
@@ -16,8 +16,8 @@ use Rattle.tp_machine.specs.declared.coord.Phase.TheVariants as phase
 use Rattle.tp_machine.specs.declared.coord.Phase.{Phase}
 use Rattle.tp_machine.specs.offices.Authority as office
 use Rattle.tp_machine.specs.server.State.{Server}
-use Rattle.tp_machine.proofs.agreement.ServerActs.{number_itself, told_by}
-use Rattle.tp_machine.proofs.agreement.CoordinatorActs.{told_of}
+use Rattle.tp_machine.proofs.agreement.ServerActs.{number_itself, server_facts}
+use Rattle.tp_machine.proofs.agreement.CoordinatorActs.{coordinator_facts}
 use Rattle.tp_machine.proofs.agreement.World.{Agrees}
 use Rattle.tp_machine.proofs.basics.Facts.{ArePast, before_past}
 use Rattle.tp_machine.proofs.basics.Logs.{gained, look_set}
@@ -27,7 +27,7 @@ use Rattle.tp_machine.proofs.trust.Fit.{AuthorityFits, BodyFits, IsSubmitted, La
 use Rattle.tp_machine.proofs.trust.Kept.{IsTrusted, part_as, part_keeps, trusted_stays}
 use Rattle.tp_machine.proofs.trust.Server.{ServerTrusts}
 use Rattle.tp_machine.proofs.trust.Turns.{Answers, IsAbove, IsClosed, Stamp, TellNow, TurnFits, stamp_of}
-use Rattle.tp_machine.proofs.trust.World.{BodyTimely, CoordinatorPartFits, IsStill, MailTimely, ServerPartFits, StampFits, Timely, Trusts, TurnTrusts, WhatFits, authority_stays, coordinator_up_stays, decision_stays, facts_after, later_noted, server_part_stays, up_at, up_of}
+use Rattle.tp_machine.proofs.trust.World.{BodyTimely, CoordinatorPartFits, IsStill, MailTimely, MoveTrusts, ServerPartFits, StampFits, Timely, Trusts, WhatFits, authority_stays, coordinator_up_stays, decision_stays, facts_after, later_with_facts, server_part_stays, up_at, up_of}
 
 -- ---- what a step says by itself
 
@@ -38,15 +38,15 @@ pub record SaysFit (sc : Scenario) (place : ℕ) (own : List What) : Type 0 wher
 
 -- ---- no actor acts
 
--- a turn in which the servers and the coordinators stay
+-- a move in which the servers and the coordinators stay
 pub unmoved_trusts : (sc : Scenario) (w : State) (happened : List What) (letters : List Letter) → ArePast (length w.steps) w.facts → Trusts sc w → SaysFit sc (length w.steps) happened
     → Each (λ (letter : Letter). BodyFits sc (facts_after w happened) (length w.steps + 1) (length w.steps) letter.body) letters
     → Each (λ (letter : Letter). BodyTimely sc w.actors.coordinators (length w.steps) letter.body) letters
-    → TurnTrusts sc w (record { actors = w.actors; happened = happened; letters = letters })
+    → MoveTrusts sc w (record { actors = w.actors; happened = happened; letters = letters })
 unmoved_trusts sc w happened letters past h own fit timely =
     let place = length w.steps in
     let T = Timely sc w.actors.coordinators in
-    let l = later_noted w happened (place + 1) (omega arith) in
+    let l = later_with_facts w happened (place + 1) (omega arith) in
     record {
       authority = authority_stays sc w happened w.actors.authority past own.still h.authority;
       servers = λ n part e. server_part_stays sc w.facts (facts_after w happened) place (place + 1) T T part l (λ said t. t) (h.servers n part e);
@@ -59,15 +59,15 @@ unmoved_trusts sc w happened letters past h own fit timely =
 
 -- ---- a server acts
 
-told_by_still : (at : ServerId) (append : Option Record) → Each IsStill (told_by at append)
-told_by_still at None = tt
-told_by_still at (Some (log.Settled s)) = (tt, tt)
-told_by_still at (Some _) = tt
+server_facts_still : (at : ServerId) (append : Option Record) → Each IsStill (server_facts at append)
+server_facts_still at None = tt
+server_facts_still at (Some (log.Settled s)) = (tt, tt)
+server_facts_still at (Some _) = tt
 
-told_by_fit : (sc : Scenario) (facts : List Fact) (place : ℕ) (at : ServerId) (append : Option Record) → Each (WhatFits sc facts place) (told_by at append)
-told_by_fit sc facts place at None = tt
-told_by_fit sc facts place at (Some (log.Settled s)) = (tt, tt)
-told_by_fit sc facts place at (Some _) = tt
+server_facts_fit : (sc : Scenario) (facts : List Fact) (place : ℕ) (at : ServerId) (append : Option Record) → Each (WhatFits sc facts place) (server_facts at append)
+server_facts_fit sc facts place at None = tt
+server_facts_fit sc facts place at (Some (log.Settled s)) = (tt, tt)
+server_facts_fit sc facts place at (Some _) = tt
 
 -- a reply is timely where its request is, at any place
 reply_up : (sc : Scenario) (sent place : ℕ) (request reply : Body) (stamped : Stamp) (a : Answers request reply stamped) (up : Option Coordinator) → IfSome up (TurnFits sc sent a.asked.turn request)
@@ -99,22 +99,22 @@ letters_stay : (sc : Scenario) (old new : List Fact) (low high sent : ℕ) (lett
 letters_stay sc old new low high sent letters l h =
     each_as (λ (letter : Letter). BodyFits sc old low sent letter.body) (λ (letter : Letter). BodyFits sc new high sent letter.body) (λ letter f. body_stays sc old new low high sent letter.body l f) letters h
 
--- the turn of a server whose act fits
+-- the move of a server whose act fits
 pub server_acts_trusts : (sc : Scenario) (w : State) (at : ServerId) (part : Part Server) (own : List What) (now : Option Server) (append : Option Record) (letters : List Letter) → ArePast (length w.steps) w.facts
     → Trusts sc w → slice_get w.actors.servers at.0 ≡ Some part → SaysFit sc (length w.steps) own → ServerTrusts sc w.facts (length w.steps) (Timely sc w.actors.coordinators) now append letters
-    → TurnTrusts sc w (server_acted w.actors at (acts (server_fact at) own part.log now (log_with part.log append) letters))
+    → MoveTrusts sc w (server_move w.actors at (acts (server_fact at) own part.log now (log_with part.log append) letters))
 server_acts_trusts sc w at part own now append letters past h found says t =
     let place = length w.steps in
     let T = Timely sc w.actors.coordinators in
     let kept = log_with part.log append in
     let happened = own ++ flat_map (server_fact at) (drop (length part.log) kept) in
-    let tells : happened ≡ own ++ told_by at append = ap (λ (xs : List What). own ++ xs) (gained (server_fact at) part.log append) in
+    let tells : happened ≡ own ++ server_facts at append = ap (λ (xs : List What). own ++ xs) (gained (server_fact at) part.log append) in
     let after = facts_after w happened in
-    let l = later_noted w happened (place + 1) (omega arith) in
+    let l = later_with_facts w happened (place + 1) (omega arith) in
     let next : Part Server = record { up = now; log = kept } in
     let here = h.servers at.0 part found in
     record {
-      authority = authority_stays sc w happened w.actors.authority past (subst (Each IsStill) (sym tells) (each_append IsStill own (told_by at append) says.still (told_by_still at append))) h.authority;
+      authority = authority_stays sc w happened w.actors.authority past (subst (Each IsStill) (sym tells) (each_append IsStill own (server_facts at append) says.still (server_facts_still at append))) h.authority;
       servers = at_set (λ (n : ℕ) (p : Part Server). ServerPartFits sc after (place + 1) T p) w.actors.servers at.0 next
           (λ n p e. server_part_stays sc w.facts after place (place + 1) T T p l (λ said k. k) (h.servers n p e))
           (record {
@@ -126,20 +126,20 @@ server_acts_trusts sc w at part own now append letters past h found says t =
       letters = letters_stay sc w.facts after place (place + 1) place letters l t.says;
       old_timely = h.mails_timely;
       new_timely = replies_timely sc w.actors.coordinators place letters t.timely;
-      facts = subst (Each (WhatFits sc after place)) (sym tells) (each_append (WhatFits sc after place) own (told_by at append) (says.fit after) (told_by_fit sc after place at append));
+      facts = subst (Each (WhatFits sc after place)) (sym tells) (each_append (WhatFits sc after place) own (server_facts at append) (says.fit after) (server_facts_fit sc after place at append));
     }
 
 -- ---- a coordinator acts
 
-told_of_still : (append : Option Record) → Each IsStill (told_of append)
-told_of_still None = tt
-told_of_still (Some (log.Decided d)) = (tt, tt)
-told_of_still (Some _) = tt
+coordinator_facts_still : (append : Option Record) → Each IsStill (coordinator_facts append)
+coordinator_facts_still None = tt
+coordinator_facts_still (Some (log.Decided d)) = (tt, tt)
+coordinator_facts_still (Some _) = tt
 
-told_of_fit : (sc : Scenario) (old new : List Fact) (place : ℕ) (append : Option Record) → Later old new place place → IfSome append (RecordDecides sc old place) → Each (WhatFits sc new place) (told_of append)
-told_of_fit sc old new place None l h = tt
-told_of_fit sc old new place (Some (log.Decided d)) l h = (decision_stays sc old new place place d.txn d.decision l h, tt)
-told_of_fit sc old new place (Some _) l h = tt
+coordinator_facts_fit : (sc : Scenario) (old new : List Fact) (place : ℕ) (append : Option Record) → Later old new place place → IfSome append (RecordDecides sc old place) → Each (WhatFits sc new place) (coordinator_facts append)
+coordinator_facts_fit sc old new place None l h = tt
+coordinator_facts_fit sc old new place (Some (log.Decided d)) l h = (decision_stays sc old new place place d.txn d.decision l h, tt)
+coordinator_facts_fit sc old new place (Some _) l h = tt
 
 -- a mail of another transaction stays timely, and one of this one by what the act keeps
 stamp_stays : (sc : Scenario) (coordinators : List (Part Coordinator)) (txn : TxnId) (part next : Part Coordinator) (sent : ℕ) (said : Body) (stamped : Stamp) (b : Bool) → same_txn txn stamped.txn ≡ b
@@ -179,29 +179,29 @@ sent_timely sc coordinators txn now sent said e h =
 -- the act of a coordinator, with what the step says by itself; what it rests on is said of the facts after it
 pub record ActTrusts (sc : Scenario) (w : State) (txn : TxnId) (was now : Option Coordinator) (own : List What) (append : Option Record) (sent : List Letter) : Type 0 where
   pub says : SaysFit sc (length w.steps) own
-  pub fits : (facts : List Fact) → facts ≡ facts_after w (own ++ told_of append) → IfSome now (CoordinatorFits sc facts (length w.steps + 1))
+  pub fits : (facts : List Fact) → facts ≡ facts_after w (own ++ coordinator_facts append) → IfSome now (CoordinatorFits sc facts (length w.steps + 1))
   pub decides : IfSome append (RecordDecides sc w.facts (length w.steps))
-  pub letters : (facts : List Fact) → facts ≡ facts_after w (own ++ told_of append) → Each (λ (letter : Letter). BodyFits sc facts (length w.steps + 1) (length w.steps) letter.body) sent
+  pub letters : (facts : List Fact) → facts ≡ facts_after w (own ++ coordinator_facts append) → Each (λ (letter : Letter). BodyFits sc facts (length w.steps + 1) (length w.steps) letter.body) sent
   pub timely : Each (LetterOfTurn sc txn now (length w.steps)) sent
   pub old : KeepsTurns sc was now
 
--- the turn of a coordinator whose act fits
+-- the move of a coordinator whose act fits
 pub coordinator_acts_trusts : (sc : Scenario) (w : State) (txn : TxnId) (part : Part Coordinator) (own : List What) (now : Option Coordinator) (append : Option Record) (letters : List Letter)
     → ArePast (length w.steps) w.facts → Trusts sc w → slice_get w.actors.coordinators txn.0 ≡ Some part → ActTrusts sc w txn part.up now own append letters
-    → TurnTrusts sc w (coordinator_acted w.actors txn (acts coordinator_fact own part.log now (log_with part.log append) letters))
+    → MoveTrusts sc w (coordinator_move w.actors txn (acts coordinator_fact own part.log now (log_with part.log append) letters))
 coordinator_acts_trusts sc w txn part own now append letters past h found t =
     let place = length w.steps in
     let happened = own ++ flat_map coordinator_fact (drop (length part.log) (log_with part.log append)) in
-    let tells : happened ≡ own ++ told_of append = ap (λ (xs : List What). own ++ xs) (gained coordinator_fact part.log append) in
+    let tells : happened ≡ own ++ coordinator_facts append = ap (λ (xs : List What). own ++ xs) (gained coordinator_fact part.log append) in
     let after = facts_after w happened in
-    let after_is : after ≡ facts_after w (own ++ told_of append) = ap (facts_after w) tells in
-    let l = later_noted w happened (place + 1) (omega arith) in
+    let after_is : after ≡ facts_after w (own ++ coordinator_facts append) = ap (facts_after w) tells in
+    let l = later_with_facts w happened (place + 1) (omega arith) in
     let next : Part Coordinator = record { up = now; log = log_with part.log append } in
     let coordinators = slice_set w.actors.coordinators txn.0 next in
     let still : (sent : ℕ) (said : Body) → BodyTimely sc w.actors.coordinators sent said → BodyTimely sc coordinators sent said =
     λ sent said k. body_still sc w.actors.coordinators txn part next sent said found t.old k in
     record {
-      authority = authority_stays sc w happened w.actors.authority past (subst (Each IsStill) (sym tells) (each_append IsStill own (told_of append) t.says.still (told_of_still append))) h.authority;
+      authority = authority_stays sc w happened w.actors.authority past (subst (Each IsStill) (sym tells) (each_append IsStill own (coordinator_facts append) t.says.still (coordinator_facts_still append))) h.authority;
       servers = λ n p e. server_part_stays sc w.facts after place (place + 1) (Timely sc w.actors.coordinators) (Timely sc coordinators) p l (λ said k sent. still sent said (k sent)) (h.servers n p e);
       coordinators = at_set (λ (n : ℕ) (p : Part Coordinator). CoordinatorPartFits sc after (place + 1) p) w.actors.coordinators txn.0 next
           (λ n p e. coordinator_up_stays sc w.facts after place (place + 1) p.up l (h.coordinators n p e)) (t.fits after after_is);
@@ -210,7 +210,7 @@ coordinator_acts_trusts sc w txn part own now append letters past h found t =
       new_timely = each_as (LetterOfTurn sc txn now place) (λ (letter : Letter). BodyTimely sc coordinators place letter.body)
           (λ letter k. sent_timely sc coordinators txn now place letter.body (itself_up w.actors.coordinators txn part next found) k) letters t.timely;
       facts = subst (Each (WhatFits sc after place)) (sym tells)
-          (each_append (WhatFits sc after place) own (told_of append) (t.says.fit after) (told_of_fit sc w.facts after place append (later_noted w happened place (omega arith)) t.decides));
+          (each_append (WhatFits sc after place) own (coordinator_facts append) (t.says.fit after) (coordinator_facts_fit sc w.facts after place append (later_with_facts w happened place (omega arith)) t.decides));
     }
 
 -- an act that rests on the facts before it alone
@@ -218,8 +218,8 @@ pub act_trusts : (sc : Scenario) (w : State) (txn : TxnId) (was now : Option Coo
     → CoordinatorTrusts sc w.facts (length w.steps) txn was now append letters → ActTrusts sc w txn was now own append letters
 act_trusts sc w txn was now own append letters says t =
     let place = length w.steps in
-    let later : (facts : List Fact) → facts ≡ facts_after w (own ++ told_of append) → Later w.facts facts place (place + 1) =
-    λ facts e. subst (λ (fs : List Fact). Later w.facts fs place (place + 1)) (sym e) (later_noted w (own ++ told_of append) (place + 1) (omega arith)) in
+    let later : (facts : List Fact) → facts ≡ facts_after w (own ++ coordinator_facts append) → Later w.facts facts place (place + 1) =
+    λ facts e. subst (λ (fs : List Fact). Later w.facts fs place (place + 1)) (sym e) (later_with_facts w (own ++ coordinator_facts append) (place + 1) (omega arith)) in
     record {
       says = says;
       fits = λ facts e. coordinator_up_stays sc w.facts facts place (place + 1) now (later facts e) t.fits;
@@ -236,7 +236,7 @@ tell_fits : (sc : Scenario) (w : State) (ask : AskRequest) (happened : List What
     → StapleFits sc (facts_after w happened) (length w.steps + 1) ask.txn (record { place = length w.steps; clock = w.actors.authority.clock; revoked = w.actors.authority.revoked })
 tell_fits sc w ask happened a h submitted =
     let place = length w.steps in
-    let l = later_noted w happened (place + 1) (omega arith) in
+    let l = later_with_facts w happened (place + 1) (omega arith) in
     let same : before place (facts_after w happened) ≡ before place w.facts = l.grows.same place (omega arith) in
     record {
       clock_is = h.clock_is ∙ ap (λ (earlier : List Fact). sc.clock + sum_by ticks earlier) (sym same);

@@ -9,7 +9,7 @@ use Rattle.tp_model.specs.Words.log
 use Rattle.tp_model.specs.Words.outcome
 use Rattle.tp_machine.specs.Machine.{with_age}
 use Rattle.tp_machine.specs.Sound.{Each, IsSoundBody, query_in}
-use Rattle.tp_machine.specs.coord.Row.{are_agreed, asks, commits, coordinator_row, is_begun, next_turn, placed, prepare_letter, prepares, ran, requests, sends_first, staple_of, submit_row, with_reply, without}
+use Rattle.tp_machine.specs.coord.Row.{are_agreed, asks, commits, coordinator_row, coordinator_with_age, is_begun, next_turn, prepare_letter, prepares, requests, sends_first, staple_of, submit_row, with_deed, with_reply, without}
 use Rattle.tp_machine.specs.coord.State.{Coordinator}
 use Rattle.tp_machine.specs.declared.coord.Phase.TheVariants as phase
 use Rattle.tp_machine.specs.declared.coord.Phase.{Phase}
@@ -82,7 +82,7 @@ turn_low : (sc : Scenario) (facts : List Fact) (place : ℕ) (c : Coordinator) (
 turn_low sc facts place c awaited h e = subst (λ (p : Phase). c.turn ≤ ceiling_in (query_count sc c.txn) p) e h.turn
 
 ran_last_trusts : (sc : Scenario) (facts : List Fact) (place : ℕ) (c : Coordinator) (done : DoneReply) (asked : Query) (server : ServerId) (value : ℤ) → AreFew sc → CoordinatorFits sc facts place c
-    → c.phase ≡ phase.Querying done.query None → query_in sc c.txn done.query ≡ Some asked → RowTrusts sc facts place c (asks (ran c server done asked value))
+    → c.phase ≡ phase.Querying done.query None → query_in sc c.txn done.query ≡ Some asked → RowTrusts sc facts place c (asks (with_deed c server done asked value))
 ran_last_trusts sc facts place c done asked server value few h e q =
     let count = query_count sc c.txn in
     let submitted : IsSubmitted facts c.txn = (phase_fits sc facts place c (phase.Querying done.query None) h e).0 in
@@ -100,7 +100,7 @@ ran_last_trusts sc facts place c done asked server value few h e q =
       decides = tt;
       says = λ sent. (submitted, tt);
       timely = λ sent. (record { own = refl; timely = λ unsure. record { past = omega arith; now = λ same. tt } }, tt);
-      old = λ sent turn said t. raised sc c (asks (ran c server done asked value)).state sent turn said undecided rises t;
+      old = λ sent turn said t. raised sc c (asks (with_deed c server done asked value)).state sent turn said undecided rises t;
     }
 
 -- ---- Tell
@@ -263,7 +263,7 @@ unsent_trusts sc facts place age c h =
       old = λ sent turn said t unsure. record { past = (t unsure).past; now = λ same. now_placed sent said ((t unsure).now same) };
     }
   where
-    now_placed : (sent : ℕ) (said : Body) → Now sc c sent said → Now sc (placed c age) sent said
+    now_placed : (sent : ℕ) (said : Body) → Now sc c sent said → Now sc (coordinator_with_age c age) sent said
     now_placed sent (body.Tell tell) k = k
     now_placed sent (body.Prepare p) k = k
     now_placed sent (body.Vote reply) k = k

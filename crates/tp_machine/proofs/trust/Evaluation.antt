@@ -1,19 +1,19 @@
 -- What is evaluated with a staple of a place of a history is right there.
-use Rattle.std.proofs.Common.{◌≡◌, ℕ, ◌&&◌, List, Bool, true, false, Option, Some, None, option_map, slice_get, refl, sym, ap, subst, ◌∙◌}
+use Rattle.std.proofs.Common.{◌≡◌, ℕ, ◌&&◌, List, Bool, true, false, Option, Some, None, option_map, slice_get, refl, sym, ap, ◌∙◌}
 use Rattle.std.specs.List.{list_all}
 use Rattle.std.specs.Option.{is_some}
 use Rattle.tp_model.specs.Words.{Action, AdminId, Fact, Item, Policy, Query, Scenario, ServerId, Staple, Transaction, Verdict, Version}
-use Rattle.tp_model.specs.Authorisation.{action_of, allows_held, is_allowed, is_certified, is_own_query, is_true_verdict, policy_at, tests_item, tests_query, tests_version}
+use Rattle.tp_model.specs.Authorisation.{action_of, allows_held, is_allowed, is_certified, is_own_query, policy_at, tests_item, tests_query, tests_version}
 use Rattle.tp_model.specs.Credentials.{is_presented}
 use Rattle.tp_model.specs.Policies.{allows}
 use Rattle.tp_model.specs.Queries.{item_of, query_at}
 use Rattle.tp_eval.specs.declared.policies.Certificate.{Certificate}
-use Rattle.tp_eval.specs.mirrors.Gathered.{rule_of, uses_in}
+use Rattle.tp_eval.specs.mirrors.Gathered.{rule_of}
 use Rattle.tp_eval.proofs.CertificateLemmas.{exists_where_allowed, passes_where, presented_where}
 use Rattle.tp_eval.proofs.SoundLemmas.{Asked}
 use Rattle.tp_check.specs.OfHistory.{IsAt, is_checked_of, is_verdict_checked}
 use Rattle.tp_check.proofs.HistoryLemmas.{certified_there, held_there}
-use Rattle.tp_machine.specs.Evaluation.{IsRightVerdict, certificate_of_item, certificate_of_query, certificate_of_version, evaluated, verdict_of}
+use Rattle.tp_machine.specs.Evaluation.{IsRightVerdict, certificate_of_item, certificate_of_query, certificate_of_version, evaluation, verdict_of}
 
 -- what an evaluation with the staple is asked
 abbrev asked_with : Scenario → Transaction → Staple → Asked
@@ -99,10 +99,10 @@ true_by own allowed certified true is good = rw (is, good refl) (and_true (own &
 true_by own allowed certified false is good = rw (is, and_false own) refl
 
 pub evaluate_right : (sc : Scenario) (facts : List Fact) (txn : Transaction) (staple : Staple) (server : ServerId) (number : ℕ) (admin : AdminId) (version : Version)
-    → IsAt sc staple.place facts staple.clock staple.revoked → IsRightVerdict sc facts txn (evaluated sc txn staple server number admin version)
+    → IsAt sc staple.place facts staple.clock staple.revoked → IsRightVerdict sc facts txn (evaluation sc txn staple server number admin version)
 evaluate_right sc facts txn staple server number admin version is =
     let answer : Option Certificate = certificate_of_version sc txn staple number (policy_at sc admin version) in
-    let verdict : Verdict = evaluated sc txn staple server number admin version in
+    let verdict : Verdict = evaluation sc txn staple server number admin version in
     let fits : is_allowed sc facts txn number admin version staple.place ≡ is_some (option_map rule_of answer) =
     allowed_version sc facts txn staple is number (policy_at sc admin version) ∙ sym (has_rule_where answer) in
     let proved : is_some (option_map rule_of answer) ≡ true → is_certified sc facts txn verdict ≡ true =

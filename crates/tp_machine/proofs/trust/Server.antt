@@ -17,7 +17,7 @@ use Rattle.tp_machine.specs.Sound.{Each, IsQueryAt, IsSoundBody, IsSoundDeedAt, 
 use Rattle.tp_machine.specs.declared.coord.Phase.TheVariants as phase
 use Rattle.tp_machine.specs.declared.coord.Phase.{Phase}
 use Rattle.tp_machine.specs.declared.server.Entry.{Entry}
-use Rattle.tp_machine.specs.server.Row.{asked_item, begins, done, entry_at, first_entry, plain_write, server_row, settles, verdict_on, votes}
+use Rattle.tp_machine.specs.server.Row.{asked_item, begins, done_reply, entry_at, first_entry, plain_write, server_row, settles, verdict_on, votes}
 use Rattle.tp_machine.specs.server.State.{Server}
 use Rattle.tp_machine.proofs.basics.Ids.{number_itself}
 use Rattle.tp_machine.proofs.walks.ServerRows.{server_by}
@@ -168,7 +168,7 @@ begins_trusts : (sc : Scenario) (facts : List Fact) (place : ℕ) (T : Body → 
     → IsSoundQuery sc (actor.Server s.server) q → IsClosed T → T (body.Query q) → plain_write q (asked_item sc q) q.value ≡ Some deed → RowTrusts sc facts place T (begins s sent q (Some deed))
 begins_trusts sc facts place T s sent q deed form h m closed t e =
     let number : deed.query ≡ q.query = deed_number q (asked_item sc q) q.value deed e in
-    let answer = done q s.epoch deed in
+    let answer = done_reply q s.epoch deed in
     let timely : T (body.Done answer) = closed (body.Query q) (body.Done answer) (record { txn = q.txn; turn = q.turn }) (done_answers q answer refl refl) t in
     record {
       fits = record {

@@ -10,7 +10,7 @@ use Rattle.tp_model.specs.Words.body
 use Rattle.tp_model.specs.Words.step
 use Rattle.tp_model.specs.Words.what
 use Rattle.tp_model.proofs.RuleLemmas as rules
-use Rattle.tp_machine.specs.Machine.{Machine, State, acts_by, coordinator_acted, coordinator_fact, done, idles, is_part_submitted, noted, opened_part, opening_state, refusal, server_acted, server_fact, with_age}
+use Rattle.tp_machine.specs.Machine.{Machine, State, acts_by, coordinator_fact, coordinator_move, facts_of, idle_move, is_part_submitted, machine_after, opened_part, opening_state, refusal, server_fact, server_move, with_age}
 use Rattle.tp_machine.specs.Parts.{Part}
 use Rattle.tp_machine.specs.Sound.{Each, IsSound, IsSoundBody, IsSoundLetter, IsSoundMail, IsSoundServerUp, IsStepOf}
 use Rattle.tp_machine.specs.coord.Opened as coord
@@ -21,10 +21,10 @@ use Rattle.tp_machine.specs.offices.Authority as office
 use Rattle.tp_machine.specs.server.Opened as server
 use Rattle.tp_machine.specs.server.Row.{server_row}
 use Rattle.tp_machine.specs.server.State.{Server}
-use Rattle.tp_machine.proofs.agreement.CoordinatorActs.{told_of}
+use Rattle.tp_machine.proofs.agreement.CoordinatorActs.{coordinator_facts}
 use Rattle.tp_machine.proofs.agreement.Steps.{own_txn}
 use Rattle.tp_machine.proofs.agreement.World.{Agrees}
-use Rattle.tp_machine.proofs.walks.Steps.{Cases, IsCoordinatorUp, IsServerUp, SaysIdle, WasSent, done_by}
+use Rattle.tp_machine.proofs.walks.Steps.{Cases, IsCoordinatorUp, IsServerUp, SaysIdle, WasSent, machine_after_by}
 use Rattle.tp_machine.proofs.basics.Facts.{ArePast, any_append}
 use Rattle.tp_machine.proofs.basics.Ids.{number_itself}
 use Rattle.tp_machine.proofs.ids.Built.{IsValid, valid_built}
@@ -36,15 +36,15 @@ use Rattle.tp_machine.proofs.trust.Fit.{AreAll, BodyFits, IsSubmitted, Later, Ma
 use Rattle.tp_machine.proofs.trust.Kept.{AreKept, IsKept, IsTrusted}
 use Rattle.tp_machine.proofs.trust.Server.{ServerTrusted, server_row_trusts}
 use Rattle.tp_machine.proofs.trust.Turns.{AreFew, IsNoTell, TurnFits, few_queries, stamp_of, timely_anywhere}
-use Rattle.tp_machine.proofs.trust.World.{BodyTimely, CoordinatorPartFits, MailTimely, ServerPartFits, StampFits, Timely, Trusts, TurnTrusts, concluded_trusts, coordinator_stays, facts_after, later_noted, up_at}
+use Rattle.tp_machine.proofs.trust.World.{BodyTimely, CoordinatorPartFits, MailTimely, MoveTrusts, ServerPartFits, StampFits, Timely, Trusts, coordinator_stays, facts_after, later_with_facts, state_after_trusts, up_at}
 
 -- ---- what is known of actors that are up
 
-idle_trusts : (sc : Scenario) (w : State) → ArePast (length w.steps) w.facts → Trusts sc w → (taken : Step) (happened : List What) → SaysIdle taken happened → TurnTrusts sc w (idles w.actors happened)
+idle_trusts : (sc : Scenario) (w : State) → ArePast (length w.steps) w.facts → Trusts sc w → (taken : Step) (happened : List What) → SaysIdle taken happened → MoveTrusts sc w (idle_move w.actors happened)
 idle_trusts sc w past h (step.Deliver mail) happened e =
-    subst (λ (hs : List What). TurnTrusts sc w (idles w.actors hs)) (sym e) (unmoved_trusts sc w [] [] past h (record { still = tt; fit = λ facts. tt }) tt tt)
+    subst (λ (hs : List What). MoveTrusts sc w (idle_move w.actors hs)) (sym e) (unmoved_trusts sc w [] [] past h (record { still = tt; fit = λ facts. tt }) tt tt)
 idle_trusts sc w past h (step.Lose mail) happened e =
-    subst (λ (hs : List What). TurnTrusts sc w (idles w.actors hs)) (sym e) (unmoved_trusts sc w (what.Lost mail ∷ []) [] past h (record { still = (tt, tt); fit = λ facts. (tt, tt) }) tt tt)
+    subst (λ (hs : List What). MoveTrusts sc w (idle_move w.actors hs)) (sym e) (unmoved_trusts sc w (what.Lost mail ∷ []) [] past h (record { still = (tt, tt); fit = λ facts. (tt, tt) }) tt tt)
 idle_trusts sc w past h _ happened e = absurd e
 
 -- what a mail that was sent says is sound, fits, and is timely
@@ -73,9 +73,9 @@ heard_anywhere sc coordinators sent said other h place =
     (λ stamped k. maybe_stays (TurnFits sc sent stamped.turn said) (TurnFits sc place stamped.turn said) (up_at coordinators stamped.txn.0)
     (λ c t. timely_anywhere sc c sent place stamped.turn said other t) k) h
 
-received_by_server : (sc : Scenario) (w : State) → IsFirstForm sc → IsValid sc → IsSound sc w → ArePast (length w.steps) w.facts → Trusts sc w → (n : ℕ) (mail : Mail) (at : ServerId) (part : Part Server) (s : Server)
-    → WasSent w n mail (actor.Server at) → IsServerUp w at part s → TurnTrusts sc w (server_acted w.actors at (acts_by (server_fact at) [] part.log (server_row sc s mail)))
-received_by_server sc w form valid sound past h n mail at part s sent up =
+receipt_by_server : (sc : Scenario) (w : State) → IsFirstForm sc → IsValid sc → IsSound sc w → ArePast (length w.steps) w.facts → Trusts sc w → (n : ℕ) (mail : Mail) (at : ServerId) (part : Part Server) (s : Server)
+    → WasSent w n mail (actor.Server at) → IsServerUp w at part s → MoveTrusts sc w (server_move w.actors at (acts_by (server_fact at) [] part.log (server_row sc s mail)))
+receipt_by_server sc w form valid sound past h n mail at part s sent up =
     let place = length w.steps in
     let T = Timely sc w.actors.coordinators in
     let effect = server_row sc s mail in
@@ -93,9 +93,9 @@ received_by_server sc w form valid sound past h n mail at part s sent up =
 coordinator_fits : (sc : Scenario) (w : State) (txn : TxnId) (part : Part Coordinator) (c : Coordinator) → Trusts sc w → IsCoordinatorUp w txn part c → CoordinatorFits sc w.facts (length w.steps) c
 coordinator_fits sc w txn part c h up = subst (λ (u : Option Coordinator). IfSome u (CoordinatorFits sc w.facts (length w.steps))) up.up (h.coordinators txn.0 part up.found)
 
-received_by_coordinator : (sc : Scenario) (w : State) → AreFew sc → IsSound sc w → ArePast (length w.steps) w.facts → Trusts sc w → (n : ℕ) (mail : Mail) (txn : TxnId) (part : Part Coordinator) (c : Coordinator)
-    → WasSent w n mail (actor.Coordinator txn) → IsCoordinatorUp w txn part c → TurnTrusts sc w (coordinator_acted w.actors txn (acts_by coordinator_fact [] part.log (coordinator_row sc c mail)))
-received_by_coordinator sc w few sound past h n mail txn part c sent up =
+receipt_by_coordinator : (sc : Scenario) (w : State) → AreFew sc → IsSound sc w → ArePast (length w.steps) w.facts → Trusts sc w → (n : ℕ) (mail : Mail) (txn : TxnId) (part : Part Coordinator) (c : Coordinator)
+    → WasSent w n mail (actor.Coordinator txn) → IsCoordinatorUp w txn part c → MoveTrusts sc w (coordinator_move w.actors txn (acts_by coordinator_fact [] part.log (coordinator_row sc c mail)))
+receipt_by_coordinator sc w few sound past h n mail txn part c sent up =
     let place = length w.steps in
     let effect = coordinator_row sc c mail in
     let append = effect.reaction.append in
@@ -120,7 +120,7 @@ first_true a b e = grind arith
 -- the facts after a submission tell of it
 now_submitted : (w : State) (txn : TxnId) (more : List What) → IsSubmitted (facts_after w (what.Submitted txn ∷ more)) txn
 now_submitted w txn more =
-    any_append (is_submission txn) w.facts (noted (length w.steps) (what.Submitted txn ∷ more)) ∙ later_true _ _ (first_true (txn.0 == txn.0) _ (number_itself txn.0))
+    any_append (is_submission txn) w.facts (facts_of (length w.steps) (what.Submitted txn ∷ more)) ∙ later_true _ _ (first_true (txn.0 == txn.0) _ (number_itself txn.0))
 
 -- a submission decides nothing
 begins_nothing : (sc : Scenario) (w : State) (c : Coordinator) (asked : Option Query) → IfSome (begins sc c asked).reaction.append (RecordDecides sc w.facts (length w.steps))
@@ -136,12 +136,12 @@ submission_fits : (sc : Scenario) (w : State) (txn : TxnId) (c : Coordinator) �
 submission_fits sc w txn c same fits begun =
     let place = length w.steps in
     let effect = with_age (submit_row sc c) place in
-    let after = facts_after w (what.Submitted txn ∷ told_of effect.reaction.append) in
+    let after = facts_after w (what.Submitted txn ∷ coordinator_facts effect.reaction.append) in
     let row : (facts : List Fact) → facts ≡ after → CoordinatorTrusts sc facts (place + 1) c.txn (Some c) (Some effect.state) effect.reaction.append effect.reaction.letters =
     λ facts e. submit_row_trusts sc facts (place + 1) place c
-    (coordinator_stays sc w.facts facts place (place + 1) c (subst (λ (fs : List Fact). Later w.facts fs place (place + 1)) (sym e) (later_noted w (what.Submitted txn ∷ told_of effect.reaction.append) (place + 1) (omega arith))) fits)
+    (coordinator_stays sc w.facts facts place (place + 1) c (subst (λ (fs : List Fact). Later w.facts fs place (place + 1)) (sym e) (later_with_facts w (what.Submitted txn ∷ coordinator_facts effect.reaction.append) (place + 1) (omega arith))) fits)
     begun
-    (subst (λ (fs : List Fact). IsSubmitted fs c.txn) (sym e) (subst (λ (t : TxnId). IsSubmitted after t) (sym same) (now_submitted w txn (told_of effect.reaction.append)))) in
+    (subst (λ (fs : List Fact). IsSubmitted fs c.txn) (sym e) (subst (λ (t : TxnId). IsSubmitted after t) (sym same) (now_submitted w txn (coordinator_facts effect.reaction.append)))) in
     record {
       says = record { still = (tt, tt); fit = λ facts. (tt, tt) };
       fits = λ facts e. (row facts e).fits;
@@ -153,7 +153,7 @@ submission_fits sc w txn c same fits begun =
 
 begun_trusts : (sc : Scenario) (w : State) → IsSound sc w → ArePast (length w.steps) w.facts → Trusts sc w → (txn : TxnId) (part : Part Coordinator) (c : Coordinator) → IsCoordinatorUp w txn part c
     → is_part_submitted (Some c) ≡ false
-    → TurnTrusts sc w (coordinator_acted w.actors txn (acts_by coordinator_fact (what.Submitted txn ∷ []) part.log (with_age (submit_row sc c) (length w.steps))))
+    → MoveTrusts sc w (coordinator_move w.actors txn (acts_by coordinator_fact (what.Submitted txn ∷ []) part.log (with_age (submit_row sc c) (length w.steps))))
 begun_trusts sc w sound past h txn part c up new =
     let effect = with_age (submit_row sc c) (length w.steps) in
     let own = what.Submitted txn ∷ [] in
@@ -163,12 +163,12 @@ begun_trusts sc w sound past h txn part c up new =
 
 -- ---- steps
 
-trusts_cases : (sc : Scenario) (w : State) → IsFirstForm sc → IsValid sc → AreFew sc → IsSound sc w → Agrees sc w → Trusts sc w → Cases sc w (λ taken turn. TurnTrusts sc w turn)
+trusts_cases : (sc : Scenario) (w : State) → IsFirstForm sc → IsValid sc → AreFew sc → IsSound sc w → Agrees sc w → Trusts sc w → Cases sc w (λ taken move. MoveTrusts sc w move)
 trusts_cases sc w form valid few sound a h =
     record {
       idle = idle_trusts sc w a.past h;
-      server_received = λ n mail at part s sent up. received_by_server sc w form valid sound a.past h n mail at part s sent up;
-      coordinator_received = λ n mail txn part c sent up. received_by_coordinator sc w few sound a.past h n mail txn part c sent up;
+      server_received = λ n mail at part s sent up. receipt_by_server sc w form valid sound a.past h n mail at part s sent up;
+      coordinator_received = λ n mail txn part c sent up. receipt_by_coordinator sc w few sound a.past h n mail txn part c sent up;
       authority_told = λ n mail sent.
           let m = mail_trusted sc w n mail actor.Authority sound h sent in
           unmoved_trusts sc w [] (office.authority_row w.actors.authority mail).reaction.letters a.past h (record { still = tt; fit = λ facts. tt })
@@ -177,12 +177,12 @@ trusts_cases sc w form valid few sound a h =
     }
 
 -- a step that is not refused keeps what trust rests on
-pub trusts_done : (sc : Scenario) (m : Machine) (taken : Step) → is_built sc ≡ true → IsStepOf sc taken → refusal m.state taken ≡ None → IsSound sc m.state → Agrees sc m.state → Trusts sc m.state
-    → Trusts sc (done sc m taken).state
-trusts_done sc m taken built exists allowed sound a h =
-    done_by sc m (λ taken turn. TurnTrusts sc m.state turn) (Trusts sc)
+pub trusts_next : (sc : Scenario) (m : Machine) (taken : Step) → is_built sc ≡ true → IsStepOf sc taken → refusal m.state taken ≡ None → IsSound sc m.state → Agrees sc m.state → Trusts sc m.state
+    → Trusts sc (machine_after sc m taken).state
+trusts_next sc m taken built exists allowed sound a h =
+    machine_after_by sc m (λ taken move. MoveTrusts sc m.state move) (Trusts sc)
     (trusts_cases sc m.state (first_form sc built) (valid_built sc built) (few_queries sc (rules.valid_built sc built)) sound a h) a.coordinator_count
-    (λ taken turn t. concluded_trusts sc m.state taken turn a h t) h taken exists allowed
+    (λ taken move t. state_after_trusts sc m.state taken move a h t) h taken exists allowed
 
 -- ---- before the first step
 
@@ -203,7 +203,7 @@ trusts_opening sc built =
     let T = Timely sc (opening_state sc).actors.coordinators in
     record {
       authority = record { clock_is = omega arith; revoked_is = λ cred. refl };
-      servers = λ n part e. at_made (λ (k : ℕ) (found : Part Server). ServerPartFits sc [] 0 T found) (λ (k : ℕ). opened_part (server.opened sc (record { 0 = k }))) 0 (length sc.servers)
+      servers = λ n part e. at_made (λ (k : ℕ) (found : Part Server). ServerPartFits sc [] 0 T found) (λ (k : ℕ). opened_part (server.opening sc (record { 0 = k }))) 0 (length sc.servers)
           (λ k within. record {
             state = record {
               known = λ admin exists. let one = known_at sc k admin (slice_get sc.servers k) refl form.known in

@@ -7,7 +7,7 @@ use Rattle.tp_model.specs.Facts.{before, is_submission}
 use Rattle.tp_model.specs.Words.{Body, CredId, Decision, Fact, Instance, Letter, Mail, Scenario, Step, TxnId, Verdict, What}
 use Rattle.tp_model.specs.Words.decision
 use Rattle.tp_model.specs.Words.what
-use Rattle.tp_machine.specs.Machine.{State, Turn, concluded, noted, posted}
+use Rattle.tp_machine.specs.Machine.{Move, State, facts_of, mails_of, state_after}
 use Rattle.tp_machine.specs.Parts.{Part}
 use Rattle.tp_machine.specs.Sound.{Each, EachAt}
 use Rattle.tp_machine.specs.coord.State.{Coordinator}
@@ -15,7 +15,7 @@ use Rattle.tp_machine.specs.declared.actors.Actors.{Actors}
 use Rattle.tp_machine.specs.offices.State.{Authority}
 use Rattle.tp_machine.specs.server.State.{Server}
 use Rattle.tp_machine.proofs.agreement.World.{Agrees, steps_more}
-use Rattle.tp_machine.proofs.basics.Facts.{ArePast, any_append, append_none, before_past, filter_map_append, grows_noted, noted_past, past_as}
+use Rattle.tp_machine.proofs.basics.Facts.{ArePast, any_append, append_none, before_past, filter_map_append, grows_with_facts, new_facts_past, past_as}
 use Rattle.tp_machine.proofs.basics.Lists.{each_append, each_as}
 use Rattle.tp_machine.proofs.trust.Coordinator.{CoordinatorFits, DecisionFits}
 use Rattle.tp_machine.proofs.trust.Fit.{AuthorityFits, BodyFits, Later, MailFits, ServerFits, body_stays, maybe_stays, phase_stays, server_stays, verdicts_stay}
@@ -73,34 +73,34 @@ pub record TrustsAt (sc : Scenario) (facts : List Fact) (place : ℕ) (actors : 
 abbrev pub Trusts : Scenario → State → Type 0
 Trusts sc w = TrustsAt sc w.facts (length w.steps) w.actors w.mails
 
--- ---- a turn
+-- ---- a move
 
--- the facts after a turn
+-- the facts after a move
 abbrev pub facts_after : State → List What → List Fact
-facts_after w happened = w.facts ++ noted (length w.steps) happened
+facts_after w happened = w.facts ++ facts_of (length w.steps) happened
 
 -- a step leaves actors, letters and facts that fit the facts after it
-pub record TurnTrusts (sc : Scenario) (w : State) (turn : Turn) : Type 0 where
-  pub authority : AuthorityFits sc (facts_after w turn.happened) (length w.steps + 1) turn.actors.authority
-  pub servers : EachAt (λ (n : ℕ) (part : Part Server). ServerPartFits sc (facts_after w turn.happened) (length w.steps + 1) (Timely sc turn.actors.coordinators) part) turn.actors.servers
-  pub coordinators : EachAt (λ (n : ℕ) (part : Part Coordinator). CoordinatorPartFits sc (facts_after w turn.happened) (length w.steps + 1) part) turn.actors.coordinators
-  pub letters : Each (λ (letter : Letter). BodyFits sc (facts_after w turn.happened) (length w.steps + 1) (length w.steps) letter.body) turn.letters
-  pub old_timely : Each (MailTimely sc turn.actors.coordinators) w.mails
-  pub new_timely : Each (λ (letter : Letter). BodyTimely sc turn.actors.coordinators (length w.steps) letter.body) turn.letters
-  pub facts : Each (WhatFits sc (facts_after w turn.happened) (length w.steps)) turn.happened
+pub record MoveTrusts (sc : Scenario) (w : State) (move : Move) : Type 0 where
+  pub authority : AuthorityFits sc (facts_after w move.happened) (length w.steps + 1) move.actors.authority
+  pub servers : EachAt (λ (n : ℕ) (part : Part Server). ServerPartFits sc (facts_after w move.happened) (length w.steps + 1) (Timely sc move.actors.coordinators) part) move.actors.servers
+  pub coordinators : EachAt (λ (n : ℕ) (part : Part Coordinator). CoordinatorPartFits sc (facts_after w move.happened) (length w.steps + 1) part) move.actors.coordinators
+  pub letters : Each (λ (letter : Letter). BodyFits sc (facts_after w move.happened) (length w.steps + 1) (length w.steps) letter.body) move.letters
+  pub old_timely : Each (MailTimely sc move.actors.coordinators) w.mails
+  pub new_timely : Each (λ (letter : Letter). BodyTimely sc move.actors.coordinators (length w.steps) letter.body) move.letters
+  pub facts : Each (WhatFits sc (facts_after w move.happened) (length w.steps)) move.happened
 
 -- ---- growth
 
 either_true : (a b : Bool) → a ≡ true → (a || b) ≡ true
 either_true a b e = grind arith
 
--- the facts after a turn are later ones
-pub later_noted : (w : State) (happened : List What) (high : ℕ) → length w.steps ≤ high → Later w.facts (facts_after w happened) (length w.steps) high
-later_noted w happened high le =
+-- the facts after a move are later ones
+pub later_with_facts : (w : State) (happened : List What) (high : ℕ) → length w.steps ≤ high → Later w.facts (facts_after w happened) (length w.steps) high
+later_with_facts w happened high le =
     record {
-      grows = grows_noted w.facts (length w.steps) happened;
+      grows = grows_with_facts w.facts (length w.steps) happened;
       le = le;
-      more = λ txn e. any_append (is_submission txn) w.facts (noted (length w.steps) happened) ∙ either_true _ _ e;
+      more = λ txn e. any_append (is_submission txn) w.facts (facts_of (length w.steps) happened) ∙ either_true _ _ e;
     }
 
 pub server_part_stays : (sc : Scenario) (old new : List Fact) (low high : ℕ) (T U : Body → Type 0) (part : Part Server) → Later old new low high → ((said : Body) → T said → U said)
@@ -152,19 +152,19 @@ facts_stay sc old new low high [] l past h = tt
 facts_stay sc old new low high (fact ∷ facts) l past h =
     (what_stays sc old new low high fact.place fact.what (omega (arith, past.0)) l h.0, facts_stay sc old new low high facts l past.1 h.1)
 
-noted_fit : (sc : Scenario) (facts : List Fact) (place : ℕ) (happened : List What) → Each (WhatFits sc facts place) happened → Each (FactFits sc facts) (noted place happened)
-noted_fit sc facts place [] h = tt
-noted_fit sc facts place (w ∷ happened) h = (h.0, noted_fit sc facts place happened h.1)
+new_facts_fit : (sc : Scenario) (facts : List Fact) (place : ℕ) (happened : List What) → Each (WhatFits sc facts place) happened → Each (FactFits sc facts) (facts_of place happened)
+new_facts_fit sc facts place [] h = tt
+new_facts_fit sc facts place (w ∷ happened) h = (h.0, new_facts_fit sc facts place happened h.1)
 
-posted_fit : (sc : Scenario) (facts : List Fact) (place sent number : ℕ) (letters : List Letter) → Each (λ (letter : Letter). BodyFits sc facts place sent letter.body) letters
-    → Each (MailFits sc facts place) (posted sent number letters)
-posted_fit sc facts place sent number [] h = tt
-posted_fit sc facts place sent number (letter ∷ letters) h = (h.0, posted_fit sc facts place sent (number + 1) letters h.1)
+new_mails_fit : (sc : Scenario) (facts : List Fact) (place sent number : ℕ) (letters : List Letter) → Each (λ (letter : Letter). BodyFits sc facts place sent letter.body) letters
+    → Each (MailFits sc facts place) (mails_of sent number letters)
+new_mails_fit sc facts place sent number [] h = tt
+new_mails_fit sc facts place sent number (letter ∷ letters) h = (h.0, new_mails_fit sc facts place sent (number + 1) letters h.1)
 
-posted_timely : (sc : Scenario) (coordinators : List (Part Coordinator)) (sent number : ℕ) (letters : List Letter) → Each (λ (letter : Letter). BodyTimely sc coordinators sent letter.body) letters
-    → Each (MailTimely sc coordinators) (posted sent number letters)
-posted_timely sc coordinators sent number [] h = tt
-posted_timely sc coordinators sent number (letter ∷ letters) h = (h.0, posted_timely sc coordinators sent (number + 1) letters h.1)
+new_mails_timely : (sc : Scenario) (coordinators : List (Part Coordinator)) (sent number : ℕ) (letters : List Letter) → Each (λ (letter : Letter). BodyTimely sc coordinators sent letter.body) letters
+    → Each (MailTimely sc coordinators) (mails_of sent number letters)
+new_mails_timely sc coordinators sent number [] h = tt
+new_mails_timely sc coordinators sent number (letter ∷ letters) h = (h.0, new_mails_timely sc coordinators sent (number + 1) letters h.1)
 
 -- ---- the authority's facts
 
@@ -174,11 +174,11 @@ IsStill (what.Ticked by) = ⊥
 IsStill (what.Revoked cred) = ⊥
 IsStill _ = Unit {0}
 
-no_ticks : (place : ℕ) (happened : List What) → Each IsStill happened → sum_by ticks (noted place happened) ≡ 0
+no_ticks : (place : ℕ) (happened : List What) → Each IsStill happened → sum_by ticks (facts_of place happened) ≡ 0
 no_ticks place [] h = refl
 no_ticks place (w ∷ happened) h =
-    let whole : sum_by ticks (noted place (w ∷ happened)) ≡ ticks (record { place = place; what = w }) + sum_by ticks (noted place happened) = sum_by-cons ticks (record { place = place; what = w }) (noted place happened) in
-    let later : sum_by ticks (noted place happened) ≡ 0 = no_ticks place happened h.1 in
+    let whole : sum_by ticks (facts_of place (w ∷ happened)) ≡ ticks (record { place = place; what = w }) + sum_by ticks (facts_of place happened) = sum_by-cons ticks (record { place = place; what = w }) (facts_of place happened) in
+    let later : sum_by ticks (facts_of place happened) ≡ 0 = no_ticks place happened h.1 in
     let here : ticks (record { place = place; what = w }) ≡ 0 = still w h.0 in
     omega (arith, whole, later, here)
   where
@@ -186,10 +186,10 @@ no_ticks place (w ∷ happened) h =
     still (what.Ticked by) n = absurd n
     still _ n = refl
 
-no_revocation : (place : ℕ) (happened : List What) → Each IsStill happened → filter_map revoked_by (noted place happened) ≡ []
+no_revocation : (place : ℕ) (happened : List What) → Each IsStill happened → filter_map revoked_by (facts_of place happened) ≡ []
 no_revocation place [] h = refl
 no_revocation place (w ∷ happened) h =
-    ap (λ (found : Option CredId). cons_option found (filter_map revoked_by (noted place happened))) (still w h.0) ∙ no_revocation place happened h.1
+    ap (λ (found : Option CredId). cons_option found (filter_map revoked_by (facts_of place happened))) (still w h.0) ∙ no_revocation place happened h.1
   where
     still : (v : What) → IsStill v → revoked_what v ≡ None
     still (what.Revoked other) n = absurd n
@@ -198,9 +198,9 @@ no_revocation place (w ∷ happened) h =
 past_after : (w : State) (happened : List What) → ArePast (length w.steps) w.facts → ArePast (length w.steps + 1) (facts_after w happened)
 past_after w happened past =
     let place = length w.steps in
-    each_append (λ (fact : Fact). fact.place < place + 1) w.facts (noted place happened) (past_as place (place + 1) (omega arith) w.facts past) (noted_past place happened)
+    each_append (λ (fact : Fact). fact.place < place + 1) w.facts (facts_of place happened) (past_as place (place + 1) (omega arith) w.facts past) (new_facts_past place happened)
 
--- an authority that stays fits the facts after a turn in which no time passes and nothing is revoked
+-- an authority that stays fits the facts after a move in which no time passes and nothing is revoked
 pub authority_stays : (sc : Scenario) (w : State) (happened : List What) (authority : Authority) → ArePast (length w.steps) w.facts → Each IsStill happened → AuthorityFits sc w.facts (length w.steps) authority
     → AuthorityFits sc (facts_after w happened) (length w.steps + 1) authority
 authority_stays sc w happened authority past still h =
@@ -208,38 +208,38 @@ authority_stays sc w happened authority past still h =
     let now = facts_after w happened in
     let was : before place w.facts ≡ w.facts = before_past place w.facts past in
     let all : before (place + 1) now ≡ now = before_past (place + 1) now (past_after w happened past) in
-    let sum_now : sum_by ticks now ≡ sum_by ticks w.facts + sum_by ticks (noted place happened) = sum_by-append ticks w.facts (noted place happened) in
-    let none : sum_by ticks (noted place happened) ≡ 0 = no_ticks place happened still in
+    let sum_now : sum_by ticks now ≡ sum_by ticks w.facts + sum_by ticks (facts_of place happened) = sum_by-append ticks w.facts (facts_of place happened) in
+    let none : sum_by ticks (facts_of place happened) ≡ 0 = no_ticks place happened still in
     let same : sum_by ticks w.facts ≡ sum_by ticks now = omega (arith, sum_now, none) in
     record {
       clock_is = h.clock_is ∙ ap (λ (n : ℕ). sc.clock + n) (ap (sum_by ticks) was ∙ (same ∙ ap (sum_by ticks) (sym all)));
       revoked_is = λ cred. h.revoked_is cred
           ∙ (ap (λ (earlier : List Fact). is_among (filter_map revoked_by earlier) cred) was
           ∙ ap (λ (revoked : List CredId). is_among revoked cred)
-          (sym (filter_map_append revoked_by w.facts (noted place happened)
+          (sym (filter_map_append revoked_by w.facts (facts_of place happened)
           ∙ (ap (λ (more : List CredId). filter_map revoked_by w.facts ++ more) (no_revocation place happened still) ∙ append_none (filter_map revoked_by w.facts)))
           ∙ ap (filter_map revoked_by) (sym all)));
     }
 
 -- ---- a step
 
--- a step whose turn fits leaves a world that fits
-pub concluded_trusts : (sc : Scenario) (w : State) (taken : Step) (turn : Turn) → Agrees sc w → Trusts sc w → TurnTrusts sc w turn → Trusts sc (concluded w taken turn)
-concluded_trusts sc w taken turn a h t =
+-- a step whose move fits leaves a world that fits
+pub state_after_trusts : (sc : Scenario) (w : State) (taken : Step) (move : Move) → Agrees sc w → Trusts sc w → MoveTrusts sc w move → Trusts sc (state_after w taken move)
+state_after_trusts sc w taken move a h t =
     let place = length w.steps in
-    let now = facts_after w turn.happened in
-    let l = later_noted w turn.happened (place + 1) (omega arith) in
-    let mails = w.mails ++ posted place (length w.mails) turn.letters in
-    let made : TrustsAt sc now (place + 1) turn.actors mails = record {
+    let now = facts_after w move.happened in
+    let l = later_with_facts w move.happened (place + 1) (omega arith) in
+    let mails = w.mails ++ mails_of place (length w.mails) move.letters in
+    let made : TrustsAt sc now (place + 1) move.actors mails = record {
       authority = t.authority;
       servers = t.servers;
       coordinators = t.coordinators;
-      mails_fit = each_append (MailFits sc now (place + 1)) w.mails (posted place (length w.mails) turn.letters)
+      mails_fit = each_append (MailFits sc now (place + 1)) w.mails (mails_of place (length w.mails) move.letters)
           (each_as (MailFits sc w.facts place) (MailFits sc now (place + 1)) (λ mail m. body_stays sc w.facts now place (place + 1) mail.sent mail.letter.body l m) w.mails h.mails_fit)
-          (posted_fit sc now (place + 1) place (length w.mails) turn.letters t.letters);
-      mails_timely = each_append (MailTimely sc turn.actors.coordinators) w.mails (posted place (length w.mails) turn.letters) t.old_timely
-          (posted_timely sc turn.actors.coordinators place (length w.mails) turn.letters t.new_timely);
-      facts_fit = each_append (FactFits sc now) w.facts (noted place turn.happened) (facts_stay sc w.facts now place (place + 1) w.facts l a.past h.facts_fit)
-          (noted_fit sc now place turn.happened t.facts);
+          (new_mails_fit sc now (place + 1) place (length w.mails) move.letters t.letters);
+      mails_timely = each_append (MailTimely sc move.actors.coordinators) w.mails (mails_of place (length w.mails) move.letters) t.old_timely
+          (new_mails_timely sc move.actors.coordinators place (length w.mails) move.letters t.new_timely);
+      facts_fit = each_append (FactFits sc now) w.facts (facts_of place move.happened) (facts_stay sc w.facts now place (place + 1) w.facts l a.past h.facts_fit)
+          (new_facts_fit sc now place move.happened t.facts);
     } in
-    subst (λ (p : ℕ). TrustsAt sc now p turn.actors mails) (sym (steps_more w.steps taken)) made
+    subst (λ (p : ℕ). TrustsAt sc now p move.actors mails) (sym (steps_more w.steps taken)) made

@@ -10,7 +10,7 @@ use Rattle.tp_model.specs.Words.actor
 use Rattle.tp_model.specs.Words.answer
 use Rattle.tp_model.specs.Words.body
 use Rattle.tp_model.specs.Words.vote
-use Rattle.tp_machine.specs.coord.Row.{ack_from, answered, are_agreed, asks, awaits_query, awaits_vote, begins, commits, coordinator_row, done_of, is_awaited, is_from, is_last_write, is_plain, on_ack, on_body, on_vote, prepares, query_of, ran, replied, replied_by, sends_first, server_of, staple_of, submit_row, told, vote_at, voted, with_reply, without}
+use Rattle.tp_machine.specs.coord.Row.{ack_from, are_agreed, asks, awaits_query, awaits_vote, begins, commits, coordinator_row, is_awaited, is_from, is_last_write, is_plain, on_ack, on_answer, on_body, on_done_from, on_done_of_query, on_reply, on_staple, on_vote, on_vote_of, prepares, query_of, sends_first, server_of, staple_of, submit_row, vote_at, with_deed, with_reply, without}
 use Rattle.tp_machine.specs.coord.State.{Coordinator}
 use Rattle.tp_machine.specs.declared.coord.Phase.TheVariants as phase
 use Rattle.tp_machine.specs.declared.coord.Phase.{Phase}
@@ -31,7 +31,7 @@ pub record IsLastAnswer (sc : Scenario) (c : Coordinator) (mail : Mail) (done : 
   pub last : is_last_write sc c asked done.query ≡ true
 
 -- the awaited answer of the authority, before a first round
-pub record IsTold (c : Coordinator) (mail : Mail) (tell : TellReply) (round : Round) : Type 0 where
+pub record IsStaple (c : Coordinator) (mail : Mail) (tell : TellReply) (round : Round) : Type 0 where
   pub said_is : mail.letter.body ≡ body.Tell tell
   pub present : (tell.turn == c.turn) ≡ true
   pub asking : c.phase ≡ phase.Asking round
@@ -55,8 +55,8 @@ pub record IsAck (c : Coordinator) (mail : Mail) (ack : AckReply) (ended : Outco
 -- what is to be shown of the outcomes of a receipt: P of the effect
 pub record CoordinatorCases (sc : Scenario) (c : Coordinator) (mail : Mail) (P : Effect Coordinator → Type 0) : Type 0 where
   pub ignored : P (ignores c)
-  pub ran_last : (done : DoneReply) (server : ServerId) (asked : Query) (value : ℤ) → IsLastAnswer sc c mail done server asked value → P (asks (ran c server done asked value))
-  pub told_first : (tell : TellReply) (round : Round) → IsTold c mail tell round → P (prepares c round (staple_of tell mail.sent))
+  pub ran_last : (done : DoneReply) (server : ServerId) (asked : Query) (value : ℤ) → IsLastAnswer sc c mail done server asked value → P (asks (with_deed c server done asked value))
+  pub told_first : (tell : TellReply) (round : Round) → IsStaple c mail tell round → P (prepares c round (staple_of tell mail.sent))
   pub counted : (reply : VoteReply) (round : Round) (staple : Staple) (server : ServerId) (verdicts : List Verdict) (other : ServerId) (others : List ServerId) → IsYes c mail reply round staple server verdicts
       → without round.awaited server ≡ other ∷ others → P (sends (record c { phase = phase.Checking (with_reply round server verdicts) staple }) [])
   pub committed : (reply : VoteReply) (round : Round) (staple : Staple) (server : ServerId) (verdicts : List Verdict) → IsYes c mail reply round staple server verdicts
@@ -66,19 +66,19 @@ pub record CoordinatorCases (sc : Scenario) (c : Coordinator) (mail : Mail) (P :
 
 -- ---- Done
 
-answered_by : (sc : Scenario) (c : Coordinator) (mail : Mail) (P : Effect Coordinator → Type 0) → CoordinatorCases sc c mail P → (done : DoneReply) (server : ServerId) (asked : Query) (given : Answer)
-    → ((value : ℤ) → given ≡ answer.Ran value None → is_last_write sc c asked done.query ≡ true → IsLastAnswer sc c mail done server asked value) → P (answered sc c server done asked given)
-answered_by sc c mail P cases done server asked (answer.Ran value None) last =
+on_answer_by : (sc : Scenario) (c : Coordinator) (mail : Mail) (P : Effect Coordinator → Type 0) → CoordinatorCases sc c mail P → (done : DoneReply) (server : ServerId) (asked : Query) (given : Answer)
+    → ((value : ℤ) → given ≡ answer.Ran value None → is_last_write sc c asked done.query ≡ true → IsLastAnswer sc c mail done server asked value) → P (on_answer sc c server done asked given)
+on_answer_by sc c mail P cases done server asked (answer.Ran value None) last =
     by_cond P (is_last_write sc c asked done.query) (λ is_last. cases.ran_last done server asked value (last value refl is_last)) (λ further. cases.ignored)
-answered_by sc c mail P cases done server asked _ last = cases.ignored
+on_answer_by sc c mail P cases done server asked _ last = cases.ignored
 
-replied_by_server : (sc : Scenario) (c : Coordinator) (mail : Mail) (P : Effect Coordinator → Type 0) → CoordinatorCases sc c mail P → (done : DoneReply) (asked : Query) (server : Option ServerId)
+on_done_from_by : (sc : Scenario) (c : Coordinator) (mail : Mail) (P : Effect Coordinator → Type 0) → CoordinatorCases sc c mail P → (done : DoneReply) (asked : Query) (server : Option ServerId)
     → mail.letter.body ≡ body.Done done → awaits_query c c.phase done ≡ true → is_plain c.phase ≡ true → query_of sc c done.query ≡ Some asked → server_of sc asked ≡ server
-    → P (replied_by sc c mail.letter.from done asked server)
-replied_by_server sc c mail P cases done asked None e awaited plain asked_is server_is = cases.ignored
-replied_by_server sc c mail P cases done asked (Some server) e awaited plain asked_is server_is =
+    → P (on_done_from sc c mail.letter.from done asked server)
+on_done_from_by sc c mail P cases done asked None e awaited plain asked_is server_is = cases.ignored
+on_done_from_by sc c mail P cases done asked (Some server) e awaited plain asked_is server_is =
     by_cond P (is_from mail.letter.from server)
-    (λ from. answered_by sc c mail P cases done server asked done.answer
+    (λ from. on_answer_by sc c mail P cases done server asked done.answer
     (λ value given last. record {
       said_is = e;
       from_is = from;
@@ -92,38 +92,38 @@ replied_by_server sc c mail P cases done asked (Some server) e awaited plain ask
     (λ other. cases.ignored)
 
 asked_by : (sc : Scenario) (c : Coordinator) (mail : Mail) (P : Effect Coordinator → Type 0) → CoordinatorCases sc c mail P → (done : DoneReply) (asked : Option Query)
-    → mail.letter.body ≡ body.Done done → awaits_query c c.phase done ≡ true → is_plain c.phase ≡ true → query_of sc c done.query ≡ asked → P (done_of sc c mail.letter.from done asked)
+    → mail.letter.body ≡ body.Done done → awaits_query c c.phase done ≡ true → is_plain c.phase ≡ true → query_of sc c done.query ≡ asked → P (on_done_of_query sc c mail.letter.from done asked)
 asked_by sc c mail P cases done None e awaited plain asked_is = cases.ignored
-asked_by sc c mail P cases done (Some asked) e awaited plain asked_is = replied_by_server sc c mail P cases done asked (server_of sc asked) e awaited plain asked_is refl
+asked_by sc c mail P cases done (Some asked) e awaited plain asked_is = on_done_from_by sc c mail P cases done asked (server_of sc asked) e awaited plain asked_is refl
 
 -- ---- Tell
 
-told_by_phase : (sc : Scenario) (c : Coordinator) (mail : Mail) (P : Effect Coordinator → Type 0) → CoordinatorCases sc c mail P → (tell : TellReply) (awaited : Phase) → mail.letter.body ≡ body.Tell tell
-    → (tell.turn == c.turn) ≡ true → c.phase ≡ awaited → P (told c awaited (staple_of tell mail.sent))
-told_by_phase sc c mail P cases tell (phase.Asking round) e present asking =
+on_staple_by : (sc : Scenario) (c : Coordinator) (mail : Mail) (P : Effect Coordinator → Type 0) → CoordinatorCases sc c mail P → (tell : TellReply) (awaited : Phase) → mail.letter.body ≡ body.Tell tell
+    → (tell.turn == c.turn) ≡ true → c.phase ≡ awaited → P (on_staple c awaited (staple_of tell mail.sent))
+on_staple_by sc c mail P cases tell (phase.Asking round) e present asking =
     by_cond P (is_none round.aim) (λ first. cases.told_first tell round (record { said_is = e; present = present; asking = asking; first = first })) (λ later. cases.ignored)
-told_by_phase sc c mail P cases tell _ e present asking = cases.ignored
+on_staple_by sc c mail P cases tell _ e present asking = cases.ignored
 
 -- ---- Vote
 
-counted_by : (sc : Scenario) (c : Coordinator) (mail : Mail) (P : Effect Coordinator → Type 0) → CoordinatorCases sc c mail P → (reply : VoteReply) (round : Round) (staple : Staple) (server : ServerId)
-    (verdicts : List Verdict) (left : List ServerId) → IsYes c mail reply round staple server verdicts → without round.awaited server ≡ left → P (replied c round staple server verdicts left)
-counted_by sc c mail P cases reply round staple server verdicts [] y e =
+on_reply_by : (sc : Scenario) (c : Coordinator) (mail : Mail) (P : Effect Coordinator → Type 0) → CoordinatorCases sc c mail P → (reply : VoteReply) (round : Round) (staple : Staple) (server : ServerId)
+    (verdicts : List Verdict) (left : List ServerId) → IsYes c mail reply round staple server verdicts → without round.awaited server ≡ left → P (on_reply c round staple server verdicts left)
+on_reply_by sc c mail P cases reply round staple server verdicts [] y e =
     by_cond P (is_empty round.kept && are_agreed verdicts)
     (λ agreed. let parts = and_parts (is_empty round.kept) (are_agreed verdicts) agreed in cases.committed reply round staple server verdicts y e parts.0 parts.1)
     (λ other. cases.ignored)
-counted_by sc c mail P cases reply round staple server verdicts (other ∷ others) y e = cases.counted reply round staple server verdicts other others y e
+on_reply_by sc c mail P cases reply round staple server verdicts (other ∷ others) y e = cases.counted reply round staple server verdicts other others y e
 
-voted_by : (sc : Scenario) (c : Coordinator) (mail : Mail) (P : Effect Coordinator → Type 0) → CoordinatorCases sc c mail P → (reply : VoteReply) (round : Round) (staple : Staple) (server : ServerId) (said : Vote)
-    → ((verdicts : List Verdict) → said ≡ vote.Yes verdicts → IsYes c mail reply round staple server verdicts) → P (voted c round staple server said)
-voted_by sc c mail P cases reply round staple server (vote.Yes verdicts) y = counted_by sc c mail P cases reply round staple server verdicts (without round.awaited server) (y verdicts refl) refl
-voted_by sc c mail P cases reply round staple server (vote.No why) y = cases.ignored
+on_vote_of_by : (sc : Scenario) (c : Coordinator) (mail : Mail) (P : Effect Coordinator → Type 0) → CoordinatorCases sc c mail P → (reply : VoteReply) (round : Round) (staple : Staple) (server : ServerId) (said : Vote)
+    → ((verdicts : List Verdict) → said ≡ vote.Yes verdicts → IsYes c mail reply round staple server verdicts) → P (on_vote_of c round staple server said)
+on_vote_of_by sc c mail P cases reply round staple server (vote.Yes verdicts) y = on_reply_by sc c mail P cases reply round staple server verdicts (without round.awaited server) (y verdicts refl) refl
+on_vote_of_by sc c mail P cases reply round staple server (vote.No why) y = cases.ignored
 
 vote_by_phase : (sc : Scenario) (c : Coordinator) (mail : Mail) (P : Effect Coordinator → Type 0) → CoordinatorCases sc c mail P → (reply : VoteReply) (awaited : Phase) (server : ServerId)
     → mail.letter.body ≡ body.Vote reply → mail.letter.from ≡ actor.Server server → (reply.turn == c.turn) ≡ true → c.phase ≡ awaited → awaits_vote awaited server ≡ true
     → P (vote_at c awaited server reply.vote)
 vote_by_phase sc c mail P cases reply (phase.Checking round staple) server e from present checking is_awaited_here =
-    voted_by sc c mail P cases reply round staple server reply.vote
+    on_vote_of_by sc c mail P cases reply round staple server reply.vote
     (λ verdicts yes_is. record { said_is = e; from_is = from; present = present; checking = checking; awaited = is_awaited_here; vote_is = yes_is })
 vote_by_phase sc c mail P cases reply _ server e from present checking is_awaited_here = cases.ignored
 
@@ -156,7 +156,7 @@ said_by sc c mail P cases (body.Done done) e =
     (λ awaited. by_cond P (is_plain c.phase) (λ plain. asked_by sc c mail P cases done (query_of sc c done.query) e awaited plain refl) (λ stapled. cases.ignored))
     (λ other. cases.ignored)
 said_by sc c mail P cases (body.Tell tell) e =
-    by_cond P (tell.turn == c.turn) (λ present. told_by_phase sc c mail P cases tell c.phase e present refl) (λ late. cases.ignored)
+    by_cond P (tell.turn == c.turn) (λ present. on_staple_by sc c mail P cases tell c.phase e present refl) (λ late. cases.ignored)
 said_by sc c mail P cases (body.Vote reply) e = vote_by_sender sc c mail P cases reply mail.letter.from e refl
 said_by sc c mail P cases (body.Ack ack) e = ack_by_phase sc c mail P cases ack c.phase e refl
 said_by sc c mail P cases _ e = cases.ignored

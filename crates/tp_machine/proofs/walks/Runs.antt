@@ -9,22 +9,22 @@ use Rattle.tp_model.specs.Commits.{are_lone}
 use Rattle.tp_model.specs.SerialRun.{is_serial}
 use Rattle.tp_model.specs.Trust.{is_trusted}
 use Rattle.tp_machine.specs.declared.error.StepError.{StepError}
-use Rattle.tp_machine.specs.Machine.{Machine, State, after, after_step, after_steps, done, opening, opening_state, refusal}
+use Rattle.tp_machine.specs.Machine.{Machine, State, after, after_step, after_steps, machine_after, opening, opening_state, refusal}
 use Rattle.tp_machine.specs.Laws.{HasAllCommits, IsTrustedState}
 use Rattle.tp_machine.specs.Sound.{Each, IsSound, IsStepOf}
 use Rattle.tp_machine.proofs.agreement.World.{Agrees}
-use Rattle.tp_machine.proofs.ages.World.{Ages, ages_done, ages_opening}
+use Rattle.tp_machine.proofs.ages.World.{Ages, ages_next, ages_opening}
 use Rattle.tp_machine.proofs.agreement.End.{facts_agreed}
-use Rattle.tp_machine.proofs.agreement.Steps.{agrees_done, agrees_opening}
-use Rattle.tp_machine.proofs.epochs.World.{Epochs, epochs_done, epochs_opening}
-use Rattle.tp_machine.proofs.serial_data.Lone.{AreLone, facts_lone, lone_done, lone_opening}
-use Rattle.tp_machine.proofs.outside.Steps.{outside_done, outside_opening}
-use Rattle.tp_machine.proofs.ids.Steps.{sound_done, sound_opening}
+use Rattle.tp_machine.proofs.agreement.Steps.{agrees_next, agrees_opening}
+use Rattle.tp_machine.proofs.epochs.World.{Epochs, epochs_next, epochs_opening}
+use Rattle.tp_machine.proofs.serial_data.Lone.{AreLone, facts_lone, lone_next, lone_opening}
+use Rattle.tp_machine.proofs.outside.Steps.{outside_next, outside_opening}
+use Rattle.tp_machine.proofs.ids.Steps.{sound_next, sound_opening}
 use Rattle.tp_machine.proofs.serial_data.End.{serial_facts, serial_values, values_at_end}
-use Rattle.tp_machine.proofs.serial_data.Steps.{serial_done, serial_opening}
+use Rattle.tp_machine.proofs.serial_data.Steps.{serial_next, serial_opening}
 use Rattle.tp_machine.proofs.serial_data.World.{Serial}
 use Rattle.tp_machine.proofs.trust.End.{facts_caused, facts_trusted}
-use Rattle.tp_machine.proofs.trust.Steps.{trusts_done, trusts_opening}
+use Rattle.tp_machine.proofs.trust.Steps.{trusts_next, trusts_opening}
 use Rattle.tp_machine.proofs.trust.World.{Trusts}
 
 -- what holds of every world: its ids exist, its actors agree, its commits are trusted and serial, and what
@@ -44,22 +44,22 @@ holds_opening sc built =
     record { sound = sound_opening sc built; agrees = agrees_opening sc; epochs = epochs_opening sc; ages = ages_opening sc; lone = lone_opening; outside = outside_opening sc; trusts = trusts_opening sc built; serial = serial_opening sc built }
 
 -- each invariant may lean on all the others before the step
-pub holds_done : (sc : Scenario) (m : Machine) (taken : Step) → is_built sc ≡ true → IsStepOf sc taken → refusal m.state taken ≡ None → Holds sc m.state → Holds sc (done sc m taken).state
-holds_done sc m taken built exists allowed h =
+pub holds_next : (sc : Scenario) (m : Machine) (taken : Step) → is_built sc ≡ true → IsStepOf sc taken → refusal m.state taken ≡ None → Holds sc m.state → Holds sc (machine_after sc m taken).state
+holds_next sc m taken built exists allowed h =
     record {
-      sound = sound_done sc m taken built exists allowed h.agrees.coordinator_count h.sound;
-      agrees = agrees_done sc m taken built exists allowed h.sound h.agrees;
-      epochs = epochs_done sc m taken exists allowed h.sound h.agrees h.epochs;
-      ages = ages_done sc m taken exists allowed h.sound h.agrees h.ages;
-      lone = lone_done sc m taken exists allowed h.agrees.coordinator_count h.agrees.past h.lone;
-      outside = outside_done sc m taken exists allowed h.agrees.coordinator_count h.agrees.past h.outside;
-      trusts = trusts_done sc m taken built exists allowed h.sound h.agrees h.trusts;
-      serial = serial_done sc m taken built exists allowed h.sound h.agrees h.serial;
+      sound = sound_next sc m taken built exists allowed h.agrees.coordinator_count h.sound;
+      agrees = agrees_next sc m taken built exists allowed h.sound h.agrees;
+      epochs = epochs_next sc m taken exists allowed h.sound h.agrees h.epochs;
+      ages = ages_next sc m taken exists allowed h.sound h.agrees h.ages;
+      lone = lone_next sc m taken exists allowed h.agrees.coordinator_count h.agrees.past h.lone;
+      outside = outside_next sc m taken exists allowed h.agrees.coordinator_count h.agrees.past h.outside;
+      trusts = trusts_next sc m taken built exists allowed h.sound h.agrees h.trusts;
+      serial = serial_next sc m taken built exists allowed h.sound h.agrees h.serial;
     }
 
 step_holds : (sc : Scenario) (m : Machine) (taken : Step) (why : Option StepError) → refusal m.state taken ≡ why → is_built sc ≡ true → IsStepOf sc taken → Holds sc m.state
-    → Holds sc (if is_some why then m else done sc m taken).state
-step_holds sc m taken None e built exists h = holds_done sc m taken built exists e h
+    → Holds sc (if is_some why then m else machine_after sc m taken).state
+step_holds sc m taken None e built exists h = holds_next sc m taken built exists e h
 step_holds sc m taken (Some why) e built exists h = h
 
 steps_hold : (sc : Scenario) (m : Machine) (steps : List Step) → is_built sc ≡ true → Each (IsStepOf sc) steps → Holds sc m.state → Holds sc (after_steps sc m steps).state

@@ -5,7 +5,7 @@ use Rattle.tp_model.specs.Stage.{is_empty}
 use Rattle.tp_model.specs.Words.{Body, DecideRequest, Deed, Mail, PrepareRequest, QueryRequest, Scenario, Staple}
 use Rattle.tp_model.specs.Words.body
 use Rattle.tp_machine.specs.declared.server.Entry.{Entry}
-use Rattle.tp_machine.specs.server.Row.{are_in_range, asked_item, asked_to_vote, begins, entry_at, evaluates, has_answered, is_open, names_another_epoch, on_body, plain_write, queried, server_row, settles, votes}
+use Rattle.tp_machine.specs.server.Row.{are_in_range, asked_item, asked_to_vote, begins, entry_at, evaluates, has_answered, is_open, names_another_epoch, on_body, on_open_query, plain_write, server_row, settles, votes}
 use Rattle.tp_machine.specs.server.State.{Server}
 use Rattle.tp_machine.proofs.basics.Lists.{by_cond}
 
@@ -53,11 +53,11 @@ begun_by sc s mail P cases q None e unsettled none unnamed w = cases.ignored
 begun_by sc s mail P cases q (Some deed) e unsettled none unnamed w =
     cases.begun q deed (record { said_is = e; unsettled = unsettled; no_entry = none; unnamed = none_of q.epoch unnamed; writes = w })
 
-queried_by : (sc : Scenario) (s : Server) (mail : Mail) (P : Effect Server → Type 0) → ServerCases sc s mail P → (q : QueryRequest) (entry : Option Entry) → mail.letter.body ≡ body.Query q
-    → is_open s q.txn ≡ true → entry_at s q.txn ≡ entry → P (queried sc s mail.sent q entry)
-queried_by sc s mail P cases q None e unsettled found =
+on_open_query_by : (sc : Scenario) (s : Server) (mail : Mail) (P : Effect Server → Type 0) → ServerCases sc s mail P → (q : QueryRequest) (entry : Option Entry) → mail.letter.body ≡ body.Query q
+    → is_open s q.txn ≡ true → entry_at s q.txn ≡ entry → P (on_open_query sc s mail.sent q entry)
+on_open_query_by sc s mail P cases q None e unsettled found =
     by_cond P (is_some q.epoch) (λ named. cases.ignored) (λ unnamed. begun_by sc s mail P cases q (plain_write q (asked_item sc q) q.value) e unsettled found unnamed refl)
-queried_by sc s mail P cases q (Some entry) e unsettled found =
+on_open_query_by sc s mail P cases q (Some entry) e unsettled found =
     by_cond P (is_some entry.ballot) (λ voted. cases.ignored)
     (λ unvoted. by_cond P (names_another_epoch q entry) (λ another. cases.ignored)
     (λ same. by_cond P (has_answered entry q) (λ answered. cases.ignored)
@@ -97,7 +97,7 @@ asked_to_vote_by sc s mail P cases p (Some entry) e unsettled found =
 
 said_by : (sc : Scenario) (s : Server) (mail : Mail) (P : Effect Server → Type 0) → ServerCases sc s mail P → (said : Body) → mail.letter.body ≡ said → P (on_body sc s mail.sent said)
 said_by sc s mail P cases (body.Query q) e =
-    by_cond P (is_open s q.txn) (λ unsettled. queried_by sc s mail P cases q (entry_at s q.txn) e unsettled refl) (λ settled. cases.ignored)
+    by_cond P (is_open s q.txn) (λ unsettled. on_open_query_by sc s mail P cases q (entry_at s q.txn) e unsettled refl) (λ settled. cases.ignored)
 said_by sc s mail P cases (body.Prepare p) e =
     by_cond P (is_open s p.txn) (λ unsettled. asked_to_vote_by sc s mail P cases p (entry_at s p.txn) e unsettled refl) (λ settled. cases.ignored)
 said_by sc s mail P cases (body.Decide d) e =

@@ -61,9 +61,9 @@ begins sc c (Some query) = sends_first c (server_of sc query) (written_constant 
 abbrev pub submit_row : Scenario → Coordinator → Effect Coordinator
 submit_row sc c = begins sc c (query_of sc c 1)
 
--- the place of the submission is known after it
-abbrev pub placed : Coordinator → ℕ → Coordinator
-placed c place = record c { age = Some place }
+-- a coordinator that knows the place of its submission
+abbrev pub coordinator_with_age : Coordinator → ℕ → Coordinator
+coordinator_with_age c place = record c { age = Some place }
 
 -- ---- Done
 
@@ -83,9 +83,9 @@ asks c =
 abbrev pub deed_of : ℕ → Query → ℤ → Deed
 deed_of number query value = record { query = number; item = item_of query; action = action.Write; value = value }
 
--- the deed of a query that ran, and the epoch of its server
-abbrev pub ran : Coordinator → ServerId → DoneReply → Query → ℤ → Coordinator
-ran c server done query value =
+-- a coordinator with the deed of a query that ran, and the epoch of its server
+abbrev pub with_deed : Coordinator → ServerId → DoneReply → Query → ℤ → Coordinator
+with_deed c server done query value =
     record c { epochs = slice_set c.epochs server.0 (Some done.epoch); deeds = c.deeds ++ deed_of done.query query value ∷ [] }
 
 -- the query is a write of a constant and the last one
@@ -93,18 +93,18 @@ abbrev pub is_last_write : Scenario → Coordinator → Query → ℕ → Bool
 is_last_write sc c query number = is_some (written_constant query) && nat_lt number (2 ^ 32 - 1) && is_none (query_of sc c (number + 1))
 
 -- by the answer. A read, a further query, and an answer that ends the transaction are not built
-abbrev pub answered : Scenario → Coordinator → ServerId → DoneReply → Query → Answer → Effect Coordinator
-answered sc c server done query (answer.Ran value None) = if is_last_write sc c query done.query then asks (ran c server done query value) else unbuilt c
-answered sc c server done query _ = unbuilt c
+abbrev pub on_answer : Scenario → Coordinator → ServerId → DoneReply → Query → Answer → Effect Coordinator
+on_answer sc c server done query (answer.Ran value None) = if is_last_write sc c query done.query then asks (with_deed c server done query value) else unbuilt c
+on_answer sc c server done query _ = unbuilt c
 
 -- the reply to a query, from the server that was asked
-abbrev pub replied_by : Scenario → Coordinator → Actor → DoneReply → Query → Option ServerId → Effect Coordinator
-replied_by sc c from done query None = ignores c
-replied_by sc c from done query (Some server) = if is_from from server then answered sc c server done query done.answer else ignores c
+abbrev pub on_done_from : Scenario → Coordinator → Actor → DoneReply → Query → Option ServerId → Effect Coordinator
+on_done_from sc c from done query None = ignores c
+on_done_from sc c from done query (Some server) = if is_from from server then on_answer sc c server done query done.answer else ignores c
 
-abbrev pub done_of : Scenario → Coordinator → Actor → DoneReply → Option Query → Effect Coordinator
-done_of sc c from done None = ignores c
-done_of sc c from done (Some query) = replied_by sc c from done query (server_of sc query)
+abbrev pub on_done_of_query : Scenario → Coordinator → Actor → DoneReply → Option Query → Effect Coordinator
+on_done_of_query sc c from done None = ignores c
+on_done_of_query sc c from done (Some query) = on_done_from sc c from done query (server_of sc query)
 
 -- the query that is awaited, in the present turn
 abbrev pub awaits_query : Coordinator → Phase → DoneReply → Bool
@@ -119,7 +119,7 @@ is_plain _ = true
 abbrev pub on_done : Scenario → Coordinator → Phase → Actor → DoneReply → Effect Coordinator
 on_done sc c awaited from done =
     if awaits_query c awaited done
-    then (if is_plain awaited then done_of sc c from done (query_of sc c done.query) else unbuilt c)
+    then (if is_plain awaited then on_done_of_query sc c from done (query_of sc c done.query) else unbuilt c)
     else ignores c
 
 -- ---- Tell
@@ -141,12 +141,12 @@ prepares c round staple =
     sends (record c { turn = next_turn c; phase = phase.Checking round staple }) (map (prepare_letter c staple) round.awaited)
 
 -- the authority was asked before a round; a round that is not the first is not built
-abbrev pub told : Coordinator → Phase → Staple → Effect Coordinator
-told c (phase.Asking round) staple = if is_none round.aim then prepares c round staple else unbuilt c
-told c _ staple = ignores c
+abbrev pub on_staple : Coordinator → Phase → Staple → Effect Coordinator
+on_staple c (phase.Asking round) staple = if is_none round.aim then prepares c round staple else unbuilt c
+on_staple c _ staple = ignores c
 
 abbrev pub on_tell : Coordinator → Phase → ℕ → TellReply → Effect Coordinator
-on_tell c awaited sent tell = if tell.turn == c.turn then told c awaited (staple_of tell sent) else ignores c
+on_tell c awaited sent tell = if tell.turn == c.turn then on_staple c awaited (staple_of tell sent) else ignores c
 
 -- ---- Vote
 
@@ -172,11 +172,11 @@ agrees one other = if one.admin.0 == other.admin.0 then one.version.0 == other.v
 abbrev pub are_agreed : List Verdict → Bool
 are_agreed verdicts = list_all is_true_verdict verdicts && list_all (λ (one : Verdict). list_all (agrees one) verdicts) verdicts
 
-abbrev pub closed : Coordinator → List Verdict → List Instance
-closed c proofs = c.instances ++ record { reading = None; proofs = proofs } ∷ []
+abbrev pub instances_with : Coordinator → List Verdict → List Instance
+instances_with c proofs = c.instances ++ record { reading = None; proofs = proofs } ∷ []
 
 abbrev pub commit_record : Coordinator → ℕ → List Verdict → CommitRecord
-commit_record c rounds proofs = record { rounds = rounds; instances = closed c proofs; deeds = c.deeds }
+commit_record c rounds proofs = record { rounds = rounds; instances = instances_with c proofs; deeds = c.deeds }
 
 abbrev pub decide_letters : Coordinator → Outcome → List Letter
 decide_letters c outcome = requests c (body.Decide (record { txn = c.txn; outcome = outcome })) c.servers
@@ -184,24 +184,24 @@ decide_letters c outcome = requests c (body.Decide (record { txn = c.txn; outcom
 -- the commit is forced before it is sent to all of the transaction's servers
 abbrev pub commits : Coordinator → ℕ → List Verdict → Effect Coordinator
 commits c rounds proofs =
-    logs (record c { instances = closed c proofs; phase = phase.Ending Commit c.servers })
+    logs (record c { instances = instances_with c proofs; phase = phase.Ending Commit c.servers })
     (log.Decided (record { txn = c.txn; decision = decision.Commit (commit_record c rounds proofs) }))
     (decide_letters c Commit)
 
 -- a round in which all have replied is judged. One server's proofs that agree commit; proofs of several servers, a false one
 -- and differing versions are not built
-abbrev pub judged : Coordinator → Round → List Verdict → Effect Coordinator
-judged c round verdicts = if is_empty round.kept && are_agreed verdicts then commits c round.number verdicts else unbuilt c
+abbrev pub judgement : Coordinator → Round → List Verdict → Effect Coordinator
+judgement c round verdicts = if is_empty round.kept && are_agreed verdicts then commits c round.number verdicts else unbuilt c
 
-abbrev pub replied : Coordinator → Round → Staple → ServerId → List Verdict → List ServerId → Effect Coordinator
-replied c round staple server verdicts [] = judged c round verdicts
-replied c round staple server verdicts (other ∷ others) =
+abbrev pub on_reply : Coordinator → Round → Staple → ServerId → List Verdict → List ServerId → Effect Coordinator
+on_reply c round staple server verdicts [] = judgement c round verdicts
+on_reply c round staple server verdicts (other ∷ others) =
     sends (record c { phase = phase.Checking (with_reply round server verdicts) staple }) []
 
 -- a NO ends the transaction, which is not built
-abbrev pub voted : Coordinator → Round → Staple → ServerId → Vote → Effect Coordinator
-voted c round staple server (vote.Yes verdicts) = replied c round staple server verdicts (without round.awaited server)
-voted c round staple server (vote.No why) = unbuilt c
+abbrev pub on_vote_of : Coordinator → Round → Staple → ServerId → Vote → Effect Coordinator
+on_vote_of c round staple server (vote.Yes verdicts) = on_reply c round staple server verdicts (without round.awaited server)
+on_vote_of c round staple server (vote.No why) = unbuilt c
 
 -- the vote of this server is awaited
 abbrev pub awaits_vote : Phase → ServerId → Bool
@@ -209,7 +209,7 @@ awaits_vote (phase.Checking round staple) server = is_awaited round.awaited serv
 awaits_vote _ server = false
 
 abbrev pub vote_at : Coordinator → Phase → ServerId → Vote → Effect Coordinator
-vote_at c (phase.Checking round staple) server said = voted c round staple server said
+vote_at c (phase.Checking round staple) server said = on_vote_of c round staple server said
 vote_at c _ server said = ignores c
 
 abbrev pub on_vote : Coordinator → Phase → Actor → VoteReply → Effect Coordinator

@@ -3,19 +3,19 @@ use Rattle.std.specs.Prelude.{◌≡◌, map}
 use Rattle.tp_machine.specs.declared.actors.Actors.{Actors}
 use Rattle.tp_machine.specs.declared.part.Act.{Act}
 use Rattle.tp_machine.specs.Parts.{Part}
-use Rattle.tp_machine.specs.Machine.{Acted, Turn, is_part_down}
+use Rattle.tp_machine.specs.Machine.{Move, PartMove, is_part_down}
 
 -- an actor acted so
-pub record Acts {S : Type 0} (acted : Acted S) (part : Part S) (act : Act) : Type 0 where
-  pub part_is : part ≡ acted.part
-  pub happened_is : act.happened ≡ acted.happened
-  pub letters_are : act.letters ≡ acted.letters
+pub record Acts {S : Type 0} (move : PartMove S) (part : Part S) (act : Act) : Type 0 where
+  pub part_is : part ≡ move.part
+  pub happened_is : act.happened ≡ move.happened
+  pub letters_are : act.letters ≡ move.letters
 
--- the actors took this turn
-pub record Turns (turn : Turn) (actors : Actors) (act : Act) : Type 0 where
-  pub actors_are : actors ≡ turn.actors
-  pub happened_is : act.happened ≡ turn.happened
-  pub letters_are : act.letters ≡ turn.letters
+-- the actors made this move
+pub record Moves (move : Move) (actors : Actors) (act : Act) : Type 0 where
+  pub actors_are : actors ≡ move.actors
+  pub happened_is : act.happened ≡ move.happened
+  pub letters_are : act.letters ≡ move.letters
 
 -- each actor is up where it was, and down where it was
 pub record SameUp (old new : Actors) : Type 0 where

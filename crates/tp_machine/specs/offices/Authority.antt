@@ -7,8 +7,8 @@ use Rattle.tp_machine.specs.offices.State.{Authority}
 use Rattle.tp_types.specs.Effect.{Effect, ignores, sends}
 
 -- the authority as it stands before the first step
-abbrev pub opened : Scenario → Authority
-opened sc = record { clock = sc.clock; revoked = [] }
+abbrev pub opening : Scenario → Authority
+opening sc = record { clock = sc.clock; revoked = [] }
 
 -- an Ask is answered with the clock and the revocations
 abbrev pub tells : Authority → AskRequest → Effect Authority

@@ -8,8 +8,8 @@ use Rattle.tp_machine.specs.server.State.{Server}
 abbrev pub known_at_first : Scenario → ServerId → List Version
 known_at_first sc server = option_map_or (λ (declared : ServerDecl). declared.knows) (slice_get sc.servers server.0) []
 
-abbrev pub opened : Scenario → ServerId → Server
-opened sc server =
+abbrev pub opening : Scenario → ServerId → Server
+opening sc server =
     record {
       server = server;
       epoch = 1;

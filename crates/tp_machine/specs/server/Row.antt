@@ -16,7 +16,6 @@ use Rattle.tp_types.specs.declared.records.Outcome.TheVariants.{Commit}
 use Rattle.tp_model.specs.Limits.{is_between}
 use Rattle.tp_model.specs.Queries.{item_of, query_at}
 use Rattle.tp_model.specs.Stage.{is_empty}
-use Rattle.tp_machine.specs.coord.Row.{told}
 use Rattle.tp_machine.specs.declared.server.Entry.{Entry}
 use Rattle.tp_machine.specs.server.State.{Server}
 
@@ -54,20 +53,20 @@ abbrev pub age_of : QueryRequest → ℕ → ℕ
 age_of q sent = unwrap_or q.age sent
 
 -- the answer to a write that ran
-abbrev pub done : QueryRequest → ℕ → Deed → DoneReply
-done q epoch deed =
+abbrev pub done_reply : QueryRequest → ℕ → Deed → DoneReply
+done_reply q epoch deed =
     record { txn = q.txn; turn = q.turn; query = q.query; epoch = epoch; answer = answer.Ran deed.value None }
 
 -- the entry that a first write makes
 abbrev pub first_entry : Server → ℕ → QueryRequest → Deed → Entry
 first_entry s sent q deed =
-    record { age = age_of q sent; epoch = s.epoch; answers = done q s.epoch deed ∷ []; waiting = None; deeds = deed ∷ []; ballot = None }
+    record { age = age_of q sent; epoch = s.epoch; answers = done_reply q s.epoch deed ∷ []; waiting = None; deeds = deed ∷ []; ballot = None }
 
 -- a first write makes the entry and is answered; a read, and what is asked with a staple or a pin, is not built
 abbrev pub begins : Server → ℕ → QueryRequest → Option Deed → Effect Server
 begins s sent q None = unbuilt s
 begins s sent q (Some deed) =
-    sends (with_entry s q.txn (Some (first_entry s sent q deed))) (reply s q.txn (body.Done (done q s.epoch deed)) ∷ [])
+    sends (with_entry s q.txn (Some (first_entry s sent q deed))) (reply s q.txn (body.Done (done_reply q s.epoch deed)) ∷ [])
 
 -- the request names an epoch, and the entry was made in another
 abbrev pub names_another_epoch : QueryRequest → Entry → Bool
@@ -79,9 +78,9 @@ has_answered entry q = list_any (λ (given : DoneReply). given.query == q.query)
 
 -- a query of a transaction that is not settled. With an epoch that no entry has it is to be told that the server restarted; an answered one
 -- is to be answered again, and a further one is to run
-abbrev pub queried : Scenario → Server → ℕ → QueryRequest → Option Entry → Effect Server
-queried sc s sent q None = if is_some q.epoch then unbuilt s else begins s sent q (plain_write q (asked_item sc q) q.value)
-queried sc s sent q (Some entry) =
+abbrev pub on_open_query : Scenario → Server → ℕ → QueryRequest → Option Entry → Effect Server
+on_open_query sc s sent q None = if is_some q.epoch then unbuilt s else begins s sent q (plain_write q (asked_item sc q) q.value)
+on_open_query sc s sent q (Some entry) =
     if is_some entry.ballot then ignores s
     else if names_another_epoch q entry then unbuilt s
     else if has_answered entry q then unbuilt s
@@ -89,7 +88,7 @@ queried sc s sent q (Some entry) =
     else unbuilt s
 
 abbrev pub on_query : Scenario → Server → ℕ → QueryRequest → Effect Server
-on_query sc s sent q = if is_open s q.txn then queried sc s sent q (entry_at s q.txn) else ignores s
+on_query sc s sent q = if is_open s q.txn then on_open_query sc s sent q (entry_at s q.txn) else ignores s
 
 -- ---- Prepare
 
@@ -122,8 +121,8 @@ is_in_range_of (Some item) value = is_between item.min item.max value
 abbrev pub is_in_range : Scenario → Deed → Bool
 is_in_range sc deed = is_in_range_of (slice_get sc.items deed.item.0) deed.value
 
-abbrev pub prepared : Server → PrepareRequest → Entry → List Verdict → Prepared
-prepared s p entry verdicts =
+abbrev pub prepared_record : Server → PrepareRequest → Entry → List Verdict → Prepared
+prepared_record s p entry verdicts =
     record { txn = p.txn; age = entry.age; epoch = entry.epoch; turn = p.turn; deeds = entry.deeds; verdicts = verdicts; told = s.known }
 
 -- the vote YES, which is forced before it is sent
@@ -135,7 +134,7 @@ casts s forced entry =
 
 -- the vote after an evaluation with a staple of that place
 abbrev pub votes : Scenario → Server → PrepareRequest → ℕ → Entry → Effect Server
-votes sc s p place entry = casts s (prepared s p entry (map (verdict_on sc s place) entry.deeds)) entry
+votes sc s p place entry = casts s (prepared_record s p entry (map (verdict_on sc s place) entry.deeds)) entry
 
 -- each deed leaves its item in its range
 abbrev pub are_in_range : Scenario → List Deed → Bool

@@ -1,4 +1,4 @@
-use Rattle.std.proofs.Common.{◌≡◌, List, ℤ, true, ap, subst, ◌∙◌}
+use Rattle.std.proofs.Common.{◌≡◌, true, ap, subst, ◌∙◌}
 use Rattle.tp_model.specs.SerialRun.{overlaid, store_of}
 use Rattle.tp_model.specs.TrustedHistory.{have_ended}
 use Rattle.tp_machine.specs.Machine.{Machine, item_values}
