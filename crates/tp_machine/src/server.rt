@@ -1,8 +1,7 @@
 //! A server: what it does on receipt of a mail.
-ghost use Rattle.std.specs.Prelude.{◌≡◌, ◌==◌, Option, Some, None, [], ◌∷◌, map, slice_get, slice_set, IfOk};
-ghost use Rattle.std.specs.List.{list_any};
+ghost use Rattle.std.specs.Prelude.{◌≡◌, Option, Some, None, [], ◌∷◌, map, slice_get, slice_set, IfOk};
 ghost use Rattle.std.specs.Option.{option_copied};
-ghost use Rattle.tp_model.specs.Words.{DoneReply, Item};
+ghost use Rattle.tp_model.specs.Words.{Item};
 ghost use Rattle.tp_types.specs.declared.records.Outcome.TheVariants as Outcome;
 ghost use Rattle.tp_machine.specs.declared.server.Entry.{Entry};
 ghost use Rattle.tp_types.specs.Effect.{Gives};
@@ -155,15 +154,61 @@ impl Server {
             return Ok(ignored(alloc));
         }
         if let Some(entry) = self.entry_at(request.txn) {
-            return Ok(asked_again(alloc, entry, request));
+            return self.asked_again(alloc, entry, request);
         }
         if request.epoch.is_some() {
-            return Ok(unbuilt(alloc));
+            return self.restarts(alloc, request);
         }
         match plain_write(request, asked_item(scenario, request)) {
             None => Ok(unbuilt(alloc)),
             Some(deed) => self.begins(alloc, sent, request, deed),
         }
+    }
+
+    /// A query of a transaction that has an entry.
+    fn asked_again(
+        &self,
+        alloc: Global,
+        entry: &Entry,
+        request: &QueryRequest,
+    ) -> Result<Reaction, NoMemory>
+        ensures { IfOk result (λ reaction. Gives (row.on_query_again self.now request.now entry.now) self.now reaction) }
+    {
+        if entry.ballot.is_some() {
+            return Ok(ignored(alloc));
+        }
+        if names_another_epoch(entry, request) {
+            return self.restarts(alloc, request);
+        }
+        match answer_to(entry, request.query) {
+            Some(given) => {
+                let given = given.try_clone(alloc)?;
+                self.answers(alloc, request.txn, given)
+            }
+            None if entry.waiting.is_some() => Ok(ignored(alloc)),
+            None => Ok(unbuilt(alloc)),
+        }
+    }
+
+    /// What the transaction did here was lost in an earlier epoch.
+    fn restarts(&self, alloc: Global, request: &QueryRequest) -> Result<Reaction, NoMemory>
+        ensures { IfOk result (λ reaction. Gives (row.restarts self.now request.now) self.now reaction) }
+    {
+        let restarted = DoneReply {
+            txn: request.txn,
+            turn: request.turn,
+            query: request.query,
+            epoch: self.epoch,
+            answer: Answer::Restarted,
+        };
+        self.answers(alloc, request.txn, restarted)
+    }
+
+    fn answers(&self, alloc: Global, txn: TxnId, given: DoneReply) -> Result<Reaction, NoMemory>
+        ensures { IfOk result (λ reaction. Gives (row.answers self.now txn given) self.now reaction) }
+    {
+        let letter = self.reply(txn, Body::Done(given));
+        sent_alone(alloc, letter)
     }
 
     fn begins(
@@ -300,7 +345,7 @@ impl Server {
         ensures { IfOk result (λ reaction. Gives (row.on_decide self.old request) self.new reaction) }
     {
         if !self.is_open(request.txn) {
-            return Ok(unbuilt(alloc));
+            return self.on_settled_decide(alloc, request);
         }
         let at = request.txn.0 as usize;
         if let Outcome::Commit = request.outcome {
@@ -313,8 +358,27 @@ impl Server {
         };
         self.settled.put(at, Some(settled));
         self.entries.put(at, None);
-        let letter = self.reply(request.txn, Body::Ack(AckReply { txn: request.txn }));
+        let letter = self.ack_letter(request.txn);
         forced_and_sent(alloc, Record::Settled(settled), letter)
+    }
+
+    /// An order to end what may be settled already.
+    fn on_settled_decide(&self, alloc: Global, request: DecideRequest) -> Result<Reaction, NoMemory>
+        ensures { IfOk result (λ reaction. Gives (row.on_settled_decide self.now request (flattened (slice_get self.now.settled request.txn.0))) self.now reaction) }
+    {
+        match self.settled.get(request.txn.0 as usize) {
+            Some(Some(_)) => {
+                let letter = self.ack_letter(request.txn);
+                sent_alone(alloc, letter)
+            }
+            _ => Ok(ignored(alloc)),
+        }
+    }
+
+    fn ack_letter(&self, txn: TxnId) -> Letter
+        ensures { result ≡ row.ack_letter self.now txn }
+    {
+        self.reply(txn, Body::Ack(AckReply { txn }))
     }
 
     fn apply(&mut self, txn: TxnId)
@@ -327,22 +391,6 @@ impl Server {
     }
 }
 
-/// A query of a transaction that has an entry.
-fn asked_again(alloc: Global, entry: &Entry, request: &QueryRequest) -> Reaction
-    ensures { result ≡ record { append = None; letters = [] } }
-{
-    if entry.ballot.is_some() {
-        return ignored(alloc);
-    }
-    if names_another_epoch(entry, request) || has_answered(entry, request.query) {
-        return unbuilt(alloc);
-    }
-    if entry.waiting.is_some() {
-        return ignored(alloc);
-    }
-    unbuilt(alloc)
-}
-
 /// Whether the request names an epoch, and the entry was made in another.
 fn names_another_epoch(entry: &Entry, request: &QueryRequest) -> bool
     ensures { result ≡ row.names_another_epoch request.now entry.now }
@@ -353,15 +401,15 @@ fn names_another_epoch(entry: &Entry, request: &QueryRequest) -> bool
     }
 }
 
-/// Whether a query of this number was answered.
-fn has_answered(entry: &Entry, number: u32) -> bool
-    ensures { result ≡ list_any (λ (given : DoneReply). given.query == number) entry.now.answers }
+/// The answer that a query of this number was given.
+fn answer_to(entry: &Entry, number: u32) -> Option<&DoneReply>
+    ensures { option_copied result ≡ row.answer_to entry.now number }
 {
     entry
         .answers
         .as_slice()
         .iter()
-        .any(|given| given.query == number)
+        .find(|given| given.query == number)
 }
 
 fn apply_deeds(values: &mut List<i128>, deeds: &[Deed])

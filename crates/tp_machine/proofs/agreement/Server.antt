@@ -4,11 +4,11 @@
 use Rattle.std.specs.Prelude.{if◌then◌else◌}
 use Rattle.std.proofs.Common.{Bool, IfSome, List, None, Option, Some, [], ap, false, is_some, map, option_and_then, option_map, refl, slice_get, slice_set, subst, suc, sym, true, zero, ℕ, ◌==◌, ◌∙◌, ◌∷◌, ◌≡◌}
 use Rattle.std.proofs.lemmas.Bool.{eqb-true}
-use Rattle.tp_types.specs.Effect.{Effect, ignores}
+use Rattle.tp_types.specs.Effect.{Effect, ignores, sends}
 use Rattle.tp_types.specs.Table.{flattened, is_unset}
 use Rattle.tp_model.specs.Facts.{first_of}
 use Rattle.tp_model.specs.Ids.{same_txn}
-use Rattle.tp_model.specs.Words.{Body, DecideRequest, Deed, Letter, Mail, Outcome, PrepareRequest, Prepared, QueryRequest, Record, Scenario, ServerId, Settled, TxnId, Verdict, Vote}
+use Rattle.tp_model.specs.Words.{Body, DecideRequest, Deed, DoneReply, Letter, Mail, Outcome, PrepareRequest, Prepared, QueryRequest, Record, Scenario, ServerId, Settled, TxnId, Verdict, Vote}
 use Rattle.tp_model.specs.Words.actor
 use Rattle.tp_model.specs.Words.body
 use Rattle.tp_model.specs.Words.log
@@ -19,7 +19,7 @@ use Rattle.tp_machine.specs.Machine.{log_with}
 use Rattle.tp_machine.specs.Sound.{Each, EachPlaced}
 use Rattle.tp_machine.specs.declared.server.Ballot.{Ballot}
 use Rattle.tp_machine.specs.declared.server.Entry.{Entry}
-use Rattle.tp_machine.specs.server.Row.{begins, entry_at, first_entry, is_open, prepared_record, reply, server_row, settled_as, settles, verdict_on, votes}
+use Rattle.tp_machine.specs.server.Row.{ack_letter, answers, begins, entry_at, first_entry, is_open, prepared_record, reply, restarted_reply, server_row, settled_as, settles, verdict_on, votes}
 use Rattle.tp_machine.specs.server.State.{Server}
 use Rattle.tp_machine.proofs.agreement.Logs.{LogPrepared}
 use Rattle.tp_machine.proofs.basics.Ids.{number_itself, same_txn_is}
@@ -316,6 +316,15 @@ settles_lawful V M s kept d h unsettled decided asked =
       );
     }
 
+-- an order to end what is settled is acknowledged again
+acknowledges_lawful : (V : TxnId → Outcome → Type 0) (M : TxnId → Type 0) (s : Server) (kept : List Record) (d : DecideRequest) (settled : Settled) → ServerAgrees s kept
+    → flattened (slice_get s.settled d.txn.0) ≡ Some settled → ServerLawful V M s kept (sends s (ack_letter s d.txn ∷ []))
+acknowledges_lawful V M s kept d settled h found = record { agrees = h; rests = tt; replies = (record { from_is = refl; says = ap is_some (sym (h.settled d.txn) ∙ found) }, tt) }
+
+-- an answer rests on nothing
+answers_lawful : (V : TxnId → Outcome → Type 0) (M : TxnId → Type 0) (s : Server) (kept : List Record) (q : QueryRequest) (given : DoneReply) → ServerAgrees s kept → ServerLawful V M s kept (answers s q.txn given)
+answers_lawful V M s kept q given h = record { agrees = h; rests = tt; replies = (record { from_is = refl; says = tt }, tt) }
+
 -- every row of a server on receipt of a mail
 pub server_row_lawful : (V : TxnId → Outcome → Type 0) (M : TxnId → Type 0) (sc : Scenario) (s : Server) (kept : List Record) (mail : Mail) → ServerAgrees s kept → RequestRests V M mail.letter.body
     → ServerLawful V M s kept (server_row sc s mail)
@@ -324,6 +333,9 @@ server_row_lawful V M sc s kept mail h m =
     (record {
       ignored = ignores_lawful V M s kept h;
       begun = λ q deed k. begins_lawful V M s kept mail.sent q deed h (open_unsettled s kept q.txn h k.unsettled) k.no_entry;
+      restarted = λ q k. answers_lawful V M s kept q (restarted_reply q s.epoch) h;
+      answered = λ q entry given k. answers_lawful V M s kept q given h;
       voted = λ p entry staple k. votes_lawful V M sc s kept p staple.place entry h (open_unsettled s kept p.txn h k.unsettled) k.found;
       settled = λ d k. let rests = subst (RequestRests V M) k.said_is m in settles_lawful V M s kept d h k.unsettled rests.0 rests.1;
+      acknowledged = λ d settled k. acknowledges_lawful V M s kept d settled h k.found;
     })

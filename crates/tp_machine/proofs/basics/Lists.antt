@@ -1,5 +1,5 @@
 -- Laws of what holds of each member of a list or table, as the list grows or changes.
-use Rattle.std.proofs.Common.{◌≡◌, ℕ, zero, suc, ◌+◌, ◌<◌, List, [], ◌∷◌, ◌++◌, length, map, filter, flat_map, drop, replicate, slice_get, slice_set, Bool, true, false, Option, Some, None, if◌then◌else◌, refl, subst, arith}
+use Rattle.std.proofs.Common.{Bool, List, None, Option, Some, [], arith, drop, false, filter, find, flat_map, if◌then◌else◌, length, map, refl, replicate, slice_get, slice_set, subst, suc, true, zero, ℕ, ◌++◌, ◌+◌, ◌<◌, ◌∷◌, ◌≡◌}
 use Rattle.std.specs.List.{list_all, range_with_len}
 use Rattle.tp_machine.specs.Sound.{Each, EachPlaced, EachAt}
 
@@ -47,6 +47,15 @@ pub each_set : {A : Type 0} (P : A → Type 0) (xs : List A) (k : ℕ) (v : A) �
 each_set P [] k v h p = tt
 each_set P (x ∷ xs) zero v h p = (p, h.1)
 each_set P (x ∷ xs) (suc k) v h p = (h.0, each_set P xs k v h.1 p)
+
+found_first : {A : Type 0} (P : A → Type 0) (test : A → Bool) (y : A) (xs : List A) (x : A) (b : Bool) → test y ≡ b → P y → (find test xs ≡ Some x → P x) → find test (y ∷ xs) ≡ Some x → P x
+found_first P test y xs x true here p later e = let same : y ≡ x = grind arith in subst P same p
+found_first P test y xs x false other p later e = let next : find test xs ≡ Some x = grind arith in later next
+
+-- what a search finds is a member
+pub each_found : {A : Type 0} (P : A → Type 0) (test : A → Bool) (xs : List A) (x : A) → Each P xs → find test xs ≡ Some x → P x
+each_found P test [] x h e = absurd (cc)
+each_found P test (y ∷ xs) x h e = found_first P test y xs x (test y) refl h.0 (λ later. each_found P test xs x h.1 later) e
 
 pub each_get : {A : Type 0} (P : A → Type 0) (xs : List A) (k : ℕ) (x : A) → Each P xs → slice_get xs k ≡ Some x → P x
 each_get P [] k x h e = absurd (cc)

@@ -1,6 +1,6 @@
 -- Epochs, the actors' rows: what a server does it does in its epoch, and of a server that has told its epoch a coordinator keeps and
 -- names the one that was asked. A says which epochs were asked, E the present epoch of each server.
-use Rattle.std.proofs.Common.{Bool, IfSome, List, None, Option, Some, [], ap, arith, false, is_none, map, refl, subst, sym, true, ℕ, ◌++◌, ◌+◌, ◌∙◌, ◌∷◌, ◌≡◌, ◌≤◌}
+use Rattle.std.proofs.Common.{Bool, IfSome, List, None, Option, Some, [], ap, arith, false, is_none, map, refl, subst, sym, true, ℕ, ◌++◌, ◌+◌, ◌==◌, ◌∙◌, ◌∷◌, ◌≡◌, ◌≤◌}
 use Rattle.tp_types.specs.Effect.{Effect, ignores}
 use Rattle.tp_model.specs.Words.{Actor, Answer, Body, DecideRequest, Deed, DoneReply, Letter, Mail, PrepareRequest, Prepared, QueryRequest, Record, Scenario, ServerId, TxnId}
 use Rattle.tp_model.specs.Words.actor
@@ -17,7 +17,7 @@ use Rattle.tp_machine.proofs.epochs.Asked.{Asking, IsAsked, IsOwnNaming, LetterN
 use Rattle.tp_machine.proofs.basics.Phases.{is_first_at}
 use Rattle.tp_machine.proofs.walks.ServerRows.{server_by}
 use Rattle.tp_machine.proofs.ids.Built.{number_is}
-use Rattle.tp_machine.proofs.basics.Lists.{each_as, placed_emptied, placed_set}
+use Rattle.tp_machine.proofs.basics.Lists.{each_as, each_found, placed_emptied, placed_set}
 
 -- ---- what is said of epochs
 
@@ -129,11 +129,12 @@ pub record WaitsMade (sc : Scenario) (A : Asking) (at : ServerId) (epoch : ℕ) 
   pub first : is_none q.epoch ≡ is_first_at sc at q.txn q.query
   pub named : IfSome q.epoch (λ (named : ℕ). (A q.txn at ≡ Some named) × (named ≡ epoch))
 
--- an entry was made in the server's epoch or before; one that is not prepared in that epoch
+-- an entry was made in the server's epoch or before; one that is not prepared in that epoch. Its answers tell epochs that the server had
 pub record EntryMade (sc : Scenario) (A : Asking) (at : ServerId) (epoch : ℕ) (entry : Entry) : Type 0 where
   pub past : entry.epoch ≤ epoch
   pub present : is_none entry.ballot ≡ true → entry.epoch ≡ epoch
   pub waiting : IfSome entry.waiting (WaitsMade sc A at entry.epoch)
+  pub answers : Each (DoneMade sc A at epoch) entry.answers
 
 -- a server's epoch is that of its log
 pub record ServerMade (sc : Scenario) (A : Asking) (at : ServerId) (s : Server) (kept : List Record) : Type 0 where
@@ -177,11 +178,16 @@ begins_made sc A s kept sent q deed h first =
       made = record {
         epoch_is = h.epoch_is;
         entries = placed_set (λ (n : ℕ) (entry : Entry). EntryMade sc A s.server s.epoch entry) s.entries q.txn.0 (server.first_entry s sent q deed) h.entries
-            (record { past = omega arith; present = λ none. refl; waiting = tt });
+            (record { past = omega arith; present = λ none. refl; waiting = tt; answers = (record { past = omega arith; asked = λ ran later. absurd (cc) }, tt) });
       };
       forces = tt;
       replies = ((refl, record { past = omega (arith, h.epoch_is); asked = λ ran later. absurd (cc) }), tt);
     }
+
+-- an answer that is given again, or that the server restarted
+answers_made : (sc : Scenario) (A : Asking) (s : Server) (kept : List Record) (q : QueryRequest) (given : DoneReply) → ServerMade sc A s.server s kept → DoneMade sc A s.server s.epoch given
+    → RowEpochs sc A s kept (server.answers s q.txn given)
+answers_made sc A s kept q given h d = record { made = h; forces = tt; replies = ((refl, record { past = omega (arith, d.past, h.epoch_is); asked = d.asked }), tt) }
 
 votes_made : (sc : Scenario) (A : Asking) (s : Server) (kept : List Record) (p : PrepareRequest) (place : ℕ) (entry : Entry) → ServerMade sc A s.server s kept → server.entry_at s p.txn ≡ Some entry
     → entry.epoch ≡ p.epoch → A p.txn s.server ≡ Some p.epoch → RowEpochs sc A s kept (server.votes sc s p place entry)
@@ -191,7 +197,7 @@ votes_made sc A s kept p place entry h e same m =
       made = record {
         epoch_is = omega (arith, h.epoch_is, boots_push kept (log.Prepared (server.prepared_record s p entry (map (server.verdict_on sc s place) entry.deeds))));
         entries = placed_set (λ (n : ℕ) (found : Entry). EntryMade sc A s.server s.epoch found) s.entries p.txn.0 _ h.entries
-            (record { past = old.past; present = λ none. absurd (cc); waiting = old.waiting });
+            (record { past = old.past; present = λ none. absurd (cc); waiting = old.waiting; answers = old.answers });
       };
       forces = record { past = omega (arith, old.past, h.epoch_is); asked = m ∙ ap (λ (n : ℕ). Some n) (sym same) };
       replies = (tt, tt);
@@ -218,8 +224,13 @@ server_row_made sc A s kept mail h first m =
       begun = λ q deed k.
           let is_first : is_none q.epoch ≡ is_first_at sc s.server q.txn q.query = subst (QueryFirst sc (actor.Server s.server)) k.said_is first in
           begins_made sc A s kept mail.sent q deed h (sym is_first ∙ k.unnamed);
+      restarted = λ q k. answers_made sc A s kept q (server.restarted_reply q s.epoch) h (record { past = omega arith; asked = λ ran later. absurd (cc) });
+      answered = λ q entry given k.
+          answers_made sc A s kept q given h
+          (each_found (DoneMade sc A s.server s.epoch) (λ (d : DoneReply). d.query == q.query) entry.answers given (h.entries q.txn.0 entry k.found).answers k.given_is);
       voted = λ p entry staple k.
           let asked : A p.txn s.server ≡ Some p.epoch = subst (λ (said : Body). IfSome (naming_of said) (IsAsked A (actor.Server s.server))) k.said_is m in
           votes_made sc A s kept p staple.place entry h k.found (number_is entry.epoch p.epoch k.same_epoch) asked;
       settled = λ d k. settles_made sc A s kept d h;
+      acknowledged = λ d settled k. record { made = h; forces = tt; replies = (tt, tt) };
     })

@@ -34,7 +34,7 @@ use Rattle.tp_machine.proofs.agreement.Steps.{own_txn}
 use Rattle.tp_machine.proofs.agreement.World.{Agrees, CoordinatorUpAgrees}
 use Rattle.tp_machine.proofs.epochs.Asked.{Asking, IsAsked, LetterNamed, NamesNone, StaysAsked, asked_in, asked_more, asked_then, letter_stays, naming_of, none_then, other_then, then_stays}
 use Rattle.tp_machine.proofs.walks.Steps.{Cases, IsCoordinatorUp, IsServerUp, WasSent, machine_after_by}
-use Rattle.tp_machine.proofs.epochs.Server.{BodyTold, DoneTold, EntryMade, IsPlainLetter, LetterFirst, LetterTold, LettersEpochs, PreparedMade, QueryFirst, RecordMade, ReplyMade, ServerEpochs, ServerMade, WaitsMade, epoch_rises, plain_letters, plain_names_none, server_row_made}
+use Rattle.tp_machine.proofs.epochs.Server.{BodyTold, DoneMade, DoneTold, EntryMade, IsPlainLetter, LetterFirst, LetterTold, LettersEpochs, PreparedMade, QueryFirst, RecordMade, ReplyMade, ServerEpochs, ServerMade, WaitsMade, epoch_rises, plain_letters, plain_names_none, server_row_made}
 use Rattle.tp_machine.proofs.epochs.Coordinator.{IsMail, coordinator_row_keeps, submit_row_keeps}
 use Rattle.tp_machine.proofs.epochs.Kept.{CoordinatorEpochs, CoordinatorKeeps}
 use Rattle.tp_machine.proofs.basics.Ids.{server_number, txn_number}
@@ -136,7 +136,13 @@ server_still sc A B at kept (Some s) stays h =
     record {
       epoch_is = h.epoch_is;
       entries = λ n entry e. let was : EntryMade sc A at s.epoch entry = h.entries n entry e in
-          record { past = was.past; present = was.present; waiting = waits_still sc A B at entry.epoch entry.waiting stays was.waiting };
+          record {
+            past = was.past;
+            present = was.present;
+            waiting = waits_still sc A B at entry.epoch entry.waiting stays was.waiting;
+            answers = each_as (DoneMade sc A at s.epoch) (DoneMade sc B at s.epoch)
+                (λ given d. record { past = d.past; asked = λ ran later. stays given.txn at given.epoch (d.asked ran later) }) entry.answers was.answers;
+          };
     }
 
 part_still : (sc : Scenario) (A B : Asking) (at : ServerId) (part : Part Server) → StaysAsked A B → ServerPartMade sc A at part → ServerPartMade sc B at part

@@ -1,19 +1,19 @@
 -- The server's row keeps its state sound, forces a sound record, and sends sound letters.
-use Rattle.std.proofs.Common.{Bool, IfSome, List, None, Option, Some, [], ap, arith, false, is_none, is_some, length, map, option_map, refl, slice_get, subst, suc, sym, true, unwrap_or, zero, ℕ, ℤ, ◌&&◌, ◌<◌, ◌∙◌, ◌∷◌, ◌≡◌}
+use Rattle.std.proofs.Common.{Bool, IfSome, List, None, Option, Some, [], ap, arith, false, is_none, is_some, length, map, option_map, refl, slice_get, subst, suc, sym, true, unwrap_or, zero, ℕ, ℤ, ◌&&◌, ◌<◌, ◌==◌, ◌∙◌, ◌∷◌, ◌≡◌}
 use Rattle.std.proofs.lemmas.Option.{cond_some, same_Some}
 use Rattle.tp_types.specs.Effect.{Effect, ignores}
 use Rattle.tp_model.specs.Queries.{item_of}
-use Rattle.tp_model.specs.Words.{Admin, AdminId, Body, DecideRequest, Deed, Item, ItemId, Mail, PrepareRequest, QueryRequest, Scenario, ServerId, Settled, TxnId, Version}
+use Rattle.tp_model.specs.Words.{Admin, AdminId, Body, DecideRequest, Deed, DoneReply, Item, ItemId, Mail, PrepareRequest, QueryRequest, Scenario, ServerId, Settled, TxnId, Version}
 use Rattle.tp_model.specs.Words.action
 use Rattle.tp_model.specs.Words.actor
 use Rattle.tp_model.specs.Words.body
 use Rattle.tp_machine.specs.Sound.{AreSoundVerdicts, AreVersionsOf, Each, IsAdmin, IsItemOf, IsSoundBody, IsSoundDeedAt, IsSoundDone, IsSoundEntry, IsSoundLetter, IsSoundQuery, IsSoundServer, IsSoundServerRecord, IsSoundSettled, IsSoundVerdict, IsTxn, IsVersion, IsVersionOf, query_in}
 use Rattle.tp_machine.specs.declared.server.Entry.{Entry}
-use Rattle.tp_machine.specs.server.Row.{admin_of, asked_item, begins, done_reply, first_entry, plain_write, reply, server_row, settled_as, settles, verdict_on, version_known, votes}
+use Rattle.tp_machine.specs.server.Row.{admin_of, answers, asked_item, begins, done_reply, first_entry, plain_write, reply, restarted_reply, server_row, settled_as, settles, verdict_on, version_known, votes}
 use Rattle.tp_machine.specs.server.State.{Server}
 use Rattle.tp_machine.proofs.walks.ServerRows.{server_by}
 use Rattle.tp_machine.proofs.ids.Valid.{IsValid, IsValidItem}
-use Rattle.tp_machine.proofs.basics.Lists.{each_get, each_map, placed_emptied, placed_set}
+use Rattle.tp_machine.proofs.basics.Lists.{each_found, each_get, each_map, placed_emptied, placed_set}
 
 -- what a server's act leaves is sound: its state, still of the same server, what it forces and what it sends
 pub record IsSoundServerEffect (sc : Scenario) (s : Server) (effect : Effect Server) : Type 0 where
@@ -85,6 +85,14 @@ begins_sound sc s sent q deed h m e =
       forces = tt;
       sends_only = (reply_sound sc s q.txn (body.Done (done_reply q s.epoch deed)) h m.txn done_sound, tt);
     }
+
+-- an answer that is given again, or for the first time
+answers_sound : (sc : Scenario) (s : Server) (q : QueryRequest) (given : DoneReply) → IsSoundServer sc s → IsTxn sc q.txn → IsSoundDone sc (actor.Coordinator q.txn) given
+    → IsSoundServerEffect sc s (answers s q.txn given)
+answers_sound sc s q given h exists d = record { same_server = refl; state_is = h; forces = tt; sends_only = (reply_sound sc s q.txn (body.Done given) h exists d, tt) }
+
+restarted_sound : (sc : Scenario) (s : Server) (q : QueryRequest) → IsSoundQuery sc (actor.Server s.server) q → IsSoundDone sc (actor.Coordinator q.txn) (restarted_reply q s.epoch)
+restarted_sound sc s q m = record { txn = m.txn; goes_to = refl; query = record { asked = m.asked; asked_is = m.asked_is }; answer_is_sound = tt; proved = λ each. tt }
 
 -- ---- Prepare
 
@@ -167,8 +175,19 @@ server_row_sound sc s mail valid h m =
     (record {
       ignored = ignores_sound sc s h;
       begun = λ q deed k. begins_sound sc s mail.sent q deed h (said k.said_is) k.writes;
+      restarted = λ q k. answers_sound sc s q (restarted_reply q s.epoch) h (said k.said_is).txn (restarted_sound sc s q (said k.said_is));
+      answered = λ q entry given k.
+          answers_sound sc s q given h (said k.said_is).txn
+          (each_found (IsSoundDone sc (actor.Coordinator q.txn)) (λ (d : DoneReply). d.query == q.query) entry.answers given (h.entries q.txn.0 entry k.found).answers k.given_is);
       voted = λ p entry staple k. casts_sound sc s p staple.place entry valid h (said k.said_is).txn (h.entries p.txn.0 entry k.found);
       settled = λ d k. settles_sound sc s d h (said k.said_is).txn;
+      acknowledged = λ d settled k.
+          record {
+            same_server = refl;
+            state_is = h;
+            forces = tt;
+            sends_only = (reply_sound sc s d.txn _ h (said k.said_is).txn (record { txn = (said k.said_is).txn; goes_to = refl }), tt);
+          };
     })
   where
     said : {body : Body} → mail.letter.body ≡ body → IsSoundBody sc (actor.Server s.server) body

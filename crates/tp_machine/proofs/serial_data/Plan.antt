@@ -11,7 +11,6 @@ use Rattle.tp_model.specs.Words.what
 use Rattle.tp_model.specs.Ids.{same_server}
 use Rattle.tp_model.specs.Limits.{is_between}
 use Rattle.tp_model.specs.SerialRun.{opening_store, overlaid_at, serial_run}
-use Rattle.tp_machine.specs.Machine.{machine_after}
 use Rattle.tp_machine.specs.Sound.{Each}
 use Rattle.tp_machine.specs.server.Row.{committed}
 use Rattle.tp_machine.proofs.basics.Logs.{Prepares}

@@ -1,7 +1,7 @@
 -- Serial data, the server's rows: an entry and a vote YES have the server's part of the plan, and a settled commit applies it.
 use Rattle.std.specs.List.{list_all}
 use Rattle.std.specs.Option.{option_map_or}
-use Rattle.std.proofs.Common.{Bool, IfSome, List, None, Option, Some, [], ap, cond, false, filter, fold, if◌then◌else◌, is_none, is_some, option_map, refl, slice_set, subst, sym, true, ℕ, ℤ, ⊎_elim, ◌&&◌, ◌∙◌, ◌∷◌, ◌≡◌}
+use Rattle.std.proofs.Common.{Bool, IfSome, List, None, Option, Some, [], ap, cond, false, filter, fold, if◌then◌else◌, is_none, is_some, option_map, refl, slice_set, subst, sym, true, ℕ, ℤ, ⊎_elim, ◌&&◌, ◌==◌, ◌∙◌, ◌∷◌, ◌≡◌}
 use Rattle.std.proofs.lemmas.Bool.{and_parts}
 use Rattle.std.proofs.lemmas.Option.{cond_some, same_Some}
 use Rattle.tp_types.specs.Effect.{Effect, ignores}
@@ -9,7 +9,7 @@ use Rattle.tp_model.specs.Built.{is_built}
 use Rattle.tp_model.specs.Ids.{same_server}
 use Rattle.tp_model.specs.Queries.{item_of}
 use Rattle.tp_model.specs.SerialRun.{overlaid_at, stored, stored_by}
-use Rattle.tp_model.specs.Words.{Action, Body, DecideRequest, Deed, Item, ItemId, Mail, Outcome, PrepareRequest, QueryRequest, Record, Scenario, ServerId, TxnId}
+use Rattle.tp_model.specs.Words.{Action, Body, DecideRequest, Deed, DoneReply, Item, ItemId, Mail, Outcome, PrepareRequest, QueryRequest, Record, Scenario, ServerId, TxnId}
 use Rattle.tp_model.specs.Words.action
 use Rattle.tp_model.specs.Words.actor
 use Rattle.tp_model.specs.Words.body
@@ -19,7 +19,7 @@ use Rattle.tp_machine.specs.Logs.{settled_in}
 use Rattle.tp_machine.specs.Sound.{Each, EachPlaced, IsItemOf, IsSoundBody, IsSoundQuery}
 use Rattle.tp_machine.specs.coord.Row.{deed_of}
 use Rattle.tp_machine.specs.declared.server.Entry.{Entry}
-use Rattle.tp_machine.specs.server.Row.{applied, applied_deed, are_in_range, asked_item, begins, committed, entry_at, first_entry, is_in_range, is_in_range_of, is_write, plain_write, server_row, settles, votes}
+use Rattle.tp_machine.specs.server.Row.{answers, applied, applied_deed, are_in_range, asked_item, begins, committed, entry_at, first_entry, is_in_range, is_in_range_of, is_write, plain_write, restarted_reply, server_row, settles, votes}
 use Rattle.tp_machine.specs.server.State.{Server}
 use Rattle.tp_machine.proofs.agreement.ServerActs.{number_itself, server_facts}
 use Rattle.tp_machine.proofs.agreement.Logs.{LogPrepared, LogServed, outcome_settled}
@@ -27,13 +27,14 @@ use Rattle.tp_machine.proofs.agreement.Server.{ServerAgrees, open_unsettled, pre
 use Rattle.tp_machine.proofs.serial_data.Built.{IsAllPlanned, one_query_is_planned}
 use Rattle.tp_machine.proofs.serial_data.Plan.{BodySerial, IsInRange, IsPlannedValue, LetterSerial, RecordPlanned, is_at, planned, planned_at, planned_what}
 use Rattle.tp_machine.proofs.walks.ServerRows.{server_by}
-use Rattle.tp_machine.proofs.basics.Lists.{placed_emptied, placed_set}
+use Rattle.tp_machine.proofs.basics.Lists.{each_found, placed_emptied, placed_set}
 
 -- ---- what is kept
 
--- an entry has the server's part of the plan
-abbrev pub EntryPlanned : Scenario → ServerId → ℕ → Entry → Type 0
-EntryPlanned sc at n entry = entry.deeds ≡ planned_at sc at (record { 0 = n })
+-- an entry has the server's part of the plan, and its answers are planned
+pub record EntryPlanned (sc : Scenario) (at : ServerId) (n : ℕ) (entry : Entry) : Type 0 where
+  pub deeds : entry.deeds ≡ planned_at sc at (record { 0 = n })
+  pub answers : Each (λ (given : DoneReply). BodySerial sc (body.Done given)) entry.answers
 
 -- each entry is planned
 abbrev pub ServerSerial : Scenario → Server → Type 0
@@ -111,12 +112,16 @@ asked_by_one_query sc s q deed built m fits e =
 begins_keeps : (sc : Scenario) (s : Server) (sent : ℕ) (q : QueryRequest) (deed : Deed) → ServerSerial sc s → IsWholePlan sc s.server q.txn q.query deed → ServerKeeps sc s (begins s sent q (Some deed))
 begins_keeps sc s sent q deed h plan =
     record {
-      state = placed_set (EntryPlanned sc s.server) s.entries q.txn.0 (first_entry s sent q deed) h plan.part;
+      state = placed_set (EntryPlanned sc s.server) s.entries q.txn.0 (first_entry s sent q deed) h (record { deeds = plan.part; answers = (plan.value, tt) });
       same_server = refl;
       forces = tt;
       values = refl;
       letters = (plan.value, tt);
     }
+
+-- a planned answer
+answers_keep : (sc : Scenario) (s : Server) (q : QueryRequest) (given : DoneReply) → ServerSerial sc s → BodySerial sc (body.Done given) → ServerKeeps sc s (answers s q.txn given)
+answers_keep sc s q given h v = record { state = h; same_server = refl; forces = tt; values = refl; letters = (v, tt) }
 
 -- ---- Prepare
 
@@ -130,9 +135,10 @@ tested_each sc (deed ∷ deeds) e =
 votes_keep : (sc : Scenario) (s : Server) (p : PrepareRequest) (place : ℕ) (entry : Entry) → ServerSerial sc s → entry_at s p.txn ≡ Some entry → are_in_range sc entry.deeds ≡ true
     → ServerKeeps sc s (votes sc s p place entry)
 votes_keep sc s p place entry h e in_range =
-    let deeds : entry.deeds ≡ planned_at sc s.server p.txn = h p.txn.0 entry e in
+    let old : EntryPlanned sc s.server p.txn.0 entry = h p.txn.0 entry e in
+    let deeds : entry.deeds ≡ planned_at sc s.server p.txn = old.deeds in
     record {
-      state = placed_set (EntryPlanned sc s.server) s.entries p.txn.0 _ h deeds;
+      state = placed_set (EntryPlanned sc s.server) s.entries p.txn.0 _ h (record { deeds = deeds; answers = old.answers });
       same_server = refl;
       forces = record { part = deeds; in_range = tested_each sc entry.deeds in_range };
       values = refl;
@@ -178,7 +184,7 @@ settles_keep sc s kept d a h fresh m =
       state = placed_emptied (EntryPlanned sc s.server) s.entries d.txn.0 h;
       same_server = refl;
       forces = tt;
-      values = committed_planned sc s d.txn d.outcome (entry_at s d.txn) (λ found e. h d.txn.0 found e) (λ commit. open_entry s kept d.txn a fresh (m commit));
+      values = committed_planned sc s d.txn d.outcome (entry_at s d.txn) (λ found e. (h d.txn.0 found e).deeds) (λ commit. open_entry s kept d.txn a fresh (m commit));
       letters = (tt, tt);
     }
 
@@ -194,6 +200,10 @@ server_row_keeps sc s kept mail built a h sound m o =
       begun = λ q deed k.
           begins_keeps sc s mail.sent q deed h
           (asked_by_one_query sc s q deed built (subst (IsSoundBody sc (actor.Server s.server)) k.said_is sound) (subst (BodySerial sc) k.said_is m) k.writes);
+      restarted = λ q k. answers_keep sc s q (restarted_reply q s.epoch) h tt;
+      answered = λ q entry given k.
+          answers_keep sc s q given h (each_found (λ (d : DoneReply). BodySerial sc (body.Done d)) (λ (d : DoneReply). d.query == q.query) entry.answers given (h q.txn.0 entry k.found).answers k.given_is);
       voted = λ p entry staple k. votes_keep sc s p staple.place entry h k.found k.in_range;
       settled = λ d k. settles_keep sc s kept d a h (open_unsettled s kept d.txn a k.unsettled) (subst (OrderServed kept) k.said_is o);
+      acknowledged = λ d settled k. record { state = h; same_server = refl; forces = tt; values = refl; letters = (tt, tt) };
     })

@@ -17,12 +17,12 @@ use Rattle.tp_machine.specs.Sound.{Each, IsQueryAt, IsSoundBody, IsSoundDeedAt, 
 use Rattle.tp_machine.specs.declared.coord.Phase.TheVariants as phase
 use Rattle.tp_machine.specs.declared.coord.Phase.{Phase}
 use Rattle.tp_machine.specs.declared.server.Entry.{Entry}
-use Rattle.tp_machine.specs.server.Row.{asked_item, begins, done_reply, entry_at, first_entry, plain_write, server_row, settles, verdict_on, votes}
+use Rattle.tp_machine.specs.server.Row.{answers, asked_item, begins, done_reply, entry_at, first_entry, plain_write, restarted_reply, server_row, settles, verdict_on, votes}
 use Rattle.tp_machine.specs.server.State.{Server}
 use Rattle.tp_machine.proofs.basics.Ids.{number_itself}
 use Rattle.tp_machine.proofs.walks.ServerRows.{server_by}
 use Rattle.tp_machine.proofs.ids.Valid.{IsValid}
-use Rattle.tp_machine.proofs.basics.Lists.{each_get, each_map, placed_emptied, placed_set}
+use Rattle.tp_machine.proofs.basics.Lists.{each_found, each_get, each_map, placed_emptied, placed_set}
 use Rattle.tp_machine.proofs.ids.Server.{verdict_sound}
 use Rattle.tp_machine.proofs.trust.Built.{IsFirstForm, both_true, open_policy_allows, open_policy_proves}
 use Rattle.tp_machine.proofs.trust.Fit.{AreAll, BodyFits, Right, ServerFits, StapleFits, VerdictsFit, deed_numbers, numbers_of}
@@ -183,6 +183,17 @@ begins_trusts sc facts place T s sent q deed form h m closed t e =
       timely = (timely, tt);
     }
 
+-- an answer that is given again fits as it did
+answers_trusts : (sc : Scenario) (facts : List Fact) (place : ℕ) (T : Body → Type 0) (s : Server) (q : QueryRequest) (given : DoneReply) → ServerTrusted sc facts place T s
+    → IsTrusted sc facts place T (body.Done given) → RowTrusts sc facts place T (answers s q.txn given)
+answers_trusts sc facts place T s q given h k = record { fits = h.fits; keeps = h.keeps; forces = tt; says = (k.fits place, tt); timely = (k.timely, tt) }
+
+restarted_trusted : (sc : Scenario) (facts : List Fact) (place : ℕ) (T : Body → Type 0) (s : Server) (q : QueryRequest) → IsClosed T → T (body.Query q)
+    → IsTrusted sc facts place T (body.Done (restarted_reply q s.epoch))
+restarted_trusted sc facts place T s q closed t =
+    let given = restarted_reply q s.epoch in
+    record { fits = λ sent. tt; timely = closed (body.Query q) (body.Done given) (record { txn = q.txn; turn = q.turn }) (done_answers q given refl refl) t }
+
 -- ---- Prepare
 
 rights_of : (sc : Scenario) (facts : List Fact) (place : ℕ) (s : Server) (txn : TxnId) (staple : Staple) (deeds : List Deed) → IsFirstForm sc → IsValid sc → IsSoundServer sc s → ServerFits sc facts place s
@@ -262,8 +273,13 @@ server_row_trusts sc facts place T s mail form valid sound h m f closed t =
     (record {
       ignored = ignores_trusts sc facts place T s h;
       begun = λ q deed k. begins_trusts sc facts place T s mail.sent q deed form h (subst (IsSoundBody sc (actor.Server s.server)) k.said_is m) closed (subst T k.said_is t) k.writes;
+      restarted = λ q k. answers_trusts sc facts place T s q (restarted_reply q s.epoch) h (restarted_trusted sc facts place T s q closed (subst T k.said_is t));
+      answered = λ q entry given k.
+          answers_trusts sc facts place T s q given h
+          (each_found (λ (d : DoneReply). IsTrusted sc facts place T (body.Done d)) (λ (d : DoneReply). d.query == q.query) entry.answers given (h.keeps q.txn.0 entry k.found).answers k.given_is);
       voted = λ p entry staple k.
           let fits : IfSome p.staple (StapleFits sc facts place p.txn) = subst (BodyFits sc facts place mail.sent) k.said_is f in
           votes_trusts sc facts place T s p staple entry form valid sound h closed (subst T k.said_is t) k.stapled (subst (λ (x : Option Staple). IfSome x (StapleFits sc facts place p.txn)) k.stapled fits) k.found;
       settled = λ d k. settles_trusts sc facts place T s d h;
+      acknowledged = λ d settled k. record { fits = h.fits; keeps = h.keeps; forces = tt; says = (tt, tt); timely = (tt, tt) };
     })

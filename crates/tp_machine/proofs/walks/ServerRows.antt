@@ -1,11 +1,13 @@
 -- A server's row is walked once: what is shown of each of its outcomes holds of the row. A new outcome is a field here, and of each theorem's cases.
-use Rattle.std.proofs.Common.{Bool, None, Option, Some, false, is_none, is_some, not, refl, true, ◌==◌, ◌≡◌}
-use Rattle.tp_types.specs.Effect.{Effect, ignores}
+use Rattle.std.specs.Option.{option_map_or}
+use Rattle.std.proofs.Common.{Bool, None, Option, Some, [], false, is_none, is_some, not, refl, slice_get, true, ℕ, ◌==◌, ◌∷◌, ◌≡◌}
+use Rattle.tp_types.specs.Effect.{Effect, ignores, sends}
+use Rattle.tp_types.specs.Table.{flattened}
 use Rattle.tp_model.specs.Stage.{is_empty}
-use Rattle.tp_model.specs.Words.{Body, DecideRequest, Deed, Mail, PrepareRequest, QueryRequest, Scenario, Staple}
+use Rattle.tp_model.specs.Words.{Body, DecideRequest, Deed, DoneReply, Mail, PrepareRequest, QueryRequest, Scenario, Settled, Staple}
 use Rattle.tp_model.specs.Words.body
 use Rattle.tp_machine.specs.declared.server.Entry.{Entry}
-use Rattle.tp_machine.specs.server.Row.{are_in_range, asked_item, asked_to_vote, begins, entry_at, evaluates, has_answered, is_open, names_another_epoch, on_body, on_open_query, plain_write, server_row, settles, votes}
+use Rattle.tp_machine.specs.server.Row.{ack_letter, answer_to, answers, are_in_range, asked_item, asked_to_vote, begins, entry_at, evaluates, is_open, names_another_epoch, on_body, on_open_query, on_settled_decide, on_unlost_query, plain_write, restarts, server_row, settles, votes}
 use Rattle.tp_machine.specs.server.State.{Server}
 use Rattle.tp_machine.proofs.basics.Lists.{by_cond}
 
@@ -34,12 +36,31 @@ pub record IsOrder (s : Server) (mail : Mail) (d : DecideRequest) : Type 0 where
   pub said_is : mail.letter.body ≡ body.Decide d
   pub unsettled : is_open s d.txn ≡ true
 
+-- a query of an epoch that no entry has
+pub record IsLost (mail : Mail) (q : QueryRequest) : Type 0 where
+  pub said_is : mail.letter.body ≡ body.Query q
+  pub named : is_some q.epoch ≡ true
+
+-- a query that the entry has answered
+pub record IsAnswered (s : Server) (mail : Mail) (q : QueryRequest) (entry : Entry) (given : DoneReply) : Type 0 where
+  pub said_is : mail.letter.body ≡ body.Query q
+  pub found : entry_at s q.txn ≡ Some entry
+  pub given_is : answer_to entry q.query ≡ Some given
+
+-- an order to end a transaction that is settled
+pub record IsLateOrder (s : Server) (mail : Mail) (d : DecideRequest) (settled : Settled) : Type 0 where
+  pub said_is : mail.letter.body ≡ body.Decide d
+  pub found : flattened (slice_get s.settled d.txn.0) ≡ Some settled
+
 -- what is to be shown of the outcomes of a receipt: P of the effect
 pub record ServerCases (sc : Scenario) (s : Server) (mail : Mail) (P : Effect Server → Type 0) : Type 0 where
   pub ignored : P (ignores s)
   pub begun : (q : QueryRequest) (deed : Deed) → IsFirstWrite sc s mail q deed → P (begins s mail.sent q (Some deed))
+  pub restarted : (q : QueryRequest) → IsLost mail q → P (restarts s q)
+  pub answered : (q : QueryRequest) (entry : Entry) (given : DoneReply) → IsAnswered s mail q entry given → P (answers s q.txn given)
   pub voted : (p : PrepareRequest) (entry : Entry) (staple : Staple) → IsVote sc s mail p entry staple → P (votes sc s p staple.place entry)
   pub settled : (d : DecideRequest) → IsOrder s mail d → P (settles s d)
+  pub acknowledged : (d : DecideRequest) (settled : Settled) → IsLateOrder s mail d settled → P (sends s (ack_letter s d.txn ∷ []))
 
 -- ---- Query
 
@@ -53,15 +74,23 @@ begun_by sc s mail P cases q None e unsettled none unnamed w = cases.ignored
 begun_by sc s mail P cases q (Some deed) e unsettled none unnamed w =
     cases.begun q deed (record { said_is = e; unsettled = unsettled; no_entry = none; unnamed = none_of q.epoch unnamed; writes = w })
 
+unlost_by : (sc : Scenario) (s : Server) (mail : Mail) (P : Effect Server → Type 0) → ServerCases sc s mail P → (q : QueryRequest) (entry : Entry) (given : Option DoneReply) → mail.letter.body ≡ body.Query q
+    → entry_at s q.txn ≡ Some entry → answer_to entry q.query ≡ given → P (on_unlost_query s q entry given)
+unlost_by sc s mail P cases q entry (Some given) e found given_is = cases.answered q entry given (record { said_is = e; found = found; given_is = given_is })
+unlost_by sc s mail P cases q entry None e found given_is = by_cond P (is_some entry.waiting) (λ waits. cases.ignored) (λ further. cases.ignored)
+
+another_named : (epoch : Option ℕ) (entry : Entry) → option_map_or (λ (named : ℕ). not (named == entry.epoch)) epoch false ≡ true → is_some epoch ≡ true
+another_named (Some epoch) entry e = refl
+another_named None entry e = absurd (cc)
+
 on_open_query_by : (sc : Scenario) (s : Server) (mail : Mail) (P : Effect Server → Type 0) → ServerCases sc s mail P → (q : QueryRequest) (entry : Option Entry) → mail.letter.body ≡ body.Query q
     → is_open s q.txn ≡ true → entry_at s q.txn ≡ entry → P (on_open_query sc s mail.sent q entry)
 on_open_query_by sc s mail P cases q None e unsettled found =
-    by_cond P (is_some q.epoch) (λ named. cases.ignored) (λ unnamed. begun_by sc s mail P cases q (plain_write q (asked_item sc q) q.value) e unsettled found unnamed refl)
+    by_cond P (is_some q.epoch) (λ named. cases.restarted q (record { said_is = e; named = named })) (λ unnamed. begun_by sc s mail P cases q (plain_write q (asked_item sc q) q.value) e unsettled found unnamed refl)
 on_open_query_by sc s mail P cases q (Some entry) e unsettled found =
     by_cond P (is_some entry.ballot) (λ voted. cases.ignored)
-    (λ unvoted. by_cond P (names_another_epoch q entry) (λ another. cases.ignored)
-    (λ same. by_cond P (has_answered entry q) (λ answered. cases.ignored)
-    (λ new. by_cond P (is_some entry.waiting) (λ waits. cases.ignored) (λ further. cases.ignored))))
+    (λ unvoted. by_cond P (names_another_epoch q entry) (λ another. cases.restarted q (record { said_is = e; named = another_named q.epoch entry another }))
+    (λ same. unlost_by sc s mail P cases q entry (answer_to entry q.query) e found refl))
 
 -- ---- Prepare
 
@@ -93,6 +122,13 @@ asked_to_vote_by sc s mail P cases p (Some entry) e unsettled found =
     }))
     (λ outside. cases.ignored)))
 
+-- ---- Decide
+
+late_by : (sc : Scenario) (s : Server) (mail : Mail) (P : Effect Server → Type 0) → ServerCases sc s mail P → (d : DecideRequest) (settled : Option Settled) → mail.letter.body ≡ body.Decide d
+    → flattened (slice_get s.settled d.txn.0) ≡ settled → P (on_settled_decide s d settled)
+late_by sc s mail P cases d (Some settled) e found = cases.acknowledged d settled (record { said_is = e; found = found })
+late_by sc s mail P cases d None e found = cases.ignored
+
 -- ---- all mails
 
 said_by : (sc : Scenario) (s : Server) (mail : Mail) (P : Effect Server → Type 0) → ServerCases sc s mail P → (said : Body) → mail.letter.body ≡ said → P (on_body sc s mail.sent said)
@@ -101,7 +137,7 @@ said_by sc s mail P cases (body.Query q) e =
 said_by sc s mail P cases (body.Prepare p) e =
     by_cond P (is_open s p.txn) (λ unsettled. asked_to_vote_by sc s mail P cases p (entry_at s p.txn) e unsettled refl) (λ settled. cases.ignored)
 said_by sc s mail P cases (body.Decide d) e =
-    by_cond P (is_open s d.txn) (λ unsettled. cases.settled d (record { said_is = e; unsettled = unsettled })) (λ settled. cases.ignored)
+    by_cond P (is_open s d.txn) (λ unsettled. cases.settled d (record { said_is = e; unsettled = unsettled })) (λ settled. late_by sc s mail P cases d (flattened (slice_get s.settled d.txn.0)) e refl)
 said_by sc s mail P cases _ e = cases.ignored
 
 -- what is shown of each outcome holds of the row

@@ -1,5 +1,5 @@
 -- A server's row: what it does on receipt of a mail. The first case that fits is done.
-use Rattle.std.specs.List.{list_all, list_any}
+use Rattle.std.specs.List.{find, list_all}
 use Rattle.std.specs.Option.{option_map_or}
 use Rattle.std.specs.Prelude.{Bool, List, None, Option, Some, [], false, if◌then◌else◌, is_none, map, option_and_then, option_map, slice_get, slice_set, true, unwrap_or, ℕ, ℤ, ◌&&◌, ◌==◌, ◌∷◌}
 use Rattle.std.proofs.Common.{is_some, not}
@@ -72,20 +72,37 @@ begins s sent q (Some deed) =
 abbrev pub names_another_epoch : QueryRequest → Entry → Bool
 names_another_epoch q entry = option_map_or (λ (epoch : ℕ). not (epoch == entry.epoch)) q.epoch false
 
--- the query was answered
-abbrev pub has_answered : Entry → QueryRequest → Bool
-has_answered entry q = list_any (λ (given : DoneReply). given.query == q.query) entry.answers
+-- the answer to a query goes to its coordinator
+abbrev pub answers : Server → TxnId → DoneReply → Effect Server
+answers s txn given = sends s (reply s txn (body.Done given) ∷ [])
 
--- a query of a transaction that is not settled. With an epoch that no entry has it is to be told that the server restarted; an answered one
--- is to be answered again, and a further one is to run
-abbrev pub on_open_query : Scenario → Server → ℕ → QueryRequest → Option Entry → Effect Server
-on_open_query sc s sent q None = if is_some q.epoch then unbuilt s else begins s sent q (plain_write q (asked_item sc q) q.value)
-on_open_query sc s sent q (Some entry) =
+-- what the transaction did here was lost in an earlier epoch
+abbrev pub restarted_reply : QueryRequest → ℕ → DoneReply
+restarted_reply q epoch = record { txn = q.txn; turn = q.turn; query = q.query; epoch = epoch; answer = answer.Restarted }
+
+abbrev pub restarts : Server → QueryRequest → Effect Server
+restarts s q = answers s q.txn (restarted_reply q s.epoch)
+
+-- the answer that a query was given
+abbrev pub answer_to : Entry → ℕ → Option DoneReply
+answer_to entry number = find (λ (given : DoneReply). given.query == number) entry.answers
+
+-- an answered query is given the same answer again; one that comes while another waits is ignored, and a further one is not built
+abbrev pub on_unlost_query : Server → QueryRequest → Entry → Option DoneReply → Effect Server
+on_unlost_query s q entry (Some given) = answers s q.txn given
+on_unlost_query s q entry None = if is_some entry.waiting then ignores s else unbuilt s
+
+-- a query of a transaction that has an entry
+abbrev pub on_query_again : Server → QueryRequest → Entry → Effect Server
+on_query_again s q entry =
     if is_some entry.ballot then ignores s
-    else if names_another_epoch q entry then unbuilt s
-    else if has_answered entry q then unbuilt s
-    else if is_some entry.waiting then ignores s
-    else unbuilt s
+    else if names_another_epoch q entry then restarts s q
+    else on_unlost_query s q entry (answer_to entry q.query)
+
+-- a query of a transaction that is not settled. With an epoch that no entry has it is told that the server restarted
+abbrev pub on_open_query : Scenario → Server → ℕ → QueryRequest → Option Entry → Effect Server
+on_open_query sc s sent q None = if is_some q.epoch then restarts s q else begins s sent q (plain_write q (asked_item sc q) q.value)
+on_open_query sc s sent q (Some entry) = on_query_again s q entry
 
 abbrev pub on_query : Scenario → Server → ℕ → QueryRequest → Effect Server
 on_query sc s sent q = if is_open s q.txn then on_open_query sc s sent q (entry_at s q.txn) else ignores s
@@ -180,6 +197,10 @@ committed values _ _ = values
 abbrev pub settled_as : DecideRequest → Settled
 settled_as d = record { txn = d.txn; outcome = d.outcome; why = None }
 
+-- the end of a transaction is acknowledged
+abbrev pub ack_letter : Server → TxnId → Letter
+ack_letter s txn = reply s txn (body.Ack (record { txn = txn }))
+
 -- the outcome is forced, a commit's writes are applied, and the entry ends
 abbrev pub settles : Server → DecideRequest → Effect Server
 settles s d =
@@ -189,11 +210,15 @@ settles s d =
       entries = slice_set s.entries d.txn.0 None;
     })
     (log.Settled (settled_as d))
-    (reply s d.txn (body.Ack (record { txn = d.txn })) ∷ [])
+    (ack_letter s d.txn ∷ [])
 
--- of one that is settled the Ack is to be given again
+-- of one that is settled the Ack is given again
+abbrev pub on_settled_decide : Server → DecideRequest → Option Settled → Effect Server
+on_settled_decide s d (Some settled) = sends s (ack_letter s d.txn ∷ [])
+on_settled_decide s d None = ignores s
+
 abbrev pub on_decide : Server → DecideRequest → Effect Server
-on_decide s d = if is_open s d.txn then settles s d else unbuilt s
+on_decide s d = if is_open s d.txn then settles s d else on_settled_decide s d (flattened (slice_get s.settled d.txn.0))
 
 -- ---- all mails
 
