@@ -5,10 +5,10 @@ use Rattle.std.proofs.lemmas.Bool.{cases_lt, le-leb, lt-ltb}
 use Rattle.std.proofs.lemmas.List.{length-append, length-take, length-drop, length-replicate, get_or_append_left, get_or-append_right, get_or-take, get_or-drop}
 use Rattle.tp_device.specs.declared.span.Span.{Span}
 use Rattle.tp_device.specs.Disks.{DiskState, MayLeave, is_touched, is_within}
-use Rattle.tp_device.specs.Memory.{all_blanked, blanked}
+use Rattle.tp_device.specs.Memory.{with_blank, with_blanks}
 
-length-blanked : (fill : ℕ) (seen : List ℕ) (span : Span) → length (blanked fill seen span) ≡ length seen
-length-blanked fill seen span =
+length-with_blank : (fill : ℕ) (seen : List ℕ) (span : Span) → length (with_blank fill seen span) ≡ length seen
+length-with_blank fill seen span =
     let from = min span.at (length seen) in
     let to = min (span.at + span.len) (length seen) in
     omega (arith, length-append (take from seen) (replicate (to - from) fill ++ drop to seen), length-append (replicate (to - from) fill) (drop to seen), length-take from seen, length-replicate (to - from) fill, length-drop to seen)
@@ -26,8 +26,8 @@ outside i span none = elim (cases_lt i span.at) [
   ]
 ]
 
-blanked_other : (fill : ℕ) (seen : List ℕ) (span : Span) (i : ℕ) → i < length seen → is_within i span ≡ false → slice_index (blanked fill seen span) i ≡ slice_index seen i
-blanked_other fill seen span i lt none =
+with_blank_other : (fill : ℕ) (seen : List ℕ) (span : Span) (i : ℕ) → i < length seen → is_within i span ≡ false → slice_index (with_blank fill seen span) i ≡ slice_index seen i
+with_blank_other fill seen span i lt none =
     let from = min span.at (length seen) in
     let to = min (span.at + span.len) (length seen) in
     let before : List ℕ = take from seen in
@@ -45,23 +45,23 @@ blanked_other fill seen span i lt none =
           ∙ ap (λ (k : ℕ). get_or seen k 0) (omega arith)
     ]
 
-length-all_blanked : (fill : ℕ) (seen : List ℕ) (spans : List Span) → length (all_blanked fill seen spans) ≡ length seen
-length-all_blanked fill seen [] = refl
-length-all_blanked fill seen (span ∷ spans) = length-all_blanked fill (blanked fill seen span) spans ∙ length-blanked fill seen span
+length-with_blanks : (fill : ℕ) (seen : List ℕ) (spans : List Span) → length (with_blanks fill seen spans) ≡ length seen
+length-with_blanks fill seen [] = refl
+length-with_blanks fill seen (span ∷ spans) = length-with_blanks fill (with_blank fill seen span) spans ∙ length-with_blank fill seen span
 
 neither : (a b : Bool) → (a || b) ≡ false → (a ≡ false) × (b ≡ false)
 neither true b e = absurd cc
 neither false b e = (refl, e)
 
-all_blanked_other : (fill : ℕ) (seen : List ℕ) (spans : List Span) (i : ℕ) → i < length seen → is_touched spans i ≡ false → slice_index (all_blanked fill seen spans) i ≡ slice_index seen i
-all_blanked_other fill seen [] i lt none = refl
-all_blanked_other fill seen (span ∷ spans) i lt none =
+with_blanks_other : (fill : ℕ) (seen : List ℕ) (spans : List Span) (i : ℕ) → i < length seen → is_touched spans i ≡ false → slice_index (with_blanks fill seen spans) i ≡ slice_index seen i
+with_blanks_other fill seen [] i lt none = refl
+with_blanks_other fill seen (span ∷ spans) i lt none =
     let both = neither (is_within i span) (is_touched spans i) none in
-    all_blanked_other fill (blanked fill seen span) spans i (omega (arith, length-blanked fill seen span)) both.1 ∙ blanked_other fill seen span i lt both.0
+    with_blanks_other fill (with_blank fill seen span) spans i (omega (arith, length-with_blank fill seen span)) both.1 ∙ with_blank_other fill seen span i lt both.0
 
-pub crash_image : (fill : ℕ) (s : DiskState) → s.least ≤ length s.seen → length s.seen ≤ s.greatest → MayLeave s (all_blanked fill s.seen s.written)
+pub crash_image : (fill : ℕ) (s : DiskState) → s.least ≤ length s.seen → length s.seen ≤ s.greatest → MayLeave s (with_blanks fill s.seen s.written)
 crash_image fill s low high = record {
-  no_shorter = omega (arith, length-all_blanked fill s.seen s.written);
-  no_longer = omega (arith, length-all_blanked fill s.seen s.written);
-  kept = λ i lt none. all_blanked_other fill s.seen s.written i (omega arith) none;
+  no_shorter = omega (arith, length-with_blanks fill s.seen s.written);
+  no_longer = omega (arith, length-with_blanks fill s.seen s.written);
+  kept = λ i lt none. with_blanks_other fill s.seen s.written i (omega arith) none;
 }

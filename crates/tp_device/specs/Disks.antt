@@ -33,29 +33,29 @@ abbrev pub ReadsAt : List ℕ → ℕ → List ℕ → ℕ → List ℕ → Type
 ReadsAt seen at room n new =
     (n ≡ min (length room) (length seen - at)) × (new ≡ take n (drop at seen) ++ drop n room)
 
-abbrev pub overwritten : List ℕ → ℕ → List ℕ → List ℕ
-overwritten old at piece = take at old ++ (piece ++ drop (at + length piece) old)
+abbrev pub with_piece : List ℕ → ℕ → List ℕ → List ℕ
+with_piece old at piece = take at old ++ (piece ++ drop (at + length piece) old)
 
 abbrev pub span : ℕ → ℕ → Span
 span at len = record { at = at; len = len }
 
-abbrev pub wrote : ℕ → List ℕ → DiskState → DiskState
-wrote at piece s = record {
-  seen = overwritten s.seen at piece;
+abbrev pub after_write : ℕ → List ℕ → DiskState → DiskState
+after_write at piece s = record {
+  seen = with_piece s.seen at piece;
   least = s.least;
   greatest = max s.greatest (at + length piece);
   written = s.written ++ span at (length piece) ∷ [];
 }
 
-abbrev pub cut_to : ℕ → DiskState → DiskState
-cut_to len s = record s { seen = take len s.seen; least = min s.least len }
+abbrev pub after_cut : ℕ → DiskState → DiskState
+after_cut len s = record s { seen = take len s.seen; least = min s.least len }
 
 -- nothing is unsynced: a crash leaves what a read gives
-abbrev pub settled : List ℕ → DiskState
-settled seen = record { seen = seen; least = length seen; greatest = length seen; written = [] }
+abbrev pub clean_state : List ℕ → DiskState
+clean_state seen = record { seen = seen; least = length seen; greatest = length seen; written = [] }
 
-abbrev pub synced : DiskState → DiskState
-synced s = settled s.seen
+abbrev pub after_sync : DiskState → DiskState
+after_sync s = clean_state s.seen
 
 -- ---- calls that failed
 
@@ -81,13 +81,13 @@ pub data Call : Type 0 where
 
 -- A refusal of memory changes nothing, and a sync answers none. A sync that failed changes nothing
 abbrev pub Effect : Call → DiskState → Result (Unit {0}) DiskError → DiskState → Type 0
-Effect (Write at piece) old (Ok _) new = new ≡ wrote at piece old
+Effect (Write at piece) old (Ok _) new = new ≡ after_write at piece old
 Effect (Write at piece) old (Err errors.Failed) new = MayHaveWritten at (length piece) old new
 Effect (Write at piece) old (Err errors.NoMemory) new = new ≡ old
-Effect (Cut len) old (Ok _) new = new ≡ cut_to len old
+Effect (Cut len) old (Ok _) new = new ≡ after_cut len old
 Effect (Cut len) old (Err errors.Failed) new = MayHaveCut len old new
 Effect (Cut len) old (Err errors.NoMemory) new = new ≡ old
-Effect Sync old (Ok _) new = new ≡ synced old
+Effect Sync old (Ok _) new = new ≡ after_sync old
 Effect Sync old (Err errors.Failed) new = new ≡ old
 Effect Sync old (Err errors.NoMemory) new = ⊥
 

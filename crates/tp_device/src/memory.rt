@@ -36,7 +36,7 @@ impl Fuse {
 
     /// Counts a call that passed.
     fn pass(&mut self)
-        ensures { self.new ≡ record self.old { left = memory.spent self.old.left } }
+        ensures { self.new ≡ record self.old { left = memory.fewer_calls self.old.left } }
     {
         if let Some(left) = self.left {
             self.left = Some(left.saturating_sub(1));
@@ -57,7 +57,7 @@ fn copy_front(content: &[u8], buf: &mut [u8]) -> usize
 /// Writes over the content from a place on, and past its end.
 fn overwrite(content: &mut Vec<u8>, at: usize, piece: &[u8]) -> Result<(), AllocError>
     requires { at ≤ length content.old.items }
-    ensures ok { OnOk result (content.new.items ≡ disks.overwritten content.old.items at piece.now) }
+    ensures ok { OnOk result (content.new.items ≡ disks.with_piece content.old.items at piece.now) }
     ensures err { OnErr result (content.new.items ≡ content.old.items) }
 {
     let (over, past) = piece.split_at(piece.len().min(content.len() - at));
@@ -68,7 +68,7 @@ fn overwrite(content: &mut Vec<u8>, at: usize, piece: &[u8]) -> Result<(), Alloc
 
 /// Fills a range, as far as there are such bytes.
 fn blank(content: &mut [u8], span: Span, fill: u8)
-    ensures { content.new ≡ memory.blanked fill content.old span }
+    ensures { content.new ≡ memory.with_blank fill content.old span }
 {
     let len = content.len() as u64;
     let from = span.at.min(len);
@@ -138,7 +138,7 @@ impl MemoryDisk {
     /// The disk after a crash: each byte that was written since the last sync that succeeded reads `fill`, and the
     /// length is the length then reached. Nothing on it is unsynced, and no call of it is stopped.
     pub fn crashed(self, fill: u8) -> MemoryDisk
-        ensures exact { result ≡ memory.crashed fill self }
+        ensures exact { result ≡ memory.after_crash fill self }
         ensures image { MayLeave self.disk result.disk.seen }
     {
         let MemoryDisk {

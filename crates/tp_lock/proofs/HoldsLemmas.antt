@@ -13,7 +13,7 @@ use Rattle.tp_lock.specs.declared.entry.Asked.TheVariants.{Granted, Waits, Dies}
 use Rattle.tp_lock.specs.declared.entry.Grant.{Grant}
 use Rattle.tp_lock.specs.declared.entry.LockEntry.{LockEntry}
 use Rattle.tp_lock.specs.Laws.{IsGrantFor}
-use Rattle.tp_lock.specs.Rule.{added, answer, answer_to_new, grant_of, grants_from, grants_in, is_clear, is_granted, is_of, is_of_other, is_write, left_by, lock_of, serves, settled, settled_from, with_lock}
+use Rattle.tp_lock.specs.Rule.{answer, answer_to_new, grant_of, grants_from, grants_in, is_clear, is_granted, is_of, is_of_other, is_write, left_by, lock_of, serves, with_answer, with_grant, with_grants_from, with_lock}
 use Rattle.tp_lock.proofs.OrderLemmas.{both_parts}
 
 -- ---- tests
@@ -53,7 +53,7 @@ pushed_serves owner mode entries entry e =
     ∙ or_right (list_any (serves owner mode) entries) (serves owner mode entry || false) (or_left (serves owner mode entry) false e)
 
 granted_where : (owner : TxnId) (age : ℕ) (mode : Action) (entries : List LockEntry) (served : Bool) (asked : Asked) → list_any (serves owner mode) entries ≡ served
-    → cond served Granted asked ≡ Granted → list_any (serves owner mode) (cond served entries (added owner age mode asked entries)) ≡ true
+    → cond served Granted asked ≡ Granted → list_any (serves owner mode) (cond served entries (with_answer owner age mode asked entries)) ≡ true
 granted_where owner age mode entries true asked e granted = e
 granted_where owner age mode entries false Granted e granted = pushed_serves owner mode entries (lock_of owner age mode true) (lock_serves owner age mode)
 granted_where owner age mode entries false Waits e granted = cc
@@ -70,16 +70,16 @@ kept_push : (holder : TxnId) (held : Action) (entries : List LockEntry) (entry :
 kept_push holder held entries entry e =
     list_any-append (serves holder held) entries (entry ∷ []) ∙ or_left (list_any (serves holder held) entries) (list_any (serves holder held) (entry ∷ [])) e
 
-kept_added : (holder : TxnId) (held : Action) (owner : TxnId) (age : ℕ) (mode : Action) (asked : Asked) (entries : List LockEntry)
-    → list_any (serves holder held) entries ≡ true → list_any (serves holder held) (added owner age mode asked entries) ≡ true
-kept_added holder held owner age mode Granted entries e = kept_push holder held entries (lock_of owner age mode true) e
-kept_added holder held owner age mode Waits entries e = kept_push holder held entries (lock_of owner age mode false) e
-kept_added holder held owner age mode (Dies other) entries e = e
+kept_with_answer : (holder : TxnId) (held : Action) (owner : TxnId) (age : ℕ) (mode : Action) (asked : Asked) (entries : List LockEntry)
+    → list_any (serves holder held) entries ≡ true → list_any (serves holder held) (with_answer owner age mode asked entries) ≡ true
+kept_with_answer holder held owner age mode Granted entries e = kept_push holder held entries (lock_of owner age mode true) e
+kept_with_answer holder held owner age mode Waits entries e = kept_push holder held entries (lock_of owner age mode false) e
+kept_with_answer holder held owner age mode (Dies other) entries e = e
 
 kept_where : (holder : TxnId) (held : Action) (owner : TxnId) (age : ℕ) (mode : Action) (asked : Asked) (entries : List LockEntry) (served : Bool)
-    → list_any (serves holder held) entries ≡ true → list_any (serves holder held) (cond served entries (added owner age mode asked entries)) ≡ true
+    → list_any (serves holder held) entries ≡ true → list_any (serves holder held) (cond served entries (with_answer owner age mode asked entries)) ≡ true
 kept_where holder held owner age mode asked entries true e = e
-kept_where holder held owner age mode asked entries false e = kept_added holder held owner age mode asked entries e
+kept_where holder held owner age mode asked entries false e = kept_with_answer holder held owner age mode asked entries e
 
 -- and keeps it through every request
 pub kept_by_request : (holder : TxnId) (held : Action) (owner : TxnId) (age : ℕ) (mode : Action) (entries : List LockEntry)
@@ -89,14 +89,14 @@ kept_by_request holder held owner age mode entries =
 
 -- ---- a release
 
-kept_settled : (holder : TxnId) (held : Action) (earlier entries : List LockEntry) → list_any (serves holder held) entries ≡ true
-    → list_any (serves holder held) (settled_from earlier entries) ≡ true
-kept_settled holder held earlier [] e = e
-kept_settled holder held earlier (entry ∷ entries) e =
-    either (serves holder held entry) (list_any (serves holder held) entries) (serves holder held (settled earlier entry))
-    (list_any (serves holder held) (settled_from (earlier ++ settled earlier entry ∷ []) entries))
+kept_with_grant : (holder : TxnId) (held : Action) (earlier entries : List LockEntry) → list_any (serves holder held) entries ≡ true
+    → list_any (serves holder held) (with_grants_from earlier entries) ≡ true
+kept_with_grant holder held earlier [] e = e
+kept_with_grant holder held earlier (entry ∷ entries) e =
+    either (serves holder held entry) (list_any (serves holder held) entries) (serves holder held (with_grant earlier entry))
+    (list_any (serves holder held) (with_grants_from (earlier ++ with_grant earlier entry ∷ []) entries))
     (held_more entry.held (is_granted earlier entry) (is_of holder entry && (is_write entry.mode || not (is_write held))))
-    (kept_settled holder held (earlier ++ settled earlier entry ∷ []) entries) e
+    (kept_with_grant holder held (earlier ++ with_grant earlier entry ∷ []) entries) e
 
 other_where : (holder owner : TxnId) (entry : LockEntry) (own : Bool) → is_of owner entry ≡ own → (holder.0 ≡ owner.0 → ⊥) → is_of holder entry ≡ true → not own ≡ true
 other_where holder owner entry true own apart of = absurd (apart (sym (eqb-true entry.owner.0 holder.0 of) ∙ eqb-true entry.owner.0 owner.0 own))
@@ -106,7 +106,7 @@ other_where holder owner entry false own apart of = refl
 pub kept_by_release : (holder : TxnId) (held : Action) (owner : TxnId) (entries : List LockEntry) → (holder.0 ≡ owner.0 → ⊥)
     → list_any (serves holder held) entries ≡ true → list_any (serves holder held) (left_by owner entries) ≡ true
 kept_by_release holder held owner entries apart e =
-    kept_settled holder held [] (filter (is_of_other owner) entries)
+    kept_with_grant holder held [] (filter (is_of_other owner) entries)
     (any-filter_same (serves holder held) (is_of_other owner) true
     (λ entry serving. other_where holder owner entry (is_of owner entry) refl apart
     (both_parts (is_of holder entry) (is_write entry.mode || not (is_write held)) (both_parts entry.held (is_of holder entry && (is_write entry.mode || not (is_write held))) serving).1).0)
@@ -131,10 +131,10 @@ waits_where true clear e = cc
 waits_where false clear e = refl
 
 grant_here : (item : ℕ) (earlier entries : List LockEntry) (entry : LockEntry) (granted : Bool) → is_granted earlier entry ≡ granted
-    → All (IsGrantFor item (entry ∷ entries) (settled_from earlier (entry ∷ entries))) (cond granted (grant_of entry.owner item ∷ []) [])
+    → All (IsGrantFor item (entry ∷ entries) (with_grants_from earlier (entry ∷ entries))) (cond granted (grant_of entry.owner item ∷ []) [])
 grant_here item earlier entries entry true e =
-    let P : Grant → Type 0 = IsGrantFor item (entry ∷ entries) (settled_from earlier (entry ∷ entries)) in
-    let grown : settled earlier entry ≡ record entry { held = true } = ap (λ b. let new : LockEntry = record entry { held = b } in new) (or_right entry.held (is_granted earlier entry) e) in
+    let P : Grant → Type 0 = IsGrantFor item (entry ∷ entries) (with_grants_from earlier (entry ∷ entries)) in
+    let grown : with_grant earlier entry ≡ record entry { held = true } = ap (λ b. let new : LockEntry = record entry { held = b } in new) (or_right entry.held (is_granted earlier entry) e) in
     let is : P (grant_of entry.owner item) = record {
       entry = entry;
       waited = waits_where entry.held (is_clear earlier entry) e;
@@ -143,17 +143,17 @@ grant_here item earlier entries entry true e =
       names = refl;
     } in
     All-cons P (grant_of entry.owner item) [] is (All-nil P)
-grant_here item earlier entries entry false e = All-nil (IsGrantFor item (entry ∷ entries) (settled_from earlier (entry ∷ entries)))
+grant_here item earlier entries entry false e = All-nil (IsGrantFor item (entry ∷ entries) (with_grants_from earlier (entry ∷ entries)))
 
-grants_stand : (item : ℕ) (earlier entries : List LockEntry) → All (IsGrantFor item entries (settled_from earlier entries)) (grants_from item earlier entries)
+grants_stand : (item : ℕ) (earlier entries : List LockEntry) → All (IsGrantFor item entries (with_grants_from earlier entries)) (grants_from item earlier entries)
 grants_stand item earlier [] = All-nil (IsGrantFor item [] [])
 grants_stand item earlier (entry ∷ entries) =
-    let before : List LockEntry = earlier ++ settled earlier entry ∷ [] in
-    let P : Grant → Type 0 = IsGrantFor item (entry ∷ entries) (settled_from earlier (entry ∷ entries)) in
-    let Q : Grant → Type 0 = IsGrantFor item entries (settled_from before entries) in
+    let before : List LockEntry = earlier ++ with_grant earlier entry ∷ [] in
+    let P : Grant → Type 0 = IsGrantFor item (entry ∷ entries) (with_grants_from earlier (entry ∷ entries)) in
+    let Q : Grant → Type 0 = IsGrantFor item entries (with_grants_from before entries) in
     All-append P (cond (is_granted earlier entry) (grant_of entry.owner item ∷ []) []) (grants_from item before entries)
     (grant_here item earlier entries entry (is_granted earlier entry) refl)
-    (All-weaker Q P (grant_next item entries (settled_from before entries) entry (settled earlier entry)) (grants_from item before entries) (grants_stand item before entries))
+    (All-weaker Q P (grant_next item entries (with_grants_from before entries) entry (with_grant earlier entry)) (grants_from item before entries) (grants_stand item before entries))
 
 -- each grant is for an entry that waited and is held now
 pub grants_are_held : (owner : TxnId) (item : ℕ) (entries : List LockEntry)

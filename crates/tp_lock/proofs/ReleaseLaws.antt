@@ -9,15 +9,15 @@ use Rattle.tp_lock.specs.declared.entry.Grant.{Grant}
 use Rattle.tp_lock.specs.declared.entry.LockEntry.{LockEntry}
 use Rattle.tp_lock.specs.Laws.{AreGrown, IsUntouched, grant_between}
 use Rattle.tp_lock.specs.Order.{AreOrderly, EachAfter, IsOrderly, IsRight, WaitsForYounger, all_let_wait, lets_wait}
-use Rattle.tp_lock.specs.Rule.{conflicts, grant_of, grants_from, grants_in, grants_of, is_clear, is_granted, is_of, is_of_other, left_by, released, settled, settled_from, without_grant}
+use Rattle.tp_lock.specs.Rule.{after_release, conflicts, grant_of, grants_from, grants_in, grants_of, is_clear, is_granted, is_of, is_of_other, left_by, with_grant, with_grants_from, without_grant}
 use Rattle.tp_lock.specs.Table.{Table}
 use Rattle.tp_lock.proofs.OrderLemmas.{both_parts, or_parts}
 
 -- ---- the owner
 
-any_settled : (owner : TxnId) (earlier entries : List LockEntry) → list_any (is_of owner) (settled_from earlier entries) ≡ list_any (is_of owner) entries
-any_settled owner earlier [] = refl
-any_settled owner earlier (entry ∷ entries) = ap (λ b. is_of owner entry || b) (any_settled owner (earlier ++ settled earlier entry ∷ []) entries)
+any_with_grant : (owner : TxnId) (earlier entries : List LockEntry) → list_any (is_of owner) (with_grants_from earlier entries) ≡ list_any (is_of owner) entries
+any_with_grant owner earlier [] = refl
+any_with_grant owner earlier (entry ∷ entries) = ap (λ b. is_of owner entry || b) (any_with_grant owner (earlier ++ with_grant earlier entry ∷ []) entries)
 
 other_step : (owner : TxnId) (entry : LockEntry) (kept : List LockEntry) (own : Bool) → is_of owner entry ≡ own → list_any (is_of owner) kept ≡ false
     → list_any (is_of owner) (cond (not own) (entry ∷ kept) kept) ≡ false
@@ -30,7 +30,7 @@ none_other owner (entry ∷ entries) = other_step owner entry (filter (is_of_oth
 
 -- the owner has no entry left
 pub owner_is_gone : (owner : TxnId) (entries : List LockEntry) → list_any (is_of owner) (left_by owner entries) ≡ false
-owner_is_gone owner entries = any_settled owner [] (filter (is_of_other owner) entries) ∙ none_other owner entries
+owner_is_gone owner entries = any_with_grant owner [] (filter (is_of_other owner) entries) ∙ none_other owner entries
 
 -- ---- others
 
@@ -38,10 +38,10 @@ held_stays : (held granted : Bool) → held ≡ true → (held || granted) ≡ t
 held_stays true granted e = refl
 held_stays false granted e = cc
 
-grown : (earlier entries : List LockEntry) → AreGrown entries (settled_from earlier entries)
+grown : (earlier entries : List LockEntry) → AreGrown entries (with_grants_from earlier entries)
 grown earlier [] = tt
 grown earlier (entry ∷ entries) =
-    (record { same = refl; stays = held_stays entry.held (is_granted earlier entry) }, grown (earlier ++ settled earlier entry ∷ []) entries)
+    (record { same = refl; stays = held_stays entry.held (is_granted earlier entry) }, grown (earlier ++ with_grant earlier entry ∷ []) entries)
 
 -- the entries of other owners stay, but that some are held now
 pub others_stay : (owner : TxnId) (entries : List LockEntry) → AreGrown (filter (is_of_other owner) entries) (left_by owner entries)
@@ -51,9 +51,9 @@ clear_step : (held clear : Bool) → clear ≡ true → (held || (not held && cl
 clear_step true clear e = refl
 clear_step false clear e = e
 
-clear_held : (earlier entries : List LockEntry) → EachAfter (λ before entry. is_clear before entry ≡ true → entry.held ≡ true) earlier (settled_from earlier entries)
+clear_held : (earlier entries : List LockEntry) → EachAfter (λ before entry. is_clear before entry ≡ true → entry.held ≡ true) earlier (with_grants_from earlier entries)
 clear_held earlier [] = tt
-clear_held earlier (entry ∷ entries) = (clear_step entry.held (is_clear earlier entry), clear_held (earlier ++ settled earlier entry ∷ []) entries)
+clear_held earlier (entry ∷ entries) = (clear_step entry.held (is_clear earlier entry), clear_held (earlier ++ with_grant earlier entry ∷ []) entries)
 
 -- what is clear is held
 pub clear_is_held : (owner : TxnId) (entries : List LockEntry) → EachAfter (λ earlier entry. is_clear earlier entry ≡ true → entry.held ≡ true) [] (left_by owner entries)
@@ -69,11 +69,11 @@ one_grant : (grant : Grant) (rest : List Grant) (granted : Bool) → cond grante
 one_grant grant rest true = refl
 one_grant grant rest false = refl
 
-grants_between : (item : ℕ) (earlier entries : List LockEntry) → grants_from item earlier entries ≡ filter_map (grant_between item) (zip entries (settled_from earlier entries))
+grants_between : (item : ℕ) (earlier entries : List LockEntry) → grants_from item earlier entries ≡ filter_map (grant_between item) (zip entries (with_grants_from earlier entries))
 grants_between item earlier [] = refl
 grants_between item earlier (entry ∷ entries) =
-    let rest = filter_map (grant_between item) (zip entries (settled_from (earlier ++ settled earlier entry ∷ []) entries)) in
-    ap (λ grants. cond (is_granted earlier entry) (grant_of entry.owner item ∷ []) [] ++ grants) (grants_between item (earlier ++ settled earlier entry ∷ []) entries)
+    let rest = filter_map (grant_between item) (zip entries (with_grants_from (earlier ++ with_grant earlier entry ∷ []) entries)) in
+    ap (λ grants. cond (is_granted earlier entry) (grant_of entry.owner item ∷ []) [] ++ grants) (grants_between item (earlier ++ with_grant earlier entry ∷ []) entries)
     ∙ one_grant (grant_of entry.owner item) rest (is_granted earlier entry)
     ∙ ap (λ b. cons_option (cond b (Some (grant_of entry.owner item)) None) rest) (sym (newly entry.held (is_clear earlier entry)))
 
@@ -88,7 +88,7 @@ by_item_from owner item [] = refl
 by_item_from owner item (entries ∷ lists) = rw add-one (ap (λ grants. grants_in owner item entries ++ grants) (by_item_from owner (suc item) lists))
 
 pub grants_go_by_item : (owner : TxnId) (table : Table)
-    → (released owner table).grants ≡ flat_map (λ numbered. grants_in owner numbered.0 numbered.1) (enumerate_from 0 table.lists)
+    → (after_release owner table).grants ≡ flat_map (λ numbered. grants_in owner numbered.0 numbered.1) (enumerate_from 0 table.lists)
 grants_go_by_item owner table = by_item_from owner 0 table.lists
 
 -- ---- a list without an entry of the owner
@@ -108,29 +108,29 @@ or_false : (b : Bool) → (b || false) ≡ b
 or_false true = refl
 or_false false = refl
 
-settled_right : (earlier : List LockEntry) (entry : LockEntry) → IsRight earlier entry → settled earlier entry ≡ entry
-settled_right earlier entry right =
+with_grant_right : (earlier : List LockEntry) (entry : LockEntry) → IsRight earlier entry → with_grant earlier entry ≡ entry
+with_grant_right earlier entry right =
     ap (λ g. let new : LockEntry = record entry { held = entry.held || g } in new) (not_granted entry.held (is_clear earlier entry) right)
     ∙ ap (λ b. let new : LockEntry = record entry { held = b } in new) (or_false entry.held)
 
-settled_same : (earlier entries : List LockEntry) → EachAfter IsRight earlier entries → settled_from earlier entries ≡ entries
-settled_same earlier [] right = refl
-settled_same earlier (entry ∷ entries) right =
-    ap (λ e. e ∷ settled_from (earlier ++ e ∷ []) entries) (settled_right earlier entry right.0)
-    ∙ ap (λ rest. entry ∷ rest) (settled_same (earlier ++ entry ∷ []) entries right.1)
+with_grant_same : (earlier entries : List LockEntry) → EachAfter IsRight earlier entries → with_grants_from earlier entries ≡ entries
+with_grant_same earlier [] right = refl
+with_grant_same earlier (entry ∷ entries) right =
+    ap (λ e. e ∷ with_grants_from (earlier ++ e ∷ []) entries) (with_grant_right earlier entry right.0)
+    ∙ ap (λ rest. entry ∷ rest) (with_grant_same (earlier ++ entry ∷ []) entries right.1)
 
 no_grants : (item : ℕ) (earlier entries : List LockEntry) → EachAfter IsRight earlier entries → grants_from item earlier entries ≡ []
 no_grants item earlier [] right = refl
 no_grants item earlier (entry ∷ entries) right =
-    ap (λ b. cond b (grant_of entry.owner item ∷ []) [] ++ grants_from item (earlier ++ settled earlier entry ∷ []) entries) (not_granted entry.held (is_clear earlier entry) right.0)
-    ∙ ap (λ e. grants_from item (earlier ++ e ∷ []) entries) (settled_right earlier entry right.0) ∙ no_grants item (earlier ++ entry ∷ []) entries right.1
+    ap (λ b. cond b (grant_of entry.owner item ∷ []) [] ++ grants_from item (earlier ++ with_grant earlier entry ∷ []) entries) (not_granted entry.held (is_clear earlier entry) right.0)
+    ∙ ap (λ e. grants_from item (earlier ++ e ∷ []) entries) (with_grant_right earlier entry right.0) ∙ no_grants item (earlier ++ entry ∷ []) entries right.1
 
 -- nothing changes there
 pub untouched : (owner : TxnId) (item : ℕ) (entries : List LockEntry) → IsOrderly entries → list_any (is_of owner) entries ≡ false → IsUntouched owner item entries
 untouched owner item entries order none =
     let whole : filter (is_of_other owner) entries ≡ entries = all_other owner entries none in
     record {
-      stays = ap (settled_from []) whole ∙ settled_same [] entries order.right;
+      stays = ap (with_grants_from []) whole ∙ with_grant_same [] entries order.right;
       no_grants = ap (grants_from item []) whole ∙ no_grants item [] entries order.right;
     }
 
@@ -147,15 +147,15 @@ stands_gone before left entry stands = record {
   younger = λ owner age mode all. stands.younger owner age mode (both_parts (all_let_wait owner age mode before) (all_let_wait owner age mode (entry ∷ [])) (rw list_all-append at all)).0;
 }
 
-stands_kept : (before left : List LockEntry) (entry : LockEntry) → Stands before left → Stands (before ++ entry ∷ []) (left ++ settled left entry ∷ [])
+stands_kept : (before left : List LockEntry) (entry : LockEntry) → Stands before left → Stands (before ++ entry ∷ []) (left ++ with_grant left entry ∷ [])
 stands_kept before left entry stands = record {
   clear = λ owner mode none.
       let parts = or_parts (list_any (conflicts owner mode) before) (list_any (conflicts owner mode) (entry ∷ [])) (rw list_any-append at none) in
-      list_any-append (conflicts owner mode) left (settled left entry ∷ [])
+      list_any-append (conflicts owner mode) left (with_grant left entry ∷ [])
       ∙ ap (λ b. b || list_any (conflicts owner mode) (entry ∷ [])) (stands.clear owner mode parts.0) ∙ parts.1;
   younger = λ owner age mode all.
       let parts = both_parts (all_let_wait owner age mode before) (all_let_wait owner age mode (entry ∷ [])) (rw list_all-append at all) in
-      list_all-append (lets_wait owner age mode) left (settled left entry ∷ [])
+      list_all-append (lets_wait owner age mode) left (with_grant left entry ∷ [])
       ∙ ap (λ b. b && all_let_wait owner age mode (entry ∷ [])) (stands.younger owner age mode parts.0) ∙ parts.1;
 }
 
@@ -164,29 +164,29 @@ right_where true true left e stands = cc
 right_where true false left e stands = ap not (sym (stands refl))
 right_where false before left e stands = refl
 
-right_step : (before left : List LockEntry) (entry : LockEntry) → Stands before left → IsRight before entry → IsRight left (settled left entry)
+right_step : (before left : List LockEntry) (entry : LockEntry) → Stands before left → IsRight before entry → IsRight left (with_grant left entry)
 right_step before left entry stands right =
     right_where entry.held (list_any (conflicts entry.owner entry.mode) before) (list_any (conflicts entry.owner entry.mode) left) right (stands.clear entry.owner entry.mode)
 
-younger_step : (before left : List LockEntry) (entry : LockEntry) → Stands before left → WaitsForYounger before entry → WaitsForYounger left (settled left entry)
+younger_step : (before left : List LockEntry) (entry : LockEntry) → Stands before left → WaitsForYounger before entry → WaitsForYounger left (with_grant left entry)
 younger_step before left entry stands younger waiting =
     stands.younger entry.owner entry.age entry.mode (younger (or_parts entry.held (is_granted left entry) waiting).0)
 
 either_way : (Told : List LockEntry → LockEntry → Type 0) (left rest : List LockEntry) (entry : LockEntry) (other : Bool)
-    → Told left (settled left entry) × EachAfter Told (left ++ settled left entry ∷ []) (settled_from (left ++ settled left entry ∷ []) rest) → EachAfter Told left (settled_from left rest)
-    → EachAfter Told left (settled_from left (cond other (entry ∷ rest) rest))
+    → Told left (with_grant left entry) × EachAfter Told (left ++ with_grant left entry ∷ []) (with_grants_from (left ++ with_grant left entry ∷ []) rest) → EachAfter Told left (with_grants_from left rest)
+    → EachAfter Told left (with_grants_from left (cond other (entry ∷ rest) rest))
 either_way Told left rest entry true kept gone = kept
 either_way Told left rest entry false kept gone = gone
 
 each_left : (Told : List LockEntry → LockEntry → Type 0)
-    → ((before left : List LockEntry) (entry : LockEntry) → Stands before left → Told before entry → Told left (settled left entry))
+    → ((before left : List LockEntry) (entry : LockEntry) → Stands before left → Told before entry → Told left (with_grant left entry))
     → (owner : TxnId) (before left entries : List LockEntry) → Stands before left → EachAfter Told before entries
-    → EachAfter Told left (settled_from left (filter (is_of_other owner) entries))
+    → EachAfter Told left (with_grants_from left (filter (is_of_other owner) entries))
 each_left Told step owner before left [] stands each = tt
 each_left Told step owner before left (entry ∷ entries) stands each =
     either_way Told left (filter (is_of_other owner) entries) entry (is_of_other owner entry) (
       step before left entry stands each.0,
-      each_left Told step owner (before ++ entry ∷ []) (left ++ settled left entry ∷ []) entries (stands_kept before left entry stands) each.1,
+      each_left Told step owner (before ++ entry ∷ []) (left ++ with_grant left entry ∷ []) entries (stands_kept before left entry stands) each.1,
     )
     (each_left Told step owner (before ++ entry ∷ []) left entries (stands_gone before left entry stands) each.1)
 
@@ -201,8 +201,8 @@ left_by_orderly owner entries order = record {
 }
 
 -- and so the whole table
-pub released_orderly : (owner : TxnId) (table : Table) → AreOrderly table → AreOrderly (released owner table)
-released_orderly owner table order =
+pub after_release_orderly : (owner : TxnId) (table : Table) → AreOrderly table → AreOrderly (after_release owner table)
+after_release_orderly owner table order =
     All-map IsOrderly (left_by owner) table.lists (All-weaker IsOrderly (λ entries. IsOrderly (left_by owner entries)) (left_by_orderly owner) table.lists order)
 
 -- and so is a table of which a grant is taken

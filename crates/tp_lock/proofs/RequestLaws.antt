@@ -12,7 +12,7 @@ use Rattle.tp_lock.specs.declared.entry.Asked.TheVariants.{Granted, Dies}
 use Rattle.tp_lock.specs.declared.entry.LockEntry.{LockEntry}
 use Rattle.tp_lock.specs.Laws.{AgesAreOrdered, NobodyIsOlderThanItself, OlderThanTheOlder, Gives, IsAnswered}
 use Rattle.tp_lock.specs.Order.{AreOrderly, IsOrderly, IsRight, WaitsForYounger, all_let_wait, is_younger, lets_wait}
-use Rattle.tp_lock.specs.Rule.{added, conflicts, is_elder, is_of_other, is_older, is_write, lock_of, opened, requested, serves, waits_or_dies, with_lock}
+use Rattle.tp_lock.specs.Rule.{after_request, conflicts, is_elder, is_of_other, is_older, is_write, lock_of, opening, serves, waits_or_dies, with_answer, with_lock}
 use Rattle.tp_lock.specs.Table.{Table}
 use Rattle.tp_lock.proofs.OrderLemmas.{both_parts, each_push, or_parts}
 
@@ -101,7 +101,7 @@ is_answered owner age mode entries = record {
 
 orderly_where : (owner : TxnId) (age : ℕ) (mode : Action) (entries : List LockEntry) (served conflict : Bool) (elder : Option LockEntry)
     → list_any (conflicts owner mode) entries ≡ conflict → find (is_elder owner age mode) entries ≡ elder → IsOrderly entries
-    → IsOrderly (cond served entries (added owner age mode (cond conflict (waits_or_dies elder) Granted) entries))
+    → IsOrderly (cond served entries (with_answer owner age mode (cond conflict (waits_or_dies elder) Granted) entries))
 orderly_where owner age mode entries true conflict elder c e order = order
 orderly_where owner age mode entries false false elder c e order = record {
   right = each_push IsRight [] entries (lock_of owner age mode true) order.right (sym (ap not c));
@@ -122,8 +122,8 @@ pub no_entry_orderly : IsOrderly []
 no_entry_orderly = record { right = tt; younger = tt }
 
 -- a table that is opened is orderly
-pub opened_orderly : (items : ℕ) → AreOrderly (opened items)
-opened_orderly items = All-replicate IsOrderly items [] no_entry_orderly
+pub opening_orderly : (items : ℕ) → AreOrderly (opening items)
+opening_orderly items = All-replicate IsOrderly items [] no_entry_orderly
 
 pub orderly_at : (item : ℕ) (lists : List (List LockEntry)) → All IsOrderly lists → IsOrderly (get_or lists item [])
 orderly_at item lists all = elim (cases_lt item (length lists)) [
@@ -132,7 +132,7 @@ orderly_at item lists all = elim (cases_lt item (length lists)) [
 ]
 
 -- and so the whole table
-pub requested_orderly : (owner : TxnId) (age : ℕ) (item : ItemId) (mode : Action) (table : Table) → AreOrderly table → AreOrderly (requested owner age item mode table)
-requested_orderly owner age item mode table order =
+pub after_request_orderly : (owner : TxnId) (age : ℕ) (item : ItemId) (mode : Action) (table : Table) → AreOrderly table → AreOrderly (after_request owner age item mode table)
+after_request_orderly owner age item mode table order =
     All-set IsOrderly table.lists item.0 (with_lock owner age mode (get_or table.lists item.0 []))
     (with_lock_orderly owner age mode (get_or table.lists item.0 []) (orderly_at item.0 table.lists order)) order

@@ -29,8 +29,8 @@ no_grants : (from items : ℕ) → untold from (replicate items []) ≡ []
 no_grants from zero = refl
 no_grants from (suc items) = no_grants (suc from) items
 
-pub shown_opened : (items : ℕ) → shown (replicate items []) ≡ rule.opened items
-shown_opened items = same_table (no_entries items) (no_grants 0 items)
+pub shown_opening : (items : ℕ) → shown (replicate items []) ≡ rule.opening items
+shown_opening items = same_table (no_entries items) (no_grants 0 items)
 
 -- ---- lists of slots as lists of entries
 
@@ -75,11 +75,11 @@ pub answer_of : (owner : TxnId) (age : ℕ) (mode : Action) (slots : List Slot)
 answer_of owner age mode slots =
     rw (any_of (rule.serves owner mode) slots) (ap (λ a. cond (mirror.is_served owner mode slots) Granted a) (answer_to_new_of owner age mode slots))
 
-added_of : (owner : TxnId) (age : ℕ) (mode : Action) (asked : Asked) (slots : List Slot)
-    → rule.added owner age mode asked (entries_of slots) ≡ entries_of (mirror.added owner age mode asked slots)
-added_of owner age mode Granted slots = sym (map-append entry_of slots (mirror.slot_of owner age mode true ∷ []))
-added_of owner age mode Waits slots = sym (map-append entry_of slots (mirror.slot_of owner age mode false ∷ []))
-added_of owner age mode (Dies other) slots = refl
+with_answer_of : (owner : TxnId) (age : ℕ) (mode : Action) (asked : Asked) (slots : List Slot)
+    → rule.with_answer owner age mode asked (entries_of slots) ≡ entries_of (mirror.with_answer owner age mode asked slots)
+with_answer_of owner age mode Granted slots = sym (map-append entry_of slots (mirror.slot_of owner age mode true ∷ []))
+with_answer_of owner age mode Waits slots = sym (map-append entry_of slots (mirror.slot_of owner age mode false ∷ []))
+with_answer_of owner age mode (Dies other) slots = refl
 
 where_served : (slots grown : List Slot) (served : Bool) → cond served (entries_of slots) (entries_of grown) ≡ entries_of (cond served slots grown)
 where_served slots grown true = refl
@@ -88,8 +88,8 @@ where_served slots grown false = refl
 with_lock_of : (owner : TxnId) (age : ℕ) (mode : Action) (slots : List Slot)
     → rule.with_lock owner age mode (entries_of slots) ≡ entries_of (mirror.with_slot owner age mode slots)
 with_lock_of owner age mode slots =
-    rw (any_of (rule.serves owner mode) slots, answer_to_new_of owner age mode slots, added_of owner age mode (mirror.answer_to_new owner age mode slots) slots)
-    (where_served slots (mirror.added owner age mode (mirror.answer_to_new owner age mode slots) slots) (mirror.is_served owner mode slots))
+    rw (any_of (rule.serves owner mode) slots, answer_to_new_of owner age mode slots, with_answer_of owner age mode (mirror.answer_to_new owner age mode slots) slots)
+    (where_served slots (mirror.with_answer owner age mode (mirror.answer_to_new owner age mode slots) slots) (mirror.is_served owner mode slots))
 
 -- a slot that is told adds no grant
 untold_push : (item : ℕ) (slots : List Slot) (slot : Slot) → slot.told ≡ true → untold_in item (slots ++ slot ∷ []) ≡ untold_in item slots
@@ -101,22 +101,22 @@ untold_push item (first ∷ slots) slot told = untold_first item first (filter i
     untold_first item first more kept true e = e
     untold_first item first more kept false e = ap (λ grants. grant_in item first ∷ grants) e
 
-untold_added : (item : ℕ) (owner : TxnId) (age : ℕ) (mode : Action) (asked : Asked) (slots : List Slot)
-    → untold_in item (mirror.added owner age mode asked slots) ≡ untold_in item slots
-untold_added item owner age mode Granted slots = untold_push item slots (mirror.slot_of owner age mode true) refl
-untold_added item owner age mode Waits slots = untold_push item slots (mirror.slot_of owner age mode false) refl
-untold_added item owner age mode (Dies other) slots = refl
+untold_with_answer : (item : ℕ) (owner : TxnId) (age : ℕ) (mode : Action) (asked : Asked) (slots : List Slot)
+    → untold_in item (mirror.with_answer owner age mode asked slots) ≡ untold_in item slots
+untold_with_answer item owner age mode Granted slots = untold_push item slots (mirror.slot_of owner age mode true) refl
+untold_with_answer item owner age mode Waits slots = untold_push item slots (mirror.slot_of owner age mode false) refl
+untold_with_answer item owner age mode (Dies other) slots = refl
 
 untold_with : (item : ℕ) (owner : TxnId) (age : ℕ) (mode : Action) (slots : List Slot) (served : Bool)
-    → untold_in item (cond served slots (mirror.added owner age mode (mirror.answer_to_new owner age mode slots) slots)) ≡ untold_in item slots
+    → untold_in item (cond served slots (mirror.with_answer owner age mode (mirror.answer_to_new owner age mode slots) slots)) ≡ untold_in item slots
 untold_with item owner age mode slots true = refl
-untold_with item owner age mode slots false = untold_added item owner age mode (mirror.answer_to_new owner age mode slots) slots
+untold_with item owner age mode slots false = untold_with_answer item owner age mode (mirror.answer_to_new owner age mode slots) slots
 
-untold_requested : (owner : TxnId) (age : ℕ) (mode : Action) (from item : ℕ) (lists : List (List Slot))
+untold_after_request : (owner : TxnId) (age : ℕ) (mode : Action) (from item : ℕ) (lists : List (List Slot))
     → untold from (set lists item (mirror.with_slot owner age mode (get_or lists item []))) ≡ untold from lists
-untold_requested owner age mode from item [] = refl
-untold_requested owner age mode from zero (slots ∷ lists) = ap (λ grants. grants ++ untold (suc from) lists) (untold_with from owner age mode slots (mirror.is_served owner mode slots))
-untold_requested owner age mode from (suc item) (slots ∷ lists) = ap (λ grants. untold_in from slots ++ grants) (untold_requested owner age mode (suc from) item lists)
+untold_after_request owner age mode from item [] = refl
+untold_after_request owner age mode from zero (slots ∷ lists) = ap (λ grants. grants ++ untold (suc from) lists) (untold_with from owner age mode slots (mirror.is_served owner mode slots))
+untold_after_request owner age mode from (suc item) (slots ∷ lists) = ap (λ grants. untold_in from slots ++ grants) (untold_after_request owner age mode (suc from) item lists)
 
 entries_at_of : (item : ℕ) (lists : List (List Slot)) → get_or (map entries_of lists) item [] ≡ entries_of (get_or lists item [])
 entries_at_of item [] = refl
@@ -124,35 +124,35 @@ entries_at_of zero (slots ∷ lists) = refl
 entries_at_of (suc item) (slots ∷ lists) = entries_at_of item lists
 
 -- what a request of an item leaves, and its answer
-pub shown_requested : (owner : TxnId) (age : ℕ) (item : ItemId) (mode : Action) (lists : List (List Slot))
-    → shown (set lists item.0 (mirror.with_slot owner age mode (get_or lists item.0 []))) ≡ rule.requested owner age item mode (shown lists)
-shown_requested owner age item mode lists =
+pub shown_after_request : (owner : TxnId) (age : ℕ) (item : ItemId) (mode : Action) (lists : List (List Slot))
+    → shown (set lists item.0 (mirror.with_slot owner age mode (get_or lists item.0 []))) ≡ rule.after_request owner age item mode (shown lists)
+shown_after_request owner age item mode lists =
     let slots = get_or lists item.0 [] in
     same_table
     (map-set entries_of lists item.0 (mirror.with_slot owner age mode slots)
     ∙ ap (set (map entries_of lists) item.0) (sym (with_lock_of owner age mode slots) ∙ ap (rule.with_lock owner age mode) (sym (entries_at_of item.0 lists))))
-    (untold_requested owner age mode 0 item.0 lists)
+    (untold_after_request owner age mode 0 item.0 lists)
 
-pub asked_of : (owner : TxnId) (age : ℕ) (item : ItemId) (mode : Action) (lists : List (List Slot))
-    → rule.asked owner age item mode (shown lists) ≡ mirror.answer owner age mode (get_or lists item.0 [])
-asked_of owner age item mode lists =
+pub answer_at_of : (owner : TxnId) (age : ℕ) (item : ItemId) (mode : Action) (lists : List (List Slot))
+    → rule.answer_at owner age item mode (shown lists) ≡ mirror.answer owner age mode (get_or lists item.0 [])
+answer_at_of owner age item mode lists =
     ap (rule.answer owner age mode) (entries_at_of item.0 lists) ∙ answer_of owner age mode (get_or lists item.0 [])
 
 -- an item that is not there
 pub nothing_there : (owner : TxnId) (age : ℕ) (item : ItemId) (mode : Action) (lists : List (List Slot)) → length lists ≤ item.0
-    → (Granted ≡ rule.asked owner age item mode (shown lists)) × (shown lists ≡ rule.requested owner age item mode (shown lists))
+    → (Granted ≡ rule.answer_at owner age item mode (shown lists)) × (shown lists ≡ rule.after_request owner age item mode (shown lists))
 nothing_there owner age item mode lists past =
     let empty : get_or lists item.0 [] ≡ [] = get_or_past lists item.0 [] past in
     let same : set lists item.0 (mirror.with_slot owner age mode (get_or lists item.0 [])) ≡ lists = set_past lists item.0 (mirror.with_slot owner age mode (get_or lists item.0 [])) past in
-    (ap (mirror.answer owner age mode) (sym empty) ∙ sym (asked_of owner age item mode lists), ap shown (sym same) ∙ shown_requested owner age item mode lists)
+    (ap (mirror.answer owner age mode) (sym empty) ∙ sym (answer_at_of owner age item mode lists), ap shown (sym same) ∙ shown_after_request owner age item mode lists)
 
 -- the slots of an item
 pub slots_there : (owner : TxnId) (age : ℕ) (item : ItemId) (mode : Action) (lists : List (List Slot)) (slots : List Slot) → slots ≡ get_or lists item.0 []
-    → (mirror.answer owner age mode slots ≡ rule.asked owner age item mode (shown lists))
-    × (shown (set lists item.0 (mirror.with_slot owner age mode slots)) ≡ rule.requested owner age item mode (shown lists))
+    → (mirror.answer owner age mode slots ≡ rule.answer_at owner age item mode (shown lists))
+    × (shown (set lists item.0 (mirror.with_slot owner age mode slots)) ≡ rule.after_request owner age item mode (shown lists))
 slots_there owner age item mode lists slots here = (
-  ap (mirror.answer owner age mode) here ∙ sym (asked_of owner age item mode lists),
-  ap (λ s. shown (set lists item.0 (mirror.with_slot owner age mode s))) here ∙ shown_requested owner age item mode lists,
+  ap (mirror.answer owner age mode) here ∙ sym (answer_at_of owner age item mode lists),
+  ap (λ s. shown (set lists item.0 (mirror.with_slot owner age mode s))) here ∙ shown_after_request owner age item mode lists,
 )
 
 -- ---- a release
@@ -160,50 +160,50 @@ slots_there owner age item mode lists slots here = (
 granted_of : (earlier : List Slot) (entry : LockEntry) → rule.is_granted (entries_of earlier) entry ≡ mirror.is_granted earlier entry
 granted_of earlier entry = ap (λ b. not entry.held && not b) (any_of (rule.conflicts entry.owner entry.mode) earlier)
 
-settled_of : (earlier : List Slot) (slot : Slot) → rule.settled (entries_of earlier) slot.entry ≡ entry_of (mirror.settled earlier slot)
-settled_of earlier slot = ap (λ b. record slot.entry { held = slot.entry.held || b }) (granted_of earlier slot.entry)
+with_grant_of : (earlier : List Slot) (slot : Slot) → rule.with_grant (entries_of earlier) slot.entry ≡ entry_of (mirror.with_grant earlier slot)
+with_grant_of earlier slot = ap (λ b. record slot.entry { held = slot.entry.held || b }) (granted_of earlier slot.entry)
 
 -- the earlier entries of the next slot
 earlier_of : (earlier : List Slot) (slot : Slot)
-    → entries_of (earlier ++ mirror.settled earlier slot ∷ []) ≡ entries_of earlier ++ rule.settled (entries_of earlier) slot.entry ∷ []
+    → entries_of (earlier ++ mirror.with_grant earlier slot ∷ []) ≡ entries_of earlier ++ rule.with_grant (entries_of earlier) slot.entry ∷ []
 earlier_of earlier slot =
-    map-append entry_of earlier (mirror.settled earlier slot ∷ []) ∙ ap (λ entry. entries_of earlier ++ entry ∷ []) (sym (settled_of earlier slot))
+    map-append entry_of earlier (mirror.with_grant earlier slot ∷ []) ∙ ap (λ entry. entries_of earlier ++ entry ∷ []) (sym (with_grant_of earlier slot))
 
-settled_entries : (earlier slots : List Slot) → entries_of (mirror.settled_from earlier slots) ≡ rule.settled_from (entries_of earlier) (entries_of slots)
-settled_entries earlier [] = refl
-settled_entries earlier (slot ∷ slots) =
-    ap (λ entry. entry ∷ entries_of (mirror.settled_from (earlier ++ mirror.settled earlier slot ∷ []) slots)) (sym (settled_of earlier slot))
-    ∙ ap (λ entries. rule.settled (entries_of earlier) slot.entry ∷ entries)
-    (settled_entries (earlier ++ mirror.settled earlier slot ∷ []) slots ∙ ap (λ before. rule.settled_from before (entries_of slots)) (earlier_of earlier slot))
+with_grants_entries : (earlier slots : List Slot) → entries_of (mirror.with_grants_from earlier slots) ≡ rule.with_grants_from (entries_of earlier) (entries_of slots)
+with_grants_entries earlier [] = refl
+with_grants_entries earlier (slot ∷ slots) =
+    ap (λ entry. entry ∷ entries_of (mirror.with_grants_from (earlier ++ mirror.with_grant earlier slot ∷ []) slots)) (sym (with_grant_of earlier slot))
+    ∙ ap (λ entries. rule.with_grant (entries_of earlier) slot.entry ∷ entries)
+    (with_grants_entries (earlier ++ mirror.with_grant earlier slot ∷ []) slots ∙ ap (λ before. rule.with_grants_from before (entries_of slots)) (earlier_of earlier slot))
 
 granted_step : (item : ℕ) (slot : Slot) (kept : List Slot) (granted : Bool)
     → map (grant_in item) (cond (not (not granted)) (slot ∷ kept) kept) ≡ cond granted (grant_in item slot ∷ []) [] ++ map (grant_in item) kept
 granted_step item slot kept true = refl
 granted_step item slot kept false = refl
 
-settled_grants : (item : ℕ) (earlier slots : List Slot) → untold_in item (mirror.settled_from earlier slots) ≡ rule.grants_from item (entries_of earlier) (entries_of slots)
-settled_grants item earlier [] = refl
-settled_grants item earlier (slot ∷ slots) =
-    let next = mirror.settled earlier slot in
-    let rest = mirror.settled_from (earlier ++ next ∷ []) slots in
+with_grants_grants : (item : ℕ) (earlier slots : List Slot) → untold_in item (mirror.with_grants_from earlier slots) ≡ rule.grants_from item (entries_of earlier) (entries_of slots)
+with_grants_grants item earlier [] = refl
+with_grants_grants item earlier (slot ∷ slots) =
+    let next = mirror.with_grant earlier slot in
+    let rest = mirror.with_grants_from (earlier ++ next ∷ []) slots in
     granted_step item next (filter is_untold rest) (mirror.is_granted earlier slot.entry)
     ∙ ap (λ b. cond b (rule.grant_of slot.entry.owner item ∷ []) [] ++ untold_in item rest) (sym (granted_of earlier slot.entry))
     ∙ ap (λ grants. cond (rule.is_granted (entries_of earlier) slot.entry) (rule.grant_of slot.entry.owner item ∷ []) [] ++ grants)
-    (settled_grants item (earlier ++ next ∷ []) slots ∙ ap (λ before. rule.grants_from item before (entries_of slots)) (earlier_of earlier slot))
+    (with_grants_grants item (earlier ++ next ∷ []) slots ∙ ap (λ before. rule.grants_from item before (entries_of slots)) (earlier_of earlier slot))
 
 left_entries : (owner : TxnId) (lists : List (List Slot)) → map entries_of (map (mirror.left_by owner) lists) ≡ map (rule.left_by owner) (map entries_of lists)
 left_entries owner [] = refl
 left_entries owner (slots ∷ lists) =
     ap (λ entries. entries ∷ map entries_of (map (mirror.left_by owner) lists))
-    (settled_entries [] (filter (mirror.is_of_other owner) slots) ∙ ap (rule.settled_from []) (sym (filter_of (rule.is_of_other owner) slots)))
+    (with_grants_entries [] (filter (mirror.is_of_other owner) slots) ∙ ap (rule.with_grants_from []) (sym (filter_of (rule.is_of_other owner) slots)))
     ∙ ap (λ others. rule.left_by owner (entries_of slots) ∷ others) (left_entries owner lists)
 
 left_grants : (owner : TxnId) (item : ℕ) (lists : List (List Slot)) → untold item (map (mirror.left_by owner) lists) ≡ rule.grants_of owner item (map entries_of lists)
 left_grants owner item [] = refl
 left_grants owner item (slots ∷ lists) =
     ap (λ grants. grants ++ untold (suc item) (map (mirror.left_by owner) lists))
-    (settled_grants item [] (filter (mirror.is_of_other owner) slots) ∙ ap (rule.grants_from item []) (sym (filter_of (rule.is_of_other owner) slots)))
+    (with_grants_grants item [] (filter (mirror.is_of_other owner) slots) ∙ ap (rule.grants_from item []) (sym (filter_of (rule.is_of_other owner) slots)))
     ∙ ap (λ grants. rule.grants_in owner item (entries_of slots) ++ grants) (left_grants owner (suc item) lists)
 
-pub shown_released : (owner : TxnId) (lists : List (List Slot)) → shown (map (mirror.left_by owner) lists) ≡ rule.released owner (shown lists)
-shown_released owner lists = same_table (left_entries owner lists) (left_grants owner 0 lists)
+pub shown_after_release : (owner : TxnId) (lists : List (List Slot)) → shown (map (mirror.left_by owner) lists) ≡ rule.after_release owner (shown lists)
+shown_after_release owner lists = same_table (left_entries owner lists) (left_grants owner 0 lists)

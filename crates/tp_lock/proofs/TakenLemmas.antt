@@ -175,22 +175,22 @@ told_push : (slots : List Slot) (slot : Slot) → slot.told ≡ true → find is
 told_push [] slot told = ap (λ b. cond (not b) (Some slot) None) told
 told_push (first ∷ slots) slot told = ap (λ rest. cond (not first.told) (Some first) rest) (told_push slots slot told)
 
-told_added : (owner : TxnId) (age : ℕ) (mode : Action) (asked : Asked) (slots : List Slot) → are_told (mirror.added owner age mode asked slots) ≡ are_told slots
-told_added owner age mode Granted slots = ap (λ o. not (is_some o)) (told_push slots (mirror.slot_of owner age mode true) refl)
-told_added owner age mode Waits slots = ap (λ o. not (is_some o)) (told_push slots (mirror.slot_of owner age mode false) refl)
-told_added owner age mode (Dies other) slots = refl
+told_with_answer : (owner : TxnId) (age : ℕ) (mode : Action) (asked : Asked) (slots : List Slot) → are_told (mirror.with_answer owner age mode asked slots) ≡ are_told slots
+told_with_answer owner age mode Granted slots = ap (λ o. not (is_some o)) (told_push slots (mirror.slot_of owner age mode true) refl)
+told_with_answer owner age mode Waits slots = ap (λ o. not (is_some o)) (told_push slots (mirror.slot_of owner age mode false) refl)
+told_with_answer owner age mode (Dies other) slots = refl
 
 told_with : (owner : TxnId) (age : ℕ) (mode : Action) (asked : Asked) (slots : List Slot) (served : Bool)
-    → are_told (cond served slots (mirror.added owner age mode asked slots)) ≡ are_told slots
+    → are_told (cond served slots (mirror.with_answer owner age mode asked slots)) ≡ are_told slots
 told_with owner age mode asked slots true = refl
-told_with owner age mode asked slots false = told_added owner age mode asked slots
+told_with owner age mode asked slots false = told_with_answer owner age mode asked slots
 
 -- a request adds no grant, whatever its answer
-told_asked : (owner : TxnId) (age : ℕ) (mode : Action) (slots grown : List Slot) (result : Result Asked NoMemory)
+told_answer : (owner : TxnId) (age : ℕ) (mode : Action) (slots grown : List Slot) (result : Result Asked NoMemory)
     → OnOk result (grown ≡ with_slot owner age mode slots) → OnErr result (grown ≡ slots) → are_told grown ≡ are_told slots
-told_asked owner age mode slots grown (Ok asked) ok err =
+told_answer owner age mode slots grown (Ok asked) ok err =
     ap are_told ok ∙ told_with owner age mode (mirror.answer_to_new owner age mode slots) slots (mirror.is_served owner mode slots)
-told_asked owner age mode slots grown (Err error) ok err = ap are_told err
+told_answer owner age mode slots grown (Err error) ok err = ap are_told err
 
 told_set : (next item : ℕ) (lists : List (List Slot)) (slots : List Slot) → are_told slots ≡ are_told (get_or lists item [])
     → list_all are_told (take next (set lists item slots)) ≡ list_all are_told (take next lists)
@@ -199,10 +199,10 @@ told_set (suc next) item [] slots e = refl
 told_set (suc next) zero (first ∷ lists) slots e = ap (λ b. b && list_all are_told (take next lists)) e
 told_set (suc next) (suc item) (first ∷ lists) slots e = ap (λ b. are_told first && b) (told_set next item lists slots e)
 
-pub requested_kept : (owner : TxnId) (age : ℕ) (mode : Action) (next item : ℕ) (lists : List (List Slot)) (slots grown : List Slot) (result : Result Asked NoMemory)
+pub after_request_kept : (owner : TxnId) (age : ℕ) (mode : Action) (next item : ℕ) (lists : List (List Slot)) (slots grown : List Slot) (result : Result Asked NoMemory)
     → slots ≡ get_or lists item [] → OnOk result (grown ≡ with_slot owner age mode slots) → OnErr result (grown ≡ slots)
     → AreKept lists next → AreKept (set lists item grown) next
-requested_kept owner age mode next item lists slots grown result here ok err kept = record {
+after_request_kept owner age mode next item lists slots grown result here ok err kept = record {
   few = rw length-set kept.few;
-  told = told_set next item lists grown (told_asked owner age mode slots grown result ok err ∙ ap are_told here) ∙ kept.told;
+  told = told_set next item lists grown (told_answer owner age mode slots grown result ok err ∙ ap are_told here) ∙ kept.told;
 }

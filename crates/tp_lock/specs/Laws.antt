@@ -9,7 +9,7 @@ use Rattle.tp_lock.specs.declared.entry.Asked.TheVariants.{Granted, Waits, Dies}
 use Rattle.tp_lock.specs.declared.entry.Grant.{Grant}
 use Rattle.tp_lock.specs.declared.entry.LockEntry.{LockEntry}
 use Rattle.tp_lock.specs.Order.{AreOrderly, EachAfter, HeldDoNotConflict, IsOrderly, all_let_wait, is_younger}
-use Rattle.tp_lock.specs.Rule.{answer, conflicts, grant_of, grants_in, is_clear, is_elder, is_of, is_of_other, is_older, left_by, lock_of, opened, released, requested, serves, with_lock, without_grant}
+use Rattle.tp_lock.specs.Rule.{after_release, after_request, answer, conflicts, grant_of, grants_in, is_clear, is_elder, is_of, is_of_other, is_older, left_by, lock_of, opening, serves, with_lock, without_grant}
 use Rattle.tp_lock.specs.Table.{Table}
 
 -- of two owners the one is older exactly where the other is not
@@ -74,14 +74,14 @@ KeptByReleases = (holder : TxnId) (held : Action) (owner : TxnId) (entries : Lis
 
 -- ---- order
 
-abbrev pub OpenedIsOrderly : Type 0
-OpenedIsOrderly = (items : ℕ) → AreOrderly (opened items)
+abbrev pub OpeningIsOrderly : Type 0
+OpeningIsOrderly = (items : ℕ) → AreOrderly (opening items)
 
 abbrev pub RequestsKeepOrder : Type 0
-RequestsKeepOrder = (owner : TxnId) (age : ℕ) (item : ItemId) (mode : Action) (table : Table) → AreOrderly table → AreOrderly (requested owner age item mode table)
+RequestsKeepOrder = (owner : TxnId) (age : ℕ) (item : ItemId) (mode : Action) (table : Table) → AreOrderly table → AreOrderly (after_request owner age item mode table)
 
 abbrev pub ReleasesKeepOrder : Type 0
-ReleasesKeepOrder = (owner : TxnId) (table : Table) → AreOrderly table → AreOrderly (released owner table)
+ReleasesKeepOrder = (owner : TxnId) (table : Table) → AreOrderly table → AreOrderly (after_release owner table)
 
 abbrev pub TakingKeepsOrder : Type 0
 TakingKeepsOrder = (table : Table) → AreOrderly table → AreOrderly (without_grant table)
@@ -140,7 +140,7 @@ GrantsAreHeld = (owner : TxnId) (item : ℕ) (entries : List LockEntry)
 -- the grants of a release are those of the items, by number
 abbrev pub GrantsGoByItem : Type 0
 GrantsGoByItem = (owner : TxnId) (table : Table)
-    → (released owner table).grants ≡ flat_map (λ numbered. grants_in owner numbered.0 numbered.1) (enumerate_from 0 table.lists)
+    → (after_release owner table).grants ≡ flat_map (λ numbered. grants_in owner numbered.0 numbered.1) (enumerate_from 0 table.lists)
 
 -- nothing changes in an orderly list where the owner has no entry
 pub record IsUntouched (owner : TxnId) (item : ℕ) (entries : List LockEntry) : Type 0 where

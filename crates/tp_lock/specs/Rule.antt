@@ -57,14 +57,14 @@ abbrev pub lock_of : TxnId → ℕ → Action → Bool → LockEntry
 lock_of owner age mode held = record { owner = owner; age = age; mode = mode; held = held }
 
 -- the list with the entry that an answer adds
-abbrev pub added : TxnId → ℕ → Action → Asked → List LockEntry → List LockEntry
-added owner age mode Granted entries = entries ++ lock_of owner age mode true ∷ []
-added owner age mode Waits entries = entries ++ lock_of owner age mode false ∷ []
-added owner age mode (Dies other) entries = entries
+abbrev pub with_answer : TxnId → ℕ → Action → Asked → List LockEntry → List LockEntry
+with_answer owner age mode Granted entries = entries ++ lock_of owner age mode true ∷ []
+with_answer owner age mode Waits entries = entries ++ lock_of owner age mode false ∷ []
+with_answer owner age mode (Dies other) entries = entries
 
 abbrev pub with_lock : TxnId → ℕ → Action → List LockEntry → List LockEntry
 with_lock owner age mode entries =
-    if list_any (serves owner mode) entries then entries else added owner age mode (answer_to_new owner age mode entries) entries
+    if list_any (serves owner mode) entries then entries else with_answer owner age mode (answer_to_new owner age mode entries) entries
 
 -- ---- a release, at one list
 
@@ -76,17 +76,17 @@ is_clear earlier entry = not (list_any (conflicts entry.owner entry.mode) earlie
 abbrev pub is_granted : List LockEntry → LockEntry → Bool
 is_granted earlier entry = not entry.held && is_clear earlier entry
 
-abbrev pub settled : List LockEntry → LockEntry → LockEntry
-settled earlier entry = record entry { held = entry.held || is_granted earlier entry }
+abbrev pub with_grant : List LockEntry → LockEntry → LockEntry
+with_grant earlier entry = record entry { held = entry.held || is_granted earlier entry }
 
 -- the entries of a list after the earlier ones, each that waits and is clear now held
-abbrev pub settled_from : List LockEntry → List LockEntry → List LockEntry
-settled_from earlier [] = []
-settled_from earlier (entry ∷ entries) = settled earlier entry ∷ settled_from (earlier ++ settled earlier entry ∷ []) entries
+abbrev pub with_grants_from : List LockEntry → List LockEntry → List LockEntry
+with_grants_from earlier [] = []
+with_grants_from earlier (entry ∷ entries) = with_grant earlier entry ∷ with_grants_from (earlier ++ with_grant earlier entry ∷ []) entries
 
 -- the list without the owner
 abbrev pub left_by : TxnId → List LockEntry → List LockEntry
-left_by owner entries = settled_from [] (filter (is_of_other owner) entries)
+left_by owner entries = with_grants_from [] (filter (is_of_other owner) entries)
 
 abbrev pub grant_of : TxnId → ℕ → Grant
 grant_of owner item = record { owner = owner; item = record { 0 = item } }
@@ -95,7 +95,7 @@ grant_of owner item = record { owner = owner; item = record { 0 = item } }
 abbrev pub grants_from : ℕ → List LockEntry → List LockEntry → List Grant
 grants_from item earlier [] = []
 grants_from item earlier (entry ∷ entries) =
-    (if is_granted earlier entry then grant_of entry.owner item ∷ [] else []) ++ grants_from item (earlier ++ settled earlier entry ∷ []) entries
+    (if is_granted earlier entry then grant_of entry.owner item ∷ [] else []) ++ grants_from item (earlier ++ with_grant earlier entry ∷ []) entries
 
 abbrev pub grants_in : TxnId → ℕ → List LockEntry → List Grant
 grants_in owner item entries = grants_from item [] (filter (is_of_other owner) entries)
@@ -107,20 +107,20 @@ grants_of owner item (entries ∷ lists) = grants_in owner item entries ++ grant
 
 -- ---- the calls of a table
 
-abbrev pub opened : ℕ → Table
-opened items = record { lists = replicate items []; grants = [] }
+abbrev pub opening : ℕ → Table
+opening items = record { lists = replicate items []; grants = [] }
 
 abbrev pub entries_at : ItemId → Table → List LockEntry
 entries_at item table = slice_index_or table.lists item.0 []
 
-abbrev pub asked : TxnId → ℕ → ItemId → Action → Table → Asked
-asked owner age item mode table = answer owner age mode (entries_at item table)
+abbrev pub answer_at : TxnId → ℕ → ItemId → Action → Table → Asked
+answer_at owner age item mode table = answer owner age mode (entries_at item table)
 
-abbrev pub requested : TxnId → ℕ → ItemId → Action → Table → Table
-requested owner age item mode table = record table { lists = slice_set table.lists item.0 (with_lock owner age mode (entries_at item table)) }
+abbrev pub after_request : TxnId → ℕ → ItemId → Action → Table → Table
+after_request owner age item mode table = record table { lists = slice_set table.lists item.0 (with_lock owner age mode (entries_at item table)) }
 
-abbrev pub released : TxnId → Table → Table
-released owner table = record { lists = map (left_by owner) table.lists; grants = grants_of owner 0 table.lists }
+abbrev pub after_release : TxnId → Table → Table
+after_release owner table = record { lists = map (left_by owner) table.lists; grants = grants_of owner 0 table.lists }
 
 abbrev pub first_grant : Table → Option Grant
 first_grant table = slice_get table.grants 0

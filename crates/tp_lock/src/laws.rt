@@ -17,7 +17,7 @@ pub fn requests_are_answered()
 /// In every list of a table that its calls have made, a lock is held exactly where no earlier entry conflicts with it,
 /// and an entry that waits does so for younger owners only. So two locks that are held never conflict.
 pub fn tables_are_orderly()
-    ensures opened { laws.OpenedIsOrderly }
+    ensures opened { laws.OpeningIsOrderly }
     ensures requested { laws.RequestsKeepOrder }
     ensures released { laws.ReleasesKeepOrder }
     ensures taken { laws.TakingKeepsOrder }

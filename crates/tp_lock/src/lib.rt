@@ -36,15 +36,15 @@ pub trait LockTable {
         item: ItemId,
         mode: Action,
     ) -> Result<Asked, NoMemory>
-        ensures answer { IfOk result (λ asked. asked ≡ rule.asked owner age item mode (table self.old)) }
-        ensures ok { OnOk result (table self.new ≡ rule.requested owner age item mode (table self.old)) }
+        ensures answer { IfOk result (λ asked. asked ≡ rule.answer_at owner age item mode (table self.old)) }
+        ensures ok { OnOk result (table self.new ≡ rule.after_request owner age item mode (table self.old)) }
         ensures err { OnErr result (table self.new ≡ table self.old) };
 
     /// Takes the owner's entries out of all lists. Each waiting entry that is clear by then becomes held, and is
     /// one of the grants to be taken, by item and then in the order of the list. Grants of an earlier release that
     /// nobody took are forgotten. It takes no memory.
     fn release(&mut self, owner: TxnId)
-        ensures { table self.new ≡ rule.released owner (table self.old) };
+        ensures { table self.new ≡ rule.after_release owner (table self.old) };
 
     /// Takes the first grant that nobody has taken, or answers None exactly where there is none. It takes no memory.
     fn take_granted(&mut self) -> Option<Grant>

@@ -57,7 +57,7 @@ fn without(mut slots: Vec<Slot>, owner: TxnId) -> Vec<Slot>
 }
 
 fn settle(slots: &mut [Slot])
-    ensures { slots.new ≡ mirror.settled_from [] slots.old }
+    ensures { slots.new ≡ mirror.with_grants_from [] slots.old }
 {
     for at in 0..slots.len() {
         let whole: &[Slot] = slots;

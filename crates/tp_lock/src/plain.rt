@@ -33,7 +33,7 @@ impl Model for PlainLocks {
 impl PlainLocks {
     /// A table of so many items, on which nobody has a lock.
     pub fn opened(alloc: Global, items: u32) -> Result<PlainLocks, NoMemory>
-        ensures { IfOk result (λ made. made ≡ rule.opened items) }
+        ensures { IfOk result (λ made. made ≡ rule.opening items) }
     {
         let mut lists = Vec::with_capacity(alloc, items as usize)?;
         for _item in 0..items {

@@ -92,7 +92,7 @@ fn is_granted(earlier: &[Slot], entry: &LockEntry) -> bool
 
 /// A slot after these, held from now on where it waits and no earlier one conflicts. A grant of before counts as told.
 pub fn settled(earlier: &[Slot], slot: &Slot) -> Slot
-    ensures { result ≡ mirror.settled earlier.now slot.now }
+    ensures { result ≡ mirror.with_grant earlier.now slot.now }
 {
     let granted = is_granted(earlier, &slot.entry);
     let held = slot.entry.held || granted;

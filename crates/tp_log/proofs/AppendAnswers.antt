@@ -1,7 +1,7 @@
 -- What an append answers, from the calls that it made.
 use Rattle.std.proofs.Common.{◌≡◌, inl, inr, ℕ, ◌+◌, ◌≤◌, List, [], ◌∷◌, ◌++◌, length, Bool, true, false, Result, Ok, Err, refl, sym, ap, subst, ◌∙◌, arith}
 use Rattle.tp_types.specs.declared.records.Record.{Record}
-use Rattle.tp_device.specs.Disks.{Call, DiskState, LeavesOnly, MayLeave, settled}
+use Rattle.tp_device.specs.Disks.{Call, DiskState, LeavesOnly, MayLeave, clean_state}
 use Rattle.tp_device.specs.Faults.{Rose}
 use Rattle.tp_device.specs.declared.disk.DiskError.{DiskError}
 use Rattle.tp_device.specs.declared.disk.DiskError.TheVariants as errors
@@ -45,7 +45,7 @@ module _ {D : Type 0} (state : D → DiskState) (left_since : D → D → List �
     after result new closed steps records keeps =
         let e = keeps.at_gate.ends in
         let calls : forced_calls gate bytes ≡ append_calls (length (blocks records)) (spelling r) = spelled gate ∙ ap (λ (k : ℕ). append_calls k (spelling r)) keeps.at_gate.gate_is in
-        after_steps state left_since does faults only_now records r is e.are e.gate e.shut e.rest disk new result (keeps.forced ∙ ap settled e.parts)
+        after_steps state left_since does faults only_now records r is e.are e.gate e.shut e.rest disk new result (keeps.forced ∙ ap clean_state e.parts)
         (subst (λ (cs : List Call). Steps state left_since does faults cs disk result new) calls steps)
 
     pub moments : (result : Result (Unit {0}) DiskError) (new : D) (closed : Bool) → Steps state left_since does faults (forced_calls gate bytes) disk result new

@@ -4,7 +4,7 @@ use Rattle.std.specs.Prelude.{max, ◌&&◌, nat_le, nat_lt, slice_index}
 use Rattle.std.proofs.lemmas.Bool.{cases_eq, cases_lt, le-leb, le-ltb, lt-leb, lt-ltb}
 use Rattle.std.proofs.lemmas.List.{ext_get_or, drop_at, take_at, take-append-drop, length-append, length-take, length-drop, get_or_append_left, get_or-append_right, get_or-take, get_or-drop, drop_more}
 use Rattle.tp_types.specs.declared.records.Record.{Record}
-use Rattle.tp_device.specs.Disks.{DiskState, MayHaveWritten, MayLeave, is_touched, is_within, overwritten, settled, span, wrote}
+use Rattle.tp_device.specs.Disks.{DiskState, MayHaveWritten, MayLeave, after_write, clean_state, is_touched, is_within, span, with_piece}
 use Rattle.tp_record.specs.Records.{IsRecord}
 use Rattle.tp_record.specs.Spelling.{spelling}
 use Rattle.tp_log.specs.Images.{AreRecords, Ends, Gives, blocks}
@@ -45,8 +45,8 @@ outside i at len none = elim (cases_lt i at) [
   ]
 ]
 
-overwritten_other : (base : List ℕ) (at : ℕ) (piece : List ℕ) (i : ℕ) → at ≤ length base → is_within i (span at (length piece)) ≡ false → slice_index (overwritten base at piece) i ≡ slice_index base i
-overwritten_other base at piece i within none =
+with_piece_other : (base : List ℕ) (at : ℕ) (piece : List ℕ) (i : ℕ) → at ≤ length base → is_within i (span at (length piece)) ≡ false → slice_index (with_piece base at piece) i ≡ slice_index base i
+with_piece_other base at piece i within none =
     let before : List ℕ = take at base in
     let size : length before ≡ at = omega (arith, length-take at base) in
     elim (outside i at (length piece) none) [
@@ -61,14 +61,14 @@ overwritten_other base at piece i within none =
 touched_one : (i at len : ℕ) → is_within i (span at len) ≡ false → is_touched (span at len ∷ []) i ≡ false
 touched_one i at len none = rw none refl
 
-pub near_wrote : (base : List ℕ) (at : ℕ) (piece image : List ℕ) → at ≤ length base → MayLeave (wrote at piece (settled base)) image → Near base at (length piece) image
+pub near_wrote : (base : List ℕ) (at : ℕ) (piece image : List ℕ) → at ≤ length base → MayLeave (after_write at piece (clean_state base)) image → Near base at (length piece) image
 near_wrote base at piece image within left = record {
   no_shorter = left.no_shorter;
   no_longer = left.no_longer;
-  others = λ i lt none. left.kept i lt (touched_one i at (length piece) none) ∙ overwritten_other base at piece i within none;
+  others = λ i lt none. left.kept i lt (touched_one i at (length piece) none) ∙ with_piece_other base at piece i within none;
 }
 
-pub near_failed : (base : List ℕ) (at len : ℕ) (s : DiskState) (image : List ℕ) → MayHaveWritten at len (settled base) s → MayLeave s image → Near base at len image
+pub near_failed : (base : List ℕ) (at len : ℕ) (s : DiskState) (image : List ℕ) → MayHaveWritten at len (clean_state base) s → MayLeave s image → Near base at len image
 near_failed base at len s image may left =
     let wider = may.crash image left in
     record {
@@ -117,7 +117,7 @@ module _ (rs : List Record) (are : AreRecords rs) (g : ℕ) (shut : g ≢ 1) whe
         parts = sym (take-append-drop at image) ∙ ap (λ (t : List ℕ). t ++ drop at image) front ∙ sym (regate (drop at image));
       }
 
-  pub seen_behind : (rest body : List ℕ) → overwritten (blocks rs ++ g ∷ rest) (length (blocks rs) + 1) (body ++ 0 ∷ [])
+  pub seen_behind : (rest body : List ℕ) → with_piece (blocks rs ++ g ∷ rest) (length (blocks rs) + 1) (body ++ 0 ∷ [])
       ≡ blocks rs ++ g ∷ (body ++ 0 ∷ drop (length (blocks rs) + 1 + length (body ++ 0 ∷ [])) (blocks rs ++ g ∷ rest))
   seen_behind rest body =
       let at = length (blocks rs) + 1 in
@@ -157,7 +157,7 @@ module _ (rs : List Record) (are : AreRecords rs) (g : ℕ) (shut : g ≢ 1) whe
           | inr closed ↦ inl (inr (record { gate = h; rest = behind; are = are; shut = closed; parts = whole }))
         ]
 
-    pub seen_gate : overwritten (blocks rs ++ g ∷ (spelling r ++ 0 ∷ rest)) (length (blocks rs)) (1 ∷ []) ≡ blocks rs ++ 1 ∷ (spelling r ++ 0 ∷ rest)
+    pub seen_gate : with_piece (blocks rs ++ g ∷ (spelling r ++ 0 ∷ rest)) (length (blocks rs)) (1 ∷ []) ≡ blocks rs ++ 1 ∷ (spelling r ++ 0 ∷ rest)
     seen_gate =
         let at = length (blocks rs) in
         let behind : List ℕ = spelling r ++ 0 ∷ rest in

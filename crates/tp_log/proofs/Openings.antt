@@ -1,6 +1,6 @@
 -- What opening a log does to its disk, from the calls that it made.
 use Rattle.std.proofs.Common.{◌≡◌, inl, inr, ⊎_elim, ℕ, ◌<◌, ◌≤◌, List, [], ◌∷◌, drop, length, Result, Ok, Err, refl, sym, ap, subst, ◌∙◌, arith}
-use Rattle.tp_device.specs.Disks.{Call, DiskState, Effect, LeavesOnly, MayLeave, Sync, Write, settled, synced, wrote}
+use Rattle.tp_device.specs.Disks.{Call, DiskState, Effect, LeavesOnly, MayLeave, Sync, Write, after_sync, after_write, clean_state}
 use Rattle.tp_device.specs.Faults.{Rose}
 use Rattle.tp_device.specs.declared.disk.DiskError.{DiskError}
 use Rattle.tp_device.specs.declared.disk.DiskError.TheVariants as errors
@@ -8,7 +8,7 @@ use Rattle.tp_log.specs.Openings.{GivesUp, LeftOpening, Opens, Reads, gate_calls
 use Rattle.tp_log.specs.Refusals.{IfDevice, log_error}
 use Rattle.tp_log.specs.mirrors.Steps.{Step, Steps}
 use Rattle.tp_log.proofs.AppendAnswers.{fault_of, makes}
-use Rattle.tp_log.proofs.Appends.{settled_image}
+use Rattle.tp_log.proofs.Appends.{clean_image}
 
 nothing_behind : (seen : List ℕ) → length seen ≤ 1 → drop 1 seen ≡ []
 nothing_behind [] few = refl
@@ -35,8 +35,8 @@ module _ {D : Type 0} (state : D → DiskState) (left_since : D → D → List �
     later = omega (arith, far.later, step.cause.later);
   }
 
-  settled_left : (old d : D) → state d ≡ synced (state old) → (image : List ℕ) → MayLeave (state d) image → LeftOpening (state old) image
-  settled_left old d at image left = inr (inl (settled_image (state old).seen image (subst (λ (s : DiskState). MayLeave s image) at left)))
+  settled_left : (old d : D) → state d ≡ after_sync (state old) → (image : List ℕ) → MayLeave (state d) image → LeftOpening (state old) image
+  settled_left old d at image left = inr (inl (clean_image (state old).seen image (subst (λ (s : DiskState). MayLeave s image) at left)))
 
   far_first : (old first : D) → IsStep Sync old (Ok tt) first → Far old first
   far_first old first step = far_step old old first Sync (Ok tt) (far_start old) step (settled_left old first step.effect)
@@ -54,25 +54,25 @@ module _ {D : Type 0} (state : D → DiskState) (left_since : D → D → List �
   small_left : (s : DiskState) (image : List ℕ) → length s.seen ≤ 1 → length image ≤ 1 → LeftOpening s image
   small_left s image few small = inr (inr (few, small))
 
-  gate_wrote : (seen image : List ℕ) → length seen ≤ 1 → MayLeave (wrote 0 (0 ∷ []) (settled seen)) image → length image ≤ 1
+  gate_wrote : (seen image : List ℕ) → length seen ≤ 1 → MayLeave (after_write 0 (0 ∷ []) (clean_state seen)) image → length image ≤ 1
   gate_wrote seen image few left = omega (arith, few, left.no_longer)
 
-  gate_failed : (seen image : List ℕ) (now : DiskState) → length seen ≤ 1 → Effect (Write 0 (0 ∷ [])) (settled seen) (Err errors.Failed) now → MayLeave now image → length image ≤ 1
+  gate_failed : (seen image : List ℕ) (now : DiskState) → length seen ≤ 1 → Effect (Write 0 (0 ∷ [])) (clean_state seen) (Err errors.Failed) now → MayLeave now image → length image ≤ 1
   gate_failed seen image now few may left = omega (arith, few, (may.crash image left).no_longer)
 
-  gate_settled : (seen : List ℕ) → length seen ≤ 1 → synced (wrote 0 (0 ∷ []) (settled seen)) ≡ settled (0 ∷ [])
-  gate_settled seen few = ap (λ (t : List ℕ). settled (0 ∷ t)) (nothing_behind seen few)
+  gate_settled : (seen : List ℕ) → length seen ≤ 1 → after_sync (after_write 0 (0 ∷ []) (clean_state seen)) ≡ clean_state (0 ∷ [])
+  gate_settled seen few = ap (λ (t : List ℕ). clean_state (0 ∷ t)) (nothing_behind seen few)
 
-  module _ (old then : D) (at : state then ≡ synced (state old)) (few : length (state old).seen ≤ 1) (far : Far old then) where
-    wrote_left : (d : D) → state d ≡ wrote 0 (0 ∷ []) (state then) → (image : List ℕ) → MayLeave (state d) image → LeftOpening (state old) image
+  module _ (old then : D) (at : state then ≡ after_sync (state old)) (few : length (state old).seen ≤ 1) (far : Far old then) where
+    wrote_left : (d : D) → state d ≡ after_write 0 (0 ∷ []) (state then) → (image : List ℕ) → MayLeave (state d) image → LeftOpening (state old) image
     wrote_left d now image left =
-        small_left (state old) image few (gate_wrote (state old).seen image few (subst (λ (s : DiskState). MayLeave s image) (now ∙ ap (wrote 0 (0 ∷ [])) at) left))
+        small_left (state old) image few (gate_wrote (state old).seen image few (subst (λ (s : DiskState). MayLeave s image) (now ∙ ap (after_write 0 (0 ∷ [])) at) left))
 
     far_wrote : (mid : D) → IsStep (Write 0 (0 ∷ [])) then (Ok tt) mid → Far old mid
     far_wrote mid step = far_step old then mid (Write 0 (0 ∷ [])) (Ok tt) far step (wrote_left mid step.effect)
 
-    gate_is : (mid new : D) → IsStep (Write 0 (0 ∷ [])) then (Ok tt) mid → IsStep Sync mid (Ok tt) new → state new ≡ settled (0 ∷ [])
-    gate_is mid new write sync = sync.effect ∙ ap synced (write.effect ∙ ap (wrote 0 (0 ∷ [])) at) ∙ gate_settled (state old).seen few
+    gate_is : (mid new : D) → IsStep (Write 0 (0 ∷ [])) then (Ok tt) mid → IsStep Sync mid (Ok tt) new → state new ≡ clean_state (0 ∷ [])
+    gate_is mid new write sync = sync.effect ∙ ap after_sync (write.effect ∙ ap (after_write 0 (0 ∷ [])) at) ∙ gate_settled (state old).seen few
 
     far_gate : (mid new : D) → IsStep (Write 0 (0 ∷ [])) then (Ok tt) mid → IsStep Sync mid (Ok tt) new → Far old new
     far_gate mid new write sync = far_step old mid new Sync (Ok tt) (far_wrote mid write) sync
@@ -89,7 +89,7 @@ module _ {D : Type 0} (state : D → DiskState) (left_since : D → D → List �
         far_step old mid new Sync (Err errors.Failed) (far_wrote mid write) sync (wrote_left new (sync.effect ∙ write.effect))
 
     record Gated (new : D) : Type 0 where
-      pub is : state new ≡ settled (0 ∷ [])
+      pub is : state new ≡ clean_state (0 ∷ [])
       pub reached : Far old new
 
     gated : (new : D) → Steps state left_since does faults gate_calls then (Ok tt) new → Gated new

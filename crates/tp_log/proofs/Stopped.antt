@@ -4,8 +4,8 @@ use Rattle.std.specs.Prelude.{Option, unwrap_or, ◌==◌, min, replicate}
 use Rattle.std.proofs.lemmas.Bool.{eqb-false, eqb-true, le-leb}
 use Rattle.std.proofs.lemmas.List.{drop_at, length-append, take_at}
 use Rattle.tp_types.specs.declared.records.Record.{Record}
-use Rattle.tp_device.specs.Disks.{Sync, Write, DiskState, MayLeave, settled, span, synced, wrote}
-use Rattle.tp_device.specs.Memory.{Memory, all_blanked, blanked, crashed, disk_of, does, spent}
+use Rattle.tp_device.specs.Disks.{Sync, Write, DiskState, MayLeave, clean_state, span, after_sync, after_write}
+use Rattle.tp_device.specs.Memory.{Memory, after_crash, disk_of, does, fewer_calls, with_blank, with_blanks}
 use Rattle.tp_device.specs.declared.disk.DiskError.{DiskError}
 use Rattle.tp_device.specs.declared.disk.DiskError.TheVariants as errors
 use Rattle.tp_record.specs.Records.{IsRecord}
@@ -44,28 +44,28 @@ module _ (rs : List Record) (are : AreRecords rs) (r : Record) (is : IsRecord r)
 
   -- the disk after each call
   abbrev first : DiskState
-  first = wrote (n + 1) piece (settled base)
+  first = after_write (n + 1) piece (clean_state base)
 
   abbrev second : DiskState
-  second = settled (blocks rs ++ g ∷ behind)
+  second = clean_state (blocks rs ++ g ∷ behind)
 
   abbrev third : DiskState
-  third = wrote n (1 ∷ []) second
+  third = after_write n (1 ∷ []) second
 
   abbrev fourth : DiskState
-  fourth = settled (blocks rs ++ 1 ∷ behind)
+  fourth = clean_state (blocks rs ++ 1 ∷ behind)
 
-  second_is : synced first ≡ second
-  second_is = ap settled (seen_behind rs are g shut rest (spelling r))
+  second_is : after_sync first ≡ second
+  second_is = ap clean_state (seen_behind rs are g shut rest (spelling r))
 
-  fourth_is : synced third ≡ fourth
-  fourth_is = ap settled (seen_gate rs are g shut r is tail)
+  fourth_is : after_sync third ≡ fourth
+  fourth_is = ap clean_state (seen_gate rs are g shut r is tail)
 
   closed : (x : ℕ) (more : List ℕ) → x ≢ 1 → Gives (blocks rs ++ x ∷ more) rs
   closed x more shut' = inr (record { gate = x; rest = more; are = are; shut = shut'; parts = refl })
 
   -- a crash fills the gate alone
-  blank_gate : (fill : ℕ) → blanked fill third.seen (span n 1) ≡ blocks rs ++ fill ∷ behind
+  blank_gate : (fill : ℕ) → with_blank fill third.seen (span n 1) ≡ blocks rs ++ fill ∷ behind
   blank_gate fill =
       let whole : third.seen ≡ blocks rs ++ 1 ∷ behind = seen_gate rs are g shut r is tail in
       let at : min n (length (blocks rs ++ 1 ∷ behind)) ≡ n = omega (arith, length-append (blocks rs) (1 ∷ behind)) in
@@ -74,13 +74,13 @@ module _ (rs : List Record) (are : AreRecords rs) (r : Record) (is : IsRecord r)
       let one : replicate (n + 1 - n) fill ≡ fill ∷ [] = ap (λ (k : ℕ). replicate k fill) single in
       let back : drop (n + 1) (blocks rs ++ 1 ∷ behind) ≡ behind =
       ap (drop (n + 1)) (sym (append_assoc (blocks rs) (1 ∷ []) behind)) ∙ drop_at (blocks rs ++ 1 ∷ []) behind (n + 1) (omega (arith, length-append (blocks rs) (1 ∷ []))) in
-      ap (λ (t : List ℕ). blanked fill t (span n 1)) whole
+      ap (λ (t : List ℕ). with_blank fill t (span n 1)) whole
       ∙ rw (at, end, one, back, take_at (blocks rs) (1 ∷ behind) n refl) refl
 
   -- ---- after so many calls
 
   abbrev image_of : ℕ → DiskState → List ℕ
-  image_of fill s = all_blanked fill s.seen s.written
+  image_of fill s = with_blanks fill s.seen s.written
 
   after_none : (calls fill : ℕ) → calls ≡ 0 → Gives base (kept_after calls fill rs r)
   after_none calls fill none = subst (λ (k : ℕ). Gives base (kept_after k fill rs r)) (sym none) (closed g rest shut)
@@ -132,7 +132,7 @@ module _ (rs : List Record) (are : AreRecords rs) (r : Record) (is : IsRecord r)
   last_call m new calls fill image (Err e) many left at asked crash (inl (mid, call, rest')) = absurd rest'
   last_call m new calls fill image (Ok x) many left at asked crash (inl (mid, call, rest')) =
       let more : calls - 3 ≢ 0 = λ e. call.0 (left ∙ ap number e) in
-      let here = at_state fill new.disk fourth image (ap (λ (x : Memory). x.disk) (rest' ∙ call.1) ∙ ap synced at ∙ fourth_is) crash in
+      let here = at_state fill new.disk fourth image (ap (λ (x : Memory). x.disk) (rest' ∙ call.1) ∙ ap after_sync at ∙ fourth_is) crash in
       by_image calls fill fourth image here (after_four calls fill (omega (arith, more, many)))
 
   third_call : (m new : Memory) (calls fill : ℕ) (image : List ℕ) (result : Result (Unit {0}) DiskError) → 2 ≤ calls → m.left ≡ Some (calls - 2) → m.disk ≡ second → OnlyFault result → IsCrash fill new.disk image
@@ -144,8 +144,8 @@ module _ (rs : List Record) (are : AreRecords rs) (r : Record) (is : IsRecord r)
       by_image calls fill second image here (after_two calls fill two)
   third_call m new calls fill image result many left at asked crash (inl (mid, call, others)) =
       let more : calls - 2 ≢ 0 = λ e. call.0 (left ∙ ap number e) in
-      let left' : mid.left ≡ Some (calls - 3) = ap (λ (x : Memory). x.left) call.1 ∙ ap spent left ∙ ap number (omega arith) in
-      last_call mid new calls fill image result (omega (arith, more, many)) left' (ap (λ (x : Memory). x.disk) call.1 ∙ ap (wrote n (1 ∷ [])) at) asked crash others
+      let left' : mid.left ≡ Some (calls - 3) = ap (λ (x : Memory). x.left) call.1 ∙ ap fewer_calls left ∙ ap number (omega arith) in
+      last_call mid new calls fill image result (omega (arith, more, many)) left' (ap (λ (x : Memory). x.disk) call.1 ∙ ap (after_write n (1 ∷ [])) at) asked crash others
 
   second_call : (m new : Memory) (calls fill : ℕ) (image : List ℕ) (result : Result (Unit {0}) DiskError) → 1 ≤ calls → m.left ≡ Some (calls - 1) → m.disk ≡ first → OnlyFault result → IsCrash fill new.disk image
       → Makes does (Sync ∷ Write n (1 ∷ []) ∷ Sync ∷ []) m result new → Kept calls fill image
@@ -156,27 +156,27 @@ module _ (rs : List Record) (are : AreRecords rs) (r : Record) (is : IsRecord r)
       after_one calls fill image one here.1
   second_call m new calls fill image result many left at asked crash (inl (mid, call, others)) =
       let more : calls - 1 ≢ 0 = λ e. call.0 (left ∙ ap number e) in
-      let left' : mid.left ≡ Some (calls - 2) = ap (λ (x : Memory). x.left) call.1 ∙ ap spent left ∙ ap number (omega arith) in
-      third_call mid new calls fill image result (omega (arith, more, many)) left' (ap (λ (x : Memory). x.disk) call.1 ∙ ap synced at ∙ second_is) asked crash others
+      let left' : mid.left ≡ Some (calls - 2) = ap (λ (x : Memory). x.left) call.1 ∙ ap fewer_calls left ∙ ap number (omega arith) in
+      third_call mid new calls fill image result (omega (arith, more, many)) left' (ap (λ (x : Memory). x.disk) call.1 ∙ ap after_sync at ∙ second_is) asked crash others
 
-  pub stopped : (m new : Memory) (calls fill : ℕ) (image : List ℕ) (result : Result (Unit {0}) DiskError) → m.left ≡ Some calls → m.disk ≡ settled base → OnlyFault result → IsCrash fill new.disk image
+  pub stopped : (m new : Memory) (calls fill : ℕ) (image : List ℕ) (result : Result (Unit {0}) DiskError) → m.left ≡ Some calls → m.disk ≡ clean_state base → OnlyFault result → IsCrash fill new.disk image
       → Makes does (append_calls n (spelling r)) m result new → Kept calls fill image
   stopped m new calls fill image result left at asked crash (inr (errors.NoMemory, call, e)) = absurd (subst OnlyFault e asked)
   stopped m new calls fill image result left at asked crash (inr (errors.Failed, call, e)) =
       let none : calls ≡ 0 = some_is calls 0 (sym left ∙ call.0) in
-      let here = at_state fill new.disk (settled base) image (ap (λ (x : Memory). x.disk) call.1 ∙ at) crash in
-      by_image calls fill (settled base) image here (after_none calls fill none)
+      let here = at_state fill new.disk (clean_state base) image (ap (λ (x : Memory). x.disk) call.1 ∙ at) crash in
+      by_image calls fill (clean_state base) image here (after_none calls fill none)
   stopped m new calls fill image result left at asked crash (inl (mid, call, others)) =
       let more : calls ≢ 0 = λ e. call.0 (left ∙ ap number e) in
-      let left' : mid.left ≡ Some (calls - 1) = ap (λ (x : Memory). x.left) call.1 ∙ ap spent left in
-      second_call mid new calls fill image result (omega (arith, more)) left' (ap (λ (x : Memory). x.disk) call.1 ∙ ap (wrote (n + 1) piece) at) asked crash others
+      let left' : mid.left ≡ Some (calls - 1) = ap (λ (x : Memory). x.left) call.1 ∙ ap fewer_calls left in
+      second_call mid new calls fill image result (omega (arith, more)) left' (ap (λ (x : Memory). x.disk) call.1 ∙ ap (after_write (n + 1) piece) at) asked crash others
 
 -- the crash of a log that keeps these records
 pub crash_kept : (log : LogState Memory) (records : List Record) (r : Record) (calls fill : ℕ) (result : Result (Unit {0}) DiskError) (m new after : Memory) → Keeps disk_of log records → IsRecord r
     → m.left ≡ Some calls → m.disk ≡ log.disk.disk → OnlyFault result → Makes does (append_calls log.gate (spelling r)) m result new
-    → after ≡ crashed fill new → MayLeave new.disk after.disk.seen → Gives after.disk.seen (kept_after calls fill records r)
+    → after ≡ after_crash fill new → MayLeave new.disk after.disk.seen → Gives after.disk.seen (kept_after calls fill records r)
 crash_kept log records r calls fill result m new after keeps is left same fault calls-made exact image =
     let e = keeps.at_gate.ends in
-    let at : m.disk ≡ settled (blocks records ++ e.gate ∷ e.rest) = same ∙ keeps.forced ∙ ap settled e.parts in
+    let at : m.disk ≡ clean_state (blocks records ++ e.gate ∷ e.rest) = same ∙ keeps.forced ∙ ap clean_state e.parts in
     let made = subst (λ (k : ℕ). Makes does (append_calls k (spelling r)) m result new) keeps.at_gate.gate_is calls-made in
     stopped records e.are r is e.gate e.shut e.rest m new calls fill after.disk.seen result left at fault (ap (λ (x : Memory). x.disk.seen) exact, image) made

@@ -2,7 +2,7 @@
 use Rattle.std.specs.Prelude.{◌≡◌, ◌⊎◌, ◌<◌, ◌≤◌, ◌&&◌, ◌||◌, ◌==◌, nat_le, ℕ, ◌+◌, List, [], ◌∷◌, ◌++◌, length, Bool, true, false, Result, Ok, Err, if◌then◌else◌, refl}
 use Rattle.std.specs.Coded.{Coded, code_by, coded×, coded_bool, coded_ℕ}
 use Rattle.tp_types.specs.declared.records.Record.{Record}
-use Rattle.tp_device.specs.Disks.{Call, DiskState, MayLeave, Sync, Write, settled}
+use Rattle.tp_device.specs.Disks.{Call, DiskState, MayLeave, Sync, Write, clean_state}
 use Rattle.tp_device.specs.declared.disk.DiskError.{DiskError}
 use Rattle.tp_device.specs.declared.disk.DiskError.TheVariants as disk_errors
 use Rattle.tp_device.specs.Faults.{Rose}
@@ -37,7 +37,7 @@ pub record IsAt (bytes : List ℕ) (records : List Record) (gate : ℕ) : Type 0
 pub record Keeps {D : Type 0} (state : D → DiskState) (log : LogState D) (records : List Record) : Type 0 where
   pub still_open : log.closed ≡ false
   pub at_gate : IsAt (state log.disk).seen records log.gate
-  pub forced : state log.disk ≡ settled (state log.disk).seen
+  pub forced : state log.disk ≡ clean_state (state log.disk).seen
 
 -- the image gives the records, with one more or without it
 abbrev pub GivesEither : List Record → Record → List ℕ → Type 0

@@ -1,6 +1,6 @@
 -- What opening a log does to its disk.
 use Rattle.std.specs.Prelude.{◌≡◌, ◌⊎◌, ◌<◌, ◌≤◌, ℕ, List, [], ◌∷◌, length, Result, Ok, Err}
-use Rattle.tp_device.specs.Disks.{Call, DiskState, LeavesOnly, MayLeave, Passes, Sync, Write, settled, synced}
+use Rattle.tp_device.specs.Disks.{Call, DiskState, LeavesOnly, MayLeave, Passes, Sync, Write, after_sync, clean_state}
 use Rattle.tp_device.specs.declared.disk.DiskError.{DiskError}
 use Rattle.tp_device.specs.declared.disk.DiskError.TheVariants as disk_errors
 use Rattle.tp_device.specs.Faults.{Rose}
@@ -29,8 +29,8 @@ module _ {D : Type 0} (state : D → DiskState) (left_since : D → D → List �
     pub then : D
     pub read : Reads first then
     pub calls : ((1 < length (state old).seen) × (new ≡ then)) ⊎ ((length (state old).seen ≤ 1) × Makes does gate_calls then (Ok tt) new)
-    pub long : 1 < length (state old).seen → state new ≡ synced (state old)
-    pub short : length (state old).seen ≤ 1 → state new ≡ settled (0 ∷ [])
+    pub long : 1 < length (state old).seen → state new ≡ after_sync (state old)
+    pub short : length (state old).seen ≤ 1 → state new ≡ clean_state (0 ∷ [])
     pub moments : LeavesOnly left_since old new (LeftOpening (state old))
     pub later : faults old ≤ faults new
 

@@ -135,7 +135,7 @@ impl<D: Disk> Log<D> {
 impl Log<MemoryDisk> {
     ghost use Rattle.std.specs.Prelude.{◌≡◌, List, Some, IfErr, IfOk};
     ghost use Rattle.tp_types.specs.declared.records.Record.{Record};
-    ghost use Rattle.tp_device.specs.Disks.{settled};
+    ghost use Rattle.tp_device.specs.Disks.{clean_state};
     ghost use Rattle.tp_device.specs.Memory.{disk_of};
     ghost use Rattle.tp_log.specs.Images.{Gives};
     ghost use Rattle.tp_log.specs.Logs.{Keeps, kept_after};
@@ -160,7 +160,7 @@ impl Log<MemoryDisk> {
         // The record is there where all four calls passed, or three and the gate reads 1.
         ensures kept { IfOk result (λ disk. (records : List Record) → Keeps disk_of self records
             → Gives disk.disk.seen (kept_after calls fill records r.now)) }
-        ensures forced { IfOk result (λ disk. disk.disk ≡ settled disk.disk.seen) }
+        ensures forced { IfOk result (λ disk. disk.disk ≡ clean_state disk.disk.seen) }
         ensures refused { IfErr result (λ error. IfUncalled error self.closed r.now) }
     {
         self.stop_after(calls);

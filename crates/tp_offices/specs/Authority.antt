@@ -8,16 +8,16 @@ use Rattle.tp_types.specs.Effect.{Effect, sends, ignores}
 use Rattle.tp_offices.specs.declared.authority.Authority.{Authority}
 
 -- the authority as it stands before the first step: the opening clock, and nothing revoked
-abbrev pub opened : Scenario → Authority
-opened sc = record { clock = sc.clock; revoked = replicate (length sc.creds) None }
+abbrev pub opening : Scenario → Authority
+opening sc = record { clock = sc.clock; revoked = replicate (length sc.creds) None }
 
 -- the clock is moved
-abbrev pub ticked : ℕ → Authority → Authority
-ticked by authority = record authority { clock = authority.clock + by }
+abbrev pub after_tick : ℕ → Authority → Authority
+after_tick by authority = record authority { clock = authority.clock + by }
 
 -- the place of the credential has its id
-abbrev pub revoked_with : CredId → Authority → Authority
-revoked_with cred authority = record authority { revoked = slice_set authority.revoked cred.0 (Some cred) }
+abbrev pub after_revocation : CredId → Authority → Authority
+after_revocation cred authority = record authority { revoked = slice_set authority.revoked cred.0 (Some cred) }
 
 abbrev pub in_place : Option CredId → Option CredId
 in_place place = place

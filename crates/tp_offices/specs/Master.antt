@@ -10,8 +10,8 @@ abbrev pub opening_of : Admin → Version
 opening_of admin = admin.opening
 
 -- the master as it stands before the first step: the opening version of each administrator
-abbrev pub opened : Scenario → Master
-opened sc = record { newest = map opening_of sc.admins }
+abbrev pub opening : Scenario → Master
+opening sc = record { newest = map opening_of sc.admins }
 
 -- a Probe is answered with the newest versions
 abbrev pub tells : Master → ProbeRequest → Effect Master

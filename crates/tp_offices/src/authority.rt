@@ -22,7 +22,7 @@ pub struct Authority {
 impl Authority {
     /// The authority as it stands before the first step.
     pub fn opened(alloc: Global, scenario: &Scenario) -> Result<Authority, NoMemory>
-        ensures { IfOk result (λ made. made ≡ office.opened scenario.now) }
+        ensures { IfOk result (λ made. made ≡ office.opening scenario.now) }
     {
         Ok(Authority {
             clock: scenario.clock,
@@ -33,14 +33,14 @@ impl Authority {
     /// Moves the clock.
     pub fn tick(&mut self, by: u64)
         requires { self.old.clock + by < 2 ^ 63 }
-        ensures { self.new ≡ office.ticked by self.old }
+        ensures { self.new ≡ office.after_tick by self.old }
     {
         self.clock += by;
     }
 
     /// Revokes a credential. One that is revoked stays so; one that is not of the scenario changes nothing.
     pub fn revoke(&mut self, cred: CredId)
-        ensures { self.new ≡ office.revoked_with cred self.old }
+        ensures { self.new ≡ office.after_revocation cred self.old }
     {
         self.revoked.put(cred.0 as usize, Some(cred));
     }

@@ -19,7 +19,7 @@ pub struct Master {
 impl Master {
     /// The master as it stands before the first step: it knows the versions with which the administrators begin.
     pub fn opened(alloc: Global, scenario: &Scenario) -> Result<Master, NoMemory>
-        ensures { IfOk result (λ made. made ≡ office.opened scenario.now) }
+        ensures { IfOk result (λ made. made ≡ office.opening scenario.now) }
     {
         Ok(Master {
             newest: opening_versions(alloc, scenario.admins.as_slice())?,

@@ -8,7 +8,7 @@ use Rattle.tp_model.specs.Words.{Met, Reading, Verdict}
 use Rattle.tp_round.specs.declared.round.Judged.TheVariants.{Waiting, AllTrue, False, Spent, Update}
 use Rattle.tp_round.specs.declared.round.Round.{Round}
 use Rattle.tp_round.specs.declared.round.Wanted.{Wanted}
-use Rattle.tp_round.specs.Judge.{agreed, aim_in, is_outdated, is_spent, is_waiting, judge, met_in, mets_in, named_by}
+use Rattle.tp_round.specs.Judge.{aim_in, final_answer, is_outdated, is_spent, is_waiting, judge, met_in, mets_in, wants_of}
 use Rattle.tp_round.specs.Replies.{least_false, proofs_in, sooner, sooner_false}
 use Rattle.tp_round.specs.Laws.{AllAgree, IsLeastFalse, is_behind, is_sooner, is_true}
 use Rattle.tp_round.proofs.NamesLemmas.{any_outdated_is}
@@ -103,7 +103,7 @@ found first (one ∷ proofs) verdict e = found_where first one proofs verdict (i
 -- ---- the answers
 
 true_where : (waits out spent : Bool) (mets : List Met) (wanted : List Wanted) (first : Option Verdict)
-    → cond waits Waiting (cond out (cond spent (Spent mets) (Update wanted)) (agreed first)) ≡ AllTrue → (out ≡ false) × (first ≡ None)
+    → cond waits Waiting (cond out (cond spent (Spent mets) (Update wanted)) (final_answer first)) ≡ AllTrue → (out ≡ false) × (first ≡ None)
 true_where true out spent mets wanted first e = cc
 true_where false true true mets wanted first e = cc
 true_where false true false mets wanted first e = cc
@@ -114,7 +114,7 @@ pub all_agree : (round : Round) (reading : Option Reading) → judge round readi
 all_agree round reading e =
     let met : Option Met = met_in round reading in
     let said = true_where (is_waiting round reading) (list_any (is_outdated (aim_in round reading)) round.targets) (is_spent round met) (mets_in round met)
-    (named_by (aim_in round reading) round.targets) (least_false (proofs_in round.targets)) e in
+    (wants_of (aim_in round reading) round.targets) (least_false (proofs_in round.targets)) e in
     let current : list_any (is_behind round reading) round.targets ≡ false = sym (any_outdated_is round reading) ∙ said.0 in
     record {
       current = current;
@@ -123,7 +123,7 @@ all_agree round reading e =
     }
 
 false_where : (waits out spent : Bool) (mets : List Met) (wanted : List Wanted) (first : Option Verdict) (verdict : Verdict)
-    → cond waits Waiting (cond out (cond spent (Spent mets) (Update wanted)) (agreed first)) ≡ False verdict → (out ≡ false) × (first ≡ Some verdict)
+    → cond waits Waiting (cond out (cond spent (Spent mets) (Update wanted)) (final_answer first)) ≡ False verdict → (out ≡ false) × (first ≡ Some verdict)
 false_where true out spent mets wanted first verdict e = cc
 false_where false true true mets wanted first verdict e = cc
 false_where false true false mets wanted first verdict e = cc
@@ -141,6 +141,6 @@ pub false_is_least : (round : Round) (reading : Option Reading) (verdict : Verdi
 false_is_least round reading verdict e =
     let met : Option Met = met_in round reading in
     let said = false_where (is_waiting round reading) (list_any (is_outdated (aim_in round reading)) round.targets) (is_spent round met) (mets_in round met)
-    (named_by (aim_in round reading) round.targets) (least_false (proofs_in round.targets)) verdict e in
+    (wants_of (aim_in round reading) round.targets) (least_false (proofs_in round.targets)) verdict e in
     let is = found None (proofs_in round.targets) verdict said.1 in
     least_where round reading verdict (sym (any_outdated_is round reading) ∙ said.0) is is.origin

@@ -5,7 +5,7 @@ use Rattle.std.specs.Option.{is_none}
 use Rattle.tp_model.specs.Words.{AdminId, ServerId, Verdict, Version}
 use Rattle.tp_model.specs.Ids.{same_server}
 use Rattle.tp_round.specs.declared.round.Target.{Target}
-use Rattle.tp_round.specs.Judge.{awaited, awaits, is_outdated, renewed, with_reply}
+use Rattle.tp_round.specs.Judge.{awaits, is_outdated, new_target, next_target, with_reply}
 
 abbrev pub ForKept : (ServerId → List Verdict → Type 0) → ServerId → Option (List Verdict) → Type 0
 ForKept P server None = Unit {0}
@@ -17,7 +17,7 @@ EachKept P [] = Unit {0}
 EachKept P (target ∷ targets) = ForKept P target.server target.reply × EachKept P targets
 
 -- none is kept at the start
-pub none_kept : (P : ServerId → List Verdict → Type 0) (servers : List ServerId) → EachKept P (map awaited servers)
+pub none_kept : (P : ServerId → List Verdict → Type 0) (servers : List ServerId) → EachKept P (map new_target servers)
 none_kept P [] = tt
 none_kept P (server ∷ servers) = (tt, none_kept P servers)
 
@@ -36,13 +36,13 @@ reply_kept P (target ∷ targets) server verdicts new each =
     (reply_kept P targets server verdicts new each.1)
 
 renewed_where : (P : ServerId → List Verdict → Type 0) (target : Target) (b : Bool) → ForKept P target.server target.reply
-    → ForKept P (cond b (awaited target.server) target).server (cond b (awaited target.server) target).reply
+    → ForKept P (cond b (new_target target.server) target).server (cond b (new_target target.server) target).reply
 renewed_where P target true here = tt
 renewed_where P target false here = here
 
 -- those that stay after an update were kept before
 pub renewed_kept : (P : ServerId → List Verdict → Type 0) (aim : List (AdminId × Version)) (targets : List Target) → EachKept P targets
-    → EachKept P (map (renewed aim) targets)
+    → EachKept P (map (next_target aim) targets)
 renewed_kept P aim [] each = tt
 renewed_kept P aim (target ∷ targets) each = (renewed_where P target (is_outdated aim target) each.0, renewed_kept P aim targets each.1)
 
@@ -51,14 +51,14 @@ renewed_kept P aim (target ∷ targets) each = (renewed_where P target (is_outda
 abbrev pub server_of : Target → ServerId
 server_of target = target.server
 
-same_server_where : (target : Target) (b : Bool) → (cond b (awaited target.server) target).server ≡ target.server
+same_server_where : (target : Target) (b : Bool) → (cond b (new_target target.server) target).server ≡ target.server
 same_server_where target true = refl
 same_server_where target false = refl
 
-pub servers_renewed : (aim : List (AdminId × Version)) (targets : List Target) → map server_of (map (renewed aim) targets) ≡ map server_of targets
+pub servers_renewed : (aim : List (AdminId × Version)) (targets : List Target) → map server_of (map (next_target aim) targets) ≡ map server_of targets
 servers_renewed aim [] = refl
 servers_renewed aim (target ∷ targets) =
-    ap (λ server. server ∷ map server_of (map (renewed aim) targets)) (same_server_where target (is_outdated aim target))
+    ap (λ server. server ∷ map server_of (map (next_target aim) targets)) (same_server_where target (is_outdated aim target))
     ∙ ap (λ servers. target.server ∷ servers) (servers_renewed aim targets)
 
 same_servers : (one other : ServerId) → same_server one other ≡ true → one ≡ other

@@ -8,7 +8,7 @@ use Rattle.tp_round.specs.declared.round.Judged.TheVariants.{Update}
 use Rattle.tp_round.specs.declared.round.Round.{Round}
 use Rattle.tp_round.specs.declared.round.Target.{Target}
 use Rattle.tp_round.specs.declared.round.Wanted.{Wanted}
-use Rattle.tp_round.specs.Judge.{aim_in, is_aimed, is_outdated, judge, named_by, wanted}
+use Rattle.tp_round.specs.Judge.{aim_in, is_aimed, is_outdated, judge, want_of, wants_of}
 use Rattle.tp_round.specs.Replies.{admins_of, proofs_in, verdicts_in}
 use Rattle.tp_round.specs.Laws.{AreNamed, IsNamed, is_behind, target_in}
 use Rattle.tp_round.proofs.AdminLemmas.{aimed_is, covered, has_its_admin, wanted_is}
@@ -60,27 +60,27 @@ any_outdated_is round reading =
 -- ---- the names
 
 one_named : (round : Round) (reading : Option Reading) (target : Target) → is_covered round target ≡ true
-    → IsNamed round reading target (wanted (aim_in round reading) target)
+    → IsNamed round reading target (want_of (aim_in round reading) target)
 one_named round reading target all = record {
   same = refl;
   targets = wanted_is (target_in round reading) (admins_in round) (verdicts_in target) all;
 }
 
 named_where : (round : Round) (reading : Option Reading) (target : Target) (targets : List Target) (b : Bool) → is_covered round target ≡ true
-    → AreNamed round reading (filter (is_behind round reading) targets) (map (wanted (aim_in round reading)) (filter (is_outdated (aim_in round reading)) targets))
+    → AreNamed round reading (filter (is_behind round reading) targets) (map (want_of (aim_in round reading)) (filter (is_outdated (aim_in round reading)) targets))
     → AreNamed round reading (cond b (target ∷ filter (is_behind round reading) targets) (filter (is_behind round reading) targets))
-    (map (wanted (aim_in round reading)) (cond b (target ∷ filter (is_outdated (aim_in round reading)) targets) (filter (is_outdated (aim_in round reading)) targets)))
+    (map (want_of (aim_in round reading)) (cond b (target ∷ filter (is_outdated (aim_in round reading)) targets) (filter (is_outdated (aim_in round reading)) targets)))
 named_where round reading target targets true all rest = (one_named round reading target all, rest)
 named_where round reading target targets false all rest = rest
 
 are_named : (round : Round) (reading : Option Reading) (targets : List Target) → list_all (is_covered round) targets ≡ true
-    → AreNamed round reading (filter (is_behind round reading) targets) (named_by (aim_in round reading) targets)
+    → AreNamed round reading (filter (is_behind round reading) targets) (wants_of (aim_in round reading) targets)
 are_named round reading [] all = tt
 are_named round reading (target ∷ targets) all =
     let aim : List (AdminId × Version) = aim_in round reading in
     let parts = and_parts (is_covered round target) (list_all (is_covered round) targets) all in
     let P : Bool → Type 0 = λ b. AreNamed round reading (filter (is_behind round reading) (target ∷ targets))
-    (map (wanted aim) (cond b (target ∷ filter (is_outdated aim) targets) (filter (is_outdated aim) targets))) in
+    (map (want_of aim) (cond b (target ∷ filter (is_outdated aim) targets) (filter (is_outdated aim) targets))) in
     subst P (sym (outdated_is round reading target parts.0))
     (named_where round reading target targets (is_behind round reading target) parts.0 (are_named round reading targets parts.1))
 

@@ -11,9 +11,9 @@ use Rattle.tp_round.specs.declared.round.Judged.TheVariants.{Waiting, AllTrue, F
 use Rattle.tp_round.specs.declared.round.Round.{Round}
 use Rattle.tp_round.specs.declared.round.Target.{Target}
 use Rattle.tp_round.specs.declared.round.Wanted.{Wanted}
-use Rattle.tp_round.specs.Judge.{after, aim_in, awaited, awaits, is_aimed, is_awaited, is_global_at, is_outdated, is_proved_by, judge, met_in, mets_in, named_by, newest_in, next_round, renewed, replied, started, wanted, with_reply}
-use Rattle.tp_round.specs.Replies.{greatest, is_of, proofs_in, raised, verdicts_in}
-use Rattle.tp_round.specs.Laws.{AreAsNamed, Call, HasTwoRounds, Judges, Replies, after_calls, called, is_as_named, target_in, was_named}
+use Rattle.tp_round.specs.Judge.{after, after_reply, aim_in, awaits, first_round, is_aimed, is_awaited, is_global_at, is_outdated, is_proved_by, judge, met_in, mets_in, new_target, newest_in, next_round, next_target, want_of, wants_of, with_reply}
+use Rattle.tp_round.specs.Replies.{greatest, is_of, proofs_in, verdicts_in, with_greater}
+use Rattle.tp_round.specs.Laws.{AreAsNamed, Call, HasTwoRounds, Judges, Replies, after_call, after_calls, is_as_named, target_in, was_named}
 use Rattle.tp_round.proofs.AdminLemmas.{aimed_at, any_admin, has_its_admin, same_ids, same_self}
 use Rattle.tp_round.proofs.AgainLemmas.{updated}
 use Rattle.tp_round.proofs.NamesLemmas.{admins_in, all_covered, all_of_each, is_covered, outdated_is}
@@ -29,8 +29,8 @@ abbrev pub are_wanted_at : (AdminId → ℕ) → Wanted → Bool
 are_wanted_at f named = list_all (is_wanted_at f) named.want
 
 raised_where : (f : AdminId → ℕ) (admin : AdminId) (verdict : Verdict) (verdicts : List Verdict) (most : ℕ) (s rest : Bool) → is_of admin verdict ≡ s
-    → is_at f verdict ≡ true → ((n : ℕ) → fold (raised admin) n verdicts ≡ cond rest (max n (f admin)) n)
-    → fold (raised admin) (cond s (max most verdict.version.0) most) verdicts ≡ cond (s || rest) (max most (f admin)) most
+    → is_at f verdict ≡ true → ((n : ℕ) → fold (with_greater admin) n verdicts ≡ cond rest (max n (f admin)) n)
+    → fold (with_greater admin) (cond s (max most verdict.version.0) most) verdicts ≡ cond (s || rest) (max most (f admin)) most
 raised_where f admin verdict verdicts most true true e at on =
     let version : verdict.version.0 ≡ f admin = sym (eqb-true (f verdict.admin) verdict.version.0 at) ∙ ap f (same_ids verdict.admin admin e) in
     let twice : max (max most (f admin)) (f admin) ≡ max most (f admin) = omega arith in
@@ -41,7 +41,7 @@ raised_where f admin verdict verdicts most true false e at on =
 raised_where f admin verdict verdicts most false rest e at on = on most
 
 greatest_from : (f : AdminId → ℕ) (admin : AdminId) (verdicts : List Verdict) (most : ℕ) → list_all (is_at f) verdicts ≡ true
-    → fold (raised admin) most verdicts ≡ cond (list_any (is_of admin) verdicts) (max most (f admin)) most
+    → fold (with_greater admin) most verdicts ≡ cond (list_any (is_of admin) verdicts) (max most (f admin)) most
 greatest_from f admin [] most all = refl
 greatest_from f admin (verdict ∷ verdicts) most all =
     let parts = and_parts (is_at f verdict) (list_all (is_at f) verdicts) all in
@@ -134,10 +134,10 @@ part passes keeps (x ∷ xs) all =
     part_where passes x (filter keeps xs) (keeps x) parts.0 (part passes keeps xs parts.1)
 
 all_wanted : (f : AdminId → ℕ) (aim : List (AdminId × Version)) (targets : List Target) → list_all (is_wanted_at f) aim ≡ true
-    → list_all (are_wanted_at f) (map (wanted aim) targets) ≡ true
+    → list_all (are_wanted_at f) (map (want_of aim) targets) ≡ true
 all_wanted f aim [] all = refl
 all_wanted f aim (target ∷ targets) all =
-    and_from (are_wanted_at f (wanted aim target)) (list_all (are_wanted_at f) (map (wanted aim) targets)) (part (is_wanted_at f) (is_proved_by target) aim all)
+    and_from (are_wanted_at f (want_of aim target)) (list_all (are_wanted_at f) (map (want_of aim) targets)) (part (is_wanted_at f) (is_proved_by target) aim all)
     (all_wanted f aim targets all)
 
 current : (f : AdminId → ℕ) (aim : List (AdminId × Version)) (verdicts : List Verdict) → list_all (is_wanted_at f) aim ≡ true
@@ -147,16 +147,16 @@ current f aim (verdict ∷ verdicts) all none =
     let parts = or_parts (not (is_aimed aim verdict)) (list_any (λ (other : Verdict). not (is_aimed aim other)) verdicts) none in
     and_from (is_at f verdict) (list_all (is_at f) verdicts) (aimed_has f aim verdict all (not_out (is_aimed aim verdict) parts.0)) (current f aim verdicts all parts.1)
 
-renewed_where : (f : AdminId → ℕ) (target : Target) (b : Bool) → (b ≡ false → are_at f target ≡ true) → are_at f (cond b (awaited target.server) target) ≡ true
+renewed_where : (f : AdminId → ℕ) (target : Target) (b : Bool) → (b ≡ false → are_at f target ≡ true) → are_at f (cond b (new_target target.server) target) ≡ true
 renewed_where f target true at = refl
 renewed_where f target false at = at refl
 
 -- after an update the replies that stay have the targets
 pub renewed_at : (f : AdminId → ℕ) (aim : List (AdminId × Version)) (targets : List Target) → list_all (is_wanted_at f) aim ≡ true
-    → list_all (are_at f) (map (renewed aim) targets) ≡ true
+    → list_all (are_at f) (map (next_target aim) targets) ≡ true
 renewed_at f aim [] all = refl
 renewed_at f aim (target ∷ targets) all =
-    and_from (are_at f (renewed aim target)) (list_all (are_at f) (map (renewed aim) targets))
+    and_from (are_at f (next_target aim target)) (list_all (are_at f) (map (next_target aim) targets))
     (renewed_where f target (is_outdated aim target) (current f aim (verdicts_in target) all)) (renewed_at f aim targets all)
 
 -- ---- what every run keeps
@@ -229,7 +229,7 @@ update_keeps round reading named keeps e =
     let f : AdminId → ℕ = target_in round reading in
     let is = updated round reading named e in
     let at : list_all (is_wanted_at f) aim ≡ true = aim_at f (admins_in round) in
-    let wanted_here : list_all (are_wanted_at f) (named_by aim round.targets) ≡ true = all_wanted f aim (filter (is_outdated aim) round.targets) at in
+    let wanted_here : list_all (are_wanted_at f) (wants_of aim round.targets) ≡ true = all_wanted f aim (filter (is_outdated aim) round.targets) at in
     record {
       view = keeps.view;
       count = inr (record {
@@ -254,7 +254,7 @@ as_named_where false true all differs e same = e
 as_named_where false false all differs e same = cc
 
 replied_count : (round : Round) (server : ServerId) (verdicts : List Verdict) → is_as_named (Replies server verdicts) round ≡ true
-    → (round.number ≡ 1) ⊎ IsSecond round → ((replied round server verdicts).number ≡ 1) ⊎ IsSecond (replied round server verdicts)
+    → (round.number ≡ 1) ⊎ IsSecond round → ((after_reply round server verdicts).number ≡ 1) ⊎ IsSecond (after_reply round server verdicts)
 replied_count round server verdicts as_named (inl first) = inl first
 replied_count round server verdicts as_named (inr second) =
     let not_first : (round.number == 1) ≡ false = ap (λ n. n == 1) second.number in
@@ -267,13 +267,13 @@ replied_count round server verdicts as_named (inr second) =
       named = second.named;
     })
 
-call_keeps : (call : Call) (round : Round) → is_as_named call round ≡ true → Keeps round → Keeps (called call round)
+call_keeps : (call : Call) (round : Round) → is_as_named call round ≡ true → Keeps round → Keeps (after_call call round)
 call_keeps (Replies server verdicts) round as_named keeps = record { view = keeps.view; count = replied_count round server verdicts as_named keeps.count }
 call_keeps (Judges reading) round as_named keeps = judged_keeps round reading (judge round reading) refl keeps
 
 calls_keep : (calls : List Call) (round : Round) → AreAsNamed calls round → Keeps round → Keeps (after_calls calls round)
 calls_keep [] round as_named keeps = keeps
-calls_keep (call ∷ calls) round as_named keeps = calls_keep calls (called call round) as_named.1 (call_keeps call round as_named.0 keeps)
+calls_keep (call ∷ calls) round as_named keeps = calls_keep calls (after_call call round) as_named.1 (call_keeps call round as_named.0 keeps)
 
 -- ---- whole runs
 
@@ -290,7 +290,7 @@ two_rounds : (round : Round) → Keeps round → HasTwoRounds round
 two_rounds round keeps = record { few = few round keeps.count; first = λ reading named e. first_only round reading named keeps e keeps.count }
 
 pub view_takes_two : (servers : List ServerId) (limit : ℕ) (levels : List Level) (reads : Bool) → list_any is_global levels ≡ false
-    → (calls : List Call) → AreAsNamed calls (started servers limit levels reads) → HasTwoRounds (after_calls calls (started servers limit levels reads))
+    → (calls : List Call) → AreAsNamed calls (first_round servers limit levels reads) → HasTwoRounds (after_calls calls (first_round servers limit levels reads))
 view_takes_two servers limit levels reads view calls as_named =
-    let start : Keeps (started servers limit levels reads) = record { view = λ admin. view_at levels admin.0 view; count = inl refl } in
-    two_rounds (after_calls calls (started servers limit levels reads)) (calls_keep calls (started servers limit levels reads) as_named start)
+    let start : Keeps (first_round servers limit levels reads) = record { view = λ admin. view_at levels admin.0 view; count = inl refl } in
+    two_rounds (after_calls calls (first_round servers limit levels reads)) (calls_keep calls (first_round servers limit levels reads) as_named start)

@@ -6,7 +6,7 @@ use Rattle.tp_model.specs.Words.{AdminId, Level, Met, Reading, Verdict, Version}
 use Rattle.tp_round.specs.declared.round.Judged.TheVariants.{Waiting, Spent, Update}
 use Rattle.tp_round.specs.declared.round.Round.{Round}
 use Rattle.tp_round.specs.declared.round.Wanted.{Wanted}
-use Rattle.tp_round.specs.Judge.{agreed, aim_in, is_below, is_global_at, is_outdated, is_spent, is_waiting, judge, met_at, met_by, met_in, mets_in, named_by, targeted}
+use Rattle.tp_round.specs.Judge.{aim_for, aim_in, final_answer, is_below, is_global_at, is_outdated, is_spent, is_waiting, judge, met_at, met_by, met_in, mets_in, wants_of}
 use Rattle.tp_round.specs.Replies.{admins_of, least_false, proofs_in}
 use Rattle.tp_round.specs.Laws.{is_of_global}
 use Rattle.tp_round.proofs.AdminLemmas.{any_admin}
@@ -16,11 +16,11 @@ below_where : (levels : List Level) (proofs : List Verdict) (aimed : AdminId × 
 below_where levels proofs aimed rest e on = rw e on
 
 none_below : (levels : List Level) (reading : Option Reading) (proofs among : List Verdict) (admins : List AdminId) → list_any (is_global_at levels) admins ≡ false
-    → find (is_below levels proofs) (map (targeted levels reading among) admins) ≡ None
+    → find (is_below levels proofs) (map (aim_for levels reading among) admins) ≡ None
 none_below levels reading proofs among [] e = refl
 none_below levels reading proofs among (admin ∷ admins) e =
     let parts = or_parts (is_global_at levels admin) (list_any (is_global_at levels) admins) e in
-    below_where levels proofs (targeted levels reading among admin) (map (targeted levels reading among) admins) parts.0 (none_below levels reading proofs among admins parts.1)
+    below_where levels proofs (aim_for levels reading among admin) (map (aim_for levels reading among) admins) parts.0 (none_below levels reading proofs among admins parts.1)
 
 met_where : (levels : List Level) (reading : Option Reading) (proofs : List Verdict) (aim : List (AdminId × Version)) → find (is_below levels proofs) aim ≡ None
     → met_by levels reading proofs aim ≡ None
@@ -35,7 +35,7 @@ nothing_met round reading e =
     met_where round.levels reading proofs (aim_in round reading) (none_below round.levels reading proofs proofs (admins_of proofs) none)
 
 spent_where : (waits out spent : Bool) (mets given : List Met) (wanted : List Wanted) (first : Option Verdict) → spent ≡ false
-    → cond waits Waiting (cond out (cond spent (Spent mets) (Update wanted)) (agreed first)) ≡ Spent given → ⊥
+    → cond waits Waiting (cond out (cond spent (Spent mets) (Update wanted)) (final_answer first)) ≡ Spent given → ⊥
 spent_where true out spent mets given wanted first never e = cc
 spent_where false true true mets given wanted first never e = cc
 spent_where false true false mets given wanted first never e = cc
@@ -48,4 +48,4 @@ never_spent round reading mets view e =
     let met : Option Met = met_in round reading in
     let never : is_spent round met ≡ false = ap (is_spent round) (nothing_met round reading view) in
     spent_where (is_waiting round reading) (list_any (is_outdated (aim_in round reading)) round.targets) (is_spent round met) (mets_in round met) mets
-    (named_by (aim_in round reading) round.targets) (least_false (proofs_in round.targets)) never e
+    (wants_of (aim_in round reading) round.targets) (least_false (proofs_in round.targets)) never e

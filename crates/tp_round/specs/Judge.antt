@@ -14,13 +14,13 @@ use Rattle.tp_round.specs.Replies.{admins_of, greatest, is_of, least, least_fals
 
 -- ---- the start, and a reply
 
-abbrev pub awaited : ServerId → Target
-awaited server = record { server = server; reply = None }
+abbrev pub new_target : ServerId → Target
+new_target server = record { server = server; reply = None }
 
 -- the first round, before any reply
-abbrev pub started : List ServerId → ℕ → List Level → Bool → Round
-started servers limit levels reads =
-    record { levels = levels; reads = reads; limit = limit; number = 1; targets = map awaited servers; aim = []; named = []; mets = [] }
+abbrev pub first_round : List ServerId → ℕ → List Level → Bool → Round
+first_round servers limit levels reads =
+    record { levels = levels; reads = reads; limit = limit; number = 1; targets = map new_target servers; aim = []; named = []; mets = [] }
 
 abbrev pub awaits : ServerId → Target → Bool
 awaits server target = same_server target.server server && is_none target.reply
@@ -35,8 +35,8 @@ with_reply [] server verdicts = []
 with_reply (target ∷ targets) server verdicts =
     if awaits server target then record { server = server; reply = Some verdicts } ∷ targets else target ∷ with_reply targets server verdicts
 
-abbrev pub replied : Round → ServerId → List Verdict → Round
-replied round server verdicts = record round { targets = with_reply round.targets server verdicts }
+abbrev pub after_reply : Round → ServerId → List Verdict → Round
+after_reply round server verdicts = record round { targets = with_reply round.targets server verdicts }
 
 -- ---- what the replies are judged by
 
@@ -63,12 +63,12 @@ newest_in (Some reading) admin = option_map_or version_number (slice_get reading
 abbrev pub target : List Level → Option Reading → List Verdict → AdminId → ℕ
 target levels reading proofs admin = if is_global_at levels admin then newest_in reading admin else greatest admin proofs
 
-abbrev pub targeted : List Level → Option Reading → List Verdict → AdminId → AdminId × Version
-targeted levels reading proofs admin = (admin, record { 0 = target levels reading proofs admin })
+abbrev pub aim_for : List Level → Option Reading → List Verdict → AdminId → AdminId × Version
+aim_for levels reading proofs admin = (admin, record { 0 = target levels reading proofs admin })
 
 -- the target of each administrator that has a proof, in order of number
 abbrev pub aim_of : List Level → Option Reading → List Verdict → List (AdminId × Version)
-aim_of levels reading proofs = map (targeted levels reading proofs) (admins_of proofs)
+aim_of levels reading proofs = map (aim_for levels reading proofs) (admins_of proofs)
 
 abbrev pub is_version_of : Verdict → AdminId × Version → Bool
 is_version_of verdict aimed = same_admin aimed.0 verdict.admin && (aimed.1.0 == verdict.version.0)
@@ -87,16 +87,16 @@ abbrev pub is_proved_by : Target → AdminId × Version → Bool
 is_proved_by target aimed = list_any (is_of aimed.0) (verdicts_in target)
 
 -- what is wanted of a server: the target of each administrator of which it has a proof
-abbrev pub wanted : List (AdminId × Version) → Target → Wanted
-wanted aim target = record { server = target.server; want = filter (is_proved_by target) aim }
+abbrev pub want_of : List (AdminId × Version) → Target → Wanted
+want_of aim target = record { server = target.server; want = filter (is_proved_by target) aim }
 
 -- what is wanted of each server that is out of date
-abbrev pub named_by : List (AdminId × Version) → List Target → List Wanted
-named_by aim targets = map (wanted aim) (filter (is_outdated aim) targets)
+abbrev pub wants_of : List (AdminId × Version) → List Target → List Wanted
+wants_of aim targets = map (want_of aim) (filter (is_outdated aim) targets)
 
 -- the server is awaited again where it is out of date; else its reply stays
-abbrev pub renewed : List (AdminId × Version) → Target → Target
-renewed aim target = if is_outdated aim target then awaited target.server else target
+abbrev pub next_target : List (AdminId × Version) → Target → Target
+next_target aim target = if is_outdated aim target then new_target target.server else target
 
 -- ---- newer versions at the master
 
@@ -130,19 +130,19 @@ abbrev pub is_spent : Round → Option Met → Bool
 is_spent round met = is_some met && (length (mets_in round met) == round.limit)
 
 -- no server is out of date
-abbrev pub agreed : Option Verdict → Judged
-agreed None = AllTrue
-agreed (Some verdict) = False verdict
+abbrev pub final_answer : Option Verdict → Judged
+final_answer None = AllTrue
+final_answer (Some verdict) = False verdict
 
 -- a server is out of date
-abbrev pub outdated : Round → List (AdminId × Version) → Option Met → Judged
-outdated round aim met = if is_spent round met then Spent (mets_in round met) else Update (named_by aim round.targets)
+abbrev pub update_answer : Round → List (AdminId × Version) → Option Met → Judged
+update_answer round aim met = if is_spent round met then Spent (mets_in round met) else Update (wants_of aim round.targets)
 
 abbrev pub judge : Round → Option Reading → Judged
 judge round reading =
     if is_waiting round reading then Waiting
-    else if list_any (is_outdated (aim_in round reading)) round.targets then outdated round (aim_in round reading) (met_in round reading)
-    else agreed (least_false (proofs_in round.targets))
+    else if list_any (is_outdated (aim_in round reading)) round.targets then update_answer round (aim_in round reading) (met_in round reading)
+    else final_answer (least_false (proofs_in round.targets))
 
 -- the number of the next round; the greatest stays
 abbrev pub next_number : Round → ℕ
@@ -151,7 +151,7 @@ next_number round = min (round.number + 1) (2 ^ 32 - 1)
 -- the next round: the replies of the servers that are out of date are awaited, and the others stay
 abbrev pub next_round : Round → List (AdminId × Version) → List Wanted → List Met → Round
 next_round round aim named mets =
-    record round { number = next_number round; targets = map (renewed aim) round.targets; aim = aim; named = named; mets = mets }
+    record round { number = next_number round; targets = map (next_target aim) round.targets; aim = aim; named = named; mets = mets }
 
 -- the round after an answer: an update begins the next round, and the other answers change nothing
 abbrev pub after : Round → List (AdminId × Version) → Option Met → Judged → Round
@@ -159,5 +159,5 @@ after round aim met (Update named) = next_round round aim named (mets_in round m
 after round aim met _ = round
 
 -- the round after it was judged
-abbrev pub judged : Round → Option Reading → Round
-judged round reading = after round (aim_in round reading) (met_in round reading) (judge round reading)
+abbrev pub after_judgement : Round → Option Reading → Round
+after_judgement round reading = after round (aim_in round reading) (met_in round reading) (judge round reading)

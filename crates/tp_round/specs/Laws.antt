@@ -11,7 +11,7 @@ use Rattle.tp_round.specs.declared.round.Judged.TheVariants.{Waiting, AllTrue, F
 use Rattle.tp_round.specs.declared.round.Round.{Round}
 use Rattle.tp_round.specs.declared.round.Target.{Target}
 use Rattle.tp_round.specs.declared.round.Wanted.{Wanted}
-use Rattle.tp_round.specs.Judge.{is_aimed, is_awaited, is_global_at, is_waiting, judge, judged, replied, started, target}
+use Rattle.tp_round.specs.Judge.{after_judgement, after_reply, first_round, is_aimed, is_awaited, is_global_at, is_waiting, judge, target}
 use Rattle.tp_round.specs.Replies.{by_query, is_at_query, is_of, proofs_in, verdicts_in}
 
 -- ---- what an update names
@@ -114,13 +114,13 @@ pub data Call : Type 0 where
   Replies : ServerId → List Verdict → Call
   Judges : Option Reading → Call
 
-abbrev pub called : Call → Round → Round
-called (Replies server verdicts) round = replied round server verdicts
-called (Judges reading) round = judged round reading
+abbrev pub after_call : Call → Round → Round
+after_call (Replies server verdicts) round = after_reply round server verdicts
+after_call (Judges reading) round = after_judgement round reading
 
 abbrev pub after_calls : List Call → Round → Round
 after_calls [] round = round
-after_calls (call ∷ calls) round = after_calls calls (called call round)
+after_calls (call ∷ calls) round = after_calls calls (after_call call round)
 
 -- the last update named for the server the verdict's administrator, with the verdict's version
 abbrev pub was_named : Round → ServerId → Verdict → Bool
@@ -134,7 +134,7 @@ is_as_named (Judges reading) round = true
 
 abbrev pub AreAsNamed : List Call → Round → Type 0
 AreAsNamed [] round = Unit {0}
-AreAsNamed (call ∷ calls) round = (is_as_named call round ≡ true) × AreAsNamed calls (called call round)
+AreAsNamed (call ∷ calls) round = (is_as_named call round ≡ true) × AreAsNamed calls (after_call call round)
 
 -- the round's number is at most 2, and it is updated only while it is 1
 pub record HasTwoRounds (round : Round) : Type 0 where
@@ -144,7 +144,7 @@ pub record HasTwoRounds (round : Round) : Type 0 where
 -- where every administrator is under view consistency and replies are as they were named, there are at most two rounds
 abbrev pub TwoRoundsUnderView : Type 0
 TwoRoundsUnderView = (servers : List ServerId) (limit : ℕ) (levels : List Level) (reads : Bool) → list_any is_global levels ≡ false
-    → (calls : List Call) → AreAsNamed calls (started servers limit levels reads) → HasTwoRounds (after_calls calls (started servers limit levels reads))
+    → (calls : List Call) → AreAsNamed calls (first_round servers limit levels reads) → HasTwoRounds (after_calls calls (first_round servers limit levels reads))
 
 -- ---- judging again
 
@@ -155,12 +155,12 @@ is_update _ = false
 -- a round that is judged again with the same reading answers the same, where the first answer was no update
 abbrev pub JudgesTheSameAgain : Type 0
 JudgesTheSameAgain = (round : Round) (reading : Option Reading) → is_update (judge round reading) ≡ false
-    → judge (judged round reading) reading ≡ judge round reading
+    → judge (after_judgement round reading) reading ≡ judge round reading
 
 -- after an update replies are missing, whatever is read
 abbrev pub WaitsAfterUpdate : Type 0
 WaitsAfterUpdate = (round : Round) (reading again : Option Reading) (named : List Wanted) → judge round reading ≡ Update named
-    → judge (judged round reading) again ≡ Waiting
+    → judge (after_judgement round reading) again ≡ Waiting
 
 -- ---- proofs by query
 

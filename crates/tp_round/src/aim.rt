@@ -98,7 +98,7 @@ fn is_proved_by(target: &Target, admin: AdminId) -> bool
 }
 
 fn wanted(alloc: Global, aim: &[(AdminId, Version)], target: &Target) -> Result<Wanted, NoMemory>
-    ensures { IfOk result (λ made. made ≡ rule.wanted aim.now target.now) }
+    ensures { IfOk result (λ made. made ≡ rule.want_of aim.now target.now) }
 {
     let mut want = List::new(alloc);
     for aimed in aim {
@@ -118,7 +118,7 @@ pub fn named_by(
     aim: &[(AdminId, Version)],
     targets: &[Target],
 ) -> Result<List<Wanted>, NoMemory>
-    ensures { IfOk result (λ made. made ≡ rule.named_by aim.now targets.now) }
+    ensures { IfOk result (λ made. made ≡ rule.wants_of aim.now targets.now) }
 {
     let mut named = List::new(alloc);
     for target in targets {
@@ -149,7 +149,7 @@ fn renew_at(aim: &[(AdminId, Version)], targets: &mut List<Target>, at: usize)
 
 /// The replies of the servers that are out of date are awaited again, and the others stay. It takes no memory.
 pub fn renew(aim: &[(AdminId, Version)], targets: &mut List<Target>)
-    ensures { targets.new ≡ map (rule.renewed aim.now) targets.old }
+    ensures { targets.new ≡ map (rule.next_target aim.now) targets.old }
 {
     for at in 0..targets.len() {
         renew_at(aim, targets, at);

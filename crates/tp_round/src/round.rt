@@ -79,7 +79,7 @@ pub struct Round {
 }
 
 fn awaited(alloc: Global, servers: &[ServerId]) -> Result<List<Target>, NoMemory>
-    ensures { IfOk result (λ made. made ≡ map rule.awaited servers.now) }
+    ensures { IfOk result (λ made. made ≡ map rule.new_target servers.now) }
 {
     let mut made = List::new(alloc);
     for server in servers {
@@ -109,7 +109,7 @@ fn is_missing(targets: &[Target]) -> bool
 }
 
 fn agreed(alloc: Global, targets: &[Target]) -> Result<Judged, NoMemory>
-    ensures { IfOk result (λ made. made ≡ rule.agreed (replies.least_false (replies.proofs_in targets.now))) }
+    ensures { IfOk result (λ made. made ≡ rule.final_answer (replies.least_false (replies.proofs_in targets.now))) }
 {
     match least_false(targets) {
         None => Ok(Judged::AllTrue),
@@ -142,7 +142,7 @@ impl Round {
         requires some { 1 ≤ limit }
         requires few { limit ≤ 16 }
         requires view { level ≡ level_of.View }
-        ensures { IfOk result (λ made. made ≡ rule.started targets.now limit [] false) }
+        ensures { IfOk result (λ made. made ≡ rule.first_round targets.now limit [] false) }
     {
         Ok(Round {
             levels: List::new(alloc),
@@ -160,7 +160,7 @@ impl Round {
     /// It takes no memory.
     pub fn reply(&mut self, server: ServerId, verdicts: List<Verdict>) -> bool
         ensures awaited { result ≡ rule.is_awaited self.old.targets server }
-        ensures kept { self.new ≡ rule.replied self.old server verdicts }
+        ensures kept { self.new ≡ rule.after_reply self.old server verdicts }
     {
         let at = place_awaited(self.targets.as_slice(), server);
         if at == self.targets.len() {
@@ -218,8 +218,8 @@ impl Round {
         aim: List<(AdminId, Version)>,
         mets: List<Met>,
     ) -> Result<Judged, NoMemory>
-        ensures answer { IfOk result (λ made. made ≡ judged.Update (rule.named_by aim self.old.targets)) }
-        ensures next { OnOk result (self.new ≡ rule.next_round self.old aim (rule.named_by aim self.old.targets) mets) }
+        ensures answer { IfOk result (λ made. made ≡ judged.Update (rule.wants_of aim self.old.targets)) }
+        ensures next { OnOk result (self.new ≡ rule.next_round self.old aim (rule.wants_of aim self.old.targets) mets) }
         ensures memory { OnErr result (self.new ≡ self.old) }
     {
         let named = named_by(alloc, aim.as_slice(), self.targets.as_slice())?;
@@ -238,8 +238,8 @@ impl Round {
         aim: List<(AdminId, Version)>,
         met: Option<Met>,
     ) -> Result<Judged, NoMemory>
-        ensures answer { IfOk result (λ made. made ≡ rule.outdated self.old aim met) }
-        ensures next { OnOk result (self.new ≡ rule.after self.old aim met (rule.outdated self.old aim met)) }
+        ensures answer { IfOk result (λ made. made ≡ rule.update_answer self.old aim met) }
+        ensures next { OnOk result (self.new ≡ rule.after self.old aim met (rule.update_answer self.old aim met)) }
         ensures memory { OnErr result (self.new ≡ self.old) }
     {
         let mets = with_met(alloc, &self.mets, met)?;
@@ -253,7 +253,7 @@ impl Round {
     /// the replies of the named servers are awaited; after another answer, or where memory is refused, the round is as before.
     pub fn judge(&mut self, alloc: Global, reading: Option<&Reading>) -> Result<Judged, NoMemory>
         ensures answer { IfOk result (λ made. made ≡ rule.judge self.old (option_copied reading.entry)) }
-        ensures next { OnOk result (self.new ≡ rule.judged self.old (option_copied reading.entry)) }
+        ensures next { OnOk result (self.new ≡ rule.after_judgement self.old (option_copied reading.entry)) }
         ensures memory { OnErr result (self.new ≡ self.old) }
     {
         if self.is_waiting(reading) {

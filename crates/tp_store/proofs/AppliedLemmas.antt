@@ -6,7 +6,7 @@ use Rattle.std.specs.List.{list_any}
 use Rattle.tp_model.specs.Words.{ItemId}
 use Rattle.tp_store.specs.declared.writes.TentativeWrite.{TentativeWrite}
 use Rattle.tp_store.specs.Laws.{are_apart, is_last_of}
-use Rattle.tp_store.specs.Writes.{applied, is_on, later, with_write}
+use Rattle.tp_store.specs.Writes.{is_on, later, values_after, with_write}
 
 or_parts : (a b : Bool) → (a || b) ≡ false → (a ≡ false) × (b ≡ false)
 or_parts true b e = cc
@@ -23,11 +23,11 @@ not_itself item write apart same =
 
 -- what is set first of an item that is not written stays to the end
 set_first : (values : List ℤ) (item : ItemId) (value : ℤ) (writes : List TentativeWrite) → list_any (is_on item) writes ≡ false
-    → applied (set values item.0 value) writes ≡ set (applied values writes) item.0 value
+    → values_after (set values item.0 value) writes ≡ set (values_after values writes) item.0 value
 set_first values item value [] apart = refl
 set_first values item value (write ∷ writes) apart =
     let parts = or_parts (is_on item write) (list_any (is_on item) writes) apart in
-    ap (λ vs. applied vs writes) (set_comm values item.0 write.item.0 value write.value (not_itself item write parts.0))
+    ap (λ vs. values_after vs writes) (set_comm values item.0 write.item.0 value write.value (not_itself item write parts.0))
     ∙ set_first (set values write.item.0 write.value) item value writes parts.1
 
 later_is : (kept new : TentativeWrite) → leb kept.query new.query ≡ true → later kept new ≡ new
@@ -36,20 +36,20 @@ later_is kept new is = rw is refl
 set_at_first : (values : List ℤ) (kept new : TentativeWrite) (writes : List TentativeWrite) (here : Bool) → is_on new.item kept ≡ here
     → is_last_of new (cond here (Some kept) (find (is_on new.item) writes)) ≡ true → list_any (is_on kept.item) writes ≡ false
     → (is_last_of new (find (is_on new.item) writes) ≡ true
-    → applied (set values kept.item.0 kept.value) (with_write writes new) ≡ set (applied (set values kept.item.0 kept.value) writes) new.item.0 new.value)
-    → applied values (cond here (later kept new ∷ writes) (kept ∷ with_write writes new)) ≡ set (applied (set values kept.item.0 kept.value) writes) new.item.0 new.value
+    → values_after (set values kept.item.0 kept.value) (with_write writes new) ≡ set (values_after (set values kept.item.0 kept.value) writes) new.item.0 new.value)
+    → values_after values (cond here (later kept new ∷ writes) (kept ∷ with_write writes new)) ≡ set (values_after (set values kept.item.0 kept.value) writes) new.item.0 new.value
 set_at_first values kept new writes true e is apart rest =
     let same : kept.item.0 ≡ new.item.0 = eqb-true kept.item.0 new.item.0 e in
     let absent : list_any (is_on new.item) writes ≡ false = ap (λ n. list_any (is_on (record { 0 = n })) writes) (sym same) ∙ apart in
-    ap (λ write. applied values (write ∷ writes)) (later_is kept new is)
+    ap (λ write. values_after values (write ∷ writes)) (later_is kept new is)
     ∙ set_first values new.item new.value writes absent
-    ∙ sym (set-set (applied values writes) new.item.0 kept.value new.value)
-    ∙ ap (λ n. set (set (applied values writes) n kept.value) new.item.0 new.value) (sym same)
+    ∙ sym (set-set (values_after values writes) new.item.0 kept.value new.value)
+    ∙ ap (λ n. set (set (values_after values writes) n kept.value) new.item.0 new.value) (sym same)
     ∙ ap (λ vs. set vs new.item.0 new.value) (sym (set_first values kept.item kept.value writes apart))
 set_at_first values kept new writes false e is apart rest = rest is
 
 pub set_after : (values : List ℤ) (writes : List TentativeWrite) (new : TentativeWrite) → are_apart writes ≡ true → is_last_of new (find (is_on new.item) writes) ≡ true
-    → applied values (with_write writes new) ≡ set (applied values writes) new.item.0 new.value
+    → values_after values (with_write writes new) ≡ set (values_after values writes) new.item.0 new.value
 set_after values [] new apart is = refl
 set_after values (kept ∷ writes) new apart is =
     let parts = and_parts (not (list_any (is_on kept.item) writes)) (are_apart writes) apart in

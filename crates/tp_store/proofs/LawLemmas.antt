@@ -9,7 +9,7 @@ use Rattle.tp_model.specs.Ids.{same_item}
 use Rattle.tp_store.specs.declared.writes.TentativeWrite.{TentativeWrite}
 use Rattle.tp_store.specs.Contents.{Contents}
 use Rattle.tp_store.specs.Laws.{is_last}
-use Rattle.tp_store.specs.Rule.{read_in, value_in, value_of, writes_of, written, written_in}
+use Rattle.tp_store.specs.Rule.{after_write, kept_write, read_in, value_in, value_of, writes_of}
 use Rattle.tp_store.specs.Writes.{is_on, later, with_write}
 
 -- ---- one list of writes
@@ -66,23 +66,23 @@ other_is_found item (kept ∷ writes) new apart = other_first item kept new writ
 -- ---- the store
 
 writes_after : (store : Contents) (txn : TxnId) (write : TentativeWrite) → txn.0 < length store.tentative
-    → writes_of (written store txn write) txn ≡ with_write (writes_of store txn) write
+    → writes_of (after_write store txn write) txn ≡ with_write (writes_of store txn) write
 writes_after store txn write there =
     unwrap_or-slice_get (set store.tentative txn.0 (with_write (writes_of store txn) write)) txn.0 []
     ∙ get_or-set_same store.tentative txn.0 (with_write (writes_of store txn) write) [] there
 
 pub own_is_read : (store : Contents) (txn : TxnId) (write : TentativeWrite) → txn.0 < length store.tentative → is_last store txn write ≡ true
-    → read_in (written store txn write) txn write.item ≡ write.value
+    → read_in (after_write store txn write) txn write.item ≡ write.value
 own_is_read store txn write there last =
     let value : Option TentativeWrite → ℤ = λ found. option_map_or value_of found (value_in store write.item) in
     ap (λ writes. value (find (is_on write.item) writes)) (writes_after store txn write there) ∙ ap value (last_is_found (writes_of store txn) write last)
 
 pub others_are_kept : (store : Contents) (txn : TxnId) (write : TentativeWrite) (item : ItemId) → txn.0 < length store.tentative → same_item write.item item ≡ false
-    → written_in (written store txn write) txn item ≡ written_in store txn item
+    → kept_write (after_write store txn write) txn item ≡ kept_write store txn item
 others_are_kept store txn write item there apart =
     ap (find (is_on item)) (writes_after store txn write there) ∙ other_is_found item (writes_of store txn) write apart
 
-pub others_stay : (store : Contents) (txn other : TxnId) (write : TentativeWrite) → other.0 ≢ txn.0 → writes_of (written store txn write) other ≡ writes_of store other
+pub others_stay : (store : Contents) (txn other : TxnId) (write : TentativeWrite) → other.0 ≢ txn.0 → writes_of (after_write store txn write) other ≡ writes_of store other
 others_stay store txn other write apart =
     let kept : List TentativeWrite = with_write (writes_of store txn) write in
     unwrap_or-slice_get (set store.tentative txn.0 kept) other.0 []

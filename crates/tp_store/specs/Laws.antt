@@ -6,8 +6,8 @@ use Rattle.tp_model.specs.Words.{ItemId, TxnId}
 use Rattle.tp_model.specs.Ids.{same_item}
 use Rattle.tp_store.specs.declared.writes.TentativeWrite.{TentativeWrite}
 use Rattle.tp_store.specs.Contents.{Contents}
-use Rattle.tp_store.specs.Rule.{first_outside_in, read_in, writes_of, written, written_in}
-use Rattle.tp_store.specs.Writes.{applied, is_on, is_outside, with_write}
+use Rattle.tp_store.specs.Rule.{after_write, first_outside_in, kept_write, read_in, writes_of}
+use Rattle.tp_store.specs.Writes.{is_on, is_outside, values_after, with_write}
 
 -- ---- reads
 
@@ -17,22 +17,22 @@ is_last_of write kept = option_map_or (λ (other : TentativeWrite). nat_le other
 
 -- the transaction keeps no write of this item by a later query
 abbrev pub is_last : Contents → TxnId → TentativeWrite → Bool
-is_last store txn write = is_last_of write (written_in store txn write.item)
+is_last store txn write = is_last_of write (kept_write store txn write.item)
 
 -- after its last write of an item by query, a transaction of the store reads what it wrote
 abbrev pub OwnWritesAreRead : Type 0
 OwnWritesAreRead = (store : Contents) (txn : TxnId) (write : TentativeWrite) → txn.0 < length store.tentative → is_last store txn write ≡ true
-    → read_in (written store txn write) txn write.item ≡ write.value
+    → read_in (after_write store txn write) txn write.item ≡ write.value
 
 -- a write changes nothing that is kept of another item
 abbrev pub OtherItemsStay : Type 0
 OtherItemsStay = (store : Contents) (txn : TxnId) (write : TentativeWrite) (item : ItemId) → txn.0 < length store.tentative → same_item write.item item ≡ false
-    → written_in (written store txn write) txn item ≡ written_in store txn item
+    → kept_write (after_write store txn write) txn item ≡ kept_write store txn item
 
 -- nor what is kept of another transaction
 abbrev pub OtherTransactionsStay : Type 0
 OtherTransactionsStay = (store : Contents) (txn other : TxnId) (write : TentativeWrite) → other.0 ≢ txn.0
-    → writes_of (written store txn write) other ≡ writes_of store other
+    → writes_of (after_write store txn write) other ≡ writes_of store other
 
 -- ---- ranges
 
@@ -65,7 +65,7 @@ are_apart (write ∷ writes) = not (list_any (is_on write.item) writes) && are_a
 abbrev pub AppliedInOrder : Type 0
 AppliedInOrder = (values : List ℤ) (writes : List TentativeWrite) (write : TentativeWrite) → are_apart writes ≡ true
     → is_last_of write (find (is_on write.item) writes) ≡ true
-    → applied values (with_write writes write) ≡ slice_set (applied values writes) write.item.0 write.value
+    → values_after values (with_write writes write) ≡ slice_set (values_after values writes) write.item.0 write.value
 
 -- and it leaves no two of one item
 abbrev pub StayApart : Type 0

@@ -7,7 +7,7 @@ use Rattle.tp_model.specs.SerialRun.{number_at, opening_store}
 use Rattle.tp_store.specs.declared.writes.Bounds.{Bounds}
 use Rattle.tp_store.specs.declared.writes.TentativeWrite.{TentativeWrite}
 use Rattle.tp_store.specs.Contents.{Contents}
-use Rattle.tp_store.specs.Writes.{applied, first_of, is_on, is_outside, with_write}
+use Rattle.tp_store.specs.Writes.{first_of, is_on, is_outside, values_after, with_write}
 
 -- ---- before the first step
 
@@ -19,8 +19,8 @@ abbrev pub known_at_first : Scenario → ServerId → List Version
 known_at_first sc server = option_map_or (λ (declared : ServerDecl). declared.knows) (slice_get sc.servers server.0) []
 
 -- all items have their opening values, and no transaction has a write
-abbrev pub opened : Scenario → ServerId → Contents
-opened sc server = record {
+abbrev pub opening : Scenario → ServerId → Contents
+opening sc server = record {
   bounds = map bounds_of sc.items;
   values = opening_store sc;
   known = known_at_first sc server;
@@ -41,19 +41,19 @@ abbrev pub with_writes : Contents → TxnId → List TentativeWrite → Contents
 with_writes store txn writes = record store { tentative = slice_set store.tentative txn.0 writes }
 
 -- the write that is kept of a transaction and an item
-abbrev pub written_in : Contents → TxnId → ItemId → Option TentativeWrite
-written_in store txn item = find (is_on item) (writes_of store txn)
+abbrev pub kept_write : Contents → TxnId → ItemId → Option TentativeWrite
+kept_write store txn item = find (is_on item) (writes_of store txn)
 
 abbrev pub value_of : TentativeWrite → ℤ
 value_of write = write.value
 
 -- what the transaction itself has written, or else the item's value
 abbrev pub read_in : Contents → TxnId → ItemId → ℤ
-read_in store txn item = option_map_or value_of (written_in store txn item) (value_in store item)
+read_in store txn item = option_map_or value_of (kept_write store txn item) (value_in store item)
 
 -- the last write of the item by query is kept; a transaction that is not there keeps nothing
-abbrev pub written : Contents → TxnId → TentativeWrite → Contents
-written store txn write = with_writes store txn (with_write (writes_of store txn) write)
+abbrev pub after_write : Contents → TxnId → TentativeWrite → Contents
+after_write store txn write = with_writes store txn (with_write (writes_of store txn) write)
 
 abbrev pub query_and_value : TentativeWrite → ℕ × ℤ
 query_and_value write = (write.query, write.value)
@@ -63,12 +63,12 @@ abbrev pub first_outside_in : Contents → TxnId → Option (ℕ × ℤ)
 first_outside_in store txn = option_map query_and_value (first_of (filter (is_outside store.bounds) (writes_of store txn)))
 
 -- the writes of a transaction are the values of their items from now on
-abbrev pub applied_in : Contents → TxnId → Contents
-applied_in store txn = with_writes (record store { values = applied store.values (writes_of store txn) }) txn []
+abbrev pub after_apply : Contents → TxnId → Contents
+after_apply store txn = with_writes (record store { values = values_after store.values (writes_of store txn) }) txn []
 
 -- the writes of a transaction are dropped
-abbrev pub forgotten : Contents → TxnId → Contents
-forgotten store txn = with_writes store txn []
+abbrev pub after_forget : Contents → TxnId → Contents
+after_forget store txn = with_writes store txn []
 
 -- ---- versions
 
@@ -80,5 +80,5 @@ abbrev pub greater : Version → Version → Version
 greater one other = record { 0 = max one.0 other.0 }
 
 -- the greater of the version and of the one known is known
-abbrev pub told_in : Contents → AdminId → Version → Contents
-told_in store admin version = record store { known = slice_set store.known admin.0 (greater (newest_in store admin) version) }
+abbrev pub with_version : Contents → AdminId → Version → Contents
+with_version store admin version = record store { known = slice_set store.known admin.0 (greater (newest_in store admin) version) }

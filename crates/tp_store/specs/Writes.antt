@@ -46,6 +46,6 @@ first_of writes = first_from None writes
 -- ---- values
 
 -- the values of all items after these writes
-abbrev pub applied : List ℤ → List TentativeWrite → List ℤ
-applied values [] = values
-applied values (write ∷ writes) = applied (slice_set values write.item.0 write.value) writes
+abbrev pub values_after : List ℤ → List TentativeWrite → List ℤ
+values_after values [] = values
+values_after values (write ∷ writes) = values_after (slice_set values write.item.0 write.value) writes

@@ -28,7 +28,7 @@ impl Model for Store {
 impl Store {
     /// The store as it stands before the first step. It has a place for each item of the scenario; a server uses its own.
     pub fn opened(alloc: Global, scenario: &Scenario, server: ServerId) -> Result<Store, NoMemory>
-        ensures { IfOk result (λ made. made ≡ rule.opened scenario.now server) }
+        ensures { IfOk result (λ made. made ≡ rule.opening scenario.now server) }
     {
         Ok(Store {
             bounds: bounds_of(alloc, scenario.items.as_slice())?,
@@ -49,7 +49,7 @@ impl Store {
     }
 
     fn written(&self, txn: TxnId, item: ItemId) -> Option<TentativeWrite>
-        ensures { result ≡ rule.written_in self.now txn item }
+        ensures { result ≡ rule.kept_write self.now txn item }
     {
         match self.tentative.get(txn.0 as usize) {
             None => None,
@@ -68,7 +68,7 @@ impl Store {
     }
 
     fn keep(&mut self, txn: TxnId, new: TentativeWrite) -> Result<(), NoMemory>
-        ensures ok { OnOk result (self.new ≡ rule.written self.old txn new) }
+        ensures ok { OnOk result (self.new ≡ rule.after_write self.old txn new) }
         ensures err { OnErr result (self.new ≡ self.old) }
     {
         match self.tentative.get_mut(txn.0 as usize) {
@@ -87,7 +87,7 @@ impl Store {
         item: ItemId,
         value: i128,
     ) -> Result<(), NoMemory>
-        ensures ok { OnOk result (self.new ≡ rule.written self.old txn (record { query = query; item = item; value = value })) }
+        ensures ok { OnOk result (self.new ≡ rule.after_write self.old txn (record { query = query; item = item; value = value })) }
         ensures err { OnErr result (self.new ≡ self.old) }
     {
         self.keep(txn, TentativeWrite { query, item, value })
@@ -105,7 +105,7 @@ impl Store {
 
     /// Gives the items the values that the transaction has written, and keeps its writes no longer.
     pub fn apply(&mut self, txn: TxnId)
-        ensures { self.new ≡ rule.applied_in self.old txn }
+        ensures { self.new ≡ rule.after_apply self.old txn }
     {
         if let Some(writes) = self.tentative.get_mut(txn.0 as usize) {
             apply(&mut self.values, writes.as_slice());
@@ -115,7 +115,7 @@ impl Store {
 
     /// Drops what the transaction has written. The items keep their values.
     pub fn forget(&mut self, txn: TxnId)
-        ensures { self.new ≡ rule.forgotten self.old txn }
+        ensures { self.new ≡ rule.after_forget self.old txn }
     {
         match self.tentative.get_mut(txn.0 as usize) {
             None => {}
@@ -135,7 +135,7 @@ impl Store {
 
     /// Learns a version of an administrator. Of it and the one known the greater is known from now on.
     pub fn told(&mut self, admin: AdminId, version: Version)
-        ensures { self.new ≡ rule.told_in self.old admin version }
+        ensures { self.new ≡ rule.with_version self.old admin version }
     {
         let known = self.newest(admin);
         let greater = Version(known.0.max(version.0));

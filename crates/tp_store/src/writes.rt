@@ -109,7 +109,7 @@ pub fn first_outside(bounds: &[Bounds], writes: &[TentativeWrite]) -> Option<Ten
 
 /// Gives each item that is written its value.
 pub fn apply(values: &mut List<i128>, writes: &[TentativeWrite])
-    ensures { values.new ≡ rule.applied values.old writes.now }
+    ensures { values.new ≡ rule.values_after values.old writes.now }
 {
     for write in writes {
         values.put(write.item.0 as usize, write.value);

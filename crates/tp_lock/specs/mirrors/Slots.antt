@@ -68,34 +68,34 @@ answer owner age mode slots = if is_served owner mode slots then Granted else an
 abbrev pub slot_of : TxnId → ℕ → Action → Bool → Slot
 slot_of owner age mode held = record { entry = rule.lock_of owner age mode held; told = true }
 
-abbrev pub added : TxnId → ℕ → Action → Asked → List Slot → List Slot
-added owner age mode Granted slots = slots ++ slot_of owner age mode true ∷ []
-added owner age mode Waits slots = slots ++ slot_of owner age mode false ∷ []
-added owner age mode (Dies other) slots = slots
+abbrev pub with_answer : TxnId → ℕ → Action → Asked → List Slot → List Slot
+with_answer owner age mode Granted slots = slots ++ slot_of owner age mode true ∷ []
+with_answer owner age mode Waits slots = slots ++ slot_of owner age mode false ∷ []
+with_answer owner age mode (Dies other) slots = slots
 
 abbrev pub with_slot : TxnId → ℕ → Action → List Slot → List Slot
-with_slot owner age mode slots = if is_served owner mode slots then slots else added owner age mode (answer_to_new owner age mode slots) slots
+with_slot owner age mode slots = if is_served owner mode slots then slots else with_answer owner age mode (answer_to_new owner age mode slots) slots
 
 -- ---- a release
 
 abbrev pub is_granted : List Slot → LockEntry → Bool
 is_granted earlier entry = not entry.held && not (has_conflict entry.owner entry.mode earlier)
 
-abbrev pub settled : List Slot → Slot → Slot
-settled earlier slot = record {
+abbrev pub with_grant : List Slot → Slot → Slot
+with_grant earlier slot = record {
   entry = record slot.entry { held = slot.entry.held || is_granted earlier slot.entry };
   told = not (is_granted earlier slot.entry);
 }
 
-abbrev pub settled_from : List Slot → List Slot → List Slot
-settled_from earlier [] = []
-settled_from earlier (slot ∷ slots) = settled earlier slot ∷ settled_from (earlier ++ settled earlier slot ∷ []) slots
+abbrev pub with_grants_from : List Slot → List Slot → List Slot
+with_grants_from earlier [] = []
+with_grants_from earlier (slot ∷ slots) = with_grant earlier slot ∷ with_grants_from (earlier ++ with_grant earlier slot ∷ []) slots
 
 abbrev pub is_of_other : TxnId → Slot → Bool
 is_of_other owner slot = rule.is_of_other owner slot.entry
 
 abbrev pub left_by : TxnId → List Slot → List Slot
-left_by owner slots = settled_from [] (filter (is_of_other owner) slots)
+left_by owner slots = with_grants_from [] (filter (is_of_other owner) slots)
 
 -- ---- a grant that is taken
 

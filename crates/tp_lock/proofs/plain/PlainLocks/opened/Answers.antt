@@ -1,9 +1,9 @@
 use Rattle.std.proofs.Common.{◌≡◌, ◌∙◌, [], ap, arith, replicate}
 use Rattle.tp_lock.specs.mirrors.Slots.{shown}
-use Rattle.tp_lock.proofs.ShownLemmas.{shown_opened}
+use Rattle.tp_lock.proofs.ShownLemmas.{shown_opening}
 use Rattle.tp_lock.proofs.plain.PlainLocks.opened.Goals as goal
 
 pub returns : goal.returns
 returns c =
     let all : c.loop-item._item ≡ c.args.items = omega arith in
-    ap shown (c.loop-item.invariant ∙ ap (λ n. replicate n []) all) ∙ shown_opened c.args.items
+    ap shown (c.loop-item.invariant ∙ ap (λ n. replicate n []) all) ∙ shown_opening c.args.items
