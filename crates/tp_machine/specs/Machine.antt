@@ -178,12 +178,12 @@ delivery sc actors (Some mail) = receipt sc actors mail mail.letter.to
 -- the clock moves
 abbrev pub ticks : Actors → ℕ → Move
 ticks actors by =
-    record { actors = record actors { authority = office.ticked by actors.authority }; happened = what.Ticked by ∷ []; letters = [] }
+    record { actors = record actors { authority = office.after_tick by actors.authority }; happened = what.Ticked by ∷ []; letters = [] }
 
 -- a credential is revoked
 abbrev pub revokes : Actors → CredId → Move
 revokes actors cred =
-    record { actors = record actors { authority = office.revoked_with cred actors.authority }; happened = what.Revoked cred ∷ []; letters = [] }
+    record { actors = record actors { authority = office.after_revocation cred actors.authority }; happened = what.Revoked cred ∷ []; letters = [] }
 
 -- the numbers but this one
 abbrev pub without_number : List ℕ → ℕ → List ℕ
@@ -262,8 +262,8 @@ opened_actors sc =
     record {
       servers = opened_servers sc (length sc.servers);
       coordinators = idle_coordinators sc (length sc.txns);
-      authority = office.opened sc;
-      master = master.opened sc;
+      authority = office.opening sc;
+      master = master.opening sc;
     }
 
 abbrev pub opening_state : Scenario → State

@@ -221,8 +221,8 @@ ages_cases sc w sound h =
           coordinator_acts_ages w taken txn part.log (Some effect.state) [] effect.reaction.append effect.reaction.letters h (aged_still (Now w taken) (length w.steps) c (coordinator_row sc c mail) t aged) t.letters;
       authority_told = λ n mail sent. record { actors_are = ages_now w (step.Deliver n) h; letters = tells_no_age (Now w (step.Deliver n)) (length w.steps) w.actors.authority mail.letter.body };
       master_told = λ n mail sent. record { actors_are = ages_now w (step.Deliver n) h; letters = newest_no_age (Now w (step.Deliver n)) (length w.steps) w.actors.master mail.letter.body };
-      ticked = λ by. authority_ages w (step.Tick by) (office.ticked by w.actors.authority) (what.Ticked by ∷ []) h;
-      revoked = λ cred exists. authority_ages w (step.Revoke cred) (office.revoked_with cred w.actors.authority) (what.Revoked cred ∷ []) h;
+      ticked = λ by. authority_ages w (step.Tick by) (office.after_tick by w.actors.authority) (what.Ticked by ∷ []) h;
+      revoked = λ cred exists. authority_ages w (step.Revoke cred) (office.after_revocation cred w.actors.authority) (what.Revoked cred ∷ []) h;
       begun = λ txn part c exists up new. begun_ages sc w sound h txn part c up;
     }
 

@@ -204,8 +204,8 @@ agrees_cases sc w built sound h =
           unmoved_agrees sc w [] (office.authority_row w.actors.authority mail).reaction.letters h (silent_says sc w) (tells_rest sc w.actors w.actors.authority mail.letter.body);
       master_told = λ n mail sent.
           unmoved_agrees sc w [] (master.master_row w.actors.master mail).reaction.letters h (silent_says sc w) (newest_rests sc w.actors w.actors.master mail.letter.body);
-      ticked = λ by. authority_agrees sc w (office.ticked by w.actors.authority) (what.Ticked by ∷ []) h (ticked_says sc w by);
-      revoked = λ cred exists. authority_agrees sc w (office.revoked_with cred w.actors.authority) (what.Revoked cred ∷ []) h (revoked_says sc w cred);
+      ticked = λ by. authority_agrees sc w (office.after_tick by w.actors.authority) (what.Ticked by ∷ []) h (ticked_says sc w by);
+      revoked = λ cred exists. authority_agrees sc w (office.after_revocation cred w.actors.authority) (what.Revoked cred ∷ []) h (revoked_says sc w cred);
       begun = λ txn part c exists up new. begun_agrees sc w built sound h txn part c exists up new;
     }
 

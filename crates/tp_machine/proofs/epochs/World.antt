@@ -366,8 +366,8 @@ epochs_cases sc w sound a h =
       coordinator_received = λ n mail txn part c sent up. receipt_by_coordinator sc w sound a h n mail txn part c sent up;
       authority_told = λ n mail sent. unmoved_epochs sc w [] (office.authority_row w.actors.authority mail).reaction.letters h (tells_plain w.actors.authority mail.letter.body);
       master_told = λ n mail sent. unmoved_epochs sc w [] (master.master_row w.actors.master mail).reaction.letters h (newest_plain w.actors.master mail.letter.body);
-      ticked = λ by. authority_epochs sc w (office.ticked by w.actors.authority) (what.Ticked by ∷ []) h;
-      revoked = λ cred exists. authority_epochs sc w (office.revoked_with cred w.actors.authority) (what.Revoked cred ∷ []) h;
+      ticked = λ by. authority_epochs sc w (office.after_tick by w.actors.authority) (what.Ticked by ∷ []) h;
+      revoked = λ cred exists. authority_epochs sc w (office.after_revocation cred w.actors.authority) (what.Revoked cred ∷ []) h;
       begun = λ txn part c exists up new. begun_epochs sc w sound h txn part c up new;
     }
 

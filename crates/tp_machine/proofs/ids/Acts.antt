@@ -141,7 +141,7 @@ revocations_sound sc [] h = tt
 revocations_sound sc (None ∷ places) h = revocations_sound sc places h.1
 revocations_sound sc (Some cred ∷ places) h = (h.0, revocations_sound sc places h.1)
 
-pub revoked_sound : (sc : Scenario) (authority : Authority) (cred : CredId) → IsSoundAuthority sc authority → IsCred sc cred → IsSoundAuthority sc (office.revoked_with cred authority)
+pub revoked_sound : (sc : Scenario) (authority : Authority) (cred : CredId) → IsSoundAuthority sc authority → IsCred sc cred → IsSoundAuthority sc (office.after_revocation cred authority)
 revoked_sound sc authority cred h exists = each_set (λ (place : Option CredId). IfSome place (IsCred sc)) authority.revoked cred.0 (Some cred) h exists
 
 -- before the first step nothing is revoked

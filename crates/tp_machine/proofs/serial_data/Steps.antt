@@ -118,8 +118,8 @@ serial_cases sc w built sound agrees h =
       authority_told = λ n mail sent.
           unmoved_serial sc w [] (office.authority_row w.actors.authority mail).reaction.letters h tt (tells_serial sc w.actors.authority mail.letter.body);
       master_told = λ n mail sent. unmoved_serial sc w [] (master.master_row w.actors.master mail).reaction.letters h tt (newest_serial sc w.actors.master mail.letter.body);
-      ticked = λ by. authority_serial sc w (office.ticked by w.actors.authority) (what.Ticked by ∷ []) h (tt, tt);
-      revoked = λ cred exists. authority_serial sc w (office.revoked_with cred w.actors.authority) (what.Revoked cred ∷ []) h (tt, tt);
+      ticked = λ by. authority_serial sc w (office.after_tick by w.actors.authority) (what.Ticked by ∷ []) h (tt, tt);
+      revoked = λ cred exists. authority_serial sc w (office.after_revocation cred w.actors.authority) (what.Revoked cred ∷ []) h (tt, tt);
       begun = λ txn part c exists up new. begun_serial sc w built sound agrees h txn part c exists up new;
     }
 

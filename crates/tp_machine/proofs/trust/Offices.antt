@@ -62,7 +62,7 @@ none_revoked (suc count) cred = none_revoked count cred
 -- ---- the authority after it was told
 
 ticked_fits : (sc : Scenario) (w : State) (by : ℕ) (authority : Authority) → ArePast (length w.steps) w.facts → AuthorityFits sc w.facts (length w.steps) authority
-    → AuthorityFits sc (facts_after w (what.Ticked by ∷ [])) (length w.steps + 1) (office.ticked by authority)
+    → AuthorityFits sc (facts_after w (what.Ticked by ∷ [])) (length w.steps + 1) (office.after_tick by authority)
 ticked_fits sc w by authority past h =
     let place = length w.steps in
     let happened = what.Ticked by ∷ [] in
@@ -77,7 +77,7 @@ ticked_fits sc w by authority past h =
     }
 
 revoked_fits : (sc : Scenario) (w : State) (cred : CredId) (authority : Authority) → IsCred sc cred → ArePast (length w.steps) w.facts → AuthorityFits sc w.facts (length w.steps) authority
-    → AuthorityFits sc (facts_after w (what.Revoked cred ∷ [])) (length w.steps + 1) (office.revoked_with cred authority)
+    → AuthorityFits sc (facts_after w (what.Revoked cred ∷ [])) (length w.steps + 1) (office.after_revocation cred authority)
 revoked_fits sc w cred authority exists past h =
     let place = length w.steps in
     let happened = what.Revoked cred ∷ [] in
@@ -117,11 +117,11 @@ authority_trusts sc w authority happened h fits facts =
 
 pub ticked_trusts : (sc : Scenario) (w : State) (by : ℕ) → ArePast (length w.steps) w.facts → Trusts sc w → MoveTrusts sc w (moves w.actors by)
 ticked_trusts sc w by past h =
-    authority_trusts sc w (office.ticked by w.actors.authority) (what.Ticked by ∷ []) h (ticked_fits sc w by w.actors.authority past h.authority) (λ facts. (tt, tt))
+    authority_trusts sc w (office.after_tick by w.actors.authority) (what.Ticked by ∷ []) h (ticked_fits sc w by w.actors.authority past h.authority) (λ facts. (tt, tt))
 
 pub revoked_trusts : (sc : Scenario) (w : State) (cred : CredId) → IsCred sc cred → ArePast (length w.steps) w.facts → Trusts sc w → MoveTrusts sc w (revokes w.actors cred)
 revoked_trusts sc w cred exists past h =
-    authority_trusts sc w (office.revoked_with cred w.actors.authority) (what.Revoked cred ∷ []) h (revoked_fits sc w cred w.actors.authority exists past h.authority) (λ facts. (tt, tt))
+    authority_trusts sc w (office.after_revocation cred w.actors.authority) (what.Revoked cred ∷ []) h (revoked_fits sc w cred w.actors.authority exists past h.authority) (λ facts. (tt, tt))
 
 -- ---- the master
 
