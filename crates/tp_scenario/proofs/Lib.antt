@@ -8,6 +8,7 @@ pub mod KeptScripts
 pub mod KeptServers
 pub mod KeptSteps
 pub mod KeptTxns
+pub mod LastWords
 pub mod NameLemmas
 pub mod ReadLemmas
 pub mod SpelledQueries

@@ -4,3 +4,4 @@ pub mod Asks
 pub mod Commands
 pub mod Entries
 pub mod Refusing
+pub mod Places

@@ -79,19 +79,21 @@ fn count_verb(word: &[u8]) -> Option<CountVerb>
     }
 }
 
-/// The only word, where it is spelled as a name.
+/// The only word, where it is spelled as a name: a name has no space, so it is all that is left.
+#[tactic(auto, using(crate::proofs::LastWords::last_name))]
 fn one_name<'a>(words: Words<'a>) -> Option<&'a [u8]>
     ensures { option_map (λ name. name.now) result ≡ steps.one_name words.entry }
 {
-    let word = words.only()?;
-    if is_name(word) { Some(word) } else { None }
+    let text = words.left()?;
+    if is_name(text) { Some(text) } else { None }
 }
 
-/// The number that the only word is.
+/// The number that the only word is, which has no space either.
+#[tactic(auto, using(crate::proofs::LastWords::last_number))]
 fn one_number(words: Words<'_>) -> Option<u64>
     ensures { result ≡ steps.one_number words.entry }
 {
-    number_of(words.only()?)
+    number_of(words.left()?)
 }
 
 #[tactic(auto, unfolding(crate::specs::Steps::push_of))]

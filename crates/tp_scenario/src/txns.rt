@@ -1,13 +1,13 @@
 //! Transactions.
-ghost use Rattle.std.specs.Prelude.{◌≡◌, ◌++◌, ◌∷◌, [], map, option_map, IfOk};
+ghost use Rattle.std.specs.Prelude.{◌≡◌, ◌==◌, ◌++◌, ◌∷◌, [], false, not, map, option_map, IfOk, OnOk};
 ghost use Rattle.std.specs.List.{list_any};
 ghost use Rattle.serde_json.specs.View.{view, items_view};
-ghost use Rattle.tp_model.specs.Ids.{same_cred};
 ghost use Rattle.tp_scenario.specs.Txns as txns;
 ghost use Rattle.tp_scenario.specs.Values.{apart, each};
 ghost use Rattle.tp_scenario.specs.declared.path.Key.TheVariants as Key;
 ghost use Rattle.tp_scenario.specs.declared.path.Path.TheVariants as Path;
 ghost use Rattle.tp_scenario.specs.mirrors.Gives.{Gives};
+ghost use Rattle.tp_scenario.specs.mirrors.Places.{creds_at};
 
 use crate::fault::{WalkError, range_at};
 use crate::names::{Declared, Names};
@@ -15,9 +15,10 @@ use crate::object::{field, object_at};
 use crate::path::{Key, Path};
 use crate::query::query_at;
 use crate::values::{count_or, items_at, items_or, name_at, new_name_at, text_at, used_at};
+use indexmap::IndexSet;
 use serde_json::Value;
 use std::alloc::Global;
-use tp_types::{CredId, Level, List, Name, Query, Scheme, Transaction};
+use tp_types::{CredId, Level, List, Name, NoMemory, Query, Scheme, Transaction};
 
 fn path_of(at: usize, key: Key) -> Path
     ensures { result ≡ Path.Field Key.Transactions at key }
@@ -89,27 +90,30 @@ fn level_at(path: Path, value: Option<&Value>) -> Result<Level, WalkError>
     }
 }
 
-fn is_among(cred: CredId, made: &[CredId]) -> bool
-    ensures { result ≡ list_any (same_cred cred) made.now }
+/// Notes the place of a credential, and tells whether it is new.
+fn noted(seen: &mut IndexSet<u32>, place: u32) -> Result<bool, NoMemory>
+    ensures new { IfOk result (λ new. new ≡ not (list_any (λ other. place == other) seen.old.keys)) }
+    ensures places { OnOk result (list_any (λ other. place == other) seen.old.keys ≡ false → seen.new.keys ≡ seen.old.keys ++ place ∷ []) }
 {
-    made.iter().any(|other| cred == *other)
+    Ok(seen.insert(place)?)
 }
 
-/// A credential that is presented, after these.
-#[tactic(auto, unfolding(crate::specs::Txns::presented_at))]
+/// A credential that is presented, after those of these places. Its own is added to them.
+#[tactic(auto, unfolding(crate::specs::Txns::presented_at), using(crate::proofs::GrowingLists::any_made))]
 fn presented_at(
     path: Path,
     creds: &Names,
-    made: &[CredId],
+    seen: &mut IndexSet<u32>,
     value: &Value,
 ) -> Result<CredId, WalkError>
-    ensures { Gives result (txns.presented_at path creds.now made.now (view value.now)) }
+    ensures value { Gives result (txns.presented_at path creds.now (creds_at seen.old.keys) (view value.now)) }
+    ensures noted { IfOk result (λ cred. seen.new.keys ≡ seen.old.keys ++ cred.0 ∷ []) }
 {
-    let cred = CredId(used_at(path, creds, Some(value))?);
-    if is_among(cred, made) {
-        Err(range_at(path))
+    let place = used_at(path, creds, Some(value))?;
+    if noted(seen, place)? {
+        Ok(CredId(place))
     } else {
-        Ok(cred)
+        Err(range_at(path))
     }
 }
 
@@ -122,9 +126,10 @@ fn each_presented(
     ensures { Gives result (each (txns.presented_in creds.now at) [] (items_view values.now)) }
 {
     let mut made = List::new(alloc);
+    let mut seen = IndexSet::new(alloc);
     for value in values {
         let path = Path::Entry(Key::Transactions, at, Key::Credentials, made.len());
-        let cred = presented_at(path, creds, made.as_slice(), value)?;
+        let cred = presented_at(path, creds, &mut seen, value)?;
         made.push(cred)?;
     }
     Ok(made)

@@ -1,6 +1,7 @@
 //! The words of a text, one after another.
 ghost use Rattle.std.specs.Prelude.{◌≡◌, ◌≤◌, ◌∷◌, [], length, option_map, IfSome, IfNone};
 ghost use Rattle.tp_scenario.specs.Words as words;
+ghost use Rattle.tp_scenario.specs.mirrors.Texts.{words_left};
 
 use std::marker::Model;
 
@@ -81,6 +82,13 @@ impl<'a> Words<'a> {
         ensures { result ≡ words.is_end self.now }
     {
         self.rest.is_none()
+    }
+
+    /// What is left of the text, with its spaces, where a word is left.
+    pub fn left(self) -> Option<&'a [u8]>
+        ensures { words_left result ≡ self.entry }
+    {
+        self.rest
     }
 
     /// The one word that is left.
