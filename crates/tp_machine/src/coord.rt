@@ -14,10 +14,11 @@ use std::marker::Model;
 use std::mem;
 use tp_model::{item_of, query_at, servers_of, written_constant};
 use tp_types::{
-    Action, Actor, Answer, AskRequest, Body, CommitRecord, DecideRequest, Decided, Decision, Deed,
-    DoneReply, Instance, ItemId, Letter, List, Mail, Met, NoMemory, Outcome, Place, PrepareRequest,
-    Query, QueryRequest, Reaction, Record, Scenario, ServerId, Staple, TellReply, TryClone, TxnId,
-    Verdict, Version, Vote, VoteReply, ignored, none_for_each, nothing, sent_alone, unbuilt,
+    Action, Actor, Answer, AskRequest, Body, Cause, CommitRecord, DecideRequest, Decided, Decision,
+    Deed, Denied, DoneReply, Instance, ItemId, Letter, List, Mail, Met, NoMemory, Outcome, Place,
+    PrepareRequest, Query, QueryRequest, Reaction, Record, Scenario, ServerId, Staple, TellReply,
+    TryClone, TxnId, Verdict, Version, Vote, VoteReply, ignored, none_for_each, nothing,
+    sent_alone, unbuilt,
 };
 
 /// A server's reply in a round.
@@ -479,11 +480,24 @@ impl Coordinator {
             self.phase = Phase::Checking { round, staple };
             return Ok(nothing(alloc));
         }
-        if !round.kept.is_empty() || !are_agreed(verdicts.as_slice()) {
+        if !round.kept.is_empty() {
+            self.phase = Phase::Checking { round, staple };
+            return Ok(unbuilt(alloc));
+        }
+        if let Some(verdict) = first_false(verdicts.as_slice()) {
+            return self.aborts(alloc, Cause::Denied(denied_by(verdict)));
+        }
+        if !are_agreed(verdicts.as_slice()) {
             self.phase = Phase::Checking { round, staple };
             return Ok(unbuilt(alloc));
         }
         self.commits(alloc, round.number, verdicts)
+    }
+
+    fn aborts(&mut self, alloc: Global, why: Cause) -> Result<Reaction, NoMemory>
+        ensures { IfOk result (λ reaction. Gives (row.aborts self.old why) self.new reaction) }
+    {
+        self.decides(alloc, Outcome::Abort, Decision::Abort(why))
     }
 
     fn commits(
@@ -503,14 +517,25 @@ impl Coordinator {
             instances: self.instances.try_clone(alloc)?,
             deeds: self.deeds.try_clone(alloc)?,
         };
-        let letters = self.decide_letters(alloc, Outcome::Commit)?;
+        self.decides(alloc, Outcome::Commit, Decision::Commit(commit))
+    }
+
+    fn decides(
+        &mut self,
+        alloc: Global,
+        outcome: Outcome,
+        decision: Decision,
+    ) -> Result<Reaction, NoMemory>
+        ensures { IfOk result (λ reaction. Gives (row.decides self.old outcome decision) self.new reaction) }
+    {
+        let letters = self.decide_letters(alloc, outcome)?;
         self.phase = Phase::Ending {
-            outcome: Outcome::Commit,
+            outcome,
             awaited: self.servers.try_clone(alloc)?,
         };
         let decided = Record::Decided(Decided {
             txn: self.txn,
-            decision: Decision::Commit(commit),
+            decision,
         });
         Ok(Reaction {
             append: Some(decided),
@@ -669,6 +694,26 @@ fn have_one_version(verdicts: &[Verdict]) -> bool
     ensures { result ≡ list_all (λ (one : Verdict). list_all (row.agrees one) verdicts.now) verdicts.now }
 {
     verdicts.iter().all(|one| agrees_with_all(one, verdicts))
+}
+
+/// The first false verdict.
+fn first_false(verdicts: &[Verdict]) -> Option<&Verdict>
+    ensures { option_copied result ≡ row.first_false verdicts.now }
+{
+    verdicts.iter().find(|verdict| verdict.rule.is_none())
+}
+
+/// What a false verdict denies.
+fn denied_by(verdict: &Verdict) -> Denied
+    ensures { result ≡ row.denied_by verdict.now }
+{
+    Denied {
+        query: verdict.query,
+        server: verdict.server,
+        admin: verdict.admin,
+        version: verdict.version,
+        place: verdict.place,
+    }
 }
 
 fn are_true(verdicts: &[Verdict]) -> bool

@@ -98,6 +98,7 @@ coordinator_row_ages A place sc c mail =
       told_first = λ tell round k. record { same_age = refl; same_txn = refl; letters = prepare_letters_aged A place c (coord.staple_of tell mail.sent) round.awaited };
       counted = λ reply round staple server verdicts other others y e. record { same_age = refl; same_txn = refl; letters = tt };
       committed = λ reply round staple server verdicts y e first agreed. record { same_age = refl; same_txn = refl; letters = orders_aged A place c outcome.Commit c.servers };
+      denied = λ reply round staple server verdicts verdict y e f. record { same_age = refl; same_txn = refl; letters = orders_aged A place c outcome.Abort c.servers };
       acknowledged = λ ack ended awaited server a. record { same_age = refl; same_txn = refl; letters = tt };
     })
 

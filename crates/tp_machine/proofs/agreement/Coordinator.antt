@@ -8,9 +8,10 @@ use Rattle.tp_types.specs.Effect.{Effect, ignores, sends}
 use Rattle.tp_model.specs.Agreement.{has_item, has_item_at}
 use Rattle.tp_model.specs.Facts.{first_of, outcome_of}
 use Rattle.tp_model.specs.Queries.{is_at_server, item_of, query_at, servers_from, servers_of}
-use Rattle.tp_model.specs.Words.{AckReply, Actor, Body, DecideRequest, Decision, DoneReply, Item, Letter, Mail, Outcome, Query, Record, Scenario, ServerId, Staple, Transaction, TxnId, Verdict, Vote, VoteReply}
+use Rattle.tp_model.specs.Words.{AckReply, Actor, Body, Cause, DecideRequest, Decision, DoneReply, Item, Letter, Mail, Outcome, Query, Record, Scenario, ServerId, Staple, Transaction, TxnId, Verdict, Vote, VoteReply}
 use Rattle.tp_model.specs.Words.actor
 use Rattle.tp_model.specs.Words.body
+use Rattle.tp_model.specs.Words.cause
 use Rattle.tp_model.specs.Words.decision
 use Rattle.tp_model.specs.Words.log
 use Rattle.tp_model.specs.Words.outcome
@@ -19,7 +20,7 @@ use Rattle.tp_machine.specs.Logs.{decided_in, decision_in}
 use Rattle.tp_machine.specs.Machine.{log_with, with_age}
 use Rattle.tp_machine.specs.Sound.{Each}
 use Rattle.tp_machine.specs.coord.Opened.{servers_at}
-use Rattle.tp_machine.specs.coord.Row.{asks, awaits_query, commits, coordinator_row, is_awaited, is_begun, prepare_letter, prepares, query_of, request, server_of, staple_of, submit_row, with_deed, without}
+use Rattle.tp_machine.specs.coord.Row.{aborts, asks, awaits_query, commits, coordinator_row, denied_by, is_awaited, is_begun, prepare_letter, prepares, query_of, request, server_of, staple_of, submit_row, with_deed, without}
 use Rattle.tp_machine.specs.coord.State.{Coordinator}
 use Rattle.tp_machine.specs.declared.coord.Phase.TheVariants as phase
 use Rattle.tp_machine.specs.declared.coord.Phase.{Phase}
@@ -319,6 +320,22 @@ commits_lawful sc P S c kept rounds proofs h d b prepared =
       letters = orders_lawful sc c.txn true (decided_in (log_with kept forced)) outcome.Commit c c.servers refl refl now items;
     }
 
+-- an abort is forced where nothing was decided, and then sent
+aborts_lawful : (sc : Scenario) (P S : ServerId → Type 0) (c : Coordinator) (kept : List Record) (why : Cause) → Keeps sc P S c kept → decided_in kept ≡ None
+    → is_begun c.phase ≡ true → CoordinatorLawful sc P S c kept (aborts c why)
+aborts_lawful sc P S c kept why h d b =
+    let forced = (aborts c why).reaction.append in
+    let now : option_map outcome_of (decided_in (log_with kept forced)) ≡ Some outcome.Abort = ap (option_map outcome_of) (decided_with kept forced ∙ ap (λ z. first_of z (appended decision_in forced)) d) in
+    let items : HaveItems sc c.txn c.servers = subst (HaveItems sc c.txn) (sym h.agrees.servers) (servers_at_have_items sc c.txn) in
+    record {
+      agrees = record { decided = now; servers = h.agrees.servers; awaited = items };
+      replied = subst (λ (servers : List ServerId). AllBut S servers (servers_at sc c.txn)) (sym h.agrees.servers) (all_but_all S (servers_at sc c.txn));
+      same_begun = sym b;
+      same_txn = refl;
+      fresh = record { undecided = d; own = refl; prepared = tt };
+      letters = orders_lawful sc c.txn true (decided_in (log_with kept forced)) outcome.Abort c c.servers refl refl now items;
+    }
+
 -- what is known where a vote YES is awaited and comes
 record IsCounted (sc : Scenario) (P S : ServerId → Type 0) (c : Coordinator) (kept : List Record) (round : Round) (server : ServerId) : Type 0 where
   pub undecided : decided_in kept ≡ None
@@ -393,6 +410,9 @@ coordinator_row_lawful sc P S c kept mail h m =
           let k = yes_counted sc P S c kept mail reply round staple server verdicts h m y in
           commits_lawful sc P S c kept round.number verdicts h k.undecided k.begun
           (none_awaited P (servers_at sc c.txn) (subst (λ (left : List ServerId). AllBut P left (servers_at sc c.txn)) e k.prepared));
+      denied = λ reply round staple server verdicts verdict y e f.
+          let k = yes_counted sc P S c kept mail reply round staple server verdicts h m y in
+          aborts_lawful sc P S c kept (cause.Denied (denied_by verdict)) h k.undecided k.begun;
       acknowledged = λ ack ended awaited server a. acknowledged_lawful sc P S c kept mail ack ended awaited server h m a;
     })
 

@@ -52,10 +52,19 @@ found_first : {A : Type 0} (P : A → Type 0) (test : A → Bool) (y : A) (xs : 
 found_first P test y xs x true here p later e = let same : y ≡ x = grind arith in subst P same p
 found_first P test y xs x false other p later e = let next : find test xs ≡ Some x = grind arith in later next
 
+passes_first : {A : Type 0} (test : A → Bool) (y : A) (xs : List A) (x : A) (b : Bool) → test y ≡ b → (find test xs ≡ Some x → test x ≡ true) → find test (y ∷ xs) ≡ Some x → test x ≡ true
+passes_first {A = A} test y xs x true here later e = let same : y ≡ x = grind arith in subst (λ (z : A). test z ≡ true) same here
+passes_first test y xs x false other later e = let next : find test xs ≡ Some x = grind arith in later next
+
 -- what a search finds is a member
 pub each_found : {A : Type 0} (P : A → Type 0) (test : A → Bool) (xs : List A) (x : A) → Each P xs → find test xs ≡ Some x → P x
 each_found P test [] x h e = absurd (cc)
 each_found P test (y ∷ xs) x h e = found_first P test y xs x (test y) refl h.0 (λ later. each_found P test xs x h.1 later) e
+
+-- and passes
+pub found_passes : {A : Type 0} (test : A → Bool) (xs : List A) (x : A) → find test xs ≡ Some x → test x ≡ true
+found_passes test [] x e = absurd (cc)
+found_passes test (y ∷ xs) x e = passes_first test y xs x (test y) refl (λ later. found_passes test xs x later) e
 
 pub each_get : {A : Type 0} (P : A → Type 0) (xs : List A) (k : ℕ) (x : A) → Each P xs → slice_get xs k ≡ Some x → P x
 each_get P [] k x h e = absurd (cc)

@@ -3,6 +3,7 @@ use Rattle.std.proofs.Common.{Bool, List, None, Option, Some, [], ap, false, is_
 use Rattle.tp_types.specs.Effect.{Effect, ignores, sends}
 use Rattle.tp_model.specs.Words.{Actor, Body, Mail, Outcome, Scenario, ServerId, Staple, Verdict}
 use Rattle.tp_model.specs.Words.body
+use Rattle.tp_model.specs.Words.cause
 use Rattle.tp_model.specs.Words.outcome
 use Rattle.tp_machine.specs.Machine.{with_age}
 use Rattle.tp_machine.specs.Sound.{Each}
@@ -119,6 +120,9 @@ coordinator_row_keeps sc E A c mail h servers m =
       committed = λ reply round staple at verdicts y e first agreed.
           plain_keeps sc E A c.txn (Some (coord.commits c round.number verdicts).state) (coord.decide_letters c outcome.Commit)
           (record { places = h.places; past = h.past; undecided = λ unsure. absurd (cc) }) (orders_plain c outcome.Commit c.servers);
+      denied = λ reply round staple at verdicts verdict y e f.
+          plain_keeps sc E A c.txn (Some (coord.aborts c (cause.Denied (coord.denied_by verdict))).state) (coord.decide_letters c outcome.Abort)
+          (record { places = h.places; past = h.past; undecided = λ unsure. absurd (cc) }) (orders_plain c outcome.Abort c.servers);
       acknowledged = λ ack ended awaited at k.
           plain_keeps sc E A c.txn (Some (record c { phase = phase.Ending ended (coord.without awaited at) })) []
           (record { places = h.places; past = h.past; undecided = λ unsure. absurd (cc) }) tt;

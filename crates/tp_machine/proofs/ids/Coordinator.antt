@@ -4,18 +4,19 @@ use Rattle.std.proofs.Common.{IfSome, List, None, Option, Some, [], arith, false
 use Rattle.std.proofs.lemmas.Option.{same_Some}
 use Rattle.tp_types.specs.Effect.{Effect, ignores, sends}
 use Rattle.tp_model.specs.Queries.{item_of}
-use Rattle.tp_model.specs.Words.{Body, DoneReply, Item, Mail, Outcome, Query, Scenario, ServerId, Staple, Transaction, TxnId, Verdict, VoteReply}
+use Rattle.tp_model.specs.Words.{Body, Cause, DoneReply, Item, Mail, Outcome, Query, Scenario, ServerId, Staple, Transaction, TxnId, Verdict, VoteReply}
 use Rattle.tp_model.specs.Words.actor
+use Rattle.tp_model.specs.Words.cause
 use Rattle.tp_model.specs.Words.query
-use Rattle.tp_machine.specs.Sound.{AreSoundVerdicts, Each, HasValue, IsActor, IsItemOf, IsServer, IsSoundBallot, IsSoundBody, IsSoundCoordinator, IsSoundCoordinatorRecord, IsSoundDeed, IsSoundInstance, IsSoundLetter, IsSoundPhase, IsSoundProof, IsSoundQuery, IsSoundReply, IsSoundRound, IsSoundStaple, IsSoundVerdict, ProvesEach, proves_each, query_in}
-use Rattle.tp_machine.specs.coord.Row.{are_agreed, asks, commits, coordinator_row, coordinator_with_age, deed_of, first_round, instances_with, is_true_verdict, next_turn, prepare_letter, prepares, request, sends_first, server_of, staple_of, submit_row, with_deed, with_reply, without}
+use Rattle.tp_machine.specs.Sound.{AreSoundVerdicts, Each, HasValue, IsActor, IsItemOf, IsServer, IsSoundBallot, IsSoundBody, IsSoundCause, IsSoundCoordinator, IsSoundCoordinatorRecord, IsSoundDeed, IsSoundInstance, IsSoundLetter, IsSoundPhase, IsSoundProof, IsSoundQuery, IsSoundReply, IsSoundRound, IsSoundStaple, IsSoundVerdict, ProvesEach, proves_each, query_in}
+use Rattle.tp_machine.specs.coord.Row.{aborts, are_agreed, asks, commits, coordinator_row, coordinator_with_age, deed_of, denied_by, first_false, first_round, instances_with, is_false_verdict, is_true_verdict, next_turn, prepare_letter, prepares, request, sends_first, server_of, staple_of, submit_row, with_deed, with_reply, without}
 use Rattle.tp_machine.specs.coord.State.{Coordinator}
 use Rattle.tp_machine.specs.declared.coord.Phase.TheVariants as phase
 use Rattle.tp_machine.specs.declared.coord.Phase.{Phase}
 use Rattle.tp_machine.specs.declared.coord.Round.{Round}
 use Rattle.tp_machine.proofs.walks.CoordinatorRows.{IsYes, coordinator_by, submit_by}
 use Rattle.tp_machine.proofs.ids.Valid.{IsValid, IsValidItem}
-use Rattle.tp_machine.proofs.basics.Lists.{each_filter, each_get, each_map, each_more, each_passing}
+use Rattle.tp_machine.proofs.basics.Lists.{each_filter, each_found, each_get, each_map, each_more, each_passing}
 
 -- what a coordinator's act leaves is sound: its state, still of the same transaction, what it forces and what it sends
 pub record IsSoundCoordinatorEffect (sc : Scenario) (c : Coordinator) (effect : Effect Coordinator) : Type 0 where
@@ -164,6 +165,22 @@ commits_sound sc c rounds proofs h p =
           (λ server exists. request_sound sc c server _ h exists (record { txn = h.exists; goes_to = tt })) c.servers h.servers;
     }
 
+aborts_sound : (sc : Scenario) (c : Coordinator) (why : Cause) → IsSoundCoordinator sc c → IsSoundCause sc c.txn why → IsSoundCoordinatorEffect sc c (aborts c why)
+aborts_sound sc c why h caused =
+    record {
+      same_txn = refl;
+      state_is = record { exists = h.exists; servers = h.servers; deeds = h.deeds; gathered = h.gathered; instances = h.instances; awaits = h.servers };
+      forces = record { txn_is = refl; rests_on = caused };
+      sends_only = each_map (IsServer sc) (IsSoundLetter sc) _
+          (λ server exists. request_sound sc c server _ h exists (record { txn = h.exists; goes_to = tt })) c.servers h.servers;
+    }
+
+-- a false verdict that is sound denies what exists
+denied_sound : (sc : Scenario) (txn : TxnId) (verdicts : List Verdict) (verdict : Verdict) → AreSoundVerdicts sc txn verdicts → first_false verdicts ≡ Some verdict → IsSoundCause sc txn (cause.Denied (denied_by verdict))
+denied_sound sc txn verdicts verdict h e =
+    let sound : IsSoundVerdict sc txn verdict = each_found (IsSoundVerdict sc txn) is_false_verdict verdicts verdict h e in
+    record { query = sound.query; version = sound.version }
+
 without_sound : (sc : Scenario) (awaited : List ServerId) (server : ServerId) → Each (IsServer sc) awaited → Each (IsServer sc) (without awaited server)
 without_sound sc awaited server h = each_filter (IsServer sc) _ awaited h
 
@@ -221,6 +238,8 @@ coordinator_row_sound sc c mail h a m =
           counted_sound sc c round staple server verdicts h (awaits y.checking) (subst (IsActor sc) y.from_is a) (yes_sound sc c mail reply round staple server verdicts m y);
       committed = λ reply round staple server verdicts y e first agreed.
           commits_sound sc c round.number verdicts h (proofs_sound sc c.txn verdicts agreed (yes_sound sc c mail reply round staple server verdicts m y));
+      denied = λ reply round staple server verdicts verdict y e f.
+          aborts_sound sc c (cause.Denied (denied_by verdict)) h (denied_sound sc c.txn verdicts verdict (yes_sound sc c mail reply round staple server verdicts m y) f);
       acknowledged = λ ack ended awaited server k. acknowledged_sound sc c ended awaited server h (awaits k.ending);
     })
   where

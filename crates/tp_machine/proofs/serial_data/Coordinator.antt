@@ -110,6 +110,8 @@ coordinator_row_keeps sc c mail built h sound m =
           record { state = all_ran k.asking; same_txn = refl; forces = tt; letters = prepare_letters_keep sc c (staple_of tell mail.sent) round.awaited };
       counted = λ reply round staple server verdicts other others y e. record { state = all_ran y.checking; same_txn = refl; forces = tt; letters = tt };
       committed = λ reply round staple server verdicts y e first agreed. commits_keep sc c round.number verdicts (all_ran y.checking);
+      denied = λ reply round staple server verdicts verdict y e f.
+          record { state = all_ran y.checking; same_txn = refl; forces = record { own = refl; serial = tt }; letters = orders_keep sc c outcome.Abort c.servers };
       acknowledged = λ ack ended awaited server a. record { state = all_ran a.ending; same_txn = refl; forces = tt; letters = tt };
     })
   where

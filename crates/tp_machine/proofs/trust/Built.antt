@@ -18,7 +18,7 @@ use Rattle.tp_model.specs.Queries.{item_of}
 use Rattle.tp_model.specs.Stage.{allows_all, is_all, is_deferred, is_empty, is_open_policy, is_single, is_true_cond, is_true_shape, is_view}
 use Rattle.tp_model.proofs.FirstForm.{is_first_query}
 use Rattle.tp_model.specs.Credentials.{triples_in}
-use Rattle.tp_model.specs.Levels.{is_global, is_global_item, is_global_query, reads_master}
+use Rattle.tp_model.specs.Levels.{is_global, is_global_item, is_global_query, level_of, reads_master}
 use Rattle.tp_model.specs.Policies.{Triple, allows, holds, is_about_action, is_about_item, level, matches, rule_allows}
 use Rattle.tp_model.specs.Versions.{opening_of}
 use Rattle.tp_machine.specs.Sound.{Each, IsAdmin}
@@ -80,6 +80,7 @@ pub record IsFirstForm (sc : Scenario) : Type 0 where
   pub policies : Each (λ (admin : Admin). Each (λ (policy : Policy). is_open_policy policy ≡ true) admin.library) sc.admins
   pub one_query : Each (λ (txn : Transaction). length txn.queries ≡ 1) sc.txns
   pub deferred : Each (λ (txn : Transaction). txn.scheme ≡ scheme.Deferred) sc.txns
+  pub levels : Each (λ (t : Transaction). (admin : AdminId) → is_global (level_of t admin) ≡ false) sc.txns
   pub view : Each (λ (txn : Transaction). reads_master sc txn ≡ false) sc.txns
   pub admin_count : length sc.admins ≡ 1
   pub opening : (admin : AdminId) → IsAdmin sc admin → (opening_of sc admin).0 ≡ 1
@@ -148,6 +149,7 @@ first_form sc built =
           (each_one (λ (policy : Policy). is_open_policy policy ≡ true) is_open_policy member.library (λ policy e. e) admin_parts.0);
       one_query = each_of_one (λ (t : Transaction). length t.queries ≡ 1) sc.txns txn form.txns_are (single_count (is_first_query form.item) txn.queries parts.1);
       deferred = each_of_one (λ (t : Transaction). t.scheme ≡ scheme.Deferred) sc.txns txn form.txns_are (deferred_is txn.scheme parts.0);
+      levels = each_of_one (λ (t : Transaction). (admin : AdminId) → is_global (level_of t admin) ≡ false) sc.txns txn form.txns_are (λ admin. view_not_global txn.level view_is);
       view = each_of_one (λ (t : Transaction). reads_master sc t ≡ false) sc.txns txn form.txns_are (view_reads_none sc txn (view_not_global txn.level view_is));
       admin_count = count_of sc.admins member form.admins.is_list;
       opening = opening_is sc form;

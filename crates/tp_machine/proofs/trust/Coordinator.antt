@@ -1,15 +1,16 @@
 -- Trust, the coordinator's rows: it commits on one instance whose proofs are right, true and of one version.
 use Rattle.std.proofs.Common.{IfSome, List, None, Option, Some, [], ap, arith, false, map, refl, subst, sym, true, ℕ, ℤ, ◌++◌, ◌+◌, ◌∷◌, ◌≡◌, ◌≤◌}
 use Rattle.tp_types.specs.Effect.{Effect, ignores, sends}
-use Rattle.tp_model.specs.Words.{Body, CommitRecord, Decision, DoneReply, Fact, Instance, Letter, Mail, Outcome, Query, Record, Scenario, ServerId, Staple, TxnId, Verdict, VoteReply}
+use Rattle.tp_model.specs.Words.{Body, Cause, CommitRecord, Decision, Denied, DoneReply, Fact, Instance, Letter, Mail, Outcome, Query, Record, Scenario, ServerId, Staple, TxnId, Verdict, VoteReply}
 use Rattle.tp_model.specs.Words.actor
 use Rattle.tp_model.specs.Words.body
+use Rattle.tp_model.specs.Words.cause
 use Rattle.tp_model.specs.Words.decision
 use Rattle.tp_model.specs.Words.log
 use Rattle.tp_model.specs.Words.outcome
 use Rattle.tp_machine.specs.Machine.{with_age}
 use Rattle.tp_machine.specs.Sound.{Each, IsSoundBody, query_in}
-use Rattle.tp_machine.specs.coord.Row.{are_agreed, asks, commits, coordinator_row, coordinator_with_age, is_begun, next_turn, prepare_letter, prepares, requests, sends_first, staple_of, submit_row, with_deed, with_reply, without}
+use Rattle.tp_machine.specs.coord.Row.{aborts, are_agreed, asks, commits, coordinator_row, coordinator_with_age, denied_by, first_false, is_begun, is_false_verdict, next_turn, prepare_letter, prepares, requests, sends_first, staple_of, submit_row, with_deed, with_reply, without}
 use Rattle.tp_machine.specs.coord.State.{Coordinator}
 use Rattle.tp_machine.specs.declared.coord.Phase.TheVariants as phase
 use Rattle.tp_machine.specs.declared.coord.Phase.{Phase}
@@ -18,7 +19,7 @@ use Rattle.tp_machine.specs.declared.coord.Round.{Round}
 use Rattle.tp_machine.proofs.agreement.Coordinator.{idle_is}
 use Rattle.tp_machine.proofs.walks.CoordinatorRows.{IsYes, coordinator_by, submit_by}
 use Rattle.tp_machine.proofs.basics.Phases.{awaits_is, is_undecided}
-use Rattle.tp_machine.proofs.basics.Lists.{each_more}
+use Rattle.tp_machine.proofs.basics.Lists.{each_found, each_more, found_passes}
 use Rattle.tp_machine.proofs.trust.Fit.{BodyFits, IsSubmitted, PhaseFits, Right, StapleFits, VerdictsFit, VoteFits}
 use Rattle.tp_machine.proofs.trust.Turns.{AreFew, IsAbove, IsOfPast, Now, PrepareNow, Stamp, TurnFits, VoteNow, ceiling, ceiling_in, end_move, first_move, low_query, low_round, number_within, query_count, raised, round_move, stamp_of, turn_rises, until_round}
 
@@ -40,10 +41,21 @@ pub record CommitFits (sc : Scenario) (facts : List Fact) (place : ℕ) (txn : T
   pub fit : VerdictsFit sc facts place txn proofs
   pub agreed : are_agreed proofs ≡ true
 
--- no coordinator aborts yet
+-- a denial is by a right verdict without a rule
+pub record DeniedFits (sc : Scenario) (facts : List Fact) (place : ℕ) (txn : TxnId) (denied : Denied) : Type 0 where
+  pub verdict : Verdict
+  pub denied_is : denied ≡ denied_by verdict
+  pub right : Right sc facts place txn verdict
+  pub ruleless : is_false_verdict verdict ≡ true
+
+-- no coordinator aborts for another cause yet
+abbrev pub CauseFits : Scenario → List Fact → ℕ → TxnId → Cause → Type 0
+CauseFits sc facts place txn (cause.Denied denied) = DeniedFits sc facts place txn denied
+CauseFits sc facts place txn _ = ⊥
+
 abbrev pub DecisionFits : Scenario → List Fact → ℕ → TxnId → Decision → Type 0
 DecisionFits sc facts place txn (decision.Commit committed) = CommitFits sc facts place txn committed
-DecisionFits sc facts place txn (decision.Abort why) = ⊥
+DecisionFits sc facts place txn (decision.Abort why) = CauseFits sc facts place txn why
 
 abbrev pub RecordDecides : Scenario → List Fact → ℕ → Record → Type 0
 RecordDecides sc facts place (log.Decided d) = DecisionFits sc facts place d.txn d.decision
@@ -182,6 +194,31 @@ agreed_trusts sc facts place c round staple proofs h e v agreed =
     commits_trusts sc facts place c round.number proofs (h.unclosed (ap is_undecided e)) f.1.number
     (end_move (query_count sc c.txn) round.number 2 c.turn (omega (arith, f.1.number)) (omega arith) low) v agreed
 
+-- a false verdict of the one reply denies
+denied_trusts : (sc : Scenario) (facts : List Fact) (place : ℕ) (c : Coordinator) (round : Round) (staple : Staple) (proofs : List Verdict) (verdict : Verdict) → CoordinatorFits sc facts place c
+    → c.phase ≡ phase.Checking round staple → VerdictsFit sc facts place c.txn proofs → first_false proofs ≡ Some verdict → RowTrusts sc facts place c (aborts c (cause.Denied (denied_by verdict)))
+denied_trusts sc facts place c round staple proofs verdict h e v found =
+    let f = phase_fits sc facts place c (phase.Checking round staple) h e in
+    let low : c.turn ≤ until_round (query_count sc c.txn) round.number 2 = turn_low sc facts place c (phase.Checking round staple) h e in
+    let now = aborts c (cause.Denied (denied_by verdict)) in
+    record {
+      fits = record {
+        awaits = tt;
+        unclosed = λ unsure. absurd (cc);
+        above = λ unsure. absurd (cc);
+        turn = end_move (query_count sc c.txn) round.number 2 c.turn (omega (arith, f.1.number)) (omega arith) low;
+      };
+      decides = record {
+        verdict = verdict;
+        denied_is = refl;
+        right = each_found (Right sc facts place c.txn) is_false_verdict proofs verdict v.right found;
+        ruleless = found_passes is_false_verdict proofs verdict found;
+      };
+      says = λ sent. orders_fit sc facts place sent c outcome.Abort c.servers;
+      timely = λ sent. orders_timely sc c (Some now.state) sent outcome.Abort c.servers;
+      old = λ sent turn said t unsure. absurd (cc);
+    }
+
 counted_trusts : (sc : Scenario) (facts : List Fact) (place : ℕ) (c : Coordinator) (round : Round) (staple : Staple) (server : ServerId) (proofs : List Verdict) → CoordinatorFits sc facts place c
     → c.phase ≡ phase.Checking round staple → VerdictsFit sc facts place c.txn proofs → RowTrusts sc facts place c (sends (record c { phase = phase.Checking (with_reply round server proofs) staple }) [])
 counted_trusts sc facts place c round staple server proofs h e v =
@@ -248,6 +285,8 @@ coordinator_row_trusts sc facts place c mail few h m f =
           counted_trusts sc facts place c round staple server proofs h y.checking (yes_fits sc facts place c mail reply round staple server proofs m f y);
       committed = λ reply round staple server proofs y e first agreed.
           agreed_trusts sc facts place c round staple proofs h y.checking (yes_fits sc facts place c mail reply round staple server proofs m f y) agreed;
+      denied = λ reply round staple server proofs verdict y e found.
+          denied_trusts sc facts place c round staple proofs verdict h y.checking (yes_fits sc facts place c mail reply round staple server proofs m f y) found;
       acknowledged = λ ack ended awaited server k. acknowledged_trusts sc facts place c ended awaited server h k.ending;
     })
 

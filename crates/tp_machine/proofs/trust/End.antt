@@ -1,23 +1,24 @@
 -- Trust of the facts: where the invariant holds, every commit is trusted and every abort has its cause.
 use Rattle.std.proofs.lemmas.Bool.{and_parts}
-use Rattle.std.proofs.Common.{◌≡◌, ℕ, ◌≤◌, ◌<◌, ◌==◌, ◌&&◌, nat_le, nat_lt, List, [], ◌∷◌, length, slice_get, Bool, true, false, Option, Some, None, is_some, if◌then◌else◌, refl, ap, ◌∙◌, arith}
+use Rattle.std.proofs.Common.{Bool, List, None, Option, Some, [], ap, arith, false, if◌then◌else◌, is_none, is_some, length, nat_le, nat_lt, not, refl, slice_get, subst, true, ℕ, ◌&&◌, ◌<◌, ◌==◌, ◌||◌, ◌∙◌, ◌∷◌, ◌≡◌, ◌≤◌}
 use Rattle.std.specs.Cmp.Lexicographic.{pointwise}
 use Rattle.std.specs.List.{list_all, range_with_len}
 use Rattle.std.specs.Option.{option_map_or}
 use Rattle.std.proofs.lemmas.Bool.Decides.{nat_tests}
-use Rattle.tp_model.specs.Words.{CommitRecord, Fact, Scenario, Scheme, Transaction, TxnId, Verdict, What}
+use Rattle.tp_model.specs.Words.{AdminId, Cause, CommitRecord, Denied, Fact, Scenario, Scheme, Transaction, TxnId, Verdict, What}
+use Rattle.tp_model.specs.Words.cause
 use Rattle.tp_model.specs.Words.decision
 use Rattle.tp_model.specs.Words.scheme
 use Rattle.tp_model.specs.Words.what
-use Rattle.tp_model.specs.Authorisation.{is_allowed, is_certified, is_own_query, is_true_verdict}
+use Rattle.tp_model.specs.Authorisation.{is_allowed, is_certified, is_own_query, is_true_verdict, policy_at}
 use Rattle.tp_model.specs.Built.{is_built}
-use Rattle.tp_model.specs.Causes.{is_caused, keeps_causes, keeps_causes_what}
+use Rattle.tp_model.specs.Causes.{denies_at_newest, is_caused, is_denied, is_denied_version, is_shown, keeps_causes, keeps_causes_what}
 use Rattle.tp_model.specs.Demand.{is_deferred_demand, is_final_instance, is_over, is_round_count, meets_scheme, most_rounds}
-use Rattle.tp_model.specs.Levels.{reads_master}
+use Rattle.tp_model.specs.Levels.{is_global, level_of, reads_master}
 use Rattle.tp_model.specs.Trust.{is_trusted, is_trusted_commit, is_trusted_instance, is_trusted_proof, is_within, keeps_trust, keeps_trust_what}
 use Rattle.tp_model.specs.Versions.{is_one_version, meets_readings, newest}
 use Rattle.tp_machine.specs.Machine.{State}
-use Rattle.tp_machine.specs.Sound.{Each, IsSound, IsSoundFact, IsSoundWhat, IsTxn}
+use Rattle.tp_machine.specs.Sound.{Each, IsSound, IsSoundCause, IsSoundFact, IsSoundWhat, IsTxn, IsVersion}
 use Rattle.tp_machine.specs.coord.Row as row
 use Rattle.tp_machine.specs.coord.Row.{are_agreed}
 use Rattle.tp_machine.proofs.basics.Ids.{number_itself}
@@ -26,7 +27,8 @@ use Rattle.tp_machine.proofs.basics.Facts.{all_from_each}
 use Rattle.tp_machine.proofs.basics.Lists.{each_get, missing}
 use Rattle.tp_machine.proofs.trust.Fit.{IsRight, Right, VerdictsFit}
 use Rattle.tp_machine.proofs.trust.Built.{IsFirstForm, both_true, first_form}
-use Rattle.tp_machine.proofs.trust.Coordinator.{CommitFits}
+use Rattle.tp_machine.proofs.trust.Coordinator.{CauseFits, CommitFits}
+use Rattle.tp_machine.proofs.trust.Server.{policy_there}
 use Rattle.tp_machine.proofs.trust.World.{FactFits, Trusts, WhatFits}
 
 three_true : (a b c : Bool) → a ≡ true → b ≡ true → c ≡ true → (a && b && c) ≡ true
@@ -103,10 +105,52 @@ what_trusted sc facts place (what.Decided txn (decision.Commit committed)) form 
 what_trusted sc facts place (what.Decided txn (decision.Abort why)) form sound h = refl
 what_trusted sc facts place _ form sound h = refl
 
-what_caused : (sc : Scenario) (facts : List Fact) (place : ℕ) (w : What) → WhatFits sc facts place w → keeps_causes_what sc facts place w ≡ true
-what_caused sc facts place (what.Decided txn (decision.Commit committed)) h = refl
-what_caused sc facts place (what.Decided txn (decision.Abort why)) h = absurd h
-what_caused sc facts place _ h = refl
+-- ---- an abort
+
+four_true : (a b c d : Bool) → a ≡ true → b ≡ true → c ≡ true → d ≡ false → (a && b && c && not d) ≡ true
+four_true a b c d e f g h = grind arith
+
+unbound : (global newest fresh : Bool) → global ≡ false → (not (global && newest) || fresh) ≡ true
+unbound global newest fresh e = grind arith
+
+no_rule : (rule : Option ℕ) → is_none rule ≡ true → is_some rule ≡ false
+no_rule None e = refl
+no_rule (Some rule) e = absurd (cc)
+
+-- a right verdict without a rule, of a version that exists, shows a denial
+denial_shown : (sc : Scenario) (txn : TxnId) (declared : Transaction) (place : ℕ) (facts : List Fact) (verdict : Verdict) → is_global (level_of declared verdict.admin) ≡ false
+    → IsVersion sc verdict.admin verdict.version → IsRight sc facts place txn declared verdict → row.is_false_verdict verdict ≡ true
+    → is_denied sc txn place facts (row.denied_by verdict) declared ≡ true
+denial_shown sc txn declared place facts verdict view version h ruleless =
+    four_true (is_own_query sc declared verdict.query verdict.server verdict.admin) (is_within txn place facts verdict.place) (is_denied_version sc place facts declared (row.denied_by verdict))
+    (is_allowed sc facts declared verdict.query verdict.admin verdict.version verdict.place)
+    h.own
+    (both_true _ _ h.begun (lt_test verdict.place place h.past))
+    (three_true (is_some (policy_at sc verdict.admin verdict.version)) (nat_le verdict.version.0 (newest sc verdict.admin place facts)) _
+    (policy_there sc verdict.admin verdict.version version) (le_test verdict.version.0 (newest sc verdict.admin place facts) h.published)
+    (unbound (is_global (level_of declared verdict.admin)) (denies_at_newest declared.scheme) (nat_le (newest sc verdict.admin verdict.place facts) verdict.version.0) view))
+    (h.fits ∙ no_rule verdict.rule ruleless)
+
+cause_shown : (sc : Scenario) (facts : List Fact) (place : ℕ) (txn : TxnId) (why : Cause) (declared : Transaction) → IsFirstForm sc → slice_get sc.txns txn.0 ≡ Some declared → IsSoundCause sc txn why
+    → CauseFits sc facts place txn why → is_shown sc txn place facts why declared ≡ true
+cause_shown sc facts place txn (cause.Denied denied) declared form e sound h =
+    let version : IsVersion sc h.verdict.admin h.verdict.version = subst (λ (d : Denied). IsVersion sc d.admin d.version) h.denied_is sound.version in
+    let view = each_get (λ (t : Transaction). (admin : AdminId) → is_global (level_of t admin) ≡ false) sc.txns txn.0 declared form.levels e in
+    ap (λ (d : Denied). is_denied sc txn place facts d declared) h.denied_is
+    ∙ denial_shown sc txn declared place facts h.verdict (view h.verdict.admin) version (h.right declared e) h.ruleless
+cause_shown sc facts place txn (cause.No left) declared form e sound h = absurd h
+cause_shown sc facts place txn (cause.Died died) declared form e sound h = absurd h
+cause_shown sc facts place txn (cause.Newer newer) declared form e sound h = absurd h
+cause_shown sc facts place txn (cause.Rounds mets) declared form e sound h = absurd h
+cause_shown sc facts place txn (cause.Restarted at) declared form e sound h = absurd h
+cause_shown sc facts place txn cause.Halted declared form e sound h = absurd h
+
+what_caused : (sc : Scenario) (facts : List Fact) (place : ℕ) (w : What) → IsFirstForm sc → IsSoundWhat sc w → WhatFits sc facts place w → keeps_causes_what sc facts place w ≡ true
+what_caused sc facts place (what.Decided txn (decision.Commit committed)) form sound h = refl
+what_caused sc facts place (what.Decided txn (decision.Abort why)) form sound h =
+    let found = exists_txn sc txn (slice_get sc.txns txn.0) refl sound.0 in
+    ap (λ (d : Option Transaction). option_map_or (is_shown sc txn place facts why) d false) found.1 ∙ cause_shown sc facts place txn why found.0 form found.1 sound.1 h
+what_caused sc facts place _ form sound h = refl
 
 -- the commits of a world are trusted
 pub facts_trusted : (sc : Scenario) (w : State) → is_built sc ≡ true → IsSound sc w → Trusts sc w → is_trusted sc w.facts ≡ true
@@ -117,8 +161,9 @@ facts_trusted sc w built sound h =
     (λ n fact e. what_trusted sc w.facts fact.place fact.what form (each_get (IsSoundFact sc) w.facts n fact sound.facts_are e) (each_get (FactFits sc w.facts) w.facts n fact h.facts_fit e)))
 
 -- and its aborts have causes
-pub facts_caused : (sc : Scenario) (w : State) → Trusts sc w → is_caused sc w.facts ≡ true
-facts_caused sc w h =
+pub facts_caused : (sc : Scenario) (w : State) → is_built sc ≡ true → IsSound sc w → Trusts sc w → is_caused sc w.facts ≡ true
+facts_caused sc w built sound h =
+    let form : IsFirstForm sc = first_form sc built in
     all_from_each (λ (fact : Fact). keeps_causes sc w.facts fact ≡ true) (keeps_causes sc w.facts) (λ fact k. k) w.facts
     (each_found (λ (fact : Fact). keeps_causes sc w.facts fact ≡ true) w.facts
-    (λ n fact e. what_caused sc w.facts fact.place fact.what (each_get (FactFits sc w.facts) w.facts n fact h.facts_fit e)))
+    (λ n fact e. what_caused sc w.facts fact.place fact.what form (each_get (IsSoundFact sc) w.facts n fact sound.facts_are e) (each_get (FactFits sc w.facts) w.facts n fact h.facts_fit e)))

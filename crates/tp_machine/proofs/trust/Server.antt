@@ -1,7 +1,7 @@
 -- Trust, the server's rows: verdicts are right at the place of the staple, and there is one for each query.
 use Rattle.std.specs.List.{range_with_len}
 use Rattle.std.specs.Option.{option_map_or}
-use Rattle.std.proofs.Common.{Bool, IfSome, List, None, Option, Some, [], ap, arith, false, is_none, length, map, option_and_then, refl, slice_get, subst, suc, sym, true, zero, ℕ, ℤ, ◌&&◌, ◌<◌, ◌==◌, ◌∙◌, ◌∷◌, ◌≡◌, ◌≤◌}
+use Rattle.std.proofs.Common.{Bool, IfSome, List, None, Option, Some, [], ap, arith, false, is_none, is_some, length, map, option_and_then, refl, slice_get, subst, suc, sym, true, zero, ℕ, ℤ, ◌&&◌, ◌<◌, ◌==◌, ◌∙◌, ◌∷◌, ◌≡◌, ◌≤◌}
 use Rattle.std.proofs.lemmas.Option.{cond_some, same_Some}
 use Rattle.tp_types.specs.Effect.{Effect, ignores}
 use Rattle.tp_model.specs.Authorisation.{action_of, allows_held, is_item_at, is_own_query, is_query_at, policy_at, rule_proves, tests_item, tests_query, tests_version, version_in, version_of}
@@ -69,6 +69,12 @@ library_has library zero low high = absurd (omega (arith, low))
 library_has [] (suc before) low high = absurd (omega (arith, high))
 library_has (policy ∷ library) (suc zero) low high = (policy, refl)
 library_has (policy ∷ library) (suc (suc before)) low high = library_has library (suc before) (omega arith) (omega (arith, high))
+
+-- a version that exists has a policy
+pub policy_there : (sc : Scenario) (admin : AdminId) (version : Version) → IsVersion sc admin version → is_some (policy_at sc admin version) ≡ true
+policy_there sc admin version v =
+    let found = library_has v.declared.library version.0 v.in_library.0 v.in_library.1 in
+    ap is_some (ap (option_and_then (version_of version.0)) v.declared_is ∙ found.1)
 
 -- a version that exists has a policy, which is the one that allows all
 record IsOpenAt (sc : Scenario) (admin : AdminId) (version : Version) : Type 0 where

@@ -4,7 +4,8 @@ use Rattle.std.proofs.Common.{Bool, IfSome, List, None, Option, Some, [], ap, ar
 use Rattle.std.proofs.lemmas.List.Sums.{sum_by-append, sum_by-cons}
 use Rattle.tp_model.specs.Credentials.{clock_at, is_among, revoked_at, revoked_by, revoked_what, ticks, ticks_what}
 use Rattle.tp_model.specs.Facts.{is_submission}
-use Rattle.tp_model.specs.Words.{Body, CredId, Decision, Fact, Instance, Letter, Mail, Scenario, Step, TxnId, Verdict, What}
+use Rattle.tp_model.specs.Words.{Body, Cause, CredId, Decision, Fact, Instance, Letter, Mail, Scenario, Step, TxnId, Verdict, What}
+use Rattle.tp_model.specs.Words.cause
 use Rattle.tp_model.specs.Words.decision
 use Rattle.tp_model.specs.Words.what
 use Rattle.tp_machine.specs.Machine.{Move, State, facts_of, mails_of, state_after}
@@ -17,8 +18,8 @@ use Rattle.tp_machine.specs.server.State.{Server}
 use Rattle.tp_machine.proofs.agreement.World.{Agrees, steps_more}
 use Rattle.tp_machine.proofs.basics.Facts.{ArePast, any_append, append_none, before_past, filter_map_append, grows_with_facts, new_facts_past, past_as}
 use Rattle.tp_machine.proofs.basics.Lists.{each_append, each_as}
-use Rattle.tp_machine.proofs.trust.Coordinator.{CoordinatorFits, DecisionFits}
-use Rattle.tp_machine.proofs.trust.Fit.{AuthorityFits, BodyFits, Later, MailFits, ServerFits, body_stays, maybe_stays, phase_stays, server_stays, verdicts_stay}
+use Rattle.tp_machine.proofs.trust.Coordinator.{CauseFits, CoordinatorFits, DecisionFits}
+use Rattle.tp_machine.proofs.trust.Fit.{AuthorityFits, BodyFits, Later, MailFits, ServerFits, body_stays, maybe_stays, phase_stays, right_stays, server_stays, verdicts_stay}
 use Rattle.tp_machine.proofs.trust.Kept.{IsTrusted, PartKept, part_as, trusted_stays}
 use Rattle.tp_machine.proofs.trust.Turns.{AreEarlier, IsAbove, Stamp, TurnFits, stamp_of}
 
@@ -134,10 +135,15 @@ pub coordinator_up_stays : (sc : Scenario) (old new : List Fact) (low high : ℕ
 coordinator_up_stays sc old new low high None l h = tt
 coordinator_up_stays sc old new low high (Some c) l h = coordinator_stays sc old new low high c l h
 
+cause_stays : (sc : Scenario) (old new : List Fact) (low high : ℕ) (txn : TxnId) (why : Cause) → Later old new low high → CauseFits sc old low txn why → CauseFits sc new high txn why
+cause_stays sc old new low high txn (cause.Denied denied) l h =
+    record { verdict = h.verdict; denied_is = h.denied_is; right = right_stays sc old new low high txn h.verdict l h.right; ruleless = h.ruleless }
+cause_stays sc old new low high txn _ l h = absurd h
+
 pub decision_stays : (sc : Scenario) (old new : List Fact) (low high : ℕ) (txn : TxnId) (decided : Decision) → Later old new low high → DecisionFits sc old low txn decided → DecisionFits sc new high txn decided
 decision_stays sc old new low high txn (decision.Commit committed) l h =
     record { rounds = h.rounds; proofs = h.proofs; instances = h.instances; fit = verdicts_stay sc old new low high txn h.proofs l h.fit; agreed = h.agreed }
-decision_stays sc old new low high txn (decision.Abort why) l h = h
+decision_stays sc old new low high txn (decision.Abort why) l h = cause_stays sc old new low high txn why l h
 
 -- what holds up to a place holds up to an earlier one
 earlier_too : (old new : List Fact) (low high first : ℕ) → first ≤ low → Later old new low high → Later old new first first

@@ -9,8 +9,9 @@ use Rattle.tp_model.specs.Words.{AckReply, Actor, Answer, Body, DoneReply, Mail,
 use Rattle.tp_model.specs.Words.actor
 use Rattle.tp_model.specs.Words.answer
 use Rattle.tp_model.specs.Words.body
+use Rattle.tp_model.specs.Words.cause
 use Rattle.tp_model.specs.Words.vote
-use Rattle.tp_machine.specs.coord.Row.{ack_from, are_agreed, asks, awaits_query, awaits_vote, begins, commits, coordinator_row, is_awaited, is_from, is_last_write, is_plain, on_ack, on_answer, on_body, on_done_from, on_done_of_query, on_reply, on_staple, on_vote, on_vote_of, prepares, query_of, sends_first, server_of, staple_of, submit_row, vote_at, with_deed, with_reply, without}
+use Rattle.tp_machine.specs.coord.Row.{aborts, ack_from, are_agreed, asks, awaits_query, awaits_vote, begins, commits, coordinator_row, denied_by, first_false, is_awaited, is_from, is_last_write, is_plain, on_ack, on_answer, on_body, on_done_from, on_done_of_query, on_reply, on_staple, on_verdicts, on_vote, on_vote_of, prepares, query_of, sends_first, server_of, staple_of, submit_row, vote_at, with_deed, with_reply, without}
 use Rattle.tp_machine.specs.coord.State.{Coordinator}
 use Rattle.tp_machine.specs.declared.coord.Phase.TheVariants as phase
 use Rattle.tp_machine.specs.declared.coord.Phase.{Phase}
@@ -61,6 +62,8 @@ pub record CoordinatorCases (sc : Scenario) (c : Coordinator) (mail : Mail) (P :
       → without round.awaited server ≡ other ∷ others → P (sends (record c { phase = phase.Checking (with_reply round server verdicts) staple }) [])
   pub committed : (reply : VoteReply) (round : Round) (staple : Staple) (server : ServerId) (verdicts : List Verdict) → IsYes c mail reply round staple server verdicts
       → without round.awaited server ≡ [] → is_empty round.kept ≡ true → are_agreed verdicts ≡ true → P (commits c round.number verdicts)
+  pub denied : (reply : VoteReply) (round : Round) (staple : Staple) (server : ServerId) (verdicts : List Verdict) (verdict : Verdict) → IsYes c mail reply round staple server verdicts
+      → without round.awaited server ≡ [] → first_false verdicts ≡ Some verdict → P (aborts c (cause.Denied (denied_by verdict)))
   pub acknowledged : (ack : AckReply) (ended : Outcome) (awaited : List ServerId) (server : ServerId) → IsAck c mail ack ended awaited server
       → P (sends (record c { phase = phase.Ending ended (without awaited server) }) [])
 
@@ -106,12 +109,17 @@ on_staple_by sc c mail P cases tell _ e present asking = cases.ignored
 
 -- ---- Vote
 
+judged_by : (sc : Scenario) (c : Coordinator) (mail : Mail) (P : Effect Coordinator → Type 0) → CoordinatorCases sc c mail P → (reply : VoteReply) (round : Round) (staple : Staple) (server : ServerId)
+    (verdicts : List Verdict) (found : Option Verdict) → IsYes c mail reply round staple server verdicts → without round.awaited server ≡ [] → is_empty round.kept ≡ true → first_false verdicts ≡ found
+    → P (on_verdicts c round verdicts found)
+judged_by sc c mail P cases reply round staple server verdicts (Some verdict) y e first f = cases.denied reply round staple server verdicts verdict y e f
+judged_by sc c mail P cases reply round staple server verdicts None y e first f =
+    by_cond P (are_agreed verdicts) (λ agreed. cases.committed reply round staple server verdicts y e first agreed) (λ other. cases.ignored)
+
 on_reply_by : (sc : Scenario) (c : Coordinator) (mail : Mail) (P : Effect Coordinator → Type 0) → CoordinatorCases sc c mail P → (reply : VoteReply) (round : Round) (staple : Staple) (server : ServerId)
     (verdicts : List Verdict) (left : List ServerId) → IsYes c mail reply round staple server verdicts → without round.awaited server ≡ left → P (on_reply c round staple server verdicts left)
 on_reply_by sc c mail P cases reply round staple server verdicts [] y e =
-    by_cond P (is_empty round.kept && are_agreed verdicts)
-    (λ agreed. let parts = and_parts (is_empty round.kept) (are_agreed verdicts) agreed in cases.committed reply round staple server verdicts y e parts.0 parts.1)
-    (λ other. cases.ignored)
+    by_cond P (is_empty round.kept) (λ first. judged_by sc c mail P cases reply round staple server verdicts (first_false verdicts) y e first refl) (λ other. cases.ignored)
 on_reply_by sc c mail P cases reply round staple server verdicts (other ∷ others) y e = cases.counted reply round staple server verdicts other others y e
 
 on_vote_of_by : (sc : Scenario) (c : Coordinator) (mail : Mail) (P : Effect Coordinator → Type 0) → CoordinatorCases sc c mail P → (reply : VoteReply) (round : Round) (staple : Staple) (server : ServerId) (said : Vote)

@@ -1,10 +1,10 @@
 -- A coordinator's rows: what it does when its transaction is submitted, and on receipt of a mail. A reply is used only in
 -- the phase that awaits it, with the present turn, and once from each server; otherwise nothing happens.
-use Rattle.std.specs.List.{list_all, list_any}
+use Rattle.std.specs.List.{find, list_all, list_any}
 use Rattle.std.specs.Prelude.{Bool, List, None, Option, Some, [], false, filter, if◌then◌else◌, is_none, is_some, map, min, nat_lt, not, option_and_then, option_map, slice_get, slice_set, true, unwrap_or, ℕ, ℤ, ◌&&◌, ◌++◌, ◌+◌, ◌-◌, ◌==◌, ◌^◌, ◌∷◌}
 use Rattle.tp_types.specs.Effect.{Effect, ignores, logs, sends, unbuilt}
 use Rattle.tp_types.specs.Table.{flattened}
-use Rattle.tp_model.specs.Words.{Actor, Answer, Body, CommitRecord, Deed, DoneReply, Instance, Item, ItemId, Letter, Mail, Outcome, Query, Scenario, ServerId, Staple, TellReply, Transaction, Verdict, Vote, VoteReply}
+use Rattle.tp_model.specs.Words.{Actor, Answer, Body, Cause, CommitRecord, Decision, Deed, Denied, DoneReply, Instance, Item, ItemId, Letter, Mail, Outcome, Query, Scenario, ServerId, Staple, TellReply, Transaction, Verdict, Vote, VoteReply}
 use Rattle.tp_model.specs.Words.action
 use Rattle.tp_model.specs.Words.actor
 use Rattle.tp_model.specs.Words.answer
@@ -12,7 +12,8 @@ use Rattle.tp_model.specs.Words.body
 use Rattle.tp_model.specs.Words.decision
 use Rattle.tp_model.specs.Words.log
 use Rattle.tp_model.specs.Words.vote
-use Rattle.tp_types.specs.declared.records.Outcome.TheVariants.{Commit}
+use Rattle.tp_types.specs.declared.records.Outcome.TheVariants.{Abort, Commit}
+use Rattle.tp_model.specs.Words.cause
 use Rattle.tp_model.specs.Queries.{item_of, query_at, written_constant}
 use Rattle.tp_model.specs.Stage.{is_empty}
 use Rattle.tp_machine.specs.coord.State.{Coordinator}
@@ -181,17 +182,42 @@ commit_record c rounds proofs = record { rounds = rounds; instances = instances_
 abbrev pub decide_letters : Coordinator → Outcome → List Letter
 decide_letters c outcome = requests c (body.Decide (record { txn = c.txn; outcome = outcome })) c.servers
 
--- the commit is forced before it is sent to all of the transaction's servers
+-- the decision is forced before it is sent to all of the transaction's servers
+abbrev pub decides : Coordinator → Outcome → Decision → Effect Coordinator
+decides c outcome decided =
+    logs (record c { phase = phase.Ending outcome c.servers })
+    (log.Decided (record { txn = c.txn; decision = decided }))
+    (decide_letters c outcome)
+
+-- the transaction commits on these proofs, which close an instance
 abbrev pub commits : Coordinator → ℕ → List Verdict → Effect Coordinator
 commits c rounds proofs =
-    logs (record c { instances = instances_with c proofs; phase = phase.Ending Commit c.servers })
-    (log.Decided (record { txn = c.txn; decision = decision.Commit (commit_record c rounds proofs) }))
-    (decide_letters c Commit)
+    decides (record c { instances = instances_with c proofs }) Commit (decision.Commit (commit_record c rounds proofs))
 
--- a round in which all have replied is judged. One server's proofs that agree commit; proofs of several servers, a false one
--- and differing versions are not built
+-- the transaction aborts
+abbrev pub aborts : Coordinator → Cause → Effect Coordinator
+aborts c why = decides c Abort (decision.Abort why)
+
+abbrev pub is_false_verdict : Verdict → Bool
+is_false_verdict verdict = is_none verdict.rule
+
+-- the first false verdict, which is of the least query, as a server's verdicts go by query
+abbrev pub first_false : List Verdict → Option Verdict
+first_false verdicts = find is_false_verdict verdicts
+
+-- what a false verdict denies
+abbrev pub denied_by : Verdict → Denied
+denied_by verdict =
+    record { query = verdict.query; server = verdict.server; admin = verdict.admin; version = verdict.version; place = verdict.place }
+
+-- a false verdict denies; proofs that agree commit; and differing versions are not built
+abbrev pub on_verdicts : Coordinator → Round → List Verdict → Option Verdict → Effect Coordinator
+on_verdicts c round verdicts (Some denied) = aborts c (cause.Denied (denied_by denied))
+on_verdicts c round verdicts None = if are_agreed verdicts then commits c round.number verdicts else unbuilt c
+
+-- a round in which all have replied is judged. Replies of several servers are not built
 abbrev pub judgement : Coordinator → Round → List Verdict → Effect Coordinator
-judgement c round verdicts = if is_empty round.kept && are_agreed verdicts then commits c round.number verdicts else unbuilt c
+judgement c round verdicts = if is_empty round.kept then on_verdicts c round verdicts (first_false verdicts) else unbuilt c
 
 abbrev pub on_reply : Coordinator → Round → Staple → ServerId → List Verdict → List ServerId → Effect Coordinator
 on_reply c round staple server verdicts [] = judgement c round verdicts
