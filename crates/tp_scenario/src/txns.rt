@@ -26,7 +26,7 @@ fn path_of(at: usize, key: Key) -> Path
 }
 
 fn scheme_named(path: Path, text: &[u8]) -> Result<Scheme, WalkError>
-    ensures { Gives result (txns.scheme_named path text.now) }
+    ensures { Gives result (txns.scheme_or_range path text.now) }
 {
     if text == b"deferred".as_slice() {
         Ok(Scheme::Deferred)
@@ -42,7 +42,7 @@ fn scheme_named(path: Path, text: &[u8]) -> Result<Scheme, WalkError>
 }
 
 fn told_scheme(path: Path, value: Option<&Value>) -> Result<Scheme, WalkError>
-    ensures { Gives result (txns.told_scheme path (option_map (λ v. view v.now) value.entry)) }
+    ensures { Gives result (txns.scheme_in_text path (option_map (λ v. view v.now) value.entry)) }
 {
     let text = text_at(path, value)?;
     scheme_named(path, text)
@@ -60,7 +60,7 @@ fn scheme_at(path: Path, value: Option<&Value>) -> Result<Scheme, WalkError>
 }
 
 fn level_named(path: Path, text: &[u8]) -> Result<Level, WalkError>
-    ensures { Gives result (txns.level_named path text.now) }
+    ensures { Gives result (txns.level_or_range path text.now) }
 {
     if text == b"view".as_slice() {
         Ok(Level::View)
@@ -72,7 +72,7 @@ fn level_named(path: Path, text: &[u8]) -> Result<Level, WalkError>
 }
 
 fn told_level(path: Path, value: Option<&Value>) -> Result<Level, WalkError>
-    ensures { Gives result (txns.told_level path (option_map (λ v. view v.now) value.entry)) }
+    ensures { Gives result (txns.level_in_text path (option_map (λ v. view v.now) value.entry)) }
 {
     let text = text_at(path, value)?;
     level_named(path, text)
@@ -96,14 +96,14 @@ fn is_among(cred: CredId, made: &[CredId]) -> bool
 }
 
 /// A credential that is presented, after these.
-#[tactic(auto, unfolding(crate::specs::Txns::presented_at))]
+#[tactic(auto, unfolding(crate::specs::Txns::credential_at))]
 fn presented_at(
     path: Path,
     creds: &Names,
     made: &[CredId],
     value: &Value,
 ) -> Result<CredId, WalkError>
-    ensures { Gives result (txns.presented_at path creds.now made.now (view value.now)) }
+    ensures { Gives result (txns.credential_at path creds.now made.now (view value.now)) }
 {
     let cred = CredId(used_at(path, creds, Some(value))?);
     if is_among(cred, made) {
@@ -119,7 +119,7 @@ fn each_presented(
     at: usize,
     values: &[Value],
 ) -> Result<List<CredId>, WalkError>
-    ensures { Gives result (each (txns.presented_in creds.now at) [] (items_view values.now)) }
+    ensures { Gives result (each (txns.credential_in creds.now at) [] (items_view values.now)) }
 {
     let mut made = List::new(alloc);
     for value in values {
@@ -130,14 +130,14 @@ fn each_presented(
     Ok(made)
 }
 
-#[tactic(auto, unfolding(crate::specs::Txns::presented_by))]
+#[tactic(auto, unfolding(crate::specs::Txns::credentials_at))]
 fn presented_by(
     alloc: Global,
     creds: &Names,
     at: usize,
     value: Option<&Value>,
 ) -> Result<List<CredId>, WalkError>
-    ensures { Gives result (txns.presented_by creds.now at (option_map (λ v. view v.now) value.entry)) }
+    ensures { Gives result (txns.credentials_at creds.now at (option_map (λ v. view v.now) value.entry)) }
 {
     let values = items_or(path_of(at, Key::Credentials), 256, value)?;
     each_presented(alloc, creds, at, values)

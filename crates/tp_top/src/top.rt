@@ -25,10 +25,10 @@ pub fn tpvc<I: Source, O: Sink, N: Sink>(
     notes: &mut N,
 ) -> Status
     ensures ended { EndsWith result (record {
-        words = words.now;
-        input = record { old = I.left input.old; new = I.left input.new; faults_old = I.faults input.old; faults_new = I.faults input.new };
-        out = record { old = O.written out.old; new = O.written out.new; faults_old = O.faults out.old; faults_new = O.faults out.new };
-        notes = record { old = N.written notes.old; new = N.written notes.new; faults_old = N.faults notes.old; faults_new = N.faults notes.new };
+      words = words.now;
+      input = record { old = I.left input.old; new = I.left input.new; faults_old = I.faults input.old; faults_new = I.faults input.new };
+      out = record { old = O.written out.old; new = O.written out.new; faults_old = O.faults out.old; faults_new = O.faults out.new };
+      notes = record { old = N.written notes.old; new = N.written notes.new; faults_old = N.faults notes.old; faults_new = N.faults notes.new };
     }) }
 
     // Where no count rose, another command is answered by usage, and each cause in an input that is told by its status.

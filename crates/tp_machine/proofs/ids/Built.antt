@@ -1,6 +1,6 @@
 -- What the proofs of soundness take from a scenario. Here alone they lean on the form of scenarios that is built: where it
 -- widens, each field of IsValid is to be shown anew, and the last of them goes.
-use Rattle.std.proofs.lemmas.Bool.{and_parts}
+use Rattle.std.proofs.lemmas.Bool.{and_parts, eqb-true}
 use Rattle.std.proofs.Common.{◌≡◌, ℕ, List, [], ◌∷◌, length, Bool, true, false, not, ◌&&◌, ◌==◌, Option, Some, None, refl, sym, subst, ap, arith}
 use Rattle.std.specs.Cmp.Lexicographic.{pointwise}
 use Rattle.std.proofs.lemmas.Bool.Decides.{nat_tests}
@@ -26,10 +26,6 @@ pub record IsValid (sc : Scenario) : Type 0 where
   pub deferred : Each (λ (declared : Transaction). proves_each declared.scheme ≡ false) sc.txns
 
 -- ---- tests
-
--- a number that is tested for being 1 or 0 is that number
-pub number_is : (a b : ℕ) → (a == b) ≡ true → a ≡ b
-number_is a b e = grind (arith, nat_tests)
 
 -- ---- lists of one member
 
@@ -101,7 +97,7 @@ knows_valid admins server one e =
     let only_known : IsOnly (λ (version : Version). version.0 == 1) server.knows = single_is (λ (version : Version). version.0 == 1) server.knows known in
     let library : is_single is_open_policy one.member.library ≡ true = grind arith in
     let only_policy : IsOnly is_open_policy one.member.library = single_is is_open_policy one.member.library library in
-    let first : only_known.member.0 ≡ 1 = number_is only_known.member.0 1 only_known.passes in
+    let first : only_known.member.0 ≡ 1 = eqb-true only_known.member.0 1 only_known.passes in
     let count : length one.member.library ≡ 1 = count_of one.member.library only_policy.member only_policy.is_list in
     let fits : IsVersionOf one.member only_known.member = (omega (arith, first), omega (arith, first, count)) in
     let made : AreVersionsOf (one.member ∷ []) (only_known.member ∷ []) = (fits, tt) in
@@ -114,8 +110,8 @@ item_valid sc item one_server one_admin e =
     let server_is : (item.server.0 == 0) ≡ true = grind arith in
     let admin_is : (item.admin.0 == 0) ≡ true = grind arith in
     record {
-      server = omega (arith, number_is item.server.0 0 server_is, one_server);
-      admin = omega (arith, number_is item.admin.0 0 admin_is, one_admin);
+      server = omega (arith, eqb-true item.server.0 0 server_is, one_server);
+      admin = omega (arith, eqb-true item.admin.0 0 admin_is, one_admin);
     }
 
 deferred_proves : (s : Scheme) → is_deferred s ≡ true → proves_each s ≡ false

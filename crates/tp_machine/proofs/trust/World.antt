@@ -2,6 +2,10 @@
 use Rattle.std.specs.List.{cons_option, filter_map, sum_by}
 use Rattle.std.proofs.Common.{Bool, IfSome, List, None, Option, Some, [], ap, arith, length, option_and_then, refl, slice_get, subst, sym, true, ℕ, ◌++◌, ◌+◌, ◌<◌, ◌||◌, ◌∙◌, ◌∷◌, ◌≡◌, ◌≤◌}
 use Rattle.std.proofs.lemmas.List.Sums.{sum_by-append, sum_by-cons}
+use Rattle.std.proofs.lemmas.Bool.{or_left}
+use Rattle.std.proofs.lemmas.List.{append-nil, length_push}
+use Rattle.std.proofs.lemmas.List.Folds.{list_any-append}
+use Rattle.std.proofs.lemmas.List.Elements.{filter_map-append}
 use Rattle.tp_model.specs.Credentials.{is_among, revoked_by, revoked_what, ticks, ticks_what}
 use Rattle.tp_model.specs.Facts.{before, is_submission}
 use Rattle.tp_model.specs.Words.{Body, CredId, Decision, Fact, Instance, Letter, Mail, Scenario, Step, TxnId, Verdict, What}
@@ -14,8 +18,8 @@ use Rattle.tp_machine.specs.coord.State.{Coordinator}
 use Rattle.tp_machine.specs.declared.actors.Actors.{Actors}
 use Rattle.tp_machine.specs.offices.State.{Authority}
 use Rattle.tp_machine.specs.server.State.{Server}
-use Rattle.tp_machine.proofs.agreement.World.{Agrees, steps_more}
-use Rattle.tp_machine.proofs.basics.Facts.{ArePast, any_append, append_none, before_past, filter_map_append, grows_with_facts, new_facts_past, past_as}
+use Rattle.tp_machine.proofs.agreement.World.{Agrees}
+use Rattle.tp_machine.proofs.basics.Facts.{ArePast, before_past, grows_with_facts, new_facts_past, past_as}
 use Rattle.tp_machine.proofs.basics.Lists.{each_append, each_as}
 use Rattle.tp_machine.proofs.trust.Coordinator.{CoordinatorFits, DecisionFits}
 use Rattle.tp_machine.proofs.trust.Fit.{AuthorityFits, BodyFits, Later, MailFits, ServerFits, body_stays, maybe_stays, phase_stays, server_stays, verdicts_stay}
@@ -91,16 +95,13 @@ pub record MoveTrusts (sc : Scenario) (w : State) (move : Move) : Type 0 where
 
 -- ---- growth
 
-either_true : (a b : Bool) → a ≡ true → (a || b) ≡ true
-either_true a b e = grind arith
-
 -- the facts after a move are later ones
 pub later_with_facts : (w : State) (happened : List What) (high : ℕ) → length w.steps ≤ high → Later w.facts (facts_after w happened) (length w.steps) high
 later_with_facts w happened high le =
     record {
       grows = grows_with_facts w.facts (length w.steps) happened;
       le = le;
-      more = λ txn e. any_append (is_submission txn) w.facts (facts_of (length w.steps) happened) ∙ either_true _ _ e;
+      more = λ txn e. list_any-append (is_submission txn) w.facts (facts_of (length w.steps) happened) ∙ or_left _ _ e;
     }
 
 pub server_part_stays : (sc : Scenario) (old new : List Fact) (low high : ℕ) (T U : Body → Type 0) (part : Part Server) → Later old new low high → ((said : Body) → T said → U said)
@@ -216,8 +217,8 @@ authority_stays sc w happened authority past still h =
       revoked_is = λ cred. h.revoked_is cred
           ∙ (ap (λ (earlier : List Fact). is_among (filter_map revoked_by earlier) cred) was
           ∙ ap (λ (revoked : List CredId). is_among revoked cred)
-          (sym (filter_map_append revoked_by w.facts (facts_of place happened)
-          ∙ (ap (λ (more : List CredId). filter_map revoked_by w.facts ++ more) (no_revocation place happened still) ∙ append_none (filter_map revoked_by w.facts)))
+          (sym (filter_map-append revoked_by w.facts (facts_of place happened)
+          ∙ (ap (λ (more : List CredId). filter_map revoked_by w.facts ++ more) (no_revocation place happened still) ∙ append-nil (filter_map revoked_by w.facts)))
           ∙ ap (filter_map revoked_by) (sym all)));
     }
 
@@ -242,4 +243,4 @@ state_after_trusts sc w taken move a h t =
       facts_fit = each_append (FactFits sc now) w.facts (facts_of place move.happened) (facts_stay sc w.facts now place (place + 1) w.facts l a.past h.facts_fit)
           (new_facts_fit sc now place move.happened t.facts);
     } in
-    subst (λ (p : ℕ). TrustsAt sc now p move.actors mails) (sym (steps_more w.steps taken)) made
+    subst (λ (p : ℕ). TrustsAt sc now p move.actors mails) (sym (length_push w.steps taken)) made
