@@ -3,6 +3,8 @@ use Rattle.std.proofs.Common.{◌≡◌, Bool, true, false, ◌&&◌, ◌||◌, 
 use Rattle.std.proofs.lemmas.Bool.{and_parts}
 use Rattle.std.specs.List.{cons_option, filter_map, list_all, list_any}
 use Rattle.std.specs.Option.{option_map_or}
+use Rattle.std.proofs.Math.Bool.{and-false, and-true}
+use Rattle.tp_types.proofs.ListLemmas.{any_kept, one_shown}
 use Rattle.tp_model.specs.Words.{CredId, Credential, Fact, Scenario, Transaction, Verdict}
 use Rattle.tp_audit.specs.declared.credentials.Held.{Held}
 use Rattle.tp_audit.specs.mirrors.Programs.{held_by, is_proved, says, shows}
@@ -11,40 +13,13 @@ use Rattle.tp_model.specs.Credentials.{is_presented, is_valid, said_by, said_in,
 use Rattle.tp_model.specs.Ids.{same_name}
 use Rattle.tp_model.specs.Policies.{Triple}
 
-and_true : (b : Bool) → (b && true) ≡ b
-and_true true = refl
-and_true false = refl
-
-and_false : (b : Bool) → (b && false) ≡ false
-and_false true = refl
-and_false false = refl
-
-one_shown : {B : Type 0} (test : B → Bool) (shown : Option B) (ys : List B) → list_any test (cons_option shown ys) ≡ ((option_map_or test shown false && true) || list_any test ys)
-one_shown test None ys = refl
-one_shown test (Some y) ys = rw (and_true (test y)) refl
-
-one_kept : {A B : Type 0} (test : B → Bool) (shown : A → Option B) (x : A) (xs : List A) (b : Bool)
-    → list_any test (filter_map shown (cond b (x ∷ xs) xs)) ≡ ((option_map_or test (shown x) false && b) || list_any test (filter_map shown xs))
-one_kept test shown x xs true = one_shown test (shown x) (filter_map shown xs)
-one_kept test shown x xs false = rw (and_false (option_map_or test (shown x) false)) refl
-
 -- what is shown passes a test where a member shows it
 pub any_shown : {A B : Type 0} (test : B → Bool) (shown : A → Option B) (xs : List A) → list_any test (filter_map shown xs) ≡ list_any (λ x. option_map_or test (shown x) false) xs
 any_shown test shown [] = refl
 any_shown test shown (x ∷ xs) =
     one_shown test (shown x) (filter_map shown xs)
-    ∙ (ap (λ b. b || list_any test (filter_map shown xs)) (and_true (option_map_or test (shown x) false))
+    ∙ (ap (λ b. b || list_any test (filter_map shown xs)) (and-true (option_map_or test (shown x) false))
     ∙ ap (λ b. option_map_or test (shown x) false || b) (any_shown test shown xs))
-
--- what is shown by those that are kept passes a test where a member is kept and passes
-any_kept : {A B : Type 0} (test : B → Bool) (shown : A → Option B) (keeps passes : A → Bool)
-    → ((x : A) → option_map_or test (shown x) false ≡ passes x) → (xs : List A)
-    → list_any test (filter_map shown (filter keeps xs)) ≡ list_any (λ x. passes x && keeps x) xs
-any_kept test shown keeps passes same [] = refl
-any_kept test shown keeps passes same (x ∷ xs) =
-    one_kept test shown x (filter keeps xs) (keeps x)
-    ∙ ap (λ b. (option_map_or test (shown x) false && keeps x) || b) (any_kept test shown keeps passes same xs)
-    ∙ ap (λ b. (b && keeps x) || list_any (λ y. passes y && keeps y) xs) (same x)
 
 said : (test : Triple → Bool) (triple : Triple) (b : Bool) → option_map_or test (cond b (Some triple) None) false ≡ (b && test triple)
 said test triple true = refl
@@ -78,8 +53,8 @@ certified_where : (sc : Scenario) (facts : List Fact) (txn : Transaction) (verdi
 certified_where sc facts txn verdict true h =
     let same = filter_all (is_presented txn) (is_valid sc verdict.place facts) verdict.uses h in
     let proves : List CredId → Bool = λ creds. tests_version (rule_proves sc txn creds verdict.rule) sc txn verdict.query (policy_at sc verdict.admin verdict.version) in
-    ap proves same ∙ sym (and_true (proves verdict.uses))
-certified_where sc facts txn verdict false h = sym (and_false _)
+    ap proves same ∙ sym (and-true (proves verdict.uses))
+certified_where sc facts txn verdict false h = sym (and-false _)
 
 pub certified_by_valid : (sc : Scenario) (facts : List Fact) (txn : Transaction) (verdict : Verdict)
     → (list_all (is_usable sc verdict.place facts txn) verdict.uses && is_proved sc facts txn verdict) ≡ is_certified sc facts txn verdict

@@ -7,6 +7,8 @@ use Rattle.std.specs.Cmp.Lexicographic.{pointwise}
 use Rattle.std.specs.List.{fold}
 use Rattle.std.specs.Option.{option_map_or}
 use Rattle.std.specs.Ordering.{int_eq}
+use Rattle.std.proofs.Math.Bool.{and-false}
+use Rattle.tp_types.proofs.ListLemmas.{rest_at}
 use Rattle.tp_model.specs.Words.{Action, Deed, Item, Query, Transaction}
 use Rattle.tp_model.specs.Words.action
 use Rattle.tp_types.specs.declared.scenario.Query.TheVariants.{Read, Write}
@@ -15,10 +17,6 @@ use Rattle.tp_model.specs.Ids.{same_item}
 use Rattle.tp_model.specs.Limits.{is_between}
 use Rattle.tp_model.specs.Policies.{same_action}
 use Rattle.tp_model.specs.SerialRun.{are_in_range, cleared_registers, deeds_from, same_deed, serial_run, stored, stored_by}
-
-and_none : (b : Bool) → (b && false) ≡ false
-and_none true = refl
-and_none false = refl
 
 -- a first test that fails settles the whole, and one that passes leaves it to the others
 pub stops : (first others whole : Bool) → first ≡ false → (first && others) ≡ whole → false ≡ whole
@@ -71,10 +69,6 @@ stored_same deed number (Write item expr) registers store h =
 abbrev pub runs_from : ℕ → List Deed → List Query → List ℤ → List ℤ → Bool
 runs_from at deeds queries registers store = pointwise same_deed (drop at deeds) (deeds_from (at + 1) (drop at queries) registers store)
 
--- what is left from a place on
-dropped : {A : Type 0} (xs : List A) (at : ℕ) (x : A) → at < length xs → x ≡ get_or xs at x → drop at xs ≡ x ∷ drop (at + 1) xs
-dropped xs at x h e = rw add-one (drop-cons xs at x h ∙ ap (λ y. y ∷ drop (suc at) xs) (sym e))
-
 deeds_next : (number : ℕ) (query : Query) (queries : List Query) (registers store : List ℤ)
     → deeds_from number (query ∷ queries) registers store
     ≡ deed_of number query registers store ∷ deeds_from (number + 1) queries (registers_after query registers store) (store_after query registers store)
@@ -87,8 +81,8 @@ pub runs_next : (at : ℕ) (deeds : List Deed) (queries : List Query) (registers
     → runs_from at deeds queries registers store
     ≡ (same_deed deed (deed_of (at + 1) query registers store) && runs_from (at + 1) deeds queries (registers_after query registers store) (store_after query registers store))
 runs_next at deeds queries registers store deed query d q de qe =
-    ap (λ ds. pointwise same_deed ds (deeds_from (at + 1) (drop at queries) registers store)) (dropped deeds at deed d de)
-    ∙ ap (λ qs. pointwise same_deed (deed ∷ drop (at + 1) deeds) (deeds_from (at + 1) qs registers store)) (dropped queries at query q qe)
+    ap (λ ds. pointwise same_deed ds (deeds_from (at + 1) (drop at queries) registers store)) (rest_at deeds at deed d de)
+    ∙ ap (λ qs. pointwise same_deed (deed ∷ drop (at + 1) deeds) (deeds_from (at + 1) qs registers store)) (rest_at queries at query q qe)
     ∙ ap (pointwise same_deed (deed ∷ drop (at + 1) deeds)) (deeds_next (at + 1) query (drop (at + 1) queries) registers store)
 
 no_run : (number : ℕ) (deeds : List Deed) (queries : List Query) (registers store : List ℤ) → length deeds ≢ length queries
@@ -98,7 +92,7 @@ no_run number [] (query ∷ queries) registers store h = rw (deeds_next number q
 no_run number (deed ∷ deeds) [] registers store h = refl
 no_run number (deed ∷ deeds) (query ∷ queries) registers store h =
     let rest = no_run (number + 1) deeds queries (registers_after query registers store) (store_after query registers store) (λ e. h (ap suc e)) in
-    rw (deeds_next number query queries registers store, rest) (and_none (same_deed deed (deed_of number query registers store)))
+    rw (deeds_next number query queries registers store, rest) (and-false (same_deed deed (deed_of number query registers store)))
 
 -- more or fewer deeds than queries are no serial run
 pub no_serial_run : (deeds : List Deed) (txn : Transaction) (store : List ℤ) → length deeds ≢ length txn.queries
@@ -117,7 +111,7 @@ pub in_range_next : (at : ℕ) (items : List Item) (store : List ℤ) (item : It
     → are_in_range (drop at items) (drop at store)
     ≡ (option_map_or (is_between item.min item.max) (slice_get store at) false && are_in_range (drop (at + 1) items) (drop (at + 1) store))
 in_range_next at items store item h e =
-    ap (λ is. are_in_range is (drop at store)) (dropped items at item h e) ∙ rw add-one (in_range_at item (drop (suc at) items) store at)
+    ap (λ is. are_in_range is (drop at store)) (rest_at items at item h e) ∙ rw add-one (in_range_at item (drop (suc at) items) store at)
 
 -- one turn of a fold
 pub fold_turn : {A B : Type 0} (f : B → A → B) (start next whole : B) (xs : List A) (at : ℕ) (d : A) → at < length xs → next ≡ f start (get_or xs at d)

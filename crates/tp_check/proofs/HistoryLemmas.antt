@@ -3,6 +3,8 @@ use Rattle.std.proofs.Common.{◌≡◌, ℕ, Bool, true, false, ◌&&◌, ◌||
 use Rattle.std.proofs.lemmas.Bool.{and_parts}
 use Rattle.std.specs.List.{list_all}
 use Rattle.std.specs.Option.{option_map_or}
+use Rattle.std.proofs.Math.Bool.{and-false}
+use Rattle.std.proofs.lemmas.List.Elements.{filter_agree}
 use Rattle.tp_model.specs.Words.{Action, CredId, Fact, Item, Policy, Query, Scenario, Transaction, Verdict}
 use Rattle.tp_model.specs.Authorisation.{is_certified, is_usable, policy_at, rule_in, rule_proves, tests_item, tests_query, tests_version}
 use Rattle.tp_model.specs.Credentials.{held, held_in, is_presented, is_valid, is_valid_in, triples_in}
@@ -10,17 +12,9 @@ use Rattle.tp_model.specs.Policies.{rule_allows}
 use Rattle.tp_model.specs.Queries.{item_of, query_at}
 use Rattle.tp_check.specs.OfHistory.{IsAt, is_checked_of, is_verdict_checked}
 
-and_false : (b : Bool) → (b && false) ≡ false
-and_false true = refl
-and_false false = refl
-
 pub valid_there : (sc : Scenario) (place : ℕ) (facts : List Fact) (now : ℕ) (revoked : List CredId) → IsAt sc place facts now revoked
     → (cred : CredId) → is_valid_in sc.creds now revoked cred ≡ is_valid sc place facts cred
 valid_there sc place facts now revoked is cred = rw (is.clock, is.revocations cred) refl
-
-kept_alike : {A : Type 0} (one other : A → Bool) → ((x : A) → one x ≡ other x) → (xs : List A) → filter one xs ≡ filter other xs
-kept_alike one other same [] = refl
-kept_alike one other same (x ∷ xs) = rw (same x, kept_alike one other same xs) refl
 
 all_alike : {A : Type 0} (one other : A → Bool) → ((x : A) → one x ≡ other x) → (xs : List A) → list_all one xs ≡ list_all other xs
 all_alike one other same [] = refl
@@ -28,7 +22,7 @@ all_alike one other same (x ∷ xs) = rw (same x, all_alike one other same xs) r
 
 both_first : (a b c d e : Bool) → e ≡ (c && d) → ((a && b) && e) ≡ ((a && c) && (b && d))
 both_first true true c d e same = same
-both_first true false c d e same = sym (and_false c)
+both_first true false c d e same = sym (and-false c)
 both_first false b c d e same = refl
 
 all_both : {A : Type 0} (one other : A → Bool) (xs : List A) → list_all (λ x. one x && other x) xs ≡ (list_all one xs && list_all other xs)
@@ -38,7 +32,7 @@ all_both one other (x ∷ xs) = both_first (one x) (other x) (list_all one xs) (
 pub held_there : (sc : Scenario) (place : ℕ) (facts : List Fact) (now : ℕ) (revoked : List CredId) → IsAt sc place facts now revoked
     → (txn : Transaction) → held_in sc.creds txn.subject now revoked txn.creds ≡ held sc place facts txn
 held_there sc place facts now revoked is txn =
-    ap (triples_in sc.creds txn.subject) (kept_alike (is_valid_in sc.creds now revoked) (is_valid sc place facts) (valid_there sc place facts now revoked is) txn.creds)
+    ap (triples_in sc.creds txn.subject) (filter_agree (is_valid_in sc.creds now revoked) (is_valid sc place facts) (valid_there sc place facts now revoked is) txn.creds)
 
 kept_all : {A : Type 0} (keeps : A → Bool) (xs : List A) → list_all keeps xs ≡ true → filter keeps xs ≡ xs
 kept_all keeps [] all = refl
@@ -72,7 +66,7 @@ checked_where : (sc : Scenario) (txn : Transaction) (now : ℕ) (revoked uses : 
 checked_where sc txn now revoked uses rule asked item policy true e =
     ap (λ creds. option_map_or (rule_allows asked item (triples_in sc.creds txn.subject creds)) (rule_in policy rule) false && true)
     (kept_all (is_valid_in sc.creds now revoked) uses e)
-checked_where sc txn now revoked uses rule asked item policy false e = and_false _ ∙ sym (and_false _)
+checked_where sc txn now revoked uses rule asked item policy false e = and-false _ ∙ sym (and-false _)
 
 checked_one : (sc : Scenario) (txn : Transaction) (now : ℕ) (revoked uses : List CredId) (rule : Option ℕ) (asked : Action) (item : List ℕ) (policy : Policy)
     → is_checked_of sc txn now revoked rule uses asked item policy

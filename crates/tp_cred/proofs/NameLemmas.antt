@@ -8,37 +8,13 @@ use Rattle.std.proofs.lemmas.List.FromFn.{filter_of_map_range_with_len_more}
 use Rattle.std.proofs.lemmas.Option.{slice_get_read}
 use Rattle.std.proofs.lemmas.Map.Keys.{IsDistinct-push}
 use Rattle.std.specs.List.{IsDistinct, list_any, position, position_or_len, range_with_len}
+use Rattle.tp_types.proofs.ListLemmas.{none_passes}
 use Rattle.tp_model.specs.Words.{Credential}
 use Rattle.tp_model.specs.Ids.{same_name}
 use Rattle.tp_cred.specs.Names.{IsStore, names_of}
 use Rattle.tp_cred.specs.Store.{id_at, is_named, is_of, is_of_at}
 
 -- ---- names
-
-none_at : {X : Type 0} (p : X → Bool) (x : X) (xs : List X) (passes : Bool) → p x ≡ passes
-    → (position p xs ≡ None → list_any p xs ≡ false) → position p (x ∷ xs) ≡ None → list_any p (x ∷ xs) ≡ false
-none_at p x xs true e rest none =
-    let t : nat_lt 0 (suc (length xs)) ≡ true = grind (arith, nat_tests) in
-    let shown : position p (x ∷ xs) ≡ cond (nat_lt 0 (suc (length xs))) (Some 0) None = rw e refl in
-    let some = rw t at shown in
-    cc
-none_at p x xs false e rest none =
-    let n = position_or_len p xs in
-    elim (cases_lt n (length xs)) [
-      | inl under ↦
-          let t : nat_lt (1 + n) (suc (length xs)) ≡ true = grind (arith, nat_tests) in
-          let shown : position p (x ∷ xs) ≡ cond (nat_lt (1 + n) (suc (length xs))) (Some (1 + n)) None = rw e refl in
-          let some = rw t at shown in
-          cc
-      | inr over ↦
-          let t : nat_lt n (length xs) ≡ false = grind (arith, nat_tests) in
-          let past : position p xs ≡ None = rw t refl in
-          rw e (rest past)
-    ]
-
-none_passes : {X : Type 0} (p : X → Bool) (xs : List X) → position p xs ≡ None → list_any p xs ≡ false
-none_passes p [] none = refl
-none_passes p (x ∷ xs) none = none_at p x xs (p x) refl (none_passes p xs) none
 
 any_named : (name : List ℕ) (store : List Credential) → list_any (same_name name) (names_of store) ≡ list_any (is_named name) store
 any_named name [] = refl

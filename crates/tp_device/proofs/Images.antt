@@ -1,7 +1,7 @@
 -- What a crash of the disk in memory leaves is one of the images that it may leave.
 use Rattle.std.proofs.Common.{◌≡◌, ◌⊎◌, inl, inr, ℕ, ◌+◌, ◌-◌, ◌<◌, ◌≤◌, List, [], ◌∷◌, ◌++◌, take, drop, length, get_or, Bool, true, false, refl, ap, ◌∙◌, arith}
 use Rattle.std.specs.Prelude.{min, replicate, ◌&&◌, ◌||◌, nat_le, nat_lt, slice_index}
-use Rattle.std.proofs.lemmas.Bool.{cases_lt, le-leb, lt-ltb}
+use Rattle.std.proofs.lemmas.Bool.{and_from, cases_lt, le-leb, lt-ltb, or_parts}
 use Rattle.std.proofs.lemmas.List.{length-append, length-take, length-drop, length-replicate, get_or_append_left, get_or-append_right, get_or-take, get_or-drop}
 use Rattle.tp_device.specs.declared.span.Span.{Span}
 use Rattle.tp_device.specs.Disks.{DiskState, MayLeave, is_touched, is_within}
@@ -13,15 +13,11 @@ length-with_blank fill seen span =
     let to = min (span.at + span.len) (length seen) in
     omega (arith, length-append (take from seen) (replicate (to - from) fill ++ drop to seen), length-append (replicate (to - from) fill) (drop to seen), length-take from seen, length-replicate (to - from) fill, length-drop to seen)
 
-both_true : (a b : Bool) → a ≡ true → b ≡ true → (a && b) ≡ true
-both_true true b ea eb = eb
-both_true false b ea eb = absurd cc
-
 outside : (i : ℕ) (span : Span) → is_within i span ≡ false → (i < span.at) ⊎ (span.at + span.len ≤ i)
 outside i span none = elim (cases_lt i span.at) [
   | inl lt ↦ inl lt
   | inr le ↦ elim (cases_lt i (span.at + span.len)) [
-    | inl lt ↦ absurd (cc (none, both_true (nat_le span.at i) (nat_lt i (span.at + span.len)) (le-leb span.at i le) (lt-ltb i (span.at + span.len) lt)))
+    | inl lt ↦ absurd (cc (none, and_from (nat_le span.at i) (nat_lt i (span.at + span.len)) (le-leb span.at i le) (lt-ltb i (span.at + span.len) lt)))
     | inr past ↦ inr past
   ]
 ]
@@ -49,14 +45,10 @@ length-with_blanks : (fill : ℕ) (seen : List ℕ) (spans : List Span) → leng
 length-with_blanks fill seen [] = refl
 length-with_blanks fill seen (span ∷ spans) = length-with_blanks fill (with_blank fill seen span) spans ∙ length-with_blank fill seen span
 
-neither : (a b : Bool) → (a || b) ≡ false → (a ≡ false) × (b ≡ false)
-neither true b e = absurd cc
-neither false b e = (refl, e)
-
 with_blanks_other : (fill : ℕ) (seen : List ℕ) (spans : List Span) (i : ℕ) → i < length seen → is_touched spans i ≡ false → slice_index (with_blanks fill seen spans) i ≡ slice_index seen i
 with_blanks_other fill seen [] i lt none = refl
 with_blanks_other fill seen (span ∷ spans) i lt none =
-    let both = neither (is_within i span) (is_touched spans i) none in
+    let both = or_parts (is_within i span) (is_touched spans i) none in
     with_blanks_other fill (with_blank fill seen span) spans i (omega (arith, length-with_blank fill seen span)) both.1 ∙ with_blank_other fill seen span i lt both.0
 
 pub crash_image : (fill : ℕ) (s : DiskState) → s.least ≤ length s.seen → length s.seen ≤ s.greatest → MayLeave s (with_blanks fill s.seen s.written)

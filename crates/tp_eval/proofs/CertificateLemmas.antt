@@ -1,12 +1,13 @@
 -- The certificate of a policy exists exactly where the policy allows, and passes the check.
 use Rattle.std.proofs.Common.{◌≡◌, ◌+◌, ℕ, suc, Bool, true, false, ◌&&◌, cond as if_so, List, [], ◌∷◌, ◌++◌, option_map, Option, Some, None, IfSome, slice_get, arith, refl, ap, sym, subst, ◌∙◌}
-use Rattle.std.proofs.lemmas.Bool.{and_parts}
+use Rattle.std.proofs.lemmas.Bool.{and_parts, or_right}
 use Rattle.std.proofs.lemmas.List.Folds.{list_any-append}
 use Rattle.std.proofs.lemmas.Map.Keys.{IsDistinct-push}
 use Rattle.std.specs.Cmp.{IsEquivalence}
 use Rattle.std.proofs.lemmas.Cmp.{nat_eq_equiv, on_equiv}
 use Rattle.std.specs.List.{IsDistinct, list_all, list_any}
 use Rattle.std.specs.Option.{is_some, option_map_or, option_or}
+use Rattle.tp_types.proofs.ListLemmas.{all_push}
 use Rattle.tp_model.specs.Words.{Action, CredId, Policy, Rule}
 use Rattle.tp_model.specs.Authorisation.{rule_in}
 use Rattle.tp_model.specs.Ids.{same_cred}
@@ -17,20 +18,14 @@ use Rattle.tp_cred.specs.Validity.{shows_in}
 use Rattle.tp_eval.specs.declared.policies.Certificate.{Certificate}
 use Rattle.tp_eval.specs.Taken.{certificate, certificate_of, first_certificate, once, taken_by_rule, with_cred}
 use Rattle.tp_eval.proofs.OnceLemmas.{begins_itself, begins_once}
-use Rattle.tp_eval.proofs.SoundLemmas.{Asked, Decides, is_sound, is_true_of, is_usable, or_right, same_as_itself, takes}
+use Rattle.tp_eval.proofs.SoundLemmas.{Asked, Decides, is_sound, is_true_of, is_usable, same_as_itself, takes}
 
 -- ---- each once
-
-all_then : (test : CredId → Bool) (uses : List CredId) (cred : CredId) → list_all test uses ≡ true → test cred ≡ true → list_all test (uses ++ cred ∷ []) ≡ true
-all_then test [] cred all here = rw here refl
-all_then test (first ∷ uses) cred all here =
-    let parts = and_parts (test first) (list_all test uses) all in
-    rw (parts.0, all_then test uses cred parts.1 here) refl
 
 all_with : (test : CredId → Bool) (uses : List CredId) (cred : CredId) (there : Bool) → list_all test uses ≡ true → test cred ≡ true
     → list_all test (if_so there uses (uses ++ cred ∷ [])) ≡ true
 all_with test uses cred true all here = all
-all_with test uses cred false all here = all_then test uses cred all here
+all_with test uses cred false all here = all_push test uses cred all here
 
 -- what is true of all is true of those that stand once
 all_once : (test : CredId → Bool) (uses creds : List CredId) → list_all test uses ≡ true → list_all test creds ≡ true → list_all test (once uses creds) ≡ true

@@ -1,9 +1,10 @@
 -- What a condition takes makes it true, and where it takes none it is false.
 use Rattle.std.proofs.Common.{◌≡◌, ℕ, Bool, true, false, ◌&&◌, ◌||◌, List, [], ◌∷◌, map, option_map, Option, Some, None, refl, ap, sym, subst, ◌∙◌, cond as if_so}
-use Rattle.std.proofs.lemmas.Bool.{and_parts, eq-eqb, eqb-true}
+use Rattle.std.proofs.lemmas.Bool.{and_parts, eq-eqb, eqb-true, or_right}
 use Rattle.std.proofs.lemmas.List.Folds.{list_all-append}
 use Rattle.std.specs.List.{find, list_all, list_any}
 use Rattle.std.specs.Option.{option_map_or, option_or}
+use Rattle.std.proofs.Math.Bool.{and-false}
 use Rattle.tp_model.specs.Words.{Cond, CredId, Credential, Op, Value}
 use Rattle.tp_model.specs.Words.cond
 use Rattle.tp_types.specs.declared.policy.Cond.{map-Cond, roll-Cond}
@@ -51,14 +52,6 @@ Decides asked statement (Some creds) = Suffices asked statement creds
 
 same_id : (one other : CredId) → same_cred one other ≡ true → one ≡ other
 same_id one other same = ap (λ (n : ℕ). record { 0 = n }) (eqb-true one.0 other.0 same)
-
-pub or_right : (b c : Bool) → c ≡ true → (b || c) ≡ true
-or_right true c h = refl
-or_right false c h = h
-
-and_false : (b : Bool) → (b && false) ≡ false
-and_false true = refl
-and_false false = refl
 
 -- a list that has a credential that passes has one that passes
 passes_among_where : (test : CredId → Bool) (cred first : CredId) (uses : List CredId) (same : Bool) → same_cred cred first ≡ same
@@ -123,7 +116,7 @@ no_members_decide asked = record { usable = refl; enough = λ uses among. refl }
 and_decides : (asked : Asked) (first others : List CredId → Bool) (taken_first taken_others : Option (List CredId))
     → Decides asked first taken_first → Decides asked others taken_others → Decides asked (λ uses. first uses && others uses) (and_others taken_first taken_others)
 and_decides asked first others None taken_others one rest = rw one refl
-and_decides asked first others (Some creds) None one rest = rw rest (and_false (first asked.presented))
+and_decides asked first others (Some creds) None one rest = rw rest (and-false (first asked.presented))
 and_decides asked first others (Some creds) (Some more) one rest = record {
   usable = list_all-append (is_usable asked) creds more ∙ rw (one.usable, rest.usable) refl;
   enough = λ uses among.

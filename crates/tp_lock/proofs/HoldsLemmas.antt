@@ -1,6 +1,6 @@
 -- Who is granted a lock holds one that serves, and keeps it until its own release.
 use Rattle.std.proofs.Common.{◌≡◌, ℕ, Bool, true, false, not, ◌&&◌, ◌||◌, cond, List, [], ◌∷◌, ◌++◌, filter, refl, ap, sym, ◌∙◌, arith}
-use Rattle.std.proofs.lemmas.Bool.{eq-eqb, eqb-true}
+use Rattle.std.proofs.lemmas.Bool.{and_parts, eq-eqb, eqb-true, or_left, or_right}
 use Rattle.std.proofs.lemmas.List.Folds.{list_any-append}
 use Rattle.std.proofs.lemmas.List.Elements.{All-append, All-cons, All-nil, All-weaker, Contains-append_right}
 use Rattle.std.proofs.lemmas.Map.Views.{any-filter_same}
@@ -14,17 +14,8 @@ use Rattle.tp_lock.specs.declared.entry.Grant.{Grant}
 use Rattle.tp_lock.specs.declared.entry.LockEntry.{LockEntry}
 use Rattle.tp_lock.specs.Laws.{IsGrantFor}
 use Rattle.tp_lock.specs.Rule.{answer, answer_to_new, grant_of, grants_from, grants_in, is_clear, is_granted, is_of, is_of_other, is_write, left_by, lock_of, serves, with_answer, with_grant, with_grants_from, with_lock}
-use Rattle.tp_lock.proofs.OrderLemmas.{both_parts}
 
 -- ---- tests
-
-or_right : (b c : Bool) → c ≡ true → (b || c) ≡ true
-or_right true c e = refl
-or_right false c e = e
-
-or_left : (b c : Bool) → b ≡ true → (b || c) ≡ true
-or_left true c e = refl
-or_left false c e = cc
 
 either : (b c d e : Bool) → (b ≡ true → d ≡ true) → (c ≡ true → e ≡ true) → (b || c) ≡ true → (d || e) ≡ true
 either true c d e left right h = or_left d e (left refl)
@@ -109,7 +100,7 @@ kept_by_release holder held owner entries apart e =
     kept_with_grant holder held [] (filter (is_of_other owner) entries)
     (any-filter_same (serves holder held) (is_of_other owner) true
     (λ entry serving. other_where holder owner entry (is_of owner entry) refl apart
-    (both_parts (is_of holder entry) (is_write entry.mode || not (is_write held)) (both_parts entry.held (is_of holder entry && (is_write entry.mode || not (is_write held))) serving).1).0)
+    (and_parts (is_of holder entry) (is_write entry.mode || not (is_write held)) (and_parts entry.held (is_of holder entry && (is_write entry.mode || not (is_write held))) serving).1).0)
     entries ∙ e)
 
 -- ---- a grant

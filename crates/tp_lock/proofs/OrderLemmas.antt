@@ -9,14 +9,6 @@ use Rattle.tp_lock.specs.Rule.{conflicts}
 
 -- ---- tests
 
-pub or_parts : (b c : Bool) → (b || c) ≡ false → (b ≡ false) × (c ≡ false)
-or_parts true c e = (e, cc)
-or_parts false c e = (refl, e)
-
-pub both_parts : (b c : Bool) → (b && c) ≡ true → (b ≡ true) × (c ≡ true)
-both_parts true c e = (refl, e)
-both_parts false c e = (e, cc)
-
 pub not_false : (b c : Bool) → b ≡ not c → b ≡ true → c ≡ false
 not_false b true e t = cc
 not_false b false e t = refl

@@ -3,6 +3,8 @@ use Rattle.std.proofs.Common.{◌≡◌, ℕ, suc, Bool, true, false, not, ◌&&
 use Rattle.std.proofs.lemmas.List.Elements.{All-map, All-weaker}
 use Rattle.std.proofs.lemmas.List.Folds.{list_all-append, list_any-append}
 use Rattle.std.specs.List.{cons_option, enumerate_from, filter_map, flat_map, list_any, zip}
+use Rattle.std.proofs.lemmas.Bool.{and_parts, or_left, or_parts}
+use Rattle.std.proofs.Math.Bool.{or-false}
 use Rattle.tp_types.specs.declared.ids.TxnId.{TxnId}
 use Rattle.tp_types.specs.declared.policy.Action.{Action}
 use Rattle.tp_lock.specs.declared.entry.Grant.{Grant}
@@ -11,7 +13,6 @@ use Rattle.tp_lock.specs.Laws.{AreGrown, IsUntouched, grant_between}
 use Rattle.tp_lock.specs.Order.{AreOrderly, EachAfter, IsOrderly, IsRight, WaitsForYounger, all_let_wait, lets_wait}
 use Rattle.tp_lock.specs.Rule.{after_release, conflicts, grant_of, grants_from, grants_in, grants_of, is_clear, is_granted, is_of, is_of_other, left_by, with_grant, with_grants_from, without_grant}
 use Rattle.tp_lock.specs.Table.{Table}
-use Rattle.tp_lock.proofs.OrderLemmas.{both_parts, or_parts}
 
 -- ---- the owner
 
@@ -34,14 +35,10 @@ owner_is_gone owner entries = any_with_grant owner [] (filter (is_of_other owner
 
 -- ---- others
 
-held_stays : (held granted : Bool) → held ≡ true → (held || granted) ≡ true
-held_stays true granted e = refl
-held_stays false granted e = cc
-
 grown : (earlier entries : List LockEntry) → AreGrown entries (with_grants_from earlier entries)
 grown earlier [] = tt
 grown earlier (entry ∷ entries) =
-    (record { same = refl; stays = held_stays entry.held (is_granted earlier entry) }, grown (earlier ++ with_grant earlier entry ∷ []) entries)
+    (record { same = refl; stays = or_left entry.held (is_granted earlier entry) }, grown (earlier ++ with_grant earlier entry ∷ []) entries)
 
 -- the entries of other owners stay, but that some are held now
 pub others_stay : (owner : TxnId) (entries : List LockEntry) → AreGrown (filter (is_of_other owner) entries) (left_by owner entries)
@@ -104,14 +101,10 @@ not_granted : (held clear : Bool) → held ≡ clear → (not held && clear) ≡
 not_granted true clear e = refl
 not_granted false clear e = sym e
 
-or_false : (b : Bool) → (b || false) ≡ b
-or_false true = refl
-or_false false = refl
-
 with_grant_right : (earlier : List LockEntry) (entry : LockEntry) → IsRight earlier entry → with_grant earlier entry ≡ entry
 with_grant_right earlier entry right =
     ap (λ g. let new : LockEntry = record entry { held = entry.held || g } in new) (not_granted entry.held (is_clear earlier entry) right)
-    ∙ ap (λ b. let new : LockEntry = record entry { held = b } in new) (or_false entry.held)
+    ∙ ap (λ b. let new : LockEntry = record entry { held = b } in new) (or-false entry.held)
 
 with_grant_same : (earlier entries : List LockEntry) → EachAfter IsRight earlier entries → with_grants_from earlier entries ≡ entries
 with_grant_same earlier [] right = refl
@@ -144,7 +137,7 @@ record Stands (before left : List LockEntry) : Type 0 where
 stands_gone : (before left : List LockEntry) (entry : LockEntry) → Stands before left → Stands (before ++ entry ∷ []) left
 stands_gone before left entry stands = record {
   clear = λ owner mode none. stands.clear owner mode (or_parts (list_any (conflicts owner mode) before) (list_any (conflicts owner mode) (entry ∷ [])) (rw list_any-append at none)).0;
-  younger = λ owner age mode all. stands.younger owner age mode (both_parts (all_let_wait owner age mode before) (all_let_wait owner age mode (entry ∷ [])) (rw list_all-append at all)).0;
+  younger = λ owner age mode all. stands.younger owner age mode (and_parts (all_let_wait owner age mode before) (all_let_wait owner age mode (entry ∷ [])) (rw list_all-append at all)).0;
 }
 
 stands_kept : (before left : List LockEntry) (entry : LockEntry) → Stands before left → Stands (before ++ entry ∷ []) (left ++ with_grant left entry ∷ [])
@@ -154,7 +147,7 @@ stands_kept before left entry stands = record {
       list_any-append (conflicts owner mode) left (with_grant left entry ∷ [])
       ∙ ap (λ b. b || list_any (conflicts owner mode) (entry ∷ [])) (stands.clear owner mode parts.0) ∙ parts.1;
   younger = λ owner age mode all.
-      let parts = both_parts (all_let_wait owner age mode before) (all_let_wait owner age mode (entry ∷ [])) (rw list_all-append at all) in
+      let parts = and_parts (all_let_wait owner age mode before) (all_let_wait owner age mode (entry ∷ [])) (rw list_all-append at all) in
       list_all-append (lets_wait owner age mode) left (with_grant left entry ∷ [])
       ∙ ap (λ b. b && all_let_wait owner age mode (entry ∷ [])) (stands.younger owner age mode parts.0) ∙ parts.1;
 }

@@ -1,6 +1,6 @@
 -- The four cases of a request, and that a request keeps the lists orderly.
 use Rattle.std.proofs.Common.{◌≡◌, ℕ, Bool, true, false, not, ◌&&◌, ◌||◌, cond, List, [], ◌∷◌, Option, Some, None, get_or, inl, inr, length, refl, ap, sym, ◌∙◌, arith}
-use Rattle.std.proofs.lemmas.Bool.{cases_lt}
+use Rattle.std.proofs.lemmas.Bool.{and_parts, cases_lt, or_parts}
 use Rattle.std.proofs.lemmas.Bool.Decides.{nat_tests}
 use Rattle.std.proofs.lemmas.List.{get_or_past}
 use Rattle.std.proofs.lemmas.List.Elements.{All-replicate, All-set}
@@ -14,7 +14,7 @@ use Rattle.tp_lock.specs.Laws.{AgesAreOrdered, NobodyIsOlderThanItself, OlderTha
 use Rattle.tp_lock.specs.Order.{AreOrderly, IsOrderly, IsRight, WaitsForYounger, all_let_wait, is_younger, lets_wait}
 use Rattle.tp_lock.specs.Rule.{after_request, conflicts, is_elder, is_of_other, is_older, is_write, lock_of, opening, serves, waits_or_dies, with_answer, with_lock}
 use Rattle.tp_lock.specs.Table.{Table}
-use Rattle.tp_lock.proofs.OrderLemmas.{both_parts, each_push, or_parts}
+use Rattle.tp_lock.proofs.OrderLemmas.{each_push}
 
 pub ages_are_ordered : AgesAreOrdered
 ages_are_ordered owner age entry other = grind (arith, nat_tests)
@@ -29,7 +29,7 @@ older_than_the_older first second third e f = grind (arith, nat_tests)
 younger_where : (owner : TxnId) (age : ℕ) (mode : Action) (entry : LockEntry) → conflicts owner mode entry ≡ true
     → is_younger owner age entry ≡ not (is_older owner age entry)
 younger_where owner age mode entry conflict =
-    ages_are_ordered owner age entry (both_parts (is_of_other owner entry) (is_write mode || is_write entry.mode) conflict).0
+    ages_are_ordered owner age entry (and_parts (is_of_other owner entry) (is_write mode || is_write entry.mode) conflict).0
 
 lets_where : (conflict older younger : Bool) → (conflict ≡ true → younger ≡ not older) → (conflict && older) ≡ false → (not conflict || younger) ≡ true
 lets_where true older younger is none = is refl ∙ ap not none
@@ -57,7 +57,7 @@ pub all_younger : (owner : TxnId) (age : ℕ) (mode : Action) (entries : List Lo
     → all_let_wait owner age mode entries ≡ true → find (is_elder owner age mode) entries ≡ None
 all_younger owner age mode [] all = refl
 all_younger owner age mode (entry ∷ entries) all =
-    let parts = both_parts (lets_wait owner age mode entry) (all_let_wait owner age mode entries) all in
+    let parts = and_parts (lets_wait owner age mode entry) (all_let_wait owner age mode entries) all in
     let none : is_elder owner age mode entry ≡ false =
     none_where (conflicts owner mode entry) (is_older owner age entry) (is_younger owner age entry) (younger_where owner age mode entry) parts.0 in
     ap (λ b. cond b (Some entry) (find (is_elder owner age mode) entries)) none ∙ all_younger owner age mode entries parts.1

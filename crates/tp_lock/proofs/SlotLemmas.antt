@@ -4,12 +4,9 @@ use Rattle.std.proofs.lemmas.List.{drop_more, take_more, set_split}
 use Rattle.std.proofs.lemmas.Option.{get_or_from_slice_get, slice_get_cases, slice_get_within}
 use Rattle.std.specs.List.{find}
 use Rattle.std.specs.Option.{option_and_then}
+use Rattle.tp_types.proofs.ListLemmas.{rest_at}
 use Rattle.tp_lock.specs.declared.slots.Slot.{Slot}
 use Rattle.tp_lock.specs.mirrors.Slots.{is_untold, told_first, untold_of}
-
--- the rest of a list, by the member at a place
-pub rest_at : {X : Type 0} (xs : List X) (at : ℕ) (x : X) → at < length xs → x ≡ get_or xs at x → drop at xs ≡ x ∷ drop (at + 1) xs
-rest_at xs at x lt here = drop_more xs at x lt ∙ ap (λ y. y ∷ drop (at + 1) xs) (sym here)
 
 -- ---- the first slot that is not told
 

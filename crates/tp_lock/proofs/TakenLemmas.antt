@@ -3,6 +3,7 @@ use Rattle.std.proofs.Common.{◌≡◌, ℕ, zero, suc, Bool, true, false, not,
 use Rattle.std.proofs.lemmas.List.{drop_all, drop_more, length-set, set_split, take_all}
 use Rattle.std.proofs.lemmas.List.Folds.{list_all_more}
 use Rattle.std.specs.List.{find, list_all}
+use Rattle.std.proofs.lemmas.Bool.{and_parts, not-true}
 use Rattle.tp_types.specs.declared.ids.TxnId.{TxnId}
 use Rattle.tp_types.specs.declared.list.NoMemory.{NoMemory}
 use Rattle.tp_types.specs.declared.policy.Action.{Action}
@@ -12,12 +13,7 @@ use Rattle.tp_lock.specs.declared.slots.Slot.{Slot}
 use Rattle.tp_lock.specs.Rule as rule
 use Rattle.tp_lock.specs.mirrors.Slots as mirror
 use Rattle.tp_lock.specs.mirrors.Slots.{AreKept, are_told, entries_of, first_in, first_of, is_untold, shown, told_first, told_lists, untold, with_slot}
-use Rattle.tp_lock.proofs.OrderLemmas.{both_parts}
 use Rattle.tp_lock.proofs.ShownLemmas.{same_table}
-
-not_true : (b : Bool) → not b ≡ true → b ≡ false
-not_true true e = cc
-not_true false e = refl
 
 -- ---- a grant that is taken
 
@@ -114,16 +110,16 @@ first_after : (from at sum : ℕ) (lists : List (List Slot)) → from + at ≡ s
 first_after from zero sum lists e told = let same : sum ≡ from = omega arith in ap (λ n. first_of n lists) same
 first_after from (suc at) sum [] e told = refl
 first_after from (suc at) sum (slots ∷ lists) e told =
-    let parts = both_parts (are_told slots) (list_all are_told (take at lists)) told in
-    let none : is_some (find is_untold slots) ≡ false = not_true (is_some (find is_untold slots)) parts.0 in
+    let parts = and_parts (are_told slots) (list_all are_told (take at lists)) told in
+    let none : is_some (find is_untold slots) ≡ false = not-true (is_some (find is_untold slots)) parts.0 in
     first_after (suc from) at sum lists (omega arith) parts.1 ∙ sym (ap (λ b. cond b (first_in from slots) (first_of (suc from) lists)) none)
 
 lists_after : (at : ℕ) (lists : List (List Slot)) → list_all are_told (take at lists) ≡ true → take at lists ++ told_lists (drop at lists) ≡ told_lists lists
 lists_after zero lists told = refl
 lists_after (suc at) [] told = refl
 lists_after (suc at) (slots ∷ lists) told =
-    let parts = both_parts (are_told slots) (list_all are_told (take at lists)) told in
-    let none : is_some (find is_untold slots) ≡ false = not_true (is_some (find is_untold slots)) parts.0 in
+    let parts = and_parts (are_told slots) (list_all are_told (take at lists)) told in
+    let none : is_some (find is_untold slots) ≡ false = not-true (is_some (find is_untold slots)) parts.0 in
     ap (λ s. slots ∷ s) (lists_after at lists parts.1) ∙ sym (ap (λ b. cond b (told_first slots ∷ lists) (slots ∷ told_lists lists)) none)
 
 are_passed : (lists : List (List Slot)) (at : ℕ) → list_all are_told (take at lists) ≡ true → ArePassed lists at

@@ -1,7 +1,7 @@
 -- Images that differ from known bytes in one range alone.
 use Rattle.std.proofs.Common.{◌≡◌, ◌≢◌, ◌⊎◌, inl, inr, ℕ, ◌+◌, ◌-◌, ◌<◌, ◌≤◌, List, [], ◌∷◌, ◌++◌, take, drop, length, get_or, Bool, true, false, refl, sym, ap, subst, ◌∙◌, append_assoc, arith}
 use Rattle.std.specs.Prelude.{max, ◌&&◌, nat_le, nat_lt, slice_index}
-use Rattle.std.proofs.lemmas.Bool.{cases_eq, cases_lt, le-leb, le-ltb, lt-leb, lt-ltb}
+use Rattle.std.proofs.lemmas.Bool.{and_from, and_left, and_right, cases_eq, cases_lt, le-leb, le-ltb, lt-leb, lt-ltb}
 use Rattle.std.proofs.lemmas.List.{ext_get_or, drop_at, take_at, take-append-drop, length-append, length-take, length-drop, get_or_append_left, get_or-append_right, get_or-take, get_or-drop, drop_more}
 use Rattle.tp_types.specs.declared.records.Record.{Record}
 use Rattle.tp_device.specs.Disks.{DiskState, MayHaveWritten, MayLeave, after_write, clean_state, is_touched, is_within, span, with_piece}
@@ -16,14 +16,6 @@ pub record Near (base : List ℕ) (at len : ℕ) (image : List ℕ) : Type 0 whe
   pub no_longer : length image ≤ max (length base) (at + len)
   pub others : (i : ℕ) → i < length base → is_within i (span at len) ≡ false → slice_index image i ≡ slice_index base i
 
-and_left : (a b : Bool) → a ≡ false → (a && b) ≡ false
-and_left true b e = absurd cc
-and_left false b e = refl
-
-and_right : (a b : Bool) → b ≡ false → (a && b) ≡ false
-and_right true b e = e
-and_right false b e = refl
-
 before_span : (i at len : ℕ) → i < at → is_within i (span at len) ≡ false
 before_span i at len lt = and_left (nat_le at i) (nat_lt i (at + len)) (lt-leb at i lt)
 
@@ -32,15 +24,11 @@ after_span i at len le = and_right (nat_le at i) (nat_lt i (at + len)) (le-ltb i
 
 -- ---- what a write leaves elsewhere
 
-both_true : (a b : Bool) → a ≡ true → b ≡ true → (a && b) ≡ true
-both_true true b ea eb = eb
-both_true false b ea eb = absurd cc
-
 outside : (i at len : ℕ) → is_within i (span at len) ≡ false → (i < at) ⊎ (at + len ≤ i)
 outside i at len none = elim (cases_lt i at) [
   | inl lt ↦ inl lt
   | inr le ↦ elim (cases_lt i (at + len)) [
-    | inl lt ↦ absurd (cc (none, both_true (nat_le at i) (nat_lt i (at + len)) (le-leb at i le) (lt-ltb i (at + len) lt)))
+    | inl lt ↦ absurd (cc (none, and_from (nat_le at i) (nat_lt i (at + len)) (le-leb at i le) (lt-ltb i (at + len) lt)))
     | inr past ↦ inr past
   ]
 ]

@@ -40,10 +40,10 @@ length-servers_built sc h = one_server sc.servers (only sc.items) (only sc.txns)
 pub length-txns_built : (sc : Scenario) → is_built sc ≡ true → length sc.txns ≡ 1
 length-txns_built sc h = one_txn (only sc.servers) (only sc.items) sc.txns (parts_built sc h)
 
-no_steps : {A : Type 0} → (steps : List A) → is_empty steps ≡ true → steps ≡ []
-no_steps [] h = refl
-no_steps (first ∷ others) h = absurd (cc)
+pub empty_is : {A : Type 0} → (steps : List A) → is_empty steps ≡ true → steps ≡ []
+empty_is [] h = refl
+empty_is (first ∷ others) h = absurd (cc)
 
 -- a built scenario lists no steps
 pub steps_built : (sc : Scenario) → is_built sc ≡ true → sc.steps ≡ []
-steps_built sc h = no_steps sc.steps (left_true _ _ (left_true _ _ (left_true _ _ (right_true _ _ (right_true _ _ (form_built sc h))))))
+steps_built sc h = empty_is sc.steps (left_true _ _ (left_true _ _ (left_true _ _ (right_true _ _ (right_true _ _ (form_built sc h))))))

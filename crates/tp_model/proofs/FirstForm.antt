@@ -1,10 +1,11 @@
 -- The one form of scenarios that is built so far, as one test: one administrator with one version, one server with one item, one
 -- transaction with one query. It goes with the lemmas that walk it, as soon as more is built.
 use Rattle.std.proofs.Common.{◌≡◌, ℕ, ◌==◌, ◌≤◌, ◌<◌, ◌&&◌, ◌||◌, Bool, true, false, not, nat_le, nat_lt, nat_eq, List, [], ◌∷◌, length, Option, Some, None, pos, refl, ap, sym, subst, ◌∙◌, arith, if◌then◌else◌}
-use Rattle.std.proofs.lemmas.Bool.{and_parts, eqb-true}
+use Rattle.std.proofs.lemmas.Bool.{and_from, and_parts, eqb-true}
 use Rattle.std.proofs.lemmas.Bool.Decides.{nat_tests}
 use Rattle.std.specs.Cmp.Lexicographic.{pointwise}
 use Rattle.std.specs.List.{list_all, list_any}
+use Rattle.tp_types.proofs.ListLemmas.{three_from, three_parts}
 use Rattle.tp_types.specs.declared.ids.ItemId.{ItemId}
 use Rattle.tp_types.specs.declared.ids.Version.{Version}
 use Rattle.tp_types.specs.declared.scenario.Admin.{Admin}
@@ -63,17 +64,7 @@ is_first_form scenario =
 
 -- ---- a built scenario has it
 
-three_parts : (a b c : Bool) → (a && b && c) ≡ true → (a ≡ true) × (b ≡ true) × (c ≡ true)
-three_parts true b c e = let later = and_parts b c e in (refl, later.0, later.1)
-three_parts false b c e = absurd (cc)
-
-both : (a b : Bool) → a ≡ true → b ≡ true → (a && b) ≡ true
-both a b e f = grind arith
-
-three : (a b c : Bool) → a ≡ true → b ≡ true → c ≡ true → (a && b && c) ≡ true
-three a b c e f g = grind arith
-
-single_length : {A : Type 0} (test : A → Bool) (xs : List A) → is_single test xs ≡ true → length xs ≡ 1
+pub single_length : {A : Type 0} (test : A → Bool) (xs : List A) → is_single test xs ≡ true → length xs ≡ 1
 single_length test [] e = absurd (cc)
 single_length test (x ∷ []) e = refl
 single_length test (x ∷ y ∷ rest) e = absurd (cc)
@@ -87,7 +78,7 @@ is_zero n count one e = grind (arith, nat_tests)
 first_admin : (admin : Admin) → is_valid_admin admin ≡ true → is_open_admin admin ≡ true → is_first_admin admin ≡ true
 first_admin admin valid opened =
     let rules = three_parts (has_count 1 64 admin.library) (list_all is_valid_policy admin.library) (is_from_to 1 (length admin.library) admin.opening.0) valid in
-    both (is_single is_open_policy admin.library) (admin.opening.0 == 1) opened
+    and_from (is_single is_open_policy admin.library) (admin.opening.0 == 1) opened
     (is_one admin.opening.0 (length admin.library) (single_length is_open_policy admin.library opened) rules.2)
 
 -- one administrator, whose one version each server knows
@@ -112,7 +103,7 @@ first_known (admin ∷ other ∷ others) knows first known = absurd (cc)
 first_item : (sc : Scenario) (item : Item) → length sc.servers ≡ 1 → length sc.admins ≡ 1 → is_valid_item sc item ≡ true → is_first_item item ≡ true
 first_item sc item one_server one_admin valid =
     let rules = three_parts (nat_lt item.server.0 (length sc.servers)) (nat_lt item.admin.0 (length sc.admins)) (has_valid_range item) valid in
-    three (item.server.0 == 0) (item.admin.0 == 0) (has_valid_range item)
+    three_from (item.server.0 == 0) (item.admin.0 == 0) (has_valid_range item)
     (is_zero item.server.0 (length sc.servers) one_server rules.0) (is_zero item.admin.0 (length sc.admins) one_admin rules.1) rules.2
 
 -- one server, which lists that item
@@ -133,7 +124,7 @@ first_server : (sc : Scenario) (server : ServerDecl) (item : Item) → sc.items 
 first_server sc server item items here admins valid =
     let rules = three_parts (are_known sc.admins server.knows) (has_count 0 64 server.items) (pointwise same_item server.items (owned_from 0 0 sc.items)) valid in
     let owned : owned_from 0 0 sc.items ≡ record { 0 = 0 } ∷ [] = ap (owned_from 0 0) items ∙ owned_one item here in
-    both (is_single (λ (version : Version). version.0 == 1) server.knows) (is_single (λ (i : ItemId). i.0 == 0) server.items)
+    and_from (is_single (λ (version : Version). version.0 == 1) server.knows) (is_single (λ (i : ItemId). i.0 == 0) server.items)
     (first_known sc.admins server.knows admins rules.0)
     (lists_one server.items (subst (λ (ids : List ItemId). pointwise same_item server.items ids ≡ true) owned rules.2))
 
@@ -146,7 +137,7 @@ first_sum : (item : Item) (expr : List Term) → list_all is_valid_term expr ≡
 first_sum item [] valid plain = absurd (cc)
 first_sum item (term ∷ []) valid plain =
     let parts = and_parts (has_constant term) (is_between item.min item.max (term_value term)) plain in
-    both (is_first_constant term.operand) (is_between item.min item.max (term_value term)) (constant_of term.operand (and_parts (is_valid_term term) true valid).0 parts.0) parts.1
+    and_from (is_first_constant term.operand) (is_between item.min item.max (term_value term)) (constant_of term.operand (and_parts (is_valid_term term) true valid).0 parts.0) parts.1
 first_sum item (term ∷ other ∷ others) valid plain = absurd (cc)
 
 valid_terms : (expr : List Term) → is_valid_sum expr ≡ true → list_all is_valid_term expr ≡ true
@@ -155,7 +146,7 @@ valid_terms expr valid = grind arith
 first_query : (sc : Scenario) (item : Item) (asked : Query) → length sc.items ≡ 1 → is_valid_query sc asked ≡ true → is_plain_query item asked ≡ true → is_first_query item asked ≡ true
 first_query sc item (Write id expr) one valid plain =
     let rules = and_parts (nat_lt id.0 (length sc.items)) (is_valid_sum expr) valid in
-    both (id.0 == 0) (is_single (is_first_term item) expr) (is_zero id.0 (length sc.items) one rules.0) (first_sum item expr (valid_terms expr rules.1) plain)
+    and_from (id.0 == 0) (is_single (is_first_term item) expr) (is_zero id.0 (length sc.items) one rules.0) (first_sum item expr (valid_terms expr rules.1) plain)
 first_query sc item (Read id into) one valid plain = absurd (cc)
 
 first_queries : (sc : Scenario) (item : Item) (queries : List Query) → length sc.items ≡ 1 → list_all (is_valid_query sc) queries ≡ true → is_single (is_plain_query item) queries ≡ true
@@ -179,10 +170,10 @@ first_txn sc server item txn servers one valid plain =
     let work = three_parts (has_count 1 16 txn.queries) (list_all (is_valid_query sc) txn.queries) (not (list_any (is_name_of_server txn) sc.servers)) rules.2 in
     let shape = three_parts (is_deferred txn.scheme) (is_view txn.level) _ plain in
     let rest = three_parts (txn.rounds == 8) (is_empty txn.creds) (is_single (is_plain_query item) txn.queries) shape.2 in
-    both _ ((txn.rounds == 8) && is_empty txn.creds && is_single (is_first_query item) txn.queries)
-    (three (not (pointwise ◌==◌ txn.name server.name)) (is_deferred txn.scheme) (is_view txn.level)
+    and_from _ ((txn.rounds == 8) && is_empty txn.creds && is_single (is_first_query item) txn.queries)
+    (three_from (not (pointwise ◌==◌ txn.name server.name)) (is_deferred txn.scheme) (is_view txn.level)
     (other_name txn server (subst (λ (servers : List ServerDecl). not (list_any (is_name_of_server txn) servers) ≡ true) servers work.2)) shape.0 shape.1)
-    (three (txn.rounds == 8) (is_empty txn.creds) (is_single (is_first_query item) txn.queries) rest.0 rest.1 (first_queries sc item txn.queries one work.1 rest.2))
+    (three_from (txn.rounds == 8) (is_empty txn.creds) (is_single (is_first_query item) txn.queries) rest.0 rest.1 (first_queries sc item txn.queries one work.1 rest.2))
 
 -- ---- together
 
@@ -205,7 +196,7 @@ parts_of sc (Some server) (Some item) (Some txn) a b c valid admins plain =
     let txn_kept : list_all (is_valid_txn sc) (txn ∷ []) ≡ true =
     subst (λ (xs : List Transaction). list_all (is_valid_txn sc) xs ≡ true) txns_are (three_parts (has_count 0 128 sc.txns) (list_all (is_valid_txn sc) sc.txns) (are_distinct same_txn_name sc.txns) valid.txns).1 in
     let first : is_first_item item ≡ true = first_item sc item (ap length servers_are) (single_length is_first_admin sc.admins admins) (and_parts (is_valid_item sc item) true item_kept).0 in
-    three (is_first_server server) (is_first_item item) (is_first_txn server item txn)
+    three_from (is_first_server server) (is_first_item item) (is_first_txn server item txn)
     (first_server sc server item items_are (three_parts (item.server.0 == 0) (item.admin.0 == 0) (has_valid_range item) first).0 admins (and_parts (is_valid_server sc 0 server) true server_kept).0)
     first
     (first_txn sc server item txn servers_are one_item (and_parts (is_valid_txn sc txn) true txn_kept).0 plain)
@@ -220,6 +211,6 @@ form_built sc h =
     let stage = stage_built sc h in
     let rules = three_parts (has_count 1 16 sc.admins) (list_all is_valid_admin sc.admins) (are_distinct same_admin_name sc.admins) valid.admins in
     let admins = first_admins sc.admins rules.1 stage.admins in
-    three (is_single is_first_admin sc.admins) (are_first_parts (only sc.servers) (only sc.items) (only sc.txns)) ((sc.clock == 0) && is_empty sc.creds && is_unscripted sc)
+    three_from (is_single is_first_admin sc.admins) (are_first_parts (only sc.servers) (only sc.items) (only sc.txns)) ((sc.clock == 0) && is_empty sc.creds && is_unscripted sc)
     admins (parts_of sc (only sc.servers) (only sc.items) (only sc.txns) refl refl refl valid admins stage.parts)
-    (three (sc.clock == 0) (is_empty sc.creds) (is_unscripted sc) stage.clock stage.creds stage.unscripted)
+    (three_from (sc.clock == 0) (is_empty sc.creds) (is_unscripted sc) stage.clock stage.creds stage.unscripted)

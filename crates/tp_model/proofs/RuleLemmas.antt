@@ -3,16 +3,13 @@ use Rattle.std.proofs.Common.{◌≡◌, ℕ, ◌≤◌, ◌==◌, Bool, true, f
 use Rattle.std.proofs.lemmas.Bool.{and_parts}
 use Rattle.std.proofs.lemmas.Bool.Decides.{nat_tests}
 use Rattle.std.specs.List.{list_all}
+use Rattle.tp_types.proofs.ListLemmas.{three_parts}
 use Rattle.tp_types.specs.declared.scenario.Scenario.{Scenario}
 use Rattle.tp_model.specs.Built.{is_built}
 use Rattle.tp_model.specs.Limits.{has_count, is_from_to}
 use Rattle.tp_model.specs.Queries.{only}
 use Rattle.tp_model.specs.Stage.{are_plain_parts, is_empty, is_open_admin, is_single, is_stage, is_unscripted}
 use Rattle.tp_model.specs.Valid.{IsValid, are_distinct, are_valid_from, is_valid_txn, same_server_name, same_txn_name, are_valid_admins, are_valid_clients, are_valid_creds, are_valid_items, are_valid_officers, are_valid_publishers, are_valid_servers, are_valid_steps, are_valid_txns, clock_limit, has_valid_data, has_valid_policies, has_valid_scripts, is_valid}
-
-three_parts : (a b c : Bool) → (a && b && c) ≡ true → (a ≡ true) × (b ≡ true) × (c ≡ true)
-three_parts true b c e = let later = and_parts b c e in (refl, later.0, later.1)
-three_parts false b c e = absurd (cc)
 
 -- what a valid scenario keeps
 pub rules_of : (sc : Scenario) → is_valid sc ≡ true → IsValid sc
@@ -35,7 +32,7 @@ rules_of sc h =
       officers = race.1;
     }
 
-count_most : (least most n : ℕ) → is_from_to least most n ≡ true → n ≤ most
+pub count_most : (least most n : ℕ) → is_from_to least most n ≡ true → n ≤ most
 count_most least most n h = grind (arith, nat_tests)
 
 -- there are few servers and few transactions

@@ -1,12 +1,9 @@
 -- Rules of scenarios, as loops test them.
 use Rattle.std.proofs.Common.{◌≡◌, ◌≢◌, ℕ, suc, Bool, true, false, ◌&&◌, List, [], ◌∷◌, length, refl, ap}
+use Rattle.std.proofs.Math.Bool.{and-false}
 use Rattle.tp_types.specs.declared.ids.Version.{Version}
 use Rattle.tp_types.specs.declared.scenario.Admin.{Admin}
 use Rattle.tp_model.specs.Valid.{are_known, is_known}
-
-and_none : (b : Bool) → (b && false) ≡ false
-and_none true = refl
-and_none false = refl
 
 -- more or fewer versions than administrators are not known
 pub known_other : (admins : List Admin) (knows : List Version) → length admins ≢ length knows → are_known admins knows ≡ false
@@ -15,4 +12,4 @@ known_other [] (version ∷ versions) h = refl
 known_other (admin ∷ admins) [] h = refl
 known_other (admin ∷ admins) (version ∷ versions) h =
     let rest = known_other admins versions (λ e. h (ap suc e)) in
-    rw rest (and_none (is_known admin version))
+    rw rest (and-false (is_known admin version))

@@ -1,5 +1,5 @@
 -- What a reading of a whole text answers, and that no text has two answers.
-use Rattle.std.proofs.lemmas.List.{length-append}
+use Rattle.std.proofs.lemmas.List.{append-nil, append_assoc, append_cancel_left, length-append}
 use Rattle.std.proofs.Common.{◌≡◌, ◌⊎◌, inl, inr, ℕ, suc, ◌-◌, ◌<◌, ◌≤◌, List, [], ◌∷◌, ◌++◌, length, Result, Ok, Err, refl, sym, ap, subst, ◌∙◌, arith}
 use Rattle.tp_types.specs.declared.policy.Cond.{Cond}
 use Rattle.tp_types.specs.declared.policy.Policy.{Policy}
@@ -19,7 +19,6 @@ use Rattle.tp_policy_text.proofs.Conditions.{any_of}
 use Rattle.tp_policy_text.proofs.PrintedGrammar.{spelled_of_grammar}
 use Rattle.tp_policy_text.proofs.PrintedWholes.{shallow_reads}
 use Rattle.tp_policy_text.proofs.Rules.{rule_wider}
-use Rattle.tp_policy_text.proofs.Texts.{append_append, append_none, same_end}
 use Rattle.tp_policy_text.proofs.Wholes.{EndsIn, begins_shorter, compare_fronts, deep_is, never_spent, not_both, reads_within, same_why, says_within, stops_at, too_deep_at}
 
 are_wider : (C D : Language Cond) → ((s t : List ℕ) (c : Cond) → C c s t → D c s t) → (rules : List Rule) (s : List ℕ) → AreRules C rules s → AreRules D rules s
@@ -66,10 +65,10 @@ same_stop text one other h k = by_front (compare_fronts one other h.rest k.rest 
   where
     -- a longer beginning goes on with the next byte
     longer : (x y : List ℕ) (a : Stops text x) (b : Stops text y) (more : List ℕ) → x ≡ y ++ more → x ≡ y
-    longer x y a b [] whole = whole ∙ append_none y
+    longer x y a b [] whole = whole ∙ append-nil y
     longer x y a b (c ∷ more) whole = absurd (b.further c (more ++ a.rest)
-        (same_end y b.rest ((c ∷ more) ++ a.rest) (sym b.parts ∙ (a.parts ∙ (ap (λ l. l ++ a.rest) whole ∙ sym (append_append y (c ∷ more) a.rest)))))
-        (begins_shorter (y ++ c ∷ []) more (subst Begins (whole ∙ append_append y (c ∷ []) more) a.begins)))
+        (append_cancel_left y b.rest ((c ∷ more) ++ a.rest) (sym b.parts ∙ (a.parts ∙ (ap (λ l. l ++ a.rest) whole ∙ append_assoc y (c ∷ more) a.rest))))
+        (begins_shorter (y ++ c ∷ []) more (subst Begins (whole ∙ sym (append_assoc y (c ∷ []) more)) a.begins)))
 
     by_front : EndsIn one other other ⊎ EndsIn other one one → one ≡ other
     by_front (inl e) = longer one other h k e.more e.whole

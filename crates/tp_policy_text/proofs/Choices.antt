@@ -1,12 +1,13 @@
 -- Exact readers in other words: another language, one of two by the next byte, and a parenthesis that is one too many.
 use Rattle.std.proofs.lemmas.Bool.{eqb-true}
 use Rattle.std.proofs.Common.{◌≡◌, ◌⊎◌, inl, inr, ℕ, ◌<◌, ◌≤◌, List, [], ◌∷◌, ◌++◌, length, Bool, true, false, Option, Some, None, Result, Ok, Err, refl, sym, ap, subst, ◌∙◌, arith, if◌then◌else◌}
+use Rattle.std.proofs.lemmas.List.{append_cancel_right}
 use Rattle.tp_policy_text.specs.declared.halt.Stop.{Stop}
 use Rattle.tp_policy_text.specs.declared.halt.Stop.TheVariants as stop
 use Rattle.tp_policy_text.specs.Lexis.{count, first}
 use Rattle.tp_policy_text.specs.mirrors.Readings.{Reader, Reading, choice, is_open, read, stopped, unopened}
 use Rattle.tp_policy_text.proofs.Exact.{Ends, Exact, Front, GivesUp, IsDeep, IsLevel, IsShallow, Language, left_at}
-use Rattle.tp_policy_text.proofs.Texts.{IsTight, first_after, same_front}
+use Rattle.tp_policy_text.proofs.Texts.{IsTight, first_after}
 
 -- ---- the same in other words
 
@@ -209,7 +210,7 @@ unopened_exact {A = A} q M V P F n Q kinds = record {
     nothing : (x t : List ℕ) (o : Result A Stop) → is_open (first (x ++ t)) ≡ true → unopened q (x ++ t) ≡ left_at o t → (x ≡ []) × (o ≡ Err stop.Deep)
     nothing x t o e h =
         let at = sym (open_here (x ++ t) e) ∙ h in
-        (same_front x [] t (ap (λ (w : Reading A). w.left) at), sym (ap (λ (w : Reading A). w.outcome) at))
+        (append_cancel_right x [] t (ap (λ (w : Reading A). w.left) at), sym (ap (λ (w : Reading A). w.outcome) at))
 
     reads : (s : List ℕ) (w : Reading A) (a : A) (t : List ℕ) → w ≡ read a t → (b : Bool) → is_open (first s) ≡ b → unopened q s ≡ w → q s ≡ w
     reads s w a t is true e h = let at = ap (λ (v : Reading A). v.outcome) (sym (open_here s e) ∙ (h ∙ is)) in absurd (wrong a at)

@@ -1,6 +1,7 @@
 -- Atoms are read exactly.
 use Rattle.std.proofs.Common.{◌≡◌, ◌⊎◌, inl, inr, ℕ, ◌==◌, ◌||◌, List, [], ◌∷◌, ◌++◌, Bool, true, false, Option, Some, None, refl, sym, ap, subst, ◌∙◌, arith, codes, ℤ}
 use Rattle.std.proofs.lemmas.Bool.Decides.{nat_tests}
+use Rattle.std.proofs.lemmas.List.{append-nil}
 use Rattle.tp_types.specs.declared.policy.Cond.{Cond}
 use Rattle.tp_types.specs.declared.policy.Cond.TheVariants as cond
 use Rattle.tp_types.specs.declared.policy.Op.{Op}
@@ -22,7 +23,6 @@ use Rattle.tp_policy_text.proofs.Names.{name_exact}
 use Rattle.tp_policy_text.proofs.Numbers.{int_exact, number_parts}
 use Rattle.tp_policy_text.proofs.Patterns.{name_begins, token_begins}
 use Rattle.tp_policy_text.proofs.Sequences.{Both, both_exact, inr_is}
-use Rattle.tp_policy_text.proofs.Texts.{append_none}
 use Rattle.tp_policy_text.proofs.Tokens.{Says, plain_token}
 
 -- ---- values
@@ -67,7 +67,7 @@ letter_begins byte e = by_int (begins_int (Some byte)) refl
 
 named_begins : (name s t : List ℕ) → Named name s t → begins_int (first s) ≡ false
 named_begins name s t h =
-    let at = name_begins true name [] s t h.spelled (subst (λ l. Token true l s t) (sym (append_none name)) h.word) in
+    let at = name_begins true name [] s t h.spelled (subst (λ l. Token true l s t) (sym (append-nil name)) h.word) in
     ap begins_int at.1.0 ∙ letter_begins at.0 at.1.1
 
 pub value_exact : (d n : ℕ) → Exact IsValue IsValue any_next d d n value_at

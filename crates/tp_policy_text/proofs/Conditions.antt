@@ -1,6 +1,7 @@
 -- Conditions are read exactly, within each depth.
-use Rattle.std.proofs.lemmas.Bool.{and_parts, eqb-true}
+use Rattle.std.proofs.lemmas.Bool.{and_parts, eqb-true, not-true}
 use Rattle.std.proofs.Common.{◌≡◌, ◌⊎◌, inl, inr, ℕ, zero, suc, ◌≤◌, ◌==◌, ◌&&◌, not, List, [], ◌∷◌, ◌++◌, Bool, true, false, Option, Some, Result, Ok, Err, refl, sym, ap, subst, ◌∙◌, arith, if◌then◌else◌, codes, ◌+◌}
+use Rattle.std.proofs.lemmas.List.{append_assoc, append_cancel_right}
 use Rattle.tp_types.specs.declared.policy.Cond.{Cond}
 use Rattle.tp_types.specs.declared.policy.Cond.TheVariants as cond
 use Rattle.tp_types.specs.Spelling.{is_letter}
@@ -17,10 +18,9 @@ use Rattle.tp_policy_text.proofs.Heads.{not_dot}
 use Rattle.tp_policy_text.proofs.Images.{Image, mapped_exact}
 use Rattle.tp_policy_text.proofs.Leaves.{any_next}
 use Rattle.tp_policy_text.proofs.Links.{Fits, Linked, link_exact}
-use Rattle.tp_policy_text.proofs.Names.{not_true}
 use Rattle.tp_policy_text.proofs.Sequences.{Both, both_exact, inr_is, narrowed}
 use Rattle.tp_policy_text.proofs.Patterns.{name_begins, token_begins}
-use Rattle.tp_policy_text.proofs.Texts.{append_append, count_append, same_front}
+use Rattle.tp_policy_text.proofs.Texts.{count_append}
 use Rattle.tp_policy_text.proofs.Tokens.{Says, plain_token, token_exact}
 
 -- ---- one or more, with a word between
@@ -61,7 +61,7 @@ spent_exact {A = A} L W F d some wide = record {
     not_deep e = absurd (cc)
 
     nothing : (x t : List ℕ) (o : Result A Stop) → stopped stop.Spent (x ++ t) ≡ left_at o t → (x ≡ []) × (o ≡ Err stop.Spent)
-    nothing x t o h = (same_front x [] t (ap (λ (w : Reading A). w.left) h), sym (ap (λ (w : Reading A). w.outcome) h))
+    nothing x t o h = (append_cancel_right x [] t (ap (λ (w : Reading A). w.left) h), sym (ap (λ (w : Reading A). w.outcome) h))
 
     no_parts : (p q : List ℕ) → [] ≡ p ++ (40 ∷ q) → ⊥
     no_parts [] q parts = absurd (cc)
@@ -107,7 +107,7 @@ more_fits {A = A} byte V F d begins allows same = record {
   follows = λ b m t h. ap F (begins b m t h) ∙ allows;
   leads = λ a b m t h. inl (λ others. a ∷ others, more_yes byte a (first m) (ap (comes byte) (begins b m t h) ∙ same));
   done = λ a o c h o2 may. let over = more_ends byte a o c h in let parts = and_parts (F o2) (not (comes byte o2)) may in
-      (more_no byte a o2 (not_true (comes byte o2) parts.1) ∙ ap (λ (l : List A). inl l) (sym over.1), parts.0);
+      (more_no byte a o2 (not-true (comes byte o2) parts.1) ∙ ap (λ (l : List A). inl l) (sym over.1), parts.0);
   after = λ o may. may;
   even = λ a o c h. refl;
 }
@@ -171,8 +171,8 @@ joined_exact {A = A} byte others L W F d N r R tight opens closes allows same (s
     (omega (arith)))
     (record {
       to = λ s t xs h. linked_joined byte (byte ∷ others) L xs s t h;
-      from = λ s t xs may h. joined_linked byte others L xs s t same (not_true (comes byte (first t)) (and_parts (F (first t)) (not (comes byte (first t))) may).1) h;
-      from_wide = λ s t xs may h. joined_linked byte others W xs s t same (not_true (comes byte (first t)) (and_parts (F (first t)) (not (comes byte (first t))) may).1) h;
+      from = λ s t xs may h. joined_linked byte others L xs s t same (not-true (comes byte (first t)) (and_parts (F (first t)) (not (comes byte (first t))) may).1) h;
+      from_wide = λ s t xs may h. joined_linked byte others W xs s t same (not-true (comes byte (first t)) (and_parts (F (first t)) (not (comes byte (first t))) may).1) h;
       to_wide = λ s t xs h. linked_joined byte (byte ∷ others) W xs s t h;
       wide = λ s t xs h. joined_wider (byte ∷ others) L W R.wide xs s t h;
       allows = λ o may. may;
@@ -252,7 +252,7 @@ atom_begins : (c : Cond) (s t : List ℕ) → IsAtom c s t → is_open (first s)
 atom_begins c s t (inl h) = ap is_open (ap first h.1.begins)
 atom_begins c s t (inr h) =
     let at = name_begins true h.issuer (codes "." ++ h.attr) s h.between h.claim.issuer_is
-    (subst (λ l. Token true l s h.between) (sym (append_append h.issuer (codes ".") h.attr)) h.claim.word) in
+    (subst (λ l. Token true l s h.between) (append_assoc h.issuer (codes ".") h.attr) h.claim.word) in
     ap is_open at.1.0 ∙ letter_not_open at.0 at.1.1
 
 parentheses_begin : (I : Language Cond) (c : Cond) (s t : List ℕ) → IsInParentheses I c s t → is_open (first s) ≡ true

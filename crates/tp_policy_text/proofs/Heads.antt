@@ -1,7 +1,8 @@
 -- The head of an atom is read exactly: the word true, or an issuer and an attribute.
-use Rattle.std.proofs.lemmas.Bool.{and_parts, eqb-true}
+use Rattle.std.proofs.lemmas.Bool.{and_from, and_parts, eqb-true, not-true, not_from_false}
 use Rattle.std.proofs.Common.{◌≡◌, ◌⊎◌, inl, inr, ℕ, ◌==◌, ◌&&◌, not, List, [], ◌∷◌, ◌++◌, Bool, true, false, Option, Some, None, refl, sym, ap, subst, ◌∙◌, arith, if◌then◌else◌, codes}
-use Rattle.std.proofs.lemmas.Option.{same_Some}
+use Rattle.std.proofs.lemmas.Option.{cond_some, same_Some}
+use Rattle.std.proofs.lemmas.List.{append-nil, append_assoc}
 use Rattle.tp_policy_text.specs.Grammar.{Claim}
 use Rattle.tp_policy_text.specs.Lexis.{Word, first, in_word, is_blank, skip}
 use Rattle.tp_policy_text.specs.mirrors.Readers.{Head, attr_step, comes, head_at, head_end, head_step, is_some_text, issuer_step, name_step, same_text}
@@ -9,9 +10,9 @@ use Rattle.tp_policy_text.specs.mirrors.Readings.{ended, machine, read}
 use Rattle.tp_policy_text.proofs.Choices.{retell}
 use Rattle.tp_policy_text.proofs.Exact.{Ends, Exact}
 use Rattle.tp_policy_text.proofs.Leaves.{Goes, IsLeaf, Sound, any_next, halted, leaf_exact, next_of, went}
-use Rattle.tp_policy_text.proofs.Names.{Plain, both_true, give, given, name_finish, name_of_some, names_go, names_of, no_further, not_false, not_true, plain_level, plain_shallow, some_of_name}
+use Rattle.tp_policy_text.proofs.Names.{Plain, give, name_finish, name_of_some, names_go, names_of, no_further, plain_level, plain_shallow, some_of_name}
 use Rattle.tp_policy_text.proofs.Patterns.{given_name, goes_both}
-use Rattle.tp_policy_text.proofs.Texts.{IsTight, append_append, append_none, tight_byte}
+use Rattle.tp_policy_text.proofs.Texts.{IsTight, tight_byte}
 
 abbrev pub in_issuer : List ℕ → Head
 in_issuer issuer = record { issuer = issuer; attr = None }
@@ -56,24 +57,24 @@ attr_is issuer None next e = absurd (cc)
 attr_is issuer (Some attr) next e = (attr, (refl, sym (same_Some (in_attr issuer attr) next e)))
 
 attr_of : (issuer attr text : List ℕ) (last : Head) → Goes head_step (in_attr issuer attr) text last → Goes name_step attr text (attr ++ text) × (last ≡ in_attr issuer (attr ++ text))
-attr_of issuer attr [] last h = (sym (append_none attr), sym h ∙ ap (in_attr issuer) (sym (append_none attr)))
+attr_of issuer attr [] last h = (sym (append-nil attr), sym h ∙ ap (in_attr issuer) (sym (append-nil attr)))
 attr_of issuer attr (byte ∷ text) last (next, e, later) =
     let at = attr_is issuer (name_step attr byte) next e in
     let same = given_name attr byte at.0 at.1.0 in
     let rest = attr_of issuer at.0 text last (subst (λ s. Goes head_step s text last) at.1.1 later) in
-    let whole : at.0 ++ text ≡ attr ++ (byte ∷ text) = ap (λ l. l ++ text) (sym same) ∙ sym (append_append attr (byte ∷ []) text) in
+    let whole : at.0 ++ text ≡ attr ++ (byte ∷ text) = ap (λ l. l ++ text) (sym same) ∙ append_assoc attr (byte ∷ []) text in
     ((at.0, at.1.0, subst (λ l. Goes name_step at.0 text l) whole rest.0), rest.1 ∙ ap (in_attr issuer) whole)
 
 head_of : (issuer text : List ℕ) (last : Head) → Goes head_step (in_issuer issuer) text last → Reads_issuer issuer text last ⊎ Reads_attr issuer text last
-head_of issuer [] last h = inl (record { goes = sym (append_none issuer); is = sym h ∙ ap in_issuer (sym (append_none issuer)) })
+head_of issuer [] last h = inl (record { goes = sym (append-nil issuer); is = sym h ∙ ap in_issuer (sym (append-nil issuer)) })
 head_of issuer (byte ∷ text) last (next, e, later) = by_dot ((byte == 46) && is_some_text issuer) refl (λ issuer2 goes. head_of issuer2 text last goes)
   where
     by_rest : (issuer2 : List ℕ) → name_step issuer byte ≡ Some issuer2 → issuer2 ≡ issuer ++ byte ∷ [] → Reads_issuer issuer2 text last ⊎ Reads_attr issuer2 text last → Reads_issuer issuer (byte ∷ text) last ⊎ Reads_attr issuer (byte ∷ text) last
     by_rest issuer2 step same (inl h) =
-        let whole : issuer2 ++ text ≡ issuer ++ (byte ∷ text) = ap (λ l. l ++ text) same ∙ sym (append_append issuer (byte ∷ []) text) in
+        let whole : issuer2 ++ text ≡ issuer ++ (byte ∷ text) = ap (λ l. l ++ text) same ∙ append_assoc issuer (byte ∷ []) text in
         inl (record { goes = (issuer2, step, subst (λ l. Goes name_step issuer2 text l) whole h.goes); is = h.is ∙ ap in_issuer whole })
     by_rest issuer2 step same (inr h) =
-        let whole : issuer2 ++ h.before ≡ issuer ++ (byte ∷ h.before) = ap (λ l. l ++ h.before) same ∙ sym (append_append issuer (byte ∷ []) h.before) in
+        let whole : issuer2 ++ h.before ≡ issuer ++ (byte ∷ h.before) = ap (λ l. l ++ h.before) same ∙ append_assoc issuer (byte ∷ []) h.before in
         inr (record {
           before = byte ∷ h.before;
           attr = h.attr;
@@ -94,10 +95,10 @@ head_of issuer (byte ∷ text) last (next, e, later) = by_dot ((byte == 46) && i
           before = [];
           attr = text;
           parts = ap (λ (b : ℕ). b ∷ text) (eqb-true byte 46 test.0);
-          goes = sym (append_none issuer);
-          some = ap is_some_text (append_none issuer) ∙ test.1;
+          goes = sym (append-nil issuer);
+          some = ap is_some_text (append-nil issuer) ∙ test.1;
           then_goes = over.0;
-          is = over.1 ∙ ap (λ l. in_attr l text) (sym (append_none issuer));
+          is = over.1 ∙ ap (λ l. in_attr l text) (sym (append-nil issuer));
         })
     by_dot false dot rec =
         let at = issuer_is (name_step issuer byte) next (sym (dot_step issuer byte false dot) ∙ e) in
@@ -145,29 +146,29 @@ head_plain = record { opens = λ h. no_step h 40 refl (λ name. no_further name 
 
 true_ended : (issuer : List ℕ) (o : Option ℕ) (found : Option Head) → head_end (in_issuer issuer) o ≡ Some found → (same_text issuer (codes "true") ≡ true) × (in_word o ≡ false) × (None ≡ found)
 true_ended issuer o found h =
-    let step = given (same_text issuer (codes "true") && not (in_word o)) None found h in
+    let step = cond_some (same_text issuer (codes "true") && not (in_word o)) None found h in
     let parts = and_parts (same_text issuer (codes "true")) (not (in_word o)) step.0 in
-    (parts.0, not_true (in_word o) parts.1, step.1)
+    (parts.0, not-true (in_word o) parts.1, step.1)
 
 claim_ended : (issuer attr : List ℕ) (o : Option ℕ) (found : Option Head) → head_end (in_attr issuer attr) o ≡ Some found → (is_some_text attr ≡ true) × (in_word o ≡ false) × (Some (in_attr issuer attr) ≡ found)
 claim_ended issuer attr o found h =
-    let step = given (is_some_text attr && not (in_word o)) (Some (in_attr issuer attr)) found h in
+    let step = cond_some (is_some_text attr && not (in_word o)) (Some (in_attr issuer attr)) found h in
     let parts = and_parts (is_some_text attr) (not (in_word o)) step.0 in
-    (parts.0, not_true (in_word o) parts.1, step.1)
+    (parts.0, not-true (in_word o) parts.1, step.1)
 
 claim_ends : (issuer attr : List ℕ) (o : Option ℕ) → is_some_text attr ≡ true → in_word o ≡ false → head_end (in_attr issuer attr) o ≡ Some (Some (in_attr issuer attr))
-claim_ends issuer attr o some free = give (is_some_text attr && not (in_word o)) (Some (in_attr issuer attr)) (both_true (is_some_text attr) (not (in_word o)) some (not_false (in_word o) free))
+claim_ends issuer attr o some free = give (is_some_text attr && not (in_word o)) (Some (in_attr issuer attr)) (and_from (is_some_text attr) (not (in_word o)) some (not_from_false (in_word o) free))
 
 before_blank : (issuer : List ℕ) (attr : Option (List ℕ)) (o : Option ℕ) (found : Option Head) → head_end (record { issuer = issuer; attr = attr }) o ≡ Some found → head_end (record { issuer = issuer; attr = attr }) (Some 32) ≡ Some found
 before_blank issuer None o found h =
     let over = true_ended issuer o found h in
-    give (same_text issuer (codes "true") && true) None (both_true (same_text issuer (codes "true")) true over.0 refl) ∙ ap (λ (v : Option Head). Some v) over.2
+    give (same_text issuer (codes "true") && true) None (and_from (same_text issuer (codes "true")) true over.0 refl) ∙ ap (λ (v : Option Head). Some v) over.2
 before_blank issuer (Some attr) o found h = let over = claim_ended issuer attr o found h in claim_ends issuer attr (Some 32) over.0 refl ∙ ap (λ (v : Option Head). Some v) over.2
 
 -- a text that leads to a claim, and a blank
 led : (h : Head) (text issuer attr u : List ℕ) → Goes head_step h text (in_attr issuer attr) → is_some_text attr ≡ true → IsTight u → machine head_step head_end h ((text ++ (32 ∷ [])) ++ u) ≡ read (Some (in_attr issuer attr)) u
 led h text issuer attr u goes some tight =
-    ap (λ l. machine head_step head_end h l) (sym (append_append text (32 ∷ []) u))
+    ap (λ l. machine head_step head_end h l) (append_assoc text (32 ∷ []) u)
     ∙ (went head_step head_end h (in_attr issuer attr) text (32 ∷ u) goes
     ∙ (halted head_step head_end (in_attr issuer attr) (32 ∷ u) (no_step (in_attr issuer attr) 32 refl (λ name. no_further name 32 refl))
     ∙ (ap (λ (o : Option (Option Head)). ended o (32 ∷ u)) (claim_ends issuer attr (Some 32) some refl) ∙ ap (λ l. read (Some (in_attr issuer attr)) l) tight)))
@@ -233,7 +234,7 @@ leaf_head a s t h = by_state (head_of [] h.text h.last h.goes)
         subst (λ p. IsHead p s t) over.2 (record {
           issuer_is = name_of_some k.before k.some (issuer_on.so_far (tt));
           attr_is = name_of_some k.attr over.0 (attr_on.so_far (tt));
-          word = record { after = h.after; begins = h.parts ∙ ap (λ l. l ++ h.after) (k.parts ∙ append_append k.before (codes ".") k.attr); is_apart = over.1; left_is = h.left };
+          word = record { after = h.after; begins = h.parts ∙ ap (λ l. l ++ h.after) (k.parts ∙ sym (append_assoc k.before (codes ".") k.attr)); is_apart = over.1; left_is = h.left };
         })
 
 -- a dot right behind the word true makes a claim of it
@@ -259,13 +260,13 @@ head_leaf None s t may h = record {
   parts = h.begins;
   goes = issuer_goes [] (codes "true") (codes "true") (names_go [] (codes "true") refl);
   halts = no_next (first h.after) h.is_apart (no_dot h.after t h.left_is may);
-  ends = give (not (in_word (first h.after))) None (not_false (in_word (first h.after)) h.is_apart);
+  ends = give (not (in_word (first h.after))) None (not_from_false (in_word (first h.after)) h.is_apart);
   left = h.left_is;
 }
   where
     no_next : (o : Option ℕ) → in_word o ≡ false → not_dot o ≡ true → next_of head_step (in_issuer (codes "true")) o ≡ None
     no_next None e other = refl
-    no_next (Some byte) e other = no_step (in_issuer (codes "true")) byte (not_true (byte == 46) other) (λ name. no_further name byte e)
+    no_next (Some byte) e other = no_step (in_issuer (codes "true")) byte (not-true (byte == 46) other) (λ name. no_further name byte e)
 head_leaf (Some head) s t may h = by_attr head.attr refl
   where
     wrong : IsHead (Some (in_issuer head.issuer)) s t → ⊥
@@ -279,7 +280,7 @@ head_leaf (Some head) s t may h = by_attr head.attr refl
           text = head.issuer ++ (46 ∷ attr);
           after = k.word.after;
           last = in_attr head.issuer attr;
-          parts = k.word.begins ∙ ap (λ l. l ++ k.word.after) (sym (append_append head.issuer (codes ".") attr));
+          parts = k.word.begins ∙ ap (λ l. l ++ k.word.after) (append_assoc head.issuer (codes ".") attr);
           goes = both_go [] head.issuer head.issuer attr attr (names_go [] head.issuer k.issuer_is) (some_of_name head.issuer k.issuer_is) (names_go [] attr k.attr_is);
           halts = no_next attr (first k.word.after) k.word.is_apart;
           ends = claim_ends head.issuer attr (first k.word.after) (some_of_name attr k.attr_is) k.word.is_apart;

@@ -1,14 +1,14 @@
 -- Tokens, read byte by byte by a machine of states: where each state can be led to an end, the reader is exact.
 use Rattle.std.proofs.lemmas.Bool.{eqb-true}
 use Rattle.std.proofs.Common.{◌≡◌, ◌⊎◌, inl, inr, ℕ, ◌+◌, ◌<◌, ◌==◌, List, [], ◌∷◌, ◌++◌, length, Bool, true, false, Option, Some, None, Result, Ok, Err, refl, ◌≤◌, sym, ap, subst, ◌∙◌, arith, if◌then◌else◌}
-use Rattle.std.proofs.lemmas.List.{length-append}
+use Rattle.std.proofs.lemmas.List.{append-nil, append_assoc, append_cancel_right, length-append}
 use Rattle.std.proofs.lemmas.Option.{same_Some}
 use Rattle.tp_policy_text.specs.declared.halt.Stop.{Stop}
 use Rattle.tp_policy_text.specs.declared.halt.Stop.TheVariants as stop
 use Rattle.tp_policy_text.specs.Lexis.{count, first, is_blank, skip}
 use Rattle.tp_policy_text.specs.mirrors.Readings.{Reading, ended, machine, read, taken}
 use Rattle.tp_policy_text.proofs.Exact.{Ends, Exact, Front, IsDeep, IsLevel, IsShallow, Starts, left_at}
-use Rattle.tp_policy_text.proofs.Texts.{IsTight, append_append, append_none, count_append, first_after, same_front, skip_skip, stands_in, InFirst, InSecond, empty_front, tight_byte}
+use Rattle.tp_policy_text.proofs.Texts.{IsTight, count_append, first_after, skip_skip, stands_in, InFirst, InSecond, empty_front, tight_byte}
 
 -- ---- blanks behind a token
 
@@ -213,7 +213,7 @@ leaf_exact {S = S} {A = A} step final start d e n K = record {
     front_by : (s : List ℕ) → Run step final start s → Front s (machine step final start s).left
     front_by s h = let rest = ended_front (final h.last (first h.after)) h.after in record {
       before = h.text ++ rest.before;
-      parts = h.parts ∙ (ap (λ l. h.text ++ l) (rest.parts ∙ ap (λ (w : Reading A). rest.before ++ w.left) (sym h.is)) ∙ append_append h.text rest.before (machine step final start s).left);
+      parts = h.parts ∙ (ap (λ l. h.text ++ l) (rest.parts ∙ ap (λ (w : Reading A). rest.before ++ w.left) (sym h.is)) ∙ sym (append_assoc h.text rest.before (machine step final start s).left));
     }
 
     -- stopped in the token, or ended with blanks behind it
@@ -234,7 +234,7 @@ leaf_exact {S = S} {A = A} step final start d e n K = record {
         by_end None is h2 =
             let at = ap (λ (end : Option A). ended end found.after) (sym is) ∙ h2 in
             let here : found.after ≡ t = ap (λ (w : Reading A). w.left) at in
-            let text_is : x ≡ found.text = same_front x found.text t (found.parts ∙ ap (λ l. found.text ++ l) here) in
+            let text_is : x ≡ found.text = append_cancel_right x found.text t (found.parts ∙ ap (λ l. found.text ++ l) here) in
             inl (
               found.last,
               subst (λ l. Goes step start l found.last) (sym text_is) found.goes,
@@ -248,7 +248,7 @@ leaf_exact {S = S} {A = A} step final start d e n K = record {
             let rest = skipped found.after in
             let after_is : found.after ≡ rest.blanks ++ t = rest.parts ∙ ap (λ l. rest.blanks ++ l) here in
             let text_is : x ≡ found.text ++ rest.blanks =
-            same_front x (found.text ++ rest.blanks) t (found.parts ∙ (ap (λ l. found.text ++ l) after_is ∙ append_append found.text rest.blanks t)) in
+            append_cancel_right x (found.text ++ rest.blanks) t (found.parts ∙ (ap (λ l. found.text ++ l) after_is ∙ sym (append_assoc found.text rest.blanks t))) in
             inr (
               found.text,
               (
@@ -283,7 +283,7 @@ leaf_exact {S = S} {A = A} step final start d e n K = record {
         ∙ ap (λ (w : Result A Stop). left_at w u) (sym outcome)
     local_by x t u o same (inr (text, (blanks, (last, (a, (parts, are, goes, halts, is, tight, outcome)))))) =
         let next_same = first_after blanks t u same in
-        ap (λ l. machine step final start l) (ap (λ l. l ++ u) parts ∙ sym (append_append text blanks u))
+        ap (λ l. machine step final start l) (ap (λ l. l ++ u) parts ∙ append_assoc text blanks u)
         ∙ (goes_to text (blanks ++ u) last (Some a) goes (subst (λ b. next_of step last b ≡ None) next_same halts) (subst (λ b. final last b ≡ Some a) next_same is)
         ∙ (ap (λ l. read a l) (skip_blanks blanks u are ∙ tight_as t u same tight) ∙ ap (λ (w : Result A Stop). left_at w u) (sym outcome)))
 
@@ -303,11 +303,11 @@ leaf_exact {S = S} {A = A} step final start d e n K = record {
       where
         by_blanks : (bs : List ℕ) → x ≡ text ++ bs → AreBlank bs → next_of step last (first (bs ++ t)) ≡ None → final last (first (bs ++ t)) ≡ Some b → machine step final start (x ++ (32 ∷ u)) ≡ read a u
         by_blanks [] parts2 are2 halts2 is2 =
-            ap (λ l. machine step final start (l ++ (32 ∷ u))) (parts2 ∙ append_none text)
+            ap (λ l. machine step final start (l ++ (32 ∷ u))) (parts2 ∙ append-nil text)
             ∙ (goes_to text (32 ∷ u) last (Some b) goes (K.blank last (first t) b is2).0 (K.blank last (first t) b is2).1
             ∙ (ap (λ l. read b l) tight ∙ ap (λ (w : A). read w u) (sym (same_value a b outcome))))
         by_blanks (c ∷ bs) parts2 are2 halts2 is2 =
-            ap (λ l. machine step final start l) (ap (λ l. l ++ (32 ∷ u)) parts2 ∙ sym (append_append text (c ∷ bs) (32 ∷ u)))
+            ap (λ l. machine step final start l) (ap (λ l. l ++ (32 ∷ u)) parts2 ∙ append_assoc text (c ∷ bs) (32 ∷ u))
             ∙ (goes_to text (c ∷ (bs ++ (32 ∷ u))) last (Some b) goes halts2 is2
             ∙ (ap (λ l. read b l) (skip_blanks (c ∷ bs) (32 ∷ u) are2 ∙ tight) ∙ ap (λ (w : A). read w u) (sym (same_value a b outcome))))
 

@@ -1,12 +1,12 @@
 -- A reader after another, or the end, by what comes next: where both are exact, so is the whole.
 use Rattle.std.proofs.Common.{◌≡◌, ◌⊎◌, inl, inr, ℕ, suc, ◌+◌, ◌<◌, ◌≤◌, List, [], ◌∷◌, ◌++◌, length, Bool, true, Option, Some, Result, Ok, Err, refl, sym, ap, subst, ◌∙◌, arith}
-use Rattle.std.proofs.lemmas.List.{length-append}
+use Rattle.std.proofs.lemmas.List.{append-nil, append_assoc, append_cancel_right, length-append}
 use Rattle.tp_policy_text.specs.declared.halt.Stop.{Stop}
 use Rattle.tp_policy_text.specs.declared.halt.Stop.TheVariants as stop
 use Rattle.tp_policy_text.specs.Lexis.{count, first}
 use Rattle.tp_policy_text.specs.mirrors.Readings.{Reader, Reading, carried, go_on, link, pick, read, seq, stopped}
 use Rattle.tp_policy_text.proofs.Exact.{Ends, Exact, Front, GivesUp, IsDeep, IsLevel, IsShallow, Language, Starts, left_at}
-use Rattle.tp_policy_text.proofs.Texts.{InFirst, InSecond, IsTight, append_append, append_none, count_append, empty_front, first_after, same_front, stands_in, tight_byte}
+use Rattle.tp_policy_text.proofs.Texts.{InFirst, InSecond, IsTight, count_append, empty_front, first_after, stands_in, tight_byte}
 
 -- what comes after a value, where the byte comes next: the end with a value, or another reader
 abbrev pub Next : Type 0 → Type 0 → Type 0 → Type 0
@@ -104,7 +104,7 @@ cut_outcome {A = A} {B = B} {C = C} k r q x t o R Q (Ok a) m e h = by_step (k a 
           one = f1.before;
           two = f2.before;
           further = (q m).outcome;
-          parts = same_front x (f1.before ++ f2.before) t (whole ∙ append_append f1.before f2.before t);
+          parts = append_cancel_right x (f1.before ++ f2.before) t (whole ∙ sym (append_assoc f1.before f2.before t));
           ran = subst (λ (l : List ℕ). r l ≡ read a (f2.before ++ t)) whole (subst (λ (l : List ℕ). r (x ++ t) ≡ read a l) parts2 e);
           goes = subst (λ (l : List ℕ). k a (first l) ≡ inr g) parts2 is;
           then_ran = subst (λ (l : List ℕ). q l ≡ left_at (q m).outcome t) parts2 ran;
@@ -227,11 +227,11 @@ link_exact {A = A} {B = B} {C = C} k r q L W M V F G H d e f n n' R Q fits enoug
         by_step (inl c) = h
         by_step (inr g) = let h2 = Q.front m in record {
           before = h.before ++ h2.before;
-          parts = h.parts ∙ (ap (λ (l : List ℕ). h.before ++ l) h2.parts ∙ append_append h.before h2.before (q m).left);
+          parts = h.parts ∙ (ap (λ (l : List ℕ). h.before ++ l) h2.parts ∙ sym (append_assoc h.before h2.before (q m).left));
         }
 
     at_end : (x y z t : List ℕ) → x ≡ y ++ z → x ++ t ≡ y ++ (z ++ t)
-    at_end x y z t parts = ap (λ (l : List ℕ). l ++ t) parts ∙ sym (append_append y z t)
+    at_end x y z t parts = ap (λ (l : List ℕ). l ++ t) parts ∙ append_assoc y z t
 
     local_by : (x t u : List ℕ) (o : Result C Stop) → first t ≡ first u → Cut k r q x t o → link k r q (x ++ u) ≡ left_at o u
     local_by x t u o same (inl h) =
@@ -378,7 +378,7 @@ link_exact {A = A} {B = B} {C = C} k r q L W M V F G H d e f n n' R Q fits enoug
       value = g Q.some.value;
       ends = λ u tight. then_some (x ++ ((first_ends.more ++ (Q.some.byte ∷ Q.some.others)) ++ u)) u first_ends.value g goes tight
           (subst (λ (l : List ℕ). L first_ends.value (x ++ l) (Q.some.byte ∷ (Q.some.others ++ u)))
-          (append_append first_ends.more (Q.some.byte ∷ Q.some.others) u)
+          (sym (append_assoc first_ends.more (Q.some.byte ∷ Q.some.others) u))
           (first_ends.ends (Q.some.byte ∷ (Q.some.others ++ u)) (tight_byte Q.some.byte (Q.some.others ++ u) Q.some.tight)));
     }
     both_end x first_ends (inr (c, over)) = record {
@@ -403,7 +403,7 @@ link_exact {A = A} {B = B} {C = C} k r q L W M V F G H d e f n n' R Q fits enoug
               ends = λ u tight. then_some (x ++ (32 ∷ (Q.some.byte ∷ (Q.some.others ++ u)))) u h.value g leads_on tight
                   (R.takes (x ++ (32 ∷ (Q.some.byte ∷ (Q.some.others ++ u)))) (Q.some.byte ∷ (Q.some.others ++ u)) h.value
                   (R.spaced x t (Q.some.byte ∷ (Q.some.others ++ u)) h.value
-                  (subst (λ (l : List ℕ). r (l ++ t) ≡ read h.value t) (sym (parts ∙ append_none h.one)) ran)
+                  (subst (λ (l : List ℕ). r (l ++ t) ≡ read h.value t) (sym (parts ∙ append-nil h.one)) ran)
                   (tight_byte Q.some.byte (Q.some.others ++ u) Q.some.tight)
                   first_allows));
             }
@@ -438,7 +438,7 @@ link_exact {A = A} {B = B} {C = C} k r q L W M V F G H d e f n n' R Q fits enoug
           tight = R.some.tight;
           ends = λ u tight. then_some (R.some.byte ∷ ((R.some.others ++ (Q.some.byte ∷ Q.some.others)) ++ u)) u R.some.value g goes tight
               (subst (λ (l : List ℕ). L R.some.value (R.some.byte ∷ l) (Q.some.byte ∷ (Q.some.others ++ u)))
-              (append_append R.some.others (Q.some.byte ∷ Q.some.others) u)
+              (sym (append_assoc R.some.others (Q.some.byte ∷ Q.some.others) u))
               (R.some.ends (Q.some.byte ∷ (Q.some.others ++ u)) (tight_byte Q.some.byte (Q.some.others ++ u) Q.some.tight)));
         }
         by_leads (inr (c, over)) = record {
@@ -476,7 +476,7 @@ link_exact {A = A} {B = B} {C = C} k r q L W M V F G H d e f n n' R Q fits enoug
         with_more = g;
         between = Q.some.byte ∷ (Q.some.others ++ u);
         one = subst (λ (l : List ℕ). W first_ends.value (x ++ l) (Q.some.byte ∷ (Q.some.others ++ u)))
-            (append_append first_ends.more (Q.some.byte ∷ Q.some.others) u)
+            (sym (append_assoc first_ends.more (Q.some.byte ∷ Q.some.others) u))
             (first_ends.ends (Q.some.byte ∷ (Q.some.others ++ u)) (tight_byte Q.some.byte (Q.some.others ++ u) Q.some.tight));
         goes = goes;
         two = Q.wide (Q.some.byte ∷ (Q.some.others ++ u)) u Q.some.value (Q.some.ends u tight);
@@ -504,8 +504,8 @@ link_exact {A = A} {B = B} {C = C} k r q L W M V F G H d e f n n' R Q fits enoug
           ends = λ u tight.
               let rest = second_ends.more ++ u in
               let same = first_after h.two t (40 ∷ rest) next in
-              let opened : (h.two ++ (40 ∷ [])) ++ rest ≡ h.two ++ (40 ∷ rest) = sym (append_append h.two (40 ∷ []) rest) in
-              let whole : (x ++ (40 ∷ [])) ++ rest ≡ h.one ++ (h.two ++ (40 ∷ rest)) = sym (append_append x (40 ∷ []) rest) ∙ at_end x h.one h.two (40 ∷ rest) h.parts in
+              let opened : (h.two ++ (40 ∷ [])) ++ rest ≡ h.two ++ (40 ∷ rest) = append_assoc h.two (40 ∷ []) rest in
+              let whole : (x ++ (40 ∷ [])) ++ rest ≡ h.one ++ (h.two ++ (40 ∷ rest)) = append_assoc x (40 ∷ []) rest ∙ at_end x h.one h.two (40 ∷ rest) h.parts in
               inr (record {
                 value = h.value;
                 more = second_ends.value;

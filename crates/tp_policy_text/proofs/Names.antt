@@ -1,11 +1,12 @@
 -- Names are read exactly, by themselves and inside of other tokens.
-use Rattle.std.proofs.lemmas.Bool.{and_parts, eqb-true}
+use Rattle.std.proofs.lemmas.Bool.{and_from, and_left, and_parts, eqb-true, lt-ltb, ltb-true, not-true, not_from_false}
 use Rattle.std.proofs.Common.{◌≡◌, ℕ, ◌<◌, ◌==◌, ◌&&◌, ◌||◌, not, nat_lt, nat_le, List, [], ◌∷◌, ◌++◌, length, Bool, true, false, Option, Some, None, refl, sym, ap, subst, ◌∙◌, arith, if◌then◌else◌}
 use Rattle.std.specs.List.{list_all}
 use Rattle.std.proofs.lemmas.Bool.Decides.{nat_tests}
-use Rattle.std.proofs.lemmas.List.{length-append}
+use Rattle.std.proofs.lemmas.List.{append-nil, append_assoc, length-append}
 use Rattle.std.proofs.lemmas.List.Folds.{list_all-append}
-use Rattle.std.proofs.lemmas.Option.{same_Some}
+use Rattle.std.proofs.lemmas.Option.{cond_some, same_Some}
+use Rattle.tp_types.proofs.ListLemmas.{all_push}
 use Rattle.tp_types.specs.Spelling.{IsName, is_letter, is_part}
 use Rattle.tp_policy_text.specs.Grammar.{Named}
 use Rattle.tp_policy_text.specs.Lexis.{count, first, in_word}
@@ -14,48 +15,15 @@ use Rattle.tp_policy_text.specs.mirrors.Readings.{ended, machine, read}
 use Rattle.tp_policy_text.proofs.Choices.{retell}
 use Rattle.tp_policy_text.proofs.Exact.{Exact, IsLevel, IsShallow}
 use Rattle.tp_policy_text.proofs.Leaves.{Goes, IsLeaf, Sound, any_next, halted, leaf_exact, next_of, went}
-use Rattle.tp_policy_text.proofs.Texts.{append_append, append_none, count_append}
+use Rattle.tp_policy_text.proofs.Texts.{count_append}
 
 -- ---- tests
-
-pub both_true : (a b : Bool) → a ≡ true → b ≡ true → (a && b) ≡ true
-both_true true b e f = f
-both_true false b e f = absurd (cc)
-
-pub second_false : (a b : Bool) → b ≡ false → (a && b) ≡ false
-second_false true b e = e
-second_false false b e = refl
-
-pub first_false : (a b : Bool) → a ≡ false → (a && b) ≡ false
-first_false false b e = refl
-first_false true b e = absurd (cc)
-
-pub not_true : (b : Bool) → not b ≡ true → b ≡ false
-not_true false e = refl
-not_true true e = absurd (cc)
-
-pub not_false : (b : Bool) → b ≡ false → not b ≡ true
-not_false false e = refl
-not_false true e = absurd (cc)
-
-pub given : {A : Type 0} (b : Bool) (x y : A) → (if b then Some x else None) ≡ Some y → (b ≡ true) × (x ≡ y)
-given true x y e = (refl, same_Some x y e)
-given {A = A} false x y e = absurd (wrong e)
-  where
-    wrong : ◌≡◌ {A = Option A} None (Some y) → ⊥
-    wrong e2 = absurd (cc)
 
 pub give : {A : Type 0} (b : Bool) (x : A) → b ≡ true → (if b then Some x else None) ≡ Some x
 give {A = A} b x e = ap (λ (v : Bool). if v then Some x else None) e
 
 pub give_none : {A : Type 0} (b : Bool) (x : A) → b ≡ false → (if b then Some x else None) ≡ None
 give_none {A = A} b x e = ap (λ (v : Bool). if v then Some x else None) e
-
-pub less_of : (n m : ℕ) → nat_lt n m ≡ true → n < m
-less_of n m e = grind (arith, nat_tests)
-
-pub of_less : (n m : ℕ) → n < m → nat_lt n m ≡ true
-of_less n m e = grind (arith, nat_tests)
 
 -- ---- beginnings of names
 
@@ -73,16 +41,12 @@ pub name_parts : (head : ℕ) (others : List ℕ) → IsName (head ∷ others) �
 name_parts head others h =
     let one = and_parts (is_letter head && nat_lt (length others) 32) (list_all is_part others) h in
     let two = and_parts (is_letter head) (nat_lt (length others) 32) one.0 in
-    record { letter = two.0; short = less_of (length others) 32 two.1; parts = one.1 }
+    record { letter = two.0; short = ltb-true (length others) 32 two.1; parts = one.1 }
 
 pub name_of_parts : (head : ℕ) (others : List ℕ) → NameParts head others → IsName (head ∷ others)
 name_of_parts head others h =
-    both_true (is_letter head && nat_lt (length others) 32) (list_all is_part others)
-    (both_true (is_letter head) (nat_lt (length others) 32) h.letter (of_less (length others) 32 h.short)) h.parts
-
-pub last_part : (p : ℕ → Bool) (others : List ℕ) (byte : ℕ) → list_all p others ≡ true → p byte ≡ true → list_all p (others ++ byte ∷ []) ≡ true
-last_part p others byte h e =
-    list_all-append p others (byte ∷ []) ∙ both_true (list_all p others) (list_all p (byte ∷ [])) h (both_true (p byte) true e refl)
+    and_from (is_letter head && nat_lt (length others) 32) (list_all is_part others)
+    (and_from (is_letter head) (nat_lt (length others) 32) h.letter (lt-ltb (length others) 32 h.short)) h.parts
 
 one_more : (name : List ℕ) (byte : ℕ) → IsSoFar name → goes_on name byte ≡ true → IsSoFar (name ++ byte ∷ [])
 one_more [] byte h e = name_of_parts byte [] (record { letter = e; short = omega (arith); parts = refl })
@@ -90,11 +54,11 @@ one_more (head ∷ others) byte h e =
     let was = name_parts head others h in
     let may = and_parts (is_part byte) (nat_lt (length others) 31) e in
     let sum = length-append others (byte ∷ []) in
-    let less = less_of (length others) 31 may.1 in
+    let less = ltb-true (length others) 31 may.1 in
     name_of_parts head (others ++ byte ∷ []) (record {
       letter = was.letter;
       short = omega (arith, sum, less);
-      parts = last_part is_part others byte was.parts may.0;
+      parts = all_push is_part others byte was.parts may.0;
     })
 
 pub record Named_on (name text last : List ℕ) : Type 0 where
@@ -102,12 +66,12 @@ pub record Named_on (name text last : List ℕ) : Type 0 where
   pub so_far : IsSoFar name → IsSoFar last
 
 pub names_of : (name text last : List ℕ) → Goes name_step name text last → Named_on name text last
-names_of name [] last h = record { whole = sym h ∙ sym (append_none name); so_far = λ s. subst IsSoFar h s }
+names_of name [] last h = record { whole = sym h ∙ sym (append-nil name); so_far = λ s. subst IsSoFar h s }
 names_of name (byte ∷ text) last (next, e, later) =
-    let step = given (goes_on name byte) (name ++ byte ∷ []) next e in
+    let step = cond_some (goes_on name byte) (name ++ byte ∷ []) next e in
     let rest = names_of next text last later in
     record {
-      whole = rest.whole ∙ (ap (λ l. l ++ text) (sym step.1) ∙ sym (append_append name (byte ∷ []) text));
+      whole = rest.whole ∙ (ap (λ l. l ++ text) (sym step.1) ∙ append_assoc name (byte ∷ []) text);
       so_far = λ s. rest.so_far (subst IsSoFar step.1 (one_more name byte s step.0));
     }
 
@@ -118,13 +82,13 @@ may_go_on (head ∷ others) text byte h =
     let halves = and_parts (list_all is_part others) (list_all is_part (byte ∷ text)) (sym (list_all-append is_part others (byte ∷ text)) ∙ was.parts) in
     let sum = length-append others (byte ∷ text) in
     let short = was.short in
-    both_true (is_part byte) (nat_lt (length others) 31) (and_parts (is_part byte) (list_all is_part text) halves.1).0
-    (of_less (length others) 31 (omega (arith, sum, short)))
+    and_from (is_part byte) (nat_lt (length others) 31) (and_parts (is_part byte) (list_all is_part text) halves.1).0
+    (lt-ltb (length others) 31 (omega (arith, sum, short)))
 
 pub names_go : (name text : List ℕ) → IsName (name ++ text) → Goes name_step name text (name ++ text)
-names_go name [] h = sym (append_none name)
+names_go name [] h = sym (append-nil name)
 names_go name (byte ∷ text) h =
-    let same : name ++ (byte ∷ text) ≡ (name ++ byte ∷ []) ++ text = append_append name (byte ∷ []) text in (
+    let same : name ++ (byte ∷ text) ≡ (name ++ byte ∷ []) ++ text = sym (append_assoc name (byte ∷ []) text) in (
       name ++ byte ∷ [],
       give (goes_on name byte) (name ++ byte ∷ []) (may_go_on name text byte h),
       subst (λ l. Goes name_step (name ++ byte ∷ []) text l) (sym same) (names_go (name ++ byte ∷ []) text (subst IsName same h)),
@@ -140,7 +104,7 @@ letter_part byte e = by_letter (is_letter byte) refl
 
 pub no_further : (name : List ℕ) (byte : ℕ) → is_part byte ≡ false → name_step name byte ≡ None
 no_further [] byte e = give_none (is_letter byte) (byte ∷ []) (letter_part byte e)
-no_further (head ∷ others) byte e = give_none (is_part byte && nat_lt (length others) 31) (head ∷ (others ++ byte ∷ [])) (first_false (is_part byte) (nat_lt (length others) 31) e)
+no_further (head ∷ others) byte e = give_none (is_part byte && nat_lt (length others) 31) (head ∷ (others ++ byte ∷ [])) (and_left (is_part byte) (nat_lt (length others) 31) e)
 
 pub no_next_name : (name : List ℕ) (o : Option ℕ) → in_word o ≡ false → next_of name_step name o ≡ None
 no_next_name name None e = refl
@@ -186,12 +150,12 @@ name_plain = record { opens = λ name. no_further name 40 refl; closes = λ name
 -- the end of a name
 pub name_ended : (name : List ℕ) (o : Option ℕ) (found : List ℕ) → name_end name o ≡ Some found → (is_some_text name ≡ true) × (in_word o ≡ false) × (name ≡ found)
 name_ended name o found h =
-    let step = given (is_some_text name && not (in_word o)) name found h in
+    let step = cond_some (is_some_text name && not (in_word o)) name found h in
     let parts = and_parts (is_some_text name) (not (in_word o)) step.0 in
-    (parts.0, not_true (in_word o) parts.1, step.1)
+    (parts.0, not-true (in_word o) parts.1, step.1)
 
 pub name_ends : (name : List ℕ) (o : Option ℕ) → is_some_text name ≡ true → in_word o ≡ false → name_end name o ≡ Some name
-name_ends name o some free = give (is_some_text name && not (in_word o)) name (both_true (is_some_text name) (not (in_word o)) some (not_false (in_word o) free))
+name_ends name o some free = give (is_some_text name && not (in_word o)) name (and_from (is_some_text name) (not (in_word o)) some (not_from_false (in_word o) free))
 
 -- from a beginning of a name, a letter where it is empty and then a blank are an end
 pub record NameEnd (name : List ℕ) : Type 0 where
@@ -201,7 +165,7 @@ pub record NameEnd (name : List ℕ) : Type 0 where
 
 pub name_finish : (name : List ℕ) → NameEnd name
 name_finish [] = record { more = 97 ∷ []; goes = (97 ∷ [], refl, refl); some = refl }
-name_finish (head ∷ others) = record { more = []; goes = sym (append_none (head ∷ others)); some = refl }
+name_finish (head ∷ others) = record { more = []; goes = sym (append-nil (head ∷ others)); some = refl }
 
 name_sound : (d : ℕ) → Sound name_step name_end [] d d
 name_sound d = record {
@@ -211,7 +175,7 @@ name_sound d = record {
   finish = λ name. let end = name_finish name in record {
     more = end.more ++ (32 ∷ []);
     value = name ++ end.more;
-    ends = λ u tight. ap (λ l. machine name_step name_end name l) (sym (append_append end.more (32 ∷ []) u))
+    ends = λ u tight. ap (λ l. machine name_step name_end name l) (append_assoc end.more (32 ∷ []) u)
         ∙ (went name_step name_end name (name ++ end.more) end.more (32 ∷ u) end.goes
         ∙ (halted name_step name_end (name ++ end.more) (32 ∷ u) (no_further (name ++ end.more) 32 refl)
         ∙ (ap (λ (o : Option (List ℕ)). ended o (32 ∷ u)) (name_ends (name ++ end.more) (Some 32) end.some refl) ∙ ap (λ l. read (name ++ end.more) l) tight)));

@@ -1,11 +1,12 @@
 -- Integers are read exactly.
-use Rattle.std.proofs.lemmas.Bool.{and_parts, eqb-true}
+use Rattle.std.proofs.lemmas.Bool.{and_from, and_left, and_parts, and_right, eqb-true, lt-ltb, ltb-true, not-true, not_from_false}
 use Rattle.std.proofs.Common.{◌≡◌, ◌⊎◌, inl, inr, ℕ, ◌+◌, ◌-◌, ◌*◌, ◌<◌, ◌≤◌, ◌==◌, ◌&&◌, not, nat_lt, nat_le, List, [], ◌∷◌, ◌++◌, length, Bool, true, false, Option, Some, None, refl, sym, ap, subst, ◌∙◌, arith, if◌then◌else◌, ℤ}
 use Rattle.std.specs.List.{list_all}
 use Rattle.std.proofs.lemmas.Bool.Decides.{nat_tests}
-use Rattle.std.proofs.lemmas.List.{length-append}
+use Rattle.std.proofs.lemmas.List.{append-nil, append_assoc, length-append}
 use Rattle.std.proofs.lemmas.List.Folds.{list_all-append}
-use Rattle.std.proofs.lemmas.Option.{same_Some}
+use Rattle.std.proofs.lemmas.Option.{cond_some, same_Some}
+use Rattle.tp_types.proofs.ListLemmas.{all_push}
 use Rattle.tp_types.specs.Spelling.{is_digit, is_number, is_part, spelled_from}
 use Rattle.tp_policy_text.specs.Grammar.{Int, IsInt}
 use Rattle.tp_policy_text.specs.Lexis.{first, in_word}
@@ -14,8 +15,7 @@ use Rattle.tp_policy_text.specs.mirrors.Readings.{ended, machine, read}
 use Rattle.tp_policy_text.proofs.Choices.{retell}
 use Rattle.tp_policy_text.proofs.Exact.{Exact}
 use Rattle.tp_policy_text.proofs.Leaves.{Goes, IsLeaf, Sound, any_next, halted, leaf_exact, next_of, went}
-use Rattle.tp_policy_text.proofs.Names.{Plain, both_true, first_false, give, give_none, given, last_part, less_of, not_false, not_true, of_less, plain_level, plain_shallow, second_false}
-use Rattle.tp_policy_text.proofs.Texts.{append_append, append_none}
+use Rattle.tp_policy_text.proofs.Names.{Plain, give, give_none, plain_level, plain_shallow}
 
 -- ---- digits so far
 
@@ -31,17 +31,17 @@ number_parts head (other ∷ rest) h =
     let one = and_parts (is_digit head && nat_lt 48 head && list_all is_digit (other ∷ rest)) (nat_lt (length rest) 14) h in
     let two = and_parts (is_digit head && nat_lt 48 head) (list_all is_digit (other ∷ rest)) one.0 in
     let three = and_parts (is_digit head) (nat_lt 48 head) two.0 in
-    let less = less_of (length rest) 14 one.1 in
-    record { digit = three.0; digits = two.1; leads = λ some. less_of 48 head three.1; short = omega (arith, less) }
+    let less = ltb-true (length rest) 14 one.1 in
+    record { digit = three.0; digits = two.1; leads = λ some. ltb-true 48 head three.1; short = omega (arith, less) }
 
 number_of_parts : (head : ℕ) (others : List ℕ) → NumberParts head others → is_number (head ∷ others) ≡ true
 number_of_parts head [] h = h.digit
 number_of_parts head (other ∷ rest) h =
     let short = h.short in
-    both_true (is_digit head && nat_lt 48 head && list_all is_digit (other ∷ rest)) (nat_lt (length rest) 14)
-    (both_true (is_digit head && nat_lt 48 head) (list_all is_digit (other ∷ rest))
-    (both_true (is_digit head) (nat_lt 48 head) h.digit (of_less 48 head (h.leads (λ none. wrong none)))) h.digits)
-    (of_less (length rest) 14 (omega (arith, short)))
+    and_from (is_digit head && nat_lt 48 head && list_all is_digit (other ∷ rest)) (nat_lt (length rest) 14)
+    (and_from (is_digit head && nat_lt 48 head) (list_all is_digit (other ∷ rest))
+    (and_from (is_digit head) (nat_lt 48 head) h.digit (lt-ltb 48 head (h.leads (λ none. wrong none)))) h.digits)
+    (lt-ltb (length rest) 14 (omega (arith, short)))
   where
     wrong : other ∷ rest ≡ [] → ⊥
     wrong e = absurd (cc)
@@ -76,7 +76,7 @@ spelled_more number (digit ∷ digits) = let later = spelled_more (number * 10 +
 one_digit : (negative : Bool) (digits : List ℕ) (byte : ℕ) → IsDigitsSoFar negative digits → takes_digit negative digits byte ≡ true → IsDigitsSoFar negative (digits ++ byte ∷ [])
 one_digit negative [] byte h e =
     let test = and_parts (is_digit byte) (not (negative && (byte == 48))) e in
-    (test.0, λ minus. positive minus test.0 (not_true (negative && (byte == 48)) test.1))
+    (test.0, λ minus. positive minus test.0 (not-true (negative && (byte == 48)) test.1))
   where
     positive : negative ≡ true → is_digit byte ≡ true → (negative && (byte == 48)) ≡ false → 1 ≤ spelled_from 0 (byte ∷ [])
     positive minus digit zero =
@@ -87,13 +87,13 @@ one_digit negative (head ∷ others) byte h e =
     let test = and_parts (is_digit byte && not (head == 48)) (nat_lt (length others) 14) e in
     let digit = and_parts (is_digit byte) (not (head == 48)) test.0 in
     let was = number_parts head others h.0 in
-    let above = not_zero head was.digit (not_true (head == 48) digit.1) in
+    let above = not_zero head was.digit (not-true (head == 48) digit.1) in
     let sum = length-append others (byte ∷ []) in
-    let less = less_of (length others) 14 test.1 in
+    let less = ltb-true (length others) 14 test.1 in
     let least = spelled_more (0 * 10 + (head - 48)) (others ++ byte ∷ []) in (
       number_of_parts head (others ++ byte ∷ []) (record {
         digit = was.digit;
-        digits = last_part is_digit others byte was.digits digit.0;
+        digits = all_push is_digit others byte was.digits digit.0;
         leads = λ some. above;
         short = omega (arith, sum, less);
       }),
@@ -103,7 +103,7 @@ one_digit negative (head ∷ others) byte h e =
 may_take : (negative : Bool) (digits text : List ℕ) (byte : ℕ) → IsDigitsSoFar negative (digits ++ (byte ∷ text)) → takes_digit negative digits byte ≡ true
 may_take negative [] text byte h =
     let was = number_parts byte text h.0 in
-    both_true (is_digit byte) (not (negative && (byte == 48))) was.digit (not_false (negative && (byte == 48)) (no_minus_zero negative refl was))
+    and_from (is_digit byte) (not (negative && (byte == 48))) was.digit (not_from_false (negative && (byte == 48)) (no_minus_zero negative refl was))
   where
     zero_alone : (rest : List ℕ) → (byte == 48) ≡ true → NumberParts byte rest → 1 ≤ spelled_from 0 (byte ∷ rest) → ⊥
     zero_alone [] zero was least = let same = eqb-true byte 48 zero in omega (arith, same, least)
@@ -124,10 +124,10 @@ may_take negative (head ∷ others) text byte h =
     let halves = and_parts (list_all is_digit others) (list_all is_digit (byte ∷ text)) (sym (list_all-append is_digit others (byte ∷ text)) ∙ was.digits) in
     let sum = length-append others (byte ∷ text) in
     let short = was.short in
-    both_true (is_digit byte && not (head == 48)) (nat_lt (length others) 14)
-    (both_true (is_digit byte) (not (head == 48)) (and_parts (is_digit byte) (list_all is_digit text) halves.1).0
-    (not_false (head == 48) (above_zero head (was.leads (λ none. no_none others none)))))
-    (of_less (length others) 14 (omega (arith, sum, short)))
+    and_from (is_digit byte && not (head == 48)) (nat_lt (length others) 14)
+    (and_from (is_digit byte) (not (head == 48)) (and_parts (is_digit byte) (list_all is_digit text) halves.1).0
+    (not_from_false (head == 48) (above_zero head (was.leads (λ none. no_none others none)))))
+    (lt-ltb (length others) 14 (omega (arith, sum, short)))
   where
     no_none : (xs : List ℕ) → xs ++ (byte ∷ text) ≡ [] → ⊥
     no_none [] e = absurd (cc)
@@ -169,19 +169,19 @@ minus_parts : (negative : Bool) (digits : List ℕ) (byte : ℕ) → ((byte == 4
 minus_parts negative digits byte e =
     let one = and_parts ((byte == 45) && not negative) (not (is_some_text digits)) e in
     let two = and_parts (byte == 45) (not negative) one.0 in
-    record { minus = eqb-true byte 45 two.0; plus = not_true negative two.1; none = no_text digits (not_true (is_some_text digits) one.1) }
+    record { minus = eqb-true byte 45 two.0; plus = not-true negative two.1; none = no_text digits (not-true (is_some_text digits) one.1) }
 
 digits_only : (digits text : List ℕ) (last : Digits) → Goes int_step (state_of true digits) text last → Reads_digits true digits text last
-digits_only digits [] last h = record { is = sym h ∙ ap (state_of true) (sym (append_none digits)); so_far = λ k. subst (IsDigitsSoFar true) (sym (append_none digits)) k }
+digits_only digits [] last h = record { is = sym h ∙ ap (state_of true) (sym (append-nil digits)); so_far = λ k. subst (IsDigitsSoFar true) (sym (append-nil digits)) k }
 digits_only digits (byte ∷ text) last (next, e, later) = by_digit (takes_digit true digits byte) refl (λ digits2 goes. digits_only digits2 text last goes)
   where
     by_digit : (b : Bool) → takes_digit true digits byte ≡ b → ((digits2 : List ℕ) → Goes int_step (state_of true digits2) text last → Reads_digits true digits2 text last) → Reads_digits true digits (byte ∷ text) last
     by_digit true took rec =
         let at = same_Some (state_of true (digits ++ byte ∷ [])) next (sym (digit_step true digits byte true took) ∙ e) in
         let rest = rec (digits ++ byte ∷ []) (subst (λ s. Goes int_step s text last) (sym at) later) in
-        let whole : (digits ++ byte ∷ []) ++ text ≡ digits ++ (byte ∷ text) = sym (append_append digits (byte ∷ []) text) in
+        let whole : (digits ++ byte ∷ []) ++ text ≡ digits ++ (byte ∷ text) = append_assoc digits (byte ∷ []) text in
         record { is = rest.is ∙ ap (state_of true) whole; so_far = λ k. subst (IsDigitsSoFar true) whole (rest.so_far (one_digit true digits byte k took)) }
-    by_digit false took rec = absurd (wrong (given ((byte == 45) && false && not (is_some_text digits)) (state_of true []) next (sym (digit_step true digits byte false took) ∙ e)).0)
+    by_digit false took rec = absurd (wrong (cond_some ((byte == 45) && false && not (is_some_text digits)) (state_of true []) next (sym (digit_step true digits byte false took) ∙ e)).0)
       where
         wrong : ((byte == 45) && false && not (is_some_text digits)) ≡ true → ⊥
         wrong e2 = not_both ((minus_parts true digits byte e2).plus)
@@ -190,7 +190,7 @@ digits_only digits (byte ∷ text) last (next, e, later) = by_digit (takes_digit
             not_both e3 = absurd (cc)
 
 digits_of : (digits text : List ℕ) (last : Digits) → Goes int_step (state_of false digits) text last → Reads_digits false digits text last ⊎ Reads_minus false digits text last
-digits_of digits [] last h = inl (record { is = sym h ∙ ap (state_of false) (sym (append_none digits)); so_far = λ k. subst (IsDigitsSoFar false) (sym (append_none digits)) k })
+digits_of digits [] last h = inl (record { is = sym h ∙ ap (state_of false) (sym (append-nil digits)); so_far = λ k. subst (IsDigitsSoFar false) (sym (append-nil digits)) k })
 digits_of digits (byte ∷ text) last (next, e, later) = by_digit (takes_digit false digits byte) refl (λ digits2 goes. digits_of digits2 text last goes)
   where
     some_now : (xs : List ℕ) → xs ++ byte ∷ [] ≡ [] → ⊥
@@ -199,7 +199,7 @@ digits_of digits (byte ∷ text) last (next, e, later) = by_digit (takes_digit f
 
     by_rest : takes_digit false digits byte ≡ true → Reads_digits false (digits ++ byte ∷ []) text last ⊎ Reads_minus false (digits ++ byte ∷ []) text last → Reads_digits false digits (byte ∷ text) last ⊎ Reads_minus false digits (byte ∷ text) last
     by_rest took (inl rest) =
-        let whole : (digits ++ byte ∷ []) ++ text ≡ digits ++ (byte ∷ text) = sym (append_append digits (byte ∷ []) text) in
+        let whole : (digits ++ byte ∷ []) ++ text ≡ digits ++ (byte ∷ text) = append_assoc digits (byte ∷ []) text in
         inl (record { is = rest.is ∙ ap (state_of false) whole; so_far = λ k. subst (IsDigitsSoFar false) whole (rest.so_far (one_digit false digits byte k took)) })
     by_rest took (inr rest) = absurd (some_now digits rest.none)
 
@@ -209,7 +209,7 @@ digits_of digits (byte ∷ text) last (next, e, later) = by_digit (takes_digit f
         let at = same_Some (state_of false (digits ++ byte ∷ [])) next (sym (digit_step false digits byte true took) ∙ e) in
         by_rest took (rec (digits ++ byte ∷ []) (subst (λ s. Goes int_step s text last) (sym at) later))
     by_digit false took rec =
-        let step = given ((byte == 45) && true && not (is_some_text digits)) (state_of true []) next (sym (digit_step false digits byte false took) ∙ e) in
+        let step = cond_some ((byte == 45) && true && not (is_some_text digits)) (state_of true []) next (sym (digit_step false digits byte false took) ∙ e) in
         let sign = minus_parts false digits byte step.0 in
         let rest = digits_only [] text last (subst (λ s. Goes int_step s text last) (sym step.1) later) in
         inr (record {
@@ -222,9 +222,9 @@ digits_of digits (byte ∷ text) last (next, e, later) = by_digit (takes_digit f
         })
 
 digits_go : (negative : Bool) (digits text : List ℕ) → IsDigitsSoFar negative (digits ++ text) → Goes int_step (state_of negative digits) text (state_of negative (digits ++ text))
-digits_go negative digits [] h = ap (state_of negative) (sym (append_none digits))
+digits_go negative digits [] h = ap (state_of negative) (sym (append-nil digits))
 digits_go negative digits (byte ∷ text) h =
-    let same : digits ++ (byte ∷ text) ≡ (digits ++ byte ∷ []) ++ text = append_append digits (byte ∷ []) text in (
+    let same : digits ++ (byte ∷ text) ≡ (digits ++ byte ∷ []) ++ text = sym (append_assoc digits (byte ∷ []) text) in (
       state_of negative (digits ++ byte ∷ []),
       digit_step negative digits byte true (may_take negative digits text byte h),
       subst (λ l. Goes int_step (state_of negative (digits ++ byte ∷ [])) text (state_of negative l)) (sym same) (digits_go negative (digits ++ byte ∷ []) text (subst (IsDigitsSoFar negative) same h)),
@@ -233,15 +233,15 @@ digits_go negative digits (byte ∷ text) h =
 -- ---- the end
 
 no_digit : (negative : Bool) (digits : List ℕ) (byte : ℕ) → is_digit byte ≡ false → takes_digit negative digits byte ≡ false
-no_digit negative [] byte e = first_false (is_digit byte) (not (negative && (byte == 48))) e
-no_digit negative (head ∷ others) byte e = first_false (is_digit byte && not (head == 48)) (nat_lt (length others) 14) (first_false (is_digit byte) (not (head == 48)) e)
+no_digit negative [] byte e = and_left (is_digit byte) (not (negative && (byte == 48))) e
+no_digit negative (head ∷ others) byte e = and_left (is_digit byte && not (head == 48)) (nat_lt (length others) 14) (and_left (is_digit byte) (not (head == 48)) e)
 
 no_step : (negative : Bool) (digits : List ℕ) (byte : ℕ) → is_digit byte ≡ false → ((byte == 45) && not negative && not (is_some_text digits)) ≡ false → int_step (state_of negative digits) byte ≡ None
 no_step negative digits byte e other = digit_step negative digits byte false (no_digit negative digits byte e) ∙ give_none ((byte == 45) && not negative && not (is_some_text digits)) (state_of true []) other
 
 no_sign : (d : Digits) (byte : ℕ) → is_digit byte ≡ false → (byte == 45) ≡ false → int_step d byte ≡ None
 no_sign d byte e other =
-    no_step d.negative d.digits byte e (first_false ((byte == 45) && not d.negative) (not (is_some_text d.digits)) (first_false (byte == 45) (not d.negative) other))
+    no_step d.negative d.digits byte e (and_left ((byte == 45) && not d.negative) (not (is_some_text d.digits)) (and_left (byte == 45) (not d.negative) other))
 
 digit_is_part : (byte : ℕ) → is_part byte ≡ false → is_digit byte ≡ false
 digit_is_part byte e = by_digit (is_digit byte) refl
@@ -256,19 +256,19 @@ digit_is_part byte e = by_digit (is_digit byte) refl
 no_next_digit : (negative : Bool) (digits : List ℕ) (o : Option ℕ) → is_some_text digits ≡ true → in_word o ≡ false → next_of int_step (state_of negative digits) o ≡ None
 no_next_digit negative digits None some e = refl
 no_next_digit negative digits (Some byte) some e =
-    no_step negative digits byte (digit_is_part byte e) (second_false ((byte == 45) && not negative) (not (is_some_text digits)) (ap not some))
+    no_step negative digits byte (digit_is_part byte e) (and_right ((byte == 45) && not negative) (not (is_some_text digits)) (ap not some))
 
 int_plain : Plain int_step
 int_plain = record { opens = λ d. no_sign d 40 refl refl; closes = λ d. no_sign d 41 refl refl }
 
 int_ended : (d : Digits) (o : Option ℕ) (found : ℤ) → int_end d o ≡ Some found → (is_some_text d.digits ≡ true) × (in_word o ≡ false) × (int_of d ≡ found)
 int_ended d o found h =
-    let step = given (is_some_text d.digits && not (in_word o)) (int_of d) found h in
+    let step = cond_some (is_some_text d.digits && not (in_word o)) (int_of d) found h in
     let parts = and_parts (is_some_text d.digits) (not (in_word o)) step.0 in
-    (parts.0, not_true (in_word o) parts.1, step.1)
+    (parts.0, not-true (in_word o) parts.1, step.1)
 
 int_ends : (d : Digits) (o : Option ℕ) → is_some_text d.digits ≡ true → in_word o ≡ false → int_end d o ≡ Some (int_of d)
-int_ends d o some free = give (is_some_text d.digits && not (in_word o)) (int_of d) (both_true (is_some_text d.digits) (not (in_word o)) some (not_false (in_word o) free))
+int_ends d o some free = give (is_some_text d.digits && not (in_word o)) (int_of d) (and_from (is_some_text d.digits) (not (in_word o)) some (not_from_false (in_word o) free))
 
 record DigitEnd (negative : Bool) (digits : List ℕ) : Type 0 where
   pub more : List ℕ
@@ -278,7 +278,7 @@ record DigitEnd (negative : Bool) (digits : List ℕ) : Type 0 where
 digit_finish : (negative : Bool) (digits : List ℕ) → DigitEnd negative digits
 digit_finish true [] = record { more = 49 ∷ []; goes = (state_of true (49 ∷ []), refl, refl); some = refl }
 digit_finish false [] = record { more = 49 ∷ []; goes = (state_of false (49 ∷ []), refl, refl); some = refl }
-digit_finish negative (head ∷ others) = record { more = []; goes = ap (state_of negative) (sym (append_none (head ∷ others))); some = refl }
+digit_finish negative (head ∷ others) = record { more = []; goes = ap (state_of negative) (sym (append-nil (head ∷ others))); some = refl }
 
 int_sound : (d : ℕ) → Sound int_step int_end (state_of false []) d d
 int_sound d = record {
@@ -288,7 +288,7 @@ int_sound d = record {
   finish = λ state. let end = digit_finish state.negative state.digits in record {
     more = end.more ++ (32 ∷ []);
     value = int_of (state_of state.negative (state.digits ++ end.more));
-    ends = λ u tight. ap (λ l. machine int_step int_end state l) (sym (append_append end.more (32 ∷ []) u))
+    ends = λ u tight. ap (λ l. machine int_step int_end state l) (append_assoc end.more (32 ∷ []) u)
         ∙ (went int_step int_end state (state_of state.negative (state.digits ++ end.more)) end.more (32 ∷ u) end.goes
         ∙ (halted int_step int_end (state_of state.negative (state.digits ++ end.more)) (32 ∷ u) (no_sign (state_of state.negative (state.digits ++ end.more)) 32 refl refl)
         ∙ (ap (λ (o : Option ℤ). ended o (32 ∷ u)) (int_ends (state_of state.negative (state.digits ++ end.more)) (Some 32) end.some refl)

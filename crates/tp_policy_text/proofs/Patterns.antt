@@ -1,7 +1,8 @@
 -- Patterns are read exactly.
-use Rattle.std.proofs.lemmas.Bool.{and_parts, eqb-true}
+use Rattle.std.proofs.lemmas.Bool.{and_from, and_parts, eqb-true, not-true, not_from_false}
 use Rattle.std.proofs.Common.{◌≡◌, ◌⊎◌, inl, inr, ℕ, ◌==◌, ◌&&◌, not, List, [], ◌∷◌, ◌++◌, Bool, true, false, Option, Some, None, refl, sym, ap, subst, ◌∙◌, arith, if◌then◌else◌, codes}
-use Rattle.std.proofs.lemmas.Option.{same_Some}
+use Rattle.std.proofs.lemmas.Option.{cond_some, same_Some}
+use Rattle.std.proofs.lemmas.List.{append-nil, append_assoc}
 use Rattle.tp_types.specs.declared.policy.Pattern.{Pattern}
 use Rattle.tp_types.specs.declared.policy.Pattern.TheVariants as pattern
 use Rattle.tp_types.specs.Spelling.{IsName, is_letter}
@@ -12,9 +13,9 @@ use Rattle.tp_policy_text.specs.mirrors.Readings.{ended, machine, read}
 use Rattle.tp_policy_text.proofs.Choices.{Either, choice_exact, retell}
 use Rattle.tp_policy_text.proofs.Exact.{Ends, Exact}
 use Rattle.tp_policy_text.proofs.Leaves.{Goes, IsLeaf, Sound, any_next, halted, leaf_exact, next_of, went}
-use Rattle.tp_policy_text.proofs.Names.{name_parts, Plain, both_true, give, given, name_finish, name_of_some, names_go, names_of, no_further, not_false, not_true, plain_level, plain_shallow, some_of_name}
+use Rattle.tp_policy_text.proofs.Names.{name_parts, Plain, give, name_finish, name_of_some, names_go, names_of, no_further, plain_level, plain_shallow, some_of_name}
 use Rattle.tp_policy_text.proofs.Tokens.{Says, plain_token}
-use Rattle.tp_policy_text.proofs.Texts.{append_append, append_none, tight_byte}
+use Rattle.tp_policy_text.proofs.Texts.{tight_byte}
 
 -- a name is read, and no `*`
 abbrev pub plain_name : List ℕ → Starred
@@ -30,7 +31,7 @@ IsStarred (pattern.Exact name) s t = Named name s t
 IsStarred (pattern.Prefix name) s t = IsPrefix name s t
 
 pub given_name : (name : List ℕ) (byte : ℕ) (next : List ℕ) → name_step name byte ≡ Some next → name ++ byte ∷ [] ≡ next
-given_name name byte next e = (given (goes_on name byte) (name ++ byte ∷ []) next e).1
+given_name name byte next e = (cond_some (goes_on name byte) (name ++ byte ∷ []) next e).1
 
 -- ---- the states
 
@@ -58,15 +59,15 @@ after_star name [] last h = (refl, sym h)
 after_star name (byte ∷ text) last (next, e, later) = absurd (cc)
 
 starred_of : (name text : List ℕ) (last : Starred) → Goes starred_step (plain_name name) text last → Reads_name name text last ⊎ Reads_star name text last
-starred_of name [] last h = inl (record { goes = sym (append_none name); is = sym h ∙ ap plain_name (sym (append_none name)) })
+starred_of name [] last h = inl (record { goes = sym (append-nil name); is = sym h ∙ ap plain_name (sym (append-nil name)) })
 starred_of name (byte ∷ text) last (next, e, later) = by_star ((byte == 42) && is_some_text name) refl (λ name2 step goes. starred_of name2 text last goes)
   where
     by_rest : (name2 : List ℕ) → name_step name byte ≡ Some name2 → name2 ≡ name ++ byte ∷ [] → Reads_name name2 text last ⊎ Reads_star name2 text last → Reads_name name (byte ∷ text) last ⊎ Reads_star name (byte ∷ text) last
     by_rest name2 step same (inl h) =
-        let whole : name2 ++ text ≡ name ++ (byte ∷ text) = ap (λ l. l ++ text) same ∙ sym (append_append name (byte ∷ []) text) in
+        let whole : name2 ++ text ≡ name ++ (byte ∷ text) = ap (λ l. l ++ text) same ∙ append_assoc name (byte ∷ []) text in
         inl (record { goes = (name2, step, subst (λ l. Goes name_step name2 text l) whole h.goes); is = h.is ∙ ap plain_name whole })
     by_rest name2 step same (inr h) =
-        let whole : name2 ++ h.before ≡ name ++ (byte ∷ h.before) = ap (λ l. l ++ h.before) same ∙ sym (append_append name (byte ∷ []) h.before) in
+        let whole : name2 ++ h.before ≡ name ++ (byte ∷ h.before) = ap (λ l. l ++ h.before) same ∙ append_assoc name (byte ∷ []) h.before in
         inr (record {
           before = byte ∷ h.before;
           parts = ap (λ l. byte ∷ l) h.parts;
@@ -84,9 +85,9 @@ starred_of name (byte ∷ text) last (next, e, later) = by_star ((byte == 42) &&
         inr (record {
           before = [];
           parts = ap (λ l. byte ∷ l) over.0 ∙ ap (λ (b : ℕ). b ∷ []) (eqb-true byte 42 test.0);
-          goes = sym (append_none name);
-          some = ap is_some_text (append_none name) ∙ test.1;
-          is = over.1 ∙ ap with_star (sym (append_none name));
+          goes = sym (append-nil name);
+          some = ap is_some_text (append-nil name) ∙ test.1;
+          is = over.1 ∙ ap with_star (sym (append-nil name));
         })
     by_star false star rec =
         let at = unstarred_is (name_step name byte) next (sym (star_step name byte false star) ∙ e) in
@@ -128,12 +129,12 @@ no_step p byte other none = by_star p.starred refl
 
 exact_ended : (name : List ℕ) (o : Option ℕ) (found : Pattern) → starred_end (plain_name name) o ≡ Some found → (is_some_text name ≡ true) × (in_word o ≡ false) × (pattern.Exact name ≡ found)
 exact_ended name o found h =
-    let step = given (is_some_text name && not (in_word o)) (pattern.Exact name) found h in
+    let step = cond_some (is_some_text name && not (in_word o)) (pattern.Exact name) found h in
     let parts = and_parts (is_some_text name) (not (in_word o)) step.0 in
-    (parts.0, not_true (in_word o) parts.1, step.1)
+    (parts.0, not-true (in_word o) parts.1, step.1)
 
 exact_ends : (name : List ℕ) (o : Option ℕ) → is_some_text name ≡ true → in_word o ≡ false → starred_end (plain_name name) o ≡ Some (pattern.Exact name)
-exact_ends name o some free = give (is_some_text name && not (in_word o)) (pattern.Exact name) (both_true (is_some_text name) (not (in_word o)) some (not_false (in_word o) free))
+exact_ends name o some free = give (is_some_text name && not (in_word o)) (pattern.Exact name) (and_from (is_some_text name) (not (in_word o)) some (not_from_false (in_word o) free))
 
 starred_plain : Plain starred_step
 starred_plain = record { opens = λ p. no_step p 40 refl (no_further p.name 40 refl); closes = λ p. no_step p 41 refl (no_further p.name 41 refl) }
@@ -151,7 +152,7 @@ finished name true = record {
 finished name false = let end = name_finish name in record {
   more = end.more ++ (32 ∷ []);
   value = pattern.Exact (name ++ end.more);
-  ends = λ u tight. ap (λ l. machine starred_step starred_end (plain_name name) l) (sym (append_append end.more (32 ∷ []) u))
+  ends = λ u tight. ap (λ l. machine starred_step starred_end (plain_name name) l) (append_assoc end.more (32 ∷ []) u)
       ∙ (went starred_step starred_end (plain_name name) (plain_name (name ++ end.more)) end.more (32 ∷ u) (lift_goes name end.more (name ++ end.more) end.goes)
       ∙ (halted starred_step starred_end (plain_name (name ++ end.more)) (32 ∷ u) (no_step (plain_name (name ++ end.more)) 32 refl (no_further (name ++ end.more) 32 refl))
       ∙ (ap (λ (o : Option Pattern). ended o (32 ∷ u)) (exact_ends (name ++ end.more) (Some 32) end.some refl) ∙ ap (λ l. read (pattern.Exact (name ++ end.more)) l) tight)));
@@ -227,7 +228,7 @@ starred_leaf (pattern.Exact name) s t may h = record {
   where
     no_next : (o : Option ℕ) → in_word o ≡ false → not_star o ≡ true → next_of starred_step (plain_name name) o ≡ None
     no_next None e other = refl
-    no_next (Some byte) e other = no_step (plain_name name) byte (not_true (byte == 42) other) (no_further name byte e)
+    no_next (Some byte) e other = no_step (plain_name name) byte (not-true (byte == 42) other) (no_further name byte e)
 starred_leaf (pattern.Prefix name) s t may h = record {
   text = name ++ codes "*";
   after = h.sign.after;
@@ -290,7 +291,7 @@ letter_no_star byte e = by_star (byte == 42) refl
 starred_begins : (a : Pattern) (s t : List ℕ) → IsStarred a s t → comes 42 (first s) ≡ false
 starred_begins pattern.All s t h = absurd (h)
 starred_begins (pattern.Exact name) s t h =
-    let at = name_begins true name [] s t h.spelled (subst (λ l. Token true l s t) (sym (append_none name)) h.word) in
+    let at = name_begins true name [] s t h.spelled (subst (λ l. Token true l s t) (sym (append-nil name)) h.word) in
     ap (comes 42) at.1.0 ∙ letter_no_star at.0 at.1.1
 starred_begins (pattern.Prefix name) s t h =
     let at = name_begins false name (codes "*") s t h.spelled h.sign in

@@ -2,6 +2,7 @@
 use Rattle.std.proofs.lemmas.Bool.{and_parts}
 use Rattle.std.proofs.Common.{◌≡◌, inl, inr, ℕ, zero, suc, ◌+◌, ◌≤◌, nat_le, List, [], ◌∷◌, ◌++◌, length, map, true, false, refl, sym, ap, subst, ◌∙◌, arith, append_assoc, codes}
 use Rattle.std.specs.List.{flat_map, join_by, list_all}
+use Rattle.std.proofs.lemmas.List.{append-nil}
 use Rattle.tp_types.specs.declared.policy.Cond.{Cond, map-Cond, roll-Cond}
 use Rattle.tp_types.specs.declared.policy.Cond.TheOpen.{Cond-F, True, Atom, And, Or}
 use Rattle.tp_types.specs.declared.policy.Cond.TheFolds.{ind-Cond}
@@ -12,7 +13,7 @@ use Rattle.tp_policy_text.specs.Printed.{can_be_cond, cond_text, enclosed, in_an
 use Rattle.tp_policy_text.proofs.Exact.{Language}
 use Rattle.tp_policy_text.proofs.PrintLemmas.{and_and, and_atom, and_or, and_true, can_be_and, can_be_atom, can_be_or, or_and, or_atom, or_or, or_true, text_and, text_atom, text_or, text_true}
 use Rattle.tp_policy_text.proofs.PrintedAtoms.{Prints, atom_prints, true_prints}
-use Rattle.tp_policy_text.proofs.Texts.{IsTight, append_none}
+use Rattle.tp_policy_text.proofs.Texts.{IsTight}
 
 -- ---- members with a word between two of them
 
@@ -29,7 +30,7 @@ regroup one word two others r = simp append_assoc
 
 joined_says : {A : Type 0} (L : Language A) (word : List ℕ) (f : A → List ℕ) → ((s : List ℕ) → IsTight (word ++ s)) → (x : A) (xs : List A) → AllPrint L f (x ∷ xs)
     → (r : List ℕ) → in_word (first r) ≡ false → Joined word L (x ∷ xs) ((f x ++ flat_map (λ y. spaced word ++ f y) xs) ++ r) (skip r)
-joined_says L word f tight x [] all r free = inl (refl, subst (λ s. L x (s ++ r) (skip r)) (sym (append_none (f x))) (all.0.says r free))
+joined_says L word f tight x [] all r free = inl (refl, subst (λ s. L x (s ++ r) (skip r)) (sym (append-nil (f x))) (all.0.says r free))
 joined_says {A = A} L word f tight x (y ∷ ys) all r free =
     subst (λ s. Joined word L (x ∷ y ∷ ys) s (skip r)) (sym whole)
     (inr (

@@ -1,5 +1,5 @@
 -- A number's decimal digits spell it, and at most fifteen digits spell a number of the grammar.
-use Rattle.std.proofs.lemmas.Bool.{and_parts}
+use Rattle.std.proofs.lemmas.Bool.{and_from, and_parts, lt-ltb, ltb-true}
 use Rattle.std.proofs.Common.{◌≡◌, inl, inr, ℕ, zero, suc, ◌^◌, ◌<◌, ◌≤◌, ◌&&◌, nat_lt, List, [], ◌∷◌, ◌++◌, length, get_or, true, false, refl, sym, ap, subst, arith, rules, ℤ, pos, negsuc, neg_ℤ}
 use Rattle.std.specs.Fmt.{decimal, signed_decimal}
 use Rattle.std.specs.List.{list_all}
@@ -12,7 +12,6 @@ use Rattle.tp_types.specs.Spelling.{is_digit, is_number, spelled_from}
 use Rattle.tp_policy_text.specs.Grammar.{IsInt}
 use Rattle.tp_policy_text.specs.Lexis.{is_blank}
 use Rattle.tp_policy_text.specs.Printed.{distance}
-use Rattle.tp_policy_text.proofs.Names.{both_true, less_of, of_less}
 use Rattle.tp_policy_text.proofs.Numbers.{number_parts}
 use Rattle.tp_policy_text.proofs.Texts.{IsTight, tight_byte}
 
@@ -27,10 +26,10 @@ number_of [] all some short leads = absurd (omega (arith, some))
 number_of (digit ∷ []) all some short leads = (and_parts (is_digit digit) true all).0
 number_of (digit ∷ other ∷ digits) all some short leads =
     let parts = and_parts (is_digit digit) (list_all is_digit (other ∷ digits)) all in
-    both_true (is_digit digit && nat_lt 48 digit && list_all is_digit (other ∷ digits)) (nat_lt (length digits) 14)
-    (both_true (is_digit digit && nat_lt 48 digit) (list_all is_digit (other ∷ digits))
-    (both_true (is_digit digit) (nat_lt 48 digit) parts.0 (of_less 48 digit (leads (omega (arith))))) parts.1)
-    (of_less (length digits) 14 (omega (arith, short)))
+    and_from (is_digit digit && nat_lt 48 digit && list_all is_digit (other ∷ digits)) (nat_lt (length digits) 14)
+    (and_from (is_digit digit && nat_lt 48 digit) (list_all is_digit (other ∷ digits))
+    (and_from (is_digit digit) (nat_lt 48 digit) parts.0 (lt-ltb 48 digit (leads (omega (arith))))) parts.1)
+    (lt-ltb (length digits) 14 (omega (arith, short)))
 
 decimal_is_number : (n : ℕ) → n < 10 ^ 15 → is_number (decimal n) ≡ true
 decimal_is_number n small =
@@ -47,10 +46,10 @@ decimal_spells n small = digits_value-decimal own n (omega (arith, small))
 
 pub prints_int : (z : ℤ) → nat_lt (distance z) (10 ^ 15) ≡ true → IsInt (signed_decimal z) z
 prints_int (pos n) h =
-    let small = less_of n (10 ^ 15) h in
+    let small = ltb-true n (10 ^ 15) h in
     inl (record { digits = decimal_is_number n small; number_is = ap pos (sym (decimal_spells n small)) })
 prints_int (negsuc n) h =
-    let small = less_of (suc n) (10 ^ 15) h in
+    let small = ltb-true (suc n) (10 ^ 15) h in
     let spells = decimal_spells (suc n) small in
     inr (record {
       digits = decimal (suc n);
@@ -75,7 +74,7 @@ digits_less [] h = absurd (cc)
 digits_less (head ∷ others) h =
     let parts = number_parts head others h in
     let short = parts.short in
-    number_less (head ∷ others) (both_true (is_digit head) (list_all is_digit others) parts.digit parts.digits) (omega (arith, short))
+    number_less (head ∷ others) (and_from (is_digit head) (list_all is_digit others) parts.digit parts.digits) (omega (arith, short))
 
 -- ---- texts of integers
 
@@ -91,10 +90,10 @@ int_tight text z (inl h) r = some_int text h.digits r
 int_tight text z (inr h) r = subst (λ l. IsTight (l ++ r)) (sym h.signed) refl
 
 pub int_short : (text : List ℕ) (z : ℤ) → IsInt text z → nat_lt (distance z) (10 ^ 15) ≡ true
-int_short text z (inl h) = subst (λ w. nat_lt (distance w) (10 ^ 15) ≡ true) (sym h.number_is) (of_less (spelled_from 0 text) (10 ^ 15) (digits_less text h.digits))
+int_short text z (inl h) = subst (λ w. nat_lt (distance w) (10 ^ 15) ≡ true) (sym h.number_is) (lt-ltb (spelled_from 0 text) (10 ^ 15) (digits_less text h.digits))
 int_short text z (inr h) =
     subst (λ w. nat_lt (distance w) (10 ^ 15) ≡ true) (sym h.number_is)
-    (of_less (distance (neg_ℤ (pos (spelled_from 0 h.digits)))) (10 ^ 15) (negated (spelled_from 0 h.digits) (digits_less h.digits h.are_digits)))
+    (lt-ltb (distance (neg_ℤ (pos (spelled_from 0 h.digits)))) (10 ^ 15) (negated (spelled_from 0 h.digits) (digits_less h.digits h.are_digits)))
   where
     negated : (n : ℕ) → n < 10 ^ 15 → distance (neg_ℤ (pos n)) < 10 ^ 15
     negated zero less = less

@@ -1,5 +1,5 @@
 -- Rules are read exactly.
-use Rattle.std.proofs.lemmas.Bool.{and_parts}
+use Rattle.std.proofs.lemmas.Bool.{and_parts, not-true}
 use Rattle.std.proofs.Common.{◌≡◌, ◌⊎◌, inl, inr, ℕ, zero, suc, ◌≤◌, not, List, [], ◌∷◌, Bool, true, false, Option, Some, None, refl, sym, ap, subst, ◌∙◌, arith, codes}
 use Rattle.tp_types.specs.declared.policy.Action.{Action}
 use Rattle.tp_types.specs.declared.policy.Action.TheVariants as action
@@ -15,7 +15,6 @@ use Rattle.tp_policy_text.proofs.Conditions.{after_cond, any_of, cond_exact, mor
 use Rattle.tp_policy_text.proofs.Exact.{Exact, Language}
 use Rattle.tp_policy_text.proofs.Leaves.{any_next}
 use Rattle.tp_policy_text.proofs.Links.{Linked, link_exact}
-use Rattle.tp_policy_text.proofs.Names.{not_true}
 use Rattle.tp_policy_text.proofs.Patterns.{not_star, pattern_exact, token_begins}
 use Rattle.tp_policy_text.proofs.Sequences.{Both, both_exact, narrowed}
 use Rattle.tp_policy_text.proofs.Tokens.{Says, plain_token}
@@ -268,8 +267,8 @@ rules_exact turns d (suc left) fewer =
     (omega (arith)))
     (record {
       to = λ s t rules h. linked_many (IsCond (suc d)) rules s t h;
-      from = λ s t rules may h. many_linked (IsCond (suc d)) rules s t (not_true (comes 97 (first t)) (and_parts true (not (comes 97 (first t))) may).1) h;
-      from_wide = λ s t rules may h. many_linked AnyCond rules s t (not_true (comes 97 (first t)) (and_parts true (not (comes 97 (first t))) may).1) h;
+      from = λ s t rules may h. many_linked (IsCond (suc d)) rules s t (not-true (comes 97 (first t)) (and_parts true (not (comes 97 (first t))) may).1) h;
+      from_wide = λ s t rules may h. many_linked AnyCond rules s t (not-true (comes 97 (first t)) (and_parts true (not (comes 97 (first t))) may).1) h;
       to_wide = λ s t rules h. linked_many AnyCond rules s t h;
       wide = λ s t rules h. many_wider (IsCond (suc d)) AnyCond (any_of (suc d)) rules s t h;
       allows = λ o may. may;

@@ -1,9 +1,9 @@
 -- What a token takes of a text, by how far its bytes reach.
-use Rattle.std.proofs.lemmas.Bool.{and_parts, eqb-true}
+use Rattle.std.proofs.lemmas.Bool.{and_from, and_left, and_parts, and_right, eqb-true, ltb-true, not-true, not_from_false}
 use Rattle.std.proofs.Common.{◌≡◌, ℕ, suc, add-zero, ◌+◌, ◌^◌, ◌<◌, ◌≤◌, ◌==◌, ◌&&◌, not, nat_lt, List, [], ◌∷◌, ◌++◌, length, take, drop, Bool, true, false, Option, Some, None, Result, Ok, Err, refl, sym, ap, subst, ◌∙◌, arith, lit<, ℤ, if◌then◌else◌}
 use Rattle.std.proofs.Math.Nat.{pow-le-pow_right}
 use Rattle.std.proofs.lemmas.Bool.Decides.{nat_tests}
-use Rattle.std.proofs.lemmas.List.{length-append, length-take-le, take-append-drop}
+use Rattle.std.proofs.lemmas.List.{append-nil, append_assoc, length-append, length-take-le, take-append-drop}
 use Rattle.std.proofs.lemmas.Option.{same_Some}
 use Rattle.std.specs.Cmp.Lexicographic.{pointwise}
 use Rattle.std.specs.List.{list_all}
@@ -19,13 +19,7 @@ use Rattle.tp_policy_text.specs.mirrors.Readers.{Digits, Head, atom_at, atom_of,
 use Rattle.tp_policy_text.specs.mirrors.Readings.{Reader, Reading, carried, ended, go_on, machine, mapped, pick, read, seq, taken}
 use Rattle.tp_policy_text.specs.mirrors.Scans.{attr_at, compared_to, claim_of, digit_front, digits_at, follows, head_after, is_next_digit, name_front, name_rest, reach, starred_after}
 use Rattle.tp_policy_text.proofs.Leaves.{Goes, halted, next_of, went}
-use Rattle.tp_policy_text.proofs.Names.{IsSoFar, both_true, first_false, give, give_none, less_of, not_false, not_true, second_false, name_of_some, names_of}
-use Rattle.tp_policy_text.proofs.Texts.{append_append, append_none}
-
-pub value_below : (value count most : ℕ) → value < 10 ^ count → count ≤ most → value < 10 ^ most
-value_below value count most small short =
-    let wide : 10 ^ count ≤ 10 ^ most = pow-le-pow_right (lit< tt) {i = count} {j = most} short in
-    omega arith
+use Rattle.tp_policy_text.proofs.Names.{IsSoFar, give, give_none, name_of_some, names_of}
 
 -- ---- bytes that go on
 
@@ -43,7 +37,7 @@ record Gone {S : Type 0} (step : S → ℕ → Option S) (state : List ℕ → S
 
 reach_goes : {S : Type 0} (step : S → ℕ → Option S) (state : List ℕ → S) (goes : ℕ → ℕ → Bool) (P : List ℕ → Type 0) → Grows step state goes P
     → (bytes s : List ℕ) (count : ℕ) → count ≡ length bytes → P bytes → Gone step state P bytes (take (reach goes count s) s)
-reach_goes step state goes P on bytes [] count e h = record { goes = ap state (sym (append_none bytes)); holds = subst P (sym (append_none bytes)) h }
+reach_goes step state goes P on bytes [] count e h = record { goes = ap state (sym (append-nil bytes)); holds = subst P (sym (append-nil bytes)) h }
 reach_goes step state goes P on bytes (byte ∷ others) count e h =
     by_step (λ one. reach_goes step state goes P on (bytes ++ byte ∷ []) others (count + 1) (one_longer bytes byte count e) one) (goes count byte) refl
   where
@@ -54,11 +48,11 @@ reach_goes step state goes P on bytes (byte ∷ others) count e h =
     far b = if b then suc (reach goes (count + 1) others) else 0
 
     by_step : (P (bytes ++ byte ∷ []) → Gone step state P (bytes ++ byte ∷ []) text) → (b : Bool) → goes count byte ≡ b → Gone step state P bytes (take (far b) (byte ∷ others))
-    by_step later false e2 = record { goes = ap state (sym (append_none bytes)); holds = subst P (sym (append_none bytes)) h }
+    by_step later false e2 = record { goes = ap state (sym (append-nil bytes)); holds = subst P (sym (append-nil bytes)) h }
     by_step later true e2 =
         let one = on bytes byte h (subst (λ n. goes n byte ≡ true) e e2) in
         let rest = later one.1 in
-        let same = sym (append_append bytes (byte ∷ []) text) in
+        let same = append_assoc bytes (byte ∷ []) text in
         record {
           goes = (state (bytes ++ byte ∷ []), one.0, subst (λ l. Goes step (state (bytes ++ byte ∷ [])) text (state l)) same rest.goes);
           holds = subst P same rest.holds;
@@ -280,11 +274,11 @@ next_after head others byte =
 takes_on : (negative : Bool) (digits : List ℕ) (byte : ℕ) → LeadsOn digits → is_next_digit (length digits) byte ≡ true → (takes_digit negative digits byte ≡ true) × LeadsOn (digits ++ byte ∷ [])
 takes_on negative [] byte h e =
     let parts = and_parts (is_digit byte) (not (byte == 48)) e in
-    let other = not_true (byte == 48) parts.1 in
-    (both_true (is_digit byte) (not (negative && (byte == 48))) parts.0 (not_false (negative && (byte == 48)) (second_false negative (byte == 48) other)), other)
+    let other = not-true (byte == 48) parts.1 in
+    (and_from (is_digit byte) (not (negative && (byte == 48))) parts.0 (not_from_false (negative && (byte == 48)) (and_right negative (byte == 48) other)), other)
 takes_on negative (head ∷ others) byte h e =
     let parts = and_parts (is_digit byte) (nat_lt (length others) 14) (sym (next_after head others byte) ∙ e) in
-    (both_true (is_digit byte && not (head == 48)) (nat_lt (length others) 14) (both_true (is_digit byte) (not (head == 48)) parts.0 (not_false (head == 48) h)) parts.1, h)
+    (and_from (is_digit byte && not (head == 48)) (nat_lt (length others) 14) (and_from (is_digit byte) (not (head == 48)) parts.0 (not_from_false (head == 48) h)) parts.1, h)
 
 digits_grow : (negative : Bool) → Grows int_step (int_state negative) is_next_digit LeadsOn
 digits_grow negative digits byte h e =
@@ -305,22 +299,22 @@ IsUnsigned negative s = (comes 45 (first s) && not negative) ≡ false
 
 takes_off : (negative : Bool) (digits : List ℕ) (byte : ℕ) → LeadsOn digits → is_next_digit (length digits) byte ≡ false → (is_some_text digits ≡ false → ((byte == 45) && not negative) ≡ false) → (is_some_text digits ≡ false → (byte == 48) ≡ false)
     → int_step (int_state negative digits) byte ≡ None
-takes_off negative [] byte h e sign nonzero = no_step negative [] byte (first_false (is_digit byte) (not (negative && (byte == 48))) (no_digit (is_digit byte) refl)) (first_false ((byte == 45) && not negative) true (sign refl))
+takes_off negative [] byte h e sign nonzero = no_step negative [] byte (and_left (is_digit byte) (not (negative && (byte == 48))) (no_digit (is_digit byte) refl)) (and_left ((byte == 45) && not negative) true (sign refl))
   where
     no_digit : (b : Bool) → is_digit byte ≡ b → b ≡ false
     no_digit false f = refl
-    no_digit true f = sym (both_true (is_digit byte) (not (byte == 48)) f (not_false (byte == 48) (nonzero refl))) ∙ e
+    no_digit true f = sym (and_from (is_digit byte) (not (byte == 48)) f (not_from_false (byte == 48) (nonzero refl))) ∙ e
 takes_off negative (head ∷ others) byte h e sign nonzero =
     no_step negative (head ∷ others) byte
     (by_digit (is_digit byte) refl)
-    (second_false ((byte == 45) && not negative) false refl)
+    (and_right ((byte == 45) && not negative) false refl)
   where
     none : (is_digit byte && nat_lt (length others) 14) ≡ false
     none = sym (next_after head others byte) ∙ e
 
     by_digit : (b : Bool) → is_digit byte ≡ b → (is_digit byte && not (head == 48) && nat_lt (length others) 14) ≡ false
-    by_digit false f = first_false (is_digit byte && not (head == 48)) (nat_lt (length others) 14) (first_false (is_digit byte) (not (head == 48)) f)
-    by_digit true f = second_false (is_digit byte && not (head == 48)) (nat_lt (length others) 14) (sym (ap (λ (b : Bool). b && nat_lt (length others) 14) f) ∙ none)
+    by_digit false f = and_left (is_digit byte && not (head == 48)) (nat_lt (length others) 14) (and_left (is_digit byte) (not (head == 48)) f)
+    by_digit true f = and_right (is_digit byte && not (head == 48)) (nat_lt (length others) 14) (sym (ap (λ (b : Bool). b && nat_lt (length others) 14) f) ∙ none)
 
 leads_on : (s : List ℕ) → LeadsOn (take (reach is_next_digit 0 s) s)
 leads_on s = (reach_goes int_step (int_state false) is_next_digit LeadsOn (digits_grow false) [] s 0 refl tt).holds
@@ -328,7 +322,7 @@ leads_on s = (reach_goes int_step (int_state false) is_next_digit LeadsOn (digit
 after_zero : (o : Option ℕ) → next_of int_step (int_state false (48 ∷ [])) o ≡ None
 after_zero None = refl
 after_zero (Some byte) =
-    no_step false (48 ∷ []) byte (first_false (is_digit byte && false) true (second_false (is_digit byte) false refl)) (second_false ((byte == 45) && true) false refl)
+    no_step false (48 ∷ []) byte (and_left (is_digit byte && false) true (and_right (is_digit byte) false refl)) (and_right ((byte == 45) && true) false refl)
 
 pub digits_read : (negative : Bool) (s : List ℕ) → IsUnsigned negative s → machine int_step int_end (int_state negative []) s ≡ digits_at negative s
 digits_read negative [] h = refl
@@ -367,12 +361,12 @@ digits_read negative (byte ∷ others) h = by_zero (byte == 48) refl
             (λ none. subst (λ d. (d == 48) ≡ false) (sym (same_Some c byte (front none))) e)
 
 pub int_plain : (s : List ℕ) → comes 45 (first s) ≡ false → int_at s ≡ digits_at false s
-int_plain s e = digits_read false s (first_false (comes 45 (first s)) true e)
+int_plain s e = digits_read false s (and_left (comes 45 (first s)) true e)
 
 pub int_signed : (s : List ℕ) → comes 45 (first s) ≡ true → int_at s ≡ digits_at true (drop 1 s)
 int_signed [] e = absurd (cc)
 int_signed (byte ∷ others) e =
-    ap (λ c. machine int_step int_end (int_state false []) (c ∷ others)) (eqb-true byte 45 e) ∙ digits_read true others (second_false (comes 45 (first others)) false refl)
+    ap (λ c. machine int_step int_end (int_state false []) (c ∷ others)) (eqb-true byte 45 e) ∙ digits_read true others (and_right (comes 45 (first others)) false refl)
 
 -- ---- what is taken of digits
 
@@ -382,7 +376,7 @@ reach_all goes p on (byte ∷ others) count = by_step (reach_all goes p on other
   where
     by_step : list_all p (take (reach goes (count + 1) others) others) ≡ true → (b : Bool) → goes count byte ≡ b → list_all p (take (if b then suc (reach goes (count + 1) others) else 0) (byte ∷ others)) ≡ true
     by_step later false e = refl
-    by_step later true e = both_true (p byte) (list_all p (take (reach goes (count + 1) others) others)) (on count byte e) later
+    by_step later true e = and_from (p byte) (list_all p (take (reach goes (count + 1) others) others)) (on count byte e) later
 
 reach_most : (goes : ℕ → ℕ → Bool) (most : ℕ) → ((count byte : ℕ) → goes count byte ≡ true → count < most) → (s : List ℕ) (count : ℕ) → count ≤ most → count + reach goes count s ≤ most
 reach_most goes most on [] count h = omega (arith, h)
@@ -400,7 +394,7 @@ next_is_short count byte e = by_zero (count == 0) refl (and_parts (is_digit byte
   where
     by_zero : (b : Bool) → (count == 0) ≡ b → (if b then not (byte == 48) else nat_lt count 15) ≡ true → count < 15
     by_zero true same h = let none = eqb-true count 0 same in omega (arith, none)
-    by_zero false same h = less_of count 15 h
+    by_zero false same h = ltb-true count 15 h
 
 pub front_digits : (negative : Bool) (s : List ℕ) → list_all is_digit (digit_front negative s) ≡ true
 front_digits negative [] = refl

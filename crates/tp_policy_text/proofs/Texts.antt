@@ -4,14 +4,6 @@ use Rattle.std.proofs.lemmas.List.{length-append}
 use Rattle.std.proofs.lemmas.Option.{same_Some}
 use Rattle.tp_policy_text.specs.Lexis.{count, first, is_blank, skip}
 
-pub append_append : (xs ys zs : List ℕ) → xs ++ (ys ++ zs) ≡ (xs ++ ys) ++ zs
-append_append [] ys zs = refl
-append_append (x ∷ xs) ys zs = ap (λ us. x ∷ us) (append_append xs ys zs)
-
-pub append_none : (xs : List ℕ) → xs ++ [] ≡ xs
-append_none [] = refl
-append_none (x ∷ xs) = ap (λ ys. x ∷ ys) (append_none xs)
-
 abbrev pub tail : List ℕ → List ℕ
 tail [] = []
 tail (x ∷ xs) = xs
@@ -48,20 +40,8 @@ skip_blank others = refl
 
 -- ---- cuts
 
-no_front : (x : ℕ) (xs ys : List ℕ) → ys ≡ (x ∷ xs) ++ ys → ⊥
-no_front x xs ys e = let same = ap length e in let sum = length-append xs ys in omega (arith, same, sum)
-
 pub same_heads : (a b : ℕ) (us vs : List ℕ) → a ∷ us ≡ b ∷ vs → (a ≡ b) × (us ≡ vs)
 same_heads a b us vs f = (same_Some a b (ap first f), ap tail f)
-
--- the same text with the same end has the same beginning
-pub same_front : (xs ys ts : List ℕ) → xs ++ ts ≡ ys ++ ts → xs ≡ ys
-same_front [] [] ts e = refl
-same_front [] (y ∷ ys) ts e = absurd (no_front y ys ts e)
-same_front (x ∷ xs) [] ts e = absurd (no_front x xs ts (sym e))
-same_front (x ∷ xs) (y ∷ ys) ts e =
-    let parts = same_heads x y (xs ++ ts) (ys ++ ts) e in
-    ap (λ z. z ∷ xs) parts.0 ∙ ap (λ zs. y ∷ zs) (same_front xs ys ts parts.1)
 
 -- ---- counts
 
@@ -94,8 +74,3 @@ stands_in (b ∷ y) z (c ∷ p) q byte e =
 pub empty_front : (y z : List ℕ) → [] ≡ y ++ z → y ≡ []
 empty_front [] z e = refl
 empty_front (b ∷ y) z e = absurd (cc)
-
--- the same text with the same beginning has the same end
-pub same_end : (xs ys zs : List ℕ) → xs ++ ys ≡ xs ++ zs → ys ≡ zs
-same_end [] ys zs e = e
-same_end (x ∷ xs) ys zs e = same_end xs ys zs (ap tail e)

@@ -3,13 +3,15 @@ use Rattle.std.proofs.lemmas.Bool.{eqb-true}
 use Rattle.std.proofs.Common.{◌≡◌, ℕ, ◌+◌, ◌<◌, ◌==◌, ◌&&◌, List, [], ◌∷◌, ◌++◌, Bool, true, false, Option, Some, None, refl, sym, ap, subst, ◌∙◌, arith, if◌then◌else◌}
 use Rattle.std.proofs.lemmas.Bool.Decides.{nat_tests}
 use Rattle.std.proofs.lemmas.Option.{same_Some}
+use Rattle.std.proofs.lemmas.List.{append-nil, append_assoc}
+use Rattle.tp_types.proofs.ListLemmas.{number_itself}
 use Rattle.tp_policy_text.specs.Lexis.{Token, count, first, in_word, is_blank}
 use Rattle.tp_policy_text.specs.mirrors.Readers.{token_at, word_end, word_step}
 use Rattle.tp_policy_text.specs.mirrors.Readings.{ended, machine, read}
 use Rattle.tp_policy_text.proofs.Choices.{retell}
 use Rattle.tp_policy_text.proofs.Exact.{Exact, IsLevel, IsShallow, Language}
 use Rattle.tp_policy_text.proofs.Leaves.{Goes, IsLeaf, Sound, any_next, halted, leaf_exact, next_of, went}
-use Rattle.tp_policy_text.proofs.Texts.{IsTight, append_append, append_none, count_append}
+use Rattle.tp_policy_text.proofs.Texts.{IsTight, count_append}
 
 -- the token stands there, with this value
 abbrev pub Says : {A : Type 0} → Bool → List ℕ → A → Language A
@@ -30,12 +32,9 @@ went_along (wanted ∷ others) (byte ∷ text) last (next, e, later) =
     let same = same_step wanted byte others next e in
     ap (λ (b : ℕ). b ∷ others) (sym same.0) ∙ (ap (λ l. byte ∷ l) same.1 ∙ ap (λ l. byte ∷ l) (went_along next text last later))
 
-same_byte : (byte : ℕ) → (byte == byte) ≡ true
-same_byte byte = grind (arith, nat_tests)
-
 pub goes_along : (text last : List ℕ) → Goes word_step (text ++ last) text last
 goes_along [] last = refl
-goes_along (byte ∷ text) last = (text ++ last, ap (λ (b : Bool). if b then Some (text ++ last) else None) (same_byte byte), goes_along text last)
+goes_along (byte ∷ text) last = (text ++ last, ap (λ (b : Bool). if b then Some (text ++ last) else None) (number_itself byte), goes_along text last)
 
 ended_word : {A : Type 0} (apart : Bool) (known : A) (last : List ℕ) (o : Option ℕ) (a : A) → word_end apart known last o ≡ Some a → (last ≡ []) × ((apart && in_word o) ≡ false) × (a ≡ known)
 ended_word {A = A} apart known [] o a e = by_test (apart && in_word o) refl
@@ -58,7 +57,7 @@ before_blank false known = refl
 -- from any state, what is left of the token and a blank is the end
 to_the_end : {A : Type 0} (apart : Bool) (known : A) (token u : List ℕ) → IsTight u → machine word_step (word_end apart known) token (token ++ (32 ∷ u)) ≡ read known u
 to_the_end {A = A} apart known token u tight =
-    ap (λ l. machine word_step (word_end apart known) l (token ++ (32 ∷ u))) (sym (append_none token))
+    ap (λ l. machine word_step (word_end apart known) l (token ++ (32 ∷ u))) (sym (append-nil token))
     ∙ (went word_step (word_end apart known) (token ++ []) [] token (32 ∷ u) (goes_along token [])
     ∙ (halted word_step (word_end apart known) [] (32 ∷ u) refl
     ∙ (ap (λ (o : Option A). ended o (32 ∷ u)) (before_blank apart known) ∙ ap (λ l. read known l) tight)))
@@ -72,19 +71,19 @@ token_sound {A = A} apart byte others known d e tight level shallow = record {
   finish = λ last. record {
     more = last ++ (32 ∷ []);
     value = known;
-    ends = λ u tight_u. ap (λ l. machine word_step (word_end apart known) last l) (sym (append_append last (32 ∷ []) u)) ∙ to_the_end apart known last u tight_u;
+    ends = λ u tight_u. ap (λ l. machine word_step (word_end apart known) last l) (append_assoc last (32 ∷ []) u) ∙ to_the_end apart known last u tight_u;
   };
   some = record {
     byte = byte;
     others = others ++ (32 ∷ []);
     value = known;
     tight = tight;
-    ends = λ u tight_u. ap (λ l. machine word_step (word_end apart known) (byte ∷ others) (byte ∷ l)) (sym (append_append others (32 ∷ []) u)) ∙ to_the_end apart known (byte ∷ others) u tight_u;
+    ends = λ u tight_u. ap (λ l. machine word_step (word_end apart known) (byte ∷ others) (byte ∷ l)) (append_assoc others (32 ∷ []) u) ∙ to_the_end apart known (byte ∷ others) u tight_u;
   };
   level = λ text last o a goes h. subst (IsLevel d e)
-      (went_along (byte ∷ others) text last goes ∙ (ap (λ l. text ++ l) (ended_word apart known last o a h).0 ∙ append_none text)) level;
+      (went_along (byte ∷ others) text last goes ∙ (ap (λ l. text ++ l) (ended_word apart known last o a h).0 ∙ append-nil text)) level;
   shallow = λ text last goes p q parts. shallow p (q ++ last)
-      (went_along (byte ∷ others) text last goes ∙ (ap (λ l. l ++ last) parts ∙ sym (append_append p (40 ∷ q) last)));
+      (went_along (byte ∷ others) text last goes ∙ (ap (λ l. l ++ last) parts ∙ append_assoc p (40 ∷ q) last));
 }
   where
     no_end : byte ∷ others ≡ [] → ⊥
@@ -93,7 +92,7 @@ token_sound {A = A} apart byte others known d e tight level shallow = record {
 leaf_says : {A : Type 0} (apart : Bool) (token : List ℕ) (known a : A) (s t : List ℕ) → IsLeaf word_step (word_end apart known) token a s t → Says apart token known a s t
 leaf_says apart token known a s t h =
     let over = ended_word apart known h.last (first h.after) a h.ends in
-    let text_is : h.text ≡ token = sym (went_along token h.text h.last h.goes ∙ (ap (λ l. h.text ++ l) over.0 ∙ append_none h.text)) in
+    let text_is : h.text ≡ token = sym (went_along token h.text h.last h.goes ∙ (ap (λ l. h.text ++ l) over.0 ∙ append-nil h.text)) in
     (over.2, record { after = h.after; begins = h.parts ∙ ap (λ l. l ++ h.after) text_is; is_apart = over.1; left_is = h.left })
 
 says_leaf : {A : Type 0} (apart : Bool) (token : List ℕ) (known a : A) (s t : List ℕ) → Says apart token known a s t → IsLeaf word_step (word_end apart known) token a s t
@@ -102,7 +101,7 @@ says_leaf {A = A} apart token known a s t h = record {
   after = h.1.after;
   last = [];
   parts = h.1.begins;
-  goes = subst (λ l. Goes word_step l token []) (append_none token) (goes_along token []);
+  goes = subst (λ l. Goes word_step l token []) (append-nil token) (goes_along token []);
   halts = no_next (first h.1.after);
   ends = ap (λ (b : Bool). if b then None else Some known) h.1.is_apart ∙ ap (λ (v : A). Some v) (sym h.0);
   left = h.1.left_is;

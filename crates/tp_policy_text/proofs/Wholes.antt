@@ -1,6 +1,7 @@
 -- What the reader of whole texts says of a text, by the grammar.
 use Rattle.std.proofs.lemmas.Option.{same_Some}
 use Rattle.std.proofs.Common.{◌≡◌, ◌⊎◌, inl, inr, ℕ, suc, ◌+◌, ◌<◌, List, [], ◌∷◌, ◌++◌, length, false, Option, Some, None, Result, Ok, Err, refl, sym, ap, subst, ◌∙◌, arith}
+use Rattle.std.proofs.lemmas.List.{append-nil, append_assoc, append_cancel_left}
 use Rattle.tp_types.specs.declared.policy.Cond.{Cond}
 use Rattle.tp_types.specs.declared.policy.Policy.{Policy}
 use Rattle.tp_types.specs.declared.policy.Rule.{Rule}
@@ -13,7 +14,7 @@ use Rattle.tp_policy_text.specs.mirrors.Readings.{Reading, read, stopped}
 use Rattle.tp_policy_text.proofs.Exact.{GivesUp, Language, left_at, IsShallow}
 use Rattle.tp_policy_text.proofs.Leaves.{skip_shorter, skipped, AreBlank, skip_blanks, tight_as, no_parens, no_paren_in}
 use Rattle.tp_policy_text.proofs.Rules.{Many, many_begins, rules_exact}
-use Rattle.tp_policy_text.proofs.Texts.{IsTight, append_append, tight_byte, first_after, count_append, stands_in, InFirst, InSecond, skip_tight, same_heads, same_end, append_none}
+use Rattle.tp_policy_text.proofs.Texts.{IsTight, tight_byte, first_after, count_append, stands_in, InFirst, InSecond, skip_tight, same_heads}
 
 -- ---- rules up to the end
 
@@ -107,7 +108,7 @@ begins_of blanks x more rules are h = record {
   more = more;
   policy = record { rules = rules };
   spells = subst (λ l. AreRules AnyCond rules l)
-      (sym (ap skip (sym (append_append blanks x more)) ∙ (skip_blanks blanks (x ++ more) are ∙ tight_first (x ++ more) 97 (many_begins AnyCond rules (x ++ more) [] h) refl)))
+      (sym (ap skip (append_assoc blanks x more) ∙ (skip_blanks blanks (x ++ more) are ∙ tight_first (x ++ more) 97 (many_begins AnyCond rules (x ++ more) [] h) refl)))
       (many_are AnyCond rules (x ++ more) h);
 }
 
@@ -127,7 +128,7 @@ compare_fronts (a ∷ x) (b ∷ y) s t e = by_rest (compare_fronts x y s t (same
 
 -- a beginning of a beginning
 pub begins_shorter : (x y : List ℕ) → Begins (x ++ y) → Begins x
-begins_shorter x y b = record { more = y ++ b.more; policy = b.policy; spells = subst (λ l. Spells b.policy l) (sym (append_append x y b.more)) b.spells }
+begins_shorter x y b = record { more = y ++ b.more; policy = b.policy; spells = subst (λ l. Spells b.policy l) (append_assoc x y b.more) b.spells }
 
 -- what was read of a text has no parenthesis too many
 read_shallow : (n d : ℕ) (text x l : List ℕ) (o : Result (List Rule) Stop) → skip text ≡ x ++ l → rules_at n n d (x ++ l) ≡ left_at o l → IsShallow d ((skipped text).blanks ++ x)
@@ -176,7 +177,7 @@ no_further : (n d : ℕ) (blanks x t : List ℕ) (o : Result (List Rule) Stop) �
 no_further n d blanks x t o are tight ran sticks byte others next b =
     let rest = byte ∷ b.more in
     let same : first t ≡ first rest = ap first next in
-    let text_is : ((blanks ++ x) ++ byte ∷ []) ++ b.more ≡ blanks ++ (x ++ rest) = sym (append_append (blanks ++ x) (byte ∷ []) b.more) ∙ sym (append_append blanks x rest) in
+    let text_is : ((blanks ++ x) ++ byte ∷ []) ++ b.more ≡ blanks ++ (x ++ rest) = append_assoc (blanks ++ x) (byte ∷ []) b.more ∙ append_assoc blanks x rest in
     let here : skip (((blanks ++ x) ++ byte ∷ []) ++ b.more) ≡ x ++ rest =
     ap skip text_is ∙ (skip_blanks blanks (x ++ rest) are ∙ tight_as (x ++ t) (x ++ rest) (first_after x t rest same) tight) in
     stuck_no_text n d b.policy (((blanks ++ x) ++ byte ∷ []) ++ b.more) rest
@@ -204,7 +205,7 @@ stops_at n d text t h = by_text (skip text) refl
 
     build : (x l : List ℕ) (o : Result (List Rule) Stop) → skip text ≡ x ++ l → rules_at n n d (x ++ l) ≡ left_at o l → Sticks o l → Begins (blanks ++ x) → l ≡ t → StopsAt d text t
     build x l o here ran sticks begins same =
-        let parts : text ≡ (blanks ++ x) ++ l = (skipped text).parts ∙ (ap (λ r. blanks ++ r) here ∙ append_append blanks x l) in
+        let parts : text ≡ (blanks ++ x) ++ l = (skipped text).parts ∙ (ap (λ r. blanks ++ r) here ∙ sym (append_assoc blanks x l)) in
         subst (λ r. StopsAt d text r) same (record {
           before = blanks ++ x;
           parts = parts;
@@ -270,7 +271,7 @@ too_deep_at n d text t h = by_text (skip text) refl
     build : (x l : List ℕ) → skip text ≡ x ++ l → rules_at n n d (x ++ l) ≡ stopped stop.Deep l → l ≡ t → TooDeepAt d text t
     build x l here ran same =
         let R = rules_exact n d n (omega (arith)) in
-        let parts : text ≡ (blanks ++ x) ++ l = (skipped text).parts ∙ (ap (λ r. blanks ++ r) here ∙ append_append blanks x l) in
+        let parts : text ≡ (blanks ++ x) ++ l = (skipped text).parts ∙ (ap (λ r. blanks ++ r) here ∙ sym (append_assoc blanks x l)) in
         let next = opened l (R.deep x l ran).0 in
         let on = R.opens x l ran in
         let none = no_parens blanks (skipped text).are in
@@ -285,7 +286,7 @@ too_deep_at n d text t h = by_text (skip text) refl
           deep = record {
             rest = next.0;
             parts = parts ∙ ap (λ r. (blanks ++ x) ++ r) next.1;
-            begins = subst Begins (append_append blanks x (40 ∷ []))
+            begins = subst Begins (sym (append_assoc blanks x (40 ∷ [])))
                 (begins_of blanks (x ++ (40 ∷ [])) (on.more ++ []) on.value (skipped text).are (on.ends [] refl));
             within = omega (arith, deep, none_opened, none_closed, opens, closes);
             first = λ p q e. by_place x l ran p q (stands_in blanks x p q 40 e);
@@ -393,11 +394,11 @@ reads_shallow n d p text t h = by_text (skip text) refl
     by_outcome x l (Err why) here ran e = absurd (no_error why l e)
     by_outcome x (byte ∷ l) (Ok rules) here ran e = absurd (no_error stop.Syntax (byte ∷ l) e)
     by_outcome x [] (Ok rules) here ran e =
-        subst (IsShallow d) (sym ((skipped text).parts ∙ (ap (λ r. (skipped text).blanks ++ r) (here ∙ append_none x)))) (read_shallow n d text x [] (Ok rules) here ran)
+        subst (IsShallow d) (sym ((skipped text).parts ∙ (ap (λ r. (skipped text).blanks ++ r) (here ∙ append-nil x)))) (read_shallow n d text x [] (Ok rules) here ran)
 
     by_text : (s : List ℕ) → skip text ≡ s → IsShallow d text
     by_text [] here = λ p2 q e. absurd (no_paren_in (skipped text).blanks p2 q (skipped text).are
-        (sym ((skipped text).parts ∙ (ap (λ r. (skipped text).blanks ++ r) here ∙ append_none (skipped text).blanks)) ∙ e))
+        (sym ((skipped text).parts ∙ (ap (λ r. (skipped text).blanks ++ r) here ∙ append-nil (skipped text).blanks)) ∙ e))
     by_text (byte ∷ others) here =
         let found = rules_at n n d (byte ∷ others) in
         let front = (rules_exact n d n (omega (arith))).front (byte ∷ others) in
@@ -413,24 +414,24 @@ pub not_both : (d : ℕ) (text before t : List ℕ) (h : IsTooDeep d text before
 not_both d text before t h k (inl e) = by_more e.more e.whole
   where
     left_is : (more : List ℕ) → before ≡ k.before ++ more → k.stops.rest ≡ more ++ (40 ∷ h.rest)
-    left_is more whole = same_end k.before k.stops.rest (more ++ (40 ∷ h.rest))
-        (sym k.stops.parts ∙ (h.parts ∙ (ap (λ l. l ++ (40 ∷ h.rest)) whole ∙ sym (append_append k.before more (40 ∷ h.rest)))))
+    left_is more whole = append_cancel_left k.before k.stops.rest (more ++ (40 ∷ h.rest))
+        (sym k.stops.parts ∙ (h.parts ∙ (ap (λ l. l ++ (40 ∷ h.rest)) whole ∙ append_assoc k.before more (40 ∷ h.rest))))
 
     by_more : (more : List ℕ) → before ≡ k.before ++ more → ⊥
-    by_more [] whole = k.stops.further 40 h.rest (left_is [] whole) (subst (λ l. Begins (l ++ (40 ∷ []))) (whole ∙ append_none k.before) h.begins)
+    by_more [] whole = k.stops.further 40 h.rest (left_is [] whole) (subst (λ l. Begins (l ++ (40 ∷ []))) (whole ∙ append-nil k.before) h.begins)
     by_more (c ∷ more) whole = k.stops.further c (more ++ (40 ∷ h.rest)) (left_is (c ∷ more) whole)
         (begins_shorter (k.before ++ c ∷ []) (more ++ (40 ∷ []))
-        (subst Begins (ap (λ l. l ++ (40 ∷ [])) whole ∙ (sym (append_append k.before (c ∷ more) (40 ∷ [])) ∙ append_append k.before (c ∷ []) (more ++ (40 ∷ [])))) h.begins))
+        (subst Begins (ap (λ l. l ++ (40 ∷ [])) whole ∙ (append_assoc k.before (c ∷ more) (40 ∷ []) ∙ sym (append_assoc k.before (c ∷ []) (more ++ (40 ∷ []))))) h.begins))
 not_both d text before t h k (inr e) = by_more e.more e.whole
   where
     by_more : (more : List ℕ) → k.before ≡ before ++ more → ⊥
     by_more [] whole =
         k.stops.further 40 h.rest
-        (same_end k.before k.stops.rest (40 ∷ h.rest) (sym k.stops.parts ∙ (h.parts ∙ ap (λ l. l ++ (40 ∷ h.rest)) (sym (whole ∙ append_none before)))))
-        (subst (λ l. Begins (l ++ (40 ∷ []))) (sym (whole ∙ append_none before)) h.begins)
+        (append_cancel_left k.before k.stops.rest (40 ∷ h.rest) (sym k.stops.parts ∙ (h.parts ∙ ap (λ l. l ++ (40 ∷ h.rest)) (sym (whole ∙ append-nil before)))))
+        (subst (λ l. Begins (l ++ (40 ∷ []))) (sym (whole ∙ append-nil before)) h.begins)
     by_more (c ∷ more) whole =
-        let same = same_end before (40 ∷ h.rest) ((c ∷ more) ++ k.stops.rest)
-        (sym h.parts ∙ (k.stops.parts ∙ (ap (λ l. l ++ k.stops.rest) whole ∙ sym (append_append before (c ∷ more) k.stops.rest)))) in
+        let same = append_cancel_left before (40 ∷ h.rest) ((c ∷ more) ++ k.stops.rest)
+        (sym h.parts ∙ (k.stops.parts ∙ (ap (λ l. l ++ k.stops.rest) whole ∙ append_assoc before (c ∷ more) k.stops.rest))) in
         let head = (same_heads 40 c h.rest (more ++ k.stops.rest) same).0 in
         not_shallow d text before h k.before more k.shallow (whole ∙ ap (λ b. before ++ (b ∷ more)) (sym head))
 
@@ -442,10 +443,10 @@ deep_is n d text before h short = by_reading (policy_at n d text).outcome (polic
     same_deep t k (inl e) = by_more e.more e.whole
       where
         by_more : (more : List ℕ) → before ≡ k.before ++ more → t ≡ 40 ∷ h.rest
-        by_more [] whole = same_end k.before t (40 ∷ h.rest) (sym k.parts ∙ (h.parts ∙ ap (λ l. l ++ (40 ∷ h.rest)) (whole ∙ append_none k.before)))
+        by_more [] whole = append_cancel_left k.before t (40 ∷ h.rest) (sym k.parts ∙ (h.parts ∙ ap (λ l. l ++ (40 ∷ h.rest)) (whole ∙ append-nil k.before)))
         by_more (c ∷ more) whole =
-            let same = same_end k.before (40 ∷ k.deep.rest) ((c ∷ more) ++ (40 ∷ h.rest))
-            (sym k.deep.parts ∙ (h.parts ∙ (ap (λ l. l ++ (40 ∷ h.rest)) whole ∙ sym (append_append k.before (c ∷ more) (40 ∷ h.rest))))) in
+            let same = append_cancel_left k.before (40 ∷ k.deep.rest) ((c ∷ more) ++ (40 ∷ h.rest))
+            (sym k.deep.parts ∙ (h.parts ∙ (ap (λ l. l ++ (40 ∷ h.rest)) whole ∙ append_assoc k.before (c ∷ more) (40 ∷ h.rest)))) in
             let head = (same_heads 40 c k.deep.rest (more ++ (40 ∷ h.rest)) same).0 in
             let less = h.first k.before more (whole ∙ ap (λ b. k.before ++ (b ∷ more)) (sym head)) in
             let exact = k.deep.within in
@@ -453,10 +454,10 @@ deep_is n d text before h short = by_reading (policy_at n d text).outcome (polic
     same_deep t k (inr e) = by_more e.more e.whole
       where
         by_more : (more : List ℕ) → k.before ≡ before ++ more → t ≡ 40 ∷ h.rest
-        by_more [] whole = same_end before t (40 ∷ h.rest) (ap (λ l. l ++ t) (sym (whole ∙ append_none before)) ∙ (sym k.parts ∙ h.parts))
+        by_more [] whole = append_cancel_left before t (40 ∷ h.rest) (ap (λ l. l ++ t) (sym (whole ∙ append-nil before)) ∙ (sym k.parts ∙ h.parts))
         by_more (c ∷ more) whole =
-            let same = same_end before (40 ∷ h.rest) ((c ∷ more) ++ t)
-            (sym h.parts ∙ (k.parts ∙ (ap (λ l. l ++ t) whole ∙ sym (append_append before (c ∷ more) t)))) in
+            let same = append_cancel_left before (40 ∷ h.rest) ((c ∷ more) ++ t)
+            (sym h.parts ∙ (k.parts ∙ (ap (λ l. l ++ t) whole ∙ append_assoc before (c ∷ more) t))) in
             let head = (same_heads 40 c h.rest (more ++ t) same).0 in
             let less = k.deep.first before more (whole ∙ ap (λ b. before ++ (b ∷ more)) (sym head)) in
             let exact = h.within in

@@ -3,6 +3,8 @@ use Rattle.std.proofs.Common.{◌≡◌, ◌⊎◌, inl, inr, ℕ, Bool, true, f
 use Rattle.std.proofs.lemmas.Bool.{and_parts, eq-eqb, eqb-true, or_cases}
 use Rattle.std.proofs.lemmas.List.Folds.{list_any-append}
 use Rattle.std.specs.List.{fold, list_all, list_any}
+use Rattle.std.proofs.Math.Bool.{and-false, or-false}
+use Rattle.tp_types.proofs.ListLemmas.{number_itself}
 use Rattle.tp_model.specs.Words.{AdminId, Verdict, Version}
 use Rattle.tp_model.specs.Ids.{same_admin}
 use Rattle.tp_round.specs.Judge.{is_aimed}
@@ -10,14 +12,6 @@ use Rattle.tp_round.specs.Replies.{admins_of, is_of, with_admin, with_its_admin}
 use Rattle.tp_round.specs.Laws.{wanted_of}
 
 -- ---- truth values
-
-or_false : (b : Bool) → (b || false) ≡ b
-or_false true = refl
-or_false false = refl
-
-and_false : (b : Bool) → (b && false) ≡ false
-and_false true = refl
-and_false false = refl
 
 or_assoc : (a b c : Bool) → (a || (b || c)) ≡ ((a || b) || c)
 or_assoc true b c = refl
@@ -31,19 +25,16 @@ or_comm false false = refl
 
 or_again : (a b : Bool) → (a || b) ≡ ((a || b) || a)
 or_again true b = refl
-or_again false b = sym (or_false b)
+or_again false b = sym (or-false b)
 
 or_within : (s e : Bool) → (e || (s && e)) ≡ e
 or_within s true = refl
-or_within s false = and_false s
+or_within s false = and-false s
 
 -- ---- ids
 
 pub same_ids : (one other : AdminId) → same_admin one other ≡ true → one ≡ other
 same_ids one other e = let make : ℕ → AdminId = λ n. record { 0 = n } in ap make (eqb-true one.0 other.0 e)
-
-pub same_self : (n : ℕ) → (n == n) ≡ true
-same_self n = eq-eqb n n refl
 
 -- ---- administrators of proofs
 
@@ -57,13 +48,13 @@ with_where P first admin others more false false e rest = or_comm (P admin) (P f
 
 -- one of the administrators passes a test after one more came, where one passed it before or the new one does
 with_any : (P : AdminId → Bool) (admins : List AdminId) (admin : AdminId) → list_any P (with_admin admins admin) ≡ (list_any P admins || P admin)
-with_any P [] admin = or_false (P admin)
+with_any P [] admin = or-false (P admin)
 with_any P (first ∷ others) admin =
     with_where P first admin others (with_admin others admin) (nat_lt first.0 admin.0) (same_admin first admin) refl (with_any P others admin)
 
 any_from : (P : AdminId → Bool) (admins : List AdminId) (proofs : List Verdict)
     → list_any P (fold with_its_admin admins proofs) ≡ (list_any P admins || list_any (λ (verdict : Verdict). P verdict.admin) proofs)
-any_from P admins [] = sym (or_false (list_any P admins))
+any_from P admins [] = sym (or-false (list_any P admins))
 any_from P admins (verdict ∷ proofs) =
     any_from P (with_admin admins verdict.admin) proofs
     ∙ ap (λ b. b || list_any (λ (other : Verdict). P other.admin) proofs) (with_any P admins verdict.admin)
@@ -86,7 +77,7 @@ covered_from front (verdict ∷ proofs) =
     let here : is_one (admins_of (front ++ verdict ∷ proofs)) verdict.admin ≡ true =
     any_admin (λ (other : AdminId). same_admin other verdict.admin) (front ++ verdict ∷ proofs)
     ∙ list_any-append (is_of verdict.admin) front (verdict ∷ proofs)
-    ∙ ap (λ b. list_any (is_of verdict.admin) front || (b || list_any (is_of verdict.admin) proofs)) (same_self verdict.admin.0)
+    ∙ ap (λ b. list_any (is_of verdict.admin) front || (b || list_any (is_of verdict.admin) proofs)) (number_itself verdict.admin.0)
     ∙ or_comm (list_any (is_of verdict.admin) front) true in
     let moved : (front ++ verdict ∷ []) ++ proofs ≡ front ++ verdict ∷ proofs = append_assoc front (verdict ∷ []) proofs in
     let rest = subst (λ (all : List Verdict). list_all (has_its_admin (admins_of all)) proofs ≡ true) moved (covered_from (front ++ verdict ∷ []) proofs) in
@@ -129,7 +120,7 @@ found_where f proved first admin rest true true others e is on =
     rw (e, known) (ap (λ one. Some (f one)) (same_ids first admin e))
 found_where f proved first admin rest true false others e is on =
     let known : proved admin ≡ false = ap proved (sym (same_ids first admin e)) ∙ is in
-    on ∙ rw known (ap (λ b. cond b (Some (f admin)) None) (and_false others))
+    on ∙ rw known (ap (λ b. cond b (Some (f admin)) None) (and-false others))
 found_where f proved first admin rest false true others e is on = rw e on
 found_where f proved first admin rest false false others e is on = on
 
@@ -144,7 +135,7 @@ found f proved (first ∷ admins) admin =
 known_where : (f : AdminId → ℕ) (admin : AdminId) (one proved : Bool) → (proved ≡ true → one ≡ true)
     → cond (one && proved) (Some (f admin)) None ≡ cond proved (Some (f admin)) None
 known_where f admin one true known = rw (known refl) refl
-known_where f admin one false known = ap (λ b. cond b (Some (f admin)) None) (and_false one)
+known_where f admin one false known = ap (λ b. cond b (Some (f admin)) None) (and-false one)
 
 one_where : (admins : List AdminId) (admin : AdminId) (verdict : Verdict) (others : List Verdict) → has_its_admin admins verdict ≡ true
     → (list_any (is_of admin) others ≡ true → is_one admins admin ≡ true)

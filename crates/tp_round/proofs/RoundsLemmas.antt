@@ -1,8 +1,9 @@
 -- Rounds under view consistency: the first round's targets are kept to in the second.
 use Rattle.std.proofs.Common.{◌≡◌, ◌⊎◌, inl, inr, ◌≤◌, ◌+◌, ◌-◌, ◌^◌, ℕ, suc, zero, Bool, true, false, ◌&&◌, ◌||◌, ◌==◌, cond, List, [], ◌∷◌, filter, map, max, min, not, slice_get, Option, Some, arith, refl, ap, sym, ◌∙◌}
-use Rattle.std.proofs.lemmas.Bool.{and_from, and_parts, eqb-true, or_from, or_parts}
+use Rattle.std.proofs.lemmas.Bool.{and_from, and_parts, eqb-true, not-false, or_from, or_parts}
 use Rattle.std.specs.List.{fold, list_all, list_any}
 use Rattle.std.specs.Option.{option_map_or}
+use Rattle.tp_types.proofs.ListLemmas.{all_filtered, number_itself}
 use Rattle.tp_model.specs.Words.{AdminId, Level, Reading, ServerId, Verdict, Version}
 use Rattle.tp_model.specs.Ids.{same_admin, same_server}
 use Rattle.tp_model.specs.Levels.{is_global}
@@ -14,10 +15,10 @@ use Rattle.tp_round.specs.declared.round.Wanted.{Wanted}
 use Rattle.tp_round.specs.Judge.{after, after_reply, aim_in, awaits, first_round, is_aimed, is_awaited, is_global_at, is_outdated, is_proved_by, judge, met_in, mets_in, new_target, newest_in, next_round, next_target, want_of, wants_of, with_reply}
 use Rattle.tp_round.specs.Replies.{greatest, is_of, proofs_in, verdicts_in, with_greater}
 use Rattle.tp_round.specs.Laws.{AreAsNamed, Call, HasTwoRounds, Judges, Replies, after_call, after_calls, is_as_named, target_in, was_named}
-use Rattle.tp_round.proofs.AdminLemmas.{aimed_at, any_admin, has_its_admin, same_ids, same_self}
+use Rattle.tp_round.proofs.AdminLemmas.{aimed_at, any_admin, has_its_admin, same_ids}
 use Rattle.tp_round.proofs.AgainLemmas.{updated}
 use Rattle.tp_round.proofs.NamesLemmas.{admins_in, all_covered, all_of_each, is_covered, outdated_is}
-use Rattle.tp_round.proofs.VersionLemmas.{are_at, is_at, not_out}
+use Rattle.tp_round.proofs.VersionLemmas.{are_at, is_at}
 
 -- ---- proofs at given versions
 
@@ -121,23 +122,13 @@ reply_keeps f (target ∷ targets) server verdicts all as_named =
 -- what is aimed at the versions of a function has them
 pub aim_at : (f : AdminId → ℕ) (admins : List AdminId) → list_all (is_wanted_at f) (map (aimed_at f) admins) ≡ true
 aim_at f [] = refl
-aim_at f (admin ∷ admins) = and_from (f admin == f admin) (list_all (is_wanted_at f) (map (aimed_at f) admins)) (same_self (f admin)) (aim_at f admins)
-
-part_where : {X : Type 0} (passes : X → Bool) (x : X) (kept : List X) (b : Bool) → passes x ≡ true → list_all passes kept ≡ true → list_all passes (cond b (x ∷ kept) kept) ≡ true
-part_where passes x kept true here all = and_from (passes x) (list_all passes kept) here all
-part_where passes x kept false here all = all
-
-part : {X : Type 0} (passes keeps : X → Bool) (xs : List X) → list_all passes xs ≡ true → list_all passes (filter keeps xs) ≡ true
-part passes keeps [] all = refl
-part passes keeps (x ∷ xs) all =
-    let parts = and_parts (passes x) (list_all passes xs) all in
-    part_where passes x (filter keeps xs) (keeps x) parts.0 (part passes keeps xs parts.1)
+aim_at f (admin ∷ admins) = and_from (f admin == f admin) (list_all (is_wanted_at f) (map (aimed_at f) admins)) (number_itself (f admin)) (aim_at f admins)
 
 all_wanted : (f : AdminId → ℕ) (aim : List (AdminId × Version)) (targets : List Target) → list_all (is_wanted_at f) aim ≡ true
     → list_all (are_wanted_at f) (map (want_of aim) targets) ≡ true
 all_wanted f aim [] all = refl
 all_wanted f aim (target ∷ targets) all =
-    and_from (are_wanted_at f (want_of aim target)) (list_all (are_wanted_at f) (map (want_of aim) targets)) (part (is_wanted_at f) (is_proved_by target) aim all)
+    and_from (are_wanted_at f (want_of aim target)) (list_all (are_wanted_at f) (map (want_of aim) targets)) (all_filtered (is_wanted_at f) (is_proved_by target) aim all)
     (all_wanted f aim targets all)
 
 current : (f : AdminId → ℕ) (aim : List (AdminId × Version)) (verdicts : List Verdict) → list_all (is_wanted_at f) aim ≡ true
@@ -145,7 +136,7 @@ current : (f : AdminId → ℕ) (aim : List (AdminId × Version)) (verdicts : Li
 current f aim [] all none = refl
 current f aim (verdict ∷ verdicts) all none =
     let parts = or_parts (not (is_aimed aim verdict)) (list_any (λ (other : Verdict). not (is_aimed aim other)) verdicts) none in
-    and_from (is_at f verdict) (list_all (is_at f) verdicts) (aimed_has f aim verdict all (not_out (is_aimed aim verdict) parts.0)) (current f aim verdicts all parts.1)
+    and_from (is_at f verdict) (list_all (is_at f) verdicts) (aimed_has f aim verdict all (not-false (is_aimed aim verdict) parts.0)) (current f aim verdicts all parts.1)
 
 renewed_where : (f : AdminId → ℕ) (target : Target) (b : Bool) → (b ≡ false → are_at f target ≡ true) → are_at f (cond b (new_target target.server) target) ≡ true
 renewed_where f target true at = refl

@@ -1,8 +1,9 @@
 -- Proofs of one version of each administrator.
 use Rattle.std.proofs.Common.{◌≡◌, ℕ, Bool, true, false, ◌==◌, cond, List, [], ◌∷◌, filter, not, Option, refl, ap, sym, ◌∙◌}
-use Rattle.std.proofs.lemmas.Bool.{and_from, and_parts, eq-eqb, eqb-true, or_parts}
+use Rattle.std.proofs.lemmas.Bool.{and_from, and_parts, eq-eqb, eqb-true, not-false, or_parts}
 use Rattle.std.proofs.lemmas.List.Folds.{list_all-append}
 use Rattle.std.specs.List.{flat_map, list_all, list_any, range_with_len}
+use Rattle.tp_types.proofs.ListLemmas.{all_filtered}
 use Rattle.tp_model.specs.Words.{AdminId, Reading, Verdict}
 use Rattle.tp_model.specs.Ids.{same_admin}
 use Rattle.tp_model.specs.Versions.{agrees_with, have_one_version, is_one_version}
@@ -21,22 +22,7 @@ is_at f verdict = f verdict.admin == verdict.version.0
 abbrev pub are_at : (AdminId → ℕ) → Target → Bool
 are_at f target = list_all (is_at f) (verdicts_in target)
 
-pub not_out : (b : Bool) → not b ≡ false → b ≡ true
-not_out true e = refl
-not_out false e = cc
-
 -- ---- a list by query
-
-part_where : (passes : Verdict → Bool) (verdict : Verdict) (kept : List Verdict) (b : Bool) → passes verdict ≡ true → list_all passes kept ≡ true
-    → list_all passes (cond b (verdict ∷ kept) kept) ≡ true
-part_where passes verdict kept true here all = and_from (passes verdict) (list_all passes kept) here all
-part_where passes verdict kept false here all = all
-
-part : (passes keeps : Verdict → Bool) (proofs : List Verdict) → list_all passes proofs ≡ true → list_all passes (filter keeps proofs) ≡ true
-part passes keeps [] all = refl
-part passes keeps (verdict ∷ proofs) all =
-    let parts = and_parts (passes verdict) (list_all passes proofs) all in
-    part_where passes verdict (filter keeps proofs) (keeps verdict) parts.0 (part passes keeps proofs parts.1)
 
 of_numbers : (passes : Verdict → Bool) (proofs : List Verdict) (numbers : List ℕ) → list_all passes proofs ≡ true
     → list_all passes (flat_map (λ number. filter (is_at_query number) proofs) numbers) ≡ true
@@ -44,7 +30,7 @@ of_numbers passes proofs [] all = refl
 of_numbers passes proofs (number ∷ numbers) all =
     let rest : List Verdict = flat_map (λ other. filter (is_at_query other) proofs) numbers in
     list_all-append passes (filter (is_at_query number) proofs) rest
-    ∙ and_from (list_all passes (filter (is_at_query number) proofs)) (list_all passes rest) (part passes (is_at_query number) proofs all) (of_numbers passes proofs numbers all)
+    ∙ and_from (list_all passes (filter (is_at_query number) proofs)) (list_all passes rest) (all_filtered passes (is_at_query number) proofs all) (of_numbers passes proofs numbers all)
 
 -- what all proofs pass, those by query pass
 pub all_by_query : (passes : Verdict → Bool) (proofs : List Verdict) → list_all passes proofs ≡ true → list_all passes (by_query proofs) ≡ true
@@ -83,7 +69,7 @@ not_behind : (f : AdminId → ℕ) (verdicts : List Verdict) → list_any (λ (v
 not_behind f [] none = refl
 not_behind f (verdict ∷ verdicts) none =
     let parts = or_parts (not (is_at f verdict)) (list_any (λ (other : Verdict). not (f other.admin == other.version.0)) verdicts) none in
-    and_from (is_at f verdict) (list_all (is_at f) verdicts) (not_out (is_at f verdict) parts.0) (not_behind f verdicts parts.1)
+    and_from (is_at f verdict) (list_all (is_at f) verdicts) (not-false (is_at f verdict) parts.0) (not_behind f verdicts parts.1)
 
 none_behind : (round : Round) (reading : Option Reading) (targets : List Target) → list_any (is_behind round reading) targets ≡ false
     → list_all (are_at (target_in round reading)) targets ≡ true

@@ -8,30 +8,12 @@ use Rattle.std.proofs.lemmas.List.Folds.{list_all-append, list_any-append}
 use Rattle.std.proofs.lemmas.List.Quantifiers.{position-Some}
 use Rattle.tp_model.specs.Valid.{are_distinct}
 
--- one more member
-pub all_more : {A : Type 0} (test : A → Bool) (xs : List A) (x : A) → list_all test xs ≡ true → test x ≡ true → list_all test (xs ++ x ∷ []) ≡ true
-all_more test xs x kept here = list_all-append test xs (x ∷ []) ∙ and_from _ _ kept (and_from _ _ here refl)
-
 -- a weaker test
 pub all_weaker : {A : Type 0} (test other : A → Bool) → ((x : A) → test x ≡ true → other x ≡ true) → (xs : List A) → list_all test xs ≡ true → list_all other xs ≡ true
 all_weaker test other weaker [] kept = refl
 all_weaker test other weaker (x ∷ xs) kept =
     let parts = and_parts (test x) (list_all test xs) kept in
     and_from _ _ (weaker x parts.0) (all_weaker test other weaker xs parts.1)
-
-position_past : {A : Type 0} (test : A → Bool) (x : A) (xs : List A) → test x ≡ false → position test (x ∷ xs) ≡ None → position test xs ≡ None
-position_past test x xs fails e = grind (arith, nat_tests)
-
-position_first : {A : Type 0} (test : A → Bool) (x : A) (xs : List A) → test x ≡ true → position test (x ∷ xs) ≡ Some 0
-position_first test x xs here = grind (arith, nat_tests)
-
--- where no place is found, none passes the test
-pub none_passes : {A : Type 0} (test : A → Bool) (xs : List A) → position test xs ≡ None → list_any test xs ≡ false
-none_passes test [] e = refl
-none_passes test (x ∷ xs) e = elim (cases_Bool (test x)) [
-  | inl here ↦ absurd (cc (position_first test x xs here))
-  | inr fails ↦ or_from _ _ fails (none_passes test xs (position_past test x xs fails e))
-]
 
 -- a place that is found is one of the list
 pub place_within : {A : Type 0} (test : A → Bool) (xs : List A) (place : ℕ) → position test xs ≡ Some place → place < length xs

@@ -3,6 +3,7 @@ use Rattle.std.proofs.Common.{◌≡◌, ℕ, ◌+◌, ◌<◌, Bool, true, fals
 use Rattle.std.specs.Prelude.{is_some, ok_or}
 use Rattle.std.proofs.lemmas.Bool.Decides.{nat_tests}
 use Rattle.std.proofs.lemmas.List.{length-append}
+use Rattle.tp_types.proofs.ListLemmas.{none_passes}
 use Rattle.serde_json.specs.Data.{Data, Items, no_items, item}
 use Rattle.tp_model.specs.Limits.{has_count, is_between, is_from_to}
 use Rattle.tp_model.specs.Valid.{are_distinct}
@@ -11,8 +12,8 @@ use Rattle.tp_scenario.specs.declared.path.Path.{Path}
 use Rattle.tp_scenario.specs.Chain.{◌>>=◌}
 use Rattle.tp_scenario.specs.Faults.{range}
 use Rattle.tp_scenario.specs.Names.{Names, is_same, place_of}
-use Rattle.tp_scenario.specs.Values.{apart, array_at, count_at, count_or, counted, each, item_count, items_at, items_or, name_at, new_name_at, sized, through, used, used_at, whole_at, whole_in, within}
-use Rattle.tp_scenario.proofs.GrowingLists.{any_made, distinct_more, none_passes, place_within}
+use Rattle.tp_scenario.specs.Values.{apart, array_at, count_at, count_or, count_or_range, each, item_count, items_at, items_or, items_or_range, name_at, new_name_at, place_at, place_or_unknown, through, whole_at, whole_in, within}
+use Rattle.tp_scenario.proofs.GrowingLists.{any_made, distinct_more, place_within}
 
 -- ---- one step and the next
 
@@ -38,7 +39,7 @@ ok_same given a e = cc
 
 -- ---- numbers
 
-pub counted_ok : (path : Path) (low high : ℕ) (z : ℤ) (n : ℕ) → counted path low high z ≡ Ok n → is_from_to low high n ≡ true
+pub counted_ok : (path : Path) (low high : ℕ) (z : ℤ) (n : ℕ) → count_or_range path low high z ≡ Ok n → is_from_to low high n ≡ true
 counted_ok path low high (pos m) n e =
     let got = test_ok (is_from_to low high m) m n _ e in
     subst (λ (k : ℕ). is_from_to low high k ≡ true) got.1 got.0
@@ -76,12 +77,12 @@ pub new_name_ok : (path : Path) (names : Names) (value : Option Data) (name : Li
 unfolding new_name_at
 new_name_ok path names value name e = let text = then_ok (name_at path value) _ _ e in (apart_ok path names text.0 name text.2).1
 
-pub used_ok : (path : Path) (names : Names) (name : List ℕ) (place : ℕ) → used path names name ≡ Ok place → place < length names
-unfolding used
+pub used_ok : (path : Path) (names : Names) (name : List ℕ) (place : ℕ) → place_or_unknown path names name ≡ Ok place → place < length names
+unfolding place_or_unknown
 used_ok path names name place e = place_within (λ (other : List ℕ). is_same other name) names place (ok_or_ok _ _ _ e)
 
-pub used_at_ok : (path : Path) (names : Names) (value : Option Data) (place : ℕ) → used_at path names value ≡ Ok place → place < length names
-unfolding used_at
+pub used_at_ok : (path : Path) (names : Names) (value : Option Data) (place : ℕ) → place_at path names value ≡ Ok place → place < length names
+unfolding place_at
 used_at_ok path names value place e = let text = then_ok (name_at path value) _ _ e in used_ok path names text.0 place text.2
 
 -- names stay apart
@@ -95,7 +96,7 @@ named_apart name_of made x new apart_before =
 -- ---- arrays
 
 pub items_ok : (path : Path) (least most : ℕ) (value : Option Data) (items : Items) → items_at path least most value ≡ Ok items → is_from_to least most (item_count items) ≡ true
-unfolding items_at sized
+unfolding items_at items_or_range
 items_ok path least most value items e =
     let found = then_ok (array_at path value) _ _ e in
     let got = test_ok (is_from_to least most (item_count found.0)) found.0 items (range path) found.2 in

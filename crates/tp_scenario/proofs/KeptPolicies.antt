@@ -3,6 +3,7 @@ use Rattle.std.proofs.Common.{◌≡◌, ℕ, nat_le, Bool, true, false, List, [
 use Rattle.std.specs.List.{list_all}
 use Rattle.std.proofs.lemmas.Bool.{and_from, le-leb}
 use Rattle.std.proofs.lemmas.Bool.Decides.{nat_tests}
+use Rattle.tp_types.proofs.ListLemmas.{all_push}
 use Rattle.serde_json.specs.Data.{Data}
 use Rattle.tp_types.specs.declared.ids.Version.{Version}
 use Rattle.tp_types.specs.declared.policy.Policy.{Policy}
@@ -23,7 +24,6 @@ use Rattle.tp_policy_text.specs.Parses.{Answers}
 use Rattle.tp_scenario.specs.Policies.{policy_answer, policy_answer_is}
 use Rattle.tp_scenario.specs.Values.{field, name_at, object_at, text_at}
 use Rattle.tp_scenario.proofs.FewRules.{few_rules}
-use Rattle.tp_scenario.proofs.GrowingLists.{all_more}
 use Rattle.tp_scenario.proofs.Inverses.{count_or_ok, each_count, each_keeps, items_ok, items_or_ok, named_apart, new_name_ok, ok_same, then_ok, whole_ok}
 
 -- ---- administrators
@@ -41,7 +41,7 @@ unfolding policies_at
 policies_kept at value library e =
     let texts = then_ok _ _ _ e in (
       each_count (policy_in at) 1 64 texts.0 library (items_ok _ 1 64 value texts.0 texts.1) texts.2,
-      each_keeps (policy_in at) (λ made. list_all is_valid_policy made ≡ true) (λ made x d kept h. all_more is_valid_policy made x kept (policy_kept _ d x h)) texts.0 [] library refl texts.2,
+      each_keeps (policy_in at) (λ made. list_all is_valid_policy made ≡ true) (λ made x d kept h. all_push is_valid_policy made x kept (policy_kept _ d x h)) texts.0 [] library refl texts.2,
     )
 
 one_of : (least most n : ℕ) → is_from_to least most n ≡ true → least ≡ 1 → is_from_to 1 n 1 ≡ true
@@ -79,7 +79,7 @@ admins_kept value admins e =
     let all = each_keeps admin_in (λ made. (list_all is_valid_admin made ≡ true) × (are_distinct same_admin_name made ≡ true))
     (λ made x d kept h.
     let here = admin_kept (map admin_name made) (length made) d x h in
-    (all_more is_valid_admin made x kept.0 here.valid, named_apart admin_name made x here.new kept.1))
+    (all_push is_valid_admin made x kept.0 here.valid, named_apart admin_name made x here.new kept.1))
     values.0 [] admins (refl, refl) values.2 in
     and_from _ _ (and_from _ _ (each_count admin_in 1 16 values.0 admins (items_ok _ 1 16 value values.0 values.1) values.2) all.0) all.1
 
@@ -136,6 +136,6 @@ creds_kept value creds e =
     let all = each_keeps cred_in (λ made. (list_all is_valid_cred made ≡ true) × (are_distinct same_cred_name made ≡ true))
     (λ made x d kept h.
     let here = cred_kept (map cred_name made) (length made) d x h in
-    (all_more is_valid_cred made x kept.0 here.valid, named_apart cred_name made x here.new kept.1))
+    (all_push is_valid_cred made x kept.0 here.valid, named_apart cred_name made x here.new kept.1))
     values.0 [] creds (refl, refl) values.2 in
     and_from _ _ (and_from _ _ (each_count cred_in 0 256 values.0 creds (items_or_ok _ 256 value values.0 values.1) values.2) all.0) all.1

@@ -6,6 +6,8 @@ use Rattle.std.specs.List.{list_all}
 use Rattle.std.proofs.lemmas.Bool.{and_parts, and_from, lt-ltb}
 use Rattle.std.proofs.lemmas.Bool.Decides.{nat_tests}
 use Rattle.std.proofs.lemmas.Int.{ints}
+use Rattle.std.proofs.lemmas.Option.{same_Some}
+use Rattle.tp_types.proofs.ListLemmas.{all_push}
 use Rattle.serde_json.specs.Data.{Data}
 use Rattle.tp_types.specs.Spelling.{is_number as is_number_text, number_of, spelled_from}
 use Rattle.tp_types.specs.declared.scenario.Operand.TheVariants.{Register}
@@ -21,13 +23,9 @@ use Rattle.tp_scenario.specs.Names.{Names, is_same}
 use Rattle.tp_scenario.specs.Queries.{Asked, reads, writes, asked_in, asked_of, constant_term, first_term, is_register_digit, is_short, query_at, query_for, read_from, read_of, register_of, sign_of, signed_term, sum_of, term_at, term_of, terms_after, write_of, write_to}
 use Rattle.tp_scenario.specs.Values.{text_at}
 use Rattle.tp_scenario.specs.Words.{only, words_of}
-use Rattle.tp_scenario.proofs.GrowingLists.{all_more}
 use Rattle.tp_scenario.proofs.Inverses.{ok_or_ok, ok_same, then_ok, used_ok}
 
 -- ---- options
-
-pub some_same : {A : Type 0} (given a : A) → Some given ≡ Some a → given ≡ a
-some_same given a e = cc
 
 -- what came first, and what then
 pub then_some : {A B : Type 0} (next : A → Option B) (found : Option A) (b : B) → option_and_then next found ≡ Some b → (a : A) × (found ≡ Some a) × (next a ≡ Some b)
@@ -35,7 +33,7 @@ then_some next (Some a) b e = (a, refl, e)
 then_some next None b e = absurd (cc)
 
 pub map_some : {A B : Type 0} (make : A → B) (found : Option A) (b : B) → option_map make found ≡ Some b → (a : A) × (found ≡ Some a) × (make a ≡ b)
-map_some make (Some a) b e = (a, refl, some_same (make a) b e)
+map_some make (Some a) b e = (a, refl, same_Some (make a) b e)
 map_some make None b e = absurd (cc)
 
 pub test_some : {A : Type 0} (test : Bool) (found : Option A) (a : A) → (if test then found else None) ≡ Some a → (test ≡ true) × (found ≡ Some a)
@@ -48,7 +46,7 @@ test_some false found a e = absurd (cc)
 pub number_small : (digits : List ℕ) (n : ℕ) → number_of digits ≡ Some n → is_number n ≡ true
 number_small digits n e =
     let got = test_some (is_number_text digits) (Some (spelled_from 0 digits)) n e in
-    subst (λ (k : ℕ). is_number k ≡ true) (some_same _ n got.1) (int_short digits (pos (spelled_from 0 digits)) (inl (record { digits = got.0; number_is = refl })))
+    subst (λ (k : ℕ). is_number k ≡ true) (same_Some _ n got.1) (int_short digits (pos (spelled_from 0 digits)) (inl (record { digits = got.0; number_is = refl })))
 
 constant_fits : (n : ℕ) → is_number n ≡ true → is_between (pos 0) number_limit (pos n) ≡ true
 constant_fits n small = grind (arith, nat_tests, ints, int_ranks (pos 0) (pos n), int_ranks (pos n) number_limit)
@@ -61,7 +59,7 @@ register_kept [] register e = absurd (cc)
 register_kept (letter ∷ []) register e = absurd (cc)
 register_kept (letter ∷ digit ∷ []) register e =
     let got = test_some _ (Some (digit - 48)) register e in
-    subst (λ (k : ℕ). is_register k ≡ true) (some_same _ register got.1) (digit_of digit (and_parts _ _ got.0).1)
+    subst (λ (k : ℕ). is_register k ≡ true) (same_Some _ register got.1) (digit_of digit (and_parts _ _ got.0).1)
   where
     digit_of : (d : ℕ) → is_register_digit d ≡ true → is_register (d - 48) ≡ true
     digit_of d h = grind (arith, nat_tests)
@@ -84,7 +82,7 @@ term_kept minus word term e = by_register (register_of word) refl e
   where
     by_register : (register : Option ℕ) → register_of word ≡ register → term_at minus word register ≡ Some term → IsTermOf minus term
     by_register (Some register) r h =
-        subst (IsTermOf minus) (some_same (record { minus = minus; operand = Register register }) term h) (record { valid = register_kept word register r; sign = refl })
+        subst (IsTermOf minus) (same_Some (record { minus = minus; operand = Register register }) term h) (record { valid = register_kept word register r; sign = refl })
     by_register None r h = (constant_kept minus word term h).0
 
 -- the first term takes no register away
@@ -107,12 +105,12 @@ begins_still (term ∷ made) more h = h
 terms_kept : (words : List (List ℕ)) (made expr : List Term) → list_all is_valid_term made ≡ true → begins_well made ≡ true → terms_after made words ≡ Some expr
     → (list_all is_valid_term expr ≡ true) × (begins_well expr ≡ true)
 unfolding signed_term
-terms_kept [] made expr valid begins e = subst (λ (ts : List Term). (list_all is_valid_term ts ≡ true) × (begins_well ts ≡ true)) (some_same made expr e) (valid, begins)
+terms_kept [] made expr valid begins e = subst (λ (ts : List Term). (list_all is_valid_term ts ≡ true) × (begins_well ts ≡ true)) (same_Some made expr e) (valid, begins)
 terms_kept (sign ∷ []) made expr valid begins e = absurd (cc)
 terms_kept (sign ∷ word ∷ words) made expr valid begins e =
     let term = then_some _ (signed_term sign word) expr e in
     let minus = then_some _ (sign_of sign) term.0 term.1 in
-    terms_kept words (made ++ term.0 ∷ []) expr (all_more is_valid_term made term.0 valid (term_kept minus.0 word term.0 minus.2).valid) (begins_still made (term.0 ∷ []) begins) term.2
+    terms_kept words (made ++ term.0 ∷ []) expr (all_push is_valid_term made term.0 valid (term_kept minus.0 word term.0 minus.2).valid) (begins_still made (term.0 ∷ []) begins) term.2
 
 sum_kept : (words : List (List ℕ)) (expr : List Term) → sum_of words ≡ Some expr → (list_all is_valid_term expr ≡ true) × (begins_well expr ≡ true)
 sum_kept [] expr e = absurd (cc)

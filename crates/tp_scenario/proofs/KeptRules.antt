@@ -18,7 +18,7 @@ use Rattle.tp_scenario.specs.Servers.{item_name, server_name, servers_at}
 use Rattle.tp_scenario.specs.Steps.{steps_at}
 use Rattle.tp_scenario.specs.Txns.{txn_name, txns_at}
 use Rattle.tp_scenario.specs.Values.{count_or, field, object_at}
-use Rattle.tp_scenario.specs.Walk.{all_names, names_before, walked}
+use Rattle.tp_scenario.specs.Walk.{all_names, names_before, walk_of}
 use Rattle.tp_scenario.proofs.Inverses.{count_or_ok, ok_same, then_ok}
 use Rattle.tp_scenario.proofs.KeptPolicies.{admins_kept, creds_kept}
 use Rattle.tp_scenario.proofs.KeptScripts.{clients_kept, officers_kept, publishers_kept}
@@ -39,8 +39,8 @@ record IsWalked (sc : Scenario) : Type 0 where
   publishers : publishers_at (all_names sc.admins sc.creds (record { servers = sc.servers; items = sc.items }) sc.txns) sc.admins (field Publishers fields) ≡ Ok sc.publishers
   officers : officers_at (all_names sc.admins sc.creds (record { servers = sc.servers; items = sc.items }) sc.txns) (field Officers fields) ≡ Ok sc.officers
 
-parts_of : (value : Data) (scenario : Scenario) → walked value ≡ Ok scenario → IsWalked scenario
-unfolding walked
+parts_of : (value : Data) (scenario : Scenario) → walk_of value ≡ Ok scenario → IsWalked scenario
+unfolding walk_of
 parts_of value scenario e =
     let fields = then_ok (object_at Whole (Admins ∷ Servers ∷ Transactions ∷ []) (Clock ∷ Credentials ∷ Steps ∷ Clients ∷ Publishers ∷ Officers ∷ []) value) _ _ e in
     let admins = then_ok (admins_at (field Admins fields.0)) _ _ fields.2 in
@@ -112,5 +112,5 @@ all_kept sc rules =
     (and_from (has_valid_policies sc) (has_valid_data sc) (and_from _ _ (and_from _ _ rules.admins rules.clock) rules.creds) (and_from _ _ (and_from _ _ rules.servers rules.items) rules.txns))
     (and_from _ _ (and_from _ _ rules.steps rules.clients) (and_from _ _ rules.publishers rules.officers))
 
-pub walked_valid : (value : Data) (scenario : Scenario) → walked value ≡ Ok scenario → is_valid scenario ≡ true
+pub walked_valid : (value : Data) (scenario : Scenario) → walk_of value ≡ Ok scenario → is_valid scenario ≡ true
 walked_valid value scenario e = all_kept scenario (rules_kept scenario (parts_of value scenario e))

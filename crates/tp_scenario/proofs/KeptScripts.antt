@@ -7,6 +7,7 @@ use Rattle.std.proofs.lemmas.Bool.{and_parts, and_from, cases_Bool, eqb-true, le
 use Rattle.std.proofs.lemmas.Bool.Decides.{nat_tests}
 use Rattle.std.proofs.lemmas.List.{length-append}
 use Rattle.std.proofs.lemmas.List.Sums.{sum_by_push, sum_by-cons}
+use Rattle.tp_types.proofs.ListLemmas.{all_push}
 use Rattle.serde_json.specs.Data.{Data}
 use Rattle.tp_types.specs.declared.ids.AdminId.{AdminId}
 use Rattle.tp_types.specs.declared.ids.TxnId.{TxnId}
@@ -27,10 +28,9 @@ use Rattle.tp_scenario.specs.declared.path.Path.TheVariants.{Member}
 use Rattle.tp_scenario.specs.declared.scripts.Published.{Published}
 use Rattle.tp_scenario.specs.declared.scripts.Publishing.{Publishing}
 use Rattle.tp_scenario.specs.Names.{Names}
-use Rattle.tp_scenario.specs.Scripts.{allowed_step, client_at, clients_at, is_official, is_publishing, is_submitted, left_after, officer_at, officers_at, official_at, official_in, published_at, published_in, publisher_at, publishers_at, publishing_from, submitted_at, submitted_in, taken_from, versions_left}
+use Rattle.tp_scenario.specs.Scripts.{client_at, clients_at, fewer_or_range, is_official, is_publishing, is_submitted, left_after, officer_at, officers_at, official_step_at, official_step_in, publication_at, publication_in, publisher_at, publishers_at, publishing_from, step_or_range, submission_at, submission_in, versions_left}
 use Rattle.tp_scenario.specs.Steps.{Command, of_name, by_number, push, cut, counted_step, named_step, push_step, step_for}
-use Rattle.tp_scenario.specs.Values.{array_at, item_count, through, used}
-use Rattle.tp_scenario.proofs.GrowingLists.{all_more}
+use Rattle.tp_scenario.specs.Values.{array_at, item_count, place_or_unknown, through}
 use Rattle.tp_scenario.proofs.Inverses.{each_count, each_keeps, items_ok, items_or_ok, ok_same, refusal_ok, test_ok, then_ok, through_count, through_keeps, used_at_ok}
 use Rattle.tp_scenario.proofs.KeptSteps.{IsCommandWell, IsNamesOf, command_well, step_for_kept}
 
@@ -88,9 +88,9 @@ once_more earlier made txn once new other = elim (cases_Bool (other.0 == txn.0))
 once_script : (earlier : List (List TxnId)) (script : List TxnId) → AreOnce earlier script → AreOnce (earlier ++ script ∷ []) []
 once_script earlier script once txn = omega (arith, sum_by_push (count_by (same_txn txn)) earlier script, once txn)
 
-submitted_kept : (path : Path) (txns : Names) (earlier : List (List TxnId)) (made : List TxnId) (d : Data) (txn : TxnId) → submitted_at path txns earlier made d ≡ Ok txn
+submitted_kept : (path : Path) (txns : Names) (earlier : List (List TxnId)) (made : List TxnId) (d : Data) (txn : TxnId) → submission_at path txns earlier made d ≡ Ok txn
     → (txn.0 < length txns) × (is_submitted earlier made txn ≡ false)
-unfolding submitted_at
+unfolding submission_at
 submitted_kept path txns earlier made d txn e =
     let place = then_ok _ _ _ e in
     let got = refusal_ok (is_submitted earlier made (record { 0 = place.0 })) (record { 0 = place.0 }) txn _ place.2 in
@@ -101,10 +101,10 @@ client_kept : (sc : Scenario) (txns : Names) (earlier : List (List TxnId)) (d : 
 unfolding client_at
 client_kept sc txns earlier d script count once e =
     let names = then_ok (array_at (Member Clients (length earlier)) (Some d)) _ _ e in
-    let all = each_keeps (submitted_in txns earlier) (λ made. (list_all (is_txn sc) made ≡ true) × AreOnce earlier made)
+    let all = each_keeps (submission_in txns earlier) (λ made. (list_all (is_txn sc) made ≡ true) × AreOnce earlier made)
     (λ made txn value before h.
     let here = submitted_kept _ txns earlier made value txn h in
-    (all_more (is_txn sc) made txn before.0 (lt-ltb _ _ (subst (λ (n : ℕ). txn.0 < n) count here.0)), once_more earlier made txn before.1 here.1))
+    (all_push (is_txn sc) made txn before.0 (lt-ltb _ _ (subst (λ (n : ℕ). txn.0 < n) count here.0)), once_more earlier made txn before.1 here.1))
     names.0 [] script (refl, once) names.2 in
     (all.0, once_script earlier script all.1)
 
@@ -119,7 +119,7 @@ clients_kept sc txns value count e =
     let all = each_keeps (client_at txns) (λ made. (list_all (is_script_of_txns sc) made ≡ true) × AreOnce made [])
     (λ made script d before h.
     let here = client_kept sc txns made d script count before.1 h in
-    (all_more (is_script_of_txns sc) made script before.0 here.0, here.1))
+    (all_push (is_script_of_txns sc) made script before.0 here.0, here.1))
     values.0 [] sc.clients (refl, λ txn. omega arith) values.2 in
     and_from _ _ (and_from _ _ (each_count (client_at txns) 0 16 values.0 sc.clients (items_or_ok _ 16 value values.0 values.1) values.2) all.0) (each_once sc.clients 0 sc.txns all.1)
 
@@ -127,10 +127,10 @@ clients_kept sc txns value count e =
 
 publishing_made : (path : Path) (names : Declared) (command : Command) (made : Step) → is_publishing command ≡ true → step_for path names command ≡ Ok made → is_publisher_step made ≡ true
 unfolding named_step push_step
-publishing_made path names (of_name verb.Publish name) made h e = let place = then_ok (used path names.admins name) _ _ e in subst (λ (s : Step). is_publisher_step s ≡ true) (ok_same (step.Publish (record { 0 = place.0 })) made place.2) refl
+publishing_made path names (of_name verb.Publish name) made h e = let place = then_ok (place_or_unknown path names.admins name) _ _ e in subst (λ (s : Step). is_publisher_step s ≡ true) (ok_same (step.Publish (record { 0 = place.0 })) made place.2) refl
 publishing_made path names (push admin server) made h e =
-    let from = then_ok (used path names.admins admin) _ _ e in
-    let to = then_ok (used path names.servers server) _ _ from.2 in
+    let from = then_ok (place_or_unknown path names.admins admin) _ _ e in
+    let to = then_ok (place_or_unknown path names.servers server) _ _ from.2 in
     subst (λ (s : Step). is_publisher_step s ≡ true) (ok_same (step.Push (record { 0 = from.0 }) (record { 0 = to.0 })) made to.2) refl
 publishing_made path names (of_name verb.Submit name) made h e = absurd (cc)
 publishing_made path names (of_name verb.Revoke name) made h e = absurd (cc)
@@ -196,7 +196,7 @@ one_less admins earlier script left admin count was before other = elim (cases_B
         omega (arith, there, had, one, more, before other)
 
 a_publication : (path : Path) (admins : List Admin) (earlier : List (List Step)) (script : List Step) (left next : List ℕ) (admin : AdminId) (count : ℕ) → left_of left admin.0 ≡ count
-    → taken_from path left admin.0 count ≡ Ok next → Balanced admins earlier script left → Balanced admins earlier (script ++ step.Publish admin ∷ []) next
+    → fewer_or_range path left admin.0 count ≡ Ok next → Balanced admins earlier script left → Balanced admins earlier (script ++ step.Publish admin ∷ []) next
 a_publication path admins earlier script left next admin zero was e before = absurd (cc)
 a_publication path admins earlier script left next admin (suc count) was e before =
     subst (Balanced admins earlier (script ++ step.Publish admin ∷ [])) (ok_same (slice_set left admin.0 count) next e) (one_less admins earlier script left admin count was before)
@@ -222,8 +222,8 @@ record IsPublished (sc : Scenario) (admins : List Admin) (earlier : List (List S
   balanced : Balanced admins earlier state.script state.left
 
 published_kept : (sc : Scenario) (path : Path) (names : Declared) (admins : List Admin) (earlier : List (List Step)) (state next : Published) (d : Data) → IsNamesOf sc names
-    → IsPublished sc admins earlier state → published_at path names state d ≡ Ok next → IsPublished sc admins earlier next
-unfolding published_at
+    → IsPublished sc admins earlier state → publication_at path names state d ≡ Ok next → IsPublished sc admins earlier next
+unfolding publication_at
 published_kept sc path names admins earlier state next d of_sc before e =
     let command = then_ok _ _ _ e in
     let made = then_ok _ _ _ command.2 in
@@ -231,12 +231,12 @@ published_kept sc path names admins earlier state next d of_sc before e =
     let allowed = by_kind command.0 made.0 (is_publishing command.0) refl made.1 in
     let publishes = publishing_made path names command.0 made.0 allowed.0 allowed.1 in
     subst (IsPublished sc admins earlier) (ok_same _ next left.2) (record {
-      publishes = all_more is_publisher_step state.script made.0 before.publishes publishes;
-      valid = all_more (is_valid_step sc) state.script made.0 before.valid (step_for_kept sc path names command.0 made.0 of_sc (command_well path d command.0 command.1) allowed.1);
+      publishes = all_push is_publisher_step state.script made.0 before.publishes publishes;
+      valid = all_push (is_valid_step sc) state.script made.0 before.valid (step_for_kept sc path names command.0 made.0 of_sc (command_well path d command.0 command.1) allowed.1);
       balanced = balanced_after path admins earlier state.script state.left left.0 made.0 publishes left.1 before.balanced;
     })
   where
-    by_kind : (command : Command) (made : Step) (b : Bool) → is_publishing command ≡ b → allowed_step b path names command ≡ Ok made → (is_publishing command ≡ true) × (step_for path names command ≡ Ok made)
+    by_kind : (command : Command) (made : Step) (b : Bool) → is_publishing command ≡ b → step_or_range b path names command ≡ Ok made → (is_publishing command ≡ true) × (step_for path names command ≡ Ok made)
     by_kind command made true h k = (h, k)
     by_kind command made false h k = absurd (cc)
 
@@ -250,13 +250,13 @@ publisher_kept : (sc : Scenario) (names : Declared) (admins : List Admin) (state
 unfolding publisher_at
 publisher_kept sc names admins state next d of_sc before e =
     let steps = then_ok (array_at (Member Publishers (length state.scripts)) (Some d)) _ _ e in
-    let published = then_ok (through (published_in names (length state.scripts)) (record { script = []; left = state.left }) steps.0) _ _ steps.2 in
-    let all = through_keeps (published_in names (length state.scripts)) (IsPublished sc admins state.scripts)
+    let published = then_ok (through (publication_in names (length state.scripts)) (record { script = []; left = state.left }) steps.0) _ _ steps.2 in
+    let all = through_keeps (publication_in names (length state.scripts)) (IsPublished sc admins state.scripts)
     (λ one other value kept h. published_kept sc _ names admins state.scripts one other value of_sc kept h)
     steps.0 (record { script = []; left = state.left }) published.0 (record { publishes = refl; valid = refl; balanced = before.balanced }) published.1 in
     subst (λ (s : Publishing). ArePublished sc admins s × (length s.scripts ≡ length state.scripts + 1)) (ok_same (record { scripts = state.scripts ++ published.0.script ∷ []; left = published.0.left }) next published.2) (
       record {
-        scripts = all_more (is_publisher_script sc) state.scripts published.0.script before.scripts (and_from _ _ all.publishes all.valid);
+        scripts = all_push (is_publisher_script sc) state.scripts published.0.script before.scripts (and_from _ _ all.publishes all.valid);
         balanced = λ admin. omega (arith, sum_by_push (count_by (is_publication_of admin)) state.scripts published.0.script, all.balanced admin);
       },
       omega (arith, length-append state.scripts (published.0.script ∷ [])),
@@ -303,7 +303,7 @@ publishers_kept sc names value of_sc valid e =
 
 official_made : (path : Path) (names : Declared) (command : Command) (made : Step) → is_official command ≡ true → step_for path names command ≡ Ok made → is_officer_step made ≡ true
 unfolding named_step counted_step
-official_made path names (of_name verb.Revoke name) made h e = let place = then_ok (used path names.creds name) _ _ e in subst (λ (s : Step). is_officer_step s ≡ true) (ok_same (step.Revoke (record { 0 = place.0 })) made place.2) refl
+official_made path names (of_name verb.Revoke name) made h e = let place = then_ok (place_or_unknown path names.creds name) _ _ e in subst (λ (s : Step). is_officer_step s ≡ true) (ok_same (step.Revoke (record { 0 = place.0 })) made place.2) refl
 official_made path names (by_number counting.Tick number) made h e =
     subst (λ (s : Step). is_officer_step s ≡ true) (test_ok (is_from_to 1 1000000 number) (step.Tick number) made _ e).1 refl
 official_made path names (push admin server) made h e = absurd (cc)
@@ -316,12 +316,12 @@ official_made path names (by_number counting.Deliver number) made h e = absurd (
 official_made path names (by_number counting.Lose number) made h e = absurd (cc)
 official_made path names (cut name mail calls fill) made h e = absurd (cc)
 
-official_kept : (sc : Scenario) (path : Path) (names : Declared) (d : Data) (made : Step) → IsNamesOf sc names → official_at path names d ≡ Ok made
+official_kept : (sc : Scenario) (path : Path) (names : Declared) (d : Data) (made : Step) → IsNamesOf sc names → official_step_at path names d ≡ Ok made
     → (is_officer_step made ≡ true) × (is_valid_step sc made ≡ true)
-unfolding official_at
+unfolding official_step_at
 official_kept sc path names d made of_sc e = let command = then_ok _ _ _ e in by_kind command.0 (command_well path d command.0 command.1) (is_official command.0) refl command.2
   where
-    by_kind : (command : Command) → IsCommandWell command → (b : Bool) → is_official command ≡ b → allowed_step b path names command ≡ Ok made → (is_officer_step made ≡ true) × (is_valid_step sc made ≡ true)
+    by_kind : (command : Command) → IsCommandWell command → (b : Bool) → is_official command ≡ b → step_or_range b path names command ≡ Ok made → (is_officer_step made ≡ true) × (is_valid_step sc made ≡ true)
     by_kind command well true h k = (official_made path names command made h k, step_for_kept sc path names command made of_sc well k)
     by_kind command well false h k = absurd (cc)
 
@@ -329,17 +329,17 @@ officer_kept : (sc : Scenario) (names : Declared) (earlier : List (List Step)) (
 unfolding officer_at
 officer_kept sc names earlier d script of_sc e =
     let steps = then_ok _ _ _ e in
-    let all = each_keeps (official_in names (length earlier)) (λ made. (list_all is_officer_step made ≡ true) × (list_all (is_valid_step sc) made ≡ true))
+    let all = each_keeps (official_step_in names (length earlier)) (λ made. (list_all is_officer_step made ≡ true) × (list_all (is_valid_step sc) made ≡ true))
     (λ made x value before h.
     let here = official_kept sc _ names value x of_sc h in
-    (all_more is_officer_step made x before.0 here.0, all_more (is_valid_step sc) made x before.1 here.1))
+    (all_push is_officer_step made x before.0 here.0, all_push (is_valid_step sc) made x before.1 here.1))
     steps.0 [] script (refl, refl) steps.2 in
-    and_from _ _ all.0 (and_from _ _ (each_count (official_in names (length earlier)) 0 100000 steps.0 script (items_ok _ 0 100000 (Some d) steps.0 steps.1) steps.2) all.1)
+    and_from _ _ all.0 (and_from _ _ (each_count (official_step_in names (length earlier)) 0 100000 steps.0 script (items_ok _ 0 100000 (Some d) steps.0 steps.1) steps.2) all.1)
 
 pub officers_kept : (sc : Scenario) (names : Declared) (value : Option Data) → IsNamesOf sc names → officers_at names value ≡ Ok sc.officers → are_valid_officers sc ≡ true
 unfolding officers_at
 officers_kept sc names value of_sc e =
     let values = then_ok _ _ _ e in
     and_from _ _ (each_count (officer_at names) 0 8 values.0 sc.officers (items_or_ok _ 8 value values.0 values.1) values.2)
-    (each_keeps (officer_at names) (λ made. list_all (is_officer_script sc) made ≡ true) (λ made script d before h. all_more (is_officer_script sc) made script before (officer_kept sc names made d script of_sc h))
+    (each_keeps (officer_at names) (λ made. list_all (is_officer_script sc) made ≡ true) (λ made script d before h. all_push (is_officer_script sc) made script before (officer_kept sc names made d script of_sc h))
     values.0 [] sc.officers refl values.2)

@@ -8,6 +8,7 @@ use Rattle.std.proofs.lemmas.Bool.{and_parts, and_from, le-leb, lt-ltb, ltb-true
 use Rattle.std.proofs.lemmas.Bool.Decides.{nat_tests}
 use Rattle.std.proofs.lemmas.Int.{ints}
 use Rattle.std.proofs.lemmas.List.{length-append, length-map, append_assoc, append-nil}
+use Rattle.tp_types.proofs.ListLemmas.{all_push}
 use Rattle.serde_json.specs.Data.{Data, Items, Members, no_members, member}
 use Rattle.serde_json.specs.Find.{as_object}
 use Rattle.tp_types.specs.declared.ids.ItemId.{ItemId}
@@ -27,9 +28,9 @@ use Rattle.tp_scenario.specs.declared.servers.Served.{Served}
 use Rattle.tp_scenario.specs.Admins.{admin_name}
 use Rattle.tp_scenario.specs.Faults.{shape}
 use Rattle.tp_scenario.specs.Names.{Names, place_of}
-use Rattle.tp_scenario.specs.Servers.{item_at, item_in, item_name, items_in, key_at, known_at, known_from, knows_at, moved, nothing_served, numbered, opening, opening_of, server_in, server_name, servers_at, version_at}
+use Rattle.tp_scenario.specs.Servers.{ids_from, item_at, item_in, item_name, items_in, key_at, known_at, known_from, knows_at, nothing_served, opening, opening_of, server_in, server_name, servers_at, version_at, with_site}
 use Rattle.tp_scenario.specs.Values.{each, item_count, object_at}
-use Rattle.tp_scenario.proofs.GrowingLists.{all_more, all_weaker}
+use Rattle.tp_scenario.proofs.GrowingLists.{all_weaker}
 use Rattle.tp_scenario.proofs.Inverses.{count_ok, each_keeps, each_length, items_ok, named_apart, new_name_ok, ok_same, then_ok, through_count, used_at_ok, whole_ok}
 
 -- ---- what a server knows
@@ -63,7 +64,7 @@ version_kept server text most d version e =
     let count = then_ok _ _ _ e in
     subst (λ (v : Version). is_from_to 1 most v.0 ≡ true) (ok_same (record { 0 = count.0 }) version count.2) (count_ok _ 1 most (Some d) count.0 (not_moved _ _ count.0 count.1))
   where
-    not_moved : {A : Type 0} (site : Site) (walked : Result A Fault) (a : A) → moved site walked ≡ Ok a → walked ≡ Ok a
+    not_moved : {A : Type 0} (site : Site) (walked : Result A Fault) (a : A) → with_site site walked ≡ Ok a → walked ≡ Ok a
     not_moved site (Ok given) a h = h
     not_moved site (Err fault) a h = absurd (cc)
 
@@ -163,8 +164,8 @@ added_more admins before made server item added new =
     record {
       more = added.more ++ item ∷ [];
       parts = ap (λ (xs : List Item). xs ++ item ∷ []) added.parts ∙ append_assoc before added.more (item ∷ []);
-      here = all_more (λ (i : Item). i.server.0 == server) added.more item added.here (eq-eqb _ _ new.of_server);
-      valid = all_more (is_item_of (server + 1) (length admins)) made item added.valid (and_from _ _ (and_from _ _ (lt-ltb _ _ below) new.of_admin) new.range);
+      here = all_push (λ (i : Item). i.server.0 == server) added.more item added.here (eq-eqb _ _ new.of_server);
+      valid = all_push (is_item_of (server + 1) (length admins)) made item added.valid (and_from _ _ (and_from _ _ (lt-ltb _ _ below) new.of_admin) new.range);
       ordered = ordered_more 0 server (length admins) made item (omega arith) added.valid new.of_server added.ordered;
       apart = named_apart item_name made item new.new added.apart;
     }
@@ -195,15 +196,15 @@ owned_none at number (item ∷ items) none =
     other_server true h e = absurd (cc)
     other_server false h e = e
 
-numbered_first : (first count : ℕ) → numbered first (suc count) ≡ record { 0 = first } ∷ numbered (first + 1) count
+numbered_first : (first count : ℕ) → ids_from first (suc count) ≡ record { 0 = first } ∷ ids_from (first + 1) count
 numbered_first first zero = ap (λ (n : ℕ). record { 0 = n } ∷ []) (omega arith)
 numbered_first first (suc count) =
     let last : first + suc count ≡ first + 1 + count = omega arith in
     ap (λ (ids : List ItemId). ids ++ record { 0 = first + suc count } ∷ []) (numbered_first first count)
-    ∙ ap (λ (n : ℕ). record { 0 = first } ∷ (numbered (first + 1) count ++ record { 0 = n } ∷ [])) last
+    ∙ ap (λ (n : ℕ). record { 0 = first } ∷ (ids_from (first + 1) count ++ record { 0 = n } ∷ [])) last
 
 -- all of the items are
-owned_all : (at number : ℕ) (items : List Item) → list_all (λ (item : Item). item.server.0 == at) items ≡ true → owned_from at number items ≡ numbered number (length items)
+owned_all : (at number : ℕ) (items : List Item) → list_all (λ (item : Item). item.server.0 == at) items ≡ true → owned_from at number items ≡ ids_from number (length items)
 owned_all at number [] all = refl
 owned_all at number (item ∷ items) all =
     let parts = and_parts (item.server.0 == at) (list_all (λ (i : Item). i.server.0 == at) items) all in
@@ -213,11 +214,11 @@ owned_all at number (item ∷ items) all =
     this_server true h = refl
     this_server false h = absurd (cc)
 
-numbered_length : (first count : ℕ) → length (numbered first count) ≡ count
+numbered_length : (first count : ℕ) → length (ids_from first count) ≡ count
 numbered_length first zero = refl
 numbered_length first (suc count) =
     let rest = numbered_length first count in
-    let more = length-append (numbered first count) (record { 0 = first + count } ∷ []) in
+    let more = length-append (ids_from first count) (record { 0 = first + count } ∷ []) in
     omega (arith, rest, more)
 
 same_ids : (ids : List ItemId) → pointwise same_item ids ids ≡ true
@@ -281,7 +282,7 @@ new_items admins before server values made none e =
 
 -- the server lists the items that were added for it, which are not too many
 lists_added : (before made : List Item) (server admins : ℕ) → IsAdded before server admins made → list_all (is_item_of server admins) before ≡ true
-    → owned_from server 0 made ≡ numbered (length before) (length made - length before)
+    → owned_from server 0 made ≡ ids_from (length before) (length made - length before)
 lists_added before made server admins added valid =
     let none = all_weaker (is_item_of server admins) (λ (item : Item). not (item.server.0 == server)) (λ item h. other item.server.0 (server_of_item server admins item h)) before valid in
     let count : length added.more ≡ length made - length before = omega (arith, length-append before added.more, ap length added.parts) in
@@ -289,7 +290,7 @@ lists_added before made server admins added valid =
     ∙ (owned_append server 0 before added.more
     ∙ (ap (λ (ids : List ItemId). ids ++ owned_from server (0 + length before) added.more) (owned_none server 0 before none)
     ∙ (ap (λ (n : ℕ). owned_from server n added.more) (omega arith)
-    ∙ (owned_all server (length before) added.more added.here ∙ ap (numbered (length before)) count))))
+    ∙ (owned_all server (length before) added.more added.here ∙ ap (ids_from (length before)) count))))
   where
     other : (n : ℕ) → n < server → not (n == server) ≡ true
     other n h = grind (arith, nat_tests)
@@ -358,7 +359,7 @@ server_kept admins served next d valid before e =
     let knows = then_ok _ _ _ name.2 in
     let items = then_ok _ _ _ knows.2 in
     let added = items_kept admins served _ items.0 before items.1 in
-    let ids = numbered (length served.items) (length items.0 - length served.items) in
+    let ids = ids_from (length served.items) (length items.0 - length served.items) in
     let decl : ServerDecl = record { name = name.0; knows = knows.0; items = ids } in
     let count : has_count 0 64 ids ≡ true = few (length ids) (omega (arith, numbered_length (length served.items) (length items.0 - length served.items), added.1)) in
     subst (λ (s : Served). IsServed admins s × (length s.servers ≡ length served.servers + 1)) (ok_same _ next items.2) (

@@ -2,6 +2,8 @@
 use Rattle.std.proofs.Common.{◌≡◌, ℕ, ◌<◌, nat_lt, Bool, true, false, List, [], ◌∷◌, length, Option, Some, None, Ok, Err, refl, subst, arith, codes, if◌then◌else◌, option_map}
 use Rattle.std.specs.List.{list_all}
 use Rattle.std.proofs.lemmas.Bool.{and_parts, and_from, lt-ltb}
+use Rattle.std.proofs.lemmas.Option.{same_Some}
+use Rattle.tp_types.proofs.ListLemmas.{all_push}
 use Rattle.serde_json.specs.Data.{Data}
 use Rattle.tp_types.specs.Spelling.{number_of}
 use Rattle.tp_types.specs.declared.scenario.Actor.{Actor}
@@ -19,12 +21,12 @@ use Rattle.tp_scenario.specs.declared.names.Declared.{Declared}
 use Rattle.tp_scenario.specs.declared.path.Path.{Path}
 use Rattle.tp_scenario.specs.Faults.{range, shape}
 use Rattle.tp_scenario.specs.Names.{is_same, place_of}
-use Rattle.tp_scenario.specs.Steps.{Command, of_name, by_number, push, cut, actor_at, actor_or, by_verb, calls_of, command_at, command_by, command_in, command_of, coordinator_at, count_verb, counted_or, counted_step, crash_of, cut_or_range, cut_step, fill_of, filled, is_cut, mail_of, name_verb, named_step, one_name, one_number, push_of, push_step, pushed, received, step_at, step_for, step_in, steps_at}
+use Rattle.tp_scenario.specs.Steps.{Command, of_name, by_number, push, cut, actor_at, actor_or, by_verb, calls_of, command_at, command_by, command_in, command_of, coordinator_at, count_verb, command_by_count_or, counted_step, crash_of, cut_or_range, cut_step, fill_of, cut_with_fill, is_cut, mail_of, name_verb, named_step, one_name, one_number, push_of, push_step, push_to, cut_in_mail, step_at, step_for, step_in, steps_at}
 use Rattle.tp_scenario.specs.Values.{text_at}
 use Rattle.tp_scenario.specs.Words.{is_end, only, words_of}
-use Rattle.tp_scenario.proofs.GrowingLists.{all_more, place_within}
+use Rattle.tp_scenario.proofs.GrowingLists.{place_within}
 use Rattle.tp_scenario.proofs.Inverses.{each_count, each_keeps, items_or_ok, ok_or_ok, ok_same, test_ok, then_ok, used_ok}
-use Rattle.tp_scenario.proofs.KeptQueries.{map_some, number_small, some_same, test_some, then_some}
+use Rattle.tp_scenario.proofs.KeptQueries.{map_some, number_small, test_some, then_some}
 
 -- as many names of each kind as the scenario has of them
 pub record IsNamesOf (sc : Scenario) (names : Declared) : Type 0 where
@@ -50,9 +52,9 @@ unfolding push_of
 push_kept [] command e = absurd (cc)
 push_kept (admin ∷ words) command e = by_server (one_name words) e
   where
-    by_server : (server : Option (List ℕ)) → pushed admin server ≡ Some command → IsCommandWell command
+    by_server : (server : Option (List ℕ)) → push_to admin server ≡ Some command → IsCommandWell command
     by_server None h = absurd (cc)
-    by_server (Some server) h = subst IsCommandWell (some_same _ command (test_some _ _ command h).1) tt
+    by_server (Some server) h = subst IsCommandWell (same_Some _ command (test_some _ _ command h).1) tt
 
 calls_kept : (name : List ℕ) (mail : ℕ) (words : List (List ℕ)) (command : Command) → is_number mail ≡ true → calls_of name mail words ≡ Some command → IsCommandWell command
 unfolding calls_of
@@ -60,7 +62,7 @@ calls_kept name mail [] command small e = absurd (cc)
 calls_kept name mail (key ∷ []) command small e = absurd (cc)
 calls_kept name mail (key ∷ calls ∷ words) command small e = by_fill (fill_of words) (test_some _ _ command e).1
   where
-    by_fill : (fill : Option ℕ) → filled name mail calls fill ≡ Some command → IsCommandWell command
+    by_fill : (fill : Option ℕ) → cut_with_fill name mail calls fill ≡ Some command → IsCommandWell command
     by_fill None h = absurd (cc)
     by_fill (Some fill) h = subst IsCommandWell (map_some (λ c. cut name mail c fill) (number_of calls) command h).2 small
 
@@ -70,7 +72,7 @@ mail_kept name [] command e = absurd (cc)
 mail_kept name (key ∷ []) command e = absurd (cc)
 mail_kept name (key ∷ mail ∷ words) command e = by_mail (number_of mail) refl (test_some _ _ command e).1
   where
-    by_mail : (number : Option ℕ) → number_of mail ≡ number → received name number words ≡ Some command → IsCommandWell command
+    by_mail : (number : Option ℕ) → number_of mail ≡ number → cut_in_mail name number words ≡ Some command → IsCommandWell command
     by_mail None n h = absurd (cc)
     by_mail (Some number) n h = calls_kept name number words command (number_small mail number n) h
 
@@ -80,7 +82,7 @@ crash_kept [] command e = absurd (cc)
 crash_kept (name ∷ words) command e = by_end (is_end words) (test_some _ _ command e).1
   where
     by_end : (b : Bool) → (if b then Some (of_name verb.Crash name) else mail_of name words) ≡ Some command → IsCommandWell command
-    by_end true h = subst IsCommandWell (some_same _ command h) tt
+    by_end true h = subst IsCommandWell (same_Some _ command h) tt
     by_end false h = mail_kept name words command h
 
 one_kept : (verb : NameVerb) (words : List (List ℕ)) (command : Command) → option_map (of_name verb) (one_name words) ≡ Some command → IsCommandWell command
@@ -94,7 +96,7 @@ by_verb_kept verb.Revoke words command e = one_kept verb.Revoke words command e
 by_verb_kept verb.Boot words command e = one_kept verb.Boot words command e
 by_verb_kept verb.Timer words command e = one_kept verb.Timer words command e
 
-counted_kept : (count : Option CountVerb) (verb : Option NameVerb) (words : List (List ℕ)) (command : Command) → counted_or count verb words ≡ Some command → IsCommandWell command
+counted_kept : (count : Option CountVerb) (verb : Option NameVerb) (words : List (List ℕ)) (command : Command) → command_by_count_or count verb words ≡ Some command → IsCommandWell command
 counted_kept None None words command e = absurd (cc)
 counted_kept None (Some verb) words command e = by_verb_kept verb words command e
 counted_kept (Some count) verb words command e =
@@ -106,7 +108,7 @@ command_kept : (text : List ℕ) (command : Command) → command_of text ≡ Som
 unfolding command_of command_by
 command_kept text command e = by_words (words_of text) e
   where
-    by_push : (word : List ℕ) (words : List (List ℕ)) (b : Bool) → (if b then push_of words else counted_or (count_verb word) (name_verb word) words) ≡ Some command → IsCommandWell command
+    by_push : (word : List ℕ) (words : List (List ℕ)) (b : Bool) → (if b then push_of words else command_by_count_or (count_verb word) (name_verb word) words) ≡ Some command → IsCommandWell command
     by_push word words true h = push_kept words command h
     by_push word words false h = counted_kept (count_verb word) (name_verb word) words command h
 
@@ -198,5 +200,5 @@ unfolding steps_at
 steps_kept sc names value steps of_sc e =
     let values = then_ok _ _ _ e in
     and_from _ _ (each_count (step_in names) 0 100000 values.0 steps (items_or_ok _ 100000 value values.0 values.1) values.2)
-    (each_keeps (step_in names) (λ made. list_all (is_valid_step sc) made ≡ true) (λ made x d before h. all_more (is_valid_step sc) made x before (step_kept sc names _ d x of_sc h))
+    (each_keeps (step_in names) (λ made. list_all (is_valid_step sc) made ≡ true) (λ made x d before h. all_push (is_valid_step sc) made x before (step_kept sc names _ d x of_sc h))
     values.0 [] steps refl values.2)

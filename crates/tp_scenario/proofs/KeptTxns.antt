@@ -2,6 +2,7 @@
 use Rattle.std.proofs.Common.{◌≡◌, ℕ, ◌<◌, ◌&&◌, true, false, List, [], ◌∷◌, length, map, Option, None, Ok, refl, sym, subst, ◌∙◌}
 use Rattle.std.specs.List.{list_all, list_any}
 use Rattle.std.proofs.lemmas.Bool.{and_from, lt-ltb, not_from_false}
+use Rattle.tp_types.proofs.ListLemmas.{all_push, none_passes}
 use Rattle.serde_json.specs.Data.{Data}
 use Rattle.tp_types.specs.declared.ids.CredId.{CredId}
 use Rattle.tp_types.specs.declared.scenario.Query.{Query}
@@ -17,35 +18,35 @@ use Rattle.tp_scenario.specs.declared.path.Path.{Path}
 use Rattle.tp_scenario.specs.declared.path.Path.TheVariants.{Field, Member}
 use Rattle.tp_scenario.specs.Names.{Names, is_same, place_of}
 use Rattle.tp_scenario.specs.Servers.{server_name}
-use Rattle.tp_scenario.specs.Txns.{level_at, presented_at, presented_by, presented_in, queries_at, query_in, scheme_at, txn_at, txn_in, txn_name, txn_name_at, txns_at}
+use Rattle.tp_scenario.specs.Txns.{credential_at, credential_in, credentials_at, level_at, queries_at, query_in, scheme_at, txn_at, txn_in, txn_name, txn_name_at, txns_at}
 use Rattle.tp_scenario.specs.Values.{field, name_at, object_at}
-use Rattle.tp_scenario.proofs.GrowingLists.{all_more, any_agrees, any_made, distinct_more, none_passes}
+use Rattle.tp_scenario.proofs.GrowingLists.{any_agrees, any_made, distinct_more}
 use Rattle.tp_scenario.proofs.Inverses.{apart_ok, count_or_ok, each_count, each_keeps, items_ok, items_or_ok, named_apart, new_name_ok, ok_same, refusal_ok, then_ok, used_at_ok}
 use Rattle.tp_scenario.proofs.KeptQueries.{query_kept}
 use Rattle.tp_scenario.proofs.NameLemmas.{same_turned, turned}
 
 -- ---- presented credentials
 
-presented_kept : (path : Path) (creds : Names) (made : List CredId) (d : Data) (cred : CredId) → presented_at path creds made d ≡ Ok cred → (cred.0 < length creds) × (list_any (same_cred cred) made ≡ false)
-unfolding presented_at
+presented_kept : (path : Path) (creds : Names) (made : List CredId) (d : Data) (cred : CredId) → credential_at path creds made d ≡ Ok cred → (cred.0 < length creds) × (list_any (same_cred cred) made ≡ false)
+unfolding credential_at
 presented_kept path creds made d cred e =
     let place = then_ok _ _ _ e in
     let got = refusal_ok (list_any (same_cred (record { 0 = place.0 })) made) (record { 0 = place.0 }) cred _ place.2 in
     subst (λ (c : CredId). (c.0 < length creds) × (list_any (same_cred c) made ≡ false)) got.1 (used_at_ok path creds _ place.0 place.1, got.0)
 
-creds_kept : (sc : Scenario) (creds : Names) (at : ℕ) (value : Option Data) (all : List CredId) → length creds ≡ length sc.creds → presented_by creds at value ≡ Ok all
+creds_kept : (sc : Scenario) (creds : Names) (at : ℕ) (value : Option Data) (all : List CredId) → length creds ≡ length sc.creds → credentials_at creds at value ≡ Ok all
     → (has_count 0 256 all && list_all (is_cred sc) all && are_distinct same_cred all) ≡ true
-unfolding presented_by
+unfolding credentials_at
 creds_kept sc creds at value all count e =
     let names = then_ok _ _ _ e in
-    let kept = each_keeps (presented_in creds at) (λ made. (list_all (is_cred sc) made ≡ true) × (are_distinct same_cred made ≡ true))
+    let kept = each_keeps (credential_in creds at) (λ made. (list_all (is_cred sc) made ≡ true) × (are_distinct same_cred made ≡ true))
     (λ made cred d before h.
     let here = presented_kept _ creds made d cred h in (
-      all_more (is_cred sc) made cred before.0 (lt-ltb _ _ (subst (λ (n : ℕ). cred.0 < n) count here.0)),
+      all_push (is_cred sc) made cred before.0 (lt-ltb _ _ (subst (λ (n : ℕ). cred.0 < n) count here.0)),
       distinct_more same_cred made cred (any_agrees (λ other. same_cred other cred) (same_cred cred) (λ other. turned other.0 cred.0) made ∙ here.1) before.1,
     ))
     names.0 [] all (refl, refl) names.2 in
-    and_from _ _ (and_from _ _ (each_count (presented_in creds at) 0 256 names.0 all (items_or_ok _ 256 value names.0 names.1) names.2) kept.0) kept.1
+    and_from _ _ (and_from _ _ (each_count (credential_in creds at) 0 256 names.0 all (items_or_ok _ 256 value names.0 names.1) names.2) kept.0) kept.1
 
 -- ---- transactions
 
@@ -55,7 +56,7 @@ unfolding queries_at
 queries_kept sc items at value queries count e =
     let texts = then_ok _ _ _ e in (
       each_count (query_in items at) 1 16 texts.0 queries (items_ok _ 1 16 value texts.0 texts.1) texts.2,
-      each_keeps (query_in items at) (λ made. list_all (is_valid_query sc) made ≡ true) (λ made asks d before h. all_more (is_valid_query sc) made asks before (query_kept sc _ items d asks count h))
+      each_keeps (query_in items at) (λ made. list_all (is_valid_query sc) made ≡ true) (λ made asks d before h. all_push (is_valid_query sc) made asks before (query_kept sc _ items d asks count h))
           texts.0 [] queries refl texts.2,
     )
 
@@ -103,6 +104,6 @@ txns_kept sc names value servers creds items e =
     let all = each_keeps (txn_in names) (λ made. (list_all (is_valid_txn sc) made ≡ true) × (are_distinct same_txn_name made ≡ true))
     (λ made txn d before h.
     let here = txn_kept sc (record names { txns = map txn_name made }) (length made) d txn servers creds items h in
-    (all_more (is_valid_txn sc) made txn before.0 here.valid, named_apart txn_name made txn here.new before.1))
+    (all_push (is_valid_txn sc) made txn before.0 here.valid, named_apart txn_name made txn here.new before.1))
     values.0 [] sc.txns (refl, refl) values.2 in
     and_from _ _ (and_from _ _ (each_count (txn_in names) 0 128 values.0 sc.txns (items_ok _ 0 128 value values.0 values.1) values.2) all.0) all.1

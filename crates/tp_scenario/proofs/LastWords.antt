@@ -6,7 +6,7 @@ use Rattle.std.proofs.lemmas.Bool.{and_parts, and_from, cases_Bool, not-true}
 use Rattle.std.proofs.lemmas.Bool.Decides.{nat_tests}
 use Rattle.tp_types.specs.Spelling.{is_digit, is_letter, is_name, is_number, is_part, number_of}
 use Rattle.tp_scenario.specs.Steps.{one_name, one_number}
-use Rattle.tp_scenario.specs.Words.{is_no_space, is_space, named, only, with_byte, with_space, words_of}
+use Rattle.tp_scenario.specs.Words.{as_name, is_no_space, is_space, only, with_byte, with_space, words_of}
 use Rattle.tp_scenario.proofs.WordLemmas.{HasFirst, byte_words, has_first, no_words, space_words}
 
 -- bytes of which none is a space are one word
@@ -71,7 +71,7 @@ solid_name (first ∷ others) h =
     let inner = and_parts (is_letter first) _ outer.0 in
     and_from _ _ (letter_is_no_space first inner.0) (solid_by is_part part_is_no_space others outer.1)
 
-solid_named : (text name : List ℕ) → named text ≡ Some name → list_all is_no_space text ≡ true
+solid_named : (text name : List ℕ) → as_name text ≡ Some name → list_all is_no_space text ≡ true
 solid_named text name e = elim (cases_Bool (is_name text)) [
   | inl spelled ↦ solid_name text spelled
   | inr other ↦ absurd (cc)
@@ -93,8 +93,8 @@ solid_numbered text number e = elim (cases_Bool (is_number text)) [
 ]
 
 -- the only word, where it is spelled as a name
-pub last_name : (text : List ℕ) → one_name (words_of text) ≡ named text
-last_name text = read_last named solid_named text
+pub last_name : (text : List ℕ) → one_name (words_of text) ≡ as_name text
+last_name text = read_last as_name solid_named text
 
 -- the number that the only word is
 pub last_number : (text : List ℕ) → one_number (words_of text) ≡ number_of text

@@ -6,7 +6,7 @@ use Rattle.std.specs.Cmp.Lexicographic.{pointwise}
 use Rattle.std.proofs.lemmas.Bool.Decides.{nat_tests}
 use Rattle.std.proofs.lemmas.List.{length-map, map-append}
 use denote.Ref.{Bor}
-use Rattle.tp_scenario.specs.Names.{declared, is_same, place_of}
+use Rattle.tp_scenario.specs.Names.{is_same, place_of, with_name}
 use Rattle.tp_scenario.specs.mirrors.Texts.{texts}
 
 pub turned : (n m : ℕ) → (n == m) ≡ (m == n)
@@ -41,7 +41,7 @@ name_found name names = any_place (λ (other : Bor (List ℕ)). pointwise ◌==�
 
 -- one that is not goes to the end
 pub name_added : (name : Bor (List ℕ)) (names : List (Bor (List ℕ)))
-    → texts (if list_any (λ (other : Bor (List ℕ)). pointwise ◌==◌ name.now other.now) names then names else names ++ name ∷ []) ≡ declared name.now (texts names)
+    → texts (if list_any (λ (other : Bor (List ℕ)). pointwise ◌==◌ name.now other.now) names then names else names ++ name ∷ []) ≡ with_name name.now (texts names)
 name_added name names = by_found (is_some (place_of name.now (texts names))) (list_any (λ (other : Bor (List ℕ)). pointwise ◌==◌ name.now other.now) names) (name_found name.now names)
   where
     by_found : (b found : Bool) → found ≡ b → texts (if found then names else names ++ name ∷ []) ≡ (if not b then texts names ++ name.now ∷ [] else texts names)

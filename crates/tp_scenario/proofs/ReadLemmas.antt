@@ -15,7 +15,7 @@ use Rattle.tp_scenario.specs.declared.path.Site.{Site}
 use Rattle.tp_scenario.specs.declared.path.Site.TheVariants.{At}
 use Rattle.tp_scenario.specs.Forms.{data_form, first_form, or_else, rest_form, scripted_form, servers_form, step_site, steps_form, txns_form}
 use Rattle.tp_scenario.specs.Reads.{Says, SaysNoJson, SaysValue, IsOutOfMemory, IsText, answer_by, answer_to, built_or}
-use Rattle.tp_scenario.specs.Walk.{walked}
+use Rattle.tp_scenario.specs.Walk.{walk_of}
 use Rattle.tp_scenario.proofs.KeptRules.{walked_valid}
 
 same_value : (bytes : List ℕ) (one other : Data) → read bytes ≡ Some one → read bytes ≡ Some other → one ≡ other
@@ -46,7 +46,7 @@ as_read scenario = Ok scenario
 pub text_of_one : (bytes : List ℕ) (one other : Scenario) → IsText bytes one → IsText bytes other → one ≡ other
 text_of_one bytes one other s t =
     let same : s.value ≡ t.value = same_value bytes s.value t.value s.text t.text in
-    let given : walked s.value ≡ walked t.value = ap walked same in
+    let given : walk_of s.value ≡ walk_of t.value = ap walk_of same in
     let same_results : as_read one ≡ as_read other = sym s.form ∙ (given ∙ t.form) in
     cc
 
@@ -87,7 +87,7 @@ read_so (Err fault) sc e = cc
 pub valid_from : (value : Data) (result : Result Scenario ScenarioError) → IsOutOfMemory result ⊎ (result ≡ answer_to value)
     → IfOk result (λ sc. is_valid sc ≡ true)
 valid_from value (Ok sc) (inl out) = cc
-valid_from value (Ok sc) (inr e) = walked_valid value sc (read_so (walked value) sc (sym e)).form
+valid_from value (Ok sc) (inr e) = walked_valid value sc (read_so (walk_of value) sc (sym e)).form
 valid_from value (Err why) h = tt
 
 pub built_from : (value : Data) (result : Result Scenario ScenarioError) → IsOutOfMemory result ⊎ (result ≡ answer_to value)
@@ -95,6 +95,6 @@ pub built_from : (value : Data) (result : Result Scenario ScenarioError) → IsO
 unfolding is_built
 built_from value (Ok sc) (inl out) = cc
 built_from value (Ok sc) (inr e) =
-    let read_as = read_so (walked value) sc (sym e) in
+    let read_as = read_so (walk_of value) sc (sym e) in
     and_from _ _ (walked_valid value sc read_as.form) (stage_of_none sc read_as.none)
 built_from value (Err why) h = tt

@@ -6,6 +6,7 @@ use Rattle.std.specs.Cmp.Lexicographic.{bytes_decides}
 use Rattle.std.proofs.lemmas.Bool.{and_parts, and_from, eqb-true, cases_Bool}
 use Rattle.std.proofs.lemmas.Bool.Decides.{nat_tests}
 use Rattle.std.proofs.lemmas.List.{append_assoc, append-nil}
+use Rattle.std.proofs.lemmas.Option.{same_Some}
 use Rattle.tp_types.specs.Spelling.{is_digit, is_name, is_number, number_of, spelled_from}
 use Rattle.tp_types.specs.declared.scenario.Operand.{Operand}
 use Rattle.tp_types.specs.declared.scenario.Operand.TheVariants.{Constant, Register}
@@ -14,7 +15,7 @@ use Rattle.tp_scenario.specs.Names.{is_same}
 use Rattle.tp_scenario.specs.Queries.{Asked, reads, writes, asked_in, asked_of, constant_term, first_term, is_register_digit, read_of, register_of, sign_of, signed_term, sum_of, term_at, term_of, terms_after, write_of}
 use Rattle.tp_scenario.specs.Spelled.{SaysQuery, SpellTerms, SpellsFirst, SpellsNumber, SpellsOperand, SpellsRegister, SpellsSum, sign}
 use Rattle.tp_scenario.specs.Words.{is_filled, only, words_of}
-use Rattle.tp_scenario.proofs.KeptQueries.{map_some, some_same, test_some, then_some}
+use Rattle.tp_scenario.proofs.KeptQueries.{map_some, test_some, then_some}
 use Rattle.tp_scenario.proofs.SpelledWords.{split_so, words_so}
 
 -- ---- tests
@@ -28,7 +29,7 @@ test_passes false found e = absurd (cc)
 
 pub only_one : (words : List (List ℕ)) (word : List ℕ) → only words ≡ Some word → words ≡ word ∷ []
 only_one [] word e = absurd (cc)
-only_one (first ∷ []) word e = ap (λ (w : List ℕ). w ∷ []) (some_same first word e)
+only_one (first ∷ []) word e = ap (λ (w : List ℕ). w ∷ []) (same_Some first word e)
 only_one (first ∷ other ∷ words) word e = absurd (cc)
 
 pub name_filled : (name : List ℕ) → is_name name ≡ true → is_filled name ≡ true
@@ -44,7 +45,7 @@ number_filled number (byte ∷ bytes) h = refl
 pub number_so : (word : List ℕ) (number : ℕ) → number_of word ≡ Some number → SpellsNumber number word
 number_so word number e =
     let got = test_some (is_number word) (Some (spelled_from 0 word)) number e in
-    record { digits = got.0; number_is = sym (some_same _ number got.1) }
+    record { digits = got.0; number_is = sym (same_Some _ number got.1) }
 
 pub so_number : (word : List ℕ) (number : ℕ) → SpellsNumber number word → number_of word ≡ Some number
 so_number word number h = test_passes (is_number word) (Some (spelled_from 0 word)) h.digits ∙ ap (λ (n : ℕ). Some n) (sym h.number_is)
@@ -57,7 +58,7 @@ register_so (letter ∷ digit ∷ []) register e =
     let got = test_some ((letter == 114) && is_register_digit digit) (Some (digit - 48)) register e in
     let parts = and_parts (letter == 114) (is_register_digit digit) got.0 in
     let bounds = digit_bounds digit parts.1 in
-    let same = some_same (digit - 48) register got.1 in
+    let same = same_Some (digit - 48) register got.1 in
     record {
       least = omega (arith, bounds, same);
       most = omega (arith, bounds, same);
@@ -118,7 +119,7 @@ term_so minus word term e = by_register (register_of word) refl e
   where
     by_register : (register : Option ℕ) → register_of word ≡ register → term_at minus word register ≡ Some term → IsTermOf minus word term
     by_register (Some register) r h =
-        subst (IsTermOf minus word) (some_same (record { minus = minus; operand = Register register }) term h) (refl, register_so word register r)
+        subst (IsTermOf minus word) (same_Some (record { minus = minus; operand = Register register }) term h) (refl, register_so word register r)
     by_register None r h = constant_so minus word term h
 
 -- a term by its parts
@@ -187,9 +188,9 @@ so_first word term (inr (minus, h)) =
 sign_so : (word : List ℕ) (minus : Bool) → sign_of word ≡ Some minus → word ≡ sign minus
 unfolding sign_of
 sign_so word minus e = elim (cases_Bool (is_same word (codes "+"))) [
-  | inl plus ↦ subst (λ (m : Bool). word ≡ sign m) (some_same false minus (subst (λ (b : Bool). (if b then Some false else (if is_same word (codes "-") then Some true else None)) ≡ Some minus) plus e)) (same_bytes word (codes "+") plus)
+  | inl plus ↦ subst (λ (m : Bool). word ≡ sign m) (same_Some false minus (subst (λ (b : Bool). (if b then Some false else (if is_same word (codes "-") then Some true else None)) ≡ Some minus) plus e)) (same_bytes word (codes "+") plus)
   | inr other ↦ let got = test_some (is_same word (codes "-")) (Some true) minus (subst (λ (b : Bool). (if b then Some false else (if is_same word (codes "-") then Some true else None)) ≡ Some minus) other e) in
-      subst (λ (m : Bool). word ≡ sign m) (some_same true minus got.1) (same_bytes word (codes "-") got.0)
+      subst (λ (m : Bool). word ≡ sign m) (same_Some true minus got.1) (same_bytes word (codes "-") got.0)
 ]
 
 so_sign : (minus : Bool) → sign_of (sign minus) ≡ Some minus
@@ -206,7 +207,7 @@ record Adds (made expr : List Term) (words : List (List ℕ)) : Type 0 where
 
 terms_so : (words : List (List ℕ)) (made expr : List Term) → terms_after made words ≡ Some expr → Adds made expr words
 unfolding signed_term
-terms_so [] made expr e = record { terms = []; whole = sym (some_same made expr e) ∙ sym (append-nil made); spelled = refl }
+terms_so [] made expr e = record { terms = []; whole = sym (same_Some made expr e) ∙ sym (append-nil made); spelled = refl }
 terms_so (first ∷ []) made expr e = absurd (cc)
 terms_so (first ∷ word ∷ words) made expr e =
     let term = then_some _ (signed_term first word) expr e in
@@ -317,4 +318,4 @@ so_query text (writes item expr) (name, (sum, spelled, words)) =
     ∙ (test_passes (is_name item && is_same (codes ":=") (codes ":=")) (option_map (writes item) (sum_of sum)) (and_from _ _ name refl) ∙ ap (option_map (writes item)) (so_sum expr sum spelled))
 
 pub one_query : (text : List ℕ) (one other : Asked) → SaysQuery one text → SaysQuery other text → one ≡ other
-one_query text one other a b = some_same one other (sym (so_query text one a) ∙ so_query text other b)
+one_query text one other a b = same_Some one other (sym (so_query text one a) ∙ so_query text other b)

@@ -1,6 +1,7 @@
 -- A step is read of a text exactly where the text says it.
 use Rattle.std.proofs.Common.{◌≡◌, ℕ, Bool, true, false, List, [], ◌∷◌, Option, Some, None, refl, sym, ap, subst, ◌∙◌, codes, option_map, if◌then◌else◌}
 use Rattle.std.proofs.lemmas.Bool.{and_from}
+use Rattle.std.proofs.lemmas.Option.{same_Some}
 use Rattle.tp_types.specs.Spelling.{is_name, number_of}
 use Rattle.tp_scenario.specs.declared.command.CountVerb.{CountVerb}
 use Rattle.tp_scenario.specs.declared.command.CountVerb.TheVariants as counting
@@ -8,9 +9,9 @@ use Rattle.tp_scenario.specs.declared.command.NameVerb.{NameVerb}
 use Rattle.tp_scenario.specs.declared.command.NameVerb.TheVariants as verb
 use Rattle.tp_scenario.specs.Names.{is_same}
 use Rattle.tp_scenario.specs.Spelled.{SaysStep, SpellsNumber, counting_word, naming_word}
-use Rattle.tp_scenario.specs.Steps.{Command, of_name, by_number, push, cut, by_verb, calls_of, command_by, command_in, command_of, count_verb, counted_or, crash_of, crashed, fill_of, filled, mail_of, name_verb, one_name, one_number, push_of, pushed, received}
-use Rattle.tp_scenario.specs.Words.{is_end, is_filled, named, only, words_of}
-use Rattle.tp_scenario.proofs.KeptQueries.{map_some, some_same, test_some, then_some}
+use Rattle.tp_scenario.specs.Steps.{Command, of_name, by_number, push, cut, by_verb, calls_of, command_by, command_in, command_of, count_verb, command_by_count_or, crash_of, crash_by_name, fill_of, cut_with_fill, mail_of, name_verb, one_name, one_number, push_of, push_to, cut_in_mail}
+use Rattle.tp_scenario.specs.Words.{as_name, is_end, is_filled, only, words_of}
+use Rattle.tp_scenario.proofs.KeptQueries.{map_some, test_some, then_some}
 use Rattle.tp_scenario.proofs.SpelledQueries.{name_filled, number_filled, number_so, only_one, same_bytes, so_number, test_passes}
 use Rattle.tp_scenario.proofs.SpelledWords.{split_so, words_so}
 
@@ -32,7 +33,7 @@ naming_so word kind e =
     (λ e6. let got = test_some (is_same word (codes "timer")) (Some verb.Timer) kind e6 in is_word (codes "timer") verb.Timer got.0 got.1 refl)))))
   where
     is_word : (text : List ℕ) (given : NameVerb) → is_same word text ≡ true → Some given ≡ Some kind → text ≡ naming_word given → word ≡ naming_word kind
-    is_word text given t h spelled = same_bytes word text t ∙ (spelled ∙ ap naming_word (some_same given kind h))
+    is_word text given t h spelled = same_bytes word text t ∙ (spelled ∙ ap naming_word (same_Some given kind h))
 
 counting_so : (word : List ℕ) (kind : CountVerb) → count_verb word ≡ Some kind → word ≡ counting_word kind
 unfolding count_verb
@@ -42,7 +43,7 @@ counting_so word kind e =
     (λ e3. let got = test_some (is_same word (codes "lose")) (Some counting.Lose) kind e3 in is_word (codes "lose") counting.Lose got.0 got.1 refl))
   where
     is_word : (text : List ℕ) (given : CountVerb) → is_same word text ≡ true → Some given ≡ Some kind → text ≡ counting_word given → word ≡ counting_word kind
-    is_word text given t h spelled = same_bytes word text t ∙ (spelled ∙ ap counting_word (some_same given kind h))
+    is_word text given t h spelled = same_bytes word text t ∙ (spelled ∙ ap counting_word (same_Some given kind h))
 
 naming_filled : (kind : NameVerb) → is_filled (naming_word kind) ≡ true
 naming_filled verb.Submit = refl
@@ -65,9 +66,9 @@ record IsOneName (name : List ℕ) (words : List (List ℕ)) : Type 0 where
 
 name_so : (words : List (List ℕ)) (name : List ℕ) → one_name words ≡ Some name → IsOneName name words
 name_so words name e =
-    let word = then_some named (only words) name e in
+    let word = then_some as_name (only words) name e in
     let got = test_some (is_name word.0) (Some word.0) name word.2 in
-    let same = some_same word.0 name got.1 in
+    let same = same_Some word.0 name got.1 in
     record { words_are = only_one words word.0 word.1 ∙ ap (λ (w : List ℕ). w ∷ []) same; spelled = subst (λ (w : List ℕ). is_name w ≡ true) same got.0 }
 
 so_name : (name : List ℕ) → is_name name ≡ true → one_name (name ∷ []) ≡ Some name
@@ -94,14 +95,14 @@ unfolding push_of
 push_so text [] command split e = absurd (cc)
 push_so text (admin ∷ words) command split e = by_server (one_name words) refl e
   where
-    by_server : (server : Option (List ℕ)) → one_name words ≡ server → pushed admin server ≡ Some command → SaysStep command text
+    by_server : (server : Option (List ℕ)) → one_name words ≡ server → push_to admin server ≡ Some command → SaysStep command text
     by_server None s h = absurd (cc)
     by_server (Some server) s h =
         let got = test_some (is_name admin) (Some (push admin server)) command h in
         let one = name_so words server s in
         let whole : words_of text ≡ codes "push" ∷ admin ∷ server ∷ [] = split ∙ ap (λ (ws : List (List ℕ)). codes "push" ∷ admin ∷ ws) one.words_are in
         let all = and_from _ _ refl (and_from _ _ (name_filled admin got.0) (and_from _ _ (name_filled server one.spelled) refl)) in
-        subst (λ (c : Command). SaysStep c text) (some_same (push admin server) command got.1) (got.0, one.spelled, words_so text (codes "push") (admin ∷ server ∷ []) whole all)
+        subst (λ (c : Command). SaysStep c text) (same_Some (push admin server) command got.1) (got.0, one.spelled, words_so text (codes "push") (admin ∷ server ∷ []) whole all)
 
 named_so : (text : List ℕ) (kind : NameVerb) (words : List (List ℕ)) (command : Command) → Begins (naming_word kind) words text → option_map (of_name kind) (one_name words) ≡ Some command → SaysStep command text
 named_so text kind words command split e =
@@ -144,10 +145,10 @@ unfolding calls_of
 calls_so name mail [] command e = absurd (cc)
 calls_so name mail (key ∷ []) command e = absurd (cc)
 calls_so name mail (key ∷ calls ∷ words) command e =
-    let got = test_some (is_same key (codes "at")) (filled name mail calls (fill_of words)) command e in
+    let got = test_some (is_same key (codes "at")) (cut_with_fill name mail calls (fill_of words)) command e in
     by_fill (same_bytes key (codes "at") got.0) (fill_of words) refl got.1
   where
-    by_fill : key ≡ codes "at" → (fill : Option ℕ) → fill_of words ≡ fill → filled name mail calls fill ≡ Some command → IsCalls name mail command (key ∷ calls ∷ words)
+    by_fill : key ≡ codes "at" → (fill : Option ℕ) → fill_of words ≡ fill → cut_with_fill name mail calls fill ≡ Some command → IsCalls name mail command (key ∷ calls ∷ words)
     by_fill same None f h = absurd (cc)
     by_fill same (Some fill) f h =
         let number = map_some (λ c. cut name mail c fill) (number_of calls) command h in
@@ -168,10 +169,10 @@ unfolding mail_of
 mail_so text name [] command spelled split e = absurd (cc)
 mail_so text name (key ∷ []) command spelled split e = absurd (cc)
 mail_so text name (key ∷ mail ∷ words) command spelled split e =
-    let got = test_some (is_same key (codes "in")) (received name (number_of mail) words) command e in
+    let got = test_some (is_same key (codes "in")) (cut_in_mail name (number_of mail) words) command e in
     by_mail (same_bytes key (codes "in") got.0) (number_of mail) refl got.1
   where
-    by_mail : key ≡ codes "in" → (number : Option ℕ) → number_of mail ≡ number → received name number words ≡ Some command → SaysStep command text
+    by_mail : key ≡ codes "in" → (number : Option ℕ) → number_of mail ≡ number → cut_in_mail name number words ≡ Some command → SaysStep command text
     by_mail same None n h = absurd (cc)
     by_mail same (Some number) n h =
         let rest = calls_so name number words command h in
@@ -201,12 +202,12 @@ crash_so : (text : List ℕ) (words : List (List ℕ)) (command : Command) → B
 unfolding crash_of
 crash_so text [] command split e = absurd (cc)
 crash_so text (name ∷ words) command split e =
-    let got = test_some (is_name name) (crashed name words) command e in
+    let got = test_some (is_name name) (crash_by_name name words) command e in
     either (is_end words) (Some (of_name verb.Crash name)) (mail_of name words) command (SaysStep command text) got.1
     (λ t h.
     let whole : words_of text ≡ codes "crash" ∷ name ∷ [] = split ∙ ap (λ (ws : List (List ℕ)). codes "crash" ∷ name ∷ ws) (end_of words t) in
     let all = and_from _ _ refl (and_from _ _ (name_filled name got.0) refl) in
-    subst (λ (c : Command). SaysStep c text) (some_same (of_name verb.Crash name) command h) (got.0, words_so text (codes "crash") (name ∷ []) whole all))
+    subst (λ (c : Command). SaysStep c text) (same_Some (of_name verb.Crash name) command h) (got.0, words_so text (codes "crash") (name ∷ []) whole all))
     (λ h. mail_so text name words command got.0 split h)
 
 verb_so : (text : List ℕ) (kind : NameVerb) (words : List (List ℕ)) (command : Command) → Begins (naming_word kind) words text → by_verb kind words ≡ Some command → SaysStep command text
@@ -226,7 +227,7 @@ counted_so text kind words command split e =
     subst (λ (c : Command). SaysStep c text) number.2 (one.word, one.spelled, words_so text (counting_word kind) (one.word ∷ []) whole all)
 
 other_so : (text word : List ℕ) (words : List (List ℕ)) (command : Command) (count : Option CountVerb) (kind : Option NameVerb) → count_verb word ≡ count → name_verb word ≡ kind → Begins word words text
-    → counted_or count kind words ≡ Some command → SaysStep command text
+    → command_by_count_or count kind words ≡ Some command → SaysStep command text
 other_so text word words command (Some count) kind c n split e = counted_so text count words command (split ∙ ap (λ (w : List ℕ). w ∷ words) (counting_so word count c)) e
 other_so text word words command None (Some kind) c n split e = verb_so text kind words command (split ∙ ap (λ (w : List ℕ). w ∷ words) (naming_so word kind n)) e
 other_so text word words command None None c n split e = absurd (cc)
@@ -235,7 +236,7 @@ in_words_so : (text : List ℕ) (words : List (List ℕ)) (command : Command) �
 unfolding command_by
 in_words_so text [] command split e = absurd (cc)
 in_words_so text (word ∷ words) command split e =
-    either (is_same word (codes "push")) (push_of words) (counted_or (count_verb word) (name_verb word) words) command (SaysStep command text) e
+    either (is_same word (codes "push")) (push_of words) (command_by_count_or (count_verb word) (name_verb word) words) command (SaysStep command text) e
     (λ t h. push_so text words command (split ∙ ap (λ (w : List ℕ). w ∷ words) (same_bytes word (codes "push") t)) h)
     (λ h. other_so text word words command (count_verb word) (name_verb word) refl refl split h)
 
@@ -264,19 +265,19 @@ so_cut : (name mail calls fill : List ℕ) (k c f : ℕ) → is_name name ≡ tr
     → command_in (codes "crash" ∷ name ∷ codes "in" ∷ mail ∷ codes "at" ∷ calls ∷ codes "fill" ∷ fill ∷ []) ≡ Some (cut name k c f)
 unfolding command_by count_verb name_verb crash_of mail_of calls_of fill_of
 so_cut name mail calls fill k c f named_so mail_is calls_is fill_is =
-    test_passes (is_name name) (received name (number_of mail) (codes "at" ∷ calls ∷ codes "fill" ∷ fill ∷ [])) named_so
-    ∙ (ap (λ (n : Option ℕ). received name n (codes "at" ∷ calls ∷ codes "fill" ∷ fill ∷ [])) (so_number mail k mail_is)
-    ∙ (ap (filled name k calls) (so_number fill f fill_is) ∙ ap (option_map (λ (n : ℕ). cut name k n f)) (so_number calls c calls_is)))
+    test_passes (is_name name) (cut_in_mail name (number_of mail) (codes "at" ∷ calls ∷ codes "fill" ∷ fill ∷ [])) named_so
+    ∙ (ap (λ (n : Option ℕ). cut_in_mail name n (codes "at" ∷ calls ∷ codes "fill" ∷ fill ∷ [])) (so_number mail k mail_is)
+    ∙ (ap (cut_with_fill name k calls) (so_number fill f fill_is) ∙ ap (option_map (λ (n : ℕ). cut name k n f)) (so_number calls c calls_is)))
 
 pub so_step : (text : List ℕ) (command : Command) → SaysStep command text → command_of text ≡ Some command
 unfolding command_of command_by push_of
 so_step text (of_name kind name) (spelled, words) = ap command_in (split_so (naming_word kind ∷ name ∷ []) text words).split ∙ so_named kind name spelled
 so_step text (by_number kind number) (word, spelled, words) = ap command_in (split_so (counting_word kind ∷ word ∷ []) text words).split ∙ so_counted kind number word spelled
 so_step text (push admin server) (one, other, words) =
-    ap command_in (split_so (codes "push" ∷ admin ∷ server ∷ []) text words).split ∙ (ap (pushed admin) (so_name server other) ∙ test_passes (is_name admin) (Some (push admin server)) one)
+    ap command_in (split_so (codes "push" ∷ admin ∷ server ∷ []) text words).split ∙ (ap (push_to admin) (so_name server other) ∙ test_passes (is_name admin) (Some (push admin server)) one)
 so_step text (cut name mail calls fill) (spelled, h) =
     ap command_in (split_so (codes "crash" ∷ name ∷ codes "in" ∷ h.mail_word ∷ codes "at" ∷ h.calls_word ∷ codes "fill" ∷ h.fill_word ∷ []) text h.words).split
     ∙ so_cut name h.mail_word h.calls_word h.fill_word mail calls fill spelled h.mail_is h.calls_is h.fill_is
 
 pub one_step : (text : List ℕ) (one other : Command) → SaysStep one text → SaysStep other text → one ≡ other
-one_step text one other a b = some_same one other (sym (so_step text one a) ∙ so_step text other b)
+one_step text one other a b = same_Some one other (sym (so_step text one a) ∙ so_step text other b)

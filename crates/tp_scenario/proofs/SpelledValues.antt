@@ -23,7 +23,7 @@ use Rattle.tp_scenario.specs.Names.{Names, place_of}
 use Rattle.tp_scenario.specs.Queries.{Asked, reads, writes, asked_of, is_short, query_at, query_for, read_from, write_to}
 use Rattle.tp_scenario.specs.Spelled.{IsActor, IsQuery, IsStep, IsTextWith, SaysQuery, SaysStep}
 use Rattle.tp_scenario.specs.Steps.{Command, of_name, by_number, push, cut, actor_at, actor_or, command_at, command_of, coordinator_at, counted_step, cut_step, is_cut, named_step, push_step, step_at, step_for}
-use Rattle.tp_scenario.specs.Values.{text_at, used}
+use Rattle.tp_scenario.specs.Values.{place_or_unknown, text_at}
 use Rattle.tp_scenario.proofs.Inverses.{ok_or_ok, ok_same, test_ok, then_ok}
 use Rattle.tp_scenario.proofs.SpelledQueries.{query_so, so_query}
 use Rattle.tp_scenario.proofs.SpelledSteps.{so_step, step_so}
@@ -38,12 +38,12 @@ so_text : (path : Path) (d : Data) (text : List ℕ) → as_str d ≡ Some text 
 unfolding text_at
 so_text path d text e = ap (λ (found : Option (List ℕ)). ok_or found (shape path)) e
 
-place_so : (path : Path) (names : Names) (name : List ℕ) (place : ℕ) → used path names name ≡ Ok place → place_of name names ≡ Some place
-unfolding used
+place_so : (path : Path) (names : Names) (name : List ℕ) (place : ℕ) → place_or_unknown path names name ≡ Ok place → place_of name names ≡ Some place
+unfolding place_or_unknown
 place_so path names name place e = ok_or_ok (place_of name names) place (unknown path) e
 
-so_place : (path : Path) (names : Names) (name : List ℕ) (place : ℕ) → place_of name names ≡ Some place → used path names name ≡ Ok place
-unfolding used
+so_place : (path : Path) (names : Names) (name : List ℕ) (place : ℕ) → place_of name names ≡ Some place → place_or_unknown path names name ≡ Ok place
+unfolding place_or_unknown
 so_place path names name place e = ap (λ (found : Option ℕ). ok_or found (unknown path)) e
 
 passes : {A : Type 0} (test : Bool) (given : Result A Fault) (fault : Fault) → test ≡ true → (if test then given else Err fault) ≡ given
@@ -59,11 +59,11 @@ test_then false given a fault e = absurd (cc)
 asked_so : (path : Path) (items : Names) (asked : Asked) (query : Query) (text : List ℕ) → SaysQuery asked text → query_for path items asked ≡ Ok query → IsQuery items query text
 unfolding read_from write_to
 asked_so path items (reads name register) query text says e =
-    let place = then_ok (used path items name) _ _ e in
+    let place = then_ok (place_or_unknown path items name) _ _ e in
     subst (λ (q : Query). IsQuery items q text) (ok_same (Read (record { 0 = place.0 }) register) query place.2) (name, place_so path items name place.0 place.1, says)
 asked_so path items (writes name expr) query text says e =
     let got = test_then (is_short expr) (write_to path items name expr) query (range path) e in
-    let place = then_ok (used path items name) _ _ got.1 in
+    let place = then_ok (place_or_unknown path items name) _ _ got.1 in
     subst (λ (q : Query). IsQuery items q text) (ok_same (Write (record { 0 = place.0 }) expr) query place.2) (name, place_so path items name place.0 place.1, got.0, says)
 
 query_value_so : (path : Path) (items : Names) (d : Data) (query : Query) → query_at path items d ≡ Ok query → IsTextWith (IsQuery items query) d
@@ -105,7 +105,7 @@ actor_so path names name who e = by_place (place_of name names.servers) refl e
     by_place : (place : Option ℕ) → place_of name names.servers ≡ place → actor_or path names name place ≡ Ok who → IsActor names who name
     by_place (Some place) p h = subst (λ (a : Actor). IsActor names a name) (ok_same (actor.Server (record { 0 = place })) who h) p
     by_place None p h =
-        let place = then_ok (used path names.txns name) _ _ h in
+        let place = then_ok (place_or_unknown path names.txns name) _ _ h in
         subst (λ (a : Actor). IsActor names a name) (ok_same (actor.Coordinator (record { 0 = place.0 })) who place.2) (p, place_so path names.txns name place.0 place.1)
 
 so_actor : (path : Path) (names : Declared) (name : List ℕ) (who : Actor) → IsActor names who name → actor_at path names name ≡ Ok who
@@ -121,13 +121,13 @@ so_actor path names name actor.Master h = absurd h
 named_step_so : (path : Path) (names : Declared) (kind : NameVerb) (name : List ℕ) (made : Step) (text : List ℕ) → SaysStep (of_name kind name) text → named_step path names kind name ≡ Ok made → IsStep names made text
 unfolding named_step
 named_step_so path names verb.Submit name made text says e =
-    let place = then_ok (used path names.txns name) _ _ e in
+    let place = then_ok (place_or_unknown path names.txns name) _ _ e in
     subst (λ (s : Step). IsStep names s text) (ok_same (step.Submit (record { 0 = place.0 })) made place.2) (name, place_so path names.txns name place.0 place.1, says)
 named_step_so path names verb.Publish name made text says e =
-    let place = then_ok (used path names.admins name) _ _ e in
+    let place = then_ok (place_or_unknown path names.admins name) _ _ e in
     subst (λ (s : Step). IsStep names s text) (ok_same (step.Publish (record { 0 = place.0 })) made place.2) (name, place_so path names.admins name place.0 place.1, says)
 named_step_so path names verb.Revoke name made text says e =
-    let place = then_ok (used path names.creds name) _ _ e in
+    let place = then_ok (place_or_unknown path names.creds name) _ _ e in
     subst (λ (s : Step). IsStep names s text) (ok_same (step.Revoke (record { 0 = place.0 })) made place.2) (name, place_so path names.creds name place.0 place.1, says)
 named_step_so path names verb.Crash name made text says e =
     let who = then_ok (actor_at path names name) _ _ e in
@@ -136,7 +136,7 @@ named_step_so path names verb.Boot name made text says e =
     let who = then_ok (actor_at path names name) _ _ e in
     subst (λ (s : Step). IsStep names s text) (ok_same (step.Boot who.0) made who.2) (name, actor_so path names name who.0 who.1, says)
 named_step_so path names verb.Timer name made text says e =
-    let place = then_ok (used path names.txns name) _ _ e in
+    let place = then_ok (place_or_unknown path names.txns name) _ _ e in
     subst (λ (s : Step). IsStep names s text) (ok_same (step.Timer (record { 0 = place.0 })) made place.2) (name, place_so path names.txns name place.0 place.1, says)
 
 command_so : (path : Path) (names : Declared) (command : Command) (made : Step) (text : List ℕ) → SaysStep command text → step_for path names command ≡ Ok made → IsStep names made text
@@ -148,8 +148,8 @@ command_so path names (by_number counting.Tick number) made text says e =
 command_so path names (by_number counting.Deliver number) made text says e = subst (λ (s : Step). IsStep names s text) (ok_same (step.Deliver number) made e) says
 command_so path names (by_number counting.Lose number) made text says e = subst (λ (s : Step). IsStep names s text) (ok_same (step.Lose number) made e) says
 command_so path names (push admin server) made text says e =
-    let from = then_ok (used path names.admins admin) _ _ e in
-    let to = then_ok (used path names.servers server) _ _ from.2 in
+    let from = then_ok (place_or_unknown path names.admins admin) _ _ e in
+    let to = then_ok (place_or_unknown path names.servers server) _ _ from.2 in
     subst (λ (s : Step). IsStep names s text) (ok_same (step.Push (record { 0 = from.0 }) (record { 0 = to.0 })) made to.2)
     (admin, server, place_so path names.admins admin from.0 from.1, place_so path names.servers server to.0 to.1, says)
 command_so path names (cut name mail calls fill) made text says e =
@@ -186,7 +186,7 @@ so_command path names (step.Publish admin) text (name, place, says) = record {
 so_command path names (step.Push admin server) text (from, to, place, other, says) = record {
   command = push from to;
   says = says;
-  gives = ap (λ (r : Result ℕ Fault). r >>= λ p. used path names.servers to >>= λ q. Ok (step.Push (record { 0 = p }) (record { 0 = q }))) (so_place path names.admins from admin.0 place)
+  gives = ap (λ (r : Result ℕ Fault). r >>= λ p. place_or_unknown path names.servers to >>= λ q. Ok (step.Push (record { 0 = p }) (record { 0 = q }))) (so_place path names.admins from admin.0 place)
       ∙ ap (λ (r : Result ℕ Fault). r >>= λ q. Ok (step.Push admin (record { 0 = q }))) (so_place path names.servers to server.0 other);
 }
 so_command path names (step.Revoke cred) text (name, place, says) = record {

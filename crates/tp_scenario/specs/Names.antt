@@ -17,5 +17,5 @@ abbrev pub is_new : List ℕ → Names → Bool
 is_new name names = not (is_some (place_of name names))
 
 -- the names after this one was declared
-abbrev pub declared : List ℕ → Names → Names
-declared name names = if is_new name names then names ++ name ∷ [] else names
+abbrev pub with_name : List ℕ → Names → Names
+with_name name names = if is_new name names then names ++ name ∷ [] else names

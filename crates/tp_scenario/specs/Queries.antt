@@ -14,7 +14,7 @@ use Rattle.tp_scenario.specs.declared.path.Path.{Path}
 use Rattle.tp_scenario.specs.Chain.{◌>>=◌}
 use Rattle.tp_scenario.specs.Faults.{range, shape}
 use Rattle.tp_scenario.specs.Names.{Names, is_same}
-use Rattle.tp_scenario.specs.Values.{text_at, used}
+use Rattle.tp_scenario.specs.Values.{place_or_unknown, text_at}
 use Rattle.tp_scenario.specs.Words.{only, words_of}
 
 -- ---- terms
@@ -102,12 +102,12 @@ is_short expr = nat_le (length expr) 5 && nat_le (count_by has_constant expr) 1
 
 unfoldable pub read_from : Path → Names → List ℕ → ℕ → Result Query Fault
 read_from path items name register = do
-  place ← used path items name
+  place ← place_or_unknown path items name
   Ok (Read (record { 0 = place }) register)
 
 unfoldable pub write_to : Path → Names → List ℕ → List Term → Result Query Fault
 write_to path items name expr = do
-  place ← used path items name
+  place ← place_or_unknown path items name
   Ok (Write (record { 0 = place }) expr)
 
 abbrev pub query_for : Path → Names → Asked → Result Query Fault

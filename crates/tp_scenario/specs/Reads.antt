@@ -13,7 +13,7 @@ use Rattle.tp_scenario.specs.declared.from_bytes.ScenarioError.{ScenarioError}
 use Rattle.tp_scenario.specs.declared.from_bytes.ScenarioError.TheVariants as refusal
 use Rattle.tp_scenario.specs.Forms.{first_form}
 use Rattle.tp_scenario.specs.Paths.{site_text}
-use Rattle.tp_scenario.specs.Walk.{walked}
+use Rattle.tp_scenario.specs.Walk.{walk_of}
 
 -- the most bytes of a scenario
 abbrev pub length_max : ℕ
@@ -23,15 +23,15 @@ length_max = 16777216
 abbrev pub path_of : Site → Text
 path_of site = record { 0 = site_text site }
 
-abbrev pub refused_at : Kind → Text → ScenarioError
-refused_at kind.Shape path = refusal.Shape path
-refused_at kind.Range path = refusal.Range path
-refused_at kind.Unknown path = refusal.Unknown path
-refused_at (kind.Policy why) path = refusal.Policy path why
+abbrev pub error_at : Kind → Text → ScenarioError
+error_at kind.Shape path = refusal.Shape path
+error_at kind.Range path = refusal.Range path
+error_at kind.Unknown path = refusal.Unknown path
+error_at (kind.Policy why) path = refusal.Policy path why
 
 -- the refusal of a fault
-abbrev pub refused : Fault → ScenarioError
-refused fault = refused_at fault.kind (path_of fault.site)
+abbrev pub error_of : Fault → ScenarioError
+error_of fault = error_at fault.kind (path_of fault.site)
 
 abbrev pub built_or : Scenario → Option Site → Result Scenario ScenarioError
 built_or scenario None = Ok scenario
@@ -39,12 +39,12 @@ built_or scenario (Some site) = Err (refusal.NotYet (path_of site))
 
 abbrev pub answer_by : Result Scenario Fault → Result Scenario ScenarioError
 answer_by (Ok scenario) = built_or scenario (first_form scenario)
-answer_by (Err fault) = Err (refused fault)
+answer_by (Err fault) = Err (error_of fault)
 
 -- what is answered to a JSON value: its scenario, or the first fault of its walk; where the walk gives a scenario, the first form that
 -- is not built
 abbrev pub answer_to : Data → Result Scenario ScenarioError
-answer_to value = answer_by (walked value)
+answer_to value = answer_by (walk_of value)
 
 -- the bytes are too many
 pub record SaysTooLong (bytes : List ℕ) (answer : Result Scenario ScenarioError) : Type 0 where
@@ -79,7 +79,7 @@ pub record IsText (bytes : List ℕ) (scenario : Scenario) : Type 0 where
   pub utf8 : IsUtf8 bytes
   pub value : Data
   pub text : read bytes ≡ Some value
-  pub form : walked value ≡ Ok scenario
+  pub form : walk_of value ≡ Ok scenario
 
 -- no bytes have two answers
 abbrev pub HasOneAnswer : Type 0
@@ -91,4 +91,4 @@ IsTextOfOne = (bytes : List ℕ) (one other : Scenario) → IsText bytes one →
 
 -- what the walk gives keeps every rule of a scenario
 abbrev pub GivesValid : Type 0
-GivesValid = (value : Data) (scenario : Scenario) → walked value ≡ Ok scenario → is_valid scenario ≡ true
+GivesValid = (value : Data) (scenario : Scenario) → walk_of value ≡ Ok scenario → is_valid scenario ≡ true

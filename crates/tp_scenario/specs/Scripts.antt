@@ -21,7 +21,7 @@ use Rattle.tp_scenario.specs.Chain.{◌>>=◌}
 use Rattle.tp_scenario.specs.Faults.{range}
 use Rattle.tp_scenario.specs.Names.{Names}
 use Rattle.tp_scenario.specs.Steps.{Command, of_name, by_number, push, cut, command_at, step_for}
-use Rattle.tp_scenario.specs.Values.{array_at, each, items_at, items_or, through, used_at}
+use Rattle.tp_scenario.specs.Values.{array_at, each, items_at, items_or, place_at, through}
 
 -- ---- clients
 
@@ -29,22 +29,22 @@ use Rattle.tp_scenario.specs.Values.{array_at, each, items_at, items_or, through
 abbrev pub is_submitted : List (List TxnId) → List TxnId → TxnId → Bool
 is_submitted earlier made txn = list_any (same_txn txn) made || list_any (list_any (same_txn txn)) earlier
 
-abbrev pub submitted_once : Path → List (List TxnId) → List TxnId → TxnId → Result TxnId Fault
-submitted_once path earlier made txn = if is_submitted earlier made txn then Err (range path) else Ok txn
+abbrev pub submission_or_range : Path → List (List TxnId) → List TxnId → TxnId → Result TxnId Fault
+submission_or_range path earlier made txn = if is_submitted earlier made txn then Err (range path) else Ok txn
 
 -- a transaction that no script has submitted so far
-unfoldable pub submitted_at : Path → Names → List (List TxnId) → List TxnId → Data → Result TxnId Fault
-submitted_at path txns earlier made d = do
-  place ← used_at path txns (Some d)
-  submitted_once path earlier made (record { 0 = place })
+unfoldable pub submission_at : Path → Names → List (List TxnId) → List TxnId → Data → Result TxnId Fault
+submission_at path txns earlier made d = do
+  place ← place_at path txns (Some d)
+  submission_or_range path earlier made (record { 0 = place })
 
-abbrev pub submitted_in : Names → List (List TxnId) → List TxnId → Data → Result TxnId Fault
-submitted_in txns earlier made d = submitted_at (Line Clients (length earlier) (length made)) txns earlier made d
+abbrev pub submission_in : Names → List (List TxnId) → List TxnId → Data → Result TxnId Fault
+submission_in txns earlier made d = submission_at (Line Clients (length earlier) (length made)) txns earlier made d
 
 unfoldable pub client_at : Names → List (List TxnId) → Data → Result (List TxnId) Fault
 client_at txns earlier d = do
   names ← array_at (Member Clients (length earlier)) (Some d)
-  each (submitted_in txns earlier) [] names
+  each (submission_in txns earlier) [] names
 
 -- at most 16 clients
 unfoldable pub clients_at : Names → Option Data → Result (List (List TxnId)) Fault
@@ -62,34 +62,34 @@ is_publishing (by_number verb number) = false
 is_publishing (cut name mail calls fill) = false
 
 -- a step of another kind is out of range, whatever it names
-abbrev pub allowed_step : Bool → Path → Declared → Command → Result Step Fault
-allowed_step allowed path names command = if allowed then step_for path names command else Err (range path)
+abbrev pub step_or_range : Bool → Path → Declared → Command → Result Step Fault
+step_or_range allowed path names command = if allowed then step_for path names command else Err (range path)
 
 -- one version less is left of it, if one was
-abbrev pub taken_from : Path → List ℕ → ℕ → ℕ → Result (List ℕ) Fault
-taken_from path left place zero = Err (range path)
-taken_from path left place (suc count) = Ok (slice_set left place count)
+abbrev pub fewer_or_range : Path → List ℕ → ℕ → ℕ → Result (List ℕ) Fault
+fewer_or_range path left place zero = Err (range path)
+fewer_or_range path left place (suc count) = Ok (slice_set left place count)
 
 -- the versions that are left after a step
 abbrev pub left_after : Path → List ℕ → Step → Result (List ℕ) Fault
-left_after path left (step.Publish admin) = taken_from path left admin.0 (option_map_or (λ count. count) (slice_get left admin.0) 0)
+left_after path left (step.Publish admin) = fewer_or_range path left admin.0 (option_map_or (λ count. count) (slice_get left admin.0) 0)
 left_after path left _ = Ok left
 
 -- the next step of a publisher
-unfoldable pub published_at : Path → Declared → Published → Data → Result Published Fault
-published_at path names state d = do
+unfoldable pub publication_at : Path → Declared → Published → Data → Result Published Fault
+publication_at path names state d = do
   command ← command_at path d
-  made ← allowed_step (is_publishing command) path names command
+  made ← step_or_range (is_publishing command) path names command
   left ← left_after path state.left made
   Ok (record { script = state.script ++ made ∷ []; left = left })
 
-abbrev pub published_in : Declared → ℕ → Published → Data → Result Published Fault
-published_in names at state d = published_at (Line Publishers at (length state.script)) names state d
+abbrev pub publication_in : Declared → ℕ → Published → Data → Result Published Fault
+publication_in names at state d = publication_at (Line Publishers at (length state.script)) names state d
 
 unfoldable pub publisher_at : Declared → Publishing → Data → Result Publishing Fault
 publisher_at names state d = do
   steps ← array_at (Member Publishers (length state.scripts)) (Some d)
-  published ← through (published_in names (length state.scripts)) (record { script = []; left = state.left }) steps
+  published ← through (publication_in names (length state.scripts)) (record { script = []; left = state.left }) steps
   Ok (record { scripts = state.scripts ++ published.script ∷ []; left = published.left })
 
 -- how many versions of an administrator come after the opening one
@@ -117,18 +117,18 @@ is_official (by_number Tick number) = true
 is_official (by_number _ number) = false
 is_official (cut name mail calls fill) = false
 
-unfoldable pub official_at : Path → Declared → Data → Result Step Fault
-official_at path names d = do
+unfoldable pub official_step_at : Path → Declared → Data → Result Step Fault
+official_step_at path names d = do
   command ← command_at path d
-  allowed_step (is_official command) path names command
+  step_or_range (is_official command) path names command
 
-abbrev pub official_in : Declared → ℕ → List Step → Data → Result Step Fault
-official_in names at made d = official_at (Line Officers at (length made)) names d
+abbrev pub official_step_in : Declared → ℕ → List Step → Data → Result Step Fault
+official_step_in names at made d = official_step_at (Line Officers at (length made)) names d
 
 unfoldable pub officer_at : Declared → List (List Step) → Data → Result (List Step) Fault
 officer_at names earlier d = do
   steps ← items_at (Member Officers (length earlier)) 0 100000 (Some d)
-  each (official_in names (length earlier)) [] steps
+  each (official_step_in names (length earlier)) [] steps
 
 -- at most 8 officers
 unfoldable pub officers_at : Declared → Option Data → Result (List (List Step)) Fault

@@ -21,7 +21,7 @@ use Rattle.tp_scenario.specs.Admins.{admin_name}
 use Rattle.tp_scenario.specs.Chain.{◌>>=◌}
 use Rattle.tp_scenario.specs.Faults.{shape}
 use Rattle.tp_scenario.specs.Names.{Names, place_of}
-use Rattle.tp_scenario.specs.Values.{count_at, each, field, items_at, new_name_at, object_at, through, used_at, whole_in}
+use Rattle.tp_scenario.specs.Values.{count_at, each, field, items_at, new_name_at, object_at, place_at, through, whole_in}
 
 -- ---- what a server knows
 
@@ -29,13 +29,13 @@ use Rattle.tp_scenario.specs.Values.{count_at, each, field, items_at, new_name_a
 unfoldable pub key_site : ℕ → List ℕ → Site
 key_site server text = if is_name text then site.Known server text else site.At (Field Servers server Knows)
 
-abbrev pub moved : {X : Type 0} → Site → Result X Fault → Result X Fault
-moved at (Ok x) = Ok x
-moved at (Err fault) = Err (record { kind = fault.kind; site = at })
+abbrev pub with_site : {X : Type 0} → Site → Result X Fault → Result X Fault
+with_site at (Ok x) = Ok x
+with_site at (Err fault) = Err (record { kind = fault.kind; site = at })
 
 -- the version at a key: 1 to the opening version
 unfoldable pub version_at : ℕ → List ℕ → ℕ → Data → Result Version Fault
-version_at server text opening d = moved (key_site server text) (count_at Whole 1 opening (Some d)) >>= λ count. Ok (record { 0 = count })
+version_at server text opening d = with_site (key_site server text) (count_at Whole 1 opening (Some d)) >>= λ count. Ok (record { 0 = count })
 
 abbrev pub opening_of : List Admin → ℕ → ℕ
 opening_of admins place = option_map_or (λ admin. admin.opening.0) (slice_get admins place) 0
@@ -79,7 +79,7 @@ unfoldable pub item_at : Names → Names → ℕ → ℕ → Data → Result Ite
 item_at admins names server at d = do
   fields ← object_at (Entry Servers server ItemsKey at) (Name ∷ AdminKey ∷ Min ∷ Max ∷ Value ∷ []) [] d
   name ← new_name_at (Inner Servers server ItemsKey at Name) names (field Name fields)
-  admin ← used_at (Inner Servers server ItemsKey at AdminKey) admins (field AdminKey fields)
+  admin ← place_at (Inner Servers server ItemsKey at AdminKey) admins (field AdminKey fields)
   min ← whole_in (Inner Servers server ItemsKey at Min) (neg_ℤ value_limit) value_limit (field Min fields)
   max ← whole_in (Inner Servers server ItemsKey at Max) min value_limit (field Max fields)
   value ← whole_in (Inner Servers server ItemsKey at Value) min max (field Value fields)
@@ -90,9 +90,9 @@ abbrev pub item_in : Names → ℕ → ℕ → List Item → Data → Result Ite
 item_in admins server before made d = item_at admins (map item_name made) server (length made - before) d
 
 -- so many ids from this one on
-abbrev pub numbered : ℕ → ℕ → List ItemId
-numbered first zero = []
-numbered first (suc count) = numbered first count ++ record { 0 = first + count } ∷ []
+abbrev pub ids_from : ℕ → ℕ → List ItemId
+ids_from first zero = []
+ids_from first (suc count) = ids_from first count ++ record { 0 = first + count } ∷ []
 
 -- ---- servers
 
@@ -113,7 +113,7 @@ server_in admins served d = do
   knows ← knows_at admins (length served.servers) (field Knows fields)
   items ← items_in (map admin_name admins) (length served.servers) served.items (field ItemsKey fields)
   Ok (record {
-    servers = served.servers ++ record { name = name; knows = knows; items = numbered (length served.items) (length items - length served.items) } ∷ [];
+    servers = served.servers ++ record { name = name; knows = knows; items = ids_from (length served.items) (length items - length served.items) } ∷ [];
     items = items;
   })
 

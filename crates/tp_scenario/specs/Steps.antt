@@ -19,8 +19,8 @@ use Rattle.tp_scenario.specs.declared.command.NameVerb.TheVariants as verb
 use Rattle.tp_scenario.specs.Chain.{◌>>=◌}
 use Rattle.tp_scenario.specs.Faults.{range, shape}
 use Rattle.tp_scenario.specs.Names.{is_same, place_of}
-use Rattle.tp_scenario.specs.Values.{each, items_or, text_at, used}
-use Rattle.tp_scenario.specs.Words.{is_end, named, only, words_of}
+use Rattle.tp_scenario.specs.Values.{each, items_or, place_or_unknown, text_at}
+use Rattle.tp_scenario.specs.Words.{as_name, is_end, only, words_of}
 
 -- ---- steps as they are spelled
 
@@ -49,20 +49,20 @@ count_verb word =
 
 -- exactly one word, which is spelled as a name
 abbrev pub one_name : List (List ℕ) → Option (List ℕ)
-one_name words = option_and_then named (only words)
+one_name words = option_and_then as_name (only words)
 
 -- exactly one word, which is a number
 abbrev pub one_number : List (List ℕ) → Option ℕ
 one_number words = option_and_then number_of (only words)
 
 -- two names
-abbrev pub pushed : List ℕ → Option (List ℕ) → Option Command
-pushed admin None = None
-pushed admin (Some server) = if is_name admin then Some (push admin server) else None
+abbrev pub push_to : List ℕ → Option (List ℕ) → Option Command
+push_to admin None = None
+push_to admin (Some server) = if is_name admin then Some (push admin server) else None
 
 unfoldable pub push_of : List (List ℕ) → Option Command
 push_of [] = None
-push_of (admin ∷ words) = pushed admin (one_name words)
+push_of (admin ∷ words) = push_to admin (one_name words)
 
 -- `fill F`
 unfoldable pub fill_of : List (List ℕ) → Option ℕ
@@ -70,48 +70,48 @@ fill_of [] = None
 fill_of (key ∷ words) = if is_same key (codes "fill") then one_number words else None
 
 -- `at C fill F`
-abbrev pub filled : List ℕ → ℕ → List ℕ → Option ℕ → Option Command
-filled name mail calls None = None
-filled name mail calls (Some fill) = option_map (λ c. cut name mail c fill) (number_of calls)
+abbrev pub cut_with_fill : List ℕ → ℕ → List ℕ → Option ℕ → Option Command
+cut_with_fill name mail calls None = None
+cut_with_fill name mail calls (Some fill) = option_map (λ c. cut name mail c fill) (number_of calls)
 
 unfoldable pub calls_of : List ℕ → ℕ → List (List ℕ) → Option Command
 calls_of name mail [] = None
 calls_of name mail (key ∷ []) = None
-calls_of name mail (key ∷ calls ∷ words) = if is_same key (codes "at") then filled name mail calls (fill_of words) else None
+calls_of name mail (key ∷ calls ∷ words) = if is_same key (codes "at") then cut_with_fill name mail calls (fill_of words) else None
 
 -- `in K at C fill F`
-abbrev pub received : List ℕ → Option ℕ → List (List ℕ) → Option Command
-received name None words = None
-received name (Some mail) words = calls_of name mail words
+abbrev pub cut_in_mail : List ℕ → Option ℕ → List (List ℕ) → Option Command
+cut_in_mail name None words = None
+cut_in_mail name (Some mail) words = calls_of name mail words
 
 unfoldable pub mail_of : List ℕ → List (List ℕ) → Option Command
 mail_of name [] = None
 mail_of name (key ∷ []) = None
-mail_of name (key ∷ mail ∷ words) = if is_same key (codes "in") then received name (number_of mail) words else None
+mail_of name (key ∷ mail ∷ words) = if is_same key (codes "in") then cut_in_mail name (number_of mail) words else None
 
 -- `ACTOR`, or `ACTOR in K at C fill F`
-abbrev pub crashed : List ℕ → List (List ℕ) → Option Command
-crashed name words = if is_end words then Some (of_name verb.Crash name) else mail_of name words
+abbrev pub crash_by_name : List ℕ → List (List ℕ) → Option Command
+crash_by_name name words = if is_end words then Some (of_name verb.Crash name) else mail_of name words
 
 unfoldable pub crash_of : List (List ℕ) → Option Command
 crash_of [] = None
-crash_of (name ∷ words) = if is_name name then crashed name words else None
+crash_of (name ∷ words) = if is_name name then crash_by_name name words else None
 
 -- a crash may be cut; no other verb has more words than a name
 abbrev pub by_verb : NameVerb → List (List ℕ) → Option Command
 by_verb verb.Crash words = crash_of words
 by_verb verb words = option_map (of_name verb) (one_name words)
 
-abbrev pub named_by : Option NameVerb → List (List ℕ) → Option Command
-named_by None words = None
-named_by (Some verb) words = by_verb verb words
+abbrev pub command_by_name : Option NameVerb → List (List ℕ) → Option Command
+command_by_name None words = None
+command_by_name (Some verb) words = by_verb verb words
 
-abbrev pub counted_or : Option CountVerb → Option NameVerb → List (List ℕ) → Option Command
-counted_or (Some verb) other words = option_map (by_number verb) (one_number words)
-counted_or None other words = named_by other words
+abbrev pub command_by_count_or : Option CountVerb → Option NameVerb → List (List ℕ) → Option Command
+command_by_count_or (Some verb) other words = option_map (by_number verb) (one_number words)
+command_by_count_or None other words = command_by_name other words
 
 unfoldable pub command_by : List ℕ → List (List ℕ) → Option Command
-command_by word words = if is_same word (codes "push") then push_of words else counted_or (count_verb word) (name_verb word) words
+command_by word words = if is_same word (codes "push") then push_of words else command_by_count_or (count_verb word) (name_verb word) words
 
 abbrev pub command_in : List (List ℕ) → Option Command
 command_in [] = None
@@ -130,7 +130,7 @@ command_at path d = do
 
 unfoldable pub coordinator_at : Path → Declared → List ℕ → Result Actor Fault
 coordinator_at path names name = do
-  place ← used path names.txns name
+  place ← place_or_unknown path names.txns name
   Ok (actor.Coordinator (record { 0 = place }))
 
 abbrev pub actor_or : Path → Declared → List ℕ → Option ℕ → Result Actor Fault
@@ -144,13 +144,13 @@ actor_at path names name = actor_or path names name (place_of name names.servers
 -- the step of a verb and a name
 unfoldable pub named_step : Path → Declared → NameVerb → List ℕ → Result Step Fault
 named_step path names verb.Submit name = do
-  place ← used path names.txns name
+  place ← place_or_unknown path names.txns name
   Ok (step.Submit (record { 0 = place }))
 named_step path names verb.Publish name = do
-  place ← used path names.admins name
+  place ← place_or_unknown path names.admins name
   Ok (step.Publish (record { 0 = place }))
 named_step path names verb.Revoke name = do
-  place ← used path names.creds name
+  place ← place_or_unknown path names.creds name
   Ok (step.Revoke (record { 0 = place }))
 named_step path names verb.Crash name = do
   who ← actor_at path names name
@@ -159,7 +159,7 @@ named_step path names verb.Boot name = do
   who ← actor_at path names name
   Ok (step.Boot who)
 named_step path names verb.Timer name = do
-  place ← used path names.txns name
+  place ← place_or_unknown path names.txns name
   Ok (step.Timer (record { 0 = place }))
 
 -- the step of a verb and a number: the clock moves by 1 to 1,000,000
@@ -170,8 +170,8 @@ counted_step path counting.Lose number = Ok (step.Lose number)
 
 unfoldable pub push_step : Path → Declared → List ℕ → List ℕ → Result Step Fault
 push_step path names admin server = do
-  from ← used path names.admins admin
-  to ← used path names.servers server
+  from ← place_or_unknown path names.admins admin
+  to ← place_or_unknown path names.servers server
   Ok (step.Push (record { 0 = from }) (record { 0 = to }))
 
 -- an append has four device calls, and a fill is a byte

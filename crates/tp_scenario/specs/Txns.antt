@@ -19,53 +19,53 @@ use Rattle.tp_scenario.specs.Chain.{◌>>=◌}
 use Rattle.tp_scenario.specs.Faults.{range}
 use Rattle.tp_scenario.specs.Names.{Names, is_same}
 use Rattle.tp_scenario.specs.Queries.{query_at}
-use Rattle.tp_scenario.specs.Values.{apart, count_or, each, field, items_at, items_or, name_at, new_name_at, object_at, text_at, used_at}
+use Rattle.tp_scenario.specs.Values.{apart, count_or, each, field, items_at, items_or, name_at, new_name_at, object_at, place_at, text_at}
 
-abbrev pub scheme_named : Path → List ℕ → Result Scheme Fault
-scheme_named path text =
+abbrev pub scheme_or_range : Path → List ℕ → Result Scheme Fault
+scheme_or_range path text =
     if is_same text (codes "deferred") then Ok scheme.Deferred
     else (if is_same text (codes "punctual") then Ok scheme.Punctual
     else (if is_same text (codes "incremental") then Ok scheme.Incremental
     else (if is_same text (codes "continuous") then Ok scheme.Continuous else Err (range path))))
 
-abbrev pub told_scheme : Path → Option Data → Result Scheme Fault
-told_scheme path value = text_at path value >>= scheme_named path
+abbrev pub scheme_in_text : Path → Option Data → Result Scheme Fault
+scheme_in_text path value = text_at path value >>= scheme_or_range path
 
 -- deferred where none is told
 unfoldable pub scheme_at : Path → Option Data → Result Scheme Fault
 scheme_at path None = Ok scheme.Deferred
-scheme_at path (Some d) = told_scheme path (Some d)
+scheme_at path (Some d) = scheme_in_text path (Some d)
 
-abbrev pub level_named : Path → List ℕ → Result Level Fault
-level_named path text =
+abbrev pub level_or_range : Path → List ℕ → Result Level Fault
+level_or_range path text =
     if is_same text (codes "view") then Ok level.View
     else (if is_same text (codes "global") then Ok level.Global else Err (range path))
 
-abbrev pub told_level : Path → Option Data → Result Level Fault
-told_level path value = text_at path value >>= level_named path
+abbrev pub level_in_text : Path → Option Data → Result Level Fault
+level_in_text path value = text_at path value >>= level_or_range path
 
 -- view where none is told
 unfoldable pub level_at : Path → Option Data → Result Level Fault
 level_at path None = Ok level.View
-level_at path (Some d) = told_level path (Some d)
+level_at path (Some d) = level_in_text path (Some d)
 
 -- a credential that is presented, after these
-abbrev pub presented : Path → List CredId → CredId → Result CredId Fault
-presented path made cred = if list_any (same_cred cred) made then Err (range path) else Ok cred
+abbrev pub credential_or_range : Path → List CredId → CredId → Result CredId Fault
+credential_or_range path made cred = if list_any (same_cred cred) made then Err (range path) else Ok cred
 
-unfoldable pub presented_at : Path → Names → List CredId → Data → Result CredId Fault
-presented_at path creds made d = do
-  place ← used_at path creds (Some d)
-  presented path made (record { 0 = place })
+unfoldable pub credential_at : Path → Names → List CredId → Data → Result CredId Fault
+credential_at path creds made d = do
+  place ← place_at path creds (Some d)
+  credential_or_range path made (record { 0 = place })
 
-abbrev pub presented_in : Names → ℕ → List CredId → Data → Result CredId Fault
-presented_in creds at made d = presented_at (Entry Transactions at Credentials (length made)) creds made d
+abbrev pub credential_in : Names → ℕ → List CredId → Data → Result CredId Fault
+credential_in creds at made d = credential_at (Entry Transactions at Credentials (length made)) creds made d
 
 -- at most 256, each at most once
-unfoldable pub presented_by : Names → ℕ → Option Data → Result (List CredId) Fault
-presented_by creds at value = do
+unfoldable pub credentials_at : Names → ℕ → Option Data → Result (List CredId) Fault
+credentials_at creds at value = do
   names ← items_or (Field Transactions at Credentials) 256 value
-  each (presented_in creds at) [] names
+  each (credential_in creds at) [] names
 
 abbrev pub query_in : Names → ℕ → List Query → Data → Result Query Fault
 query_in items at made d = query_at (Entry Transactions at Queries (length made)) items d
@@ -91,7 +91,7 @@ txn_at names at d = do
   scheme ← scheme_at (Field Transactions at SchemeKey) (field SchemeKey fields)
   level ← level_at (Field Transactions at LevelKey) (field LevelKey fields)
   rounds ← count_or (Field Transactions at Rounds) 1 16 8 (field Rounds fields)
-  creds ← presented_by names.creds at (field Credentials fields)
+  creds ← credentials_at names.creds at (field Credentials fields)
   queries ← queries_at names.items at (field Queries fields)
   Ok (record { name = name; subject = subject; scheme = scheme; level = level; rounds = rounds; creds = creds; queries = queries })
 

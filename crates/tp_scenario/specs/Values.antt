@@ -53,12 +53,12 @@ needed path value = ok_or value (shape path)
 unfoldable pub text_at : Path → Option Data → Result (List ℕ) Fault
 text_at path value = ok_or (option_and_then as_str value) (shape path)
 
-abbrev pub spelled : Path → List ℕ → Result (List ℕ) Fault
-spelled path text = if is_name text then Ok text else Err (range path)
+abbrev pub name_or_range : Path → List ℕ → Result (List ℕ) Fault
+name_or_range path text = if is_name text then Ok text else Err (range path)
 
 -- a text that is spelled as a name
 unfoldable pub name_at : Path → Option Data → Result (List ℕ) Fault
-name_at path value = text_at path value >>= spelled path
+name_at path value = text_at path value >>= name_or_range path
 
 abbrev pub apart : Path → Names → List ℕ → Result (List ℕ) Fault
 apart path names name = if is_some (place_of name names) then Err (range path) else Ok name
@@ -68,11 +68,11 @@ unfoldable pub new_name_at : Path → Names → Option Data → Result (List ℕ
 new_name_at path names value = name_at path value >>= apart path names
 
 -- a name that is used: its place among these
-unfoldable pub used : Path → Names → List ℕ → Result ℕ Fault
-used path names name = ok_or (place_of name names) (unknown path)
+unfoldable pub place_or_unknown : Path → Names → List ℕ → Result ℕ Fault
+place_or_unknown path names name = ok_or (place_of name names) (unknown path)
 
-unfoldable pub used_at : Path → Names → Option Data → Result ℕ Fault
-used_at path names value = name_at path value >>= used path names
+unfoldable pub place_at : Path → Names → Option Data → Result ℕ Fault
+place_at path names value = name_at path value >>= place_or_unknown path names
 
 -- a whole number: one that fits 64 bits with its sign and has neither a point nor an exponent
 unfoldable pub whole_at : Path → Option Data → Result ℤ Fault
@@ -85,13 +85,13 @@ within path low high z = if is_between low high z then Ok z else Err (range path
 unfoldable pub whole_in : Path → ℤ → ℤ → Option Data → Result ℤ Fault
 whole_in path low high value = whole_at path value >>= within path low high
 
-abbrev pub counted : Path → ℕ → ℕ → ℤ → Result ℕ Fault
-counted path low high (pos n) = if is_from_to low high n then Ok n else Err (range path)
-counted path low high (negsuc n) = Err (range path)
+abbrev pub count_or_range : Path → ℕ → ℕ → ℤ → Result ℕ Fault
+count_or_range path low high (pos n) = if is_from_to low high n then Ok n else Err (range path)
+count_or_range path low high (negsuc n) = Err (range path)
 
 -- a whole number of a range that begins at 0 or later
 unfoldable pub count_at : Path → ℕ → ℕ → Option Data → Result ℕ Fault
-count_at path low high value = whole_at path value >>= counted path low high
+count_at path low high value = whole_at path value >>= count_or_range path low high
 
 -- the same, where a missing one has this value
 unfoldable pub count_or : Path → ℕ → ℕ → ℕ → Option Data → Result ℕ Fault
@@ -105,8 +105,8 @@ item_count no_items = 0
 item_count (item d ds) = item_count ds + 1
 
 -- the length is in its range
-unfoldable pub sized : Path → ℕ → ℕ → Items → Result Items Fault
-sized path least most items = if is_from_to least most (item_count items) then Ok items else Err (range path)
+unfoldable pub items_or_range : Path → ℕ → ℕ → Items → Result Items Fault
+items_or_range path least most items = if is_from_to least most (item_count items) then Ok items else Err (range path)
 
 -- an array
 unfoldable pub array_at : Path → Option Data → Result Items Fault
@@ -114,7 +114,7 @@ array_at path value = ok_or (option_and_then as_array value) (shape path)
 
 -- an array whose length is in its range
 unfoldable pub items_at : Path → ℕ → ℕ → Option Data → Result Items Fault
-items_at path least most value = array_at path value >>= sized path least most
+items_at path least most value = array_at path value >>= items_or_range path least most
 
 -- the same, where a missing one is empty
 unfoldable pub items_or : Path → ℕ → Option Data → Result Items Fault

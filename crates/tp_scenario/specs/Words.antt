@@ -40,8 +40,8 @@ skip_spaces [] = []
 skip_spaces (byte ∷ bytes) = if is_space byte then skip_spaces bytes else byte ∷ bytes
 
 -- the word, where it is spelled as a name
-abbrev pub named : List ℕ → Option (List ℕ)
-named word = if is_name word then Some word else None
+abbrev pub as_name : List ℕ → Option (List ℕ)
+as_name word = if is_name word then Some word else None
 
 abbrev pub is_end : List (List ℕ) → Bool
 is_end [] = true

@@ -150,7 +150,7 @@ fn mail_of<'a>(name: &'a [u8], mut words: Words<'a>) -> Option<Command<'a>>
 }
 
 fn crashed<'a>(name: &'a [u8], words: Words<'a>) -> Option<Command<'a>>
-    ensures { option_map command result ≡ steps.crashed name.now words.entry }
+    ensures { option_map command result ≡ steps.crash_by_name name.now words.entry }
 {
     if words.is_at_end() {
         Some(Command::OfName(NameVerb::Crash, name))
@@ -188,7 +188,7 @@ fn by_verb<'a>(verb: NameVerb, words: Words<'a>) -> Option<Command<'a>>
 }
 
 fn named_by<'a>(word: &[u8], words: Words<'a>) -> Option<Command<'a>>
-    ensures { option_map command result ≡ steps.named_by (steps.name_verb word.now) words.entry }
+    ensures { option_map command result ≡ steps.command_by_name (steps.name_verb word.now) words.entry }
 {
     match name_verb(word) {
         None => None,
@@ -204,7 +204,7 @@ fn counted_by<'a>(verb: CountVerb, words: Words<'a>) -> Option<Command<'a>>
 }
 
 fn counted_or<'a>(word: &[u8], words: Words<'a>) -> Option<Command<'a>>
-    ensures { option_map command result ≡ steps.counted_or (steps.count_verb word.now) (steps.name_verb word.now) words.entry }
+    ensures { option_map command result ≡ steps.command_by_count_or (steps.count_verb word.now) (steps.name_verb word.now) words.entry }
 {
     match count_verb(word) {
         Some(verb) => counted_by(verb, words),

@@ -73,7 +73,7 @@ fn json_of(alloc: Global, bytes: &[u8]) -> Result<Value, ScenarioError>
 }
 
 fn refused_at(kind: Kind, path: Text) -> ScenarioError
-    ensures { result ≡ reads.refused_at kind path }
+    ensures { result ≡ reads.error_at kind path }
 {
     match kind {
         Kind::Shape => ScenarioError::Shape { path },
@@ -84,7 +84,7 @@ fn refused_at(kind: Kind, path: Text) -> ScenarioError
 }
 
 fn refused(alloc: Global, fault: &Fault) -> ScenarioError
-    ensures { IsRefusal (reads.refused fault.now) result }
+    ensures { IsRefusal (reads.error_of fault.now) result }
 {
     match site_text(alloc, &fault.site) {
         Ok(path) => refused_at(fault.kind, path),

@@ -1,6 +1,6 @@
 //! Names that were declared so far.
 ghost use Rattle.std.specs.Prelude.{◌≡◌, ◌<◌, [], length, IfOk, IfSome, OnOk};
-ghost use Rattle.tp_scenario.specs.Names.{declared, is_new, place_of};
+ghost use Rattle.tp_scenario.specs.Names.{is_new, place_of, with_name};
 
 use indexmap::IndexSet;
 use std::alloc::Global;
@@ -57,7 +57,7 @@ impl<'a> Names<'a> {
     #[tactic(auto, using(crate::proofs::NameLemmas::name_added, crate::proofs::NameLemmas::name_found))]
     pub fn declare(&mut self, name: &'a [u8]) -> Result<bool, NoMemory>
         ensures new { IfOk result (λ new. new ≡ is_new name.now self.old) }
-        ensures names { OnOk result (self.new ≡ declared name.now self.old) }
+        ensures names { OnOk result (self.new ≡ with_name name.now self.old) }
     {
         if self.names.len() >= u32::MAX as usize {
             return Err(NoMemory);

@@ -53,7 +53,7 @@ fn is_submitted(earlier: &[List<TxnId>], made: &[TxnId], txn: TxnId) -> bool
     is_among(txn, made) || is_in_one(txn, earlier)
 }
 
-#[tactic(auto, unfolding(crate::specs::Scripts::submitted_at))]
+#[tactic(auto, unfolding(crate::specs::Scripts::submission_at))]
 fn submitted_at(
     path: Path,
     txns: &Names,
@@ -61,7 +61,7 @@ fn submitted_at(
     made: &[TxnId],
     value: &Value,
 ) -> Result<TxnId, WalkError>
-    ensures { Gives result (scripts.submitted_at path txns.now earlier.now made.now (view value.now)) }
+    ensures { Gives result (scripts.submission_at path txns.now earlier.now made.now (view value.now)) }
 {
     let txn = TxnId(used_at(path, txns, Some(value))?);
     if is_submitted(earlier, made, txn) {
@@ -77,7 +77,7 @@ fn each_submitted(
     earlier: &[List<TxnId>],
     values: &[Value],
 ) -> Result<List<TxnId>, WalkError>
-    ensures { Gives result (each (scripts.submitted_in txns.now earlier.now) [] (items_view values.now)) }
+    ensures { Gives result (each (scripts.submission_in txns.now earlier.now) [] (items_view values.now)) }
 {
     let mut made = List::new(alloc);
     for value in values {
@@ -155,7 +155,7 @@ fn allowed_step(
     names: &Declared,
     command: Command<'_>,
 ) -> Result<Step, WalkError>
-    ensures { Gives result (scripts.allowed_step allowed path names.now (command_view command.entry)) }
+    ensures { Gives result (scripts.step_or_range allowed path names.now (command_view command.entry)) }
 {
     if allowed {
         step_for(path, names, command)
@@ -164,9 +164,9 @@ fn allowed_step(
     }
 }
 
-#[tactic(auto, unfolding(crate::specs::Scripts::official_at))]
+#[tactic(auto, unfolding(crate::specs::Scripts::official_step_at))]
 fn official_at(path: Path, names: &Declared, value: &Value) -> Result<Step, WalkError>
-    ensures { Gives result (scripts.official_at path names.now (view value.now)) }
+    ensures { Gives result (scripts.official_step_at path names.now (view value.now)) }
 {
     let command = command_at(path, value)?;
     allowed_step(is_official(command), path, names, command)
@@ -178,7 +178,7 @@ fn each_official(
     at: usize,
     values: &[Value],
 ) -> Result<List<Step>, WalkError>
-    ensures { Gives result (each (scripts.official_in names.now at) [] (items_view values.now)) }
+    ensures { Gives result (each (scripts.official_step_in names.now at) [] (items_view values.now)) }
 {
     let mut made = List::new(alloc);
     for value in values {
@@ -233,7 +233,7 @@ pub(crate) fn officers_at(
 
 /// Takes one version of an administrator from those that are left.
 fn take_version(path: Path, left: &mut List<usize>, place: usize) -> Result<(), WalkError>
-    ensures { GivesNew result left.new (scripts.taken_from path left.old place (option_map_or (λ count. count) (slice_get left.old place) 0)) }
+    ensures { GivesNew result left.new (scripts.fewer_or_range path left.old place (option_map_or (λ count. count) (slice_get left.old place) 0)) }
 {
     match left.get(place).copied() {
         None => Err(range_at(path)),
@@ -258,7 +258,7 @@ fn take_left(path: Path, left: &mut List<usize>, step: Step) -> Result<(), WalkE
 }
 
 /// The next step of a publisher, added to its script.
-#[tactic(auto, unfolding(crate::specs::Scripts::published_at))]
+#[tactic(auto, unfolding(crate::specs::Scripts::publication_at))]
 fn published_at(
     alloc: Global,
     path: Path,
@@ -266,7 +266,7 @@ fn published_at(
     state: &mut Published,
     value: &Value,
 ) -> Result<(), WalkError>
-    ensures { GivesNew result state.new (scripts.published_at path names.now state.old (view value.now)) }
+    ensures { GivesNew result state.new (scripts.publication_at path names.now state.old (view value.now)) }
 {
     let command = command_at(path, value)?;
     let made = allowed_step(is_publishing(command), path, names, command)?;
@@ -282,7 +282,7 @@ fn published_in(
     state: &mut Published,
     value: &Value,
 ) -> Result<(), WalkError>
-    ensures { GivesNew result state.new (scripts.published_in names.now at state.old (view value.now)) }
+    ensures { GivesNew result state.new (scripts.publication_in names.now at state.old (view value.now)) }
 {
     let path = Path::Line(Key::Publishers, at, state.script.len());
     published_at(alloc, path, names, state, value)
@@ -295,7 +295,7 @@ fn each_published(
     left: List<usize>,
     values: &[Value],
 ) -> Result<Published, WalkError>
-    ensures { Gives result (through (scripts.published_in names.now at) (record { script = []; left = left }) (items_view values.now)) }
+    ensures { Gives result (through (scripts.publication_in names.now at) (record { script = []; left = left }) (items_view values.now)) }
 {
     let mut state = Published {
         script: List::new(alloc),

@@ -318,7 +318,7 @@ fn items_in<'a>(
 
 /// So many ids from this one on.
 fn numbered(alloc: Global, first: u32, end: u32) -> Result<List<ItemId>, NoMemory>
-    ensures { IfOk result (λ ids. ids ≡ servers.numbered first (end - first)) }
+    ensures { IfOk result (λ ids. ids ≡ servers.ids_from first (end - first)) }
 {
     let mut ids = List::new(alloc);
     for number in first..end {

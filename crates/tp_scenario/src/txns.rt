@@ -27,7 +27,7 @@ fn path_of(at: usize, key: Key) -> Path
 }
 
 fn scheme_named(path: Path, text: &[u8]) -> Result<Scheme, WalkError>
-    ensures { Gives result (txns.scheme_named path text.now) }
+    ensures { Gives result (txns.scheme_or_range path text.now) }
 {
     if text == b"deferred".as_slice() {
         Ok(Scheme::Deferred)
@@ -43,7 +43,7 @@ fn scheme_named(path: Path, text: &[u8]) -> Result<Scheme, WalkError>
 }
 
 fn told_scheme(path: Path, value: Option<&Value>) -> Result<Scheme, WalkError>
-    ensures { Gives result (txns.told_scheme path (option_map (λ v. view v.now) value.entry)) }
+    ensures { Gives result (txns.scheme_in_text path (option_map (λ v. view v.now) value.entry)) }
 {
     let text = text_at(path, value)?;
     scheme_named(path, text)
@@ -61,7 +61,7 @@ fn scheme_at(path: Path, value: Option<&Value>) -> Result<Scheme, WalkError>
 }
 
 fn level_named(path: Path, text: &[u8]) -> Result<Level, WalkError>
-    ensures { Gives result (txns.level_named path text.now) }
+    ensures { Gives result (txns.level_or_range path text.now) }
 {
     if text == b"view".as_slice() {
         Ok(Level::View)
@@ -73,7 +73,7 @@ fn level_named(path: Path, text: &[u8]) -> Result<Level, WalkError>
 }
 
 fn told_level(path: Path, value: Option<&Value>) -> Result<Level, WalkError>
-    ensures { Gives result (txns.told_level path (option_map (λ v. view v.now) value.entry)) }
+    ensures { Gives result (txns.level_in_text path (option_map (λ v. view v.now) value.entry)) }
 {
     let text = text_at(path, value)?;
     level_named(path, text)
@@ -99,14 +99,14 @@ fn noted(seen: &mut IndexSet<u32>, place: u32) -> Result<bool, NoMemory>
 }
 
 /// A credential that is presented, after those of these places. Its own is added to them.
-#[tactic(auto, unfolding(crate::specs::Txns::presented_at), using(crate::proofs::GrowingLists::any_made))]
+#[tactic(auto, unfolding(crate::specs::Txns::credential_at), using(crate::proofs::GrowingLists::any_made))]
 fn presented_at(
     path: Path,
     creds: &Names,
     seen: &mut IndexSet<u32>,
     value: &Value,
 ) -> Result<CredId, WalkError>
-    ensures value { Gives result (txns.presented_at path creds.now (creds_at seen.old.keys) (view value.now)) }
+    ensures value { Gives result (txns.credential_at path creds.now (creds_at seen.old.keys) (view value.now)) }
     ensures noted { IfOk result (λ cred. seen.new.keys ≡ seen.old.keys ++ cred.0 ∷ []) }
 {
     let place = used_at(path, creds, Some(value))?;
@@ -123,7 +123,7 @@ fn each_presented(
     at: usize,
     values: &[Value],
 ) -> Result<List<CredId>, WalkError>
-    ensures { Gives result (each (txns.presented_in creds.now at) [] (items_view values.now)) }
+    ensures { Gives result (each (txns.credential_in creds.now at) [] (items_view values.now)) }
 {
     let mut made = List::new(alloc);
     let mut seen = IndexSet::new(alloc);
@@ -135,14 +135,14 @@ fn each_presented(
     Ok(made)
 }
 
-#[tactic(auto, unfolding(crate::specs::Txns::presented_by))]
+#[tactic(auto, unfolding(crate::specs::Txns::credentials_at))]
 fn presented_by(
     alloc: Global,
     creds: &Names,
     at: usize,
     value: Option<&Value>,
 ) -> Result<List<CredId>, WalkError>
-    ensures { Gives result (txns.presented_by creds.now at (option_map (λ v. view v.now) value.entry)) }
+    ensures { Gives result (txns.credentials_at creds.now at (option_map (λ v. view v.now) value.entry)) }
 {
     let values = items_or(path_of(at, Key::Credentials), 256, value)?;
     each_presented(alloc, creds, at, values)

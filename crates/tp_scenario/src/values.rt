@@ -82,9 +82,9 @@ pub(crate) fn new_name_at<'a>(
 }
 
 /// The place of a name that is used.
-#[tactic(auto, unfolding(crate::specs::Values::used))]
+#[tactic(auto, unfolding(crate::specs::Values::place_or_unknown))]
 pub(crate) fn used(path: Path, names: &Names, name: &[u8]) -> Result<u32, WalkError>
-    ensures { Gives result (values.used path names.now name.now) }
+    ensures { Gives result (values.place_or_unknown path names.now name.now) }
 {
     match names.place_of(name) {
         None => Err(unknown_at(path)),
@@ -93,9 +93,9 @@ pub(crate) fn used(path: Path, names: &Names, name: &[u8]) -> Result<u32, WalkEr
 }
 
 /// The place of a name that is used by a value.
-#[tactic(auto, unfolding(crate::specs::Values::used_at))]
+#[tactic(auto, unfolding(crate::specs::Values::place_at))]
 pub(crate) fn used_at(path: Path, names: &Names, value: Option<&Value>) -> Result<u32, WalkError>
-    ensures { Gives result (values.used_at path names.now (option_map (λ v. view v.now) value.entry)) }
+    ensures { Gives result (values.place_at path names.now (option_map (λ v. view v.now) value.entry)) }
 {
     used(path, names, name_text(path, value)?)
 }
@@ -142,7 +142,7 @@ fn is_from_to(low: u64, high: u64, number: u64) -> bool
 }
 
 fn counted(path: Path, low: u64, high: u64, number: i64) -> Result<u64, WalkError>
-    ensures value { Gives result (values.counted path low high number) }
+    ensures value { Gives result (values.count_or_range path low high number) }
     ensures most { IfOk result (λ n. n ≤ high) }
 {
     if number < 0 {
@@ -189,9 +189,9 @@ pub(crate) fn count_or(
     }
 }
 
-#[tactic(auto, unfolding(crate::specs::Values::sized), using(crate::proofs::Views::viewed))]
+#[tactic(auto, unfolding(crate::specs::Values::items_or_range), using(crate::proofs::Views::viewed))]
 fn sized(path: Path, least: usize, most: usize, items: &[Value]) -> Result<&[Value], WalkError>
-    ensures value { GivesAs result (λ s. items_view s.now) (values.sized path least most (items_view items.now)) }
+    ensures value { GivesAs result (λ s. items_view s.now) (values.items_or_range path least most (items_view items.now)) }
     ensures few { IfOk result (λ s. length s.now ≤ most) }
 {
     if least <= items.len() && items.len() <= most {

@@ -35,14 +35,14 @@ fn no_names<'a>(alloc: Global) -> Declared<'a>
 }
 
 /// The scenario that a value is, or the first fault in it. What it declares is added to the names, of which there are none so far.
-#[tactic(auto, unfolding(crate::specs::Walk::walked))]
+#[tactic(auto, unfolding(crate::specs::Walk::walk_of))]
 fn walked_with<'a>(
     alloc: Global,
     names: &mut Declared<'a>,
     value: &'a Value,
 ) -> Result<Scenario, WalkError>
     requires { names.old ≡ walk.no_names }
-    ensures { Gives result (walk.walked (view value.now)) }
+    ensures { Gives result (walk.walk_of (view value.now)) }
 {
     let fields = object_at(
         Path::Whole,
@@ -98,7 +98,7 @@ fn walked_with<'a>(
 
 /// The scenario that a value is, or the first fault in it.
 pub(crate) fn walked(alloc: Global, value: &Value) -> Result<Scenario, WalkError>
-    ensures { Gives result (walk.walked (view value.now)) }
+    ensures { Gives result (walk.walk_of (view value.now)) }
 {
     let mut names = no_names(alloc);
     walked_with(alloc, &mut names, value)

@@ -1,20 +1,13 @@
 -- Applying one write more is setting its item after the others.
 use Rattle.std.proofs.Common.{◌≡◌, ◌≢◌, ◌||◌, not, Bool, true, false, cond, leb, List, [], ◌∷◌, find, Some, set, refl, ap, sym, ◌∙◌, ℤ}
-use Rattle.std.proofs.lemmas.Bool.{and_parts, eq-eqb, eqb-true}
+use Rattle.std.proofs.lemmas.Bool.{and_parts, eq-eqb, eqb-true, not-true, or_parts}
 use Rattle.std.proofs.lemmas.List.{set-set, set_comm}
 use Rattle.std.specs.List.{list_any}
+use Rattle.tp_store.proofs.LawLemmas.{later_is}
 use Rattle.tp_model.specs.Words.{ItemId}
 use Rattle.tp_store.specs.declared.writes.TentativeWrite.{TentativeWrite}
 use Rattle.tp_store.specs.Laws.{are_apart, is_last_of}
 use Rattle.tp_store.specs.Writes.{is_on, later, values_after, with_write}
-
-or_parts : (a b : Bool) → (a || b) ≡ false → (a ≡ false) × (b ≡ false)
-or_parts true b e = cc
-or_parts false b e = (refl, e)
-
-not_false : (b : Bool) → not b ≡ true → b ≡ false
-not_false true e = cc
-not_false false e = refl
 
 not_itself : (item : ItemId) (write : TentativeWrite) → is_on item write ≡ false → item.0 ≢ write.item.0
 not_itself item write apart same =
@@ -29,9 +22,6 @@ set_first values item value (write ∷ writes) apart =
     let parts = or_parts (is_on item write) (list_any (is_on item) writes) apart in
     ap (λ vs. values_after vs writes) (set_comm values item.0 write.item.0 value write.value (not_itself item write parts.0))
     ∙ set_first (set values write.item.0 write.value) item value writes parts.1
-
-later_is : (kept new : TentativeWrite) → leb kept.query new.query ≡ true → later kept new ≡ new
-later_is kept new is = rw is refl
 
 set_at_first : (values : List ℤ) (kept new : TentativeWrite) (writes : List TentativeWrite) (here : Bool) → is_on new.item kept ≡ here
     → is_last_of new (cond here (Some kept) (find (is_on new.item) writes)) ≡ true → list_any (is_on kept.item) writes ≡ false
@@ -53,7 +43,7 @@ pub set_after : (values : List ℤ) (writes : List TentativeWrite) (new : Tentat
 set_after values [] new apart is = refl
 set_after values (kept ∷ writes) new apart is =
     let parts = and_parts (not (list_any (is_on kept.item) writes)) (are_apart writes) apart in
-    set_at_first values kept new writes (is_on new.item kept) refl is (not_false (list_any (is_on kept.item) writes) parts.0)
+    set_at_first values kept new writes (is_on new.item kept) refl is (not-true (list_any (is_on kept.item) writes) parts.0)
     (λ last. set_after (set values kept.item.0 kept.value) writes new parts.1 last)
 
 -- ---- at most one write of an item
@@ -106,4 +96,4 @@ pub apart_with : (writes : List TentativeWrite) (new : TentativeWrite) → are_a
 apart_with [] new apart = refl
 apart_with (kept ∷ writes) new apart =
     let parts = and_parts (not (list_any (is_on kept.item) writes)) (are_apart writes) apart in
-    apart_with_at kept new writes (is_on new.item kept) refl (not_false (list_any (is_on kept.item) writes) parts.0) parts.1 (apart_with writes new parts.1)
+    apart_with_at kept new writes (is_on new.item kept) refl (not-true (list_any (is_on kept.item) writes) parts.0) parts.1 (apart_with writes new parts.1)

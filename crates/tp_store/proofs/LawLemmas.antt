@@ -20,7 +20,7 @@ on_itself write = eq-eqb write.item.0 write.item.0 refl
 found_here : (new : TentativeWrite) (writes : List TentativeWrite) → find (is_on new.item) (new ∷ writes) ≡ Some new
 found_here new writes = rw (on_itself new) refl
 
-later_is : (kept new : TentativeWrite) → leb kept.query new.query ≡ true → later kept new ≡ new
+pub later_is : (kept new : TentativeWrite) → leb kept.query new.query ≡ true → later kept new ≡ new
 later_is kept new is = rw is refl
 
 last_first : (kept new : TentativeWrite) (writes : List TentativeWrite) (here : Bool) → is_on new.item kept ≡ here

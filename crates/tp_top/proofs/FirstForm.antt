@@ -1,17 +1,19 @@
 -- A built scenario is of one shape: all but names, an item's bounds and value, and one constant is fixed.
-use Rattle.std.proofs.lemmas.Bool.{and_parts}
+use Rattle.std.proofs.lemmas.Bool.{and_parts, eqb-true}
 use Rattle.std.proofs.Common.{◌≡◌, ℕ, ◌==◌, List, [], ◌∷◌, Bool, true, ℤ, refl, ap, ◌∙◌}
+use Rattle.tp_machine.proofs.trust.Built.{deferred_is}
+use Rattle.tp_model.proofs.BuiltLemmas.{empty_is}
 use Rattle.tp_model.specs.Words.{Admin, CredId, Credential, Item, ItemId, Level, Operand, Query, Scenario, Scheme, ServerDecl, Step, Term, Transaction, TxnId, Version}
 use Rattle.tp_model.specs.Words.scheme
 use Rattle.tp_types.specs.declared.scenario.Level.TheVariants.{View, Global}
 use Rattle.tp_types.specs.declared.scenario.Operand.TheVariants.{Constant, Register}
 use Rattle.tp_types.specs.declared.scenario.Query.TheVariants.{Read, Write}
 use Rattle.tp_model.specs.Built.{is_built}
-use Rattle.tp_model.specs.Stage.{is_deferred, is_empty, is_view}
+use Rattle.tp_model.specs.Stage.{is_view}
 use Rattle.tp_model.proofs.FirstForm.{form_built, is_first_constant, is_first_item, is_first_query, is_first_server, is_first_term, is_first_txn}
 use Rattle.tp_model.specs.Limits.{is_between}
 use Rattle.tp_model.specs.Queries.{signed, term_value}
-use Rattle.tp_machine.proofs.ids.Built.{HasForm, IsOnly, has_form, number_is, single_is}
+use Rattle.tp_machine.proofs.ids.Built.{HasForm, IsOnly, has_form, single_is}
 
 -- ---- the shape
 
@@ -83,10 +85,6 @@ same_scenario a a' b b' c c' d d' e e' f f' g g' h h' i i' j j' pa pb pc pd pe p
     ∙ (ap (λ (x : List (List Step)). record { admins = a'; clock = b'; creds = c'; servers = d'; items = e'; txns = f'; steps = g'; clients = h'; publishers = x; officers = j }) pi
     ∙ ap (λ (x : List (List Step)). record { admins = a'; clock = b'; creds = c'; servers = d'; items = e'; txns = f'; steps = g'; clients = h'; publishers = i'; officers = x }) pj))))))))
 
-empty_is : {A : Type 0} (xs : List A) → is_empty xs ≡ true → xs ≡ []
-empty_is [] e = refl
-empty_is (x ∷ xs) e = absurd (cc)
-
 -- what is fixed of everything but the lists that have one member
 record HasDefaults (sc : Scenario) : Type 0 where
   pub clock : sc.clock ≡ 0
@@ -104,7 +102,7 @@ has_defaults sc e =
     let publishers = and_parts _ _ officers.0 in
     let clients = and_parts _ _ publishers.0 in
     record {
-      clock = number_is sc.clock 0 front.0;
+      clock = eqb-true sc.clock 0 front.0;
       creds = empty_is sc.creds front.1;
       steps = empty_is sc.steps clients.0;
       clients = empty_is sc.clients clients.1;
@@ -123,8 +121,8 @@ server_is server e =
     let parts = and_parts _ _ e in
     let knows : IsOnly (λ (version : Version). version.0 == 1) server.knows = single_is (λ (version : Version). version.0 == 1) server.knows parts.0 in
     let items : IsOnly (λ (item : ItemId). item.0 == 0) server.items = single_is (λ (item : ItemId). item.0 == 0) server.items parts.1 in
-    let known : server.knows ≡ record { 0 = 1 } ∷ [] = knows.is_list ∙ ap (λ (n : ℕ). first_version n ∷ []) (number_is knows.member.0 1 knows.passes) in
-    let item : server.items ≡ record { 0 = 0 } ∷ [] = items.is_list ∙ ap (λ (n : ℕ). first_item n ∷ []) (number_is items.member.0 0 items.passes) in
+    let known : server.knows ≡ record { 0 = 1 } ∷ [] = knows.is_list ∙ ap (λ (n : ℕ). first_version n ∷ []) (eqb-true knows.member.0 1 knows.passes) in
+    let item : server.items ≡ record { 0 = 0 } ∷ [] = items.is_list ∙ ap (λ (n : ℕ). first_item n ∷ []) (eqb-true items.member.0 0 items.passes) in
     ap (λ (x : List Version). server_with server.name x server.items) known ∙ ap (λ (x : List ItemId). server_with server.name (record { 0 = 1 } ∷ []) x) item
   where
     server_with : List ℕ → List Version → List ItemId → ServerDecl
@@ -134,7 +132,7 @@ item_is : (item : Item) → is_first_item item ≡ true
     → item ≡ record { name = item.name; server = record { 0 = 0 }; admin = record { 0 = 0 }; min = item.min; max = item.max; value = item.value }
 item_is item e =
     let ids = and_parts _ _ (and_parts _ _ e).0 in
-    ap (λ (n : ℕ). item_with n item.admin.0) (number_is item.server.0 0 ids.0) ∙ ap (λ (n : ℕ). item_with 0 n) (number_is item.admin.0 0 ids.1)
+    ap (λ (n : ℕ). item_with n item.admin.0) (eqb-true item.server.0 0 ids.0) ∙ ap (λ (n : ℕ). item_with 0 n) (eqb-true item.admin.0 0 ids.1)
   where
     item_with : ℕ → ℕ → Item
     item_with server admin = record { name = item.name; server = record { 0 = server }; admin = record { 0 = admin }; min = item.min; max = item.max; value = item.value }
@@ -163,13 +161,7 @@ write_is item (Write id expr) e =
     let parts = and_parts _ _ e in
     let one : IsOnly (is_first_term item) expr = single_is (is_first_term item) expr parts.1 in
     let term = and_parts _ _ one.passes in
-    term_is item one.member.minus one.member.operand id expr (number_is id.0 0 parts.0) one.is_list term.0 term.1
-
-deferred_is : (s : Scheme) → is_deferred s ≡ true → s ≡ scheme.Deferred
-deferred_is scheme.Deferred e = refl
-deferred_is scheme.Continuous e = absurd (cc)
-deferred_is scheme.Punctual e = absurd (cc)
-deferred_is scheme.Incremental e = absurd (cc)
+    term_is item one.member.minus one.member.operand id expr (eqb-true id.0 0 parts.0) one.is_list term.0 term.1
 
 view_is : (l : Level) → is_view l ≡ true → l ≡ View
 view_is View e = refl
@@ -194,7 +186,7 @@ txn_is server item txn e =
       is_write = write_is item one.member one.passes;
       shape = ap (λ (x : Scheme). txn_with x txn.level txn.rounds txn.creds txn.queries) (deferred_is txn.scheme kind.1)
           ∙ (ap (λ (x : Level). txn_with scheme.Deferred x txn.rounds txn.creds txn.queries) (view_is txn.level level.1)
-          ∙ (ap (λ (x : ℕ). txn_with scheme.Deferred View x txn.creds txn.queries) (number_is txn.rounds 8 limits.0)
+          ∙ (ap (λ (x : ℕ). txn_with scheme.Deferred View x txn.creds txn.queries) (eqb-true txn.rounds 8 limits.0)
           ∙ (ap (λ (x : List CredId). txn_with scheme.Deferred View 8 x txn.queries) (empty_is txn.creds limits.1)
           ∙ ap (λ (x : List Query). txn_with scheme.Deferred View 8 [] x) one.is_list)));
     }

@@ -3,19 +3,15 @@ use Rattle.std.proofs.Common.{◌≡◌, ◌⊎◌, inl, inr, ℕ, zero, suc, �
 use Rattle.std.specs.Option.{option_map_or}
 use Rattle.tp_model.specs.Words.{Scenario, Step}
 use Rattle.tp_model.specs.Built.{is_built}
-use Rattle.tp_model.proofs.BuiltLemmas.{steps_built}
-use Rattle.tp_machine.specs.Machine.{Machine, State, after, after_step, after_steps, ending_of, opening}
+use Rattle.tp_machine.specs.Machine.{Machine, State, after_step, after_steps, ending_of, opening}
 use Rattle.tp_machine.specs.Seen.{Seen, start}
-use Rattle.tp_top.proofs.TrustedRun.{trusted_run}
+use Rattle.tp_top.proofs.TrustedRun.{listed_built, trusted_run}
 use Rattle.tp_top.specs.declared.answer.Answer.{Answer}
 use Rattle.tp_top.specs.declared.answer.Answer.TheVariants as answer
 use Rattle.tp_top.specs.Auto.{Drains, IsSpent, automatic_from, automatic_steps, bound, is_quiet, next_of}
 use Rattle.tp_top.specs.ReportText.{report_text}
 use Rattle.tp_scenario.specs.Reads.{IsOutOfMemory}
 use Rattle.tp_top.specs.Run.{Answers, IsReported, Reads, TakesAll, automatic, automatic_bound, final, listed, report_of}
-
-listed_built : (sc : Scenario) → is_built sc ≡ true → listed sc ≡ opening sc
-listed_built sc h = ap (after sc) (steps_built sc h)
 
 -- the bound of a machine with no steps done
 bound_built : (sc : Scenario) → is_built sc ≡ true → automatic_bound sc ≡ bound sc 0

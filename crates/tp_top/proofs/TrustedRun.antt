@@ -2,7 +2,7 @@
 use Rattle.std.proofs.Common.{◌≡◌, ℕ, zero, suc, ◌+◌, ◌-◌, ◌<◌, ◌≤◌, ◌==◌, List, [], ◌∷◌, ◌++◌, length, find, cond, nat_lt, slice_get, Bool, true, false, not, Option, Some, None, option_map, if◌then◌else◌, refl, sym, ap, subst, ◌∙◌, arith}
 use Rattle.std.specs.List.{range_with_len}
 use Rattle.std.proofs.lemmas.Bool.Decides.{nat_tests}
-use Rattle.std.proofs.lemmas.List.{length-append}
+use Rattle.std.proofs.lemmas.List.{append-nil, length-append}
 use Rattle.std.proofs.lemmas.Option.{same_Some}
 use Rattle.tp_model.specs.Words.{Scenario, Step, TxnId}
 use Rattle.tp_model.specs.Words.step
@@ -115,10 +115,6 @@ record AreDone (sc : Scenario) (m : Machine) (steps : List Step) : Type 0 where
   pub exist : Each (IsStepOf sc) steps
   pub steps_are : (after_steps sc m steps).state.steps ≡ m.state.steps ++ steps
 
-append_none : {A : Type 0} (xs : List A) → xs ++ [] ≡ xs
-append_none [] = refl
-append_none (x ∷ xs) = ap (λ ys. x ∷ ys) (append_none xs)
-
 append_one : {A : Type 0} (xs : List A) (x : A) (ys : List A) → (xs ++ x ∷ []) ++ ys ≡ xs ++ x ∷ ys
 append_one [] x ys = refl
 append_one (first ∷ xs) x ys = ap (λ zs. first ∷ zs) (append_one xs x ys)
@@ -136,12 +132,12 @@ one_more sc left m taken e d rest =
 
 by_next : (sc : Scenario) (left : ℕ) (m : Machine) (next : Option Step) → next_of sc m 0 ≡ next → AreSent m → ((k : Machine) → AreSent k → AreDone sc k (automatic_from sc left 0 k))
     → AreDone sc m (automatic_from sc (suc left) 0 m)
-by_next sc left m None e h rest = subst (AreDone sc m) (sym (automatic-none sc (suc left) m e)) (record { exist = tt; steps_are = sym (append_none m.state.steps) })
+by_next sc left m None e h rest = subst (AreDone sc m) (sym (automatic-none sc (suc left) m e)) (record { exist = tt; steps_are = sym (append-nil m.state.steps) })
 by_next sc left m (Some taken) e h rest =
     one_more sc left m taken e (next_done sc m (slice_get m.undelivered 0) taken h refl e) (rest (machine_after sc m taken) (sent_next sc m taken h))
 
 automatic_done : (sc : Scenario) (count : ℕ) (m : Machine) → AreSent m → AreDone sc m (automatic_from sc count 0 m)
-automatic_done sc zero m h = record { exist = tt; steps_are = sym (append_none m.state.steps) }
+automatic_done sc zero m h = record { exist = tt; steps_are = sym (append-nil m.state.steps) }
 automatic_done sc (suc left) m h = by_next sc left m (next_of sc m 0) refl h (λ k s. automatic_done sc left k s)
 
 -- ---- the whole run
@@ -154,7 +150,7 @@ append_steps sc m (taken ∷ first) more = append_steps sc (after_step sc m take
 pub final_after : (sc : Scenario) → final sc ≡ after sc (all_steps sc)
 final_after sc = append_steps sc (opening sc) sc.steps (automatic sc)
 
-listed_built : (sc : Scenario) → is_built sc ≡ true → listed sc ≡ opening sc
+pub listed_built : (sc : Scenario) → is_built sc ≡ true → listed sc ≡ opening sc
 listed_built sc built = ap (after sc) (steps_built sc built)
 
 -- all steps name what exists, and are the steps of the last machine

@@ -4,6 +4,9 @@ use Rattle.std.specs.List.{list_any}
 use Rattle.std.specs.Option.{option_map_or}
 use Rattle.std.proofs.Common.{Bool, IfSome, List, None, Option, Some, [], ap, arith, cond, false, is_some, length, map, not, option_and_then, option_map, refl, slice_get, subst, suc, sym, true, zero, ℕ, ◌+◌, ◌==◌, ◌||◌, ◌∙◌, ◌∷◌, ◌≡◌}
 use Rattle.std.proofs.lemmas.Option.{same_Some}
+use Rattle.std.proofs.lemmas.Bool.{or_left, or_right}
+use Rattle.std.proofs.lemmas.Map.Keys.{any_passes_from_place}
+use Rattle.tp_types.proofs.ListLemmas.{number_itself}
 use Rattle.tp_types.specs.Effect.{Effect, ignores, sends}
 use Rattle.tp_model.specs.Agreement.{has_item, has_item_at}
 use Rattle.tp_model.specs.Facts.{first_of, outcome_of}
@@ -27,7 +30,7 @@ use Rattle.tp_machine.specs.declared.coord.Phase.{Phase}
 use Rattle.tp_machine.specs.declared.coord.Round.{Round}
 use Rattle.tp_machine.specs.server.Row.{committed}
 use Rattle.tp_machine.proofs.walks.CoordinatorRows.{IsAck, IsYes, coordinator_by, submit_by}
-use Rattle.tp_machine.proofs.basics.Ids.{number_itself, same_server_is}
+use Rattle.tp_machine.proofs.basics.Ids.{same_server_is}
 use Rattle.tp_machine.proofs.basics.Logs.{appended, decided_with}
 use Rattle.tp_machine.proofs.basics.Lists.{by_cond, each_as, each_filter}
 
@@ -175,20 +178,9 @@ servers_at_have_items sc txn = found (slice_get sc.txns txn.0)
 
 -- ---- the server of a query
 
-or_first : (a b : Bool) → a ≡ true → (a || b) ≡ true
-or_first a b e = grind arith
-
-or_second : (a b : Bool) → b ≡ true → (a || b) ≡ true
-or_second a b e = grind arith
-
-member_passes : {A : Type 0} (test : A → Bool) (xs : List A) (n : ℕ) (x : A) → slice_get xs n ≡ Some x → test x ≡ true → list_any test xs ≡ true
-member_passes test [] n x e p = absurd (cc)
-member_passes test (y ∷ xs) zero x e p = or_first (test y) (list_any test xs) (ap test (same_Some y x e) ∙ p)
-member_passes test (y ∷ xs) (suc n) x e p = or_second (test y) (list_any test xs) (member_passes test xs n x e p)
-
 asked_among : (declared : Transaction) (number : ℕ) (asked : Query) (test : Query → Bool) → query_at declared number ≡ Some asked → test asked ≡ true → list_any test declared.queries ≡ true
 asked_among declared zero asked test e p = absurd (cc)
-asked_among declared (suc before) asked test e p = member_passes test declared.queries before asked e p
+asked_among declared (suc before) asked test e p = any_passes_from_place test declared.queries before asked e p
 
 item_there : (item : Option Item) (at : ServerId) → option_map (λ (i : Item). i.server) item ≡ Some at → option_map_or (λ (i : Item). i.server.0 == at.0) item false ≡ true
 item_there None at e = absurd (cc)
@@ -208,9 +200,9 @@ asked_has_item sc c number asked at e there = found (slice_get sc.txns c.txn.0) 
 all_awaited : (servers : List ServerId) → Each (λ (at : ServerId). is_awaited servers at ≡ true) servers
 all_awaited [] = tt
 all_awaited (first ∷ servers) = (
-  or_first (first.0 == first.0) (is_awaited servers first) (number_itself first.0),
+  or_left (first.0 == first.0) (is_awaited servers first) (number_itself first.0),
   each_as (λ (at : ServerId). is_awaited servers at ≡ true) (λ (at : ServerId). is_awaited (first ∷ servers) at ≡ true)
-      (λ at e. or_second (first.0 == at.0) (is_awaited servers at) e) servers (all_awaited servers),
+      (λ at e. or_right (first.0 == at.0) (is_awaited servers at) e) servers (all_awaited servers),
 )
 
 -- where all are awaited nothing is said
@@ -225,7 +217,7 @@ removed : (first : ServerId) (awaited left : List ServerId) (server at : ServerI
     → (is_awaited awaited at ≡ true → is_awaited left at ≡ false → at ≡ server) → (c || is_awaited awaited at) ≡ true → is_awaited (cond (not b) (first ∷ left) left) at ≡ false → at ≡ server
 removed first awaited left server at true true g k later e f = sym (same_server_is first at k) ∙ same_server_is first server g
 removed first awaited left server at true false g k later e f = later e f
-removed first awaited left server at false true g k later e f = let awaits = or_first (first.0 == at.0) (is_awaited left at) k in absurd (cc)
+removed first awaited left server at false true g k later e f = let awaits = or_left (first.0 == at.0) (is_awaited left at) k in absurd (cc)
 removed first awaited left server at false false g k later e f = later e (neither (first.0 == at.0) (is_awaited left at) f)
 
 -- a server that is awaited no more is the one that replied

@@ -3,8 +3,10 @@ use Rattle.std.specs.List.{cons_option, list_any}
 use Rattle.std.specs.Option.{option_map_or}
 use Rattle.std.proofs.Common.{Bool, IfSome, List, None, Option, Some, [], ap, arith, drop, false, flat_map, if◌then◌else◌, inl, is_some, length, option_and_then, option_map, refl, slice_get, slice_set, subst, sym, true, ℕ, ◌++◌, ◌+◌, ◌==◌, ◌∙◌, ◌∷◌, ◌≡◌, ◌≤◌}
 use Rattle.std.proofs.lemmas.Bool.{eqb-true}
-use Rattle.std.proofs.lemmas.List.{length-set}
+use Rattle.std.proofs.lemmas.List.{append-nil, length-set}
 use Rattle.std.proofs.lemmas.Option.{same_Some}
+use Rattle.std.proofs.lemmas.List.Elements.{filter_map-append}
+use Rattle.tp_types.proofs.ListLemmas.{number_itself}
 use Rattle.tp_types.specs.Effect.{Effect}
 use Rattle.tp_model.specs.Words.{Actor, Body, Decision, Fact, Letter, Outcome, Record, Scenario, ServerId, Settled, TxnId, What}
 use Rattle.tp_model.specs.Words.actor
@@ -25,12 +27,12 @@ use Rattle.tp_machine.specs.declared.actors.Actors.{Actors}
 use Rattle.tp_machine.specs.coord.State.{Coordinator}
 use Rattle.tp_machine.specs.Parts.{Part}
 use Rattle.tp_machine.specs.server.State.{Server}
-use Rattle.tp_machine.proofs.agreement.ServerActs.{begun_count, none_more, number_itself, server_exists, submitted_told}
+use Rattle.tp_machine.proofs.agreement.ServerActs.{begun_count, none_more, server_exists, submitted_told}
 use Rattle.tp_machine.proofs.agreement.Coordinator.{BodyAgrees, CoordinatorAgrees, CoordinatorLawful, DecisionRests, IsFirst, LetterAgrees, PhaseRests, RequestAgrees, SubmissionLawful, decided_begun}
 use Rattle.tp_machine.proofs.agreement.Logs.{DecidedAs, IsPrepared, IsServed, IsSettled, LogPrepared, LogsStay, WasSubmitted, decided_stays, once, prepared_open, settled_outcome, submitted_count, submitted_up}
 use Rattle.tp_machine.proofs.agreement.World.{Agrees, BodyRests, CoordinatorPartAgrees, CoordinatorUpAgrees, LetterRests, MoveAgrees, RequestMade, SettledRests, WhatFollows}
 use Rattle.tp_machine.proofs.basics.Servers.{among_servers}
-use Rattle.tp_machine.proofs.basics.Facts.{append_none, decided_what, decisions, filter_map_append, settled_what, settlements, submissions, submitted_what}
+use Rattle.tp_machine.proofs.basics.Facts.{decided_what, decisions, settled_what, settlements, submissions, submitted_what}
 use Rattle.tp_machine.proofs.basics.Ids.{same_txn_is}
 use Rattle.tp_machine.proofs.basics.Logs.{IsFresh, appended, decided_with, first_stays, gained, get_set, listed, listed_first, look_set}
 use Rattle.tp_machine.proofs.basics.Lists.{at_set, each_as}
@@ -159,7 +161,7 @@ decided_move : (sc : Scenario) (P : ServerId → Type 0) (coordinators : List (P
     → same_txn txn other ≡ b → slice_get coordinators txn.0 ≡ Some part → next.log ≡ log_with part.log append → IfSome append (IsFirst sc P txn part.log) → decisions other own ≡ []
     → listed (decided_at coordinators other.0) ++ decisions other (own ++ coordinator_facts append) ≡ listed (decided_at (slice_set coordinators txn.0 next) other.0)
 decided_move sc P coordinators txn other part next append own b same found grown h o =
-    ap (λ (xs : List Decision). listed (decided_at coordinators other.0) ++ xs) (filter_map_append (decided_what other) own (coordinator_facts append) ∙ ap (λ (xs : List Decision). xs ++ decisions other (coordinator_facts append)) o)
+    ap (λ (xs : List Decision). listed (decided_at coordinators other.0) ++ xs) (filter_map-append (decided_what other) own (coordinator_facts append) ∙ ap (λ (xs : List Decision). xs ++ decisions other (coordinator_facts append)) o)
     ∙ told b same
   where
     told : (c : Bool) → same_txn txn other ≡ c → listed (decided_at coordinators other.0) ++ decisions other (coordinator_facts append) ≡ listed (decided_at (slice_set coordinators txn.0 next) other.0)
@@ -170,7 +172,7 @@ decided_move sc P coordinators txn other part next append own b same found grown
         ∙ ap listed (sym (at_itself coordinators txn other part next found e ∙ (ap decided_in grown ∙ decided_with part.log append)))))
     told false e =
         ap (λ (xs : List Decision). listed (decided_at coordinators other.0) ++ xs) (decisions_elsewhere sc P txn other part.log append e h)
-        ∙ (append_none _ ∙ ap listed (sym (elsewhere coordinators txn other part next found e)))
+        ∙ (append-nil _ ∙ ap listed (sym (elsewhere coordinators txn other part next found e)))
 
 submitted_move : (coordinators : List (Part Coordinator)) (txn other : TxnId) (part next : Part Coordinator) (append : Option Record) (own : List What) (b : Bool)
     → same_txn txn other ≡ b → slice_get coordinators txn.0 ≡ Some part
@@ -178,7 +180,7 @@ submitted_move : (coordinators : List (Part Coordinator)) (txn other : TxnId) (p
     → submitted_count (slice_get coordinators other.0) + length (submissions other (own ++ coordinator_facts append)) ≡ submitted_count (slice_get (slice_set coordinators txn.0 next) other.0)
 submitted_move coordinators txn other part next append own b same found here apart =
     ap (λ (xs : List TxnId). submitted_count (slice_get coordinators other.0) + length xs)
-    (filter_map_append (submitted_what other) own (coordinator_facts append) ∙ (ap (λ (xs : List TxnId). submissions other own ++ xs) (facts_submissions append other) ∙ append_none (submissions other own)))
+    (filter_map-append (submitted_what other) own (coordinator_facts append) ∙ (ap (λ (xs : List TxnId). submissions other own ++ xs) (facts_submissions append other) ∙ append-nil (submissions other own)))
     ∙ counted b same
   where
     counted : (d : Bool) → same_txn txn other ≡ d → submitted_count (slice_get coordinators other.0) + length (submissions other own) ≡ submitted_count (slice_get (slice_set coordinators txn.0 next) other.0)
@@ -333,8 +335,8 @@ coordinator_acts_agrees sc w txn part now own append letters h found l =
           ∙ decided_move sc P old txn other part next append own (same_txn txn other) refl found refl l.fresh (l.undecided other);
       settled = λ at other. ap (λ (xs : List What). listed (settled_outcome w.actors.servers at other) ++ settlements at other xs) tells
           ∙ (ap (λ (xs : List Outcome). listed (settled_outcome w.actors.servers at other) ++ xs)
-          (filter_map_append (settled_what at other) own (coordinator_facts append) ∙ (ap (λ (xs : List Outcome). settlements at other own ++ xs) (facts_settlements append at other) ∙ (append_none (settlements at other own) ∙ l.unsettled at other)))
-          ∙ append_none _);
+          (filter_map-append (settled_what at other) own (coordinator_facts append) ∙ (ap (λ (xs : List Outcome). settlements at other own ++ xs) (facts_settlements append at other) ∙ (append-nil (settlements at other own) ∙ l.unsettled at other)))
+          ∙ append-nil _);
     }
 
 -- ---- receipts and submissions

@@ -3,6 +3,10 @@ use Rattle.std.specs.List.{count_by, list_any}
 use Rattle.std.proofs.Common.{Bool, List, None, Option, Some, [], add-zero, ap, arith, cond, false, length, not, option_and_then, option_map, refl, slice_get, subst, suc, sym, take, true, zero, zero-add, ℕ, ◌&&◌, ◌+◌, ◌||◌, ◌∙◌, ◌∷◌, ◌≡◌, ◌≤◌}
 use Rattle.std.proofs.lemmas.List.Sums.{sum_by-cons}
 use Rattle.std.proofs.lemmas.Option.{same_Some}
+use Rattle.std.proofs.lemmas.Map.Keys.{any_passes_from_place}
+use Rattle.std.proofs.lemmas.Bool.{and_from}
+use Rattle.tp_machine.proofs.agreement.CoordinatorActs.{up_most}
+use Rattle.tp_types.proofs.ListLemmas.{number_itself, three_from}
 use Rattle.tp_model.specs.Words.{Decision, Fact, Outcome, Scenario, ServerId, Settled, TxnId, What}
 use Rattle.tp_model.specs.Words.outcome
 use Rattle.tp_model.specs.Words.what
@@ -16,7 +20,6 @@ use Rattle.tp_machine.specs.coord.Row.{is_begun}
 use Rattle.tp_machine.specs.coord.State.{Coordinator}
 use Rattle.tp_machine.specs.Parts.{Part}
 use Rattle.tp_machine.specs.server.State.{Server}
-use Rattle.tp_machine.proofs.basics.Ids.{number_itself}
 use Rattle.tp_machine.proofs.agreement.Logs.{DecidedAs, once, outcome_settled, settled_outcome, submitted_count, submitted_up}
 use Rattle.tp_machine.proofs.agreement.World.{Agrees, FactFollows, Follows, SettledRests, WhatFollows}
 use Rattle.tp_machine.proofs.basics.Facts.{any_decided, any_settled, count_decisions, count_settlements, count_submissions, decisions, said, settlements}
@@ -47,31 +50,11 @@ member_counted test (y ∷ xs) (suc n) x e p =
     let whole : count_by test (y ∷ xs) ≡ cond (test y) 1 0 + count_by test xs = sum_by-cons (λ z. cond (test z) 1 0) y xs in
     omega (arith, whole, later)
 
-either_true : (b c : Bool) → b ≡ true → (b || c) ≡ true
-either_true b c e = grind arith
-
-later_true : (b c : Bool) → c ≡ true → (b || c) ≡ true
-later_true b c e = grind arith
-
--- a member that passes is one
-pub member_any : {A : Type 0} (test : A → Bool) (xs : List A) (n : ℕ) (x : A) → slice_get xs n ≡ Some x → test x ≡ true → list_any test xs ≡ true
-member_any test [] n x e p = absurd (cc)
-member_any test (y ∷ xs) zero x e p = either_true (test y) (list_any test xs) (ap test (same_Some y x e) ∙ p)
-member_any test (y ∷ xs) (suc n) x e p = later_true (test y) (list_any test xs) (member_any test xs n x e p)
-
 -- ---- at most one
-
-once_at_most : (b : Bool) → once b ≤ 1
-once_at_most false = omega arith
-once_at_most true = omega arith
-
-up_at_most : (up : Option Coordinator) → submitted_up up ≤ 1
-up_at_most None = omega arith
-up_at_most (Some c) = once_at_most (is_begun c.phase)
 
 submitted_at_most : (found : Option (Part Coordinator)) → submitted_count found ≤ 1
 submitted_at_most None = omega arith
-submitted_at_most (Some part) = up_at_most part.up
+submitted_at_most (Some part) = up_most part.up
 
 listed_at_most : {A : Type 0} (found : Option A) → length (listed found) ≤ 1
 listed_at_most None = omega arith
@@ -93,12 +76,6 @@ none_ahead test (y ∷ facts) (suc n) fact e p most =
 first_one : (test : Fact → Bool) (facts : List Fact) (n : ℕ) (fact : Fact) → slice_get facts n ≡ Some fact → test fact ≡ true → count_by test facts ≤ 1 → not (list_any test (take n facts)) ≡ true
 first_one test facts n fact e p most = ap not (none_ahead test facts n fact e p most)
 
-both : (a b : Bool) → a ≡ true → b ≡ true → (a && b) ≡ true
-both a b e f = grind arith
-
-three : (a b c : Bool) → a ≡ true → b ≡ true → c ≡ true → (a && b && c) ≡ true
-three a b c e f g = grind arith
-
 -- ---- settlements
 
 outcome_itself : (o : Outcome) → same_outcome o o ≡ true
@@ -114,7 +91,7 @@ outcome_is outcome.Abort outcome.Commit e = absurd (cc)
 one_passes : (b : Bool) → (b || false) ≡ true → b ≡ true
 one_passes b e = grind arith
 
-listed_passes : (found : Option Outcome) (ended : Outcome) → list_any (λ (o : Outcome). same_outcome o ended) (listed found) ≡ true → found ≡ Some ended
+pub listed_passes : (found : Option Outcome) (ended : Outcome) → list_any (λ (o : Outcome). same_outcome o ended) (listed found) ≡ true → found ≡ Some ended
 listed_passes None ended e = absurd (cc)
 listed_passes (Some o) ended e = ap Some (outcome_is o ended (one_passes (same_outcome o ended) e))
 
@@ -158,10 +135,10 @@ follows_from sc w place at txn outcome.Abort h e f = ap not (no_commit sc w txn 
 -- ---- every fact
 
 settled_itself : (at : ServerId) (txn : TxnId) → (same_server at at && same_txn txn txn) ≡ true
-settled_itself at txn = both (same_server at at) (same_txn txn txn) (number_itself at.0) (number_itself txn.0)
+settled_itself at txn = and_from (same_server at at) (same_txn txn txn) (number_itself at.0) (number_itself txn.0)
 
 settled_so : (at : ServerId) (txn : TxnId) (ended : Outcome) → (same_server at at && same_txn txn txn && same_outcome ended ended) ≡ true
-settled_so at txn ended = three (same_server at at) (same_txn txn txn) (same_outcome ended ended) (number_itself at.0) (number_itself txn.0) (outcome_itself ended)
+settled_so at txn ended = three_from (same_server at at) (same_txn txn txn) (same_outcome ended ended) (number_itself at.0) (number_itself txn.0) (outcome_itself ended)
 
 what_keeps : (sc : Scenario) (w : State) (n place : ℕ) (w_is : What) → Agrees sc w → slice_get w.facts n ≡ Some (record { place = place; what = w_is }) → WhatFollows sc (before place w.facts) w_is
     → keeps_agreement_what sc w.facts (take n w.facts) place w_is ≡ true
@@ -169,21 +146,21 @@ what_keeps sc w n place (what.Submitted txn) h e f =
     first_one (is_submission txn) w.facts n (record { place = place; what = what.Submitted txn }) e (number_itself txn.0)
     (let most = submitted_at_most (slice_get w.actors.coordinators txn.0) in omega (arith, count_submissions txn w.facts, h.submitted txn, most))
 what_keeps sc w n place (what.Decided txn decided) h e f =
-    both _ _
+    and_from _ _
     (first_one (is_decision txn) w.facts n (record { place = place; what = what.Decided txn decided }) e (number_itself txn.0)
     (let most = listed_at_most (decided_at w.actors.coordinators txn.0) in
     let same : length (decisions txn (said w.facts)) ≡ length (listed (decided_at w.actors.coordinators txn.0)) = ap length (h.decided txn) in
     omega (arith, count_decisions txn w.facts, same, most)))
     f
 what_keeps sc w n place (what.Settled at txn ended) h e f =
-    three _ _ _
+    three_from _ _ _
     (first_one (is_settlement at txn) w.facts n (record { place = place; what = what.Settled at txn ended }) e (settled_itself at txn)
     (let most = listed_at_most (settled_outcome w.actors.servers at txn) in
     let same : length (settlements at txn (said w.facts)) ≡ length (listed (settled_outcome w.actors.servers at txn)) = ap length (h.settled at txn) in
     omega (arith, count_settlements at txn w.facts, same, most)))
-    (both _ _ f.submitted f.item)
+    (and_from _ _ f.submitted f.item)
     (follows_from sc w place at txn ended h
-    (member_any (is_settled_as at txn ended) w.facts n (record { place = place; what = what.Settled at txn ended }) e (settled_so at txn ended)) f.follows)
+    (any_passes_from_place (is_settled_as at txn ended) w.facts n (record { place = place; what = what.Settled at txn ended }) e (settled_so at txn ended)) f.follows)
 what_keeps sc w n place _ h e f = refl
 
 -- facts of which each keeps agreement agree
@@ -191,7 +168,7 @@ agree_each : (sc : Scenario) (facts : List Fact) (number : ℕ) (later : List Fa
     → ((n : ℕ) (fact : Fact) → slice_get later n ≡ Some fact → keeps_agreement sc facts (take (number + n) facts) fact ≡ true) → agree_from sc facts number later ≡ true
 agree_each sc facts number [] h = refl
 agree_each sc facts number (fact ∷ later) h =
-    both _ _ (subst (λ (k : ℕ). keeps_agreement sc facts (take k facts) fact ≡ true) (add-zero number) (h 0 fact refl))
+    and_from _ _ (subst (λ (k : ℕ). keeps_agreement sc facts (take k facts) fact ≡ true) (add-zero number) (h 0 fact refl))
     (agree_each sc facts (number + 1) later
     (λ n other e. let k : number + suc n ≡ number + 1 + n = omega arith in subst (λ (m : ℕ). keeps_agreement sc facts (take m facts) other ≡ true) k (h (suc n) other e)))
 

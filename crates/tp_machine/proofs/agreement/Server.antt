@@ -5,6 +5,7 @@ use Rattle.std.specs.Prelude.{if◌then◌else◌}
 use Rattle.std.proofs.Common.{Bool, IfSome, List, None, Option, Some, [], ap, false, is_some, map, option_and_then, option_map, refl, slice_get, slice_set, subst, suc, sym, true, zero, ℕ, ◌==◌, ◌∙◌, ◌∷◌, ◌≡◌}
 use Rattle.std.proofs.lemmas.Bool.{eqb-true}
 use Rattle.tp_types.specs.Effect.{Effect, ignores, sends}
+use Rattle.tp_types.proofs.ListLemmas.{number_itself}
 use Rattle.tp_types.specs.Table.{flattened, is_unset}
 use Rattle.tp_model.specs.Facts.{first_of}
 use Rattle.tp_model.specs.Ids.{same_txn}
@@ -22,7 +23,7 @@ use Rattle.tp_machine.specs.declared.server.Entry.{Entry}
 use Rattle.tp_machine.specs.server.Row.{ack_letter, answers, begins, entry_at, first_entry, is_open, prepared_record, reply, restarted_reply, server_row, settled_as, settles, verdict_on, votes}
 use Rattle.tp_machine.specs.server.State.{Server}
 use Rattle.tp_machine.proofs.agreement.Logs.{LogPrepared}
-use Rattle.tp_machine.proofs.basics.Ids.{number_itself, same_txn_is}
+use Rattle.tp_machine.proofs.basics.Ids.{same_txn_is}
 use Rattle.tp_machine.proofs.basics.Logs.{first_none, get_set, prepared_with, settled_with}
 use Rattle.tp_machine.proofs.serial_data.Lists.{set_elsewhere}
 use Rattle.tp_machine.proofs.walks.ServerRows.{server_by}

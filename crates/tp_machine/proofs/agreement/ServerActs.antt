@@ -1,11 +1,13 @@
 -- Agreement, actor by actor: what an act of a server or a coordinator leaves agrees.
-pub use Rattle.tp_machine.proofs.basics.Ids.{number_itself, same_txn_is}
+pub use Rattle.tp_machine.proofs.basics.Ids.{same_txn_is}
 use Rattle.std.specs.List.{cons_option, list_any}
 use Rattle.std.specs.Option.{option_map_or}
 use Rattle.std.proofs.Common.{Bool, IfSome, List, None, Option, Some, [], ap, arith, drop, false, flat_map, if◌then◌else◌, inl, inr, is_some, length, option_and_then, option_map, refl, slice_get, slice_set, subst, sym, true, ℕ, ⊎_elim, ◌&&◌, ◌++◌, ◌+◌, ◌==◌, ◌||◌, ◌∙◌, ◌∷◌, ◌≡◌, ◌⊎◌}
 use Rattle.std.proofs.lemmas.Bool.{eqb-true}
-use Rattle.std.proofs.lemmas.List.{length-set}
+use Rattle.std.proofs.lemmas.List.{append-nil, length-set}
 use Rattle.std.proofs.lemmas.Option.{same_Some, slice_get_within}
+use Rattle.std.proofs.lemmas.List.Elements.{filter_map-append}
+use Rattle.tp_types.proofs.ListLemmas.{number_itself}
 use Rattle.tp_model.specs.Words.{Actor, Body, Decision, Fact, Letter, No, Outcome, Record, Scenario, ServerId, Settled, TxnId, Vote, What}
 use Rattle.tp_model.specs.Words.actor
 use Rattle.tp_model.specs.Words.body
@@ -32,7 +34,7 @@ use Rattle.tp_machine.proofs.agreement.Logs.{DecidedAs, IsAsked, IsPrepared, IsS
 use Rattle.tp_machine.proofs.agreement.Server.{LetterKept, RecordRests, ReplyKept, ServerAgrees, SettlementRests, VoteKept}
 use Rattle.tp_machine.proofs.agreement.World.{Agrees, BodyRests, CoordinatorPartAgrees, CoordinatorUpAgrees, CoordinatorsAgree, Follows, LetterRests, MoveAgrees, ServerPartAgrees, SettledRests, VoteRests, WhatFollows}
 use Rattle.tp_machine.proofs.basics.Servers.{among_servers}
-use Rattle.tp_machine.proofs.basics.Facts.{any_decided, any_submitted, append_none, decided_what, decisions, filter_map_append, said, settled_what, settlements, submissions, submitted_what}
+use Rattle.tp_machine.proofs.basics.Facts.{any_decided, any_submitted, decided_what, decisions, said, settled_what, settlements, submissions, submitted_what}
 use Rattle.tp_machine.proofs.basics.Logs.{IsFresh, appended, first_stays, gained, get_set, has_voted_with, listed, listed_first, look_set, settled_with}
 use Rattle.tp_machine.proofs.basics.Lists.{at_set, each_append, each_as}
 
@@ -132,8 +134,8 @@ unmoved_agrees sc w happened letters h o r =
       stays = logs_same w.actors;
       happened = o.follows;
       submitted = λ txn. ap (λ (xs : List TxnId). submitted_count (slice_get w.actors.coordinators txn.0) + length xs) (o.no_submission txn) ∙ none_more _;
-      decided = λ txn. ap (λ (xs : List Decision). listed (decided_at w.actors.coordinators txn.0) ++ xs) (o.no_decision txn) ∙ append_none _;
-      settled = λ at txn. ap (λ (xs : List Outcome). listed (settled_outcome w.actors.servers at txn) ++ xs) (o.no_settlement at txn) ∙ append_none _;
+      decided = λ txn. ap (λ (xs : List Decision). listed (decided_at w.actors.coordinators txn.0) ++ xs) (o.no_decision txn) ∙ append-nil _;
+      settled = λ at txn. ap (λ (xs : List Outcome). listed (settled_outcome w.actors.servers at txn) ++ xs) (o.no_settlement at txn) ∙ append-nil _;
     }
 
 -- ---- a server acts
@@ -218,7 +220,7 @@ settled_move V M servers at other part next append txn false apart found grown h
     let new : settled_at (slice_set servers at.0 next) other.0 txn ≡ settled_at servers other.0 txn =
     look_set (settled_by txn) servers at.0 other.0 part next found ∙ ap (λ (c : Bool). if c then settled_by txn next else settled_at servers other.0 txn) apart in
     ap (λ (xs : List Outcome). listed (settled_outcome servers other txn) ++ xs) (settlements_elsewhere at other append txn apart)
-    ∙ (append_none _ ∙ ap (λ (x : Option Settled). listed (option_map outcome_settled x)) (sym new))
+    ∙ (append-nil _ ∙ ap (λ (x : Option Settled). listed (option_map outcome_settled x)) (sym new))
 
 -- ---- what a settlement rests on
 
@@ -464,14 +466,14 @@ server_acts_agrees sc w at part now own append letters h found l =
           (each_append (WhatFollows sc w.facts) own (server_facts at append) l.own_says.follows (facts_follow sc w at part.log append h l.rests));
       submitted = λ txn. ap (λ (xs : List What). submitted_count (slice_get w.actors.coordinators txn.0) + length (submissions txn xs)) tells
           ∙ (ap (λ (xs : List TxnId). submitted_count (slice_get w.actors.coordinators txn.0) + length xs)
-          (filter_map_append (submitted_what txn) own (server_facts at append) ∙ (ap (λ (xs : List TxnId). xs ++ submissions txn (server_facts at append)) (l.own_says.no_submission txn) ∙ server_submissions at append txn))
+          (filter_map-append (submitted_what txn) own (server_facts at append) ∙ (ap (λ (xs : List TxnId). xs ++ submissions txn (server_facts at append)) (l.own_says.no_submission txn) ∙ server_submissions at append txn))
           ∙ none_more _);
       decided = λ txn. ap (λ (xs : List What). listed (decided_at w.actors.coordinators txn.0) ++ decisions txn xs) tells
           ∙ (ap (λ (xs : List Decision). listed (decided_at w.actors.coordinators txn.0) ++ xs)
-          (filter_map_append (decided_what txn) own (server_facts at append) ∙ (ap (λ (xs : List Decision). xs ++ decisions txn (server_facts at append)) (l.own_says.no_decision txn) ∙ server_decisions at append txn))
-          ∙ append_none _);
+          (filter_map-append (decided_what txn) own (server_facts at append) ∙ (ap (λ (xs : List Decision). xs ++ decisions txn (server_facts at append)) (l.own_says.no_decision txn) ∙ server_decisions at append txn))
+          ∙ append-nil _);
       settled = λ other txn. ap (λ (xs : List What). listed (settled_outcome w.actors.servers other txn) ++ settlements other txn xs) tells
           ∙ (ap (λ (xs : List Outcome). listed (settled_outcome w.actors.servers other txn) ++ xs)
-          (filter_map_append (settled_what other txn) own (server_facts at append) ∙ ap (λ (xs : List Outcome). xs ++ settlements other txn (server_facts at append)) (l.own_says.no_settlement other txn))
+          (filter_map-append (settled_what other txn) own (server_facts at append) ∙ ap (λ (xs : List Outcome). xs ++ settlements other txn (server_facts at append)) (l.own_says.no_settlement other txn))
           ∙ settled_move V M w.actors.servers at other part next append txn (at.0 == other.0) refl found refl l.rests);
     }

@@ -1,6 +1,7 @@
 -- Agreement, step by step: it holds before the first step, each step keeps it, and so it holds after every list of steps.
 use Rattle.std.specs.List.{range_with_len}
 use Rattle.std.proofs.Common.{IfSome, List, None, Option, Some, [], ap, arith, false, length, map, option_and_then, option_map, refl, replicate, slice_get, subst, suc, sym, true, zero, ℕ, ◌+◌, ◌∙◌, ◌∷◌, ◌≡◌}
+use Rattle.std.proofs.lemmas.List.FromFn.{length-map-range_with_len}
 use Rattle.tp_types.specs.Table.{flattened}
 use Rattle.tp_model.specs.Built.{is_built}
 use Rattle.tp_model.specs.Words.{Actor, Body, CredId, Decision, Mail, Scenario, ServerId, Settled, Step, TxnId, Vote, What}
@@ -217,10 +218,6 @@ agrees_next sc m taken built exists allowed sound h =
 
 -- ---- before the first step
 
-pub made_count : {A : Type 0} (f : ℕ → A) (low count : ℕ) → length (map f (range_with_len low count)) ≡ count
-made_count f low zero = refl
-made_count f low (suc count) = let later = made_count f (low + 1) count in omega (arith, later)
-
 unset_at : {A : Type 0} (count n : ℕ) → flattened (slice_get (replicate {A = Option A} count None) n) ≡ None
 unset_at zero n = refl
 unset_at (suc count) zero = refl
@@ -267,8 +264,8 @@ agrees_opening sc =
     }) n part e in
     record {
       past = tt;
-      coordinator_count = made_count (λ (n : ℕ). opened_part (coord.idle sc (record { 0 = n }))) 0 (length sc.txns);
-      server_count = made_count (λ (n : ℕ). opened_part (server.opening sc (record { 0 = n }))) 0 (length sc.servers);
+      coordinator_count = length-map-range_with_len (λ (n : ℕ). opened_part (coord.idle sc (record { 0 = n }))) 0 (length sc.txns);
+      server_count = length-map-range_with_len (λ (n : ℕ). opened_part (server.opening sc (record { 0 = n }))) 0 (length sc.servers);
       coordinators = λ n part e. record {
         state = (idle n part e).state (record { 0 = n });
         served = subst (DecidedServed sc servers (record { 0 = n })) (sym (idle n part e).empty) tt;

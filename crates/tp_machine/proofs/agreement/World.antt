@@ -1,7 +1,8 @@
 -- Agreement over every list of steps: what logs, mails and facts say of the end of a transaction agrees.
 use Rattle.std.specs.List.{filter_map, list_any}
 use Rattle.std.proofs.Common.{IfSome, List, None, Option, Some, [], ap, arith, length, refl, slice_get, subst, suc, sym, true, zero, ℕ, ◌++◌, ◌+◌, ◌<◌, ◌∙◌, ◌∷◌, ◌≡◌}
-use Rattle.std.proofs.lemmas.List.{length-append}
+use Rattle.std.proofs.lemmas.List.{length-append, length_push}
+use Rattle.std.proofs.lemmas.List.Elements.{filter_map-append}
 use Rattle.tp_model.specs.Words.{Actor, Body, Decision, Fact, Letter, Mail, Outcome, Record, Scenario, ServerId, Settled, Step, TxnId, Vote, What}
 use Rattle.tp_model.specs.Words.actor
 use Rattle.tp_model.specs.Words.body
@@ -21,7 +22,7 @@ use Rattle.tp_machine.specs.server.State.{Server}
 use Rattle.tp_machine.proofs.agreement.Coordinator.{CoordinatorAgrees, DecisionRests, PhaseRests}
 use Rattle.tp_machine.proofs.agreement.Logs.{DecidedAs, HasVoted, IsAsked, IsPrepared, IsServed, IsSettled, LogsStay, decided_stays, settled_outcome, settled_stays, submitted_count, undecided_before}
 use Rattle.tp_machine.proofs.agreement.Server.{ServerAgrees}
-use Rattle.tp_machine.proofs.basics.Facts.{ArePast, Grows, before_past, decided_what, decisions, filter_map_append, grows_with_facts, new_facts_past, past_as, said, said_with_facts, settled_what, settlements, submissions, submitted_what}
+use Rattle.tp_machine.proofs.basics.Facts.{ArePast, Grows, before_past, decided_what, decisions, grows_with_facts, new_facts_past, past_as, said, said_with_facts, settled_what, settlements, submissions, submitted_what}
 use Rattle.tp_machine.proofs.basics.Logs.{listed}
 use Rattle.tp_machine.proofs.basics.Lists.{each_append}
 
@@ -208,14 +209,10 @@ new_facts_follow sc earlier facts place [] e h = tt
 new_facts_follow sc earlier facts place (w ∷ happened) e h =
     (subst (λ (xs : List Fact). WhatFollows sc xs w) (sym e) h.0, new_facts_follow sc earlier facts place happened e h.1)
 
-pub steps_more : (steps : List Step) (taken : Step) → length (steps ++ taken ∷ []) ≡ length steps + 1
-steps_more [] taken = refl
-steps_more (first ∷ steps) taken = let later = steps_more steps taken in omega (arith, later)
-
 -- what is found of facts with those of a step
 pub found_with_facts : {B : Type 0} (h : What → Option B) (facts : List Fact) (place : ℕ) (happened : List What)
     → filter_map h (said (facts ++ facts_of place happened)) ≡ filter_map h (said facts) ++ filter_map h happened
-found_with_facts h facts place happened = ap (filter_map h) (said_with_facts facts place happened) ∙ filter_map_append h (said facts) happened
+found_with_facts h facts place happened = ap (filter_map h) (said_with_facts facts place happened) ∙ filter_map-append h (said facts) happened
 
 -- ---- a step
 
@@ -239,7 +236,7 @@ number_is_place number (first ∷ mails) (suc n) mail h e = let later = number_i
 pub state_after_agrees : (sc : Scenario) (w : State) (taken : Step) (move : Move) → Agrees sc w → MoveAgrees sc w move → Agrees sc (state_after w taken move)
 state_after_agrees sc w taken move h t =
     let place = length w.steps in
-    let next : length (w.steps ++ taken ∷ []) ≡ place + 1 = steps_more w.steps taken in
+    let next : length (w.steps ++ taken ∷ []) ≡ place + 1 = length_push w.steps taken in
     let now = w.facts ++ facts_of place move.happened in
     let g : Grows w.facts now place = grows_with_facts w.facts place move.happened in
     let all : before place now ≡ w.facts = g.same place (omega arith) ∙ before_past place w.facts h.past in

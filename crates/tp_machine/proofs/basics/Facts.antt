@@ -4,6 +4,8 @@ use Rattle.std.specs.List.{cons_option, count_by, filter_map, list_all, list_any
 use Rattle.std.specs.Option.{option_map_or}
 use Rattle.std.proofs.lemmas.Bool.Decides.{nat_tests}
 use Rattle.std.proofs.lemmas.List.Sums.{sum_by-append, sum_by-cons}
+use Rattle.std.proofs.lemmas.List.{append-nil}
+use Rattle.std.proofs.lemmas.List.Elements.{filter-append}
 use Rattle.tp_model.specs.Words.{CommitRecord, Decision, Fact, Outcome, ServerId, TxnId, What}
 use Rattle.tp_model.specs.Words.what
 use Rattle.tp_model.specs.Facts.{before, commit_in_what, commit_of, first_of, is_decided_as, is_decided_what, is_decision, is_decision_what, is_earlier, is_settled_as, is_settled_what, is_settlement, is_settlement_what, is_submission, is_submission_what, outcome_of, record_of, same_outcome}
@@ -13,38 +15,14 @@ use Rattle.tp_machine.specs.Sound.{Each}
 
 -- ---- lists
 
-pub any_append : {A : Type 0} (test : A → Bool) (xs ys : List A) → list_any test (xs ++ ys) ≡ (list_any test xs || list_any test ys)
-any_append test [] ys = refl
-any_append test (x ∷ xs) ys = let later = any_append test xs ys in grind arith
-
 pub count_append : {A : Type 0} (test : A → Bool) (xs ys : List A) → count_by test (xs ++ ys) ≡ count_by test xs + count_by test ys
 count_append test xs ys = sum_by-append (λ x. cond (test x) 1 0) xs ys
-
-consed : {B : Type 0} (us vs ws : List B) (found : Option B) → us ≡ vs ++ ws → cons_option found us ≡ cons_option found vs ++ ws
-consed us vs ws None e = e
-consed us vs ws (Some x) e = ap (λ zs. x ∷ zs) e
-
-pub filter_map_append : {A : Type 0} {B : Type 0} (h : A → Option B) (xs ys : List A) → filter_map h (xs ++ ys) ≡ filter_map h xs ++ filter_map h ys
-filter_map_append h [] ys = refl
-filter_map_append h (x ∷ xs) ys = consed _ _ _ (h x) (filter_map_append h xs ys)
-
-pub append_none : {A : Type 0} (xs : List A) → xs ++ [] ≡ xs
-append_none [] = refl
-append_none (x ∷ xs) = ap (λ ys. x ∷ ys) (append_none xs)
 
 kept_whole : {A : Type 0} (test : A → Bool) (x : A) (xs : List A) → test x ≡ true → cond (test x) (x ∷ xs) xs ≡ x ∷ xs
 kept_whole test x xs e = ap (λ (b : Bool). cond b (x ∷ xs) xs) e
 
 kept_not : {A : Type 0} (test : A → Bool) (x : A) (xs : List A) → test x ≡ false → cond (test x) (x ∷ xs) xs ≡ xs
 kept_not test x xs e = ap (λ (b : Bool). cond b (x ∷ xs) xs) e
-
-filtered : {A : Type 0} (us vs ws : List A) (b : Bool) (x : A) → us ≡ vs ++ ws → cond b (x ∷ us) us ≡ cond b (x ∷ vs) vs ++ ws
-filtered us vs ws true x e = ap (λ zs. x ∷ zs) e
-filtered us vs ws false x e = e
-
-pub filter_append : {A : Type 0} (test : A → Bool) (xs ys : List A) → filter test (xs ++ ys) ≡ filter test xs ++ filter test ys
-filter_append test [] ys = refl
-filter_append test (x ∷ xs) ys = filtered _ _ _ (test x) x (filter_append test xs ys)
 
 -- a filter that all members pass, and one that none passes
 pub filter_all : {A : Type 0} (P : A → Type 0) (test : A → Bool) → ((x : A) → P x → test x ≡ true) → (xs : List A) → Each P xs → filter test xs ≡ xs
@@ -81,7 +59,7 @@ ArePast place facts = Each (λ (fact : Fact). fact.place < place) facts
 abbrev pub AreLater : ℕ → List Fact → Type 0
 AreLater place facts = Each (λ (fact : Fact). place ≤ fact.place) facts
 
-earlier_passes : (place : ℕ) (fact : Fact) → fact.place < place → is_earlier place fact ≡ true
+pub earlier_passes : (place : ℕ) (fact : Fact) → fact.place < place → is_earlier place fact ≡ true
 earlier_passes place fact e = grind (arith, nat_tests)
 
 later_fails : (place : ℕ) (fact : Fact) → place ≤ fact.place → is_earlier place fact ≡ false
@@ -102,9 +80,9 @@ before_past place facts h = filter_all (λ (fact : Fact). fact.place < place) (i
 -- facts of later places change nothing before
 pub before_later : (place : ℕ) (facts more : List Fact) → AreLater place more → before place (facts ++ more) ≡ before place facts
 before_later place facts more h =
-    filter_append (is_earlier place) facts more
+    filter-append (is_earlier place) facts more
     ∙ (ap (λ (xs : List Fact). before place facts ++ xs) (filter_none (λ (fact : Fact). place ≤ fact.place) (is_earlier place) (later_fails place) more h)
-    ∙ append_none (before place facts))
+    ∙ append-nil (before place facts))
 
 -- what a step notes is at its place
 pub new_facts_later : (place : ℕ) (happened : List What) → AreLater place (facts_of place happened)

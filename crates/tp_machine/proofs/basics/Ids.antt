@@ -5,9 +5,6 @@ use Rattle.std.proofs.lemmas.Bool.{eqb-true}
 use Rattle.tp_model.specs.Words.{ServerId, TxnId}
 use Rattle.tp_model.specs.Ids.{same_txn}
 
-pub number_itself : (n : ℕ) → (n == n) ≡ true
-number_itself n = grind (arith, nat_tests)
-
 abbrev pub txn_number : ℕ → TxnId
 txn_number n = record { 0 = n }
 

@@ -3,16 +3,20 @@ use Rattle.std.specs.Option.{option_map_or}
 use Rattle.std.proofs.Common.{Bool, IfSome, List, None, Option, Some, [], ap, arith, drop, false, flat_map, if◌then◌else◌, is_some, length, option_and_then, refl, slice_get, slice_set, subst, suc, sym, true, zero, ℕ, ◌++◌, ◌==◌, ◌∙◌, ◌∷◌, ◌≡◌}
 use Rattle.std.proofs.lemmas.Bool.Decides.{nat_tests}
 use Rattle.std.proofs.lemmas.Option.{same_Some}
+use Rattle.std.proofs.lemmas.List.{append-nil}
 use Rattle.tp_model.specs.Facts.{first_of}
 use Rattle.tp_model.specs.Ids.{same_txn}
 use Rattle.tp_model.specs.Words.{Prepared, Record, Settled, TxnId, What}
 use Rattle.tp_model.specs.Words.log
 use Rattle.tp_machine.specs.Logs.{decided_in, decision_in, has_voted, is_prepared_or_settled, preparation_in, prepared_in, settled_in, settlement_in, voted_in, while_unsettled}
 use Rattle.tp_machine.specs.Machine.{log_with}
-use Rattle.tp_machine.proofs.basics.Facts.{append_none}
 use Rattle.tp_machine.proofs.basics.Ids.{same_txn_is}
 
 -- ---- the first of two
+
+pub later_some : {A : Type 0} (x y : Option A) → is_some y ≡ true → is_some (first_of x y) ≡ true
+later_some None y e = e
+later_some (Some found) y e = refl
 
 pub first_none : {A : Type 0} (x : Option A) → first_of x None ≡ x
 first_none None = refl
@@ -152,7 +156,7 @@ drop_front (first ∷ kept) more = drop_front kept more
 -- the facts of the records that a log gained are those of the record that was appended
 pub gained : (fact : Record → List What) (kept : List Record) (append : Option Record) → flat_map fact (drop (length kept) (log_with kept append)) ≡ option_map_or fact append []
 gained fact kept None = ap (flat_map fact) (drop_kept kept)
-gained fact kept (Some forced) = ap (flat_map fact) (drop_front kept (forced ∷ [])) ∙ append_none (fact forced)
+gained fact kept (Some forced) = ap (flat_map fact) (drop_front kept (forced ∷ [])) ∙ append-nil (fact forced)
 
 -- ---- one member changes
 

@@ -2,7 +2,7 @@
 use Rattle.std.specs.List.{list_any}
 use Rattle.std.specs.Option.{option_map_or}
 use Rattle.std.proofs.Common.{Bool, List, None, Option, Some, [], ap, arith, false, not, option_and_then, option_map, refl, slice_get, subst, suc, sym, take, true, zero, ℕ, ◌+◌, ◌-◌, ◌==◌, ◌||◌, ◌∙◌, ◌∷◌, ◌≡◌}
-use Rattle.std.proofs.lemmas.Bool.{and_parts}
+use Rattle.std.proofs.lemmas.Bool.{and_parts, eqb-true}
 use Rattle.std.proofs.lemmas.List.Folds.{list_any_more}
 use Rattle.std.proofs.lemmas.Option.{get_or_from_slice_get, same_Some, slice_get_within}
 use Rattle.tp_model.specs.Agreement.{has_item, has_item_at}
@@ -13,7 +13,6 @@ use Rattle.tp_machine.specs.coord.Row.{awaits_query, is_plain, server_of}
 use Rattle.tp_machine.specs.coord.State.{Coordinator}
 use Rattle.tp_machine.specs.declared.coord.Phase.TheVariants as phase
 use Rattle.tp_machine.specs.declared.coord.Phase.{Phase}
-use Rattle.tp_machine.proofs.ids.Built.{number_is}
 
 -- a coordinator that is not ending has not decided
 abbrev pub is_undecided : Phase → Bool
@@ -49,7 +48,7 @@ is_first_at sc at txn number = not (list_any (is_at_server sc at.0) (take (numbe
 
 -- the query that is awaited is the one that the answer says
 pub awaits_is : (c : Coordinator) (awaited : Phase) (done : DoneReply) → awaits_query c awaited done ≡ true → is_plain awaited ≡ true → awaited ≡ phase.Querying done.query None
-awaits_is c (phase.Querying number None) done e plain = ap (λ (n : ℕ). phase.Querying n None) (sym (number_is done.query number (and_parts (done.turn == c.turn) (done.query == number) e).1))
+awaits_is c (phase.Querying number None) done e plain = ap (λ (n : ℕ). phase.Querying n None) (sym (eqb-true done.query number (and_parts (done.turn == c.turn) (done.query == number) e).1))
 awaits_is c (phase.Querying number (Some staple)) done e plain = absurd (cc)
 awaits_is c phase.Idle done e plain = absurd (cc)
 awaits_is c (phase.Asking round) done e plain = absurd (cc)

@@ -1,7 +1,8 @@
 -- The epoch of a server that a transaction's requests name, by look-up: the first that was named. No later mail changes it.
 use Rattle.std.proofs.Common.{Bool, IfSome, List, None, Option, Some, [], ap, arith, false, if◌then◌else◌, is_some, option_and_then, option_map, refl, slice_get, subst, suc, sym, true, zero, ℕ, ◌&&◌, ◌++◌, ◌+◌, ◌==◌, ◌∙◌, ◌∷◌, ◌≡◌}
-use Rattle.std.proofs.lemmas.Bool.{and_parts, eqb-true}
+use Rattle.std.proofs.lemmas.Bool.{and_parts, and_right, eqb-true}
 use Rattle.std.proofs.lemmas.Option.{cond_some}
+use Rattle.tp_types.proofs.ListLemmas.{number_itself}
 use Rattle.tp_model.specs.Facts.{first_of}
 use Rattle.tp_model.specs.Ids.{same_txn}
 use Rattle.tp_model.specs.Words.{Actor, Body, Letter, Mail, ServerId, TxnId}
@@ -10,8 +11,8 @@ use Rattle.tp_model.specs.Words.body
 use Rattle.tp_machine.specs.Machine.{mails_of}
 use Rattle.tp_machine.specs.Sound.{Each}
 use Rattle.tp_machine.proofs.agreement.End.{each_found}
-use Rattle.tp_machine.proofs.basics.Ids.{number_itself, server_number}
-use Rattle.tp_machine.proofs.basics.Logs.{first_first, first_none, first_stays}
+use Rattle.tp_machine.proofs.basics.Ids.{server_number}
+use Rattle.tp_machine.proofs.basics.Logs.{first_first, first_none, first_stays, later_some}
 use Rattle.tp_machine.proofs.basics.Lists.{each_as, each_get}
 
 -- ---- what requests name
@@ -163,10 +164,6 @@ pub then_kept : (A : Asking) (txn : TxnId) (at : ServerId) (K : ServerId → Opt
     → Each (NamesKept txn K) letters → (epoch : ℕ) → asked_then A letters txn at ≡ Some epoch → K at ≡ Some epoch
 then_kept A txn at K letters before h epoch e = either_found (A txn at) (asked_by txn at letters) (λ (n : ℕ). K at ≡ Some n) before (kept_asked txn at K letters h) epoch e
 
-later_some : {A : Type 0} (x y : Option A) → is_some y ≡ true → is_some (first_of x y) ≡ true
-later_some None y e = e
-later_some (Some found) y e = refl
-
 first_some : {A : Type 0} (x y : Option A) → is_some x ≡ true → is_some (first_of x y) ≡ true
 first_some None y e = absurd (cc)
 first_some (Some found) y e = refl
@@ -223,13 +220,10 @@ kept_own txn K to (Some named) h = h.0
 pub kept_are_own : (txn : TxnId) (K : ServerId → Option ℕ) (letters : List Letter) → Each (NamesKept txn K) letters → Each (NamesOwn txn) letters
 kept_are_own txn K letters h = each_as (NamesKept txn K) (NamesOwn txn) (λ letter k. kept_own txn K letter.to (naming_of letter.body) k) letters h
 
-not_both : (a b : Bool) → b ≡ false → (a && b) ≡ false
-not_both a b e = grind arith
-
 other_named : (txn other : TxnId) (at : ServerId) (to : Actor) (found : Option Naming) → same_txn txn other ≡ false → IfSome found (IsOwnNaming txn) → option_and_then (epoch_for other at to) found ≡ None
 other_named txn other at to None apart h = refl
 other_named txn other at to (Some named) apart h =
-    ap (λ (b : Bool). if b then Some named.epoch else None) (not_both (is_to_server to at) (same_txn named.txn other) (subst (λ (t : TxnId). same_txn t other ≡ false) (sym h) apart))
+    ap (λ (b : Bool). if b then Some named.epoch else None) (and_right (is_to_server to at) (same_txn named.txn other) (subst (λ (t : TxnId). same_txn t other ≡ false) (sym h) apart))
 
 -- they ask nothing of another
 pub other_asked : (txn other : TxnId) (at : ServerId) (letters : List Letter) → same_txn txn other ≡ false → Each (NamesOwn txn) letters → asked_by other at letters ≡ None

@@ -1,5 +1,6 @@
 -- Epochs, the coordinator's other rows: they name what is kept, and keep it.
 use Rattle.std.proofs.Common.{Bool, List, None, Option, Some, [], ap, false, is_some, map, not, refl, subst, true, unwrap_or, ℕ, ℤ, ◌==◌, ◌||◌, ◌∙◌, ◌∷◌, ◌≡◌}
+use Rattle.std.proofs.lemmas.Bool.{eqb-true}
 use Rattle.tp_types.specs.Effect.{Effect, ignores, sends}
 use Rattle.tp_model.specs.Words.{Actor, Body, Mail, Outcome, Scenario, ServerId, Staple, Verdict}
 use Rattle.tp_model.specs.Words.body
@@ -21,7 +22,6 @@ use Rattle.tp_machine.proofs.epochs.Server.{IsPlainLetter, LetterFirst, LetterTo
 use Rattle.tp_machine.proofs.epochs.Kept.{CoordinatorKeeps, IsDoneMail, KeepsAsked, KeepsEpoch, PhaseKept, RoundKept, RowKeeps, ignores_keeps, kept_epoch, plain_keeps, ran_last_keeps}
 use Rattle.tp_machine.proofs.basics.Ids.{server_number}
 use Rattle.tp_machine.proofs.basics.Phases.{has_run_at, is_undecided}
-use Rattle.tp_machine.proofs.ids.Built.{number_is}
 use Rattle.tp_machine.proofs.basics.Lists.{each_filter, each_more}
 
 -- ---- Tell
@@ -74,7 +74,7 @@ orders_plain c ended [] = tt
 orders_plain c ended (at ∷ servers) = (tt, orders_plain c ended servers)
 
 either_keeps : (K : ServerId → Type 0) (other at : ServerId) (later b : Bool) → (other.0 == at.0) ≡ b → (b || later) ≡ true → K other → (later ≡ true → K at) → K at
-either_keeps K other at later true same e here rest = subst K (ap server_number (number_is other.0 at.0 same)) here
+either_keeps K other at later true same e here rest = subst K (ap server_number (eqb-true other.0 at.0 same)) here
 either_keeps K other at later false apart e here rest = rest e
 
 awaited_keeps : (K : ServerId → Type 0) (servers : List ServerId) (at : ServerId) → coord.is_awaited servers at ≡ true → Each K servers → K at

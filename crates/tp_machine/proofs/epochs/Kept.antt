@@ -4,6 +4,8 @@ use Rattle.std.specs.List.{list_any}
 use Rattle.std.proofs.Common.{Bool, IfSome, List, None, Option, Some, [], ap, arith, false, if◌then◌else◌, is_none, is_some, length, nat_lt, not, refl, slice_get, slice_set, subst, sym, true, ℕ, ℤ, ◌&&◌, ◌+◌, ◌-◌, ◌<◌, ◌==◌, ◌^◌, ◌||◌, ◌∙◌, ◌≡◌, ◌≤◌}
 use Rattle.std.proofs.lemmas.List.{length-set}
 use Rattle.std.proofs.lemmas.Option.{same_Some}
+use Rattle.std.proofs.lemmas.Bool.{eqb-true}
+use Rattle.tp_types.proofs.ListLemmas.{third_of_three}
 use Rattle.tp_types.specs.Effect.{Effect, ignores}
 use Rattle.tp_types.specs.Table.{flattened}
 use Rattle.tp_model.specs.Agreement.{has_item_at}
@@ -26,7 +28,6 @@ use Rattle.tp_machine.proofs.epochs.Server.{BodyTold, DoneMade, IsPlainLetter, L
 use Rattle.tp_machine.proofs.basics.Ids.{server_number}
 use Rattle.tp_machine.proofs.basics.Logs.{get_set}
 use Rattle.tp_machine.proofs.basics.Phases.{all_ran, awaits_is, has_run_at, is_first_at, is_undecided, late_has_run, next_ran, sent_to_server}
-use Rattle.tp_machine.proofs.ids.Built.{number_is}
 use Rattle.tp_machine.proofs.basics.Lists.{each_as, missing, placed_set}
 
 -- ---- what is kept
@@ -86,7 +87,7 @@ ignores_keeps sc E A c h = plain_keeps sc E A c.txn (Some c) [] h tt
 -- ---- Done
 
 from_server : (from : Actor) (at : ServerId) → coord.is_from from at ≡ true → from ≡ actor.Server at
-from_server (actor.Server other) at e = ap (λ (n : ℕ). actor.Server (server_number n)) (number_is other.0 at.0 e)
+from_server (actor.Server other) at e = ap (λ (n : ℕ). actor.Server (server_number n)) (eqb-true other.0 at.0 e)
 from_server (actor.Coordinator txn) at e = absurd (cc)
 from_server actor.Master at e = absurd (cc)
 from_server actor.Authority at e = absurd (cc)
@@ -167,7 +168,7 @@ last_keeps sc E A c done asked at value h servers m last =
         asked = λ s epoch e. now s
             ∙ asked_chosen (at.0 == s.0) done.epoch epoch (kept_epoch c s)
             (λ same. told_is_asked sc E A c done asked at epoch (is_first_at sc at c.txn done.query) refl m k
-            (subst (λ (t : ServerId). A c.txn t ≡ Some epoch) (ap server_number (sym (number_is at.0 s.0 same))) e))
+            (subst (λ (t : ServerId). A c.txn t ≡ Some epoch) (ap server_number (sym (eqb-true at.0 s.0 same))) e))
             (k.asked s epoch e);
         ran = ran;
         round = record {
@@ -180,9 +181,6 @@ last_keeps sc E A c done asked at value h servers m last =
 none_is : {A : Type 0} (found : Option A) → is_none found ≡ true → found ≡ None
 none_is None e = refl
 none_is (Some x) e = absurd (cc)
-
-third_of_three : (a b c : Bool) → (a && b && c) ≡ true → c ≡ true
-third_of_three a b c e = grind arith
 
 -- what a coordinator knows of the mail's sender and transaction
 pub record IsDoneMail (sc : Scenario) (E : ℕ → ℕ) (A : Asking) (c : Coordinator) (from : Actor) (done : DoneReply) : Type 0 where

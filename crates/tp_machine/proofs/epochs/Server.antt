@@ -1,6 +1,7 @@
 -- Epochs, the actors' rows: what a server does it does in its epoch, and of a server that has told its epoch a coordinator keeps and
 -- names the one that was asked. A says which epochs were asked, E the present epoch of each server.
 use Rattle.std.proofs.Common.{Bool, IfSome, List, None, Option, Some, [], ap, arith, false, is_none, map, refl, subst, sym, true, ℕ, ◌++◌, ◌+◌, ◌==◌, ◌∙◌, ◌∷◌, ◌≡◌, ◌≤◌}
+use Rattle.std.proofs.lemmas.Bool.{eqb-true}
 use Rattle.tp_types.specs.Effect.{Effect, ignores}
 use Rattle.tp_model.specs.Words.{Actor, Answer, Body, DecideRequest, Deed, DoneReply, Letter, Mail, PrepareRequest, Prepared, QueryRequest, Record, Scenario, ServerId, TxnId}
 use Rattle.tp_model.specs.Words.actor
@@ -16,7 +17,6 @@ use Rattle.tp_machine.specs.server.State.{Server}
 use Rattle.tp_machine.proofs.epochs.Asked.{Asking, IsAsked, IsOwnNaming, LetterNamed, NamesNone, NamesOwn, naming_of}
 use Rattle.tp_machine.proofs.basics.Phases.{is_first_at}
 use Rattle.tp_machine.proofs.walks.ServerRows.{server_by}
-use Rattle.tp_machine.proofs.ids.Built.{number_is}
 use Rattle.tp_machine.proofs.basics.Lists.{each_as, each_found, placed_emptied, placed_set}
 
 -- ---- what is said of epochs
@@ -230,7 +230,7 @@ server_row_made sc A s kept mail h first m =
           (each_found (DoneMade sc A s.server s.epoch) (λ (d : DoneReply). d.query == q.query) entry.answers given (h.entries q.txn.0 entry k.found).answers k.given_is);
       voted = λ p entry staple k.
           let asked : A p.txn s.server ≡ Some p.epoch = subst (λ (said : Body). IfSome (naming_of said) (IsAsked A (actor.Server s.server))) k.said_is m in
-          votes_made sc A s kept p staple.place entry h k.found (number_is entry.epoch p.epoch k.same_epoch) asked;
+          votes_made sc A s kept p staple.place entry h k.found (eqb-true entry.epoch p.epoch k.same_epoch) asked;
       settled = λ d k. settles_made sc A s kept d h;
       acknowledged = λ d settled k. record { made = h; forces = tt; replies = (tt, tt) };
     })

@@ -6,6 +6,7 @@ use Rattle.std.proofs.Common.{Bool, IfSome, List, None, Option, Some, [], ap, ar
 use Rattle.std.proofs.lemmas.Bool.{eqb-true}
 use Rattle.std.proofs.lemmas.List.{length-replicate}
 use Rattle.std.proofs.lemmas.Option.{cond_some, same_Some}
+use Rattle.tp_types.proofs.ListLemmas.{number_itself}
 use Rattle.tp_types.specs.Table.{flattened}
 use Rattle.tp_model.specs.Ids.{same_txn}
 use Rattle.tp_model.specs.Words.{Actor, Body, DoneReply, Letter, Mail, Prepared, QueryRequest, Record, Scenario, ServerId, Step, TxnId, What}
@@ -29,7 +30,6 @@ use Rattle.tp_offices.specs.Master as master
 use Rattle.tp_machine.specs.server.Opened as server_opened
 use Rattle.tp_machine.specs.server.Row.{server_row}
 use Rattle.tp_machine.specs.server.State.{Server}
-use Rattle.tp_machine.proofs.agreement.ServerActs.{number_itself}
 use Rattle.tp_machine.proofs.agreement.Steps.{own_txn}
 use Rattle.tp_machine.proofs.agreement.World.{Agrees, CoordinatorUpAgrees}
 use Rattle.tp_machine.proofs.epochs.Asked.{Asking, IsAsked, LetterNamed, NamesNone, StaysAsked, asked_in, asked_more, asked_then, letter_stays, naming_of, none_then, other_then, then_stays}

@@ -1,5 +1,5 @@
 -- What the form of scenarios that is built says, one by one. Where it widens these go.
-use Rattle.std.proofs.lemmas.Bool.{and_parts}
+use Rattle.std.proofs.lemmas.Bool.{and_parts, eqb-true}
 use Rattle.std.proofs.Common.{◌≡◌, ℕ, List, [], ◌∷◌, length, Bool, true, false, not, ◌&&◌, ◌==◌, Option, Some, None, refl, sym, subst, ap, arith}
 use Rattle.std.specs.Cmp.Lexicographic.{pointwise}
 use Rattle.std.proofs.lemmas.Bool.Decides.{nat_tests}
@@ -12,10 +12,6 @@ use Rattle.tp_model.specs.Queries.{only}
 use Rattle.tp_machine.specs.Sound.{Each, proves_each}
 
 -- ---- tests
-
--- a number that is tested for being 1 or 0 is that number
-pub number_is : (a b : ℕ) → (a == b) ≡ true → a ≡ b
-number_is a b e = grind (arith, nat_tests)
 
 -- ---- lists of one member
 

@@ -2,6 +2,9 @@
 use Rattle.std.proofs.Common.{◌≡◌, ℕ, ◌+◌, ◌<◌, ◌≤◌, ◌&&◌, nat_le, List, [], ◌∷◌, ◌++◌, length, filter, Bool, true, false, cond, Option, Some, None, refl, sym, ap, subst, ◌∙◌, arith, drop, flat_map}
 use Rattle.std.specs.List.{count_by, list_all}
 use Rattle.std.proofs.lemmas.Bool.Decides.{nat_tests}
+use Rattle.std.proofs.lemmas.List.{append-nil, append_assoc, length_push}
+use Rattle.std.proofs.lemmas.Bool.{and_from, and_parts, le-leb}
+use Rattle.std.proofs.lemmas.List.Elements.{filter-append}
 use Rattle.tp_model.specs.Words.{Fact, Record, Scenario, ServerId, Step, What}
 use Rattle.tp_model.specs.Words.log
 use Rattle.tp_model.specs.Words.step
@@ -14,10 +17,9 @@ use Rattle.tp_machine.specs.Parts.{Part}
 use Rattle.tp_machine.specs.Machine.{Machine, State, Move, state_after, coordinator_fact, machine_after, idle_move, facts_of, server_fact, log_with, refusal}
 use Rattle.tp_machine.specs.coord.Row.{coordinator_row, submit_row}
 use Rattle.tp_machine.specs.server.Row.{server_row}
-use Rattle.tp_machine.proofs.agreement.World.{steps_more}
 use Rattle.tp_machine.proofs.agreement.CoordinatorActs.{coordinator_facts}
 use Rattle.tp_machine.proofs.agreement.ServerActs.{server_facts}
-use Rattle.tp_machine.proofs.basics.Facts.{ArePast, Grows, all_from_each, append_none, filter_append, grows_with_facts, new_facts_past, past_as}
+use Rattle.tp_machine.proofs.basics.Facts.{ArePast, Grows, all_from_each, earlier_passes, grows_with_facts, new_facts_past, past_as}
 use Rattle.tp_machine.proofs.basics.Logs.{gained}
 use Rattle.tp_machine.proofs.basics.Lists.{each_append}
 use Rattle.tp_machine.proofs.walks.Steps.{Cases, SaysIdle, machine_after_by}
@@ -54,20 +56,16 @@ said_from_grows sc old new last first (taken ∷ steps) g le =
     let later : said_from sc new (first + 1) steps ≡ said_from sc old (first + 1) steps = said_from_grows sc old new last (first + 1) steps g (omega (arith, le)) in
     ap (λ (whats : List What). at_place first whats ++ said_from sc new (first + 1) steps) here ∙ ap (λ (rest : List Fact). at_place first (said_by sc old first taken) ++ rest) later
 
-append_append : {A : Type 0} (xs ys zs : List A) → xs ++ (ys ++ zs) ≡ (xs ++ ys) ++ zs
-append_append [] ys zs = refl
-append_append (x ∷ xs) ys zs = ap (λ us. x ∷ us) (append_append xs ys zs)
-
 said_from_more : (sc : Scenario) (facts : List Fact) (first : ℕ) (steps : List Step) (taken : Step)
     → said_from sc facts first (steps ++ taken ∷ []) ≡ said_from sc facts first steps ++ at_place (first + length steps) (said_by sc facts (first + length steps) taken)
 said_from_more sc facts first [] taken =
     let same : first ≡ first + 0 = omega arith in
-    append_none (at_place first (said_by sc facts first taken)) ∙ ap (λ (p : ℕ). at_place p (said_by sc facts p taken)) same
+    append-nil (at_place first (said_by sc facts first taken)) ∙ ap (λ (p : ℕ). at_place p (said_by sc facts p taken)) same
 said_from_more sc facts first (one ∷ steps) taken =
     let same : (first + 1) + length steps ≡ first + length (one ∷ steps) = omega arith in
     ap (λ (rest : List Fact). at_place first (said_by sc facts first one) ++ rest)
     (said_from_more sc facts (first + 1) steps taken ∙ ap (λ (p : ℕ). said_from sc facts (first + 1) steps ++ at_place p (said_by sc facts p taken)) same)
-    ∙ append_append (at_place first (said_by sc facts first one)) (said_from sc facts (first + 1) steps) (at_place (first + length (one ∷ steps)) (said_by sc facts (first + length (one ∷ steps)) taken))
+    ∙ sym (append_assoc (at_place first (said_by sc facts first one)) (said_from sc facts (first + 1) steps) (at_place (first + length (one ∷ steps)) (said_by sc facts (first + length (one ∷ steps)) taken)))
 
 abbrev fact_at : ℕ → What → Fact
 fact_at place w = record { place = place; what = w }
@@ -81,34 +79,18 @@ new_facts_own : (place : ℕ) (happened : List What) → filter is_outside (fact
 new_facts_own place [] = refl
 new_facts_own place (w ∷ happened) = new_facts_one (is_outside_what w) place w (filter is_outside (facts_of place happened)) (own_of happened) (new_facts_own place happened)
 
-rises_both : (b c : Bool) → b ≡ true → c ≡ true → (b && c) ≡ true
-rises_both b c e f = grind arith
-
-le_test : (low high : ℕ) → low ≤ high → nat_le low high ≡ true
-le_test low high e = grind (arith, nat_tests)
-
-le_from : (low high : ℕ) → nat_le low high ≡ true → low ≤ high
-le_from low high e = grind (arith, nat_tests)
-
 new_facts_rise : (low place : ℕ) (happened : List What) → low ≤ place → rises_from low (facts_of place happened) ≡ true
 new_facts_rise low place [] le = refl
-new_facts_rise low place (w ∷ happened) le = rises_both (nat_le low place) (rises_from place (facts_of place happened)) (le_test low place le) (new_facts_rise place place happened (omega arith))
-
-rises_parts : (b c : Bool) → (b && c) ≡ true → (b ≡ true) × (c ≡ true)
-rises_parts true c e = (refl, e)
-rises_parts false c e = absurd (cc)
+new_facts_rise low place (w ∷ happened) le = and_from (nat_le low place) (rises_from place (facts_of place happened)) (le-leb low place le) (new_facts_rise place place happened (omega arith))
 
 rises_more : (low place : ℕ) (facts : List Fact) (happened : List What) → low ≤ place → ArePast place facts → rises_from low facts ≡ true → rises_from low (facts ++ facts_of place happened) ≡ true
 rises_more low place [] happened le past e = new_facts_rise low place happened le
 rises_more low place (fact ∷ facts) happened le past e =
-    let parts = rises_parts (nat_le low fact.place) (rises_from fact.place facts) e in
-    rises_both (nat_le low fact.place) (rises_from fact.place (facts ++ facts_of place happened)) parts.0 (rises_more fact.place place facts happened (omega (arith, past.0)) past.1 parts.1)
+    let parts = and_parts (nat_le low fact.place) (rises_from fact.place facts) e in
+    and_from (nat_le low fact.place) (rises_from fact.place (facts ++ facts_of place happened)) parts.0 (rises_more fact.place place facts happened (omega (arith, past.0)) past.1 parts.1)
 
 past_from : (place : ℕ) (fact : Fact) → is_earlier place fact ≡ true → fact.place < place
 past_from place fact e = grind (arith, nat_tests)
-
-past_test : (place : ℕ) (fact : Fact) → fact.place < place → is_earlier place fact ≡ true
-past_test place fact e = grind (arith, nat_tests)
 
 -- ---- a step
 
@@ -122,14 +104,14 @@ state_after_outside sc w taken move past h e =
     let zero_place : 0 + place ≡ place = omega arith in
     let same : said_from sc now 0 w.steps ≡ said_from sc w.facts 0 w.steps = said_from_grows sc w.facts now place 0 w.steps (grows_with_facts w.facts place move.happened) (omega arith) in
     record {
-      said = filter_append is_outside w.facts (facts_of place move.happened)
+      said = filter-append is_outside w.facts (facts_of place move.happened)
           ∙ (ap (λ (fs : List Fact). fs ++ filter is_outside (facts_of place move.happened)) (h.said ∙ sym same)
           ∙ (ap (λ (fs : List Fact). said_from sc now 0 w.steps ++ fs) (new_facts_own place move.happened ∙ ap (at_place place) e)
           ∙ (ap (λ (p : ℕ). said_from sc now 0 w.steps ++ at_place p (said_by sc now p taken)) (sym zero_place)
           ∙ sym (said_from_more sc now 0 w.steps taken))));
       rising = rises_more 0 place w.facts move.happened (omega arith) past h.rising;
-      within = subst (λ (p : ℕ). list_all (is_earlier p) now ≡ true) (sym (steps_more w.steps taken))
-          (all_from_each (λ (fact : Fact). fact.place < place + 1) (is_earlier (place + 1)) (past_test (place + 1)) now
+      within = subst (λ (p : ℕ). list_all (is_earlier p) now ≡ true) (sym (length_push w.steps taken))
+          (all_from_each (λ (fact : Fact). fact.place < place + 1) (is_earlier (place + 1)) (earlier_passes (place + 1)) now
           (each_append (λ (fact : Fact). fact.place < place + 1) w.facts (facts_of place move.happened) (past_as place (place + 1) (omega arith) w.facts past) (new_facts_past place move.happened)));
     }
 

@@ -4,6 +4,8 @@ use Rattle.std.proofs.Common.{Bool, IfSome, List, None, Option, Some, [], ap, ar
 use Rattle.std.proofs.lemmas.Bool.{eqb-true}
 use Rattle.std.proofs.lemmas.List.Sums.{fold-append}
 use Rattle.std.proofs.lemmas.Option.{IfSome_then}
+use Rattle.tp_types.proofs.ListLemmas.{number_itself}
+use Rattle.tp_model.proofs.BuiltLemmas.{length-servers_built}
 use Rattle.tp_types.specs.Effect.{Effect}
 use Rattle.tp_model.specs.Words.{Action, Decision, Deed, Fact, Item, Letter, Outcome, Prepared, Record, Scenario, ServerId, Transaction, TxnId, What}
 use Rattle.tp_model.specs.Words.action
@@ -22,7 +24,7 @@ use Rattle.tp_machine.specs.coord.Opened.{servers_at}
 use Rattle.tp_machine.specs.coord.State.{Coordinator}
 use Rattle.tp_machine.specs.Parts.{Part}
 use Rattle.tp_machine.specs.server.State.{Server}
-use Rattle.tp_machine.proofs.agreement.ServerActs.{number_itself, ordered_commit, server_facts}
+use Rattle.tp_machine.proofs.agreement.ServerActs.{ordered_commit, server_facts}
 use Rattle.tp_machine.proofs.agreement.Coordinator.{DecisionRests, IsFirst}
 use Rattle.tp_machine.proofs.agreement.CoordinatorActs.{coordinator_facts}
 use Rattle.tp_machine.proofs.agreement.Logs.{DecidedAs, IsAsked, IsPrepared}
@@ -31,13 +33,14 @@ use Rattle.tp_machine.proofs.agreement.World.{Agrees}
 use Rattle.tp_machine.proofs.basics.Servers.{among_servers}
 use Rattle.tp_machine.proofs.basics.Facts.{commit_found, filter_all, first_commit}
 use Rattle.tp_machine.proofs.basics.Logs.{appended, decided_with, gained, listed, prepared_grown}
-use Rattle.tp_machine.proofs.serial_data.Built.{first_server, has_item_at_one_server, one_server, planned_at_one_server}
+use Rattle.tp_machine.proofs.serial_data.Built.{first_server, has_item_at_one_server, planned_at_one_server}
 use Rattle.tp_machine.proofs.serial_data.Coordinator.{CoordinatorKeeps, PhaseDeeds}
 use Rattle.tp_machine.proofs.serial_data.Lists.{at_changed, each_of_all, fold_both, fold_keeps, same_set, set_elsewhere}
 use Rattle.tp_machine.proofs.serial_data.Plan.{DecisionSerial, IsInRange, IsTested, LetterSerial, RecordPlanned, RecordSerial, is_at, planned, planned_at, planned_what}
 use Rattle.tp_machine.proofs.serial_data.Server.{EntryPlanned, ServerKeeps}
 use Rattle.tp_machine.proofs.serial_data.World.{CoordinatorPartSerial, HoldsValues, IsPlannedCommit, MoveSerial, Serial, ServerPartSerial, ServerUpSerial, WhatSerial, overlaid_by}
 use Rattle.tp_machine.proofs.basics.Lists.{at_set, by_cond, each_append, each_as, missing}
+use Rattle.tp_machine.proofs.serial_data.Joined.{same_stored}
 
 -- ---- no commit
 
@@ -112,12 +115,8 @@ commit_planned sc w txn agrees h d = part_planned sc w txn (slice_get w.actors.c
 
 -- ---- values
 
-same_deed_values : (n : ℕ) (deed : Deed) (kind : Action) (xs ys : List ℤ) → slice_get xs n ≡ slice_get ys n → slice_get (stored_by kind xs deed) n ≡ slice_get (stored_by kind ys deed) n
-same_deed_values n deed action.Read xs ys e = e
-same_deed_values n deed action.Write xs ys e = same_set xs ys deed.item.0 n deed.value e
-
 same_overlaid : (n : ℕ) (deed : Deed) (b : Bool) (xs ys : List ℤ) → slice_get xs n ≡ slice_get ys n → slice_get (if b then stored xs deed else xs) n ≡ slice_get (if b then stored ys deed else ys) n
-same_overlaid n deed true xs ys e = same_deed_values n deed deed.action xs ys e
+same_overlaid n deed true xs ys e = same_stored deed.action xs ys deed n e
 same_overlaid n deed false xs ys e = e
 
 same_planned : (sc : Scenario) (n : ℕ) (w : What) (xs ys : List ℤ) → slice_get xs n ≡ slice_get ys n → slice_get (planned_what sc xs w) n ≡ slice_get (planned_what sc ys w) n
@@ -290,7 +289,7 @@ plan_tested : (sc : Scenario) (w : State) (txn : TxnId) (declared : Option Trans
     → Each (IsPrepared w.actors.servers txn) (servers_at sc txn) → Each (IsInRange sc) (planned sc txn)
 plan_tested sc w txn None built exists h found prepared = absurd (missing sc.txns txn.0 exists found)
 plan_tested sc w txn (Some declared) built exists h found prepared =
-    let count = one_server sc built in
+    let count = length-servers_built sc built in
     let here : IsPrepared w.actors.servers txn first_server =
     among_servers (IsPrepared w.actors.servers txn) sc first_server txn (omega (arith, count)) (has_item_at_one_server sc txn declared built found) prepared in
     subst (Each (IsInRange sc)) (filter_all (λ (deed : Deed). is_at sc first_server deed ≡ true) (is_at sc first_server) (λ deed e. e) (planned sc txn) (planned_at_one_server sc txn built))

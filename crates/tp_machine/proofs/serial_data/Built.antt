@@ -1,11 +1,12 @@
 -- What the proofs of serial data take from the form of scenarios that is built: one server, and one transaction that writes one
 -- constant. Here alone they lean on that form; each lemma says so by its name.
-use Rattle.std.proofs.lemmas.Bool.{and_parts}
+use Rattle.std.proofs.lemmas.Bool.{and_parts, eqb-true}
 use Rattle.std.proofs.Common.{◌≡◌, ℕ, ◌<◌, zero, suc, ◌==◌, ◌&&◌, ◌||◌, List, [], ◌∷◌, length, map, slice_get, Bool, true, false, Option, Some, None, option_and_then, ℤ, refl, sym, ap, subst, ◌∙◌, arith, option_map}
 use Rattle.std.specs.List.{list_any}
 use Rattle.std.specs.Option.{option_map_or}
 use Rattle.std.proofs.Math.IntN.{+ℤ_idl}
 use Rattle.std.proofs.lemmas.Option.{same_Some}
+use Rattle.tp_types.proofs.ListLemmas.{third_of_three}
 use Rattle.tp_model.specs.Words.{Deed, Item, ItemId, Operand, Query, Scenario, ServerDecl, ServerId, Term, Transaction, TxnId}
 use Rattle.tp_types.specs.declared.scenario.Operand.TheVariants.{Constant, Register}
 use Rattle.tp_types.specs.declared.scenario.Query.TheVariants.{Read, Write}
@@ -20,28 +21,12 @@ use Rattle.tp_model.specs.Queries.{is_at_server, item_of, only, operand_value, q
 use Rattle.tp_model.specs.SerialRun.{are_in_range, cleared_registers, deeds_from, opening_store, operand_in, serial_run, term_in}
 use Rattle.tp_machine.specs.Sound.{Each, query_in, IsTxn}
 use Rattle.tp_machine.specs.coord.Row.{deed_of, begins, is_begun, sends_first, server_of, submit_row}
-use Rattle.tp_machine.proofs.ids.Built.{number_is}
 use Rattle.tp_machine.proofs.serial_data.Plan.{is_at, planned}
 use Rattle.tp_machine.proofs.basics.Lists.{missing}
 use Rattle.tp_machine.specs.coord.State.{Coordinator}
+use Rattle.tp_machine.proofs.ids.Built.{IsOnly, only_is, single_is}
 
 -- ---- the form that is built
-
-only_is : {A : Type 0} (xs : List A) (x : A) → only xs ≡ Some x → xs ≡ x ∷ []
-only_is [] x e = absurd (cc)
-only_is (y ∷ []) x e = ap (λ z. z ∷ []) (grind arith)
-only_is (y ∷ z ∷ rest) x e = absurd (cc)
-
--- a list of one member that passes a test
-record IsOnly {A : Type 0} (test : A → Bool) (xs : List A) : Type 0 where
-  pub member : A
-  pub is_list : xs ≡ member ∷ []
-  pub passes : test member ≡ true
-
-single_is : {A : Type 0} (test : A → Bool) (xs : List A) → is_single test xs ≡ true → IsOnly test xs
-single_is test [] e = absurd (cc)
-single_is test (x ∷ []) e = record { member = x; is_list = refl; passes = e }
-single_is test (x ∷ y ∷ rest) e = absurd (cc)
 
 -- one server, one item of it and one transaction
 record HasParts (sc : Scenario) : Type 0 where
@@ -98,7 +83,7 @@ write_is item id expr first one =
       term = one.member;
       constant = operand.0;
       asked_is = ap (Write id) one.is_list;
-      first = number_is id.0 0 first;
+      first = eqb-true id.0 0 first;
       operand_is = operand.1;
     }
 
@@ -116,14 +101,6 @@ built_queries : (server : ServerDecl) (item : Item) (txn : Transaction) → is_f
 built_queries server item txn e = single_is (is_first_query item) txn.queries (last_test _ (is_deferred txn.scheme) (is_view txn.level) (txn.rounds == 8) (is_empty txn.creds) _ e)
 
 -- ---- one of each
-
--- the form that is built has one transaction
-pub one_transaction : (sc : Scenario) → is_built sc ≡ true → length sc.txns ≡ 1
-one_transaction sc built = ap length (has_parts sc built).txns_are
-
--- and one server
-pub one_server : (sc : Scenario) → is_built sc ≡ true → length sc.servers ≡ 1
-one_server sc built = ap length (has_parts sc built).servers_are
 
 -- the one transaction, as its scenario has it
 pub record IsOneTransaction (sc : Scenario) : Type 0 where
@@ -152,7 +129,7 @@ pub items_at_one_server : (sc : Scenario) (n : ℕ) (item : Item) → is_built s
 items_at_one_server sc n item built found =
     let form = has_parts sc built in
     let same = (only_at sc.items form.item item n form.items_are found).1 in
-    subst (λ (i : Item). i.server ≡ first_server) same (server_number form.item.server (number_is form.item.server.0 0 (server_zero form.item form.item_fits)))
+    subst (λ (i : Item). i.server ≡ first_server) same (server_number form.item.server (eqb-true form.item.server.0 0 (server_zero form.item form.item_fits)))
 
 -- ---- one constant write
 
@@ -307,7 +284,7 @@ item_at_first : (sc : Scenario) (at : ServerId) (n : ℕ) (item : Option Item) �
 item_at_first sc at n None built found e = absurd (cc)
 item_at_first sc at n (Some item) built found e =
     let server : item.server ≡ first_server = items_at_one_server sc n item built found in
-    server_number at (sym (number_is item.server.0 at.0 e) ∙ ap (λ (s : ServerId). s.0) server)
+    server_number at (sym (eqb-true item.server.0 at.0 e) ∙ ap (λ (s : ServerId). s.0) server)
 
 one_of : (a b : Bool) (P : Type 0) → (a ≡ true → P) → (b ≡ true → P) → (a || b) ≡ true → P
 one_of true b P first second e = first refl
@@ -329,11 +306,8 @@ only_one_of_each sc at txn built e = only (slice_get sc.txns txn.0) refl e
 
 -- ---- ranges
 
-third_test : (a b c : Bool) → (a && b && c) ≡ true → c ≡ true
-third_test a b c all = grind arith
-
 value_within : (item : Item) → is_first_item item ≡ true → is_between item.min item.max item.value ≡ true
-value_within item e = (and_parts (has_valid_bounds item) (is_between item.min item.max item.value) (third_test (item.server.0 == 0) (item.admin.0 == 0) (has_valid_range item) e)).1
+value_within item e = (and_parts (has_valid_bounds item) (is_between item.min item.max item.value) (third_of_three (item.server.0 == 0) (item.admin.0 == 0) (has_valid_range item) e)).1
 
 one_in_range : (item : Item) → is_between item.min item.max item.value ≡ true → are_in_range (item ∷ []) (item.value ∷ []) ≡ true
 one_in_range item e = grind arith

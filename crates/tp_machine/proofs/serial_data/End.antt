@@ -6,6 +6,8 @@ use Rattle.std.proofs.Common.{Bool, IfSome, List, None, Option, Some, [], ap, ar
 use Rattle.std.proofs.lemmas.Bool.{and_parts}
 use Rattle.std.proofs.lemmas.List.{length-map, length-set}
 use Rattle.std.proofs.lemmas.Option.{same_Some, slice_get_within}
+use Rattle.tp_model.proofs.BuiltLemmas.{length-servers_built, length-txns_built}
+use Rattle.tp_machine.proofs.agreement.End.{listed_passes}
 use Rattle.tp_model.specs.Words.{Action, CommitRecord, Decision, Deed, Fact, Item, Outcome, Scenario, ServerId, Transaction, TxnId, What}
 use Rattle.tp_model.specs.Words.action
 use Rattle.tp_model.specs.Words.decision
@@ -29,7 +31,7 @@ use Rattle.tp_machine.proofs.basics.Servers.{among_servers}
 use Rattle.tp_machine.proofs.basics.Facts.{all_from_each, any_decided, any_settled, commit_found, decided_what, decisions, each_from_all, first_commit, said, settled_what, settlements}
 use Rattle.tp_machine.proofs.basics.Logs.{listed}
 use Rattle.tp_machine.proofs.serial_data.Acts.{commit_planned}
-use Rattle.tp_machine.proofs.serial_data.Built.{IsOneTransaction, first_server, has_item_at_one_server, one_server, one_transaction, only_one_of_each, only_transaction, planned_at_one_server}
+use Rattle.tp_machine.proofs.serial_data.Built.{IsOneTransaction, first_server, has_item_at_one_server, only_one_of_each, only_transaction, planned_at_one_server}
 use Rattle.tp_machine.proofs.serial_data.Lists.{each_of_all, fold_as, fold_keeps}
 use Rattle.tp_machine.proofs.serial_data.Plan.{is_at, planned}
 use Rattle.tp_machine.proofs.serial_data.World.{IsPlannedCommit, Serial, ServerUpSerial}
@@ -141,7 +143,7 @@ serial_of_one : (sc : Scenario) (store : List ℤ) (committed : CommitRecord) (t
 serial_of_one sc store committed txn None built found e = absurd (cc)
 serial_of_one sc store committed txn (Some declared) built found e =
     let within = slice_get_within sc.txns txn.0 declared found in
-    let one = one_transaction sc built in
+    let one = length-txns_built sc built in
     txn_is_first txn (omega (arith, within, one))
 
 fact_of_one : (sc : Scenario) (facts : List Fact) (place : ℕ) (w : What) → is_built sc ≡ true → keeps_serial_what sc facts place w ≡ true → IsOfOne w
@@ -221,10 +223,6 @@ same_outcome_is outcome.Abort outcome.Abort e = refl
 same_outcome_is outcome.Commit outcome.Abort e = absurd (cc)
 same_outcome_is outcome.Abort outcome.Commit e = absurd (cc)
 
-settled_one : (found : Option Outcome) (ended : Outcome) → list_any (λ (o : Outcome). same_outcome o ended) (listed found) ≡ true → found ≡ Some ended
-settled_one None ended e = absurd (cc)
-settled_one (Some given) ended e = ap (λ (o : Outcome). Some o) (same_outcome_is given ended e)
-
 decided_one : (found : Option Decision) (ended : Outcome) → list_any (λ (d : Decision). same_outcome (outcome_of d) ended) (listed found) ≡ true → option_map outcome_of found ≡ Some ended
 decided_one None ended e = absurd (cc)
 decided_one (Some d) ended e = ap (λ (o : Outcome). Some o) (same_outcome_is (outcome_of d) ended e)
@@ -241,12 +239,12 @@ ended_so sc w declared ended built agrees txns_are e =
     let P : ServerId → Type 0 = λ at. list_any (is_settled_as at first_txn ended) w.facts ≡ true in
     let everywhere : Each P (servers_of sc declared) = each_from_all (λ (at : ServerId). list_any (is_settled_as at first_txn ended) w.facts) (servers_of sc declared) parts.1 in
     let servers : Each P (servers_at sc first_txn) = subst (λ (d : Option Transaction). Each P (option_map_or (servers_of sc) d [])) (sym found) everywhere in
-    let one = one_server sc built in
+    let one = length-servers_built sc built in
     let here : P first_server = among_servers P sc first_server first_txn (omega (arith, one)) (has_item_at_one_server sc first_txn declared built found) servers in
     record {
       decided = decided_one (decided_at w.actors.coordinators 0) ended
           (sym (any_decided first_txn ended w.facts ∙ ap (list_any (λ (d : Decision). same_outcome (outcome_of d) ended)) (agrees.decided first_txn)) ∙ parts.0);
-      settled = settled_one (settled_outcome w.actors.servers first_server first_txn) ended
+      settled = listed_passes (settled_outcome w.actors.servers first_server first_txn) ended
           (sym (any_settled first_server first_txn ended w.facts ∙ ap (list_any (λ (o : Outcome). same_outcome o ended)) (agrees.settled first_server first_txn)) ∙ here);
     }
 

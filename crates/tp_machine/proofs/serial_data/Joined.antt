@@ -35,7 +35,7 @@ at_home sc deed item at e = ap (λ (found : Option Item). option_map_or (λ (ite
 
 -- ---- after a deed
 
-same_stored : (a : Action) (xs ys : List ℤ) (deed : Deed) (n : ℕ) → slice_get xs n ≡ slice_get ys n → slice_get (stored_by a xs deed) n ≡ slice_get (stored_by a ys deed) n
+pub same_stored : (a : Action) (xs ys : List ℤ) (deed : Deed) (n : ℕ) → slice_get xs n ≡ slice_get ys n → slice_get (stored_by a xs deed) n ≡ slice_get (stored_by a ys deed) n
 same_stored action.Read xs ys deed n e = e
 same_stored action.Write xs ys deed n e = same_set xs ys deed.item.0 n deed.value e
 

@@ -4,6 +4,7 @@ use Rattle.std.specs.Cmp.Lexicographic.{pointwise}
 use Rattle.std.specs.List.{list_any}
 use Rattle.std.proofs.lemmas.Bool.Decides.{nat_tests}
 use Rattle.std.proofs.lemmas.Option.{same_Some}
+use Rattle.std.proofs.lemmas.Bool.{and_from, or_right}
 use Rattle.tp_machine.specs.Sound.{Each, EachAt}
 use Rattle.tp_types.specs.Table.{flattened}
 use Rattle.tp_machine.proofs.basics.Logs.{get_set}
@@ -80,26 +81,19 @@ filled_stays (x ∷ table) (suc k) (suc n) v e = filled_stays table k n v e
 
 -- ---- tests
 
-either : (b c : Bool) → c ≡ true → (b || c) ≡ true
-either true c e = refl
-either false c e = e
-
 later : (b c d : Bool) → (c ≡ true → d ≡ true) → (b || c) ≡ true → (b || d) ≡ true
 later true c d h e = refl
 later false c d h e = h e
 
 picked : {A : Type 0} (test : A → Bool) (x : A) (xs ys : List A) (b : Bool) → (list_any test ys ≡ true → list_any test xs ≡ true) → list_any test (cond b (x ∷ ys) ys) ≡ true → (test x || list_any test xs) ≡ true
 picked test x xs ys true h e = later (test x) (list_any test ys) (list_any test xs) h e
-picked test x xs ys false h e = either (test x) (list_any test xs) (h e)
+picked test x xs ys false h e = or_right (test x) (list_any test xs) (h e)
 
 -- what some member that is kept passes, some member passes
 pub any_filtered : {A : Type 0} (test other : A → Bool) (xs : List A) → list_any test (filter other xs) ≡ true → list_any test xs ≡ true
 any_filtered test other [] e = e
 any_filtered test other (x ∷ xs) e = picked test x xs (filter other xs) (other x) (any_filtered test other xs) e
 
-and_both : (a b : Bool) → a ≡ true → b ≡ true → (a && b) ≡ true
-and_both a b e f = grind arith
-
 pub pointwise_itself : {A : Type 0} (same : A → A → Bool) → ((x : A) → same x x ≡ true) → (xs : List A) → pointwise same xs xs ≡ true
 pointwise_itself same h [] = refl
-pointwise_itself same h (x ∷ xs) = and_both (same x x) (pointwise same xs xs) (h x) (pointwise_itself same h xs)
+pointwise_itself same h (x ∷ xs) = and_from (same x x) (pointwise same xs xs) (h x) (pointwise_itself same h xs)

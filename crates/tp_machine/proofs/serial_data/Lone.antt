@@ -1,5 +1,5 @@
 -- Every commit is the only one of its place: a step makes at most one.
-use Rattle.std.proofs.lemmas.Bool.{eqb-true}
+use Rattle.std.proofs.lemmas.Bool.{and_from, eqb-true}
 use Rattle.std.proofs.Common.{◌≡◌, ℕ, ◌+◌, ◌≤◌, ◌<◌, ◌==◌, ◌&&◌, List, [], ◌∷◌, length, slice_get, Bool, true, false, cond, Option, Some, None, is_some, refl, sym, ap, subst, ◌∙◌, arith, drop, flat_map}
 use Rattle.std.specs.List.{count_by}
 use Rattle.std.proofs.lemmas.Bool.Decides.{nat_tests}
@@ -21,7 +21,6 @@ use Rattle.tp_machine.proofs.agreement.CoordinatorActs.{coordinator_facts}
 use Rattle.tp_machine.proofs.agreement.End.{each_found, member_counted}
 use Rattle.tp_machine.proofs.basics.Facts.{ArePast, all_from_each, count_append}
 use Rattle.tp_machine.proofs.basics.Logs.{gained}
-use Rattle.tp_machine.proofs.trust.Built.{both_true}
 use Rattle.tp_machine.proofs.walks.Steps.{Cases, SaysIdle, machine_after_by}
 use Rattle.tp_types.specs.Effect.{Effect}
 use Rattle.tp_machine.specs.Sound.{IsStepOf}
@@ -40,7 +39,7 @@ pub lone_fact : (facts : List Fact) (n place : ℕ) (w : What) → AreLone facts
 lone_fact facts n place (what.Decided txn (decision.Commit committed)) h e =
     let here : (place == place) ≡ true = grind (arith, nat_tests) in
     let least : 1 ≤ count_by (is_commit_at place) facts =
-    member_counted (is_commit_at place) facts n (record { place = place; what = what.Decided txn (decision.Commit committed) }) e (both_true (place == place) true here refl) in
+    member_counted (is_commit_at place) facts n (record { place = place; what = what.Decided txn (decision.Commit committed) }) e (and_from (place == place) true here refl) in
     let most = h place in
     let exact : count_by (is_commit_at place) facts ≡ 1 = omega (arith, least, most) in
     ap (λ (k : ℕ). k == 1) exact

@@ -4,6 +4,7 @@ use Rattle.std.specs.Option.{option_map_or}
 use Rattle.std.proofs.Common.{Bool, IfSome, List, None, Option, Some, [], ap, cond, false, filter, fold, if◌then◌else◌, is_none, is_some, option_map, refl, slice_set, subst, sym, true, ℕ, ℤ, ⊎_elim, ◌&&◌, ◌==◌, ◌∙◌, ◌∷◌, ◌≡◌}
 use Rattle.std.proofs.lemmas.Bool.{and_parts}
 use Rattle.std.proofs.lemmas.Option.{cond_some, same_Some}
+use Rattle.tp_types.proofs.ListLemmas.{number_itself}
 use Rattle.tp_types.specs.Effect.{Effect, ignores}
 use Rattle.tp_model.specs.Built.{is_built}
 use Rattle.tp_model.specs.Ids.{same_server}
@@ -21,7 +22,7 @@ use Rattle.tp_machine.specs.coord.Row.{deed_of}
 use Rattle.tp_machine.specs.declared.server.Entry.{Entry}
 use Rattle.tp_machine.specs.server.Row.{answers, applied, applied_deed, are_in_range, asked_item, begins, committed, entry_at, first_entry, is_in_range, is_in_range_of, is_write, plain_write, restarted_reply, server_row, settles, votes}
 use Rattle.tp_machine.specs.server.State.{Server}
-use Rattle.tp_machine.proofs.agreement.ServerActs.{number_itself, server_facts}
+use Rattle.tp_machine.proofs.agreement.ServerActs.{server_facts}
 use Rattle.tp_machine.proofs.agreement.Logs.{LogPrepared, LogServed, outcome_settled}
 use Rattle.tp_machine.proofs.agreement.Server.{ServerAgrees, open_unsettled, prepared_entry}
 use Rattle.tp_machine.proofs.serial_data.Built.{IsAllPlanned, one_query_is_planned}

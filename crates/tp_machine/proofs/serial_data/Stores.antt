@@ -5,7 +5,7 @@ use Rattle.tp_model.specs.Words.{Action, Deed}
 use Rattle.tp_model.specs.Words.action
 use Rattle.tp_model.specs.Facts.{first_of}
 use Rattle.tp_model.specs.SerialRun.{stored, stored_all, stored_by}
-use Rattle.tp_machine.proofs.basics.Logs.{first_first, get_set}
+use Rattle.tp_machine.proofs.basics.Logs.{first_first, get_set, later_some}
 use Rattle.tp_machine.proofs.serial_data.Lists.{set_elsewhere}
 
 -- ---- the last write
@@ -43,16 +43,12 @@ stored_here : (a : Action) (store : List ℤ) (deed : Deed) (item : ℕ) → Has
 stored_here action.Read store deed item has = refl
 stored_here action.Write store deed item has = set_here store deed.item.0 item deed.value (deed.item.0 == item) refl has
 
-first_there : (new old : Option ℤ) → is_some old ≡ true → is_some (first_of new old) ≡ true
-first_there None old e = e
-first_there (Some v) old e = refl
-
 -- an item has the last value that was written to it, or else its old one
 pub stored_last : (store : List ℤ) (deeds : List Deed) (item : ℕ) → HasPlace store item → slice_get (stored_all store deeds) item ≡ first_of (last_write item deeds) (slice_get store item)
 stored_last store [] item has = refl
 stored_last store (deed ∷ deeds) item has =
     let one : slice_get (stored store deed) item ≡ first_of (written item deed) (slice_get store item) = stored_here deed.action store deed item has in
-    let still : HasPlace (stored store deed) item = ap is_some one ∙ first_there (written item deed) (slice_get store item) has in
+    let still : HasPlace (stored store deed) item = ap is_some one ∙ later_some (written item deed) (slice_get store item) has in
     stored_last (stored store deed) deeds item still
     ∙ (ap (first_of (last_write item deeds)) one ∙ sym (first_first (last_write item deeds) (written item deed) (slice_get store item)))
 

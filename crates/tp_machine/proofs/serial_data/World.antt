@@ -5,8 +5,9 @@ use Rattle.std.specs.Option.{option_map_or}
 use Rattle.std.specs.Ordering.{int_eq}
 use Rattle.std.proofs.Common.{Bool, IfSome, List, None, Option, Some, [], ap, arith, false, fold, if◌then◌else◌, is_some, length, refl, slice_get, slice_set, subst, suc, sym, true, zero, ℕ, ℤ, ◌&&◌, ◌++◌, ◌+◌, ◌==◌, ◌||◌, ◌∙◌, ◌∷◌, ◌≡◌}
 use Rattle.std.proofs.lemmas.Bool.Decides.{Decides-int_eq}
-use Rattle.std.proofs.lemmas.Bool.{and_parts}
+use Rattle.std.proofs.lemmas.Bool.{and_from, and_parts}
 use Rattle.std.proofs.lemmas.List.Sums.{fold-append}
+use Rattle.tp_types.proofs.ListLemmas.{number_itself}
 use Rattle.tp_model.specs.Words.{Action, CommitRecord, Deed, Fact, Item, Letter, Prepared, Scenario, ServerId, Step, Transaction, TxnId, What}
 use Rattle.tp_model.specs.Words.action
 use Rattle.tp_model.specs.Words.decision
@@ -24,7 +25,6 @@ use Rattle.tp_machine.specs.Sound.{Each, EachAt, EachPlaced, IsTxn}
 use Rattle.tp_machine.specs.coord.State.{Coordinator}
 use Rattle.tp_machine.specs.Parts.{Part}
 use Rattle.tp_machine.specs.server.State.{Server}
-use Rattle.tp_machine.proofs.basics.Ids.{number_itself}
 use Rattle.tp_machine.proofs.agreement.World.{Agrees, FactFollows}
 use Rattle.tp_machine.proofs.basics.Facts.{ArePast, Grows, before_past, grows_with_facts}
 use Rattle.tp_machine.proofs.basics.Logs.{first_first, first_stays}
@@ -99,18 +99,15 @@ pub record MoveSerial (sc : Scenario) (w : State) (move : Move) : Type 0 where
 
 -- ---- ranges
 
-and_both : (a b : Bool) → a ≡ true → b ≡ true → (a && b) ≡ true
-and_both a b e f = grind arith
-
 set_in_range : (items : List Item) (store : List ℤ) (k : ℕ) (v : ℤ) → are_in_range items store ≡ true → ((item : Item) → slice_get items k ≡ Some item → is_between item.min item.max v ≡ true)
     → are_in_range items (slice_set store k v) ≡ true
 set_in_range [] store k v h fits = refl
 set_in_range (item ∷ items) [] k v h fits = absurd (cc)
 set_in_range (item ∷ items) (value ∷ store) zero v h fits =
-    and_both (is_between item.min item.max v) (are_in_range items store) (fits item refl) (and_parts (is_between item.min item.max value) (are_in_range items store) h).1
+    and_from (is_between item.min item.max v) (are_in_range items store) (fits item refl) (and_parts (is_between item.min item.max value) (are_in_range items store) h).1
 set_in_range (item ∷ items) (value ∷ store) (suc k) v h fits =
     let parts = and_parts (is_between item.min item.max value) (are_in_range items store) h in
-    and_both (is_between item.min item.max value) (are_in_range items (slice_set store k v)) parts.0 (set_in_range items store k v parts.1 fits)
+    and_from (is_between item.min item.max value) (are_in_range items (slice_set store k v)) parts.0 (set_in_range items store k v parts.1 fits)
 
 deed_in_range : (sc : Scenario) (deed : Deed) (kind : Action) → IsInRange sc deed → (store : List ℤ) → are_in_range sc.items store ≡ true → are_in_range sc.items (stored_by kind store deed) ≡ true
 deed_in_range sc deed action.Read fits store h = h
@@ -134,9 +131,9 @@ same_action_itself action.Write = refl
 
 same_deed_itself : (deed : Deed) → same_deed deed deed ≡ true
 same_deed_itself deed =
-    and_both ((deed.query == deed.query) && same_item deed.item deed.item) (same_action deed.action deed.action && int_eq deed.value deed.value)
-    (and_both (deed.query == deed.query) (same_item deed.item deed.item) (number_itself deed.query) (number_itself deed.item.0))
-    (and_both (same_action deed.action deed.action) (int_eq deed.value deed.value) (same_action_itself deed.action) ((Decides-int_eq deed.value deed.value).1 refl))
+    and_from ((deed.query == deed.query) && same_item deed.item deed.item) (same_action deed.action deed.action && int_eq deed.value deed.value)
+    (and_from (deed.query == deed.query) (same_item deed.item deed.item) (number_itself deed.query) (number_itself deed.item.0))
+    (and_from (same_action deed.action deed.action) (int_eq deed.value deed.value) (same_action_itself deed.action) ((Decides-int_eq deed.value deed.value).1 refl))
 
 -- a commit with the planned deeds is serial on every store in range
 planned_is_serial : (sc : Scenario) (store : List ℤ) (txn : TxnId) (committed : CommitRecord) (declared : Option Transaction) → is_built sc ≡ true → slice_get sc.txns txn.0 ≡ declared → IsTxn sc txn
@@ -144,7 +141,7 @@ planned_is_serial : (sc : Scenario) (store : List ℤ) (txn : TxnId) (committed 
 planned_is_serial sc store txn committed None built found exists e tested h = absurd (missing sc.txns txn.0 exists found)
 planned_is_serial sc store txn committed (Some declared) built found exists e tested h =
     let runs : serial_run declared store ≡ committed.deeds = constants_run_anywhere sc txn declared store built found ∙ sym e in
-    and_both (pointwise same_deed committed.deeds (serial_run declared store)) (are_in_range sc.items (stored_all store committed.deeds))
+    and_from (pointwise same_deed committed.deeds (serial_run declared store)) (are_in_range sc.items (stored_all store committed.deeds))
     (ap (pointwise same_deed committed.deeds) runs ∙ pointwise_itself same_deed same_deed_itself committed.deeds)
     (plan_in_range sc txn committed.deeds store tested e h)
 
@@ -198,10 +195,6 @@ store_in_range sc old place happened h range =
 abbrev IsCommitted : List Fact → What → Type 0
 IsCommitted facts (what.Settled at txn outcome.Commit) = is_some (commit_of txn facts) ≡ true
 IsCommitted facts _ = Unit {0}
-
-first_some : {A : Type 0} (x y : Option A) → is_some y ≡ true → is_some (first_of x y) ≡ true
-first_some None y e = e
-first_some (Some found) y e = refl
 
 told_first : (txn : TxnId) (w : What) (facts : List Fact) → (list_any (is_decided_as txn outcome.Commit) facts ≡ true → is_some (commit_of txn facts) ≡ true)
     → (is_decided_what txn outcome.Commit w || list_any (is_decided_as txn outcome.Commit) facts) ≡ true → is_some (first_of (commit_in_what txn w) (commit_of txn facts)) ≡ true

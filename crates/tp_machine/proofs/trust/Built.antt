@@ -1,10 +1,11 @@
 -- What trust takes from the form that is built: the one policy text allows all by its first rule, a transaction has one query, and
 -- a deferred commit reads no master. Here alone the proofs of trust lean on that form.
-use Rattle.std.proofs.lemmas.Bool.{and_parts}
+use Rattle.std.proofs.lemmas.Bool.{and_from, and_parts, eqb-true}
 use Rattle.std.proofs.Common.{◌≡◌, ℕ, zero, suc, ◌<◌, ◌==◌, ◌&&◌, ◌||◌, List, [], ◌∷◌, length, not, Bool, true, false, slice_get, Option, Some, None, is_none, option_map, unwrap_or, refl, sym, ap, subst, ◌∙◌, arith}
 use Rattle.std.specs.List.{list_any}
 use Rattle.std.specs.Option.{option_map_or}
 use Rattle.std.specs.Cmp.Lexicographic.{pointwise}
+use Rattle.tp_types.proofs.ListLemmas.{three_parts}
 use Rattle.tp_model.specs.Words.{Action, Admin, AdminId, Cond, Item, Level, Pattern, Policy, Query, Rule, Scenario, Scheme, ServerDecl, Transaction, Version}
 use Rattle.tp_model.specs.Words.scheme
 use Rattle.tp_types.specs.declared.policy.Cond.{out-Cond}
@@ -16,13 +17,13 @@ use Rattle.tp_model.specs.Authorisation.{rule_fits, rule_proves}
 use Rattle.tp_model.specs.Built.{is_built}
 use Rattle.tp_model.specs.Queries.{item_of}
 use Rattle.tp_model.specs.Stage.{allows_all, is_all, is_deferred, is_empty, is_open_policy, is_single, is_true_cond, is_true_shape, is_view}
-use Rattle.tp_model.proofs.FirstForm.{is_first_query}
+use Rattle.tp_model.proofs.FirstForm.{is_first_query, single_length}
 use Rattle.tp_model.specs.Credentials.{triples_in}
 use Rattle.tp_model.specs.Levels.{is_global, is_global_item, is_global_query, level_of, reads_master}
 use Rattle.tp_model.specs.Policies.{Triple, allows, holds, is_about_action, is_about_item, level, matches, rule_allows}
 use Rattle.tp_model.specs.Versions.{opening_of}
 use Rattle.tp_machine.specs.Sound.{Each, IsAdmin}
-use Rattle.tp_machine.proofs.ids.Built.{HasForm, IsOnly, count_of, each_of_one, has_form, number_is, second_and_last, single_is}
+use Rattle.tp_machine.proofs.ids.Built.{HasForm, IsOnly, count_of, each_of_one, has_form, second_and_last, single_is}
 
 -- ---- the one policy
 
@@ -41,19 +42,12 @@ about_all All item e = refl
 about_all (Exact name) item e = absurd (cc)
 about_all (Prefix name) item e = absurd (cc)
 
-three_parts : (a b c : Bool) → (a && b && c) ≡ true → (a ≡ true) × (b ≡ true) × (c ≡ true)
-three_parts true b c e = let later = and_parts b c e in (refl, later.0, later.1)
-three_parts false b c e = absurd (cc)
-
-pub both_true : (a b : Bool) → a ≡ true → b ≡ true → (a && b) ≡ true
-both_true a b e f = grind arith
-
 -- the rule is about every query, and true whatever is held
 open_rule : (rule : Rule) (asked : Action) (item : List ℕ) (held : List Triple) → allows_all rule ≡ true → rule_allows asked item held rule ≡ true
 open_rule rule asked item held e =
     let parts = three_parts (is_none rule.action) (is_all rule.pattern) (is_true_cond rule.cond) e in
-    both_true (matches asked item rule) (holds held rule.cond)
-    (both_true _ _ (about_any rule.action asked parts.0) (about_all rule.pattern item parts.1))
+    and_from (matches asked item rule) (holds held rule.cond)
+    (and_from _ _ (about_any rule.action asked parts.0) (about_all rule.pattern item parts.1))
     (true_out held rule.cond (out-Cond rule.cond) refl parts.2)
 
 first_true : (a : Bool) → a ≡ true → (a || false) ≡ true
@@ -91,10 +85,7 @@ each_one P test xs step e =
     let one : IsOnly test xs = single_is test xs e in
     each_of_one P xs one.member one.is_list (step one.member one.passes)
 
-single_count : {A : Type 0} (test : A → Bool) (xs : List A) → is_single test xs ≡ true → length xs ≡ 1
-single_count test xs e = let one : IsOnly test xs = single_is test xs e in count_of xs one.member one.is_list
-
-deferred_is : (s : Scheme) → is_deferred s ≡ true → s ≡ scheme.Deferred
+pub deferred_is : (s : Scheme) → is_deferred s ≡ true → s ≡ scheme.Deferred
 deferred_is scheme.Deferred e = refl
 deferred_is scheme.Continuous e = absurd (cc)
 deferred_is scheme.Punctual e = absurd (cc)
@@ -131,7 +122,7 @@ opening_is sc form admin within =
     let member = form.admins.member in
     let parts = and_parts (is_single is_open_policy member.library) (member.opening.0 == 1) form.admins.passes in
     ap (λ (found : Option Admin). (unwrap_or (option_map (λ (declared : Admin). declared.opening) found) (record { 0 = 0 })).0) (one_admin sc.admins admin member form.admins.is_list within)
-    ∙ number_is member.opening.0 1 parts.1
+    ∙ eqb-true member.opening.0 1 parts.1
 
 pub first_form : (sc : Scenario) → is_built sc ≡ true → IsFirstForm sc
 first_form sc built =
@@ -147,12 +138,12 @@ first_form sc built =
     record {
       policies = each_of_one (λ (admin : Admin). Each (λ (policy : Policy). is_open_policy policy ≡ true) admin.library) sc.admins member form.admins.is_list
           (each_one (λ (policy : Policy). is_open_policy policy ≡ true) is_open_policy member.library (λ policy e. e) admin_parts.0);
-      one_query = each_of_one (λ (t : Transaction). length t.queries ≡ 1) sc.txns txn form.txns_are (single_count (is_first_query form.item) txn.queries parts.1);
+      one_query = each_of_one (λ (t : Transaction). length t.queries ≡ 1) sc.txns txn form.txns_are (single_length (is_first_query form.item) txn.queries parts.1);
       deferred = each_of_one (λ (t : Transaction). t.scheme ≡ scheme.Deferred) sc.txns txn form.txns_are (deferred_is txn.scheme parts.0);
       levels = each_of_one (λ (t : Transaction). (admin : AdminId) → is_global (level_of t admin) ≡ false) sc.txns txn form.txns_are (λ admin. view_not_global txn.level view_is);
       view = each_of_one (λ (t : Transaction). reads_master sc t ≡ false) sc.txns txn form.txns_are (view_reads_none sc txn (view_not_global txn.level view_is));
       admin_count = count_of sc.admins member form.admins.is_list;
       opening = opening_is sc form;
       known = each_of_one (λ (server : ServerDecl). Each (λ (version : Version). version.0 ≡ 1) server.knows) sc.servers form.server form.servers_are
-          (each_one (λ (version : Version). version.0 ≡ 1) (λ (version : Version). version.0 == 1) form.server.knows (λ version e. number_is version.0 1 e) server_parts.0);
+          (each_one (λ (version : Version). version.0 ≡ 1) (λ (version : Version). version.0 == 1) form.server.knows (λ version e. eqb-true version.0 1 e) server_parts.0);
     }

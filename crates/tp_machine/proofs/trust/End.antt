@@ -1,12 +1,13 @@
 -- Trust of the facts: where the invariant holds, every commit is trusted and every abort has its cause.
-use Rattle.std.proofs.lemmas.Bool.{and_parts}
+use Rattle.std.proofs.lemmas.Bool.{and_from, and_parts, le-leb, lt-ltb}
 use Rattle.std.proofs.Common.{Bool, List, None, Option, Some, [], ap, arith, false, if◌then◌else◌, is_none, is_some, length, nat_le, nat_lt, not, refl, slice_get, subst, true, ℕ, ◌&&◌, ◌<◌, ◌==◌, ◌||◌, ◌∙◌, ◌∷◌, ◌≡◌, ◌≤◌}
 use Rattle.std.specs.Cmp.Lexicographic.{pointwise}
 use Rattle.std.specs.List.{list_all, range_with_len}
 use Rattle.std.specs.Option.{option_map_or}
 use Rattle.std.proofs.lemmas.Bool.Decides.{nat_tests}
-use Rattle.tp_model.specs.Words.{AdminId, Cause, CommitRecord, Denied, Fact, Scenario, Scheme, Transaction, TxnId, Verdict, What}
 use Rattle.tp_model.specs.Words.cause
+use Rattle.tp_model.specs.Words.{AdminId, Cause, CommitRecord, Denied, Fact, Scenario, Scheme, Transaction, TxnId, Verdict, What}
+use Rattle.tp_types.proofs.ListLemmas.{number_itself, three_from}
 use Rattle.tp_model.specs.Words.decision
 use Rattle.tp_model.specs.Words.scheme
 use Rattle.tp_model.specs.Words.what
@@ -21,24 +22,14 @@ use Rattle.tp_machine.specs.Machine.{State}
 use Rattle.tp_machine.specs.Sound.{Each, IsSound, IsSoundCause, IsSoundFact, IsSoundWhat, IsTxn, IsVersion}
 use Rattle.tp_machine.specs.coord.Row as row
 use Rattle.tp_machine.specs.coord.Row.{are_agreed}
-use Rattle.tp_machine.proofs.basics.Ids.{number_itself}
 use Rattle.tp_machine.proofs.agreement.End.{each_found}
 use Rattle.tp_machine.proofs.basics.Facts.{all_from_each}
 use Rattle.tp_machine.proofs.basics.Lists.{each_get, missing}
 use Rattle.tp_machine.proofs.trust.Fit.{IsRight, Right, VerdictsFit}
-use Rattle.tp_machine.proofs.trust.Built.{IsFirstForm, both_true, first_form}
+use Rattle.tp_machine.proofs.trust.Built.{IsFirstForm, first_form}
 use Rattle.tp_machine.proofs.trust.Coordinator.{CauseFits, CommitFits}
 use Rattle.tp_machine.proofs.trust.Server.{policy_there}
 use Rattle.tp_machine.proofs.trust.World.{FactFits, Trusts, WhatFits}
-
-three_true : (a b c : Bool) → a ≡ true → b ≡ true → c ≡ true → (a && b && c) ≡ true
-three_true a b c e f g = grind arith
-
-le_test : (low high : ℕ) → low ≤ high → nat_le low high ≡ true
-le_test low high e = grind (arith, nat_tests)
-
-lt_test : (low high : ℕ) → low < high → nat_lt low high ≡ true
-lt_test low high e = grind (arith, nat_tests)
 
 -- ---- a proof
 
@@ -46,24 +37,24 @@ lt_test low high e = grind (arith, nat_tests)
 trusted_proof : (sc : Scenario) (txn : TxnId) (declared : Transaction) (place : ℕ) (facts : List Fact) (proof : Verdict) → IsRight sc facts place txn declared proof → is_some proof.rule ≡ true
     → is_trusted_proof sc txn declared place facts proof ≡ true
 trusted_proof sc txn declared place facts proof h has_rule =
-    three_true (is_true_verdict sc facts declared proof) (is_within txn place facts proof.place) (nat_le proof.version.0 (newest sc proof.admin place facts))
-    (three_true (is_own_query sc declared proof.query proof.server proof.admin) (is_allowed sc facts declared proof.query proof.admin proof.version proof.place) (is_certified sc facts declared proof)
+    three_from (is_true_verdict sc facts declared proof) (is_within txn place facts proof.place) (nat_le proof.version.0 (newest sc proof.admin place facts))
+    (three_from (is_own_query sc declared proof.query proof.server proof.admin) (is_allowed sc facts declared proof.query proof.admin proof.version proof.place) (is_certified sc facts declared proof)
     h.own (h.fits ∙ has_rule) (h.proved has_rule))
-    (both_true _ _ h.begun (lt_test proof.place place h.past))
-    (le_test proof.version.0 (newest sc proof.admin place facts) h.published)
+    (and_from _ _ h.begun (lt-ltb proof.place place h.past))
+    (le-leb proof.version.0 (newest sc proof.admin place facts) h.published)
 
 trusted_proofs : (sc : Scenario) (txn : TxnId) (declared : Transaction) (place : ℕ) (facts : List Fact) (proofs : List Verdict) → slice_get sc.txns txn.0 ≡ Some declared
     → Each (Right sc facts place txn) proofs → list_all row.is_true_verdict proofs ≡ true → list_all (is_trusted_proof sc txn declared place facts) proofs ≡ true
 trusted_proofs sc txn declared place facts [] e h t = refl
 trusted_proofs sc txn declared place facts (proof ∷ proofs) e h t =
     let parts = and_parts (row.is_true_verdict proof) (list_all row.is_true_verdict proofs) t in
-    both_true _ _ (trusted_proof sc txn declared place facts proof (h.0 declared e) parts.0) (trusted_proofs sc txn declared place facts proofs e h.1 parts.1)
+    and_from _ _ (trusted_proof sc txn declared place facts proof (h.0 declared e) parts.0) (trusted_proofs sc txn declared place facts proofs e h.1 parts.1)
 
 -- ---- an instance
 
 same_numbers : (numbers : List ℕ) → pointwise ◌==◌ numbers numbers ≡ true
 same_numbers [] = refl
-same_numbers (n ∷ numbers) = both_true (n == n) (pointwise ◌==◌ numbers numbers) (number_itself n) (same_numbers numbers)
+same_numbers (n ∷ numbers) = and_from (n == n) (pointwise ◌==◌ numbers numbers) (number_itself n) (same_numbers numbers)
 
 -- proofs that are right, true and of one version close the instance of a deferred commit that reads no master
 closes_instance : (sc : Scenario) (txn : TxnId) (declared : Transaction) (place : ℕ) (facts : List Fact) (proofs : List Verdict) → reads_master sc declared ≡ false → slice_get sc.txns txn.0 ≡ Some declared
@@ -73,7 +64,7 @@ closes_instance sc txn declared place facts proofs view e fit agreed =
     let parts = and_parts (list_all row.is_true_verdict proofs) (is_one_version proofs) agreed in
     let over : is_over (length declared.queries) proofs ≡ true = ap (λ (numbers : List ℕ). pointwise ◌==◌ numbers (range_with_len 1 (length declared.queries))) (fit.all declared e) ∙ same_numbers (range_with_len 1 (length declared.queries)) in
     let reading : (if reads_master sc declared then meets_readings sc declared None facts proofs else true) ≡ true = ap (λ (b : Bool). if b then meets_readings sc declared None facts proofs else true) view in
-    (both_true _ _ over (both_true _ _ parts.1 reading), both_true _ true (trusted_proofs sc txn declared place facts proofs e fit.right parts.0) refl)
+    (and_from _ _ over (and_from _ _ parts.1 reading), and_from _ true (trusted_proofs sc txn declared place facts proofs e fit.right parts.0) refl)
 
 -- ---- a commit
 
@@ -87,10 +78,10 @@ trusted_commit sc txn place facts committed declared form e h =
     let deferred : declared.scheme ≡ scheme.Deferred = each_get (λ (t : Transaction). t.scheme ≡ scheme.Deferred) sc.txns txn.0 declared form.deferred e in
     let view : reads_master sc declared ≡ false = each_get (λ (t : Transaction). reads_master sc t ≡ false) sc.txns txn.0 declared form.view e in
     let closed = closes_instance sc txn declared place facts h.proofs view e h.fit h.agreed in
-    both_true _ _
+    and_from _ _
     (ap (λ (s : Scheme). meets_scheme s sc facts declared committed) deferred
-    ∙ both_true _ _ (ap (is_deferred_demand sc facts declared) h.instances ∙ closed.0) (round_count sc declared committed.rounds view h.rounds))
-    (ap (list_all (is_trusted_instance sc txn declared place facts)) h.instances ∙ both_true _ true closed.1 refl)
+    ∙ and_from _ _ (ap (is_deferred_demand sc facts declared) h.instances ∙ closed.0) (round_count sc declared committed.rounds view h.rounds))
+    (ap (list_all (is_trusted_instance sc txn declared place facts)) h.instances ∙ and_from _ true closed.1 refl)
 
 exists_txn : (sc : Scenario) (txn : TxnId) (found : Option Transaction) → slice_get sc.txns txn.0 ≡ found → IsTxn sc txn → (declared : Transaction) × (slice_get sc.txns txn.0 ≡ Some declared)
 exists_txn sc txn None e within = absurd (missing sc.txns txn.0 within e)
@@ -125,9 +116,9 @@ denial_shown sc txn declared place facts verdict view version h ruleless =
     four_true (is_own_query sc declared verdict.query verdict.server verdict.admin) (is_within txn place facts verdict.place) (is_denied_version sc place facts declared (row.denied_by verdict))
     (is_allowed sc facts declared verdict.query verdict.admin verdict.version verdict.place)
     h.own
-    (both_true _ _ h.begun (lt_test verdict.place place h.past))
-    (three_true (is_some (policy_at sc verdict.admin verdict.version)) (nat_le verdict.version.0 (newest sc verdict.admin place facts)) _
-    (policy_there sc verdict.admin verdict.version version) (le_test verdict.version.0 (newest sc verdict.admin place facts) h.published)
+    (and_from _ _ h.begun (lt-ltb verdict.place place h.past))
+    (three_from (is_some (policy_at sc verdict.admin verdict.version)) (nat_le verdict.version.0 (newest sc verdict.admin place facts)) _
+    (policy_there sc verdict.admin verdict.version version) (le-leb verdict.version.0 (newest sc verdict.admin place facts) h.published)
     (unbound (is_global (level_of declared verdict.admin)) (denies_at_newest declared.scheme) (nat_le (newest sc verdict.admin verdict.place facts) verdict.version.0) view))
     (h.fits ∙ no_rule verdict.rule ruleless)
 

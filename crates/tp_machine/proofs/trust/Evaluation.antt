@@ -2,6 +2,7 @@
 use Rattle.std.proofs.Common.{◌≡◌, ℕ, ◌&&◌, List, Bool, true, false, Option, Some, None, option_map, slice_get, refl, sym, ap, ◌∙◌}
 use Rattle.std.specs.List.{list_all}
 use Rattle.std.specs.Option.{is_some}
+use Rattle.std.proofs.Math.Bool.{and-false, and-true}
 use Rattle.tp_model.specs.Words.{Action, AdminId, Fact, Item, Policy, Query, Scenario, ServerId, Staple, Transaction, Verdict, Version}
 use Rattle.tp_model.specs.Authorisation.{action_of, allows_held, is_allowed, is_certified, is_own_query, policy_at, tests_item, tests_query, tests_version}
 use Rattle.tp_model.specs.Credentials.{is_presented}
@@ -86,17 +87,9 @@ has_rule_where : (answer : Option Certificate) → is_some (option_map rule_of a
 has_rule_where None = refl
 has_rule_where (Some found) = refl
 
-and_true : (b : Bool) → (b && true) ≡ b
-and_true true = refl
-and_true false = refl
-
-and_false : (b : Bool) → (b && false) ≡ false
-and_false true = refl
-and_false false = refl
-
 true_by : (own allowed certified has_rule : Bool) → allowed ≡ has_rule → (has_rule ≡ true → certified ≡ true) → ((own && allowed) && certified) ≡ (own && has_rule)
-true_by own allowed certified true is good = rw (is, good refl) (and_true (own && true))
-true_by own allowed certified false is good = rw (is, and_false own) refl
+true_by own allowed certified true is good = rw (is, good refl) (and-true (own && true))
+true_by own allowed certified false is good = rw (is, and-false own) refl
 
 pub evaluate_right : (sc : Scenario) (facts : List Fact) (txn : Transaction) (staple : Staple) (server : ServerId) (number : ℕ) (admin : AdminId) (version : Version)
     → IsAt sc staple.place facts staple.clock staple.revoked → IsRightVerdict sc facts txn (evaluation sc txn staple server number admin version)

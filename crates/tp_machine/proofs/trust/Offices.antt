@@ -1,4 +1,6 @@
 -- The offices: the clock moves, credentials are revoked, and the master answers.
+use Rattle.std.proofs.lemmas.List.{append-nil, length-set}
+use Rattle.std.proofs.lemmas.List.Folds.{list_any-append}
 use Rattle.std.proofs.Common.{Bool, List, None, Option, Some, [], false, ap, arith, length, refl, replicate, slice_get, slice_set, suc, sym, zero, ℕ, ◌+◌, ◌<◌, ◌==◌, ◌||◌, ◌∙◌, ◌∷◌, ◌≡◌}
 use Rattle.std.specs.List.{sum_by}
 use Rattle.std.proofs.lemmas.List.Sums.{sum_by-cons}
@@ -13,7 +15,7 @@ use Rattle.tp_offices.specs.Master as master
 use Rattle.tp_offices.specs.declared.authority.Authority.{Authority}
 use Rattle.tp_machine.specs.Machine.{State, revokes, ticks as moves}
 use Rattle.tp_machine.specs.Sound.{Each, IsCred}
-use Rattle.tp_machine.proofs.basics.Facts.{ArePast, any_append, append_none}
+use Rattle.tp_machine.proofs.basics.Facts.{ArePast}
 use Rattle.tp_machine.proofs.basics.Lists.{placed_set}
 use Rattle.tp_machine.proofs.trust.Fit.{AuthorityFits, BodyFits, maybe_stays}
 use Rattle.tp_machine.proofs.trust.Turns.{TurnFits}
@@ -46,11 +48,6 @@ revoked_more (Some old ∷ places) first (suc n) cred other placed within own =
     further : (a now was c : Bool) → now ≡ (was || c) → (a || now) ≡ ((a || was) || c)
     further a now was c e = grind arith
 
-set_length : {A : Type 0} (xs : List A) (n : ℕ) (x : A) → length (slice_set xs n x) ≡ length xs
-set_length [] n x = refl
-set_length (y ∷ xs) zero x = refl
-set_length (y ∷ xs) (suc n) x = let later = set_length xs n x in omega (arith, later)
-
 or_none : (a : Bool) → (a || false) ≡ a
 or_none a = grind arith
 
@@ -71,7 +68,7 @@ ticked_fits sc w by authority past h =
     let was = h.clock_is in
     record {
       clock_is = omega (arith, was, clock, one);
-      revoked_is = λ cred. h.revoked_is cred ∙ ap (λ (revoked : List CredId). is_among revoked cred) (sym (revoked_after w happened past ∙ append_none (revoked_at place w.facts)));
+      revoked_is = λ cred. h.revoked_is cred ∙ ap (λ (revoked : List CredId). is_among revoked cred) (sym (revoked_after w happened past ∙ append-nil (revoked_at place w.facts)));
       placed = h.placed;
       places = h.places;
     }
@@ -91,9 +88,9 @@ revoked_fits sc w cred authority exists past h =
           revoked_more authority.revoked 0 cred.0 cred other (λ m found e. let p = h.placed m found e in omega (arith, p)) (omega (arith, exists, count)) (omega arith)
           ∙ (ap (λ (b : Bool). b || same_cred other cred) (h.revoked_is other)
           ∙ sym (ap (λ (revoked : List CredId). is_among revoked other) (revoked_after w happened past)
-          ∙ (any_append (same_cred other) (revoked_at place w.facts) (cred ∷ []) ∙ ap (λ (b : Bool). is_among (revoked_at place w.facts) other || b) (or_none (same_cred other cred)))));
+          ∙ (list_any-append (same_cred other) (revoked_at place w.facts) (cred ∷ []) ∙ ap (λ (b : Bool). is_among (revoked_at place w.facts) other || b) (or_none (same_cred other cred)))));
       placed = placed_set (λ (n : ℕ) (found : CredId). found.0 ≡ n) authority.revoked cred.0 cred h.placed refl;
-      places = set_length authority.revoked cred.0 (Some cred) ∙ count;
+      places = length-set authority.revoked cred.0 (Some cred) ∙ count;
     }
 
 -- ---- the move

@@ -3,6 +3,8 @@ use Rattle.std.specs.List.{range_with_len}
 use Rattle.std.specs.Option.{option_map_or}
 use Rattle.std.proofs.Common.{Bool, IfSome, List, None, Option, Some, [], ap, arith, false, is_none, is_some, length, map, option_and_then, refl, slice_get, subst, suc, sym, true, zero, ℕ, ℤ, ◌&&◌, ◌<◌, ◌==◌, ◌∙◌, ◌∷◌, ◌≡◌, ◌≤◌}
 use Rattle.std.proofs.lemmas.Option.{cond_some, same_Some}
+use Rattle.std.proofs.lemmas.Bool.{and_from}
+use Rattle.tp_types.proofs.ListLemmas.{number_itself}
 use Rattle.tp_types.specs.Effect.{Effect, ignores}
 use Rattle.tp_model.specs.Authorisation.{action_of, allows_held, is_item_at, is_own_query, is_query_at, policy_at, rule_proves, tests_item, tests_query, tests_version, version_in, version_of}
 use Rattle.tp_model.specs.Credentials.{held}
@@ -19,12 +21,11 @@ use Rattle.tp_machine.specs.declared.coord.Phase.{Phase}
 use Rattle.tp_machine.specs.declared.server.Entry.{Entry}
 use Rattle.tp_machine.specs.server.Row.{answers, asked_item, begins, done_reply, entry_at, first_entry, plain_write, restarted_reply, server_row, settles, verdict_on, votes}
 use Rattle.tp_machine.specs.server.State.{Server}
-use Rattle.tp_machine.proofs.basics.Ids.{number_itself}
 use Rattle.tp_machine.proofs.walks.ServerRows.{server_by}
 use Rattle.tp_machine.proofs.ids.Valid.{IsValid}
 use Rattle.tp_machine.proofs.basics.Lists.{each_found, each_get, each_map, placed_emptied, placed_set}
 use Rattle.tp_machine.proofs.ids.Server.{verdict_sound}
-use Rattle.tp_machine.proofs.trust.Built.{IsFirstForm, both_true, open_policy_allows, open_policy_proves}
+use Rattle.tp_machine.proofs.trust.Built.{IsFirstForm, open_policy_allows, open_policy_proves}
 use Rattle.tp_machine.proofs.trust.Fit.{AreAll, BodyFits, Right, ServerFits, StapleFits, VerdictsFit, deed_numbers, numbers_of}
 use Rattle.tp_machine.proofs.trust.Kept.{AreKept, IsKept, IsTrusted, RecordKept}
 use Rattle.tp_machine.proofs.trust.Turns.{Answers, IsClosed, PrepareNow, Stamp, VoteNow, stamp_of}
@@ -61,7 +62,7 @@ own_query : (sc : Scenario) (txn : TxnId) (declared : Transaction) (number : ℕ
 own_query sc txn declared number at admin e q =
     ap (λ (found : Option Query). option_map_or (is_query_at sc at admin) found false) (found_query sc txn declared number q.asked e q.asked_is)
     ∙ (ap (λ (found : Option Item). option_map_or (is_item_at at admin) found false) q.kept.declared_is
-    ∙ both_true (q.kept.declared.server.0 == at.0) (q.kept.declared.admin.0 == admin.0)
+    ∙ and_from (q.kept.declared.server.0 == at.0) (q.kept.declared.admin.0 == admin.0)
     (ap (λ (s : ServerId). s.0 == at.0) q.kept.server_is ∙ number_itself at.0) (ap (λ (a : AdminId). a.0 == admin.0) q.admin_is ∙ number_itself admin.0))
 
 library_has : (library : List Policy) (version : ℕ) → 1 ≤ version → version ≤ length library → (policy : Policy) × (version_in library version ≡ Some policy)
@@ -118,7 +119,7 @@ verdict_right sc facts place s txn staple deed form valid sound h fits d declare
       own = own_query sc txn declared verdict.query verdict.server verdict.admin e v.query;
       fits = tested sc txn declared verdict.query verdict.server verdict.admin verdict.version (allows_held sc verdict.place facts declared) e v.query o
           (λ asked item. open_policy_allows o.policy asked item (held sc verdict.place facts declared) o.open_is);
-      proved = λ has_rule. both_true _ true
+      proved = λ has_rule. and_from _ true
           (tested sc txn declared verdict.query verdict.server verdict.admin verdict.version (rule_proves sc declared [] (Some 1)) e v.query o
           (λ asked item. open_policy_proves sc declared o.policy asked item o.open_is)) refl;
       begun = fits.begun;

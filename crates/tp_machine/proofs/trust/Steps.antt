@@ -2,6 +2,9 @@
 use Rattle.std.specs.Option.{option_map_or}
 use Rattle.std.proofs.lemmas.List.{length-replicate}
 use Rattle.std.proofs.Common.{Bool, IfSome, List, None, Option, Some, [], arith, false, length, refl, slice_get, subst, suc, sym, true, unwrap_or, zero, ℕ, ℤ, ◌+◌, ◌==◌, ◌||◌, ◌∙◌, ◌∷◌, ◌≡◌}
+use Rattle.std.proofs.lemmas.Bool.{or_left, or_right}
+use Rattle.std.proofs.lemmas.List.Folds.{list_any-append}
+use Rattle.tp_types.proofs.ListLemmas.{number_itself}
 use Rattle.tp_model.specs.Built.{is_built}
 use Rattle.tp_model.specs.Facts.{is_submission}
 use Rattle.tp_model.specs.Queries.{written_constant}
@@ -27,8 +30,7 @@ use Rattle.tp_machine.proofs.agreement.CoordinatorActs.{coordinator_facts}
 use Rattle.tp_machine.proofs.agreement.Steps.{own_txn}
 use Rattle.tp_machine.proofs.agreement.World.{Agrees}
 use Rattle.tp_machine.proofs.walks.Steps.{Cases, IsCoordinatorUp, IsServerUp, SaysIdle, WasSent, machine_after_by}
-use Rattle.tp_machine.proofs.basics.Facts.{ArePast, any_append}
-use Rattle.tp_machine.proofs.basics.Ids.{number_itself}
+use Rattle.tp_machine.proofs.basics.Facts.{ArePast}
 use Rattle.tp_machine.proofs.ids.Valid.{IsValid, valid_built}
 use Rattle.tp_machine.proofs.basics.Lists.{at_made, each_get, placed_none}
 use Rattle.tp_machine.proofs.trust.Acts.{ActTrusts, act_trusts, coordinator_acts_trusts, server_acts_trusts, tells_fit, tells_timely, timely_closed, unmoved_trusts}
@@ -114,16 +116,10 @@ receipt_by_coordinator sc w few sound past h n mail txn part c sent up =
 
 -- ---- submissions
 
-later_true : (a b : Bool) → b ≡ true → (a || b) ≡ true
-later_true a b e = grind arith
-
-first_true : (a b : Bool) → a ≡ true → (a || b) ≡ true
-first_true a b e = grind arith
-
 -- the facts after a submission tell of it
 now_submitted : (w : State) (txn : TxnId) (more : List What) → IsSubmitted (facts_after w (what.Submitted txn ∷ more)) txn
 now_submitted w txn more =
-    any_append (is_submission txn) w.facts (facts_of (length w.steps) (what.Submitted txn ∷ more)) ∙ later_true _ _ (first_true (txn.0 == txn.0) _ (number_itself txn.0))
+    list_any-append (is_submission txn) w.facts (facts_of (length w.steps) (what.Submitted txn ∷ more)) ∙ or_right _ _ (or_left (txn.0 == txn.0) _ (number_itself txn.0))
 
 -- a submission decides nothing
 begins_nothing : (sc : Scenario) (w : State) (c : Coordinator) (asked : Option Query) → IfSome (begins sc c asked).reaction.append (RecordDecides sc w.facts (length w.steps))

@@ -5,6 +5,7 @@ use Rattle.std.proofs.Common.{Bool, List, None, Option, Some, [], arith, length,
 use Rattle.std.proofs.lemmas.Bool.Decides.{nat_tests}
 use Rattle.std.proofs.lemmas.Bool.{and_parts}
 use Rattle.std.proofs.lemmas.Option.{slice_get_within}
+use Rattle.tp_model.proofs.RuleLemmas.{count_most}
 use Rattle.tp_model.specs.Limits.{has_count, is_from_to}
 use Rattle.tp_model.specs.Queries.{query_at}
 use Rattle.tp_model.specs.Valid.{IsValid, are_distinct, has_valid_creds, is_name_of_server, is_valid_query, is_valid_txn, same_txn_name}
@@ -146,9 +147,6 @@ ceiling sc c = ceiling_in (query_count sc c.txn) c.phase
 -- no transaction has more than 16 queries
 abbrev pub AreFew : Scenario → Type 0
 AreFew sc = (txn : TxnId) → query_count sc txn ≤ 16
-
-count_most : (least most n : ℕ) → is_from_to least most n ≡ true → n ≤ most
-count_most least most n h = grind (arith, nat_tests)
 
 first_of_three : (a b c : Bool) → (a && b && c) ≡ true → a ≡ true
 first_of_three a b c e = grind arith

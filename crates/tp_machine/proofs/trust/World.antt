@@ -2,10 +2,14 @@
 use Rattle.std.specs.List.{cons_option, filter_map, sum_by}
 use Rattle.std.proofs.Common.{Bool, IfSome, List, None, Option, Some, [], ap, arith, length, option_and_then, refl, slice_get, subst, sym, true, ℕ, ◌++◌, ◌+◌, ◌<◌, ◌||◌, ◌∙◌, ◌∷◌, ◌≡◌, ◌≤◌}
 use Rattle.std.proofs.lemmas.List.Sums.{sum_by-append, sum_by-cons}
-use Rattle.tp_model.specs.Credentials.{clock_at, is_among, revoked_at, revoked_by, revoked_what, ticks, ticks_what}
-use Rattle.tp_model.specs.Facts.{is_submission}
-use Rattle.tp_model.specs.Words.{Body, Cause, CredId, Decision, Fact, Instance, Letter, Mail, Scenario, Step, TxnId, Verdict, What}
 use Rattle.tp_model.specs.Words.cause
+use Rattle.tp_model.specs.Credentials.{clock_at, is_among, revoked_at, revoked_by, revoked_what, ticks, ticks_what}
+use Rattle.tp_model.specs.Facts.{before, is_submission}
+use Rattle.tp_model.specs.Words.{Body, Cause, CredId, Decision, Fact, Instance, Letter, Mail, Scenario, Step, TxnId, Verdict, What}
+use Rattle.std.proofs.lemmas.Bool.{or_left}
+use Rattle.std.proofs.lemmas.List.{append-nil, length_push}
+use Rattle.std.proofs.lemmas.List.Folds.{list_any-append}
+use Rattle.std.proofs.lemmas.List.Elements.{filter_map-append}
 use Rattle.tp_model.specs.Words.decision
 use Rattle.tp_model.specs.Words.what
 use Rattle.tp_machine.specs.Machine.{Move, State, facts_of, mails_of, state_after}
@@ -15,8 +19,8 @@ use Rattle.tp_machine.specs.coord.State.{Coordinator}
 use Rattle.tp_machine.specs.declared.actors.Actors.{Actors}
 use Rattle.tp_offices.specs.declared.authority.Authority.{Authority}
 use Rattle.tp_machine.specs.server.State.{Server}
-use Rattle.tp_machine.proofs.agreement.World.{Agrees, steps_more}
-use Rattle.tp_machine.proofs.basics.Facts.{ArePast, any_append, append_none, before_past, filter_map_append, grows_with_facts, new_facts_past, past_as}
+use Rattle.tp_machine.proofs.agreement.World.{Agrees}
+use Rattle.tp_machine.proofs.basics.Facts.{ArePast, before_past, grows_with_facts, new_facts_past, past_as}
 use Rattle.tp_machine.proofs.basics.Lists.{each_append, each_as}
 use Rattle.tp_machine.proofs.trust.Coordinator.{CauseFits, CoordinatorFits, DecisionFits}
 use Rattle.tp_machine.proofs.trust.Fit.{AuthorityFits, BodyFits, Later, MailFits, ServerFits, body_stays, maybe_stays, phase_stays, right_stays, server_stays, verdicts_stay}
@@ -92,16 +96,13 @@ pub record MoveTrusts (sc : Scenario) (w : State) (move : Move) : Type 0 where
 
 -- ---- growth
 
-either_true : (a b : Bool) → a ≡ true → (a || b) ≡ true
-either_true a b e = grind arith
-
 -- the facts after a move are later ones
 pub later_with_facts : (w : State) (happened : List What) (high : ℕ) → length w.steps ≤ high → Later w.facts (facts_after w happened) (length w.steps) high
 later_with_facts w happened high le =
     record {
       grows = grows_with_facts w.facts (length w.steps) happened;
       le = le;
-      more = λ txn e. any_append (is_submission txn) w.facts (facts_of (length w.steps) happened) ∙ either_true _ _ e;
+      more = λ txn e. list_any-append (is_submission txn) w.facts (facts_of (length w.steps) happened) ∙ or_left _ _ e;
     }
 
 pub server_part_stays : (sc : Scenario) (old new : List Fact) (low high : ℕ) (T U : Body → Type 0) (part : Part Server) → Later old new low high → ((said : Body) → T said → U said)
@@ -223,7 +224,7 @@ pub revoked_after : (w : State) (happened : List What) → ArePast (length w.ste
 revoked_after w happened past =
     let place = length w.steps in
     ap (filter_map revoked_by) (before_past (place + 1) (facts_after w happened) (past_after w happened past))
-    ∙ (filter_map_append revoked_by w.facts (facts_of place happened)
+    ∙ (filter_map-append revoked_by w.facts (facts_of place happened)
     ∙ ap (λ (facts : List Fact). filter_map revoked_by facts ++ filter_map revoked_by (facts_of place happened)) (sym (before_past place w.facts past)))
 
 -- an authority that stays fits the facts after a move in which no time passes and nothing is revoked
@@ -235,7 +236,7 @@ authority_stays sc w happened authority past still h =
     let none = no_ticks place happened still in
     let was = h.clock_is in
     let same : revoked_at (place + 1) (facts_after w happened) ≡ revoked_at place w.facts =
-    revoked_after w happened past ∙ (ap (λ (more : List CredId). revoked_at place w.facts ++ more) (no_revocation place happened still) ∙ append_none (revoked_at place w.facts)) in
+    revoked_after w happened past ∙ (ap (λ (more : List CredId). revoked_at place w.facts ++ more) (no_revocation place happened still) ∙ append-nil (revoked_at place w.facts)) in
     record {
       clock_is = omega (arith, was, clock, none);
       revoked_is = λ cred. h.revoked_is cred ∙ ap (λ (revoked : List CredId). is_among revoked cred) (sym same);
@@ -264,4 +265,4 @@ state_after_trusts sc w taken move a h t =
       facts_fit = each_append (FactFits sc now) w.facts (facts_of place move.happened) (facts_stay sc w.facts now place (place + 1) w.facts l a.past h.facts_fit)
           (new_facts_fit sc now place move.happened t.facts);
     } in
-    subst (λ (p : ℕ). TrustsAt sc now p move.actors mails) (sym (steps_more w.steps taken)) made
+    subst (λ (p : ℕ). TrustsAt sc now p move.actors mails) (sym (length_push w.steps taken)) made

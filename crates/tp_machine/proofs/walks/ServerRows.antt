@@ -3,6 +3,7 @@ use Rattle.std.specs.Option.{option_map_or}
 use Rattle.std.proofs.Common.{Bool, None, Option, Some, [], false, is_none, is_some, not, refl, slice_get, true, ℕ, ◌==◌, ◌∷◌, ◌≡◌}
 use Rattle.tp_types.specs.Effect.{Effect, ignores, sends}
 use Rattle.tp_types.specs.Table.{flattened}
+use Rattle.std.proofs.lemmas.Bool.{not-false}
 use Rattle.tp_model.specs.Stage.{is_empty}
 use Rattle.tp_model.specs.Words.{Body, DecideRequest, Deed, DoneReply, Mail, PrepareRequest, QueryRequest, Scenario, Settled, Staple}
 use Rattle.tp_model.specs.Words.body
@@ -99,10 +100,6 @@ evaluates_by : (sc : Scenario) (s : Server) (mail : Mail) (P : Effect Server →
 evaluates_by sc s mail P cases p entry None vote_is = cases.ignored
 evaluates_by sc s mail P cases p entry (Some staple) vote_is = by_cond P (is_empty p.want) (λ none_wanted. cases.voted p entry staple (vote_is staple refl)) (λ wanted. cases.ignored)
 
-not_false : (b : Bool) → not b ≡ false → b ≡ true
-not_false true e = refl
-not_false false e = absurd (cc)
-
 asked_to_vote_by : (sc : Scenario) (s : Server) (mail : Mail) (P : Effect Server → Type 0) → ServerCases sc s mail P → (p : PrepareRequest) (entry : Option Entry) → mail.letter.body ≡ body.Prepare p
     → is_open s p.txn ≡ true → entry_at s p.txn ≡ entry → P (asked_to_vote sc s p entry)
 asked_to_vote_by sc s mail P cases p None e unsettled found = cases.ignored
@@ -115,7 +112,7 @@ asked_to_vote_by sc s mail P cases p (Some entry) e unsettled found =
       said_is = e;
       unsettled = unsettled;
       found = found;
-      same_epoch = not_false (entry.epoch == p.epoch) same;
+      same_epoch = not-false (entry.epoch == p.epoch) same;
       unvoted = unvoted;
       in_range = in_range;
       stapled = given;

@@ -1,5 +1,5 @@
 use Rattle.std.proofs.Common.{arith, ◌<◌, ◌^◌}
-use Rattle.tp_policy_text.proofs.Scans.{value_below}
+use Rattle.tp_types.proofs.NumberLemmas.{value_below}
 use Rattle.tp_policy_text.proofs.scan.value_of.Goals as goal
 
 pub overflow_mul-value : goal.overflow_mul-value
