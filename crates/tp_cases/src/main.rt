@@ -3,15 +3,17 @@
 
 use std::alloc::{AllocError, Global};
 use std::fs::{self, Files};
-use std::io;
+use std::io::{self, ErrorKind};
 use tp_io::{MemorySink, MemorySource};
 use tp_top::tpvc;
 use tp_types::{List, Text};
 
-/// A line of the index: the name of a case, the status that it is to end with, and the words of the call.
+/// A line of the index: the name of a case, the length of its input where one is told, the status that it is to end with, and
+/// the words of the call.
 #[derive(Drop)]
 struct Case<'a> {
     name: &'a str,
+    length: Option<&'a str>,
     status: &'a str,
     words: Vec<Text>,
 }
@@ -51,9 +53,13 @@ fn word_of(alloc: Global, spelled: &str) -> Result<Text, AllocError> {
 /// The case of a line, or None where the line is empty or a comment.
 fn case_of<'a>(alloc: Global, line: &'a str) -> Result<Option<Case<'a>>, AllocError> {
     let mut parts = line.split_whitespace();
-    let name = match parts.next() {
+    let named = match parts.next() {
         None | Some("#") => return Ok(None),
-        Some(name) => name,
+        Some(named) => named,
+    };
+    let (name, length) = match named.split_once(':') {
+        None => (named, None),
+        Some((name, length)) => (name, Some(length)),
     };
     let status = parts.next().unwrap_or("");
     let mut words = Vec::new(alloc);
@@ -62,9 +68,22 @@ fn case_of<'a>(alloc: Global, line: &'a str) -> Result<Option<Case<'a>>, AllocEr
     }
     Ok(Some(Case {
         name,
+        length,
         status,
         words,
     }))
+}
+
+/// The input of a case: its file, with blanks up to the length that is told.
+fn input<R: Files + AllocGlobal>(rt: &R, folder: &str, case: &Case<'_>) -> io::Result<Vec<u8>> {
+    let mut input = file(rt, folder, case.name, "json")?;
+    if let Some(length) = case.length {
+        match length.parse::<usize>() {
+            Ok(length) => input.resize(length, b' ')?,
+            Err(_) => return Err(io::Error::from(ErrorKind::InvalidData)),
+        }
+    }
+    Ok(input)
 }
 
 /// What a case wants: a whole report, or a line that says why there is none, or neither.
@@ -113,7 +132,7 @@ fn fault<R: Files + AllocGlobal>(
     case: &Case<'_>,
 ) -> io::Result<Option<&'static str>> {
     let wanted = wanted(rt, folder, case)?;
-    let input = file(rt, folder, case.name, "json")?;
+    let input = input(rt, folder, case)?;
     let ended = call(rt.alloc(), case.words.as_slice(), input)?;
     Ok(difference(&ended, &wanted))
 }
@@ -126,7 +145,7 @@ fn main(rt: HostRuntime) -> io::Result<()> {
         let Some(case) = case_of(rt.alloc(), line)? else {
             continue;
         };
-        match fault(&rt, folder, &case).unwrap_or(Some("no such file, or no memory")) {
+        match fault(&rt, folder, &case).unwrap_or(Some("no such file, no length, or no memory")) {
             None => passed = passed.saturating_add(1),
             Some(why) => {
                 failed = failed.saturating_add(1);

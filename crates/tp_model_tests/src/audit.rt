@@ -1,13 +1,14 @@
 //! Histories over one scenario, by tables, and the whole of a trusted one.
+use crate::made::{Card, Says, atom, credential, ids, list, name, policy};
 use std::process::Abort;
 use std::test::Fail;
 use tp_audit::{is_agreed, is_caused, is_serial, is_trusted};
 use tp_model::newest_at;
 use tp_types::{
     Action, Actor, Admin, AdminId, Cause, CommitRecord, Cond, CredId, Credential, Decision, Deed,
-    Denied, Died, Fact, Instance, Item, ItemId, Level, List, Name, Newer, Op, Operand, OutOfRange,
+    Denied, Died, Fact, Instance, Item, ItemId, Level, List, Newer, Op, Operand, OutOfRange,
     Outcome, Pattern, Place, Policy, Query, Rule, Scenario, Scheme, ServerDecl, ServerId, Term,
-    Transaction, TxnId, Value, Verdict, Version, What,
+    Transaction, TxnId, Verdict, Version, What,
 };
 
 // ---- the scenario
@@ -49,50 +50,12 @@ pub const LEAST: u32 = 8;
 /// Of ann, who writes 1 to x, and presents a credential that begins at 5.
 pub const SOON: u32 = 9;
 
-fn list<T: Drop, const N: usize>(rt: &(impl Abort + AllocGlobal), members: [T; N]) -> List<T> {
-    let made = Vec::from_array(rt.alloc(), members)
-        .ok()
-        .expect(rt, "memory for a list");
-    List::from_vec(made)
-}
-
-fn name(rt: &(impl Abort + AllocGlobal), text: &str) -> Name {
-    Name::of(rt.alloc(), text.as_bytes())
-        .expect(rt, "memory for a name")
-        .expect(rt, "a name")
-}
-
-fn clerk(rt: &(impl Abort + AllocGlobal)) -> Value {
-    Value::Word(name(rt, "clerk"))
-}
-
 fn has_role(rt: &(impl Abort + AllocGlobal)) -> Cond {
-    Cond::Atom {
-        issuer: name(rt, "ca"),
-        attr: name(rt, "role"),
-        op: Op::Equal,
-        value: clerk(rt),
-    }
+    atom(rt, "ca", "role", Op::Equal, Says::Word("clerk"))
 }
 
 fn has_grade(rt: &(impl Abort + AllocGlobal), op: Op, grade: i64) -> Cond {
-    Cond::Atom {
-        issuer: name(rt, "ca"),
-        attr: name(rt, "grade"),
-        op,
-        value: Value::Number(grade),
-    }
-}
-
-fn policy(rt: &(impl Abort + AllocGlobal), cond: Cond) -> Policy {
-    let rule = Rule {
-        action: None,
-        pattern: Pattern::All,
-        cond,
-    };
-    Policy {
-        rules: list(rt, [rule]),
-    }
+    atom(rt, "ca", "grade", op, Says::Number(grade))
 }
 
 fn first_policy(rt: &(impl Abort + AllocGlobal)) -> Policy {
@@ -139,55 +102,53 @@ fn it(rt: &(impl Abort + AllocGlobal)) -> Admin {
     }
 }
 
-fn credential(
-    rt: &(impl Abort + AllocGlobal),
-    issuer: &str,
-    subject: &str,
-    from: u64,
-    until: u64,
-) -> Credential {
-    let issuer = name(rt, issuer);
-    let subject = name(rt, subject);
-    let attr = name(rt, "role");
-    let value = clerk(rt);
-    let name = name(rt, "card");
-    Credential {
-        name,
-        issuer,
-        subject,
-        attr,
-        value,
-        from,
-        until,
-    }
-}
-
-fn grade(rt: &(impl Abort + AllocGlobal)) -> Credential {
-    let issuer = name(rt, "ca");
-    let subject = name(rt, "ann");
-    let attr = name(rt, "grade");
-    let name = name(rt, "mark");
-    Credential {
-        name,
-        issuer,
-        subject,
-        attr,
-        value: Value::Number(3),
-        from: 1,
-        until: 100,
-    }
-}
+/// Ann's role till 9.
+const ROLE: Card = Card {
+    name: "card",
+    issuer: "ca",
+    subject: "ann",
+    attr: "role",
+    says: Says::Word("clerk"),
+    from: 1,
+    until: 9,
+};
 
 /// Six credentials: ann's role till 9, her grade, bob's role, one of ann's that she does not present, one of an issuer that
 /// no policy names, and one that begins at 5.
+const CARDS: &[Card] = &[
+    ROLE,
+    Card {
+        name: "mark",
+        attr: "grade",
+        says: Says::Number(3),
+        until: 100,
+        ..ROLE
+    },
+    Card {
+        subject: "bob",
+        until: 100,
+        ..ROLE
+    },
+    Card { until: 100, ..ROLE },
+    Card {
+        issuer: "cb",
+        until: 100,
+        ..ROLE
+    },
+    Card {
+        from: 5,
+        until: 100,
+        ..ROLE
+    },
+];
+
 fn credentials(rt: &(impl Abort + AllocGlobal)) -> List<Credential> {
-    let role = credential(rt, "ca", "ann", 1, 9);
-    let grade = grade(rt);
-    let bobs = credential(rt, "ca", "bob", 1, 100);
-    let spare = credential(rt, "ca", "ann", 1, 100);
-    let strange = credential(rt, "cb", "ann", 1, 100);
-    let later = credential(rt, "ca", "ann", 5, 100);
-    list(rt, [role, grade, bobs, spare, strange, later])
+    let mut made = List::new(rt.alloc());
+    for card in CARDS {
+        made.push(credential(rt, card))
+            .expect(rt, "memory for a list");
+    }
+    made
 }
 
 fn item(rt: &(impl Abort + AllocGlobal), text: &str, server: u32, admin: u32, value: i64) -> Item {
@@ -433,14 +394,6 @@ pub type Story = &'static [(u64, Said)];
 /// A history, and which of its facts is the first that does not keep a definition.
 pub type Case = (Story, Option<usize>);
 
-fn uses(rt: &(impl Abort + AllocGlobal), numbers: &[u32]) -> List<CredId> {
-    let mut made = List::new(rt.alloc());
-    for number in numbers {
-        made.push(CredId(*number)).expect(rt, "memory for a list");
-    }
-    made
-}
-
 fn proof(rt: &(impl Abort + AllocGlobal), claim: &Claim) -> Verdict {
     Verdict {
         query: claim.query,
@@ -449,7 +402,7 @@ fn proof(rt: &(impl Abort + AllocGlobal), claim: &Claim) -> Verdict {
         version: Version(claim.version),
         place: claim.place,
         rule: claim.rule,
-        uses: uses(rt, claim.uses),
+        uses: ids(rt, claim.uses),
     }
 }
 

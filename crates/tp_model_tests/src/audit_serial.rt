@@ -2,6 +2,7 @@
 use crate::audit::{
     BACK, Basis, LEAST, NOTHING, OVER, PAID, PAY, SURE, Said, WIDE, scenario, tell,
 };
+use crate::made::list;
 use std::process::Abort;
 use std::test::Fail;
 use tp_audit::{are_lone, is_serial, keeps_serial};
@@ -372,31 +373,19 @@ fn decided(rt: &(impl Abort + AllocGlobal), place: u64, txn: u32, deeds: List<De
     }
 }
 
-fn add(rt: &(impl Abort + AllocGlobal), deeds: &mut List<Deed>, deed: Deed) {
-    deeds.push(deed).expect(rt, "memory for a list");
-}
-
 /// The commit of WIDE or LEAST, after one that leaves a value in x.
 fn after(rt: &(impl Abort + AllocGlobal), sum: &Sum) -> List<Fact> {
     let (left, txn, [read, first, last], _) = *sum;
-    let mut deeds = List::new(rt.alloc());
-    add(
+    let reads = Deed {
+        value: read,
+        ..X_READ
+    };
+    let before = list(rt, [written(1, left)]);
+    let deeds = list(rt, [reads, written(2, first), written(3, last)]);
+    list(
         rt,
-        &mut deeds,
-        Deed {
-            value: read,
-            ..X_READ
-        },
-    );
-    add(rt, &mut deeds, written(2, first));
-    add(rt, &mut deeds, written(3, last));
-    let before = List::of_one(rt.alloc(), written(1, left)).expect(rt, "memory for a list");
-    let mut made = List::new(rt.alloc());
-    made.push(decided(rt, 4, SURE, before))
-        .expect(rt, "memory for a list");
-    made.push(decided(rt, 5, txn, deeds))
-        .expect(rt, "memory for a list");
-    made
+        [decided(rt, 4, SURE, before), decided(rt, 5, txn, deeds)],
+    )
 }
 
 /// Commits with their places, and whether no two have one place.

@@ -1,4 +1,5 @@
 //! Every mail, record and reaction is cloned once.
+use crate::made::list;
 use std::process::Abort;
 use tp_types::{
     AckReply, Actor, AdminId, Answer, AskRequest, Body, Cause, CredId, DecideRequest, Decided,
@@ -10,10 +11,6 @@ use tp_types::{
 
 const T1: TxnId = TxnId(0);
 
-fn one<T: Drop>(rt: &(impl Abort + AllocGlobal), member: T) -> List<T> {
-    List::of_one(rt.alloc(), member).expect(rt, "memory for a list")
-}
-
 fn verdict(rt: &(impl Abort + AllocGlobal)) -> Verdict {
     Verdict {
         query: 1,
@@ -22,7 +19,7 @@ fn verdict(rt: &(impl Abort + AllocGlobal)) -> Verdict {
         version: Version(1),
         place: 3,
         rule: None,
-        uses: one(rt, CredId(0)),
+        uses: list(rt, [CredId(0)]),
     }
 }
 
@@ -30,7 +27,7 @@ fn staple(rt: &(impl Abort + AllocGlobal)) -> Staple {
     Staple {
         place: 3,
         clock: 0,
-        revoked: one(rt, CredId(0)),
+        revoked: list(rt, [CredId(0)]),
     }
 }
 
@@ -87,7 +84,7 @@ fn validate_request(rt: &(impl Abort + AllocGlobal)) -> ValidateRequest {
         turn: 2,
         epoch: 1,
         staple: staple(rt),
-        want: one(rt, (AdminId(0), Version(2))),
+        want: list(rt, [(AdminId(0), Version(2))]),
     }
 }
 
@@ -97,7 +94,7 @@ fn prepare_request(rt: &(impl Abort + AllocGlobal)) -> PrepareRequest {
         turn: 3,
         epoch: 1,
         staple: Some(staple(rt)),
-        want: one(rt, (AdminId(0), Version(2))),
+        want: list(rt, [(AdminId(0), Version(2))]),
     }
 }
 
@@ -106,7 +103,7 @@ fn tell_reply(rt: &(impl Abort + AllocGlobal)) -> TellReply {
         txn: T1,
         turn: 2,
         clock: 5,
-        revoked: one(rt, CredId(0)),
+        revoked: list(rt, [CredId(0)]),
     }
 }
 
@@ -114,7 +111,7 @@ fn verdicts_reply(rt: &(impl Abort + AllocGlobal)) -> VerdictsReply {
     VerdictsReply {
         txn: T1,
         turn: 2,
-        verdicts: Some(one(rt, verdict(rt))),
+        verdicts: Some(list(rt, [verdict(rt)])),
     }
 }
 
@@ -122,7 +119,7 @@ fn newest_reply(rt: &(impl Abort + AllocGlobal)) -> NewestReply {
     NewestReply {
         txn: T1,
         turn: 4,
-        newest: one(rt, Version(2)),
+        newest: list(rt, [Version(2)]),
     }
 }
 
@@ -131,7 +128,7 @@ fn bodies(rt: &(impl Abort + AllocGlobal)) -> Vec<Body> {
     let yes = VoteReply {
         txn: T1,
         turn: 3,
-        vote: Vote::Yes(one(rt, verdict(rt))),
+        vote: Vote::Yes(list(rt, [verdict(rt)])),
     };
     let no = VoteReply {
         txn: T1,
@@ -175,8 +172,8 @@ fn records(rt: &(impl Abort + AllocGlobal)) -> Vec<Record> {
         epoch: 1,
         turn: 3,
         deeds: List::new(rt.alloc()),
-        verdicts: one(rt, verdict(rt)),
-        told: one(rt, Version(1)),
+        verdicts: list(rt, [verdict(rt)]),
+        told: list(rt, [Version(1)]),
     };
     let told = Told {
         admin: AdminId(0),
@@ -236,7 +233,7 @@ fn clones_every_record(rt: HostRuntime) {
     }
     let reading = Reading {
         place: 3,
-        newest: one(&rt, Version(1)),
+        newest: list(&rt, [Version(1)]),
     };
     assert!(rt; reading.try_clone(rt.alloc()).is_ok());
 }

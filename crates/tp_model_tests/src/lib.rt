@@ -1,5 +1,5 @@
-//! The tests of plain values and of the program that judges histories, by tables of cases whose expected values were worked out by
-//! hand. They need no machine, so they are proved beside it.
+//! The tests of what needs no machine: plain values, the program that judges histories, the policy language, credentials,
+//! evaluation and the check of certificates, by tables of cases whose expected values were worked out by hand.
 #![tactic(auto)]
 
 #[cfg(test)]
@@ -15,4 +15,16 @@ mod audit_trust;
 #[cfg(test)]
 mod clones;
 #[cfg(test)]
+mod credentials;
+#[cfg(test)]
+mod evaluation;
+#[cfg(test)]
+mod made;
+#[cfg(test)]
 mod names;
+#[cfg(test)]
+mod policy_tables;
+#[cfg(test)]
+mod policy_text;
+#[cfg(test)]
+mod printable;

@@ -1,12 +1,10 @@
-//! The tests of runs: reading scenarios, worlds, input and output, and the top call, by tables of cases whose expected
-//! values were worked out by hand.
+//! The tests of what stands on the machine: worlds step by step, reports of facts that no run yields yet, and top calls whose
+//! source or sinks fail. Expected values were worked out by hand. Whole runs are the cases of tp_cases.
 #![tactic(auto)]
 
 #[cfg(test)]
-mod io;
+mod report;
 #[cfg(test)]
 mod run;
-#[cfg(test)]
-mod scenario;
 #[cfg(test)]
 mod world;

@@ -1,13 +1,14 @@
-//! Whole runs by the top call, from bytes to bytes.
-use crate::io::calls;
-use crate::scenario::{Edit, FIRST, NO_JSON, OTHER_VALUES, REFUSED, edited_text};
-use std::alloc::Global;
-use std::process::Abort;
+//! Top calls whose source or sinks fail. Calls that meet no fault are the cases of tp_cases.
+use std::alloc::{AllocError, Global};
 use std::str;
 use std::test::Fail;
-use tp_io::{MemorySink, MemorySource, SteadySink, SteadySource};
+use tp_io::{MemorySink, MemorySource};
 use tp_top::{Status, tpvc};
 use tp_types::{List, Text};
+
+/// The first scenario.
+pub const FIRST: &str =
+    r#"{"admins":[{"name":"hr","policies":["allow any on * if true;"]}],"servers":[{"name":"s0","items":[{"name":"x","admin":"hr","min":0,"max":100,"value":5}]}],"transactions":[{"name":"t1","subject":"ann","queries":["write x := 7"]}]}"#;
 
 /// The report of the first scenario.
 const REPORT: &str = "tpvc 1
@@ -20,65 +21,6 @@ const REPORT: &str = "tpvc 1
 item s0 x 7
 quiet 9 8
 ";
-
-/// Edits of the first scenario, and what they change in its report.
-const RUNS: &[(&[Edit], &[Edit])] = &[
-    (&[], &[]),
-    (
-        &[("x := 7", "x := 100")],
-        &[("q1 x 7", "q1 x 100"), ("s0 x 7", "s0 x 100")],
-    ),
-    (
-        &[(r#""min":0"#, r#""min":-9"#), ("x := 7", "x := -9")],
-        &[("q1 x 7", "q1 x -9"), ("s0 x 7", "s0 x -9")],
-    ),
-    (
-        &[("x := 7", "x := -0")],
-        &[("q1 x 7", "q1 x 0"), ("s0 x 7", "s0 x 0")],
-    ),
-    (&[("write x := 7", "write   x  :=    7")], &[]),
-    // of a key that stands twice the last value counts
-    (&[(r#""max":100"#, r#""max":6,"max":100"#)], &[]),
-    (
-        &[
-            (r#""max":100"#, r#""max":1000000000000000"#),
-            ("x := 7", "x := 999999999999999"),
-        ],
-        &[
-            ("q1 x 7", "q1 x 999999999999999"),
-            ("s0 x 7", "s0 x 999999999999999"),
-        ],
-    ),
-    (
-        &[
-            (
-                r#""name":"x""#,
-                r#""name":"abcdefghijklmnopqrstuvwxyz_01234""#,
-            ),
-            ("write x", "write abcdefghijklmnopqrstuvwxyz_01234"),
-            (r#""name":"t1""#, r#""name":"t""#),
-        ],
-        &[
-            ("submit t1", "submit t"),
-            ("commit t1 rounds", "commit t rounds"),
-            ("q1 x 7", "q1 abcdefghijklmnopqrstuvwxyz_01234 7"),
-            ("s0 t1 commit", "s0 t commit"),
-            ("s0 x 7", "s0 abcdefghijklmnopqrstuvwxyz_01234 7"),
-        ],
-    ),
-    (
-        &[
-            (r#""name":"hr""#, r#""name":"a""#),
-            (r#""admin":"hr""#, r#""admin":"a""#),
-            (r#""name":"s0""#, r#""name":"server_9""#),
-        ],
-        &[
-            ("s0 hr 1", "server_9 a 1"),
-            ("settle s0", "settle server_9"),
-            ("item s0", "item server_9"),
-        ],
-    ),
-];
 
 /// How a run ended, and what it wrote to out and to notes.
 #[derive(Drop)]
@@ -95,6 +37,11 @@ fn words(alloc: Global, spelled: &[&str]) -> Result<List<Text>, Fail> {
         made.push(Text(List::from_vec(bytes)))?;
     }
     Ok(made)
+}
+
+/// The calls that fail, counted from 0.
+fn calls(alloc: Global, fails: &[u64]) -> Result<List<u64>, AllocError> {
+    Ok(List::from_vec(Vec::from_slice(alloc, fails)?))
 }
 
 /// Runs with a source of pieces of at most 100 bytes and sinks of at most three, of which each fails at the calls listed.
@@ -116,100 +63,6 @@ fn run_with(
         out: String::from_str(alloc, str::from_utf8(out.bytes())?)?,
         notes: String::from_str(alloc, str::from_utf8(notes.bytes())?)?,
     })
-}
-
-fn run(alloc: Global, spelled: &[&str], input: &[u8]) -> Result<Ended, Fail> {
-    run_with(alloc, spelled, input, (&[], &[], &[]))
-}
-
-#[test]
-fn commits(rt: HostRuntime) -> Result<(), Fail> {
-    for (scenario, report) in RUNS {
-        let input = edited_text(rt.alloc(), FIRST, scenario)?;
-        let wanted = edited_text(rt.alloc(), REPORT, report)?;
-        let got = run(rt.alloc(), &["run"], input.as_bytes())?;
-        assert_eq!(rt; got.status, Status::Done, "{input}");
-        assert_eq!(rt; got.out.as_str(), wanted.as_str());
-        assert_eq!(rt; got.notes.as_str(), "");
-    }
-    Ok(())
-}
-
-#[test]
-fn says_how_it_is_called(rt: HostRuntime) -> Result<(), Fail> {
-    for spelled in [&[] as &[&str], &["runs"], &["run", "run"], &[""]] {
-        let got = run(rt.alloc(), spelled, FIRST.as_bytes())?;
-        assert_eq!(rt; got.status, Status::Usage);
-        assert_eq!(rt; got.out.as_str(), "");
-        assert_eq!(rt; got.notes.as_str(), "usage: tpvc COMMAND [WORD]\n");
-    }
-    Ok(())
-}
-
-fn is_refused(rt: &impl Abort, alloc: Global, input: &[u8], line: &str) -> Result<(), Fail> {
-    let got = run(alloc, &["run"], input)?;
-    assert_eq!(rt; got.status, Status::Refused, "{input:?}");
-    assert_eq!(rt; got.out.as_str(), "", "{input:?}");
-    assert_eq!(rt; got.notes.as_str(), line, "{input:?}");
-    Ok(())
-}
-
-#[test]
-fn refuses_what_is_no_json(rt: HostRuntime) -> Result<(), Fail> {
-    for input in NO_JSON {
-        is_refused(&rt, rt.alloc(), input, "refused badjson\n")?;
-    }
-    Ok(())
-}
-
-#[test]
-fn refuses_other_scenarios(rt: HostRuntime) -> Result<(), Fail> {
-    for input in OTHER_VALUES {
-        is_refused(&rt, rt.alloc(), input.as_bytes(), "refused shape $\n")?;
-    }
-    for (old, new, why) in REFUSED {
-        let input = edited_text(rt.alloc(), FIRST, &[(*old, *new)])?;
-        let place = if why.starts_with("policy") {
-            " syntax 22"
-        } else {
-            ""
-        };
-        let wanted = format!(in rt.alloc(); "refused {why}{place}\n")?;
-        is_refused(&rt, rt.alloc(), input.as_bytes(), wanted.as_str())?;
-    }
-    Ok(())
-}
-
-/// What comes of that many blanks.
-fn run_blanks(alloc: Global, count: usize) -> Result<Ended, Fail> {
-    let bytes = List::from_vec(vec![in alloc; b' '; count]?);
-    let mut source = SteadySource::new(bytes);
-    let mut notes = MemorySink::new(alloc, List::new(alloc), 3);
-    let words = words(alloc, &["run"])?;
-    let status = tpvc(
-        alloc,
-        words.as_slice(),
-        &mut source,
-        &mut SteadySink::new(),
-        &mut notes,
-    );
-    Ok(Ended {
-        status,
-        out: String::new(alloc),
-        notes: String::from_str(alloc, str::from_utf8(notes.bytes())?)?,
-    })
-}
-
-// The first byte too many refuses the input, whatever it begins with.
-#[test]
-fn refuses_what_is_too_long(rt: HostRuntime) -> Result<(), Fail> {
-    let longest = run_blanks(rt.alloc(), 16_777_216)?;
-    assert_eq!(rt; longest.status, Status::Refused);
-    assert_eq!(rt; longest.notes.as_str(), "refused badjson\n");
-    let longer = run_blanks(rt.alloc(), 16_777_217)?;
-    assert_eq!(rt; longer.status, Status::Refused);
-    assert_eq!(rt; longer.notes.as_str(), "refused toolong\n");
-    Ok(())
 }
 
 // The input is read in three calls, and a fourth finds its end.

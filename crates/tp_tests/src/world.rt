@@ -1,5 +1,5 @@
 //! The world of the first scenario, step by step.
-use crate::scenario::FIRST;
+use crate::run::FIRST;
 use std::alloc::Global;
 use std::test::Fail;
 use tp_machine::{StepError, World};

@@ -1,5 +1,5 @@
 //! The bytes of records.
-use crate::kinds::{Case, cases};
+use crate::record_kinds::{Case, cases};
 use std::process::Abort;
 use std::test::Fail;
 use tp_record::{decode, encode};

@@ -1,6 +1,6 @@
 //! Logs on disks in memory.
-use crate::images::{Gives, IMAGES};
-use crate::kinds::{cases, long};
+use crate::log_images::{Gives, IMAGES};
+use crate::record_kinds::{cases, long};
 use std::process::Abort;
 use std::test::Fail;
 use tp_device::{Disk, DiskError, MemoryDisk};

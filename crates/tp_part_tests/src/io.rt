@@ -16,7 +16,7 @@ fn list(alloc: Global, bytes: &[u8]) -> Result<List<u8>, AllocError> {
     Ok(List::from_vec(Vec::from_slice(alloc, bytes)?))
 }
 
-pub fn calls(alloc: Global, fails: &[u64]) -> Result<List<u64>, AllocError> {
+fn calls(alloc: Global, fails: &[u64]) -> Result<List<u64>, AllocError> {
     Ok(List::from_vec(Vec::from_slice(alloc, fails)?))
 }
 

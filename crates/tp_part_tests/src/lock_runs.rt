@@ -1,5 +1,5 @@
-//! Runs of calls.
-use crate::evaluator::Wishes;
+//! Runs of calls of a table of locks: a case that was worked out by hand, and all short runs against a plain evaluator.
+use crate::lock_evaluator::Wishes;
 use std::process::Abort;
 use std::test::Fail;
 use tp_lock::{Asked, Grant, LockTable, PlainLocks};

@@ -1,29 +1,9 @@
 //! Stores of credentials, by tables.
+use crate::made::{Card, Says, credential, ids, name};
 use std::process::Abort;
 use std::test::Fail;
 use tp_cred::{CredError, CredStore};
-use tp_types::{CredId, Credential, List, Name, Value};
-
-// ---- credentials
-
-/// What a credential or an atom says of an attribute.
-#[derive(Clone, Copy)]
-pub enum Says {
-    Number(i64),
-    Word(&'static str),
-}
-
-/// A credential, as a table has it.
-#[derive(Clone, Copy)]
-pub struct Card {
-    pub name: &'static str,
-    pub issuer: &'static str,
-    pub subject: &'static str,
-    pub attr: &'static str,
-    pub says: Says,
-    pub from: u64,
-    pub until: u64,
-}
+use tp_types::CredId;
 
 /// The nurse ann of ward 3, and the doctor bob.
 pub const CLINIC: &[Card] = &[
@@ -56,36 +36,6 @@ pub const CLINIC: &[Card] = &[
     },
 ];
 
-pub fn name(rt: &(impl Abort + AllocGlobal), text: &str) -> Name {
-    Name::of(rt.alloc(), text.as_bytes())
-        .expect(rt, "memory for a name")
-        .expect(rt, "a name")
-}
-
-pub fn value(rt: &(impl Abort + AllocGlobal), says: Says) -> Value {
-    match says {
-        Says::Number(number) => Value::Number(number),
-        Says::Word(word) => Value::Word(name(rt, word)),
-    }
-}
-
-fn credential(rt: &(impl Abort + AllocGlobal), card: &Card) -> Credential {
-    let issuer = name(rt, card.issuer);
-    let subject = name(rt, card.subject);
-    let attr = name(rt, card.attr);
-    let value = value(rt, card.says);
-    let name = name(rt, card.name);
-    Credential {
-        name,
-        issuer,
-        subject,
-        attr,
-        value,
-        from: card.from,
-        until: card.until,
-    }
-}
-
 /// Adds to a store that is small.
 fn added(
     rt: &(impl Abort + AllocGlobal),
@@ -100,15 +50,6 @@ pub fn store(rt: &(impl Abort + AllocGlobal), cards: &[Card]) -> CredStore {
     let mut made = CredStore::new(rt.alloc());
     for card in cards {
         added(rt, &mut made, card).expect(rt, "a new credential");
-    }
-    made
-}
-
-/// The ids of these numbers.
-pub fn ids(rt: &(impl Abort + AllocGlobal), numbers: &[u32]) -> List<CredId> {
-    let mut made = List::new(rt.alloc());
-    for number in numbers {
-        made.push(CredId(*number)).expect(rt, "memory for an id");
     }
     made
 }

@@ -1,5 +1,6 @@
 //! Evaluation of policies and the check of certificates, by tables, and against a plain evaluator on all small conditions.
-use crate::credentials::{CLINIC, Card, Says, ids, name, store, value};
+use crate::credentials::{CLINIC, store};
+use crate::made::{Card, Says, atom, ids, list, name, of_rule, policy};
 use std::process::Abort;
 use std::test::Fail;
 use tp_check::check;
@@ -9,45 +10,8 @@ use tp_types::{Action, Cond, CredId, List, Op, Pattern, Policy, Rule};
 
 // ---- policies
 
-fn list<T: Drop, const N: usize>(rt: &(impl Abort + AllocGlobal), members: [T; N]) -> List<T> {
-    let made = Vec::from_array(rt.alloc(), members)
-        .ok()
-        .expect(rt, "memory for a list");
-    List::from_vec(made)
-}
-
-fn atom(rt: &(impl Abort + AllocGlobal), issuer: &str, attr: &str, op: Op, says: Says) -> Cond {
-    Cond::Atom {
-        issuer: name(rt, issuer),
-        attr: name(rt, attr),
-        op,
-        value: value(rt, says),
-    }
-}
-
 fn has_role(rt: &(impl Abort + AllocGlobal), role: &'static str) -> Cond {
     atom(rt, "hospital", "role", Op::Equal, Says::Word(role))
-}
-
-fn of_rule(
-    rt: &(impl Abort + AllocGlobal),
-    action: Option<Action>,
-    pattern: Pattern,
-    cond: Cond,
-) -> Policy {
-    let rule = Rule {
-        action,
-        pattern,
-        cond,
-    };
-    Policy {
-        rules: list(rt, [rule]),
-    }
-}
-
-/// The policy that allows all on this condition.
-fn on(rt: &(impl Abort + AllocGlobal), cond: Cond) -> Policy {
-    of_rule(rt, None, Pattern::All, cond)
 }
 
 /// A nurse of ward 3 or a doctor reads, and a doctor writes.
@@ -399,7 +363,7 @@ fn saying(says: Says) -> Card {
 #[test]
 fn compares_values(rt: HostRuntime) -> Result<(), Fail> {
     for (at, (op, wanted, says, satisfied)) in VALUES.iter().enumerate() {
-        let policy = on(&rt, atom(&rt, "school", "grade", *op, *wanted));
+        let policy = policy(&rt, atom(&rt, "school", "grade", *op, *wanted));
         let store = store(&rt, &[saying(*says)]);
         let ask = Ask {
             presented: &[0],
@@ -426,7 +390,7 @@ fn minds_the_issuer_and_the_attribute(rt: HostRuntime) -> Result<(), Fail> {
         ..ANN
     };
     for (issuer, attr, wanted) in SOURCES {
-        let policy = on(&rt, atom(&rt, issuer, attr, Op::Equal, Says::Number(3)));
+        let policy = policy(&rt, atom(&rt, issuer, attr, Op::Equal, Says::Number(3)));
         let found = answer(&rt, &policy, &store, &ask);
         assert_eq!(rt; found.is_some(), *wanted);
     }
@@ -586,7 +550,7 @@ fn gathers_what_makes_a_condition_true(rt: HostRuntime) -> Result<(), Fail> {
         (Cond::Or(empty(&rt)), None),
     ];
     for (cond, wanted) in cases {
-        let policy = on(&rt, cond);
+        let policy = policy(&rt, cond);
         let found = answer(&rt, &policy, &store, &ANN);
         assert!(rt; is_as_wanted(&rt, &found, wanted));
     }
@@ -727,7 +691,7 @@ fn agrees(
 fn agrees_with_a_plain_evaluator(rt: HostRuntime) -> Result<(), Fail> {
     let store = store(&rt, THREE);
     for number in 0..2628 {
-        let policy = on(&rt, large(&rt, number));
+        let policy = policy(&rt, large(&rt, number));
         for (set, presented) in SETS.iter().enumerate() {
             let ask = Ask {
                 presented: *presented,

@@ -1,4 +1,4 @@
-//! Reports of facts that are made by hand, against texts that were typed by hand.
+//! Reports of facts that are made by hand and that no run yields yet, against texts that were typed by hand.
 use std::process::Abort;
 use tp_top::report::print;
 use tp_types::{
@@ -195,36 +195,6 @@ fn fact(place: Place, what: What) -> Fact {
 
 fn instance(reading: Option<Place>, proofs: List<Verdict>) -> Instance {
     Instance { reading, proofs }
-}
-
-/// The commit of one write.
-#[test]
-fn a_commit(rt: HostRuntime) {
-    let proofs = list(&rt, [proof(1, S0, 1, 3, no_items(&rt))]);
-    let instances = list(&rt, [instance(None, proofs)]);
-    let deeds = list(&rt, [deed(1, X, Action::Write, 7)]);
-    let submitted = fact(0, What::Submitted(T1));
-    let decided = fact(6, committed(T1, 1, instances, deeds));
-    let settled = fact(7, What::Settled(S0, T1, Outcome::Commit));
-    let facts = list(&rt, [submitted, decided, settled]);
-    let mut scenario = scenario(&rt);
-    scenario.servers.truncate(1);
-    assert_prints(
-        &rt,
-        &scenario,
-        &facts,
-        &ending(&rt, 9, 8, [7]),
-        "tpvc 1
-0 submit t1
-6 commit t1 rounds 1
-  instance 1 reading none
-  proof q1 s0 hr 1 at 3 rule 1 uses none
-  write q1 x 7
-7 settle s0 t1 commit
-item s0 x 7
-quiet 9 8
-",
-    );
 }
 
 /// One proof, then two of which the first was evaluated again, then two new ones.

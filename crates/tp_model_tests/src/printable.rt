@@ -1,44 +1,17 @@
 //! Which policies can be printed: those that some text says.
-use crate::credentials::name;
+use crate::made::{Says, atom, list, policy};
 use std::process::Abort;
 use std::test::Fail;
 use tp_policy_text::can_be_printed;
-use tp_types::{Cond, List, Op, Pattern, Policy, Rule, Value};
-
-fn list<T: Drop, const N: usize>(rt: &(impl Abort + AllocGlobal), members: [T; N]) -> List<T> {
-    let made = Vec::from_array(rt.alloc(), members)
-        .ok()
-        .expect(rt, "memory for a list");
-    List::from_vec(made)
-}
+use tp_types::{Cond, Op};
 
 fn printable(rt: &(impl Abort + AllocGlobal), cond: Cond) -> bool {
-    let rule = Rule {
-        action: None,
-        pattern: Pattern::All,
-        cond,
-    };
-    can_be_printed(&Policy {
-        rules: list(rt, [rule]),
-    })
+    can_be_printed(&policy(rt, cond))
 }
 
-fn number(rt: &(impl Abort + AllocGlobal), op: Op, value: i64) -> Cond {
-    Cond::Atom {
-        issuer: name(rt, "a"),
-        attr: name(rt, "b"),
-        op,
-        value: Value::Number(value),
-    }
-}
-
-fn word(rt: &(impl Abort + AllocGlobal), op: Op) -> Cond {
-    Cond::Atom {
-        issuer: name(rt, "a"),
-        attr: name(rt, "b"),
-        op,
-        value: Value::Word(name(rt, "x")),
-    }
+/// Whether an atom that compares so with this value can be printed.
+fn compares(rt: &(impl Abort + AllocGlobal), op: Op, says: Says) -> bool {
+    printable(rt, atom(rt, "a", "b", op, says))
 }
 
 const NUMBERS: &[(i64, bool)] = &[
@@ -55,12 +28,12 @@ const NUMBERS: &[(i64, bool)] = &[
 fn bounds_numbers(rt: HostRuntime) -> Result<(), Fail> {
     for (value, wanted) in NUMBERS {
         assert_eq!(rt;
-            printable(&rt, number(&rt, Op::Equal, *value)),
+            compares(&rt, Op::Equal, Says::Number(*value)),
             *wanted,
             "{value}"
         );
         assert_eq!(rt;
-            printable(&rt, number(&rt, Op::AtMost, *value)),
+            compares(&rt, Op::AtMost, Says::Number(*value)),
             *wanted,
             "{value}"
         );
@@ -70,9 +43,9 @@ fn bounds_numbers(rt: HostRuntime) -> Result<(), Fail> {
 
 #[test]
 fn compares_words_by_equal_alone(rt: HostRuntime) -> Result<(), Fail> {
-    assert!(rt; printable(&rt, word(&rt, Op::Equal)));
-    assert!(rt; !printable(&rt, word(&rt, Op::AtLeast)));
-    assert!(rt; !printable(&rt, word(&rt, Op::AtMost)));
+    assert!(rt; compares(&rt, Op::Equal, Says::Word("x")));
+    assert!(rt; !compares(&rt, Op::AtLeast, Says::Word("x")));
+    assert!(rt; !compares(&rt, Op::AtMost, Says::Word("x")));
     Ok(())
 }
 

@@ -1,5 +1,5 @@
 //! A record of each kind, with its bytes.
-use crate::bytes;
+use crate::record_bytes;
 use std::alloc::Global;
 use tp_types::{
     Action, AdminId, Cause, CommitRecord, CredId, Decided, Decision, Deed, Denied, Died, Instance,
@@ -145,41 +145,45 @@ fn add_plain(cases: &mut List<Case>) -> Result<(), NoMemory> {
         query: 2,
         value: -1,
     };
-    add(cases, bytes::BOOT, Record::Boot)?;
-    add(cases, bytes::TOLD, Record::Told(told))?;
-    add(cases, bytes::SETTLED_COMMIT, settled(Outcome::Commit, None))?;
+    add(cases, record_bytes::BOOT, Record::Boot)?;
+    add(cases, record_bytes::TOLD, Record::Told(told))?;
     add(
         cases,
-        bytes::SETTLED_RANGE,
+        record_bytes::SETTLED_COMMIT,
+        settled(Outcome::Commit, None),
+    )?;
+    add(
+        cases,
+        record_bytes::SETTLED_RANGE,
         settled(Outcome::Abort, Some(range)),
     )?;
     add(
         cases,
-        bytes::SETTLED_RESTARTED,
+        record_bytes::SETTLED_RESTARTED,
         settled(Outcome::Abort, Some(No::Restarted)),
     )
 }
 
 fn add_aborts(cases: &mut List<Case>) -> Result<(), NoMemory> {
-    add(cases, bytes::DENIED, aborted(denied()))?;
-    add(cases, bytes::OUT_OF_RANGE, aborted(out_of_range()))?;
-    add(cases, bytes::DIED, aborted(died()))?;
-    add(cases, bytes::NEWER, aborted(newer()))?;
+    add(cases, record_bytes::DENIED, aborted(denied()))?;
+    add(cases, record_bytes::OUT_OF_RANGE, aborted(out_of_range()))?;
+    add(cases, record_bytes::DIED, aborted(died()))?;
+    add(cases, record_bytes::NEWER, aborted(newer()))?;
     let restarted = Cause::Restarted {
         server: ServerId(2),
     };
-    add(cases, bytes::RESTARTED, aborted(restarted))?;
-    add(cases, bytes::HALTED, aborted(Cause::Halted))
+    add(cases, record_bytes::RESTARTED, aborted(restarted))?;
+    add(cases, record_bytes::HALTED, aborted(Cause::Halted))
 }
 
 /// A record of each kind, of each cause and of each way to settle.
 pub fn cases(alloc: Global) -> Result<List<Case>, NoMemory> {
     let mut cases = List::new(alloc);
     add_plain(&mut cases)?;
-    add(&mut cases, bytes::PREPARED, prepared(alloc)?)?;
-    add(&mut cases, bytes::DECIDED_COMMIT, commit(alloc)?)?;
+    add(&mut cases, record_bytes::PREPARED, prepared(alloc)?)?;
+    add(&mut cases, record_bytes::DECIDED_COMMIT, commit(alloc)?)?;
     add_aborts(&mut cases)?;
-    add(&mut cases, bytes::ROUNDS, aborted(rounds(alloc)?))?;
+    add(&mut cases, record_bytes::ROUNDS, aborted(rounds(alloc)?))?;
     Ok(cases)
 }
 

@@ -1,4 +1,4 @@
-//! A small scenario.
+//! A small scenario, for stores and offices.
 use std::process::Abort;
 use tp_types::{
     Admin, AdminId, CredId, Credential, Item, ItemId, Level, List, Name, NoMemory, Scenario,

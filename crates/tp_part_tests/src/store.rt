@@ -1,5 +1,5 @@
 //! A store, call by call.
-use crate::scenario::small;
+use crate::small_scenario::small;
 use std::process::Abort;
 use std::test::Fail;
 use tp_store::Store;

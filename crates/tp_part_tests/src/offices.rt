@@ -1,5 +1,5 @@
 //! The authority and the master, act by act.
-use crate::scenario::{cred, small};
+use crate::small_scenario::{cred, small};
 use std::process::Abort;
 use std::test::Fail;
 use tp_offices::{Authority, Master};
