@@ -73,7 +73,9 @@ pub fn act(
 ) -> Result<(), NoMemory>
     requires built { IsBuiltStep taken.now }
     requires allowed { machine.refusal (state_of actors.old history.old) taken.now ≡ None }
-    ensures ok { OnOk result (machine_of actors.new history.new ≡ machine.machine_after scenario.now (machine_of actors.old history.old) taken.now) }
+    ensures ok { OnOk result
+        (machine_of actors.new history.new
+        ≡ machine.machine_after scenario.now (machine_of actors.old history.old) taken.now) }
     ensures same_history { OnErr result (SameHistory history.old history.new) }
     ensures up { SameUp actors.old actors.new }
 {
@@ -91,7 +93,10 @@ fn submit(
     scenario: &Scenario,
     txn: TxnId,
 ) -> Result<(), NoMemory>
-    ensures ok { OnOk result (machine_of actors.new history.new ≡ machine.machine_after scenario.now (machine_of actors.old history.old) (step.Submit txn)) }
+    ensures ok { OnOk result
+        (machine_of actors.new history.new
+        ≡ machine.machine_after scenario.now (machine_of actors.old history.old)
+        (step.Submit txn)) }
     ensures same_history { OnErr result (SameHistory history.old history.new) }
     ensures up { SameUp actors.old actors.new }
 {
@@ -107,7 +112,10 @@ fn deliver(
     mail: u64,
 ) -> Result<(), NoMemory>
     requires { mail < length history.old.mails }
-    ensures ok { OnOk result (machine_of actors.new history.new ≡ machine.machine_after scenario.now (machine_of actors.old history.old) (step.Deliver mail)) }
+    ensures ok { OnOk result
+        (machine_of actors.new history.new
+        ≡ machine.machine_after scenario.now (machine_of actors.old history.old)
+        (step.Deliver mail)) }
     ensures same_history { OnErr result (SameHistory history.old history.new) }
     ensures up { SameUp actors.old actors.new }
 {
@@ -124,7 +132,9 @@ fn receive(
     mails: &[Mail],
     mail: u64,
 ) -> Result<Act, NoMemory>
-    ensures ok { IfOk result (λ act. Moves (machine.delivery scenario.now actors.old (slice_get mails.now mail)) actors.new act) }
+    ensures ok { IfOk result (λ act.
+        Moves
+        (machine.delivery scenario.now actors.old (slice_get mails.now mail)) actors.new act) }
     ensures up { SameUp actors.old actors.new }
 {
     match mails.get(mail as usize) {

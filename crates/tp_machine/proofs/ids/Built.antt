@@ -1,9 +1,8 @@
 -- What the proofs of soundness take from a scenario. Here alone they lean on the form of scenarios that is built: where it
 -- widens, each field of IsValid is to be shown anew, and the last of them goes.
 use Rattle.std.proofs.lemmas.Bool.{and_parts, eqb-true}
-use Rattle.std.proofs.Common.{◌≡◌, ℕ, List, [], ◌∷◌, length, Bool, true, false, not, ◌&&◌, ◌==◌, Option, Some, None, refl, sym, subst, ap, arith}
+use Rattle.std.proofs.Common.{◌≡◌, List, [], ◌∷◌, length, Bool, true, false, not, ◌&&◌, ◌==◌, Option, Some, None, refl, sym, subst, ap, arith}
 use Rattle.std.specs.Cmp.Lexicographic.{pointwise}
-use Rattle.std.proofs.lemmas.Bool.Decides.{nat_tests}
 use Rattle.tp_model.specs.Words.{Admin, Item, Scenario, Scheme, ServerDecl, Transaction, Version}
 use Rattle.tp_model.specs.Words.scheme
 use Rattle.tp_model.specs.Built.{is_built}

@@ -1,10 +1,9 @@
 -- Trust of the facts: where the invariant holds, every commit is trusted and every abort has its cause.
 use Rattle.std.proofs.lemmas.Bool.{and_from, and_parts, le-leb, lt-ltb}
-use Rattle.std.proofs.Common.{◌≡◌, ℕ, ◌≤◌, ◌<◌, ◌==◌, ◌&&◌, nat_le, nat_lt, List, [], ◌∷◌, length, slice_get, Bool, true, false, Option, Some, None, is_some, if◌then◌else◌, refl, ap, ◌∙◌, arith}
+use Rattle.std.proofs.Common.{◌≡◌, ℕ, ◌==◌, ◌&&◌, nat_le, List, [], ◌∷◌, length, slice_get, Bool, true, false, Option, Some, None, is_some, if◌then◌else◌, refl, ap, ◌∙◌}
 use Rattle.std.specs.Cmp.Lexicographic.{pointwise}
 use Rattle.std.specs.List.{list_all, range_with_len}
 use Rattle.std.specs.Option.{option_map_or}
-use Rattle.std.proofs.lemmas.Bool.Decides.{nat_tests}
 use Rattle.tp_types.proofs.ListLemmas.{number_itself, three_from}
 use Rattle.tp_model.specs.Words.{CommitRecord, Fact, Scenario, Scheme, Transaction, TxnId, Verdict, What}
 use Rattle.tp_model.specs.Words.decision

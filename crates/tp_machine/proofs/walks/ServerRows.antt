@@ -1,5 +1,5 @@
 -- A server's row is walked once: what is shown of each of its outcomes holds of the row. A new outcome is a field here, and of each theorem's cases.
-use Rattle.std.proofs.Common.{Bool, None, Option, Some, false, is_none, is_some, not, refl, true, ◌==◌, ◌≡◌}
+use Rattle.std.proofs.Common.{None, Option, Some, false, is_none, is_some, not, refl, true, ◌==◌, ◌≡◌}
 use Rattle.std.proofs.lemmas.Bool.{not-false}
 use Rattle.tp_types.specs.Effect.{Effect, ignores}
 use Rattle.tp_model.specs.Stage.{is_empty}

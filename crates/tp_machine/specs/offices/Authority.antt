@@ -17,7 +17,13 @@ tells authority ask =
     (record {
       from = actor.Authority;
       to = actor.Coordinator ask.txn;
-      body = body.Tell (record { txn = ask.txn; turn = ask.turn; clock = authority.clock; revoked = authority.revoked });
+      body = body.Tell
+          (record {
+            txn = ask.txn;
+            turn = ask.turn;
+            clock = authority.clock;
+            revoked = authority.revoked;
+          });
     } ∷ [])
 
 abbrev pub on_body : Authority → Body → Effect Authority
