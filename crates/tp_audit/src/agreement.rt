@@ -28,7 +28,8 @@ fn is_settled_in(at: ServerId, txn: TxnId, facts: &[Fact]) -> bool
 }
 
 fn was_committed(txn: TxnId, place: Place, facts: &List<Fact>) -> bool
-    ensures { result ≡ list_any (history.is_decided_as txn Outcome.Commit) (history.before place facts.now) }
+    ensures { result ≡ list_any (history.is_decided_as txn Outcome.Commit)
+        (history.before place facts.now) }
 {
     facts
         .iter()
@@ -63,7 +64,9 @@ fn follows_decision(txn: TxnId, place: Place, facts: &List<Fact>, ended: Outcome
 }
 
 fn is_good_decision(txn: TxnId, place: Place, facts: &List<Fact>, earlier: &[Fact]) -> bool
-    ensures { result ≡ (not (list_any (history.is_decision txn) earlier.now) && history.was_submitted txn place facts.now) }
+    ensures { result
+        ≡ (not (list_any (history.is_decision txn) earlier.now)
+        && history.was_submitted txn place facts.now) }
 {
     !is_decided_in(txn, earlier) && was_submitted(txn, place, facts)
 }
@@ -77,7 +80,8 @@ fn is_good_settlement(
     txn: TxnId,
     ended: Outcome,
 ) -> bool
-    ensures { result ≡ agreement.keeps_agreement_what scenario.now facts.now earlier.now place (What.Settled at txn ended) }
+    ensures { result ≡ agreement.keeps_agreement_what scenario.now facts.now earlier.now place
+        (What.Settled at txn ended) }
 {
     !is_settled_in(at, txn, earlier)
         && (was_submitted(txn, place, facts) && has_item_at(scenario, at, txn))

@@ -79,7 +79,9 @@ struct Case<'a> {
 }
 
 fn case_in<'a>(scenario: &'a Scenario, query: &'a Query, policy: &'a Policy) -> Option<Case<'a>>
-    ensures { (test : Action → List ℕ → Policy → Bool) → authorisation.tests_query test scenario.now (Some query.now) policy.now ≡ program.tests_case test result }
+    ensures { (test : Action → List ℕ → Policy → Bool)
+        → authorisation.tests_query test scenario.now (Some query.now) policy.now
+        ≡ program.tests_case test result }
 {
     match scenario.items.get(item_of(query).0 as usize) {
         None => None,
@@ -97,7 +99,9 @@ fn case_under<'a>(
     number: u32,
     policy: &'a Policy,
 ) -> Option<Case<'a>>
-    ensures { (test : Action → List ℕ → Policy → Bool) → authorisation.tests_query test scenario.now (queries.query_at txn.now number) policy.now ≡ program.tests_case test result }
+    ensures { (test : Action → List ℕ → Policy → Bool)
+        → authorisation.tests_query test scenario.now (queries.query_at txn.now number) policy.now
+        ≡ program.tests_case test result }
 {
     match query_at(txn, number) {
         None => None,
@@ -112,7 +116,10 @@ fn case_of<'a>(
     admin: AdminId,
     version: Version,
 ) -> Option<Case<'a>>
-    ensures { (test : Action → List ℕ → Policy → Bool) → authorisation.tests_version test scenario.now txn.now number (authorisation.policy_at scenario.now admin version) ≡ program.tests_case test result }
+    ensures { (test : Action → List ℕ → Policy → Bool)
+        → authorisation.tests_version test scenario.now txn.now number
+        (authorisation.policy_at scenario.now admin version)
+        ≡ program.tests_case test result }
 {
     match policy_at(scenario, admin, version) {
         None => None,
@@ -121,7 +128,9 @@ fn case_of<'a>(
 }
 
 fn allows_case(held: &Held<'_>, case: &Case<'_>) -> bool
-    ensures { result ≡ policies.allows case.now.policy.now (authorisation.action_of case.now.query.now) case.now.item.now.name (program.held_by held.now) }
+    ensures { result ≡ policies.allows case.now.policy.now
+        (authorisation.action_of case.now.query.now) case.now.item.now.name
+        (program.held_by held.now) }
 {
     allows(case.policy, action_of(case.query), &case.item.name, held)
 }
@@ -136,7 +145,8 @@ pub fn is_allowed(
     version: Version,
     place: Place,
 ) -> bool
-    ensures { result ≡ authorisation.is_allowed scenario.now facts.now txn.now number admin version place }
+    ensures { result ≡ authorisation.is_allowed scenario.now facts.now txn.now number admin
+        version place }
 {
     let held = Held {
         scenario,
@@ -161,7 +171,10 @@ fn rule_of(policy: &Policy, number: Option<u32>) -> Option<&Rule>
 }
 
 fn proves_case(held: &Held<'_>, rule: Option<u32>, case: &Case<'_>) -> bool
-    ensures { result ≡ option_map_or (policies.rule_allows (authorisation.action_of case.now.query.now) case.now.item.now.name (program.held_by held.now)) (authorisation.rule_of case.now.policy.now rule) false }
+    ensures { result ≡ option_map_or
+        (policies.rule_allows (authorisation.action_of case.now.query.now) case.now.item.now.name
+        (program.held_by held.now))
+        (authorisation.rule_of case.now.policy.now rule) false }
 {
     match rule_of(case.policy, rule) {
         None => false,
@@ -204,7 +217,8 @@ fn are_usable(
     txn: &Transaction,
     creds: &List<CredId>,
 ) -> bool
-    ensures { result ≡ list_all (authorisation.is_usable scenario.now place facts.now txn.now) creds.now }
+    ensures { result ≡ list_all
+        (authorisation.is_usable scenario.now place facts.now txn.now) creds.now }
 {
     creds
         .iter()

@@ -36,7 +36,10 @@ fn is_new_enough(
     txn: &Transaction,
     denied: &Denied,
 ) -> bool
-    ensures { result ≡ (not (causes.is_bound_to_newest txn.now denied.now) || nat_le (versions.newest scenario.now denied.now.admin denied.now.place facts.now) denied.now.version.0) }
+    ensures { result
+        ≡ (not (causes.is_bound_to_newest txn.now denied.now)
+        || nat_le (versions.newest scenario.now denied.now.admin denied.now.place facts.now)
+        denied.now.version.0) }
 {
     !is_bound_to_newest(txn, denied)
         || newest(scenario, denied.admin, denied.place, facts) <= u128::from(denied.version.0)
@@ -62,7 +65,9 @@ fn is_denial(
     declared: &Transaction,
     denied: &Denied,
 ) -> bool
-    ensures { result ≡ not (authorisation.is_allowed scenario.now facts.now declared.now denied.now.query denied.now.admin denied.now.version denied.now.place) }
+    ensures { result ≡ not
+        (authorisation.is_allowed scenario.now facts.now declared.now denied.now.query
+        denied.now.admin denied.now.version denied.now.place) }
 {
     !is_allowed(
         scenario,
@@ -76,7 +81,8 @@ fn is_denial(
 }
 
 fn is_own_denial(scenario: &Scenario, declared: &Transaction, denied: &Denied) -> bool
-    ensures { result ≡ authorisation.is_own_query scenario.now declared.now denied.now.query denied.now.server denied.now.admin }
+    ensures { result ≡ authorisation.is_own_query scenario.now declared.now denied.now.query
+        denied.now.server denied.now.admin }
 {
     is_own_query(
         scenario,
@@ -130,13 +136,15 @@ fn is_server_crash_within(
     facts: &List<Fact>,
     fact: &Fact,
 ) -> bool
-    ensures { result ≡ causes.is_crash_within (causes.is_server_actor at) txn decided facts.now fact.now }
+    ensures { result ≡ causes.is_crash_within
+        (causes.is_server_actor at) txn decided facts.now fact.now }
 {
     is_server_crash(at, fact) && is_within(txn, decided, facts, fact.place)
 }
 
 fn is_coordinator_crash_within(txn: TxnId, decided: Place, facts: &List<Fact>, fact: &Fact) -> bool
-    ensures { result ≡ causes.is_crash_within (causes.is_coordinator_actor txn) txn decided facts.now fact.now }
+    ensures { result ≡ causes.is_crash_within
+        (causes.is_coordinator_actor txn) txn decided facts.now fact.now }
 {
     is_coordinator_crash(txn, fact) && is_within(txn, decided, facts, fact.place)
 }
@@ -148,7 +156,8 @@ fn server_crashed(at: ServerId, txn: TxnId, decided: Place, facts: &List<Fact>) 
 }
 
 fn coordinator_crashed(txn: TxnId, decided: Place, facts: &List<Fact>) -> bool
-    ensures { result ≡ causes.crashed_within (causes.is_coordinator_actor txn) txn decided facts.now }
+    ensures { result ≡ causes.crashed_within
+        (causes.is_coordinator_actor txn) txn decided facts.now }
 {
     facts.iter().any(|fact| is_coordinator_crash_within(txn, decided, facts, fact))
 }
@@ -168,7 +177,8 @@ fn is_restart(
     at: ServerId,
     declared: &Transaction,
 ) -> bool
-    ensures { result ≡ causes.is_shown scenario.now txn decided facts.now (Cause.Restarted at) declared.now }
+    ensures { result ≡ causes.is_shown scenario.now txn decided facts.now
+        (Cause.Restarted at) declared.now }
 {
     is_server_of(scenario, at, declared) && server_crashed(at, txn, decided, facts)
 }
@@ -200,7 +210,8 @@ fn is_caused_decision(
     txn: TxnId,
     decision: &Decision,
 ) -> bool
-    ensures { result ≡ causes.keeps_causes_what scenario.now facts.now place (What.Decided txn decision.now) }
+    ensures { result ≡ causes.keeps_causes_what scenario.now facts.now place
+        (What.Decided txn decision.now) }
 {
     let Decision::Abort(why) = decision else {
         return true;

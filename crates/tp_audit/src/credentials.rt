@@ -51,7 +51,9 @@ fn is_revocation(cred: CredId, fact: &Fact) -> bool
 }
 
 fn has_revocation(cred: CredId, place: Place, facts: &List<Fact>) -> bool
-    ensures { result ≡ list_any (λ (fact : Fact). option_map_or (same_cred cred) (credentials.revoked_by fact) false) (before place facts.now) }
+    ensures { result ≡ list_any
+        (λ (fact : Fact). option_map_or (same_cred cred) (credentials.revoked_by fact) false)
+        (before place facts.now) }
 {
     facts
         .iter()
@@ -72,7 +74,9 @@ fn is_current(clock: u128, credential: &Credential) -> bool
 }
 
 fn is_in_force(scenario: &Scenario, place: Place, facts: &List<Fact>, cred: CredId) -> bool
-    ensures { result ≡ option_map_or (credentials.is_current (credentials.clock_at scenario.now place facts.now)) (slice_get scenario.now.creds cred.0) false }
+    ensures { result ≡ option_map_or
+        (credentials.is_current (credentials.clock_at scenario.now place facts.now))
+        (slice_get scenario.now.creds cred.0) false }
 {
     match scenario.creds.get(cred.0 as usize) {
         None => false,

@@ -17,7 +17,8 @@ fn says(
     op: Op,
     wanted: &Value,
 ) -> bool
-    ensures { result ≡ program.says (policies.meets issuer.now attr.now op wanted.now) held.now credential.now }
+    ensures { result ≡ program.says
+        (policies.meets issuer.now attr.now op wanted.now) held.now credential.now }
 {
     credential.subject == *held.subject && meets(credential, issuer, attr, op, wanted)
 }
@@ -30,7 +31,9 @@ fn is_said(
     op: Op,
     wanted: &Value,
 ) -> bool
-    ensures { result ≡ option_map_or (program.says (policies.meets issuer.now attr.now op wanted.now) held.now) (slice_get held.now.scenario.now.creds cred.0) false }
+    ensures { result ≡ option_map_or
+        (program.says (policies.meets issuer.now attr.now op wanted.now) held.now)
+        (slice_get held.now.scenario.now.creds cred.0) false }
 {
     match held.scenario.creds.get(cred.0 as usize) {
         None => false,
@@ -39,14 +42,16 @@ fn is_said(
 }
 
 fn shows(held: &Held<'_>, cred: CredId, issuer: &Name, attr: &Name, op: Op, wanted: &Value) -> bool
-    ensures { result ≡ program.shows (policies.meets issuer.now attr.now op wanted.now) held.now cred }
+    ensures { result ≡ program.shows
+        (policies.meets issuer.now attr.now op wanted.now) held.now cred }
 {
     is_said(held, cred, issuer, attr, op, wanted)
         && is_valid(held.scenario, held.place, held.facts, cred)
 }
 
 fn is_met(held: &Held<'_>, issuer: &Name, attr: &Name, op: Op, wanted: &Value) -> bool
-    ensures { result ≡ list_any (policies.meets issuer.now attr.now op wanted.now) (program.held_by held.now) }
+    ensures { result ≡ list_any (policies.meets issuer.now attr.now op wanted.now)
+        (program.held_by held.now) }
 {
     held.creds
         .iter()

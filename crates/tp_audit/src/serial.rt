@@ -37,8 +37,10 @@ fn operand_in(registers: &[i128], operand: &Operand) -> i128
 
 fn add_term(registers: &[i128], total: Total, term: &Term) -> Total
     requires { program.HasWrapped (2 ^ 99) total }
-    ensures value { program.value_of result ≡ serial.add_term registers.now (program.value_of total) term.now }
-    ensures wraps { (most : ℕ) → program.HasWrapped most total → program.HasWrapped (most + 2) result }
+    ensures value { program.value_of result ≡ serial.add_term registers.now
+        (program.value_of total) term.now }
+    ensures wraps { (most : ℕ) → program.HasWrapped most total
+        → program.HasWrapped (most + 2) result }
 {
     let value = operand_in(registers, &term.operand);
     if term.minus {
@@ -65,13 +67,20 @@ fn is_about(number: usize, item: ItemId, deed: &Deed) -> bool
 }
 
 fn is_read(number: usize, item: ItemId, value: i128, deed: &Deed) -> bool
-    ensures { result ≡ serial.same_deed deed.now (record { query = number; item = item; action = Action.Read; value = value }) }
+    ensures { result ≡ serial.same_deed deed.now
+        (record { query = number; item = item; action = Action.Read; value = value }) }
 {
     is_about(number, item, deed) && (matches!(deed.action, Action::Read) && deed.value == value)
 }
 
 fn is_write(number: usize, item: ItemId, total: Total, deed: &Deed) -> bool
-    ensures { result ≡ serial.same_deed deed.now (record { query = number; item = item; action = Action.Write; value = program.value_of total }) }
+    ensures { result ≡ serial.same_deed deed.now
+        (record {
+          query = number;
+          item = item;
+          action = Action.Write;
+          value = program.value_of total;
+        }) }
 {
     is_about(number, item, deed)
         && (matches!(deed.action, Action::Write) && is_total(deed.value, total))
@@ -85,8 +94,10 @@ fn follow_read(
     into: u32,
     deed: &Deed,
 ) -> bool
-    ensures same { result ≡ serial.same_deed deed.now (program.deed_of number (Query.Read item into) registers.old store.now) }
-    ensures registers { registers.new ≡ program.registers_after (Query.Read item into) registers.old store.now }
+    ensures same { result ≡ serial.same_deed deed.now
+        (program.deed_of number (Query.Read item into) registers.old store.now) }
+    ensures registers { registers.new ≡ program.registers_after
+        (Query.Read item into) registers.old store.now }
 {
     let value = number_at(store.as_slice(), item.0);
     if (into as usize) < registers.len() {
@@ -104,8 +115,10 @@ fn follow_write(
     expr: &List<Term>,
     deed: &Deed,
 ) -> bool
-    ensures same { result ≡ serial.same_deed deed.now (program.deed_of number (Query.Write item expr.now) registers.now store.old) }
-    ensures store { IsTrue result → store.new ≡ program.store_after (Query.Write item expr.now) registers.now store.old }
+    ensures same { result ≡ serial.same_deed deed.now
+        (program.deed_of number (Query.Write item expr.now) registers.now store.old) }
+    ensures store { IsTrue result
+        → store.new ≡ program.store_after (Query.Write item expr.now) registers.now store.old }
 {
     if !is_write(number, item, sum_in(registers, expr), deed) {
         return false;
@@ -122,9 +135,12 @@ fn follow(
     query: &Query,
     deed: &Deed,
 ) -> bool
-    ensures same { result ≡ serial.same_deed deed.now (program.deed_of number query.now registers.old store.old) }
-    ensures registers { IsTrue result → registers.new ≡ program.registers_after query.now registers.old store.old }
-    ensures store { IsTrue result → store.new ≡ program.store_after query.now registers.old store.old }
+    ensures same { result ≡ serial.same_deed deed.now
+        (program.deed_of number query.now registers.old store.old) }
+    ensures registers { IsTrue result
+        → registers.new ≡ program.registers_after query.now registers.old store.old }
+    ensures store { IsTrue result
+        → store.new ≡ program.store_after query.now registers.old store.old }
 {
     match query {
         Query::Read { item, into } => follow_read(registers, store, number, *item, *into, deed),
@@ -135,7 +151,8 @@ fn follow(
 /// Whether the deeds are those of the transaction, run by itself on the store, which they then have changed.
 #[tactic(auto, using(crate::proofs::SerialLemmas::no_serial_run, crate::proofs::SerialLemmas::runs_next, crate::proofs::SerialLemmas::stored_same))]
 fn is_serial_run(store: &mut List<i128>, deeds: &List<Deed>, txn: &Transaction) -> bool
-    ensures same { result ≡ pointwise serial.same_deed deeds.now (serial.serial_run txn.now store.old) }
+    ensures same { result ≡ pointwise serial.same_deed deeds.now
+        (serial.serial_run txn.now store.old) }
     ensures store { IsTrue result → store.new ≡ serial.stored_all store.old deeds.now }
 {
     if deeds.len() != txn.queries.len() {
@@ -151,7 +168,8 @@ fn is_serial_run(store: &mut List<i128>, deeds: &List<Deed>, txn: &Transaction) 
 }
 
 fn is_in_range(item: &Item, store: &List<i128>, at: usize) -> bool
-    ensures { result ≡ option_map_or (is_between item.now.min item.now.max) (slice_get store.now at) false }
+    ensures { result ≡ option_map_or (is_between item.now.min item.now.max)
+        (slice_get store.now at) false }
 {
     match store.get(at) {
         None => false,
@@ -243,7 +261,9 @@ fn is_serial_decision(
     txn: TxnId,
     decision: &Decision,
 ) -> Result<bool, NoMemory>
-    ensures { IfOk result (λ kept. kept ≡ serial.keeps_serial_what scenario.now facts.now place (What.Decided txn decision.now)) }
+    ensures { IfOk result (λ kept.
+        kept ≡ serial.keeps_serial_what scenario.now facts.now place
+        (What.Decided txn decision.now)) }
 {
     let Decision::Commit(committed) = decision else {
         return Ok(true);

@@ -38,7 +38,8 @@ fn wrapped_below(part: i128, term: i128) -> i128
 pub fn plus(total: Total, term: i128) -> Total
     requires { program.HasWrapped (2 ^ 100) total }
     ensures value { program.value_of result ≡ program.value_of total +ℤ term }
-    ensures wraps { (most : ℕ) → program.HasWrapped most total → program.HasWrapped (most + 1) result }
+    ensures wraps { (most : ℕ) → program.HasWrapped most total
+        → program.HasWrapped (most + 1) result }
 {
     let Total { part, wraps } = total;
     match part.checked_add(term) {
@@ -58,7 +59,8 @@ pub fn plus(total: Total, term: i128) -> Total
 pub fn minus(total: Total, term: i128) -> Total
     requires { program.HasWrapped (2 ^ 99) total }
     ensures value { program.value_of result ≡ program.value_of total -ℤ term }
-    ensures wraps { (most : ℕ) → program.HasWrapped most total → program.HasWrapped (most + 2) result }
+    ensures wraps { (most : ℕ) → program.HasWrapped most total
+        → program.HasWrapped (most + 2) result }
 {
     if term < 0 {
         plus(plus(total, -(term + 1)), 1)

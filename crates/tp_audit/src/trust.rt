@@ -42,7 +42,8 @@ fn are_trusted_proofs(
     facts: &List<Fact>,
     proofs: &List<Verdict>,
 ) -> bool
-    ensures { result ≡ list_all (trust.is_trusted_proof scenario.now txn declared.now decided facts.now) proofs.now }
+    ensures { result ≡ list_all
+        (trust.is_trusted_proof scenario.now txn declared.now decided facts.now) proofs.now }
 {
     proofs.iter().all(|proof| is_trusted_proof(scenario, txn, declared, decided, facts, proof))
 }
@@ -64,7 +65,8 @@ fn is_trusted_instance(
     facts: &List<Fact>,
     instance: &Instance,
 ) -> bool
-    ensures { result ≡ trust.is_trusted_instance scenario.now txn declared.now decided facts.now instance.now }
+    ensures { result ≡ trust.is_trusted_instance scenario.now txn declared.now decided facts.now
+        instance.now }
 {
     are_trusted_proofs(scenario, txn, declared, decided, facts, &instance.proofs)
         && is_timely_reading(txn, decided, facts, instance.reading)
@@ -78,7 +80,8 @@ fn are_trusted_instances(
     facts: &List<Fact>,
     instances: &List<Instance>,
 ) -> bool
-    ensures { result ≡ list_all (trust.is_trusted_instance scenario.now txn declared.now decided facts.now) instances.now }
+    ensures { result ≡ list_all
+        (trust.is_trusted_instance scenario.now txn declared.now decided facts.now) instances.now }
 {
     instances.iter().all(|instance| is_trusted_instance(
         scenario, txn, declared, decided, facts, instance,
@@ -93,7 +96,8 @@ fn is_trusted_commit(
     committed: &CommitRecord,
     declared: &Transaction,
 ) -> bool
-    ensures { result ≡ trust.is_trusted_commit scenario.now txn decided facts.now committed.now declared.now }
+    ensures { result ≡ trust.is_trusted_commit scenario.now txn decided facts.now committed.now
+        declared.now }
 {
     meets_demand(scenario, facts, declared, committed)
         && are_trusted_instances(
@@ -113,7 +117,8 @@ fn is_trusted_decision(
     txn: TxnId,
     decision: &Decision,
 ) -> bool
-    ensures { result ≡ trust.keeps_trust_what scenario.now facts.now place (What.Decided txn decision.now) }
+    ensures { result ≡ trust.keeps_trust_what scenario.now facts.now place
+        (What.Decided txn decision.now) }
 {
     let Decision::Commit(committed) = decision else {
         return true;

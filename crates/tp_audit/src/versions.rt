@@ -71,7 +71,8 @@ fn all_meet_reading(
     facts: &List<Fact>,
     proofs: &List<Verdict>,
 ) -> bool
-    ensures { result ≡ list_all (versions.meets_reading scenario.now txn.now place facts.now) proofs.now }
+    ensures { result ≡ list_all
+        (versions.meets_reading scenario.now txn.now place facts.now) proofs.now }
 {
     proofs
         .iter()
@@ -84,7 +85,8 @@ fn meets_readings(
     facts: &List<Fact>,
     instance: &Instance,
 ) -> bool
-    ensures { result ≡ versions.meets_readings scenario.now txn.now instance.now.reading facts.now instance.now.proofs }
+    ensures { result ≡ versions.meets_readings scenario.now txn.now instance.now.reading facts.now
+        instance.now.proofs }
 {
     match instance.reading {
         None => false,
@@ -98,7 +100,10 @@ fn has_due_reading(
     facts: &List<Fact>,
     instance: &Instance,
 ) -> bool
-    ensures { result ≡ (if levels.reads_master scenario.now txn.now then versions.meets_readings scenario.now txn.now instance.now.reading facts.now instance.now.proofs else is_none instance.now.reading) }
+    ensures { result
+        ≡ (if levels.reads_master scenario.now txn.now
+        then versions.meets_readings scenario.now txn.now instance.now.reading facts.now instance.now.proofs
+        else is_none instance.now.reading) }
 {
     if reads_master(scenario, txn) {
         meets_readings(scenario, txn, facts, instance)

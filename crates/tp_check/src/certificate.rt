@@ -13,7 +13,8 @@ use tp_model::{matches, rule_in};
 use tp_types::{Action, Cond, CredId, Name, Op, Policy, Rule, Value};
 
 fn is_met(held: &Presented<'_>, issuer: &Name, attr: &Name, op: Op, wanted: &Value) -> bool
-    ensures { result ≡ list_any (policies.meets issuer.now attr.now op wanted.now) (held_by held.now) }
+    ensures { result ≡ list_any (policies.meets issuer.now attr.now op wanted.now)
+        (held_by held.now) }
 {
     held.creds
         .iter()
@@ -63,7 +64,8 @@ fn any_holds(held: &Presented<'_>, members: &[Cond]) -> bool
 }
 
 fn allows(action: Action, item: &Name, held: &Presented<'_>, policy: &Policy, number: u32) -> bool
-    ensures { result ≡ option_map_or (policies.rule_allows action item.now (held_by held.now)) (authorisation.rule_in policy.now number) false }
+    ensures { result ≡ option_map_or (policies.rule_allows action item.now (held_by held.now))
+        (authorisation.rule_in policy.now number) false }
 {
     match rule_in(policy, number) {
         None => false,
@@ -91,7 +93,8 @@ pub fn check(
     rule: u32,
     uses: &[CredId],
 ) -> bool
-    ensures { result ≡ is_checked policy.now action item.now store.now subject.now now revoked.now rule uses.now }
+    ensures { result ≡ is_checked policy.now action item.now store.now subject.now now revoked.now
+        rule uses.now }
 {
     let held = Presented {
         store,

@@ -1,8 +1,7 @@
 -- A test of what is held is a test of the credentials.
-use Rattle.std.proofs.Common.{◌≡◌, ℕ, Bool, true, false, ◌&&◌, ◌||◌, cond, List, [], ◌∷◌, filter, Option, Some, None, refl, ap, ◌∙◌}
-use Rattle.std.specs.List.{cons_option, filter_map, list_any}
+use Rattle.std.proofs.Common.{◌≡◌, ℕ, Bool, true, false, ◌&&◌, cond, List, Some, None, refl}
+use Rattle.std.specs.List.{list_any}
 use Rattle.std.specs.Option.{option_map_or}
-use Rattle.std.proofs.Math.Bool.{and-false, and-true}
 use Rattle.tp_types.proofs.ListLemmas.{any_kept}
 use Rattle.tp_model.specs.Words.{CredId, Credential}
 use Rattle.tp_model.specs.Credentials.{held_in, is_valid_in, said_by, said_in, triple_of}

@@ -1,13 +1,11 @@
 -- A store that grows by a credential of a new name, and the ids of a subject's credentials, one more at a time.
-use Rattle.std.proofs.Common.{◌≡◌, ◌<◌, ◌+◌, ◌^◌, ℕ, suc, Bool, true, false, cond, List, [], ◌||◌, ◌∷◌, ◌++◌, filter, length, map, append-nil, Some, None, slice_get, get_or, nat_lt, arith, refl, ap, inl, inr, ◌∙◌}
-use Rattle.std.proofs.lemmas.Bool.{cases_lt}
-use Rattle.std.proofs.lemmas.Bool.Decides.{nat_tests}
+use Rattle.std.proofs.Common.{◌≡◌, ◌<◌, ◌+◌, ◌^◌, ℕ, true, false, cond, List, [], ◌||◌, ◌∷◌, ◌++◌, filter, length, map, append-nil, Some, None, slice_get, get_or, arith, refl, ap, ◌∙◌}
 use Rattle.std.proofs.lemmas.Cmp.{nat_list_eq_equiv}
 use Rattle.std.proofs.lemmas.List.{length_push}
 use Rattle.std.proofs.lemmas.List.FromFn.{filter_of_map_range_with_len_more}
 use Rattle.std.proofs.lemmas.Option.{slice_get_read}
 use Rattle.std.proofs.lemmas.Map.Keys.{IsDistinct-push}
-use Rattle.std.specs.List.{IsDistinct, list_any, position, position_or_len, range_with_len}
+use Rattle.std.specs.List.{IsDistinct, list_any, position, range_with_len}
 use Rattle.tp_types.proofs.ListLemmas.{none_passes}
 use Rattle.tp_model.specs.Words.{Credential}
 use Rattle.tp_model.specs.Ids.{same_name}

@@ -9,7 +9,9 @@ use Rattle.tp_model.specs.Policies.{rule_allows}
 
 -- the rule exists, counted from 1, matches, and is true of what the used credentials alone say of the subject; each of these exists
 -- and is valid
-abbrev pub is_checked : Policy → Action → List ℕ → List Credential → List ℕ → ℕ → List CredId → ℕ → List CredId → Bool
+abbrev pub is_checked : Policy → Action → List ℕ → List Credential → List ℕ → ℕ → List CredId → ℕ
+    → List CredId → Bool
 is_checked policy asked item store subject now revoked rule uses =
-    option_map_or (rule_allows asked item (held_in store subject now revoked uses)) (rule_in policy rule) false
+    option_map_or (rule_allows asked item (held_in store subject now revoked uses))
+    (rule_in policy rule) false
     && list_all (is_valid_in store now revoked) uses

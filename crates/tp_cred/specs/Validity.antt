@@ -7,4 +7,5 @@ use Rattle.tp_model.specs.Policies.{Triple}
 
 -- the credential is valid, and what it says of the subject passes the test
 abbrev pub shows_in : List Credential → List ℕ → ℕ → List CredId → (Triple → Bool) → CredId → Bool
-shows_in store subject now revoked test cred = option_map_or test (said_in store subject cred) false && is_valid_in store now revoked cred
+shows_in store subject now revoked test cred =
+    option_map_or test (said_in store subject cred) false && is_valid_in store now revoked cred

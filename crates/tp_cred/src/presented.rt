@@ -33,7 +33,8 @@ pub fn says(
     op: Op,
     wanted: &Value,
 ) -> bool
-    ensures { result ≡ option_map_or (policies.meets issuer.now attr.now op wanted.now) (credentials.triple_of subject.now credential.now) false }
+    ensures { result ≡ option_map_or (policies.meets issuer.now attr.now op wanted.now)
+        (credentials.triple_of subject.now credential.now) false }
 {
     credential.subject == *subject && meets(credential, issuer, attr, op, wanted)
 }
@@ -46,7 +47,8 @@ fn is_said(
     op: Op,
     wanted: &Value,
 ) -> bool
-    ensures { result ≡ option_map_or (policies.meets issuer.now attr.now op wanted.now) (credentials.said_in held.now.store.now held.now.subject.now cred) false }
+    ensures { result ≡ option_map_or (policies.meets issuer.now attr.now op wanted.now)
+        (credentials.said_in held.now.store.now held.now.subject.now cred) false }
 {
     match held.store.get(cred) {
         None => false,
@@ -63,7 +65,8 @@ pub fn shows(
     op: Op,
     wanted: &Value,
 ) -> bool
-    ensures { result ≡ held_by.shows held.now (policies.meets issuer.now attr.now op wanted.now) cred }
+    ensures { result ≡ held_by.shows held.now
+        (policies.meets issuer.now attr.now op wanted.now) cred }
 {
     is_said(held, cred, issuer, attr, op, wanted)
         && held.store.valid(cred, held.clock, held.revoked)

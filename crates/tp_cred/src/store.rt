@@ -117,8 +117,10 @@ impl CredStore {
     /// Adds a credential, and gives its id. Where it is refused it is dropped.
     pub fn add(&mut self, credential: Credential) -> Result<CredId, CredError>
         requires { length self.old < 2 ^ 32 }
-        ensures added { IfOk result (λ id. (id.0 ≡ length self.old) × (self.new ≡ self.old ++ credential ∷ [])) }
-        ensures duplicate { store.duplicate_in result ≡ position (store.is_named credential.name) self.old }
+        ensures added { IfOk result (λ id.
+            (id.0 ≡ length self.old) × (self.new ≡ self.old ++ credential ∷ [])) }
+        ensures duplicate { store.duplicate_in result
+            ≡ position (store.is_named credential.name) self.old }
         ensures refused { OnErr result (self.new ≡ self.old) }
     {
         match self.place_of(&credential.name) {

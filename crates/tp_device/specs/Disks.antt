@@ -24,7 +24,8 @@ is_touched spans i = list_any (λ span. is_within i span) spans
 pub record MayLeave (s : DiskState) (image : List ℕ) : Type 0 where
   pub no_shorter : s.least ≤ length image
   pub no_longer : length image ≤ s.greatest
-  pub kept : (i : ℕ) → i < s.least → is_touched s.written i ≡ false → slice_index image i ≡ slice_index s.seen i
+  pub kept : (i : ℕ) → i < s.least → is_touched s.written i ≡ false
+      → slice_index image i ≡ slice_index s.seen i
 
 -- ---- the calls
 
@@ -61,15 +62,25 @@ after_sync s = clean_state s.seen
 
 -- after a write that failed the range counts as written, and the length is the old or the new one
 pub record MayHaveWritten (at len : ℕ) (old new : DiskState) : Type 0 where
-  pub size : (length new.seen ≡ length old.seen) ⊎ (length new.seen ≡ max (length old.seen) (at + len))
-  pub others : (i : ℕ) → i < length old.seen → is_within i (span at len) ≡ false → slice_index new.seen i ≡ slice_index old.seen i
+  pub size : (length new.seen ≡ length old.seen)
+      ⊎ (length new.seen ≡ max (length old.seen) (at + len))
+  pub others : (i : ℕ) → i < length old.seen → is_within i (span at len) ≡ false
+      → slice_index new.seen i ≡ slice_index old.seen i
   pub crash : (image : List ℕ) → MayLeave new image
-      → MayLeave (record { seen = new.seen; least = old.least; greatest = max old.greatest (at + len); written = old.written ++ span at len ∷ [] }) image
+      → MayLeave
+      (record {
+        seen = new.seen;
+        least = old.least;
+        greatest = max old.greatest (at + len);
+        written = old.written ++ span at len ∷ [];
+      })
+      image
 
 -- after a cut that failed the bytes are the old or the new ones, and what it was to cut off is free
 pub record MayHaveCut (len : ℕ) (old new : DiskState) : Type 0 where
   pub seen : (new.seen ≡ old.seen) ⊎ (new.seen ≡ take len old.seen)
-  pub crash : (image : List ℕ) → MayLeave new image → MayLeave (record old { seen = new.seen; least = min old.least len }) image
+  pub crash : (image : List ℕ) → MayLeave new image
+      → MayLeave (record old { seen = new.seen; least = min old.least len }) image
 
 -- ---- what each call does, by its answer
 
@@ -97,8 +108,10 @@ Effect Sync old (Err errors.NoMemory) new = ⊥
 -- call, or what it may leave after it
 abbrev pub Passes : {D : Type 0} → (D → DiskState) → (D → D → List ℕ → Type 0) → D → D → Type 0
 Passes {D} state left_since old new =
-    (start : D) (image : List ℕ) → left_since start new image → left_since start old image ⊎ MayLeave (state new) image
+    (start : D) (image : List ℕ) → left_since start new image
+    → left_since start old image ⊎ MayLeave (state new) image
 
 -- a crash at any moment from the first state of a disk to the second leaves an image that has P
-abbrev pub LeavesOnly : {D : Type 0} → (D → D → List ℕ → Type 0) → D → D → (List ℕ → Type 0) → Type 0
+abbrev pub LeavesOnly : {D : Type 0} → (D → D → List ℕ → Type 0) → D → D → (List ℕ → Type 0)
+    → Type 0
 LeavesOnly left_since start now P = (image : List ℕ) → left_since start now image → P image

@@ -24,7 +24,9 @@ impl Fuse {
     /// Lets a call begin, or counts a fault where no call passes any more.
     fn enter(&mut self) -> Result<(), DiskError>
         ensures ok { OnOk result ((self.old.left ≡ Some 0 → ⊥) × (self.new ≡ self.old)) }
-        ensures err { OnErr result ((self.old.left ≡ Some 0) × (self.new ≡ record self.old { faults = counted self.old.faults })) }
+        ensures err { OnErr result ((self.old.left ≡ Some 0) × (self.new ≡ record self.old {
+          faults = counted self.old.faults;
+        })) }
         ensures failed { result ≡ Err DiskError.NoMemory → ⊥ }
     {
         if self.left == Some(0) {

@@ -15,7 +15,8 @@ use Rattle.tp_eval.specs.declared.policies.Certificate.{Certificate}
 -- all that members take, one after another, where each takes some
 abbrev pub taken_by_all : List (Option (List CredId)) → Option (List CredId)
 taken_by_all [] = Some []
-taken_by_all (member ∷ members) = option_and_then (λ first. option_map (λ others. first ++ others) (taken_by_all members)) member
+taken_by_all (member ∷ members) =
+    option_and_then (λ first. option_map (λ others. first ++ others) (taken_by_all members)) member
 
 -- what the first member takes that takes some
 abbrev pub taken_by_first : List (Option (List CredId)) → Option (List CredId)
@@ -26,9 +27,11 @@ abbrev pub only : CredId → List CredId
 only cred = cred ∷ []
 
 -- one level of a condition, where it is known what its members take
-abbrev pub level : ((Triple → Bool) → CredId → Bool) → List CredId → Cond-F (Option (List CredId)) → Option (List CredId)
+abbrev pub level : ((Triple → Bool) → CredId → Bool) → List CredId → Cond-F (Option (List CredId))
+    → Option (List CredId)
 level shows presented True = Some []
-level shows presented (Atom issuer attr op wanted) = option_map only (find (shows (meets issuer attr op wanted)) presented)
+level shows presented (Atom issuer attr op wanted) =
+    option_map only (find (shows (meets issuer attr op wanted)) presented)
 level shows presented (And members) = taken_by_all members
 level shows presented (Or members) = taken_by_first members
 
@@ -50,8 +53,10 @@ once creds (cred ∷ others) = once (with_cred creds cred) others
 -- ---- a policy
 
 -- what the condition of a rule takes that matches
-abbrev pub taken_by_rule : ((Triple → Bool) → CredId → Bool) → List CredId → Action → List ℕ → Rule → Option (List CredId)
-taken_by_rule shows presented asked item rule = if matches asked item rule then taken shows presented rule.cond else None
+abbrev pub taken_by_rule : ((Triple → Bool) → CredId → Bool) → List CredId → Action → List ℕ → Rule
+    → Option (List CredId)
+taken_by_rule shows presented asked item rule =
+    if matches asked item rule then taken shows presented rule.cond else None
 
 abbrev pub certificate_of : ℕ → List CredId → Certificate
 certificate_of number creds = record { rule = number; uses = once [] creds }
@@ -59,9 +64,13 @@ certificate_of number creds = record { rule = number; uses = once [] creds }
 -- the certificate of the first rule that is true, where rules are counted from this number
 abbrev pub first_certificate : (Rule → Option (List CredId)) → ℕ → List Rule → Option Certificate
 first_certificate takes number [] = None
-first_certificate takes number (rule ∷ rules) = option_or (option_map (certificate_of number) (takes rule)) (first_certificate takes (number + 1) rules)
+first_certificate takes number (rule ∷ rules) =
+    option_or (option_map (certificate_of number) (takes rule))
+    (first_certificate takes (number + 1) rules)
 
 -- the certificate of the first rule that matches and is true of the valid credentials of the subject that are presented
-abbrev pub certificate : Policy → Action → List ℕ → List Credential → List ℕ → List CredId → ℕ → List CredId → Option Certificate
+abbrev pub certificate : Policy → Action → List ℕ → List Credential → List ℕ → List CredId → ℕ
+    → List CredId → Option Certificate
 certificate policy asked item store subject presented now revoked =
-    first_certificate (taken_by_rule (shows_in store subject now revoked) presented asked item) 1 policy.rules
+    first_certificate
+    (taken_by_rule (shows_in store subject now revoked) presented asked item) 1 policy.rules

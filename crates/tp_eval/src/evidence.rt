@@ -32,7 +32,8 @@ pub fn valid_of(
     now: u64,
     revoked: &[CredId],
 ) -> Result<List<CredId>, NoMemory>
-    ensures { IfOk result (λ valid. valid ≡ filter (validity.is_valid_in creds.now now revoked.now) presented.now) }
+    ensures { IfOk result (λ valid.
+        valid ≡ filter (validity.is_valid_in creds.now now revoked.now) presented.now) }
 {
     let mut valid = List::new(alloc);
     for cred in presented {

@@ -43,7 +43,8 @@ fn first_said(
     op: Op,
     wanted: &Value,
 ) -> Option<CredId>
-    ensures { result ≡ find (mirror.says held.now (meets issuer.now attr.now op wanted.now)) held.now.valid.now }
+    ensures { result ≡ find
+        (mirror.says held.now (meets issuer.now attr.now op wanted.now)) held.now.valid.now }
 {
     held.valid
         .iter()
@@ -58,7 +59,8 @@ fn first_shown(
     op: Op,
     wanted: &Value,
 ) -> Option<CredId>
-    ensures { result ≡ find (mirror.shows held.now (meets issuer.now attr.now op wanted.now)) held.now.presented.now }
+    ensures { result ≡ find
+        (mirror.shows held.now (meets issuer.now attr.now op wanted.now)) held.now.presented.now }
 {
     first_said(held, issuer, attr, op, wanted)
 }
@@ -71,8 +73,15 @@ fn gather_atom(
     wanted: &Value,
     uses: &mut List<CredId>,
 ) -> Result<bool, NoMemory>
-    ensures truth { IfOk result (λ found. found ≡ is_some (find (mirror.shows held.now (meets issuer.now attr.now op wanted.now)) held.now.presented.now)) }
-    ensures added { IfOk result (λ _. uses.new ≡ gathered uses.old (option_map taken.only (find (mirror.shows held.now (meets issuer.now attr.now op wanted.now)) held.now.presented.now))) }
+    ensures truth { IfOk result (λ found.
+        found ≡ is_some
+        (find
+        (mirror.shows held.now (meets issuer.now attr.now op wanted.now)) held.now.presented.now)) }
+    ensures added { IfOk result (λ _.
+        uses.new ≡ gathered uses.old
+        (option_map taken.only
+        (find (mirror.shows held.now (meets issuer.now attr.now op wanted.now))
+        held.now.presented.now))) }
 {
     match first_shown(held, issuer, attr, op, wanted) {
         None => Ok(false),
@@ -110,8 +119,10 @@ fn gather_all(
     members: &[Cond],
     uses: &mut List<CredId>,
 ) -> Result<bool, NoMemory>
-    ensures truth { IfOk result (λ found. found ≡ is_some (taken.taken_by_all (map (takes held.now) members.now))) }
-    ensures added { IfOk result (λ _. uses.new ≡ gathered uses.old (taken.taken_by_all (map (takes held.now) members.now))) }
+    ensures truth { IfOk result (λ found.
+        found ≡ is_some (taken.taken_by_all (map (takes held.now) members.now))) }
+    ensures added { IfOk result (λ _.
+        uses.new ≡ gathered uses.old (taken.taken_by_all (map (takes held.now) members.now))) }
 {
     let before = uses.len();
     for member in members {
@@ -129,8 +140,10 @@ fn gather_first(
     members: &[Cond],
     uses: &mut List<CredId>,
 ) -> Result<bool, NoMemory>
-    ensures truth { IfOk result (λ found. found ≡ is_some (taken.taken_by_first (map (takes held.now) members.now))) }
-    ensures added { IfOk result (λ _. uses.new ≡ gathered uses.old (taken.taken_by_first (map (takes held.now) members.now))) }
+    ensures truth { IfOk result (λ found.
+        found ≡ is_some (taken.taken_by_first (map (takes held.now) members.now))) }
+    ensures added { IfOk result (λ _.
+        uses.new ≡ gathered uses.old (taken.taken_by_first (map (takes held.now) members.now))) }
 {
     for member in members {
         if gather(held, member, uses)? {

@@ -32,8 +32,11 @@ fn gather_rule(
     rule: &Rule,
     uses: &mut List<CredId>,
 ) -> Result<bool, NoMemory>
-    ensures truth { IfOk result (λ found. found ≡ is_some (gathered.takes_by_rule held.now action item.now rule.now)) }
-    ensures added { IfOk result (λ _. uses.new ≡ gathered.gathered uses.old (gathered.takes_by_rule held.now action item.now rule.now)) }
+    ensures truth { IfOk result (λ found.
+        found ≡ is_some (gathered.takes_by_rule held.now action item.now rule.now)) }
+    ensures added { IfOk result (λ _.
+        uses.new ≡ gathered.gathered uses.old
+        (gathered.takes_by_rule held.now action item.now rule.now)) }
 {
     if !matches(action, item, rule) {
         return Ok(false);
@@ -50,8 +53,12 @@ fn first_rule(
 ) -> Result<Option<u32>, NoMemory>
     requires empty { uses.old ≡ [] }
     requires few { length rules.now < 2 ^ 32 }
-    ensures number { IfOk result (λ found. found ≡ option_map gathered.rule_of (taken.first_certificate (gathered.takes_by_rule held.now action item.now) 1 rules.now)) }
-    ensures uses { IfOk result (λ _. uses.new ≡ gathered.uses_in (taken.first_certificate (gathered.takes_by_rule held.now action item.now) 1 rules.now)) }
+    ensures number { IfOk result (λ found.
+        found ≡ option_map gathered.rule_of
+        (taken.first_certificate (gathered.takes_by_rule held.now action item.now) 1 rules.now)) }
+    ensures uses { IfOk result (λ _.
+        uses.new ≡ gathered.uses_in
+        (taken.first_certificate (gathered.takes_by_rule held.now action item.now) 1 rules.now)) }
 {
     for (before, rule) in rules.iter().enumerate() {
         if gather_rule(held, action, item, rule, uses)? {
@@ -70,7 +77,9 @@ pub fn certify(
     item: &Name,
 ) -> Result<Option<Certificate>, NoMemory>
     requires { length policy.now.rules < 2 ^ 32 }
-    ensures { IfOk result (λ found. found ≡ taken.certificate policy.now action item.now held.now.creds.now held.now.subject.now held.now.presented.now held.now.clock held.now.revoked.now) }
+    ensures { IfOk result (λ found.
+        found ≡ taken.certificate policy.now action item.now held.now.creds.now
+        held.now.subject.now held.now.presented.now held.now.clock held.now.revoked.now) }
 {
     let mut uses = List::new(alloc);
     let found = first_rule(held, action, item, policy.rules.as_slice(), &mut uses)?;
@@ -94,11 +103,22 @@ pub fn evaluate(
     revoked: &[CredId],
 ) -> Result<Option<Certificate>, NoMemory>
     requires { length policy.now.rules < 2 ^ 32 }
-    ensures exact { IfOk result (λ found. found ≡ taken.certificate policy.now action item.now store.now subject.now presented.now now revoked.now) }
-    ensures truth { IfOk result (λ found. is_some found ≡ policies.allows policy.now action item.now (held_in store.now subject.now now revoked.now presented.now)) }
-    ensures passes { IfOk result (λ found. IfSome found (λ certificate. is_checked policy.now action item.now store.now subject.now now revoked.now certificate.rule certificate.uses ≡ true)) }
-    ensures presented { IfOk result (λ found. IfSome found (λ certificate. list_all (is_among presented.now) certificate.uses ≡ true)) }
-    ensures each_once { IfOk result (λ found. IfSome found (λ certificate. IsDistinct same_cred certificate.uses)) }
+    ensures exact { IfOk result (λ found.
+        found ≡ taken.certificate policy.now action item.now store.now subject.now presented.now
+        now revoked.now) }
+    ensures truth { IfOk result (λ found.
+        is_some found ≡ policies.allows policy.now action item.now
+        (held_in store.now subject.now now revoked.now presented.now)) }
+    ensures passes { IfOk result (λ found.
+        IfSome found
+        (λ certificate.
+        is_checked policy.now action item.now store.now subject.now now revoked.now
+        certificate.rule certificate.uses
+        ≡ true)) }
+    ensures presented { IfOk result (λ found.
+        IfSome found (λ certificate. list_all (is_among presented.now) certificate.uses ≡ true)) }
+    ensures each_once { IfOk result (λ found.
+        IfSome found (λ certificate. IsDistinct same_cred certificate.uses)) }
 {
     let creds = store.as_slice();
     let valid = valid_of(alloc, creds, presented, now, revoked)?;

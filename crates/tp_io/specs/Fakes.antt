@@ -40,4 +40,5 @@ abbrev pub Stores : {E : Type 0} → Store → List ℕ → Result ℕ E → Sto
 Stores old piece (Ok n) new =
     (is_due old.fails old.calls ≡ false) × (n ≡ min old.most (length piece))
     × (new ≡ record old { written = old.written ++ take n piece; calls = counted old.calls })
-Stores old piece (Err _) new = new ≡ record old { calls = counted old.calls; faults = counted old.faults }
+Stores old piece (Err _) new =
+    new ≡ record old { calls = counted old.calls; faults = counted old.faults }

@@ -1,6 +1,6 @@
 -- Loops over the slots of an item and over the items, a place at a time.
 use Rattle.std.proofs.Common.{◌≡◌, ◌<◌, ◌+◌, ℕ, Bool, true, false, cond, List, [], ◌∷◌, ◌++◌, length, get_or, take, drop, set, Option, Some, None, refl, ap, sym, ◌∙◌, append_assoc, add-one, arith, slice_get, inl, inr}
-use Rattle.std.proofs.lemmas.List.{drop_more, take_more, set_split}
+use Rattle.std.proofs.lemmas.List.{take_more, set_split}
 use Rattle.std.proofs.lemmas.Option.{get_or_from_slice_get, slice_get_cases, slice_get_within}
 use Rattle.std.specs.List.{find}
 use Rattle.std.specs.Option.{option_and_then}

@@ -14,7 +14,9 @@ use Rattle.tp_lock.specs.Table.{Table}
 
 -- of two owners the one is older exactly where the other is not
 abbrev pub AgesAreOrdered : Type 0
-AgesAreOrdered = (owner : TxnId) (age : ℕ) (entry : LockEntry) → is_of_other owner entry ≡ true → is_younger owner age entry ≡ not (is_older owner age entry)
+AgesAreOrdered =
+    (owner : TxnId) (age : ℕ) (entry : LockEntry) → is_of_other owner entry ≡ true
+    → is_younger owner age entry ≡ not (is_older owner age entry)
 
 -- an entry is older than another
 abbrev pub IsBefore : LockEntry → LockEntry → Type 0
@@ -27,31 +29,42 @@ NobodyIsOlderThanItself = (entry : LockEntry) → IsBefore entry entry → ⊥
 -- who is older than an older one is older, so nobody waits for one that waits for it, directly or through others, where each owner has
 -- one age in all its entries
 abbrev pub OlderThanTheOlder : Type 0
-OlderThanTheOlder = (first second third : LockEntry) → IsBefore first second → IsBefore second third → IsBefore first third
+OlderThanTheOlder =
+    (first second third : LockEntry) → IsBefore first second → IsBefore second third
+    → IsBefore first third
 
 -- ---- a request
 
 -- this is answered, and these entries are left
-pub record Gives (owner : TxnId) (age : ℕ) (mode : Action) (entries : List LockEntry) (asked : Asked) (left : List LockEntry) : Type 0 where
+pub record Gives (owner : TxnId) (age : ℕ) (mode : Action) (entries : List LockEntry)
+    (asked : Asked) (left : List LockEntry) : Type 0 where
   pub answered : answer owner age mode entries ≡ asked
   pub leaves : with_lock owner age mode entries ≡ left
 
 -- the four cases of a request, the first that fits
-pub record IsAnswered (owner : TxnId) (age : ℕ) (mode : Action) (entries : List LockEntry) : Type 0 where
+pub record IsAnswered (owner : TxnId) (age : ℕ) (mode : Action) (entries : List LockEntry)
+    : Type 0 where
   -- the owner holds a lock in this mode or to write
-  pub served : list_any (serves owner mode) entries ≡ true → Gives owner age mode entries Granted entries
+  pub served : list_any (serves owner mode) entries ≡ true
+      → Gives owner age mode entries Granted entries
   -- no entry conflicts
-  pub free : list_any (serves owner mode) entries ≡ false → list_any (conflicts owner mode) entries ≡ false
+  pub free : list_any (serves owner mode) entries ≡ false
+      → list_any (conflicts owner mode) entries ≡ false
       → Gives owner age mode entries Granted (entries ++ lock_of owner age mode true ∷ [])
   -- some entry conflicts, and each that does has a greater age
-  pub waits : list_any (serves owner mode) entries ≡ false → list_any (conflicts owner mode) entries ≡ true → all_let_wait owner age mode entries ≡ true
+  pub waits : list_any (serves owner mode) entries ≡ false
+      → list_any (conflicts owner mode) entries ≡ true → all_let_wait owner age mode entries ≡ true
       → Gives owner age mode entries Waits (entries ++ lock_of owner age mode false ∷ [])
   -- one that conflicts has a smaller age: the first such is named
-  pub dies : list_any (serves owner mode) entries ≡ false → all_let_wait owner age mode entries ≡ false
-      → (elder : LockEntry) × (find (is_elder owner age mode) entries ≡ Some elder) × Gives owner age mode entries (Dies elder.owner) entries
+  pub dies : list_any (serves owner mode) entries ≡ false
+      → all_let_wait owner age mode entries ≡ false
+      → (elder : LockEntry) × (find (is_elder owner age mode) entries ≡ Some elder)
+      × Gives owner age mode entries (Dies elder.owner) entries
 
 abbrev pub RequestsAreAnswered : Type 0
-RequestsAreAnswered = (owner : TxnId) (age : ℕ) (mode : Action) (entries : List LockEntry) → IsAnswered owner age mode entries
+RequestsAreAnswered =
+    (owner : TxnId) (age : ℕ) (mode : Action) (entries : List LockEntry)
+    → IsAnswered owner age mode entries
 
 -- an owner holds a lock that serves it in this mode
 abbrev pub Holds : TxnId → Action → List LockEntry → Type 0
@@ -59,17 +72,22 @@ Holds owner mode entries = list_any (serves owner mode) entries ≡ true
 
 -- who is granted a lock holds one that serves
 abbrev pub GrantedIsHeld : Type 0
-GrantedIsHeld = (owner : TxnId) (age : ℕ) (mode : Action) (entries : List LockEntry) → answer owner age mode entries ≡ Granted
+GrantedIsHeld =
+    (owner : TxnId) (age : ℕ) (mode : Action) (entries : List LockEntry)
+    → answer owner age mode entries ≡ Granted
     → Holds owner mode (with_lock owner age mode entries)
 
 -- what an owner holds it keeps through every request
 abbrev pub KeptByRequests : Type 0
-KeptByRequests = (holder : TxnId) (held : Action) (owner : TxnId) (age : ℕ) (mode : Action) (entries : List LockEntry)
+KeptByRequests =
+    (holder : TxnId) (held : Action) (owner : TxnId) (age : ℕ) (mode : Action)
+    (entries : List LockEntry)
     → Holds holder held entries → Holds holder held (with_lock owner age mode entries)
 
 -- and through the releases of others
 abbrev pub KeptByReleases : Type 0
-KeptByReleases = (holder : TxnId) (held : Action) (owner : TxnId) (entries : List LockEntry) → holder.0 ≢ owner.0
+KeptByReleases =
+    (holder : TxnId) (held : Action) (owner : TxnId) (entries : List LockEntry) → holder.0 ≢ owner.0
     → Holds holder held entries → Holds holder held (left_by owner entries)
 
 -- ---- order
@@ -78,10 +96,13 @@ abbrev pub OpeningIsOrderly : Type 0
 OpeningIsOrderly = (items : ℕ) → AreOrderly (opening items)
 
 abbrev pub RequestsKeepOrder : Type 0
-RequestsKeepOrder = (owner : TxnId) (age : ℕ) (item : ItemId) (mode : Action) (table : Table) → AreOrderly table → AreOrderly (after_request owner age item mode table)
+RequestsKeepOrder =
+    (owner : TxnId) (age : ℕ) (item : ItemId) (mode : Action) (table : Table) → AreOrderly table
+    → AreOrderly (after_request owner age item mode table)
 
 abbrev pub ReleasesKeepOrder : Type 0
-ReleasesKeepOrder = (owner : TxnId) (table : Table) → AreOrderly table → AreOrderly (after_release owner table)
+ReleasesKeepOrder =
+    (owner : TxnId) (table : Table) → AreOrderly table → AreOrderly (after_release owner table)
 
 abbrev pub TakingKeepsOrder : Type 0
 TakingKeepsOrder = (table : Table) → AreOrderly table → AreOrderly (without_grant table)
@@ -94,7 +115,9 @@ OrderExcludes = (entries : List LockEntry) → IsOrderly entries → HeldDoNotCo
 
 -- the owner has no entry left
 abbrev pub OwnersAreGone : Type 0
-OwnersAreGone = (owner : TxnId) (entries : List LockEntry) → list_any (is_of owner) (left_by owner entries) ≡ false
+OwnersAreGone =
+    (owner : TxnId) (entries : List LockEntry)
+    → list_any (is_of owner) (left_by owner entries) ≡ false
 
 -- only whether an entry is held may have changed, from waiting to held
 pub record IsGrown (old new : LockEntry) : Type 0 where
@@ -110,20 +133,28 @@ AreGrown (old ∷ olds) (new ∷ news) = IsGrown old new × AreGrown olds news
 
 -- the entries of other owners stay, in their order
 abbrev pub OthersStay : Type 0
-OthersStay = (owner : TxnId) (entries : List LockEntry) → AreGrown (filter (is_of_other owner) entries) (left_by owner entries)
+OthersStay =
+    (owner : TxnId) (entries : List LockEntry)
+    → AreGrown (filter (is_of_other owner) entries) (left_by owner entries)
 
 -- what is clear of what stands before it is held
 abbrev pub ClearIsHeld : Type 0
-ClearIsHeld = (owner : TxnId) (entries : List LockEntry) → EachAfter (λ earlier entry. is_clear earlier entry ≡ true → entry.held ≡ true) [] (left_by owner entries)
+ClearIsHeld =
+    (owner : TxnId) (entries : List LockEntry)
+    → EachAfter (λ earlier entry. is_clear earlier entry ≡ true → entry.held ≡ true) []
+    (left_by owner entries)
 
 -- a grant where an entry waited before and is held now
 abbrev pub grant_between : ℕ → LockEntry × LockEntry → Option Grant
-grant_between item pair = if not pair.0.held && pair.1.held then Some (grant_of pair.1.owner item) else None
+grant_between item pair =
+    if not pair.0.held && pair.1.held then Some (grant_of pair.1.owner item) else None
 
 -- the grants of an item are for the entries that waited and are held now, in the list's order
 abbrev pub GrantsAreThose : Type 0
 GrantsAreThose = (owner : TxnId) (item : ℕ) (entries : List LockEntry)
-    → grants_in owner item entries ≡ filter_map (grant_between item) (zip (filter (is_of_other owner) entries) (left_by owner entries))
+    → grants_in owner item entries
+    ≡ filter_map (grant_between item)
+    (zip (filter (is_of_other owner) entries) (left_by owner entries))
 
 -- a grant is for an entry that stood there and waited, and that is held now with nothing else changed
 pub record IsGrantFor (item : ℕ) (old new : List LockEntry) (grant : Grant) : Type 0 where
@@ -135,12 +166,14 @@ pub record IsGrantFor (item : ℕ) (old new : List LockEntry) (grant : Grant) : 
 
 abbrev pub GrantsAreHeld : Type 0
 GrantsAreHeld = (owner : TxnId) (item : ℕ) (entries : List LockEntry)
-    → All (IsGrantFor item (filter (is_of_other owner) entries) (left_by owner entries)) (grants_in owner item entries)
+    → All (IsGrantFor item (filter (is_of_other owner) entries) (left_by owner entries))
+    (grants_in owner item entries)
 
 -- the grants of a release are those of the items, by number
 abbrev pub GrantsGoByItem : Type 0
 GrantsGoByItem = (owner : TxnId) (table : Table)
-    → (after_release owner table).grants ≡ flat_map (λ numbered. grants_in owner numbered.0 numbered.1) (enumerate_from 0 table.lists)
+    → (after_release owner table).grants
+    ≡ flat_map (λ numbered. grants_in owner numbered.0 numbered.1) (enumerate_from 0 table.lists)
 
 -- nothing changes in an orderly list where the owner has no entry
 pub record IsUntouched (owner : TxnId) (item : ℕ) (entries : List LockEntry) : Type 0 where
@@ -148,4 +181,6 @@ pub record IsUntouched (owner : TxnId) (item : ℕ) (entries : List LockEntry) :
   pub no_grants : grants_in owner item entries ≡ []
 
 abbrev pub AbsentChangesNothing : Type 0
-AbsentChangesNothing = (owner : TxnId) (item : ℕ) (entries : List LockEntry) → IsOrderly entries → list_any (is_of owner) entries ≡ false → IsUntouched owner item entries
+AbsentChangesNothing =
+    (owner : TxnId) (item : ℕ) (entries : List LockEntry) → IsOrderly entries
+    → list_any (is_of owner) entries ≡ false → IsUntouched owner item entries

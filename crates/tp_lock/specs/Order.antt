@@ -9,7 +9,8 @@ use Rattle.tp_lock.specs.Table.{Table}
 
 -- the entry has a greater age; of two equal ages the greater number counts as greater
 abbrev pub is_younger : TxnId → ℕ → LockEntry → Bool
-is_younger owner age entry = nat_lt age entry.age || (entry.age == age && nat_lt owner.0 entry.owner.0)
+is_younger owner age entry =
+    nat_lt age entry.age || (entry.age == age && nat_lt owner.0 entry.owner.0)
 
 -- the entry has a greater age, if it conflicts
 abbrev pub lets_wait : TxnId → ℕ → Action → LockEntry → Bool
@@ -19,9 +20,11 @@ abbrev pub all_let_wait : TxnId → ℕ → Action → List LockEntry → Bool
 all_let_wait owner age mode entries = list_all (lets_wait owner age mode) entries
 
 -- each entry is as told of it and of those that stand before it
-abbrev pub EachAfter : (List LockEntry → LockEntry → Type 0) → List LockEntry → List LockEntry → Type 0
+abbrev pub EachAfter : (List LockEntry → LockEntry → Type 0) → List LockEntry → List LockEntry
+    → Type 0
 EachAfter Told earlier [] = Unit {0}
-EachAfter Told earlier (entry ∷ entries) = Told earlier entry × EachAfter Told (earlier ++ entry ∷ []) entries
+EachAfter Told earlier (entry ∷ entries) =
+    Told earlier entry × EachAfter Told (earlier ++ entry ∷ []) entries
 
 -- the entry is held exactly where it is clear of what stands before it
 abbrev pub IsRight : List LockEntry → LockEntry → Type 0
@@ -29,7 +32,8 @@ IsRight earlier entry = entry.held ≡ is_clear earlier entry
 
 -- the entry is held, or waits for younger owners only
 abbrev pub WaitsForYounger : List LockEntry → LockEntry → Type 0
-WaitsForYounger earlier entry = entry.held ≡ false → all_let_wait entry.owner entry.age entry.mode earlier ≡ true
+WaitsForYounger earlier entry =
+    entry.held ≡ false → all_let_wait entry.owner entry.age entry.mode earlier ≡ true
 
 pub record IsOrderly (entries : List LockEntry) : Type 0 where
   pub right : EachAfter IsRight [] entries
@@ -41,4 +45,8 @@ AreOrderly table = All IsOrderly table.lists
 
 -- of two entries that are held no two conflict
 abbrev pub HeldDoNotConflict : List LockEntry → Type 0
-HeldDoNotConflict entries = AllPairs (λ one other. one.held ≡ true → other.held ≡ true → conflicts other.owner other.mode one ≡ false) entries
+HeldDoNotConflict entries =
+    AllPairs
+    (λ one other.
+    one.held ≡ true → other.held ≡ true → conflicts other.owner other.mode one ≡ false)
+    entries

@@ -29,11 +29,13 @@ conflicts owner mode entry = is_of_other owner entry && (is_write mode || is_wri
 
 -- the entry is a lock that the owner holds, in this mode or to write
 abbrev pub serves : TxnId → Action → LockEntry → Bool
-serves owner mode entry = entry.held && (is_of owner entry && (is_write entry.mode || not (is_write mode)))
+serves owner mode entry =
+    entry.held && (is_of owner entry && (is_write entry.mode || not (is_write mode)))
 
 -- the entry has a smaller age; of two equal ages the greater number counts as greater
 abbrev pub is_older : TxnId → ℕ → LockEntry → Bool
-is_older owner age entry = nat_lt entry.age age || (entry.age == age && nat_lt entry.owner.0 owner.0)
+is_older owner age entry =
+    nat_lt entry.age age || (entry.age == age && nat_lt entry.owner.0 owner.0)
 
 -- the entry conflicts, and is older
 abbrev pub is_elder : TxnId → ℕ → Action → LockEntry → Bool
@@ -48,10 +50,13 @@ waits_or_dies (Some elder) = Dies elder.owner
 -- the answer where the owner holds no lock that serves
 abbrev pub answer_to_new : TxnId → ℕ → Action → List LockEntry → Asked
 answer_to_new owner age mode entries =
-    if list_any (conflicts owner mode) entries then waits_or_dies (find (is_elder owner age mode) entries) else Granted
+    if list_any (conflicts owner mode) entries
+    then waits_or_dies (find (is_elder owner age mode) entries)
+    else Granted
 
 abbrev pub answer : TxnId → ℕ → Action → List LockEntry → Asked
-answer owner age mode entries = if list_any (serves owner mode) entries then Granted else answer_to_new owner age mode entries
+answer owner age mode entries =
+    if list_any (serves owner mode) entries then Granted else answer_to_new owner age mode entries
 
 abbrev pub lock_of : TxnId → ℕ → Action → Bool → LockEntry
 lock_of owner age mode held = record { owner = owner; age = age; mode = mode; held = held }
@@ -64,7 +69,8 @@ with_answer owner age mode (Dies other) entries = entries
 
 abbrev pub with_lock : TxnId → ℕ → Action → List LockEntry → List LockEntry
 with_lock owner age mode entries =
-    if list_any (serves owner mode) entries then entries else with_answer owner age mode (answer_to_new owner age mode entries) entries
+    if list_any (serves owner mode) entries then entries
+    else with_answer owner age mode (answer_to_new owner age mode entries) entries
 
 -- ---- a release, at one list
 
@@ -82,7 +88,8 @@ with_grant earlier entry = record entry { held = entry.held || is_granted earlie
 -- the entries of a list after the earlier ones, each that waits and is clear now held
 abbrev pub with_grants_from : List LockEntry → List LockEntry → List LockEntry
 with_grants_from earlier [] = []
-with_grants_from earlier (entry ∷ entries) = with_grant earlier entry ∷ with_grants_from (earlier ++ with_grant earlier entry ∷ []) entries
+with_grants_from earlier (entry ∷ entries) =
+    with_grant earlier entry ∷ with_grants_from (earlier ++ with_grant earlier entry ∷ []) entries
 
 -- the list without the owner
 abbrev pub left_by : TxnId → List LockEntry → List LockEntry
@@ -95,7 +102,8 @@ grant_of owner item = record { owner = owner; item = record { 0 = item } }
 abbrev pub grants_from : ℕ → List LockEntry → List LockEntry → List Grant
 grants_from item earlier [] = []
 grants_from item earlier (entry ∷ entries) =
-    (if is_granted earlier entry then grant_of entry.owner item ∷ [] else []) ++ grants_from item (earlier ++ with_grant earlier entry ∷ []) entries
+    (if is_granted earlier entry then grant_of entry.owner item ∷ [] else [])
+    ++ grants_from item (earlier ++ with_grant earlier entry ∷ []) entries
 
 abbrev pub grants_in : TxnId → ℕ → List LockEntry → List Grant
 grants_in owner item entries = grants_from item [] (filter (is_of_other owner) entries)
@@ -103,7 +111,8 @@ grants_in owner item entries = grants_from item [] (filter (is_of_other owner) e
 -- the grants of a release in the lists of the items from this one on
 abbrev pub grants_of : TxnId → ℕ → List (List LockEntry) → List Grant
 grants_of owner item [] = []
-grants_of owner item (entries ∷ lists) = grants_in owner item entries ++ grants_of owner (suc item) lists
+grants_of owner item (entries ∷ lists) =
+    grants_in owner item entries ++ grants_of owner (suc item) lists
 
 -- ---- the calls of a table
 
@@ -117,10 +126,15 @@ abbrev pub answer_at : TxnId → ℕ → ItemId → Action → Table → Asked
 answer_at owner age item mode table = answer owner age mode (entries_at item table)
 
 abbrev pub after_request : TxnId → ℕ → ItemId → Action → Table → Table
-after_request owner age item mode table = record table { lists = slice_set table.lists item.0 (with_lock owner age mode (entries_at item table)) }
+after_request owner age item mode table = record table {
+  lists = slice_set table.lists item.0 (with_lock owner age mode (entries_at item table));
+}
 
 abbrev pub after_release : TxnId → Table → Table
-after_release owner table = record { lists = map (left_by owner) table.lists; grants = grants_of owner 0 table.lists }
+after_release owner table = record {
+  lists = map (left_by owner) table.lists;
+  grants = grants_of owner 0 table.lists;
+}
 
 abbrev pub first_grant : Table → Option Grant
 first_grant table = slice_get table.grants 0

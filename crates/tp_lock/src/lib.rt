@@ -36,8 +36,10 @@ pub trait LockTable {
         item: ItemId,
         mode: Action,
     ) -> Result<Asked, NoMemory>
-        ensures answer { IfOk result (λ asked. asked ≡ rule.answer_at owner age item mode (table self.old)) }
-        ensures ok { OnOk result (table self.new ≡ rule.after_request owner age item mode (table self.old)) }
+        ensures answer { IfOk result (λ asked.
+            asked ≡ rule.answer_at owner age item mode (table self.old)) }
+        ensures ok { OnOk result
+            (table self.new ≡ rule.after_request owner age item mode (table self.old)) }
         ensures err { OnErr result (table self.new ≡ table self.old) };
 
     /// Takes the owner's entries out of all lists. Each waiting entry that is clear by then becomes held, and is

@@ -42,4 +42,5 @@ pub record FailsAt (image : List ℕ) (place : ℕ) : Type 0 where
 
 -- the image gives some records, or fails at some place
 abbrev pub HasReading : List ℕ → Type 0
-HasReading image = ((records : List Record) × Gives image records) ⊎ ((place : ℕ) × FailsAt image place)
+HasReading image =
+    ((records : List Record) × Gives image records) ⊎ ((place : ℕ) × FailsAt image place)

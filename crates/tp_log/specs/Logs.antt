@@ -25,7 +25,8 @@ pub record LogState (D : Type 0) : Type 0 where
 -- it is stored as the pair of its fields
 abbrev pub log_code : {D : Type 0} → Coded D → Coded (LogState D)
 log_code {D} code =
-    code_by (D × (ℕ × Bool)) (coded× code (coded× coded_ℕ coded_bool)) (λ l. (l.disk, (l.gate, l.closed)))
+    code_by (D × (ℕ × Bool)) (coded× code (coded× coded_ℕ coded_bool))
+    (λ l. (l.disk, (l.gate, l.closed)))
     (λ p. record { disk = p.0; gate = p.1.0; closed = p.1.1 }) (λ _. refl)
 
 -- the bytes are open blocks of these records, and at this place a gate that is not open
@@ -34,7 +35,8 @@ pub record IsAt (bytes : List ℕ) (records : List Record) (gate : ℕ) : Type 0
   pub gate_is : gate ≡ length (blocks records)
 
 -- an open log keeps these records: its gate stands behind them, and nothing is unsynced
-pub record Keeps {D : Type 0} (state : D → DiskState) (log : LogState D) (records : List Record) : Type 0 where
+pub record Keeps {D : Type 0} (state : D → DiskState) (log : LogState D) (records : List Record)
+    : Type 0 where
   pub still_open : log.closed ≡ false
   pub at_gate : IsAt (state log.disk).seen records log.gate
   pub forced : state log.disk ≡ clean_state (state log.disk).seen
@@ -45,7 +47,8 @@ GivesEither records r image = Gives image records ⊎ Gives image (records ++ r 
 
 -- a log of which an append failed: every image that a crash may leave gives the records, with the one
 -- that was appended or without it
-pub record MayKeep {D : Type 0} (state : D → DiskState) (log : LogState D) (records : List Record) (r : Record) : Type 0 where
+pub record MayKeep {D : Type 0} (state : D → DiskState) (log : LogState D) (records : List Record)
+    (r : Record) : Type 0 where
   pub was_closed : log.closed ≡ true
   pub images : (image : List ℕ) → MayLeave (state log.disk) image → GivesEither records r image
 
@@ -57,7 +60,8 @@ append_calls gate body =
     Write (gate + 1) (body ++ 0 ∷ []) ∷ Sync ∷ Write gate (1 ∷ []) ∷ Sync ∷ []
 
 -- the calls were made one after the other: all of them passed, or all up to one that was refused so
-abbrev pub Makes : {D : Type 0} → (D → Call → Result (Unit {0}) DiskError → D → Type 0) → List Call → D → Result (Unit {0}) DiskError → D → Type 0
+abbrev pub Makes : {D : Type 0} → (D → Call → Result (Unit {0}) DiskError → D → Type 0) → List Call
+    → D → Result (Unit {0}) DiskError → D → Type 0
 Makes does [] old (Ok _) new = new ≡ old
 Makes does [] old (Err _) new = ⊥
 Makes {D} does (call ∷ calls) old result new =
@@ -74,7 +78,8 @@ module _ {D : Type 0} (state : D → DiskState) (does : D → Call → Result (U
     pub is : IsRecord r
     pub fits : length (spelling r) ≤ body_max
     pub calls : Makes does (append_calls old.gate (spelling r)) old.disk (Ok tt) new.disk
-    pub kept : (records : List Record) → Keeps state old records → Keeps state new (records ++ r ∷ [])
+    pub kept : (records : List Record) → Keeps state old records
+        → Keeps state new (records ++ r ∷ [])
 
   -- a call of the disk failed, and counted a fault
   pub record Fails (old : LogState D) (r : Record) (new : LogState D) : Type 0 where
@@ -82,7 +87,8 @@ module _ {D : Type 0} (state : D → DiskState) (does : D → Call → Result (U
     pub is_closed : new.closed ≡ true
     pub is : IsRecord r
     pub fits : length (spelling r) ≤ body_max
-    pub calls : Makes does (append_calls old.gate (spelling r)) old.disk (Err disk_errors.Failed) new.disk
+    pub calls : Makes does (append_calls old.gate (spelling r)) old.disk
+        (Err disk_errors.Failed) new.disk
     pub fault : Rose (faults old.disk) (faults new.disk)
     pub kept : (records : List Record) → Keeps state old records → MayKeep state new records r
 
@@ -91,7 +97,8 @@ module _ {D : Type 0} (state : D → DiskState) (does : D → Call → Result (U
     pub is : IsRecord r
     pub fits : length (spelling r) ≤ body_max
     pub same_gate : new.gate ≡ old.gate
-    pub calls : Makes does (append_calls old.gate (spelling r)) old.disk (Err disk_errors.NoMemory) new.disk
+    pub calls : Makes does (append_calls old.gate (spelling r)) old.disk
+        (Err disk_errors.NoMemory) new.disk
 
   -- memory was refused, and the log keeps its records: before the first call of the disk, and then nothing changed, or by a call
   pub record Stays (old : LogState D) (r : Record) (new : LogState D) : Type 0 where

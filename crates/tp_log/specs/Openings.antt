@@ -9,7 +9,8 @@ use Rattle.tp_log.specs.Logs.{Makes}
 -- the images that a crash leaves while a log is opened: those that it might have left before, and the bytes
 -- that a read gives. Where those are at most one byte it may leave any image of at most one byte
 abbrev pub LeftOpening : DiskState → List ℕ → Type 0
-LeftOpening s image = MayLeave s image ⊎ ((image ≡ s.seen) ⊎ ((length s.seen ≤ 1) × (length image ≤ 1)))
+LeftOpening s image =
+    MayLeave s image ⊎ ((image ≡ s.seen) ⊎ ((length s.seen ≤ 1) × (length image ≤ 1)))
 
 -- a closed gate on a disk of at most one byte
 abbrev pub gate_calls : List Call
@@ -28,7 +29,8 @@ module _ {D : Type 0} (state : D → DiskState) (left_since : D → D → List �
     pub sync : does old Sync (Ok tt) first
     pub then : D
     pub read : Reads first then
-    pub calls : ((1 < length (state old).seen) × (new ≡ then)) ⊎ ((length (state old).seen ≤ 1) × Makes does gate_calls then (Ok tt) new)
+    pub calls : ((1 < length (state old).seen) × (new ≡ then))
+        ⊎ ((length (state old).seen ≤ 1) × Makes does gate_calls then (Ok tt) new)
     pub long : 1 < length (state old).seen → state new ≡ after_sync (state old)
     pub short : length (state old).seen ≤ 1 → state new ≡ clean_state (0 ∷ [])
     pub moments : LeavesOnly left_since old new (LeftOpening (state old))
@@ -38,6 +40,7 @@ module _ {D : Type 0} (state : D → DiskState) (left_since : D → D → List �
   pub record GivesUp (old gone : D) : Type 0 where
     pub calls : does old Sync (Err disk_errors.Failed) gone
         ⊎ ((first : D) × does old Sync (Ok tt) first × (then : D) × Reads first then
-        × ((gone ≡ then) ⊎ ((length (state old).seen ≤ 1) × Makes does gate_calls then (Err disk_errors.Failed) gone)))
+        × ((gone ≡ then)
+        ⊎ ((length (state old).seen ≤ 1) × Makes does gate_calls then (Err disk_errors.Failed) gone)))
     pub moments : LeavesOnly left_since old gone (LeftOpening (state old))
     pub fault : Rose (faults old) (faults gone)

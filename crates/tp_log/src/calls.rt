@@ -13,7 +13,8 @@ use tp_device::{Disk, DiskError};
 pub(crate) fn image_of<D: Disk>(alloc: Global, disk: &mut D) -> Result<Vec<u8>, LogError>
     ensures bytes { IfOk result (λ bytes. bytes.items ≡ (D.state disk.old).seen) }
     ensures reads { Reads D.state D.left_since D.does D.faults disk.old disk.new }
-    ensures refused { IfErr result (λ error. IfDevice error (Rose (D.faults disk.old) (D.faults disk.new))) }
+    ensures refused { IfErr result (λ error.
+        IfDevice error (Rose (D.faults disk.old) (D.faults disk.new))) }
 {
     let mut image = vec![in alloc; 0; disk.len() as usize]?;
     disk.read(0, &mut image)?;
@@ -32,7 +33,8 @@ pub(crate) fn write_gate<D: Disk>(disk: &mut D) -> Result<(), DiskError>
 pub(crate) fn force<D: Disk>(disk: &mut D, gate: u64, bytes: &[u8]) -> Result<(), DiskError>
     requires within { gate < length (D.state disk.old).seen }
     requires fits { gate + 1 < 2 ^ 64 }
-    ensures { Steps D.state D.left_since D.does D.faults (forced_calls gate bytes.now) disk.old result disk.new }
+    ensures { Steps D.state D.left_since D.does D.faults
+        (forced_calls gate bytes.now) disk.old result disk.new }
 {
     disk.write_at(gate + 1, bytes)?;
     disk.sync()?;

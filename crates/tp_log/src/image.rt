@@ -21,7 +21,8 @@ pub(crate) struct Found {
 /// What stands behind an open gate.
 fn behind_open_gate(rest: &[u8]) -> Option<&[u8]>
     requires { 0 < length rest.now }
-    ensures { MatchOption result ((gate : ℕ) × (more : List ℕ) × (gate ≢ 1) × (rest.now ≡ gate ∷ more))
+    ensures { MatchOption result
+        ((gate : ℕ) × (more : List ℕ) × (gate ≢ 1) × (rest.now ≡ gate ∷ more))
         (λ behind. rest.now ≡ 1 ∷ behind.now) }
 {
     match rest.split_first() {

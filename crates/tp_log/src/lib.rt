@@ -21,8 +21,10 @@ pub use log::Log;
 /// both.
 pub fn one_reading()
     ensures some { (image : List ℕ) → All (λ byte. byte < 2 ^ 8) image → HasReading image }
-    ensures records { (image : List ℕ) (rs ss : List Record) → Gives image rs → Gives image ss → rs ≡ ss }
+    ensures records { (image : List ℕ) (rs ss : List Record) → Gives image rs → Gives image ss
+        → rs ≡ ss }
     ensures found { (image : List ℕ) (rs : List Record) → Gives image rs → records_in image ≡ rs }
     ensures place { (image : List ℕ) (p q : ℕ) → FailsAt image p → FailsAt image q → p ≡ q }
-    ensures apart { (image : List ℕ) (rs : List Record) (p : ℕ) → Gives image rs → FailsAt image p → ⊥ }
+    ensures apart { (image : List ℕ) (rs : List Record) (p : ℕ) → Gives image rs → FailsAt image p
+        → ⊥ }
 {}

@@ -49,7 +49,8 @@ impl<D: Disk> Log<D> {
         ensures kept { IfOk result (λ made. Keeps D.state made.0 made.1) }
         // A disk of more than one byte is as a sync leaves it. A crash at any moment leaves what it might have left
         // before, or the bytes that a read gives; of a shorter disk an image of at most one byte.
-        ensures opens { IfOk result (λ made. Opens D.state D.left_since D.does D.faults disk made.0.disk) }
+        ensures opens { IfOk result (λ made.
+            Opens D.state D.left_since D.does D.faults disk made.0.disk) }
         // Only where no records are given.
         ensures not_a_log { IfErr result (λ error. IfNotALog error (FailsAt (D.state disk).seen)) }
         // Only where a call was refused, and a fault counted. The disk is given up, so the clause speaks of some disk to

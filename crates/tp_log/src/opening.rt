@@ -12,7 +12,8 @@ use tp_device::Disk;
 pub(crate) fn taken<D: Disk>(alloc: Global, disk: &mut D) -> Result<Vec<u8>, LogError>
     ensures bytes { IfOk result (λ bytes. bytes.items ≡ (D.state disk.old).seen) }
     ensures opens { OnOk result (Opens D.state D.left_since D.does D.faults disk.old disk.new) }
-    ensures refused { IfErr result (λ error. IfDevice error (GivesUp D.state D.left_since D.does D.faults disk.old disk.new)) }
+    ensures refused { IfErr result (λ error.
+        IfDevice error (GivesUp D.state D.left_since D.does D.faults disk.old disk.new)) }
 {
     disk.sync()?;
     let image = image_of(alloc, disk)?;

@@ -13,12 +13,17 @@ IsTrustedState sc w = TrustedSoFar sc w.steps w.facts (ending_of sc w).values
 
 -- where all transactions have ended at all their servers, the values are those that all commits leave
 abbrev pub HasAllCommits : Scenario → State → Type 0
-HasAllCommits sc w = have_ended sc w.facts 0 sc.txns ≡ true → (ending_of sc w).values ≡ store_of sc w.facts
+HasAllCommits sc w =
+    have_ended sc w.facts 0 sc.txns ≡ true → (ending_of sc w).values ≡ store_of sc w.facts
 
 -- of every scenario that is run, after every list of steps that name what exists, the history is trusted so far
 abbrev pub IsAlwaysTrusted : Type 0
-IsAlwaysTrusted = (sc : Scenario) (steps : List Step) → is_built sc ≡ true → Each (IsStepOf sc) steps → IsTrustedState sc (after sc steps).state
+IsAlwaysTrusted =
+    (sc : Scenario) (steps : List Step) → is_built sc ≡ true → Each (IsStepOf sc) steps
+    → IsTrustedState sc (after sc steps).state
 
 -- and where all transactions have ended, nothing that was committed is missing
 abbrev pub HasAlwaysAllCommits : Type 0
-HasAlwaysAllCommits = (sc : Scenario) (steps : List Step) → is_built sc ≡ true → Each (IsStepOf sc) steps → HasAllCommits sc (after sc steps).state
+HasAlwaysAllCommits =
+    (sc : Scenario) (steps : List Step) → is_built sc ≡ true → Each (IsStepOf sc) steps
+    → HasAllCommits sc (after sc steps).state

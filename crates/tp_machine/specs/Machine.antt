@@ -73,9 +73,14 @@ pub record PartMove (S : Type 0) : Type 0 where
   pub letters : List Letter
 
 -- the facts of the records that a log gained follow the step's own
-abbrev pub acts : {S : Type 0} → (Record → List What) → List What → List Record → Option S → List Record → List Letter → PartMove S
+abbrev pub acts : {S : Type 0} → (Record → List What) → List What → List Record → Option S
+    → List Record → List Letter → PartMove S
 acts fact own old up kept letters =
-    record { part = record { up = up; log = kept }; happened = own ++ flat_map fact (drop (length old) kept); letters = letters }
+    record {
+      part = record { up = up; log = kept };
+      happened = own ++ flat_map fact (drop (length old) kept);
+      letters = letters;
+    }
 
 -- a log with what was appended to it
 abbrev pub log_with : List Record → Option Record → List Record
@@ -83,8 +88,11 @@ log_with kept None = kept
 log_with kept (Some forced) = kept ++ forced ∷ []
 
 -- an actor that is up acts by its row
-abbrev pub acts_by : {S : Type 0} → (Record → List What) → List What → List Record → Effect S → PartMove S
-acts_by fact own old effect = acts fact own old (Some effect.state) (log_with old effect.reaction.append) effect.reaction.letters
+abbrev pub acts_by : {S : Type 0} → (Record → List What) → List What → List Record → Effect S
+    → PartMove S
+acts_by fact own old effect =
+    acts fact own old (Some effect.state)
+    (log_with old effect.reaction.append) effect.reaction.letters
 
 -- an actor that is down does nothing, and what was sent to it is gone
 abbrev pub stays_down : {S : Type 0} → Part S → List What → PartMove S
@@ -96,9 +104,11 @@ abbrev pub server_fact : ServerId → Record → List What
 server_fact at (log.Settled s) = what.Settled at s.txn s.outcome ∷ []
 server_fact at _ = []
 
-abbrev pub server_takes_up : Scenario → ServerId → Part Server → Mail → Option Server → PartMove Server
+abbrev pub server_takes_up : Scenario → ServerId → Part Server → Mail → Option Server
+    → PartMove Server
 server_takes_up sc at part mail None = stays_down part []
-server_takes_up sc at part mail (Some s) = acts_by (server_fact at) [] part.log (server_row sc s mail)
+server_takes_up sc at part mail (Some s) =
+    acts_by (server_fact at) [] part.log (server_row sc s mail)
 
 abbrev pub server_takes : Scenario → ServerId → Part Server → Mail → PartMove Server
 server_takes sc at part mail = server_takes_up sc at part mail part.up
@@ -106,7 +116,11 @@ server_takes sc at part mail = server_takes_up sc at part mail part.up
 -- the move in which a server acted
 abbrev pub server_move : Actors → ServerId → PartMove Server → Move
 server_move actors at move =
-    record { actors = record actors { servers = slice_set actors.servers at.0 move.part }; happened = move.happened; letters = move.letters }
+    record {
+      actors = record actors { servers = slice_set actors.servers at.0 move.part };
+      happened = move.happened;
+      letters = move.letters;
+    }
 
 abbrev pub to_server : Scenario → Actors → Mail → ServerId → Option (Part Server) → Move
 to_server sc actors mail at None = idle_move actors []
@@ -118,18 +132,24 @@ abbrev pub coordinator_fact : Record → List What
 coordinator_fact (log.Decided d) = what.Decided d.txn d.decision ∷ []
 coordinator_fact _ = []
 
-abbrev pub coordinator_takes_up : Scenario → Part Coordinator → Mail → Option Coordinator → PartMove Coordinator
+abbrev pub coordinator_takes_up : Scenario → Part Coordinator → Mail → Option Coordinator
+    → PartMove Coordinator
 coordinator_takes_up sc part mail None = stays_down part []
-coordinator_takes_up sc part mail (Some c) = acts_by coordinator_fact [] part.log (coordinator_row sc c mail)
+coordinator_takes_up sc part mail (Some c) =
+    acts_by coordinator_fact [] part.log (coordinator_row sc c mail)
 
 abbrev pub coordinator_takes : Scenario → Part Coordinator → Mail → PartMove Coordinator
 coordinator_takes sc part mail = coordinator_takes_up sc part mail part.up
 
 -- the effect of a submission, with its place
 abbrev pub with_age : Effect Coordinator → ℕ → Effect Coordinator
-with_age effect place = record { state = coordinator_with_age effect.state place; reaction = effect.reaction }
+with_age effect place = record {
+  state = coordinator_with_age effect.state place;
+  reaction = effect.reaction;
+}
 
-abbrev pub coordinator_submits_up : Scenario → Part Coordinator → TxnId → ℕ → Option Coordinator → PartMove Coordinator
+abbrev pub coordinator_submits_up : Scenario → Part Coordinator → TxnId → ℕ → Option Coordinator
+    → PartMove Coordinator
 coordinator_submits_up sc part txn place None = stays_down part (what.Submitted txn ∷ [])
 coordinator_submits_up sc part txn place (Some c) =
     acts_by coordinator_fact (what.Submitted txn ∷ []) part.log (with_age (submit_row sc c) place)
@@ -140,21 +160,31 @@ coordinator_submits sc part txn place = coordinator_submits_up sc part txn place
 -- the move in which a coordinator acted
 abbrev pub coordinator_move : Actors → TxnId → PartMove Coordinator → Move
 coordinator_move actors txn move =
-    record { actors = record actors { coordinators = slice_set actors.coordinators txn.0 move.part }; happened = move.happened; letters = move.letters }
+    record {
+      actors = record actors { coordinators = slice_set actors.coordinators txn.0 move.part };
+      happened = move.happened;
+      letters = move.letters;
+    }
 
 abbrev pub to_coordinator : Scenario → Actors → Mail → TxnId → Option (Part Coordinator) → Move
 to_coordinator sc actors mail txn None = idle_move actors []
-to_coordinator sc actors mail txn (Some part) = coordinator_move actors txn (coordinator_takes sc part mail)
+to_coordinator sc actors mail txn (Some part) =
+    coordinator_move actors txn (coordinator_takes sc part mail)
 
 abbrev pub submission_by : Scenario → Actors → TxnId → ℕ → Option (Part Coordinator) → Move
 submission_by sc actors txn place None = idle_move actors (what.Submitted txn ∷ [])
-submission_by sc actors txn place (Some part) = coordinator_move actors txn (coordinator_submits sc part txn place)
+submission_by sc actors txn place (Some part) =
+    coordinator_move actors txn (coordinator_submits sc part txn place)
 
 -- ---- steps
 
 abbrev pub to_authority : Actors → Mail → Move
 to_authority actors mail =
-    record { actors = actors; happened = []; letters = (office.authority_row actors.authority mail).reaction.letters }
+    record {
+      actors = actors;
+      happened = [];
+      letters = (office.authority_row actors.authority mail).reaction.letters;
+    }
 
 abbrev pub to_master : Actors → Mail → Move
 to_master actors mail =
@@ -162,14 +192,17 @@ to_master actors mail =
 
 -- a mail is delivered to its actor
 abbrev pub receipt : Scenario → Actors → Mail → Actor → Move
-receipt sc actors mail (actor.Server at) = to_server sc actors mail at (slice_get actors.servers at.0)
-receipt sc actors mail (actor.Coordinator txn) = to_coordinator sc actors mail txn (slice_get actors.coordinators txn.0)
+receipt sc actors mail (actor.Server at) =
+    to_server sc actors mail at (slice_get actors.servers at.0)
+receipt sc actors mail (actor.Coordinator txn) =
+    to_coordinator sc actors mail txn (slice_get actors.coordinators txn.0)
 receipt sc actors mail actor.Authority = to_authority actors mail
 receipt sc actors mail actor.Master = to_master actors mail
 
 -- a transaction is submitted
 abbrev pub submission : Scenario → Actors → TxnId → ℕ → Move
-submission sc actors txn place = submission_by sc actors txn place (slice_get actors.coordinators txn.0)
+submission sc actors txn place =
+    submission_by sc actors txn place (slice_get actors.coordinators txn.0)
 
 abbrev pub delivery : Scenario → Actors → Option Mail → Move
 delivery sc actors None = idle_move actors []
@@ -192,7 +225,10 @@ without_number numbers number = filter (λ (other : ℕ). not (other == number))
 -- the mails that were sent since are undelivered too
 abbrev pub with_new : State → State → List ℕ → Machine
 with_new before after undelivered =
-    record { state = after; undelivered = undelivered ++ range_with_len (length before.mails) (length after.mails - length before.mails) }
+    record {
+      state = after;
+      undelivered = undelivered ++ range_with_len (length before.mails) (length after.mails - length before.mails);
+    }
 
 -- a step is done that delivers and loses no mail
 abbrev pub does : Machine → Step → Move → Machine
@@ -202,7 +238,9 @@ does m taken move = with_new m.state (state_after m.state taken move) m.undelive
 abbrev pub machine_after : Scenario → Machine → Step → Machine
 machine_after sc m (step.Submit txn) = does m (step.Submit txn) (submission sc m.state.actors txn (length m.state.steps))
 machine_after sc m (step.Deliver mail) =
-    with_new m.state (state_after m.state (step.Deliver mail) (delivery sc m.state.actors (slice_get m.state.mails mail)))
+    with_new m.state
+    (state_after m.state (step.Deliver mail)
+    (delivery sc m.state.actors (slice_get m.state.mails mail)))
     (without_number m.undelivered mail)
 machine_after sc m (step.Lose mail) =
     with_new m.state (state_after m.state (step.Lose mail) (idle_move m.state.actors (what.Lost mail ∷ []))) (without_number m.undelivered mail)
@@ -217,10 +255,13 @@ is_part_submitted (Some c) = is_begun c.phase
 
 -- the transaction was submitted
 abbrev pub is_submitted : Actors → TxnId → Bool
-is_submitted actors txn = option_map_or (λ (part : Part Coordinator). is_part_submitted part.up) (slice_get actors.coordinators txn.0) false
+is_submitted actors txn =
+    option_map_or (λ (part : Part Coordinator). is_part_submitted part.up)
+    (slice_get actors.coordinators txn.0) false
 
 abbrev pub missing_mail : List Mail → ℕ → Option StepError
-missing_mail mails mail = if nat_lt mail (length mails) then None else Some (error.NoSuchMail mail (length mails))
+missing_mail mails mail =
+    if nat_lt mail (length mails) then None else Some (error.NoSuchMail mail (length mails))
 
 -- a clock that would reach 2^63
 abbrev pub too_late : ℕ → ℕ → Option StepError
@@ -228,7 +269,8 @@ too_late clock by = if nat_lt (clock + by) (2 ^ 63) then None else Some (error.T
 
 -- why a step is refused, if it is
 abbrev pub refusal : State → Step → Option StepError
-refusal w (step.Submit txn) = if is_submitted w.actors txn then Some (error.AlreadySubmitted txn) else None
+refusal w (step.Submit txn) =
+    if is_submitted w.actors txn then Some (error.AlreadySubmitted txn) else None
 refusal w (step.Deliver mail) = missing_mail w.mails mail
 refusal w (step.Lose mail) = missing_mail w.mails mail
 refusal w (step.Tick by) = too_late w.actors.authority.clock by
@@ -250,11 +292,13 @@ opened_part state = record { up = Some state; log = [] }
 
 -- the first servers of a scenario, so many
 abbrev pub opened_servers : Scenario → ℕ → List (Part Server)
-opened_servers sc count = map (λ (n : ℕ). opened_part (server.opening sc (record { 0 = n }))) (range_with_len 0 count)
+opened_servers sc count =
+    map (λ (n : ℕ). opened_part (server.opening sc (record { 0 = n }))) (range_with_len 0 count)
 
 -- the coordinators of its first transactions, so many
 abbrev pub idle_coordinators : Scenario → ℕ → List (Part Coordinator)
-idle_coordinators sc count = map (λ (n : ℕ). opened_part (coord.idle sc (record { 0 = n }))) (range_with_len 0 count)
+idle_coordinators sc count =
+    map (λ (n : ℕ). opened_part (coord.idle sc (record { 0 = n }))) (range_with_len 0 count)
 
 -- the actors as they stand before the first step
 abbrev pub opened_actors : Scenario → Actors
@@ -285,7 +329,8 @@ is_part_down part = is_none part.up
 -- whether an actor is down; the offices never are
 abbrev pub is_down : Actors → Actor → Bool
 is_down actors (actor.Server at) = option_map_or is_part_down (slice_get actors.servers at.0) false
-is_down actors (actor.Coordinator txn) = option_map_or is_part_down (slice_get actors.coordinators txn.0) false
+is_down actors (actor.Coordinator txn) =
+    option_map_or is_part_down (slice_get actors.coordinators txn.0) false
 is_down actors _ = false
 
 abbrev pub value_up : Option Server → ℕ → ℤ → ℤ
@@ -294,13 +339,20 @@ value_up (Some s) item opening = unwrap_or (slice_get s.values item) opening
 
 -- the value of an item at its server; what a server that is down holds is not built
 abbrev pub item_value : List (Part Server) → ℕ → Item → ℤ
-item_value servers item declared = option_map_or (λ (part : Part Server). value_up part.up item declared.value) (slice_get servers declared.server.0) declared.value
+item_value servers item declared =
+    option_map_or (λ (part : Part Server). value_up part.up item declared.value)
+    (slice_get servers declared.server.0) declared.value
 
 -- the values of items, the first having this number
 abbrev pub item_values : List (Part Server) → ℕ → List Item → List ℤ
 item_values servers first [] = []
-item_values servers first (item ∷ items) = item_value servers first item ∷ item_values servers (first + 1) items
+item_values servers first (item ∷ items) =
+    item_value servers first item ∷ item_values servers (first + 1) items
 
 -- how many steps and mails there were, and the value of each item
 abbrev pub ending_of : Scenario → State → Ending
-ending_of sc w = record { steps = length w.steps; mails = length w.mails; values = item_values w.actors.servers 0 sc.items }
+ending_of sc w = record {
+  steps = length w.steps;
+  mails = length w.mails;
+  values = item_values w.actors.servers 0 sc.items;
+}

@@ -14,10 +14,18 @@ use Rattle.tp_machine.specs.Machine.{State, Machine, after, machine_after, openi
 
 -- the state of these actors with this history
 abbrev pub state_of : Actors → History → State
-state_of actors history = record { actors = actors; mails = history.mails; facts = history.facts; steps = history.steps }
+state_of actors history = record {
+  actors = actors;
+  mails = history.mails;
+  facts = history.facts;
+  steps = history.steps;
+}
 
 abbrev pub machine_of : Actors → History → Machine
-machine_of actors history = record { state = state_of actors history; undelivered = marked 0 history.pending }
+machine_of actors history = record {
+  state = state_of actors history;
+  undelivered = marked 0 history.pending;
+}
 
 -- the scenario of the start, whether the world is given up, and the machine
 pub record Seen : Type 0 where
@@ -31,11 +39,13 @@ start sc = record { scenario = sc; given_up = false; machine = opening sc }
 
 -- the machine is what the scenario and its steps give
 abbrev pub IsReached : Seen → Type 0
-IsReached world = world.given_up ≡ false → world.machine ≡ after world.scenario world.machine.state.steps
+IsReached world =
+    world.given_up ≡ false → world.machine ≡ after world.scenario world.machine.state.steps
 
 -- its facts are those that the scenario and the steps give
 abbrev pub HasItsFacts : Seen → Type 0
-HasItsFacts world = world.machine.state.facts ≡ (after world.scenario world.machine.state.steps).state.facts
+HasItsFacts world =
+    world.machine.state.facts ≡ (after world.scenario world.machine.state.steps).state.facts
 
 -- what is so of every world: its scenario is of the form that is built, its steps name what exists, and its facts are those
 -- that they give; and while it is not given up it is reached, and all that its mails, records and facts name exists

@@ -38,7 +38,8 @@ Each P (x ∷ xs) = P x × Each P xs
 
 -- P holds of each place of a table that is not empty, and what stands there
 abbrev pub EachPlaced : {A : Type 0} → (ℕ → A → Type 0) → List (Option A) → Type 0
-EachPlaced {A} P table = (n : ℕ) (found : A) → flattened (slice_get table n) ≡ Some found → P n found
+EachPlaced {A} P table =
+    (n : ℕ) (found : A) → flattened (slice_get table n) ≡ Some found → P n found
 
 -- P holds of each place of a list, and its member
 abbrev pub EachAt : {A : Type 0} → (ℕ → A → Type 0) → List A → Type 0
@@ -94,7 +95,8 @@ pub record IsVersion (sc : Scenario) (admin : AdminId) (version : Version) : Typ
 -- a version of each of these administrators, in their order
 abbrev pub AreVersionsOf : List Admin → List Version → Type 0
 AreVersionsOf [] [] = Unit {0}
-AreVersionsOf (admin ∷ admins) (version ∷ versions) = IsVersionOf admin version × AreVersionsOf admins versions
+AreVersionsOf (admin ∷ admins) (version ∷ versions) =
+    IsVersionOf admin version × AreVersionsOf admins versions
 AreVersionsOf _ _ = ⊥
 
 -- a version of each administrator of the scenario
@@ -105,7 +107,8 @@ AreVersions sc versions = AreVersionsOf sc.admins versions
 
 -- a transaction's query by its number; None where there is no such query
 abbrev pub query_in : Scenario → TxnId → ℕ → Option Query
-query_in sc txn number = option_and_then (λ (declared : Transaction). query_at declared number) (slice_get sc.txns txn.0)
+query_in sc txn number =
+    option_and_then (λ (declared : Transaction). query_at declared number) (slice_get sc.txns txn.0)
 
 -- the transaction has a query of this number
 pub record IsQuery (sc : Scenario) (txn : TxnId) (number : ℕ) : Type 0 where
@@ -125,7 +128,8 @@ pub record IsQueryOf (sc : Scenario) (txn : TxnId) (number : ℕ) (at : ServerId
   pub kept : IsItemOf sc at (item_of asked)
 
 -- the transaction has a query of this number, on an item of this server and of this administrator
-pub record IsQueryAt (sc : Scenario) (txn : TxnId) (number : ℕ) (at : ServerId) (admin : AdminId) : Type 0 where
+pub record IsQueryAt (sc : Scenario) (txn : TxnId) (number : ℕ) (at : ServerId) (admin : AdminId)
+    : Type 0 where
   pub asked : Query
   pub asked_is : query_in sc txn number ≡ Some asked
   pub kept : IsItemOf sc at (item_of asked)
@@ -139,7 +143,9 @@ proves_each _ = false
 
 -- the transaction proves each query as it runs
 abbrev pub ProvesEach : Scenario → TxnId → Type 0
-ProvesEach sc txn = option_map (λ (declared : Transaction). proves_each declared.scheme) (slice_get sc.txns txn.0) ≡ Some true
+ProvesEach sc txn =
+    option_map (λ (declared : Transaction). proves_each declared.scheme) (slice_get sc.txns txn.0)
+    ≡ Some true
 
 -- ---- proofs
 
@@ -433,7 +439,8 @@ pub record IsSoundServer (sc : Scenario) (s : Server) : Type 0 where
   pub exists : IsServer sc s.server
   pub known : AreVersions sc s.known
   pub settled : EachPlaced (λ (n : ℕ) (done : Settled). IsSoundSettled sc done) s.settled
-  pub entries : EachPlaced (λ (n : ℕ) (entry : Entry). IsSoundEntry sc s.server (record { 0 = n }) entry) s.entries
+  pub entries : EachPlaced
+      (λ (n : ℕ) (entry : Entry). IsSoundEntry sc s.server (record { 0 = n }) entry) s.entries
 
 -- the server has this number, and is sound
 pub record IsSoundServerUp (sc : Scenario) (at : ServerId) (s : Server) : Type 0 where
@@ -460,9 +467,11 @@ pub record IsSoundRound (sc : Scenario) (txn : TxnId) (round : Round) : Type 0 w
 
 -- what a coordinator awaits is sound
 abbrev pub IsSoundPhase : Scenario → TxnId → Phase → Type 0
-IsSoundPhase sc txn (phase.Querying number staple) = IsQuery sc txn number × IfSome staple (IsSoundStaple sc)
+IsSoundPhase sc txn (phase.Querying number staple) =
+    IsQuery sc txn number × IfSome staple (IsSoundStaple sc)
 IsSoundPhase sc txn (phase.Asking round) = IsSoundRound sc txn round
-IsSoundPhase sc txn (phase.Checking round staple) = IsSoundRound sc txn round × IsSoundStaple sc staple
+IsSoundPhase sc txn (phase.Checking round staple) =
+    IsSoundRound sc txn round × IsSoundStaple sc staple
 IsSoundPhase sc txn (phase.Ending outcome awaited) = Each (IsServer sc) awaited
 IsSoundPhase sc txn _ = Unit {0}
 
@@ -481,7 +490,8 @@ pub record IsSoundCoordinatorUp (sc : Scenario) (txn : TxnId) (c : Coordinator) 
   pub sound : IsSoundCoordinator sc c
 
 -- a coordinator with its log: its state is sound where it is up, and each record is
-pub record IsSoundCoordinatorPart (sc : Scenario) (txn : TxnId) (part : Part Coordinator) : Type 0 where
+pub record IsSoundCoordinatorPart (sc : Scenario) (txn : TxnId) (part : Part Coordinator)
+    : Type 0 where
   pub exists : IsTxn sc txn
   pub state : IfSome part.up (IsSoundCoordinatorUp sc txn)
   pub records : Each (IsSoundCoordinatorRecord sc txn) part.log
@@ -498,8 +508,11 @@ IsSoundMaster sc master = AreVersions sc master.newest
 
 -- each actor is sound for its own number
 pub record AreSoundActors (sc : Scenario) (actors : Actors) : Type 0 where
-  pub servers : EachAt (λ (n : ℕ) (part : Part Server). IsSoundServerPart sc (record { 0 = n }) part) actors.servers
-  pub coordinators : EachAt (λ (n : ℕ) (part : Part Coordinator). IsSoundCoordinatorPart sc (record { 0 = n }) part) actors.coordinators
+  pub servers : EachAt
+      (λ (n : ℕ) (part : Part Server). IsSoundServerPart sc (record { 0 = n }) part) actors.servers
+  pub coordinators : EachAt
+      (λ (n : ℕ) (part : Part Coordinator). IsSoundCoordinatorPart sc (record { 0 = n }) part)
+      actors.coordinators
   pub authority : IsSoundAuthority sc actors.authority
   pub master : IsSoundMaster sc actors.master
 

@@ -57,7 +57,8 @@ impl Actors {
 
     /// The value of each item.
     pub fn values(&self, alloc: Global, items: &[Item]) -> Result<List<i128>, NoMemory>
-        ensures { IfOk result (λ values. values ≡ machine.item_values self.now.servers 0 items.now) }
+        ensures { IfOk result (λ values.
+            values ≡ machine.item_values self.now.servers 0 items.now) }
     {
         item_values(alloc, self.servers.as_slice(), items)
     }
@@ -69,7 +70,9 @@ impl Actors {
         scenario: &Scenario,
         mail: &Mail,
     ) -> Result<Act, NoMemory>
-        ensures ok { IfOk result (λ act. Moves (machine.receipt scenario.now self.old mail.now mail.now.letter.to) self.new act) }
+        ensures ok { IfOk result (λ act.
+            Moves
+            (machine.receipt scenario.now self.old mail.now mail.now.letter.to) self.new act) }
         ensures up { SameUp self.old self.new }
     {
         match mail.letter.to {
@@ -87,7 +90,11 @@ impl Actors {
         mail: &Mail,
         at: ServerId,
     ) -> Result<Act, NoMemory>
-        ensures ok { IfOk result (λ act. Moves (machine.to_server scenario.now self.old mail.now at (slice_get self.old.servers at.0)) self.new act) }
+        ensures ok { IfOk result (λ act.
+            Moves
+            (machine.to_server scenario.now self.old mail.now at
+            (slice_get self.old.servers at.0))
+            self.new act) }
         ensures up { SameUp self.old self.new }
     {
         match self.servers.get_mut(at.0 as usize) {
@@ -103,7 +110,11 @@ impl Actors {
         mail: &Mail,
         txn: TxnId,
     ) -> Result<Act, NoMemory>
-        ensures ok { IfOk result (λ act. Moves (machine.to_coordinator scenario.now self.old mail.now txn (slice_get self.old.coordinators txn.0)) self.new act) }
+        ensures ok { IfOk result (λ act.
+            Moves
+            (machine.to_coordinator scenario.now self.old mail.now txn
+            (slice_get self.old.coordinators txn.0))
+            self.new act) }
         ensures up { SameUp self.old self.new }
     {
         match self.coordinators.get_mut(txn.0 as usize) {
@@ -167,7 +178,8 @@ impl Actors {
         txn: TxnId,
         place: Place,
     ) -> Result<Act, NoMemory>
-        ensures ok { IfOk result (λ act. Moves (machine.submission scenario.now self.old txn place) self.new act) }
+        ensures ok { IfOk result (λ act.
+            Moves (machine.submission scenario.now self.old txn place) self.new act) }
         ensures up { SameUp self.old self.new }
     {
         match self.coordinators.get_mut(txn.0 as usize) {
@@ -215,7 +227,8 @@ fn value_up(up: Option<&Server>, at: usize, opening: i128) -> i128
 #[tactic(auto, using(crate::proofs::basics::Opened::opened_servers_more))]
 fn opened_servers(alloc: Global, scenario: &Scenario) -> Result<List<Part<Server>>, NoMemory>
     requires { length scenario.now.servers < 2 ^ 32 }
-    ensures { IfOk result (λ made. made ≡ machine.opened_servers scenario.now (length scenario.now.servers)) }
+    ensures { IfOk result (λ made.
+        made ≡ machine.opened_servers scenario.now (length scenario.now.servers)) }
 {
     let mut made = List::new(alloc);
     for number in 0..scenario.servers.len() as u32 {
@@ -232,7 +245,8 @@ fn idle_coordinators(
 ) -> Result<List<Part<Coordinator>>, NoMemory>
     requires servers { length scenario.now.servers < 2 ^ 32 }
     requires txns { length scenario.now.txns < 2 ^ 32 }
-    ensures { IfOk result (λ made. made ≡ machine.idle_coordinators scenario.now (length scenario.now.txns)) }
+    ensures { IfOk result (λ made.
+        made ≡ machine.idle_coordinators scenario.now (length scenario.now.txns)) }
 {
     let mut made = List::new(alloc);
     for number in 0..scenario.txns.len() as u32 {

@@ -83,7 +83,9 @@ pub fn act(
 ) -> Result<(), NoMemory>
     requires built { IsBuiltStep taken.now }
     requires allowed { machine.refusal (state_of actors.old history.old) taken.now ≡ None }
-    ensures ok { OnOk result (machine_of actors.new history.new ≡ machine.machine_after scenario.now (machine_of actors.old history.old) taken.now) }
+    ensures ok { OnOk result
+        (machine_of actors.new history.new
+        ≡ machine.machine_after scenario.now (machine_of actors.old history.old) taken.now) }
     ensures same_history { OnErr result (SameHistory history.old history.new) }
     ensures up { SameUp actors.old actors.new }
 {
@@ -103,7 +105,10 @@ fn submit(
     scenario: &Scenario,
     txn: TxnId,
 ) -> Result<(), NoMemory>
-    ensures ok { OnOk result (machine_of actors.new history.new ≡ machine.machine_after scenario.now (machine_of actors.old history.old) (step.Submit txn)) }
+    ensures ok { OnOk result
+        (machine_of actors.new history.new
+        ≡ machine.machine_after scenario.now (machine_of actors.old history.old)
+        (step.Submit txn)) }
     ensures same_history { OnErr result (SameHistory history.old history.new) }
     ensures up { SameUp actors.old actors.new }
 {
@@ -119,7 +124,10 @@ fn deliver(
     mail: u64,
 ) -> Result<(), NoMemory>
     requires { mail < length history.old.mails }
-    ensures ok { OnOk result (machine_of actors.new history.new ≡ machine.machine_after scenario.now (machine_of actors.old history.old) (step.Deliver mail)) }
+    ensures ok { OnOk result
+        (machine_of actors.new history.new
+        ≡ machine.machine_after scenario.now (machine_of actors.old history.old)
+        (step.Deliver mail)) }
     ensures same_history { OnErr result (SameHistory history.old history.new) }
     ensures up { SameUp actors.old actors.new }
 {
@@ -160,7 +168,9 @@ fn receive(
     mails: &[Mail],
     mail: u64,
 ) -> Result<Act, NoMemory>
-    ensures ok { IfOk result (λ act. Moves (machine.delivery scenario.now actors.old (slice_get mails.now mail)) actors.new act) }
+    ensures ok { IfOk result (λ act.
+        Moves
+        (machine.delivery scenario.now actors.old (slice_get mails.now mail)) actors.new act) }
     ensures up { SameUp actors.old actors.new }
 {
     match mails.get(mail as usize) {

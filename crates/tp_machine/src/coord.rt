@@ -126,7 +126,8 @@ impl Coordinator {
 
     /// What the submission of the transaction does. After NoMemory nothing is said of the state.
     pub fn submit(&mut self, alloc: Global, scenario: &Scenario) -> Result<Reaction, NoMemory>
-        ensures { IfOk result (λ reaction. Gives (row.submit_row scenario.now self.old) self.new reaction) }
+        ensures { IfOk result (λ reaction.
+            Gives (row.submit_row scenario.now self.old) self.new reaction) }
     {
         let Some(query) = self.query_of(scenario, 1) else {
             return Ok(ignored(alloc));
@@ -165,7 +166,8 @@ impl Coordinator {
         scenario: &Scenario,
         mail: &Mail,
     ) -> Result<Reaction, NoMemory>
-        ensures { IfOk result (λ reaction. Gives (row.coordinator_row scenario.now self.old mail.now) self.new reaction) }
+        ensures { IfOk result (λ reaction.
+            Gives (row.coordinator_row scenario.now self.old mail.now) self.new reaction) }
     {
         let from = mail.letter.from;
         match &mail.letter.body {
@@ -209,7 +211,8 @@ impl Coordinator {
         server: ServerId,
         value: i128,
     ) -> Result<Reaction, NoMemory>
-        ensures { IfOk result (λ reaction. Gives (row.sends_first self.old (Some server) (Some value)) self.new reaction) }
+        ensures { IfOk result (λ reaction.
+            Gives (row.sends_first self.old (Some server) (Some value)) self.new reaction) }
     {
         let turn = self.next_turn();
         let query = QueryRequest {
@@ -238,7 +241,9 @@ impl Coordinator {
         from: Actor,
         done: &DoneReply,
     ) -> Result<Reaction, NoMemory>
-        ensures { IfOk result (λ reaction. Gives (row.on_done scenario.now self.old self.old.phase from done.now) self.new reaction) }
+        ensures { IfOk result (λ reaction.
+            Gives
+            (row.on_done scenario.now self.old self.old.phase from done.now) self.new reaction) }
     {
         if !self.awaits_query(done) {
             return Ok(ignored(alloc));
@@ -265,7 +270,9 @@ impl Coordinator {
         done: &DoneReply,
         query: &Query,
     ) -> Result<Reaction, NoMemory>
-        ensures { IfOk result (λ reaction. Gives (row.on_answer scenario.now self.old server done.now query.now done.now.answer) self.new reaction) }
+        ensures { IfOk result (λ reaction.
+            Gives (row.on_answer scenario.now self.old server done.now query.now done.now.answer)
+            self.new reaction) }
     {
         match &done.answer {
             Answer::Ran {
@@ -382,7 +389,8 @@ impl Coordinator {
         staple: &Staple,
         servers: &[ServerId],
     ) -> Result<List<Letter>, NoMemory>
-        ensures { IfOk result (λ letters. letters ≡ map (row.prepare_letter self.now staple.now) servers.now) }
+        ensures { IfOk result (λ letters.
+            letters ≡ map (row.prepare_letter self.now staple.now) servers.now) }
     {
         let mut letters = List::new(alloc);
         for server in servers {
@@ -397,7 +405,8 @@ impl Coordinator {
         sent: Place,
         tell: &TellReply,
     ) -> Result<Reaction, NoMemory>
-        ensures { IfOk result (λ reaction. Gives (row.on_tell self.old self.old.phase sent tell.now) self.new reaction) }
+        ensures { IfOk result (λ reaction.
+            Gives (row.on_tell self.old self.old.phase sent tell.now) self.new reaction) }
     {
         if tell.turn != self.turn {
             return Ok(ignored(alloc));
@@ -427,7 +436,8 @@ impl Coordinator {
         round: Round,
         staple: Staple,
     ) -> Result<Reaction, NoMemory>
-        ensures { IfOk result (λ reaction. Gives (row.prepares self.old round staple) self.new reaction) }
+        ensures { IfOk result (λ reaction.
+            Gives (row.prepares self.old round staple) self.new reaction) }
     {
         let letters = self.prepare_letters(alloc, &staple, round.awaited.as_slice())?;
         self.turn = self.next_turn();
@@ -444,7 +454,8 @@ impl Coordinator {
         from: Actor,
         reply: &VoteReply,
     ) -> Result<Reaction, NoMemory>
-        ensures { IfOk result (λ reaction. Gives (row.on_vote self.old self.old.phase from reply.now) self.new reaction) }
+        ensures { IfOk result (λ reaction.
+            Gives (row.on_vote self.old self.old.phase from reply.now) self.new reaction) }
     {
         let Actor::Server(server) = from else {
             return Ok(ignored(alloc));
@@ -472,7 +483,12 @@ impl Coordinator {
         server: ServerId,
         verdicts: &List<Verdict>,
     ) -> Result<Reaction, NoMemory>
-        ensures { IfOk result (λ reaction. Gives (row.on_vote_of (record self.old { phase = Phase.Checking round staple }) round staple server (vote.Yes verdicts.now)) self.new reaction) }
+        ensures { IfOk result (λ reaction.
+            Gives
+            (row.on_vote_of
+            (record self.old { phase = Phase.Checking round staple }) round staple server
+            (vote.Yes verdicts.now))
+            self.new reaction) }
     {
         let left = without(alloc, round.awaited.as_slice(), server)?;
         if !left.is_empty() {
@@ -506,7 +522,8 @@ impl Coordinator {
         rounds: u32,
         proofs: &List<Verdict>,
     ) -> Result<Reaction, NoMemory>
-        ensures { IfOk result (λ reaction. Gives (row.commits self.old rounds proofs.now) self.new reaction) }
+        ensures { IfOk result (λ reaction.
+            Gives (row.commits self.old rounds proofs.now) self.new reaction) }
     {
         self.instances.push(Instance {
             reading: None,
@@ -558,7 +575,8 @@ impl Coordinator {
     }
 
     fn on_ack(&mut self, alloc: Global, from: Actor) -> Result<Reaction, NoMemory>
-        ensures { IfOk result (λ reaction. Gives (row.on_ack self.old self.old.phase from) self.new reaction) }
+        ensures { IfOk result (λ reaction.
+            Gives (row.on_ack self.old self.old.phase from) self.new reaction) }
     {
         let Actor::Server(server) = from else {
             return Ok(ignored(alloc));
@@ -667,7 +685,12 @@ fn with_reply(
     verdicts: &List<Verdict>,
     left: List<ServerId>,
 ) -> Result<Round, NoMemory>
-    ensures { IfOk result (λ made. made ≡ record round { kept = round.kept ++ record { server = server; verdicts = verdicts.now } ∷ []; awaited = left }) }
+    ensures { IfOk result (λ made.
+        made
+        ≡ record round {
+          kept = round.kept ++ record { server = server; verdicts = verdicts.now } ∷ [];
+          awaited = left;
+        }) }
 {
     let mut round = round;
     round.kept.push(Reply {
@@ -691,7 +714,8 @@ fn agrees_with_all(one: &Verdict, verdicts: &[Verdict]) -> bool
 }
 
 fn have_one_version(verdicts: &[Verdict]) -> bool
-    ensures { result ≡ list_all (λ (one : Verdict). list_all (row.agrees one) verdicts.now) verdicts.now }
+    ensures { result ≡ list_all
+        (λ (one : Verdict). list_all (row.agrees one) verdicts.now) verdicts.now }
 {
     verdicts.iter().all(|one| agrees_with_all(one, verdicts))
 }

@@ -120,7 +120,8 @@ fn add(
 ) -> Result<(), NoMemory>
     ensures steps { OnOk result (steps.new ≡ steps.old ++ taken ∷ []) }
     ensures facts { OnOk result (facts.new ≡ facts.old ++ facts_of (length steps.old) happened) }
-    ensures mails { OnOk result (mails.new ≡ mails.old ++ mails_of (length steps.old) (length mails.old) letters) }
+    ensures mails { OnOk result
+        (mails.new ≡ mails.old ++ mails_of (length steps.old) (length mails.old) letters) }
     ensures pending { OnOk result (pending.new ≡ pending.old ++ replicate (length letters) true) }
     ensures steps_kept { take (length steps.old) steps.new ≡ steps.old }
     ensures facts_kept { take (length facts.old) facts.new ≡ facts.old }
@@ -151,7 +152,8 @@ fn post(
     sent: Place,
     letters: List<Letter>,
 ) -> Result<(), NoMemory>
-    ensures mails { OnOk result (mails.new ≡ mails.old ++ mails_of sent (length mails.old) letters) }
+    ensures mails { OnOk result
+        (mails.new ≡ mails.old ++ mails_of sent (length mails.old) letters) }
     ensures pending { OnOk result (pending.new ≡ pending.old ++ replicate (length letters) true) }
     ensures mails_kept { take (length mails.old) mails.new ≡ mails.old }
     ensures pending_kept { take (length pending.old) pending.new ≡ pending.old }

@@ -79,7 +79,8 @@ pub fn server_takes(
     at: ServerId,
     mail: &Mail,
 ) -> Result<Act, NoMemory>
-    ensures ok { IfOk result (λ act. Acts (machine.server_takes scenario.now at part.old mail.now) part.new act) }
+    ensures ok { IfOk result (λ act.
+        Acts (machine.server_takes scenario.now at part.old mail.now) part.new act) }
     ensures up { machine.is_part_down part.new ≡ machine.is_part_down part.old }
 {
     let Some(server) = &mut part.up else {
@@ -98,7 +99,8 @@ pub fn coordinator_takes(
     scenario: &Scenario,
     mail: &Mail,
 ) -> Result<Act, NoMemory>
-    ensures ok { IfOk result (λ act. Acts (machine.coordinator_takes scenario.now part.old mail.now) part.new act) }
+    ensures ok { IfOk result (λ act.
+        Acts (machine.coordinator_takes scenario.now part.old mail.now) part.new act) }
     ensures up { machine.is_part_down part.new ≡ machine.is_part_down part.old }
 {
     let Some(coordinator) = &mut part.up else {
@@ -119,7 +121,8 @@ pub fn coordinator_submits(
     txn: TxnId,
     place: Place,
 ) -> Result<Act, NoMemory>
-    ensures ok { IfOk result (λ act. Acts (machine.coordinator_submits scenario.now part.old txn place) part.new act) }
+    ensures ok { IfOk result (λ act.
+        Acts (machine.coordinator_submits scenario.now part.old txn place) part.new act) }
     ensures up { machine.is_part_down part.new ≡ machine.is_part_down part.old }
 {
     let mut happened = List::of_one(alloc, What::Submitted(txn))?;
@@ -165,7 +168,8 @@ fn note_decision(
     happened: &mut List<What>,
     append: &Option<Record>,
 ) -> Result<(), NoMemory>
-    ensures { OnOk result (happened.new ≡ happened.old ++ option_map_or machine.coordinator_fact append.now []) }
+    ensures { OnOk result
+        (happened.new ≡ happened.old ++ option_map_or machine.coordinator_fact append.now []) }
 {
     match append {
         Some(Record::Decided(decided)) => {

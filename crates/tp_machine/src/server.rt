@@ -95,7 +95,8 @@ impl Server {
         scenario: &Scenario,
         mail: &Mail,
     ) -> Result<Reaction, NoMemory>
-        ensures { IfOk result (λ reaction. Gives (row.server_row scenario.now self.old mail.now) self.new reaction) }
+        ensures { IfOk result (λ reaction.
+            Gives (row.server_row scenario.now self.old mail.now) self.new reaction) }
     {
         match &mail.letter.body {
             Body::Query(request) => self.on_query(alloc, scenario, mail.sent, request),
@@ -148,7 +149,8 @@ impl Server {
         sent: Place,
         request: &QueryRequest,
     ) -> Result<Reaction, NoMemory>
-        ensures { IfOk result (λ reaction. Gives (row.on_query scenario.now self.old sent request.now) self.new reaction) }
+        ensures { IfOk result (λ reaction.
+            Gives (row.on_query scenario.now self.old sent request.now) self.new reaction) }
     {
         if !self.is_open(request.txn) {
             return Ok(ignored(alloc));
@@ -218,7 +220,8 @@ impl Server {
         request: &QueryRequest,
         deed: Deed,
     ) -> Result<Reaction, NoMemory>
-        ensures { IfOk result (λ reaction. Gives (row.begins self.old sent request.now (Some deed)) self.new reaction) }
+        ensures { IfOk result (λ reaction.
+            Gives (row.begins self.old sent request.now (Some deed)) self.new reaction) }
     {
         let entry = Entry {
             age: request.age.unwrap_or(sent),
@@ -239,7 +242,8 @@ impl Server {
         scenario: &Scenario,
         request: &PrepareRequest,
     ) -> Result<Reaction, NoMemory>
-        ensures { IfOk result (λ reaction. Gives (row.on_prepare scenario.now self.old request.now) self.new reaction) }
+        ensures { IfOk result (λ reaction.
+            Gives (row.on_prepare scenario.now self.old request.now) self.new reaction) }
     {
         if !self.is_open(request.txn) {
             return Ok(unbuilt(alloc));
@@ -270,7 +274,9 @@ impl Server {
         place: Place,
         entry: &Entry,
     ) -> Result<Prepared, NoMemory>
-        ensures { IfOk result (λ made. made ≡ row.prepared_record self.now request.now entry.now (map (row.verdict_on scenario.now self.now place) entry.now.deeds)) }
+        ensures { IfOk result (λ made.
+            made ≡ row.prepared_record self.now request.now entry.now
+            (map (row.verdict_on scenario.now self.now place) entry.now.deeds)) }
     {
         Ok(Prepared {
             txn: request.txn,
@@ -314,7 +320,8 @@ impl Server {
         place: Place,
         deeds: &[Deed],
     ) -> Result<List<Verdict>, NoMemory>
-        ensures { IfOk result (λ made. made ≡ map (row.verdict_on scenario.now self.now place) deeds.now) }
+        ensures { IfOk result (λ made.
+            made ≡ map (row.verdict_on scenario.now self.now place) deeds.now) }
     {
         let mut made = List::new(alloc);
         for deed in deeds {
@@ -342,7 +349,8 @@ impl Server {
     }
 
     fn on_decide(&mut self, alloc: Global, request: DecideRequest) -> Result<Reaction, NoMemory>
-        ensures { IfOk result (λ reaction. Gives (row.on_decide self.old request) self.new reaction) }
+        ensures { IfOk result (λ reaction.
+            Gives (row.on_decide self.old request) self.new reaction) }
     {
         if !self.is_open(request.txn) {
             return self.on_settled_decide(alloc, request);
@@ -382,7 +390,10 @@ impl Server {
     }
 
     fn apply(&mut self, txn: TxnId)
-        ensures { self.new ≡ record self.old { values = row.committed self.old.values Outcome.Commit (row.entry_at self.old txn) } }
+        ensures { self.new
+            ≡ record self.old {
+              values = row.committed self.old.values Outcome.Commit (row.entry_at self.old txn);
+            } }
     {
         match self.entries.get(txn.0 as usize) {
             Some(Some(entry)) => apply_deeds(&mut self.values, entry.deeds.as_slice()),

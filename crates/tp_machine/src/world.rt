@@ -63,7 +63,8 @@ impl World {
         requires built { IsBuiltStep taken.now }
         requires ids { IsStepOf self.old.scenario taken.now }
         ensures done { OnOk result (Does self.old self.new taken.now) }
-        ensures refused { IfErr result (λ why. why ≢ StepError.NoMemory → Refuses self.old self.new taken.now why) }
+        ensures refused { IfErr result (λ why.
+            why ≢ StepError.NoMemory → Refuses self.old self.new taken.now why) }
         ensures memory { IsErrOf result StepError.NoMemory → GivesUp self.old self.new }
     {
         if self.given_up {
@@ -95,7 +96,8 @@ impl World {
         ensures told { HasItsFacts self.now }
         ensures built { built.is_built self.now.scenario ≡ true }
         ensures so_far { self.now.given_up ≡ false → IsTrustedSoFar self.now }
-        ensures sound { self.now.given_up ≡ false → IsSound self.now.scenario self.now.machine.state }
+        ensures sound { self.now.given_up ≡ false
+            → IsSound self.now.scenario self.now.machine.state }
     {
         &self.history.facts
     }
@@ -161,9 +163,14 @@ impl World {
     /// How many steps and mails there were, and the value of each item: its opening value, overlaid by the commits that its
     /// server has settled. Where every transaction has ended at all its servers these are the values that all commits leave.
     pub fn ending(&self, alloc: Global) -> Result<Ending, NoMemory>
-        ensures value { IfOk result (λ ending. ending ≡ machine.ending_of self.now.scenario self.now.machine.state) }
-        ensures overlaid { IfOk result (λ ending. ending.values ≡ overlaid self.now.scenario self.now.machine.state.facts) }
-        ensures whole { IfOk result (λ ending. have_ended self.now.scenario self.now.machine.state.facts 0 self.now.scenario.txns ≡ true → ending.values ≡ store_of self.now.scenario self.now.machine.state.facts) }
+        ensures value { IfOk result (λ ending.
+            ending ≡ machine.ending_of self.now.scenario self.now.machine.state) }
+        ensures overlaid { IfOk result (λ ending.
+            ending.values ≡ overlaid self.now.scenario self.now.machine.state.facts) }
+        ensures whole { IfOk result (λ ending.
+            have_ended self.now.scenario self.now.machine.state.facts 0 self.now.scenario.txns
+            ≡ true
+            → ending.values ≡ store_of self.now.scenario self.now.machine.state.facts) }
         ensures given_up { self.now.given_up ≡ true → IsErr result }
     {
         if self.given_up {

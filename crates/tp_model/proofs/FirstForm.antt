@@ -1,6 +1,6 @@
 -- The one form of scenarios that is built so far, as one test: one administrator with one version, one server with one item, one
 -- transaction with one query. It goes with the lemmas that walk it, as soon as more is built.
-use Rattle.std.proofs.Common.{◌≡◌, ℕ, ◌==◌, ◌≤◌, ◌<◌, ◌&&◌, ◌||◌, Bool, true, false, not, nat_le, nat_lt, nat_eq, List, [], ◌∷◌, length, Option, Some, None, pos, refl, ap, sym, subst, ◌∙◌, arith, if◌then◌else◌}
+use Rattle.std.proofs.Common.{◌≡◌, ℕ, ◌==◌, ◌&&◌, ◌||◌, Bool, true, false, not, nat_lt, List, [], ◌∷◌, length, Option, Some, None, pos, refl, ap, subst, ◌∙◌, arith, if◌then◌else◌}
 use Rattle.std.proofs.lemmas.Bool.{and_from, and_parts, eqb-true}
 use Rattle.std.proofs.lemmas.Bool.Decides.{nat_tests}
 use Rattle.std.specs.Cmp.Lexicographic.{pointwise}
@@ -19,12 +19,12 @@ use Rattle.tp_types.specs.declared.scenario.ServerDecl.{ServerDecl}
 use Rattle.tp_types.specs.declared.scenario.Term.{Term}
 use Rattle.tp_types.specs.declared.scenario.Transaction.{Transaction}
 use Rattle.tp_model.specs.Built.{is_built}
-use Rattle.tp_model.specs.Ids.{same_cred, same_item}
+use Rattle.tp_model.specs.Ids.{same_item}
 use Rattle.tp_model.specs.Limits.{has_count, is_between, is_from_to, number_limit}
 use Rattle.tp_model.specs.Queries.{only, term_value}
 use Rattle.tp_model.specs.Stage.{are_plain_parts, is_deferred, is_empty, is_open_admin, is_open_policy, is_plain_query, is_plain_term, is_plain_txn, is_single, is_unscripted, is_view}
-use Rattle.tp_model.specs.Valid.{IsValid, are_by_server, are_distinct, are_known, are_valid_from, begins_well, has_constant, has_valid_creds, has_valid_range, is_known, is_name_of_server, is_valid_admin, is_valid_item, is_valid_operand, is_valid_policy, is_valid_query, is_valid_server, is_valid_sum, is_valid_term, is_valid_txn, owned_from, same_admin_name, same_item_name, same_server_name, same_txn_name}
-use Rattle.tp_model.proofs.RuleLemmas.{IsStage, stage_built, valid_built}
+use Rattle.tp_model.specs.Valid.{IsValid, are_by_server, are_distinct, are_known, are_valid_from, has_constant, has_valid_creds, has_valid_range, is_known, is_name_of_server, is_valid_admin, is_valid_item, is_valid_operand, is_valid_policy, is_valid_query, is_valid_server, is_valid_sum, is_valid_term, is_valid_txn, owned_from, same_admin_name, same_item_name, same_server_name, same_txn_name}
+use Rattle.tp_model.proofs.RuleLemmas.{stage_built, valid_built}
 
 -- ---- the form
 

@@ -1,5 +1,5 @@
 -- Rules of scenarios, as loops test them.
-use Rattle.std.proofs.Common.{◌≡◌, ◌≢◌, ℕ, suc, Bool, true, false, ◌&&◌, List, [], ◌∷◌, length, refl, ap}
+use Rattle.std.proofs.Common.{◌≡◌, ◌≢◌, suc, false, List, [], ◌∷◌, length, refl, ap}
 use Rattle.std.proofs.Math.Bool.{and-false}
 use Rattle.tp_types.specs.declared.ids.Version.{Version}
 use Rattle.tp_types.specs.declared.scenario.Admin.{Admin}

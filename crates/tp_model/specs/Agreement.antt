@@ -23,17 +23,23 @@ has_item_at sc at txn = option_map_or (has_item sc at) (slice_get sc.txns txn.0)
 
 -- a commit is settled only after it was decided, and an abort only where no commit is ever decided
 abbrev pub follows_decision : TxnId → ℕ → List Fact → Outcome → Bool
-follows_decision txn place facts outcome.Commit = list_any (is_decided_as txn outcome.Commit) (before place facts)
-follows_decision txn place facts outcome.Abort = not (list_any (is_decided_as txn outcome.Commit) facts)
+follows_decision txn place facts outcome.Commit =
+    list_any (is_decided_as txn outcome.Commit) (before place facts)
+follows_decision txn place facts outcome.Abort =
+    not (list_any (is_decided_as txn outcome.Commit) facts)
 
 -- a transaction is submitted at most once, and decided at most once and after that; a server settles it at most once, after its
 -- submission, where it has an item there, and as it was decided. Of two that may not both be, the second in the list fails: `earlier`
 -- are the facts that stand before this one in the list of all facts
 abbrev pub keeps_agreement_what : Scenario → List Fact → List Fact → ℕ → What → Bool
-keeps_agreement_what sc facts earlier place (what.Submitted txn) = not (list_any (is_submission txn) earlier)
-keeps_agreement_what sc facts earlier place (what.Decided txn decided) = not (list_any (is_decision txn) earlier) && was_submitted txn place facts
+keeps_agreement_what sc facts earlier place (what.Submitted txn) =
+    not (list_any (is_submission txn) earlier)
+keeps_agreement_what sc facts earlier place (what.Decided txn decided) =
+    not (list_any (is_decision txn) earlier) && was_submitted txn place facts
 keeps_agreement_what sc facts earlier place (what.Settled at txn ended) =
-    not (list_any (is_settlement at txn) earlier) && (was_submitted txn place facts && has_item_at sc at txn) && follows_decision txn place facts ended
+    not (list_any (is_settlement at txn) earlier)
+    && (was_submitted txn place facts && has_item_at sc at txn)
+    && follows_decision txn place facts ended
 keeps_agreement_what sc facts earlier place _ = true
 
 -- the rule of a fact beside all facts, and beside those that stand before it in the list
@@ -43,7 +49,8 @@ keeps_agreement sc facts earlier fact = keeps_agreement_what sc facts earlier fa
 -- all facts from this number on keep agreement
 abbrev pub agree_from : Scenario → List Fact → ℕ → List Fact → Bool
 agree_from sc facts number [] = true
-agree_from sc facts number (fact ∷ later) = keeps_agreement sc facts (take number facts) fact && agree_from sc facts (number + 1) later
+agree_from sc facts number (fact ∷ later) =
+    keeps_agreement sc facts (take number facts) fact && agree_from sc facts (number + 1) later
 
 -- every fact keeps agreement
 abbrev pub is_agreed : Scenario → List Fact → Bool

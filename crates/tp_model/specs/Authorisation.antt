@@ -34,11 +34,13 @@ abbrev pub is_item_at : ServerId → AdminId → Item → Bool
 is_item_at at admin item = same_server item.server at && same_admin item.admin admin
 
 abbrev pub is_query_at : Scenario → ServerId → AdminId → Query → Bool
-is_query_at sc at admin query = option_map_or (is_item_at at admin) (slice_get sc.items (item_of query).0) false
+is_query_at sc at admin query =
+    option_map_or (is_item_at at admin) (slice_get sc.items (item_of query).0) false
 
 -- the number is a query of the transaction, and the server and the administrator are those of its item
 abbrev pub is_own_query : Scenario → Transaction → ℕ → ServerId → AdminId → Bool
-is_own_query sc txn number at admin = option_map_or (is_query_at sc at admin) (query_at txn number) false
+is_own_query sc txn number at admin =
+    option_map_or (is_query_at sc at admin) (query_at txn number) false
 
 -- ---- the policy
 
@@ -61,14 +63,17 @@ tests_item test asked (Some item) policy = test asked item.name policy
 
 abbrev pub tests_query : (Action → List ℕ → Policy → Bool) → Scenario → Option Query → Policy → Bool
 tests_query test sc None policy = false
-tests_query test sc (Some query) policy = tests_item test (action_of query) (slice_get sc.items (item_of query).0) policy
+tests_query test sc (Some query) policy =
+    tests_item test (action_of query) (slice_get sc.items (item_of query).0) policy
 
-abbrev pub tests_version : (Action → List ℕ → Policy → Bool) → Scenario → Transaction → ℕ → Option Policy → Bool
+abbrev pub tests_version : (Action → List ℕ → Policy → Bool) → Scenario → Transaction → ℕ
+    → Option Policy → Bool
 tests_version test sc txn number None = false
 tests_version test sc txn number (Some policy) = tests_query test sc (query_at txn number) policy
 
 abbrev pub allows_held : Scenario → ℕ → List Fact → Transaction → Action → List ℕ → Policy → Bool
-allows_held sc place facts txn asked item policy = allows policy asked item (held sc place facts txn)
+allows_held sc place facts txn asked item policy =
+    allows policy asked item (held sc place facts txn)
 
 -- the version of the administrator's policy allows the query, on what the transaction holds at the place
 abbrev pub is_allowed : Scenario → List Fact → Transaction → ℕ → AdminId → Version → ℕ → Bool
@@ -87,10 +92,13 @@ rule_of policy None = None
 rule_of policy (Some number) = rule_in policy number
 
 abbrev pub rule_fits : Scenario → Transaction → List CredId → Action → List ℕ → Rule → Bool
-rule_fits sc txn uses asked item rule = matches asked item rule && holds (triples_in sc.creds txn.subject uses) rule.cond
+rule_fits sc txn uses asked item rule =
+    matches asked item rule && holds (triples_in sc.creds txn.subject uses) rule.cond
 
-abbrev pub rule_proves : Scenario → Transaction → List CredId → Option ℕ → Action → List ℕ → Policy → Bool
-rule_proves sc txn uses rule asked item policy = option_map_or (rule_fits sc txn uses asked item) (rule_of policy rule) false
+abbrev pub rule_proves : Scenario → Transaction → List CredId → Option ℕ → Action → List ℕ → Policy
+    → Bool
+rule_proves sc txn uses rule asked item policy =
+    option_map_or (rule_fits sc txn uses asked item) (rule_of policy rule) false
 
 abbrev pub is_usable : Scenario → ℕ → List Fact → Transaction → CredId → Bool
 is_usable sc place facts txn cred = is_presented txn cred && is_valid sc place facts cred
@@ -98,7 +106,8 @@ is_usable sc place facts txn cred = is_presented txn cred && is_valid sc place f
 -- the rule matches the query and is true of the credentials that it uses alone; each of these is presented, and valid at the place
 abbrev pub is_certified : Scenario → List Fact → Transaction → Verdict → Bool
 is_certified sc facts txn verdict =
-    tests_version (rule_proves sc txn verdict.uses verdict.rule) sc txn verdict.query (policy_at sc verdict.admin verdict.version)
+    tests_version (rule_proves sc txn verdict.uses verdict.rule) sc txn verdict.query
+    (policy_at sc verdict.admin verdict.version)
     && list_all (is_usable sc verdict.place facts txn) verdict.uses
 
 -- the verdict is a proof of authorisation that evaluates true

@@ -41,7 +41,8 @@ abbrev pub is_denied_version : Scenario → ℕ → List Fact → Transaction �
 is_denied_version sc decided facts txn denied =
     is_some (policy_at sc denied.admin denied.version)
     && nat_le denied.version.0 (newest sc denied.admin decided facts)
-    && (not (is_bound_to_newest txn denied) || nat_le (newest sc denied.admin denied.place facts) denied.version.0)
+    && (not (is_bound_to_newest txn denied)
+    || nat_le (newest sc denied.admin denied.place facts) denied.version.0)
 
 -- the policy does not allow the query, on what the transaction held at a place between submission and decision
 abbrev pub is_denied : Scenario → TxnId → ℕ → List Fact → Denied → Transaction → Bool
@@ -67,7 +68,8 @@ is_crash_what who _ = false
 
 -- the fact is a crash of such an actor between the submission and the decision
 abbrev pub is_crash_within : (Actor → Bool) → TxnId → ℕ → List Fact → Fact → Bool
-is_crash_within who txn decided facts fact = is_crash_what who fact.what && is_within txn decided facts fact.place
+is_crash_within who txn decided facts fact =
+    is_crash_what who fact.what && is_within txn decided facts fact.place
 
 abbrev pub crashed_within : (Actor → Bool) → TxnId → ℕ → List Fact → Bool
 crashed_within who txn decided facts = list_any (is_crash_within who txn decided facts) facts
@@ -80,10 +82,12 @@ is_server_of sc at declared = list_any (same_server at) (servers_of sc declared)
 
 -- the history shows the cause of an abort that was decided at the place
 abbrev pub is_shown : Scenario → TxnId → ℕ → List Fact → Cause → Transaction → Bool
-is_shown sc txn decided facts (cause.Denied denied) declared = is_denied sc txn decided facts denied declared
+is_shown sc txn decided facts (cause.Denied denied) declared =
+    is_denied sc txn decided facts denied declared
 is_shown sc txn decided facts (cause.Restarted at) declared =
     is_server_of sc at declared && crashed_within (is_server_actor at) txn decided facts
-is_shown sc txn decided facts cause.Halted declared = crashed_within (is_coordinator_actor txn) txn decided facts
+is_shown sc txn decided facts cause.Halted declared =
+    crashed_within (is_coordinator_actor txn) txn decided facts
 is_shown sc txn decided facts _ declared = false
 
 abbrev pub keeps_causes_what : Scenario → List Fact → ℕ → What → Bool

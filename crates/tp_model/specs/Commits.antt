@@ -16,7 +16,8 @@ abbrev pub is_commit_at : ℕ → Fact → Bool
 is_commit_at place fact = (fact.place == place) && is_commit_what fact.what
 
 abbrev pub is_lone_what : List Fact → ℕ → What → Bool
-is_lone_what facts place (what.Decided txn (decision.Commit committed)) = count_by (is_commit_at place) facts == 1
+is_lone_what facts place (what.Decided txn (decision.Commit committed)) =
+    count_by (is_commit_at place) facts == 1
 is_lone_what facts place _ = true
 
 -- the rule of a fact beside all facts: a commit is the only one of its place

@@ -26,15 +26,21 @@ is_current clock credential = nat_le credential.from clock && nat_le clock crede
 
 -- of these credentials that of this id is valid: the clock is within its interval, and it is not among those revoked
 abbrev pub is_valid_in : List Credential → ℕ → List CredId → CredId → Bool
-is_valid_in creds clock revoked cred = option_map_or (is_current clock) (slice_get creds cred.0) false && not (is_among revoked cred)
+is_valid_in creds clock revoked cred =
+    option_map_or (is_current clock) (slice_get creds cred.0) false && not (is_among revoked cred)
 
 -- what a credential says
 abbrev pub said_by : Credential → Triple
-said_by credential = record { issuer = credential.issuer; attr = credential.attr; value = credential.value }
+said_by credential = record {
+  issuer = credential.issuer;
+  attr = credential.attr;
+  value = credential.value;
+}
 
 -- what a credential says of a subject; one of another subject says nothing
 abbrev pub triple_of : List ℕ → Credential → Option Triple
-triple_of subject credential = if same_name credential.subject subject then Some (said_by credential) else None
+triple_of subject credential =
+    if same_name credential.subject subject then Some (said_by credential) else None
 
 abbrev pub said_in : List Credential → List ℕ → CredId → Option Triple
 said_in creds subject cred = option_map_or (triple_of subject) (slice_get creds cred.0) None
@@ -45,7 +51,8 @@ triples_in creds subject used = filter_map (said_in creds subject) used
 
 -- what a subject holds: what those of the credentials say of it that it presents and that are valid
 abbrev pub held_in : List Credential → List ℕ → ℕ → List CredId → List CredId → List Triple
-held_in creds subject clock revoked presented = triples_in creds subject (filter (is_valid_in creds clock revoked) presented)
+held_in creds subject clock revoked presented =
+    triples_in creds subject (filter (is_valid_in creds clock revoked) presented)
 
 -- the transaction presents the credential
 abbrev pub is_presented : Transaction → CredId → Bool
@@ -78,8 +85,10 @@ revoked_at place facts = filter_map revoked_by (before place facts)
 
 -- the credential is valid at the place
 abbrev pub is_valid : Scenario → ℕ → List Fact → CredId → Bool
-is_valid sc place facts cred = is_valid_in sc.creds (clock_at sc place facts) (revoked_at place facts) cred
+is_valid sc place facts cred =
+    is_valid_in sc.creds (clock_at sc place facts) (revoked_at place facts) cred
 
 -- what a transaction holds at a place
 abbrev pub held : Scenario → ℕ → List Fact → Transaction → List Triple
-held sc place facts txn = held_in sc.creds txn.subject (clock_at sc place facts) (revoked_at place facts) txn.creds
+held sc place facts txn =
+    held_in sc.creds txn.subject (clock_at sc place facts) (revoked_at place facts) txn.creds

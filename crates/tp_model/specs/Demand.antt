@@ -23,7 +23,8 @@ is_over count proofs = pointwise ◌==◌ (map number_of proofs) (range_with_len
 
 -- one instance over all queries, which is consistent
 abbrev pub is_final_instance : Scenario → List Fact → Transaction → Instance → Bool
-is_final_instance sc facts txn instance = is_over (length txn.queries) instance.proofs && is_consistent sc txn facts instance
+is_final_instance sc facts txn instance =
+    is_over (length txn.queries) instance.proofs && is_consistent sc txn facts instance
 
 -- deferred: the proofs are evaluated at commit alone
 abbrev pub is_deferred_demand : Scenario → List Fact → Transaction → List Instance → Bool
@@ -39,7 +40,8 @@ abbrev pub is_round_count : Scenario → Transaction → ℕ → Bool
 is_round_count sc txn rounds = nat_le 1 rounds && nat_le rounds (most_rounds sc txn)
 
 abbrev pub meets_scheme : Scheme → Scenario → List Fact → Transaction → CommitRecord → Bool
-meets_scheme scheme.Deferred sc facts txn committed = is_deferred_demand sc facts txn committed.instances && is_round_count sc txn committed.rounds
+meets_scheme scheme.Deferred sc facts txn committed =
+    is_deferred_demand sc facts txn committed.instances && is_round_count sc txn committed.rounds
 meets_scheme _ sc facts txn committed = false
 
 -- the commit is what the transaction's scheme demands

@@ -42,7 +42,8 @@ abbrev pub is_decision : TxnId → Fact → Bool
 is_decision txn fact = is_decision_what txn fact.what
 
 abbrev pub is_settlement_what : ServerId → TxnId → What → Bool
-is_settlement_what at txn (what.Settled server other ended) = same_server server at && same_txn other txn
+is_settlement_what at txn (what.Settled server other ended) =
+    same_server server at && same_txn other txn
 is_settlement_what at txn _ = false
 
 -- the fact is a settlement of the transaction at the server
@@ -66,7 +67,8 @@ same_outcome outcome.Abort outcome.Abort = true
 same_outcome _ _ = false
 
 abbrev pub is_decided_what : TxnId → Outcome → What → Bool
-is_decided_what txn ended (what.Decided other decided) = same_txn other txn && same_outcome (outcome_of decided) ended
+is_decided_what txn ended (what.Decided other decided) =
+    same_txn other txn && same_outcome (outcome_of decided) ended
 is_decided_what txn ended _ = false
 
 -- the fact decides the transaction with this outcome
@@ -74,7 +76,8 @@ abbrev pub is_decided_as : TxnId → Outcome → Fact → Bool
 is_decided_as txn ended fact = is_decided_what txn ended fact.what
 
 abbrev pub is_settled_what : ServerId → TxnId → Outcome → What → Bool
-is_settled_what at txn ended (what.Settled server other given) = same_server server at && same_txn other txn && same_outcome given ended
+is_settled_what at txn ended (what.Settled server other given) =
+    same_server server at && same_txn other txn && same_outcome given ended
 is_settled_what at txn ended _ = false
 
 -- the fact settles the transaction at the server with this outcome
@@ -93,7 +96,8 @@ first_of (Some found) later = Some found
 
 -- the record of a commit of the transaction
 abbrev pub commit_in_what : TxnId → What → Option CommitRecord
-commit_in_what txn (what.Decided other decided) = if same_txn other txn then record_of decided else None
+commit_in_what txn (what.Decided other decided) =
+    if same_txn other txn then record_of decided else None
 commit_in_what txn _ = None
 
 -- the record of the transaction's first commit

@@ -1,5 +1,5 @@
 -- What level of consistency a transaction asks of an administrator's versions, and whether it reads the master.
-use Rattle.std.specs.Prelude.{List, slice_get, Bool, true, false}
+use Rattle.std.specs.Prelude.{slice_get, Bool, true, false}
 use Rattle.std.specs.List.{list_any}
 use Rattle.std.specs.Option.{option_map_or}
 use Rattle.tp_types.specs.declared.ids.AdminId.{AdminId}
@@ -25,7 +25,8 @@ is_global_item txn item = is_global (level_of txn item.admin)
 
 -- the query is on an item whose administrator has the level global
 abbrev pub is_global_query : Scenario → Transaction → Query → Bool
-is_global_query sc txn query = option_map_or (is_global_item txn) (slice_get sc.items (item_of query).0) false
+is_global_query sc txn query =
+    option_map_or (is_global_item txn) (slice_get sc.items (item_of query).0) false
 
 -- the transaction reads the newest versions from the master: one of its queries is on an item whose administrator has the level
 -- global for it

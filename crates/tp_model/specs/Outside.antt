@@ -22,7 +22,8 @@ is_outside fact = is_outside_what fact.what
 -- what a step says at its place. A publication has the version after the newest there
 abbrev pub said_by : Scenario → List Fact → ℕ → Step → List What
 said_by sc facts place (step.Submit txn) = what.Submitted txn ∷ []
-said_by sc facts place (step.Publish admin) = what.Published admin (record { 0 = newest sc admin place facts + 1 }) ∷ []
+said_by sc facts place (step.Publish admin) =
+    what.Published admin (record { 0 = newest sc admin place facts + 1 }) ∷ []
 said_by sc facts place (step.Revoke cred) = what.Revoked cred ∷ []
 said_by sc facts place (step.Tick by) = what.Ticked by ∷ []
 said_by sc facts place (step.Crash who cut) = what.Crashed who ∷ []
@@ -37,7 +38,8 @@ at_place place (said ∷ others) = record { place = place; what = said } ∷ at_
 -- what steps say from a place on
 abbrev pub said_from : Scenario → List Fact → ℕ → List Step → List Fact
 said_from sc facts place [] = []
-said_from sc facts place (taken ∷ steps) = at_place place (said_by sc facts place taken) ++ said_from sc facts (place + 1) steps
+said_from sc facts place (taken ∷ steps) =
+    at_place place (said_by sc facts place taken) ++ said_from sc facts (place + 1) steps
 
 -- places never fall, from one on
 abbrev pub rises_from : ℕ → List Fact → Bool

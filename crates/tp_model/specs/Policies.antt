@@ -43,7 +43,8 @@ satisfies AtMost wanted found = is_at_most found wanted
 
 -- the triple is of the issuer and the attribute, and its value satisfies the comparison
 abbrev pub meets : List ℕ → List ℕ → Op → Value → Triple → Bool
-meets issuer attr op wanted triple = same_name triple.issuer issuer && same_name triple.attr attr && satisfies op wanted triple.value
+meets issuer attr op wanted triple =
+    same_name triple.issuer issuer && same_name triple.attr attr && satisfies op wanted triple.value
 
 abbrev pub is_met : Bool → Bool
 is_met member = member

@@ -53,7 +53,9 @@ written_constant (Write item expr) = only_value expr
 
 -- the query is on an item of this server
 abbrev pub is_at_server : Scenario → ℕ → Query → Bool
-is_at_server scenario server query = option_map_or (λ (item : Item). item.server.0 == server) (slice_get scenario.items (item_of query).0) false
+is_at_server scenario server query =
+    option_map_or (λ (item : Item). item.server.0 == server)
+    (slice_get scenario.items (item_of query).0) false
 
 -- of so many servers from one on, those with a query on an item of theirs
 abbrev pub servers_from : Scenario → List Query → ℕ → ℕ → List ServerId

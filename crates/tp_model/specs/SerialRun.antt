@@ -107,21 +107,26 @@ store_at sc place facts = store_of sc (before place facts)
 -- ---- the rule
 
 abbrev pub same_deed : Deed → Deed → Bool
-same_deed one other = (one.query == other.query) && same_item one.item other.item && (same_action one.action other.action && int_eq one.value other.value)
+same_deed one other =
+    (one.query == other.query) && same_item one.item other.item
+    && (same_action one.action other.action && int_eq one.value other.value)
 
 abbrev pub are_in_range : List Item → List ℤ → Bool
 are_in_range [] store = true
 are_in_range (item ∷ items) [] = false
-are_in_range (item ∷ items) (value ∷ store) = is_between item.min item.max value && are_in_range items store
+are_in_range (item ∷ items) (value ∷ store) =
+    is_between item.min item.max value && are_in_range items store
 
 -- the commit's deeds are those of the transaction run by itself on the store before it, and leave every item in its range
 abbrev pub is_serial_commit : Scenario → List ℤ → CommitRecord → Transaction → Bool
 is_serial_commit sc store committed txn =
-    pointwise same_deed committed.deeds (serial_run txn store) && are_in_range sc.items (stored_all store committed.deeds)
+    pointwise same_deed committed.deeds (serial_run txn store)
+    && are_in_range sc.items (stored_all store committed.deeds)
 
 abbrev pub keeps_serial_what : Scenario → List Fact → ℕ → What → Bool
 keeps_serial_what sc facts place (what.Decided txn (decision.Commit committed)) =
-    option_map_or (is_serial_commit sc (store_at sc place facts) committed) (slice_get sc.txns txn.0) false
+    option_map_or (is_serial_commit sc (store_at sc place facts) committed)
+    (slice_get sc.txns txn.0) false
 keeps_serial_what sc facts place _ = true
 
 -- the rule of a fact beside all facts: a commit did what its transaction does by itself on the data of the commits before it
@@ -137,7 +142,9 @@ is_serial sc facts = list_all (keeps_serial sc facts) facts
 -- a write is overlaid at the server of its item
 abbrev pub overlaid_at : Scenario → ServerId → List ℤ → Deed → List ℤ
 overlaid_at sc at store deed =
-    if option_map_or (λ (item : Item). same_server item.server at) (slice_get sc.items deed.item.0) false then stored store deed else store
+    if option_map_or (λ (item : Item). same_server item.server at) (slice_get sc.items deed.item.0) false
+    then stored store deed
+    else store
 
 abbrev pub overlaid_deeds : Scenario → ServerId → List ℤ → Option CommitRecord → List ℤ
 overlaid_deeds sc at store None = store
@@ -145,7 +152,8 @@ overlaid_deeds sc at store (Some committed) = fold (overlaid_at sc at) store com
 
 -- where a server settles a commit, the commit's writes at that server are overlaid
 abbrev pub overlaid_what : Scenario → List Fact → List ℤ → What → List ℤ
-overlaid_what sc facts store (what.Settled at txn outcome.Commit) = overlaid_deeds sc at store (commit_of txn facts)
+overlaid_what sc facts store (what.Settled at txn outcome.Commit) =
+    overlaid_deeds sc at store (commit_of txn facts)
 overlaid_what sc facts store _ = store
 
 abbrev pub overlaid_fact : Scenario → List Fact → List ℤ → Fact → List ℤ

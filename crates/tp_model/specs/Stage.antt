@@ -88,10 +88,12 @@ are_plain_parts _ _ _ = false
 -- no step is listed, and no race is scripted
 abbrev pub is_unscripted : Scenario → Bool
 is_unscripted scenario =
-    is_empty scenario.steps && is_empty scenario.clients && is_empty scenario.publishers && is_empty scenario.officers
+    is_empty scenario.steps && is_empty scenario.clients && is_empty scenario.publishers
+    && is_empty scenario.officers
 
 -- the scenario has no form that is not built
 abbrev pub is_stage : Scenario → Bool
 is_stage scenario =
-    is_single is_open_admin scenario.admins && are_plain_parts (only scenario.servers) (only scenario.items) (only scenario.txns)
+    is_single is_open_admin scenario.admins
+    && are_plain_parts (only scenario.servers) (only scenario.items) (only scenario.txns)
     && ((scenario.clock == 0) && is_empty scenario.creds && is_unscripted scenario)

@@ -34,12 +34,14 @@ is_timely_reading txn decided facts (Some place) = is_within txn decided facts p
 -- each proof is trusted, and the reading, if there is one, came between submission and decision
 abbrev pub is_trusted_instance : Scenario → TxnId → Transaction → ℕ → List Fact → Instance → Bool
 is_trusted_instance sc txn declared decided facts instance =
-    list_all (is_trusted_proof sc txn declared decided facts) instance.proofs && is_timely_reading txn decided facts instance.reading
+    list_all (is_trusted_proof sc txn declared decided facts) instance.proofs
+    && is_timely_reading txn decided facts instance.reading
 
 -- the commit is what its scheme demands, and each of its instances is trusted
 abbrev pub is_trusted_commit : Scenario → TxnId → ℕ → List Fact → CommitRecord → Transaction → Bool
 is_trusted_commit sc txn decided facts committed declared =
-    meets_demand sc facts declared committed && list_all (is_trusted_instance sc txn declared decided facts) committed.instances
+    meets_demand sc facts declared committed
+    && list_all (is_trusted_instance sc txn declared decided facts) committed.instances
 
 abbrev pub keeps_trust_what : Scenario → List Fact → ℕ → What → Bool
 keeps_trust_what sc facts place (what.Decided txn (decision.Commit committed)) =

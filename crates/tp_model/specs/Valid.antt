@@ -64,14 +64,17 @@ is_valid_policy policy = nat_le (length policy.rules) 4096
 
 -- 1 to 64 versions, and the opening version is one of them
 abbrev pub is_valid_admin : Admin → Bool
-is_valid_admin admin = has_count 1 64 admin.library && list_all is_valid_policy admin.library && is_from_to 1 (length admin.library) admin.opening.0
+is_valid_admin admin =
+    has_count 1 64 admin.library && list_all is_valid_policy admin.library
+    && is_from_to 1 (length admin.library) admin.opening.0
 
 abbrev pub same_admin_name : Admin → Admin → Bool
 same_admin_name one other = same_name one.name other.name
 
 -- 1 to 16 administrators, whose names are apart
 abbrev pub are_valid_admins : List Admin → Bool
-are_valid_admins admins = has_count 1 16 admins && list_all is_valid_admin admins && are_distinct same_admin_name admins
+are_valid_admins admins =
+    has_count 1 16 admins && list_all is_valid_admin admins && are_distinct same_admin_name admins
 
 -- ---- credentials
 
@@ -85,14 +88,16 @@ is_valid_value (Number z) = is_between (neg_ℤ number_limit) number_limit z
 is_valid_value (Word name) = true
 
 abbrev pub is_valid_cred : Credential → Bool
-is_valid_cred cred = is_valid_value cred.value && nat_le cred.from clock_limit && nat_le cred.until clock_limit
+is_valid_cred cred =
+    is_valid_value cred.value && nat_le cred.from clock_limit && nat_le cred.until clock_limit
 
 abbrev pub same_cred_name : Credential → Credential → Bool
 same_cred_name one other = same_name one.name other.name
 
 -- at most 256 credentials, whose names are apart
 abbrev pub are_valid_creds : List Credential → Bool
-are_valid_creds creds = has_count 0 256 creds && list_all is_valid_cred creds && are_distinct same_cred_name creds
+are_valid_creds creds =
+    has_count 0 256 creds && list_all is_valid_cred creds && are_distinct same_cred_name creds
 
 -- ---- servers and items
 
@@ -103,31 +108,37 @@ is_known admin version = is_from_to 1 admin.opening.0 version.0
 -- one known version of each administrator, in their order
 abbrev pub are_known : List Admin → List Version → Bool
 are_known [] [] = true
-are_known (admin ∷ admins) (version ∷ versions) = is_known admin version && are_known admins versions
+are_known (admin ∷ admins) (version ∷ versions) =
+    is_known admin version && are_known admins versions
 are_known _ _ = false
 
 -- the ids of the items of this server, where the first item has this number
 abbrev pub owned_from : ℕ → ℕ → List Item → List ItemId
 owned_from at number [] = []
 owned_from at number (item ∷ items) =
-    if item.server.0 == at then record { 0 = number } ∷ owned_from at (number + 1) items else owned_from at (number + 1) items
+    if item.server.0 == at then record { 0 = number } ∷ owned_from at (number + 1) items
+    else owned_from at (number + 1) items
 
 -- the server of this number knows versions as it may, and lists just its own items, in order of number; they are at most 64
 abbrev pub is_valid_server : Scenario → ℕ → ServerDecl → Bool
 is_valid_server sc at server =
-    are_known sc.admins server.knows && has_count 0 64 server.items && pointwise same_item server.items (owned_from at 0 sc.items)
+    are_known sc.admins server.knows && has_count 0 64 server.items
+    && pointwise same_item server.items (owned_from at 0 sc.items)
 
 -- so do all servers, the first having this number
 abbrev pub are_valid_from : Scenario → ℕ → List ServerDecl → Bool
 are_valid_from sc at [] = true
-are_valid_from sc at (server ∷ servers) = is_valid_server sc at server && are_valid_from sc (at + 1) servers
+are_valid_from sc at (server ∷ servers) =
+    is_valid_server sc at server && are_valid_from sc (at + 1) servers
 
 abbrev pub same_server_name : ServerDecl → ServerDecl → Bool
 same_server_name one other = same_name one.name other.name
 
 -- 1 to 16 servers, whose names are apart
 abbrev pub are_valid_servers : Scenario → Bool
-are_valid_servers sc = has_count 1 16 sc.servers && are_valid_from sc 0 sc.servers && are_distinct same_server_name sc.servers
+are_valid_servers sc =
+    has_count 1 16 sc.servers && are_valid_from sc 0 sc.servers
+    && are_distinct same_server_name sc.servers
 
 -- the item's bounds are within the limits
 abbrev pub has_valid_bounds : Item → Bool
@@ -151,7 +162,9 @@ are_by_server at (item ∷ items) = nat_le at item.server.0 && are_by_server ite
 
 -- items' names are apart, of all servers together
 abbrev pub are_valid_items : Scenario → Bool
-are_valid_items sc = list_all (is_valid_item sc) sc.items && are_by_server 0 sc.items && are_distinct same_item_name sc.items
+are_valid_items sc =
+    list_all (is_valid_item sc) sc.items && are_by_server 0 sc.items
+    && are_distinct same_item_name sc.items
 
 -- ---- transactions
 
@@ -180,7 +193,9 @@ begins_well (term ∷ terms) = not term.minus || has_constant term
 
 -- a sum has 1 to 5 terms, at most one of them a constant
 abbrev pub is_valid_sum : List Term → Bool
-is_valid_sum expr = has_count 1 5 expr && list_all is_valid_term expr && begins_well expr && nat_le (count_by has_constant expr) 1
+is_valid_sum expr =
+    has_count 1 5 expr && list_all is_valid_term expr && begins_well expr
+    && nat_le (count_by has_constant expr) 1
 
 abbrev pub is_valid_query : Scenario → Query → Bool
 is_valid_query sc (Read item into) = is_item sc item && is_register into
@@ -191,20 +206,24 @@ is_name_of_server txn server = same_name txn.name server.name
 
 -- the credentials that it presents exist and are apart
 abbrev pub has_valid_creds : Scenario → Transaction → Bool
-has_valid_creds sc txn = has_count 0 256 txn.creds && list_all (is_cred sc) txn.creds && are_distinct same_cred txn.creds
+has_valid_creds sc txn =
+    has_count 0 256 txn.creds && list_all (is_cred sc) txn.creds && are_distinct same_cred txn.creds
 
 -- 1 to 16 queries, a round limit of 1 to 16, and no server's name
 abbrev pub is_valid_txn : Scenario → Transaction → Bool
 is_valid_txn sc txn =
     has_valid_creds sc txn && is_from_to 1 16 txn.rounds
-    && (has_count 1 16 txn.queries && list_all (is_valid_query sc) txn.queries && not (list_any (is_name_of_server txn) sc.servers))
+    && (has_count 1 16 txn.queries && list_all (is_valid_query sc) txn.queries
+    && not (list_any (is_name_of_server txn) sc.servers))
 
 abbrev pub same_txn_name : Transaction → Transaction → Bool
 same_txn_name one other = same_name one.name other.name
 
 -- at most 128 transactions, whose names are apart
 abbrev pub are_valid_txns : Scenario → Bool
-are_valid_txns sc = has_count 0 128 sc.txns && list_all (is_valid_txn sc) sc.txns && are_distinct same_txn_name sc.txns
+are_valid_txns sc =
+    has_count 0 128 sc.txns && list_all (is_valid_txn sc) sc.txns
+    && are_distinct same_txn_name sc.txns
 
 -- ---- steps
 
@@ -251,11 +270,14 @@ is_script_of_txns sc script = list_all (is_txn sc) script
 abbrev pub are_submitted_once : List (List TxnId) → ℕ → List Transaction → Bool
 are_submitted_once clients number [] = true
 are_submitted_once clients number (txn ∷ txns) =
-    nat_le (submissions_of (record { 0 = number }) clients) 1 && are_submitted_once clients (number + 1) txns
+    nat_le (submissions_of (record { 0 = number }) clients) 1
+    && are_submitted_once clients (number + 1) txns
 
 -- at most 16 clients, which submit no transaction twice
 abbrev pub are_valid_clients : Scenario → Bool
-are_valid_clients sc = has_count 0 16 sc.clients && list_all (is_script_of_txns sc) sc.clients && are_submitted_once sc.clients 0 sc.txns
+are_valid_clients sc =
+    has_count 0 16 sc.clients && list_all (is_script_of_txns sc) sc.clients
+    && are_submitted_once sc.clients 0 sc.txns
 
 -- a publisher publishes and pushes
 abbrev pub is_publisher_step : Step → Bool
@@ -264,7 +286,8 @@ is_publisher_step (step.Push admin server) = true
 is_publisher_step _ = false
 
 abbrev pub is_publisher_script : Scenario → List Step → Bool
-is_publisher_script sc script = list_all is_publisher_step script && list_all (is_valid_step sc) script
+is_publisher_script sc script =
+    list_all is_publisher_step script && list_all (is_valid_step sc) script
 
 abbrev pub is_publication_of : AdminId → Step → Bool
 is_publication_of admin (step.Publish other) = same_admin other admin
@@ -278,12 +301,15 @@ publications_of admin publishers = sum_by (count_by (is_publication_of admin)) p
 abbrev pub have_versions_left : List (List Step) → ℕ → List Admin → Bool
 have_versions_left publishers number [] = true
 have_versions_left publishers number (admin ∷ admins) =
-    nat_le (admin.opening.0 + publications_of (record { 0 = number }) publishers) (length admin.library) && have_versions_left publishers (number + 1) admins
+    nat_le (admin.opening.0 + publications_of (record { 0 = number }) publishers)
+    (length admin.library)
+    && have_versions_left publishers (number + 1) admins
 
 -- at most 8 publishers
 abbrev pub are_valid_publishers : Scenario → Bool
 are_valid_publishers sc =
-    has_count 0 8 sc.publishers && list_all (is_publisher_script sc) sc.publishers && have_versions_left sc.publishers 0 sc.admins
+    has_count 0 8 sc.publishers && list_all (is_publisher_script sc) sc.publishers
+    && have_versions_left sc.publishers 0 sc.admins
 
 -- an officer moves the clock and revokes
 abbrev pub is_officer_step : Step → Bool
@@ -302,7 +328,8 @@ are_valid_officers sc = has_count 0 8 sc.officers && list_all (is_officer_script
 
 -- who sets policies, and what is shown to them
 abbrev pub has_valid_policies : Scenario → Bool
-has_valid_policies sc = are_valid_admins sc.admins && nat_le sc.clock clock_limit && are_valid_creds sc.creds
+has_valid_policies sc =
+    are_valid_admins sc.admins && nat_le sc.clock clock_limit && are_valid_creds sc.creds
 
 -- what servers keep, and what transactions do with it
 abbrev pub has_valid_data : Scenario → Bool
@@ -310,7 +337,9 @@ has_valid_data sc = are_valid_servers sc && are_valid_items sc && are_valid_txns
 
 -- what a run or a race is to do
 abbrev pub has_valid_scripts : Scenario → Bool
-has_valid_scripts sc = are_valid_steps sc sc.steps && are_valid_clients sc && (are_valid_publishers sc && are_valid_officers sc)
+has_valid_scripts sc =
+    are_valid_steps sc sc.steps && are_valid_clients sc
+    && (are_valid_publishers sc && are_valid_officers sc)
 
 -- the scenario keeps every rule
 abbrev pub is_valid : Scenario → Bool

@@ -25,11 +25,15 @@ is_publication admin fact = is_publication_what admin fact.what
 
 -- the newest version at a place: the opening version, and one more for each publication before the place
 abbrev pub newest_at : AdminId → Version → ℕ → List Fact → Version
-newest_at admin opening place facts = record { 0 = opening.0 + count_by (is_publication admin) (before place facts) }
+newest_at admin opening place facts =
+    record { 0 = opening.0 + count_by (is_publication admin) (before place facts) }
 
 -- the version with which an administrator begins
 abbrev pub opening_of : Scenario → AdminId → Version
-opening_of sc admin = unwrap_or (option_map (λ (declared : Admin). declared.opening) (slice_get sc.admins admin.0)) (record { 0 = 0 })
+opening_of sc admin =
+    unwrap_or (option_map (λ (declared : Admin). declared.opening) (slice_get sc.admins admin.0)) (record {
+      0 = 0;
+    })
 
 -- the newest version of an administrator of the scenario
 abbrev pub newest : Scenario → AdminId → ℕ → List Fact → ℕ
@@ -37,7 +41,8 @@ newest sc admin place facts = (newest_at admin (opening_of sc admin) place facts
 
 -- two proofs of one administrator have one version
 abbrev pub have_one_version : Verdict → Verdict → Bool
-have_one_version one other = if same_admin one.admin other.admin then one.version.0 == other.version.0 else true
+have_one_version one other =
+    if same_admin one.admin other.admin then one.version.0 == other.version.0 else true
 
 abbrev pub agrees_with : List Verdict → Verdict → Bool
 agrees_with proofs one = list_all (have_one_version one) proofs
@@ -48,12 +53,14 @@ is_one_version proofs = list_all (agrees_with proofs) proofs
 
 -- a proof before the place whose version is the newest there
 abbrev pub is_newest_proof : Scenario → ℕ → List Fact → Verdict → Bool
-is_newest_proof sc place facts proof = (proof.version.0 == newest sc proof.admin place facts) && nat_lt proof.place place
+is_newest_proof sc place facts proof =
+    (proof.version.0 == newest sc proof.admin place facts) && nat_lt proof.place place
 
 -- at a reading of the master a proof is before it, and of an administrator under global consistency has the newest version
 abbrev pub meets_reading : Scenario → Transaction → ℕ → List Fact → Verdict → Bool
 meets_reading sc txn place facts proof =
-    if is_global (level_of txn proof.admin) then is_newest_proof sc place facts proof else nat_lt proof.place place
+    if is_global (level_of txn proof.admin) then is_newest_proof sc place facts proof
+    else nat_lt proof.place place
 
 abbrev pub meets_readings : Scenario → Transaction → Option ℕ → List Fact → List Verdict → Bool
 meets_readings sc txn None facts proofs = false
@@ -64,4 +71,5 @@ meets_readings sc txn (Some place) facts proofs = list_all (meets_reading sc txn
 abbrev pub is_consistent : Scenario → Transaction → List Fact → Instance → Bool
 is_consistent sc txn facts instance =
     is_one_version instance.proofs
-    && (if reads_master sc txn then meets_readings sc txn instance.reading facts instance.proofs else is_none instance.reading)
+    && (if reads_master sc txn then meets_readings sc txn instance.reading facts instance.proofs
+    else is_none instance.reading)

@@ -55,7 +55,8 @@ fn satisfies(op: Op, wanted: &Value, found: &Value) -> bool
 
 /// What the credential says is of the issuer and the attribute, and satisfies the comparison. Whose it is plays no part.
 pub fn meets(credential: &Credential, issuer: &Name, attr: &Name, op: Op, wanted: &Value) -> bool
-    ensures { result ≡ policies.meets issuer.now attr.now op wanted.now (credentials.said_by credential.now) }
+    ensures { result ≡ policies.meets issuer.now attr.now op wanted.now
+        (credentials.said_by credential.now) }
 {
     credential.issuer == *issuer
         && credential.attr == *attr

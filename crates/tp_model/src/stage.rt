@@ -103,7 +103,9 @@ fn are_plain_queries(item: &Item, asked: &[Query]) -> bool
 }
 
 fn has_plain_work(item: &Item, txn: &Transaction) -> bool
-    ensures { result ≡ ((txn.now.rounds == 8) && is_empty txn.now.creds && is_single (stage.is_plain_query item.now) txn.now.queries) }
+    ensures { result
+        ≡ ((txn.now.rounds == 8) && is_empty txn.now.creds
+        && is_single (stage.is_plain_query item.now) txn.now.queries) }
 {
     txn.rounds == 8 && txn.creds.is_empty() && are_plain_queries(item, txn.queries.as_slice())
 }
@@ -117,7 +119,8 @@ fn is_plain_txn(item: &Item, txn: &Transaction) -> bool
 }
 
 fn are_plain_parts(scenario: &Scenario) -> bool
-    ensures { result ≡ stage.are_plain_parts (only scenario.now.servers) (only scenario.now.items) (only scenario.now.txns) }
+    ensures { result ≡ stage.are_plain_parts (only scenario.now.servers) (only scenario.now.items)
+        (only scenario.now.txns) }
 {
     match (
         only(scenario.servers.as_slice()),
@@ -139,7 +142,9 @@ fn is_unscripted(scenario: &Scenario) -> bool
 }
 
 fn has_defaults(scenario: &Scenario) -> bool
-    ensures { result ≡ ((scenario.now.clock == 0) && is_empty scenario.now.creds && stage.is_unscripted scenario.now) }
+    ensures { result
+        ≡ ((scenario.now.clock == 0) && is_empty scenario.now.creds
+        && stage.is_unscripted scenario.now) }
 {
     scenario.clock == 0 && scenario.creds.is_empty() && is_unscripted(scenario)
 }

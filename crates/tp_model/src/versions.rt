@@ -16,7 +16,8 @@ fn is_publication(admin: AdminId, fact: &Fact) -> bool
 }
 
 fn is_earlier_publication(admin: AdminId, place: Place, fact: &Fact) -> bool
-    ensures { result ≡ (history.is_earlier place fact.now && versions.is_publication admin fact.now) }
+    ensures { result
+        ≡ (history.is_earlier place fact.now && versions.is_publication admin fact.now) }
 {
     fact.place < place && is_publication(admin, fact)
 }

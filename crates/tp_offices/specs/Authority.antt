@@ -17,7 +17,8 @@ after_tick by authority = record authority { clock = authority.clock + by }
 
 -- the place of the credential has its id
 abbrev pub after_revocation : CredId → Authority → Authority
-after_revocation cred authority = record authority { revoked = slice_set authority.revoked cred.0 (Some cred) }
+after_revocation cred authority =
+    record authority { revoked = slice_set authority.revoked cred.0 (Some cred) }
 
 abbrev pub in_place : Option CredId → Option CredId
 in_place place = place
@@ -33,7 +34,13 @@ tells authority ask =
     (record {
       from = actor.Authority;
       to = actor.Coordinator ask.txn;
-      body = body.Tell (record { txn = ask.txn; turn = ask.turn; clock = authority.clock; revoked = revocations authority.revoked });
+      body = body.Tell
+          (record {
+            txn = ask.txn;
+            turn = ask.turn;
+            clock = authority.clock;
+            revoked = revocations authority.revoked;
+          });
     } ∷ [])
 
 abbrev pub on_body : Authority → Body → Effect Authority

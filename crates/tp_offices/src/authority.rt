@@ -47,7 +47,8 @@ impl Authority {
 
     /// What the authority does on receipt of a mail. Its state stays.
     pub fn receive(&self, alloc: Global, mail: &Mail) -> Result<Reaction, NoMemory>
-        ensures { IfOk result (λ reaction. Gives (office.authority_row self.now mail.now) self.now reaction) }
+        ensures { IfOk result (λ reaction.
+            Gives (office.authority_row self.now mail.now) self.now reaction) }
     {
         match &mail.letter.body {
             Body::Ask(request) => self.tells(alloc, *request),
@@ -56,7 +57,8 @@ impl Authority {
     }
 
     fn tells(&self, alloc: Global, request: AskRequest) -> Result<Reaction, NoMemory>
-        ensures { IfOk result (λ reaction. Gives (office.tells self.now request) self.now reaction) }
+        ensures { IfOk result (λ reaction.
+            Gives (office.tells self.now request) self.now reaction) }
     {
         let told = TellReply {
             txn: request.txn,

@@ -28,7 +28,8 @@ impl Master {
 
     /// What the master does on receipt of a mail. Its state stays.
     pub fn receive(&self, alloc: Global, mail: &Mail) -> Result<Reaction, NoMemory>
-        ensures { IfOk result (λ reaction. Gives (office.master_row self.now mail.now) self.now reaction) }
+        ensures { IfOk result (λ reaction.
+            Gives (office.master_row self.now mail.now) self.now reaction) }
     {
         match &mail.letter.body {
             Body::Probe(request) => self.tells(alloc, *request),
@@ -37,7 +38,8 @@ impl Master {
     }
 
     fn tells(&self, alloc: Global, request: ProbeRequest) -> Result<Reaction, NoMemory>
-        ensures { IfOk result (λ reaction. Gives (office.tells self.now request) self.now reaction) }
+        ensures { IfOk result (λ reaction.
+            Gives (office.tells self.now request) self.now reaction) }
     {
         let told = NewestReply {
             txn: request.txn,

@@ -7,7 +7,6 @@ use Rattle.tp_policy_text.specs.declared.parsing.ParseError.{ParseError}
 use Rattle.tp_policy_text.specs.declared.parsing.ParseError.TheVariants as refusal
 use Rattle.tp_policy_text.specs.Parses.{Answers, refused}
 use Rattle.tp_policy_text.specs.mirrors.Readers.{policy_at}
-use Rattle.tp_policy_text.specs.mirrors.Readings.{Reading, read, stopped}
 use Rattle.tp_policy_text.proofs.Answering.{answers_read, answers_stop, only_read, only_stop}
 
 -- an answer, which is the only one

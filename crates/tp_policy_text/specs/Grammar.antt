@@ -1,7 +1,6 @@
 -- The grammar of the policy language, as a relation between a text, what it says, and what is left of the text. Each production is
 -- one definition, and each of its forms one case.
-use Rattle.std.specs.Prelude.{◌≡◌, ◌⊎◌, ℕ, zero, suc, ◌+◌, ◌-◌, ◌*◌, ◌&&◌, ◌≤◌, nat_le, nat_lt, List, [], ◌∷◌, ◌++◌, length, Bool, true, false, Option, Some, None, ℤ, pos, neg_ℤ, codes, ◌<◌}
-use Rattle.std.specs.List.{list_all}
+use Rattle.std.specs.Prelude.{◌≡◌, ◌⊎◌, ℕ, zero, suc, ◌+◌, ◌≤◌, List, [], ◌∷◌, ◌++◌, true, Option, Some, None, ℤ, pos, neg_ℤ, codes, ◌<◌}
 use Rattle.tp_types.specs.declared.policy.Action.{Action}
 use Rattle.tp_types.specs.declared.policy.Action.TheVariants as action
 use Rattle.tp_types.specs.declared.policy.Cond.{Cond}
@@ -60,9 +59,12 @@ IsValue (value.Word name) before left = Named name before left
 
 -- `=` takes either, and the others an integer
 abbrev pub IsCompared : Op → Value → List ℕ → List ℕ → Type 0
-IsCompared op.Equal v before left = (between : List ℕ) × Sign (codes "=") before between × IsValue v between left
-IsCompared op.AtLeast (value.Number z) before left = (between : List ℕ) × Sign (codes ">=") before between × Int z between left
-IsCompared op.AtMost (value.Number z) before left = (between : List ℕ) × Sign (codes "<=") before between × Int z between left
+IsCompared op.Equal v before left =
+    (between : List ℕ) × Sign (codes "=") before between × IsValue v between left
+IsCompared op.AtLeast (value.Number z) before left =
+    (between : List ℕ) × Sign (codes ">=") before between × Int z between left
+IsCompared op.AtMost (value.Number z) before left =
+    (between : List ℕ) × Sign (codes "<=") before between × Int z between left
 IsCompared _ _ before left = ⊥
 
 -- what an issuer says, and what it is compared to
@@ -78,15 +80,19 @@ pub record IsComparison (c : Cond) (before left : List ℕ) : Type 0 where
 
 -- the word true, or a comparison
 abbrev pub IsAtom : Cond → List ℕ → List ℕ → Type 0
-IsAtom c before left = ((c ≡ cond.True) × Word (codes "true") before left) ⊎ IsComparison c before left
+IsAtom c before left =
+    ((c ≡ cond.True) × Word (codes "true") before left) ⊎ IsComparison c before left
 
 -- ---- conditions
 
 -- one or more, with a word between two of them
-abbrev pub Joined : {A : Type 0} → List ℕ → (A → List ℕ → List ℕ → Type 0) → List A → List ℕ → List ℕ → Type 0
+abbrev pub Joined : {A : Type 0} → List ℕ → (A → List ℕ → List ℕ → Type 0) → List A → List ℕ
+    → List ℕ → Type 0
 Joined word P [] before left = ⊥
 Joined word P (x ∷ xs) before left =
-    ((xs ≡ []) × P x before left) ⊎ ((between : List ℕ) × (after : List ℕ) × P x before between × Word word between after × Joined word P xs after left)
+    ((xs ≡ []) × P x before left)
+    ⊎ ((between : List ℕ) × (after : List ℕ) × P x before between × Word word between after
+    × Joined word P xs after left)
 
 -- one member is itself
 abbrev pub and_of : List Cond → Cond
@@ -98,7 +104,8 @@ or_of (c ∷ []) = c
 or_of members = cond.Or members
 
 -- a condition in parentheses, where I is what may stand in them, or an atom
-pub record IsInParentheses (I : Cond → List ℕ → List ℕ → Type 0) (c : Cond) (before left : List ℕ) : Type 0 where
+pub record IsInParentheses (I : Cond → List ℕ → List ℕ → Type 0) (c : Cond) (before left : List ℕ)
+    : Type 0 where
   pub opened : List ℕ
   pub closed : List ℕ
   pub opens : Sign (codes "(") before opened
@@ -110,11 +117,14 @@ IsPart I c before left = IsInParentheses I c before left ⊎ IsAtom c before lef
 
 -- parts joined by `and`
 abbrev pub IsConj : (Cond → List ℕ → List ℕ → Type 0) → Cond → List ℕ → List ℕ → Type 0
-IsConj I c before left = (members : List Cond) × (c ≡ and_of members) × Joined (codes "and") (IsPart I) members before left
+IsConj I c before left =
+    (members : List Cond) × (c ≡ and_of members)
+    × Joined (codes "and") (IsPart I) members before left
 
 -- conjunctions joined by `or`
 abbrev pub IsDisj : (Cond → List ℕ → List ℕ → Type 0) → Cond → List ℕ → List ℕ → Type 0
-IsDisj I c before left = (members : List Cond) × (c ≡ or_of members) × Joined (codes "or") (IsConj I) members before left
+IsDisj I c before left =
+    (members : List Cond) × (c ≡ or_of members) × Joined (codes "or") (IsConj I) members before left
 
 -- a condition with fewer parentheses within one another than the number
 abbrev pub IsCond : ℕ → Cond → List ℕ → List ℕ → Type 0
@@ -143,7 +153,8 @@ IsPattern (pattern.Exact name) before left = Named name before left
 IsPattern (pattern.Prefix name) before left = IsPrefix name before left
 
 -- allow ACTION on PATTERN if CONDITION ;
-pub record IsRule (C : Cond → List ℕ → List ℕ → Type 0) (rule : Rule) (before left : List ℕ) : Type 0 where
+pub record IsRule (C : Cond → List ℕ → List ℕ → Type 0) (rule : Rule) (before left : List ℕ)
+    : Type 0 where
   pub allowed : List ℕ
   pub allow : Word (codes "allow") before allowed
   pub acted : List ℕ
@@ -161,7 +172,8 @@ pub record IsRule (C : Cond → List ℕ → List ℕ → Type 0) (rule : Rule) 
 -- rules one after another, up to the end
 abbrev pub AreRules : (Cond → List ℕ → List ℕ → Type 0) → List Rule → List ℕ → Type 0
 AreRules C [] before = before ≡ []
-AreRules C (rule ∷ rules) before = (left : List ℕ) × IsRule C rule before left × AreRules C rules left
+AreRules C (rule ∷ rules) before =
+    (left : List ℕ) × IsRule C rule before left × AreRules C rules left
 
 -- a whole text says the policy, with conditions C; blanks may stand before the first token
 abbrev pub SpellsBy : (Cond → List ℕ → List ℕ → Type 0) → Policy → List ℕ → Type 0
@@ -187,7 +199,8 @@ pub record Stops (text before : List ℕ) : Type 0 where
   pub rest : List ℕ
   pub parts : text ≡ before ++ rest
   pub begins : Begins before
-  pub further : (byte : ℕ) (others : List ℕ) → rest ≡ byte ∷ others → ¬ (Begins (before ++ byte ∷ []))
+  pub further : (byte : ℕ) (others : List ℕ) → rest ≡ byte ∷ others
+      → ¬ (Begins (before ++ byte ∷ []))
   pub none : (policy : Policy) → ¬ (Spells policy text)
 
 -- no parenthesis of the text stands within as many others as may be

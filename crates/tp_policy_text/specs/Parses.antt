@@ -52,4 +52,6 @@ HasAnswer = (text : List ℕ) → (answer : Result Policy ParseError) × Answers
 
 -- and no text has two
 abbrev pub HasOneAnswer : Type 0
-HasOneAnswer = (text : List ℕ) (one other : Result Policy ParseError) → Answers text one → Answers text other → one ≡ other
+HasOneAnswer =
+    (text : List ℕ) (one other : Result Policy ParseError) → Answers text one → Answers text other
+    → one ≡ other

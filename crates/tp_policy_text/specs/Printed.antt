@@ -29,7 +29,8 @@ value_text (value.Number z) = signed_decimal z
 value_text (value.Word name) = name
 
 abbrev pub atom_text : List ℕ → List ℕ → Op → Value → List ℕ
-atom_text issuer attr compares wanted = issuer ++ codes "." ++ attr ++ codes " " ++ op_text compares ++ codes " " ++ value_text wanted
+atom_text issuer attr compares wanted =
+    issuer ++ codes "." ++ attr ++ codes " " ++ op_text compares ++ codes " " ++ value_text wanted
 
 -- ---- conditions
 
@@ -67,9 +68,18 @@ in_or member = within_or member.kind member.text
 -- one level of a condition, whose members are shown
 abbrev pub shown_level : Cond-F Shown → Shown
 shown_level True = record { kind = plain; text = codes "true" }
-shown_level (Atom issuer attr compares wanted) = record { kind = plain; text = atom_text issuer attr compares wanted }
-shown_level (And members) = record { kind = conjunction; text = join_by in_and (codes " and ") members }
-shown_level (Or members) = record { kind = disjunction; text = join_by in_or (codes " or ") members }
+shown_level (Atom issuer attr compares wanted) = record {
+  kind = plain;
+  text = atom_text issuer attr compares wanted;
+}
+shown_level (And members) = record {
+  kind = conjunction;
+  text = join_by in_and (codes " and ") members;
+}
+shown_level (Or members) = record {
+  kind = disjunction;
+  text = join_by in_or (codes " or ") members;
+}
 
 abbrev pub shown : Cond → Shown
 shown c = fold-Cond Shown shown_level c
@@ -91,7 +101,8 @@ pattern_text (pattern.Prefix name) = name ++ codes "*"
 
 abbrev pub rule_line : Rule → List ℕ
 rule_line rule =
-    codes "allow " ++ action_text rule.action ++ codes " on " ++ pattern_text rule.pattern ++ codes " if " ++ cond_text rule.cond ++ codes ";\n"
+    codes "allow " ++ action_text rule.action ++ codes " on " ++ pattern_text rule.pattern
+    ++ codes " if " ++ cond_text rule.cond ++ codes ";\n"
 
 -- the rules in their order, each on a line of its own
 abbrev pub printed : Policy → List ℕ
@@ -121,7 +132,8 @@ can_be_member member = member
 
 abbrev pub can_be_level : Cond-F Bool → Bool
 can_be_level True = true
-can_be_level (Atom issuer attr compares wanted) = is_name issuer && is_name attr && can_compare compares wanted && can_be_value wanted
+can_be_level (Atom issuer attr compares wanted) =
+    is_name issuer && is_name attr && can_compare compares wanted && can_be_value wanted
 can_be_level (And members) = nat_le 2 (length members) && list_all can_be_member members
 can_be_level (Or members) = nat_le 2 (length members) && list_all can_be_member members
 

@@ -55,7 +55,8 @@ fn refused(stop: Stop, place: usize) -> ParseError
 /// refused as such, whatever else is wrong with it.
 pub fn parse(alloc: Global, text: &[u8]) -> Result<Policy, ParseError>
     ensures answer { IsOutOfMemory result ⊎ Answers text.now result }
-    ensures only { (answer : Result Policy ParseError) → Answers text.now answer → IsOutOfMemory result ⊎ (result ≡ answer) }
+    ensures only { (answer : Result Policy ParseError) → Answers text.now answer
+        → IsOutOfMemory result ⊎ (result ≡ answer) }
     ensures of_grammar { IfOk result (λ policy. IsOfGrammar policy) }
     ensures few { IfOk result (λ policy. length policy.rules ≤ length text.now) }
     ensures too_long { parses.length_max < length text.now → result ≡ Err ParseError.TooLong }

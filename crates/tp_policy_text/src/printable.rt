@@ -37,7 +37,9 @@ fn can_compare(op: Op, value: &Value) -> bool
 }
 
 fn can_be_atom(issuer: &Name, attr: &Name, op: Op, value: &Value) -> bool
-    ensures { result ≡ (is_name issuer.now && is_name attr.now && printed.can_compare op value.now && printed.can_be_value value.now) }
+    ensures { result
+        ≡ (is_name issuer.now && is_name attr.now && printed.can_compare op value.now
+        && printed.can_be_value value.now) }
 {
     is_spelled(issuer) && is_spelled(attr) && can_compare(op, value) && can_be_value(value)
 }

@@ -183,7 +183,8 @@ pub fn print(alloc: Global, policy: &Policy) -> Result<Text, NoMemory>
     requires { IsOfGrammar policy.now }
     ensures printed { IfOk result (λ text. text.0 ≡ printed policy.now) }
     ensures spelled { IfOk result (λ text. Spells policy.now text.0) }
-    ensures alone { IfOk result (λ text. (other : Policy) → Spells other text.0 → other ≡ policy.now) }
+    ensures alone { IfOk result (λ text.
+        (other : Policy) → Spells other text.0 → other ≡ policy.now) }
 {
     let mut out = Vec::new(alloc);
     put_rules(&mut out, policy.rules.as_slice())?;
@@ -194,8 +195,11 @@ pub fn print(alloc: Global, policy: &Policy) -> Result<Text, NoMemory>
 /// and what a text says can be printed.
 pub fn printed_is_exact()
     ensures spelled { (policy : Policy) → IsOfGrammar policy → Spells policy (printed policy) }
-    ensures alone { (one other : Policy) (text : List ℕ) → Spells one text → Spells other text → one ≡ other }
-    ensures within { (policy : Policy) → IsOfGrammar policy → length (printed policy) ≤ length_max → IsWithin depth_max (printed policy)
+    ensures alone { (one other : Policy) (text : List ℕ) → Spells one text → Spells other text
+        → one ≡ other }
+    ensures within { (policy : Policy) → IsOfGrammar policy → length (printed policy) ≤ length_max
+        → IsWithin depth_max (printed policy)
         → Answers (printed policy) (Ok policy) }
-    ensures of_grammar { (policy : Policy) (text : List ℕ) → Spells policy text → IsOfGrammar policy }
+    ensures of_grammar { (policy : Policy) (text : List ℕ) → Spells policy text
+        → IsOfGrammar policy }
 {}

@@ -56,7 +56,9 @@ impl<'a> Reader<'a> {
     /// Conjunctions, with `or` between two of them.
     #[cycle(reading)]
     fn conjs(&mut self, turns: usize, depth: usize) -> Result<List<Cond>, Halt>
-        ensures { Gives result self.new.rest.now (readers.joined_at turns 111 (codes "or") (readers.conj_at turns depth (readers.inner_at turns depth)) self.old.rest.now) }
+        ensures { Gives result self.new.rest.now
+            (readers.joined_at turns 111 (codes "or")
+            (readers.conj_at turns depth (readers.inner_at turns depth)) self.old.rest.now) }
     {
         let mut members = List::new(self.alloc);
         for _turn in 0..turns {
@@ -72,7 +74,8 @@ impl<'a> Reader<'a> {
     /// Parts joined by `and`.
     #[cycle(reading)]
     fn conj(&mut self, turns: usize, depth: usize) -> Result<Cond, Halt>
-        ensures { Gives result self.new.rest.now (readers.conj_at turns depth (readers.inner_at turns depth) self.old.rest.now) }
+        ensures { Gives result self.new.rest.now
+            (readers.conj_at turns depth (readers.inner_at turns depth) self.old.rest.now) }
     {
         Ok(and_of(self.parts(turns, depth)?))
     }
@@ -80,7 +83,9 @@ impl<'a> Reader<'a> {
     /// Parts, with `and` between two of them.
     #[cycle(reading)]
     fn parts(&mut self, turns: usize, depth: usize) -> Result<List<Cond>, Halt>
-        ensures { Gives result self.new.rest.now (readers.joined_at turns 97 (codes "and") (readers.part_at depth (readers.inner_at turns depth)) self.old.rest.now) }
+        ensures { Gives result self.new.rest.now
+            (readers.joined_at turns 97 (codes "and")
+            (readers.part_at depth (readers.inner_at turns depth)) self.old.rest.now) }
     {
         let mut members = List::new(self.alloc);
         for _turn in 0..turns {
@@ -96,7 +101,8 @@ impl<'a> Reader<'a> {
     /// A condition in parentheses, or an atom.
     #[cycle(reading)]
     fn part(&mut self, turns: usize, depth: usize) -> Result<Cond, Halt>
-        ensures { Gives result self.new.rest.now (readers.part_at depth (readers.inner_at turns depth) self.old.rest.now) }
+        ensures { Gives result self.new.rest.now
+            (readers.part_at depth (readers.inner_at turns depth) self.old.rest.now) }
     {
         if !self.comes(b'(') {
             return self.atom();
@@ -135,7 +141,8 @@ impl<'a> Reader<'a> {
 
     /// What a rule says behind its `on`.
     fn permitted(&mut self, turns: usize, depth: usize) -> Result<Permitted, Halt>
-        ensures { Gives result self.new.rest.now (readers.permitted_at turns depth self.old.rest.now) }
+        ensures { Gives result self.new.rest.now
+            (readers.permitted_at turns depth self.old.rest.now) }
     {
         let pattern = self.pattern()?;
         self.token(b"if", true, ())?;
@@ -161,7 +168,8 @@ impl<'a> Reader<'a> {
 
     /// One rule or more, in at most so many turns.
     fn rules(&mut self, turns: usize, depth: usize) -> Result<List<Rule>, Halt>
-        ensures { Gives result self.new.rest.now (readers.rules_at turns turns depth self.old.rest.now) }
+        ensures { Gives result self.new.rest.now
+            (readers.rules_at turns turns depth self.old.rest.now) }
     {
         let mut rules = List::new(self.alloc);
         for _turn in 0..turns {
@@ -175,7 +183,8 @@ impl<'a> Reader<'a> {
 
     /// Rules up to the end of the text.
     fn some_rules(&mut self, turns: usize, depth: usize) -> Result<Policy, Halt>
-        ensures { Gives result self.new.rest.now (readers.rules_only turns depth self.old.rest.now) }
+        ensures { Gives result self.new.rest.now
+            (readers.rules_only turns depth self.old.rest.now) }
     {
         let rules = self.rules(turns, depth)?;
         if !self.rest.is_empty() {

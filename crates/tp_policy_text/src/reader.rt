@@ -79,7 +79,8 @@ impl<'a> Reader<'a> {
 
     /// Takes a token and gives the value. One that is apart ends before no letter, digit or `_`.
     pub(crate) fn token<A: Drop>(&mut self, token: &[u8], apart: bool, value: A) -> Result<A, Halt>
-        ensures { Gives result self.new.rest.now (readers.token_at apart token.now value self.old.rest.now) }
+        ensures { Gives result self.new.rest.now
+            (readers.token_at apart token.now value self.old.rest.now) }
     {
         for byte in token {
             if !self.comes(*byte) {
@@ -96,21 +97,25 @@ impl<'a> Reader<'a> {
 
     /// A word that was taken ends here.
     fn ends(&self, word: &[u8]) -> bool
-        ensures { result ≡ (readers.is_some_text word.now && not (lexis.in_word (lexis.first self.now.rest.now))) }
+        ensures { result
+            ≡ (readers.is_some_text word.now && not (lexis.in_word (lexis.first self.now.rest.now))) }
     {
         !word.is_empty() && !self.is_in_word()
     }
 
     /// The byte comes next, behind some word.
     fn comes_behind(&self, byte: u8, word: &[u8]) -> bool
-        ensures { result ≡ (readers.comes byte (lexis.first self.now.rest.now) && readers.is_some_text word.now) }
+        ensures { result
+            ≡ (readers.comes byte (lexis.first self.now.rest.now) && readers.is_some_text word.now) }
     {
         self.comes(byte) && !word.is_empty()
     }
 
     /// The word true was taken, and ends here.
     fn is_true(&self, word: &[u8]) -> bool
-        ensures { result ≡ (readers.same_text word.now (codes "true") && not (lexis.in_word (lexis.first self.now.rest.now))) }
+        ensures { result
+            ≡ (readers.same_text word.now (codes "true")
+            && not (lexis.in_word (lexis.first self.now.rest.now))) }
     {
         is_word_true(word) && !self.is_in_word()
     }
@@ -198,7 +203,8 @@ impl<'a> Reader<'a> {
     #[tactic(auto, using(crate::proofs::Scans::front_is_name))]
     fn attribute(&mut self, issuer: &[u8]) -> Result<Option<Claim>, Halt>
         requires { IsName issuer.now }
-        ensures { Gives result self.new.rest.now (mapped scans.claim_of (scans.attr_at issuer.now self.old.rest.now)) }
+        ensures { Gives result self.new.rest.now
+            (mapped scans.claim_of (scans.attr_at issuer.now self.old.rest.now)) }
     {
         let attr = self.name_bytes();
         if !self.ends(attr) {
@@ -214,7 +220,8 @@ impl<'a> Reader<'a> {
     /// Takes the word true, for which there is None, or an issuer and an attribute.
     #[tactic(auto, using(crate::proofs::Scans::head_reads, crate::proofs::Scans::front_is_name))]
     fn head(&mut self) -> Result<Option<Claim>, Halt>
-        ensures { Gives result self.new.rest.now (mapped scans.claim_of (readers.head_at self.old.rest.now)) }
+        ensures { Gives result self.new.rest.now
+            (mapped scans.claim_of (readers.head_at self.old.rest.now)) }
     {
         let issuer = self.name_bytes();
         if self.comes_behind(b'.', issuer) {
@@ -251,7 +258,8 @@ impl<'a> Reader<'a> {
 
     /// Takes `=` and what is compared to.
     fn equal_to(&mut self, claim: Claim) -> Result<Cond, Halt>
-        ensures { Gives result self.new.rest.now (mapped (scans.compared_to claim) (readers.equal_at self.old.rest.now)) }
+        ensures { Gives result self.new.rest.now
+            (mapped (scans.compared_to claim) (readers.equal_at self.old.rest.now)) }
     {
         let op = self.token(b"=", false, Op::Equal)?;
         let value = self.value()?;
@@ -265,7 +273,8 @@ impl<'a> Reader<'a> {
 
     /// Takes the sign of a bound and the integer that is the bound.
     fn bounded_by(&mut self, claim: Claim, sign: &[u8], op: Op) -> Result<Cond, Halt>
-        ensures { Gives result self.new.rest.now (mapped (scans.compared_to claim) (readers.bound_at sign.now op self.old.rest.now)) }
+        ensures { Gives result self.new.rest.now
+            (mapped (scans.compared_to claim) (readers.bound_at sign.now op self.old.rest.now)) }
     {
         let op = self.token(sign, false, op)?;
         let bound = self.int()?;
@@ -279,7 +288,8 @@ impl<'a> Reader<'a> {
 
     /// Takes a comparison of what an issuer says.
     fn comparison(&mut self, claim: Claim) -> Result<Cond, Halt>
-        ensures { Gives result self.new.rest.now (mapped (scans.compared_to claim) (readers.compared_at self.old.rest.now)) }
+        ensures { Gives result self.new.rest.now
+            (mapped (scans.compared_to claim) (readers.compared_at self.old.rest.now)) }
     {
         if self.comes(b'=') {
             return self.equal_to(claim);

@@ -13,7 +13,8 @@ use tp_types::Policy;
 pub fn print_and_parse(alloc: Global, policy: &Policy) -> Result<Policy, ParseError>
     requires { IsOfGrammar policy.now }
     ensures answer { IsOutOfMemory result ⊎ Answers (printed policy.now) result }
-    ensures same { length (printed policy.now) ≤ length_max → IsWithin depth_max (printed policy.now)
+    ensures same { length (printed policy.now) ≤ length_max
+        → IsWithin depth_max (printed policy.now)
         → IsOutOfMemory result ⊎ (result ≡ Ok policy.now) }
 {
     let text = print(alloc, policy)?;

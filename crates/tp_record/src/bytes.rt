@@ -34,7 +34,8 @@ pub(crate) struct Reader<'a> {
 impl<'a> Reader<'a> {
     /// Takes so many bytes.
     pub(crate) fn front(&mut self, count: usize) -> Result<&'a [u8], Halt>
-        ensures { Gives (readings.shown result) self.new.rest.now (readings.front_at count self.old.rest.now) }
+        ensures { Gives (readings.shown result) self.new.rest.now
+            (readings.front_at count self.old.rest.now) }
     {
         if self.rest.len() < count {
             return Err(Halt::NoRecord);

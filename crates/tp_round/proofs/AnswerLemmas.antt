@@ -1,15 +1,14 @@
 -- Rounds are answered: where no reply is missing, an update or all true comes where it is due.
-use Rattle.std.proofs.Common.{◌≡◌, Bool, true, false, ◌&&◌, cond, List, [], ◌∷◌, not, Option, Some, None, arith, refl, ap, ◌∙◌}
+use Rattle.std.proofs.Common.{◌≡◌, Bool, true, false, cond, List, [], ◌∷◌, not, Option, Some, None, refl, ap, ◌∙◌}
 use Rattle.std.proofs.lemmas.Bool.{and_parts}
 use Rattle.std.specs.List.{fold, list_all, list_any}
 use Rattle.std.specs.Option.{is_none}
-use Rattle.tp_model.specs.Words.{Met, Reading, Verdict}
-use Rattle.tp_round.specs.declared.round.Judged.TheVariants.{Waiting, AllTrue, False, Spent, Update}
-use Rattle.tp_round.specs.declared.round.Round.{Round}
+use Rattle.tp_model.specs.Words.{Met, Verdict}
+use Rattle.tp_round.specs.declared.round.Judged.TheVariants.{Waiting, AllTrue, Spent, Update}
 use Rattle.tp_round.specs.declared.round.Wanted.{Wanted}
-use Rattle.tp_round.specs.Judge.{aim_in, final_answer, is_outdated, is_spent, is_waiting, judge, met_in, mets_in, wants_of}
+use Rattle.tp_round.specs.Judge.{aim_in, final_answer, is_outdated, is_spent, is_waiting, met_in, mets_in, wants_of}
 use Rattle.tp_round.specs.Replies.{least_false, proofs_in, sooner, sooner_false}
-use Rattle.tp_round.specs.Laws.{AllTrueWhereAgreed, UpdatesTheOutdated, WaitsForReplies, is_behind, is_of_global, is_true}
+use Rattle.tp_round.specs.Laws.{AllTrueWhereAgreed, UpdatesTheOutdated, WaitsForReplies, is_true}
 use Rattle.tp_round.proofs.NamesLemmas.{any_outdated_is}
 use Rattle.tp_round.proofs.SpentLemmas.{nothing_met}
 

@@ -20,7 +20,16 @@ new_target server = record { server = server; reply = None }
 -- the first round, before any reply
 abbrev pub first_round : List ServerId → ℕ → List Level → Bool → Round
 first_round servers limit levels reads =
-    record { levels = levels; reads = reads; limit = limit; number = 1; targets = map new_target servers; aim = []; named = []; mets = [] }
+    record {
+      levels = levels;
+      reads = reads;
+      limit = limit;
+      number = 1;
+      targets = map new_target servers;
+      aim = [];
+      named = [];
+      mets = [];
+    }
 
 abbrev pub awaits : ServerId → Target → Bool
 awaits server target = same_server target.server server && is_none target.reply
@@ -33,10 +42,12 @@ is_awaited targets server = list_any (awaits server) targets
 abbrev pub with_reply : List Target → ServerId → List Verdict → List Target
 with_reply [] server verdicts = []
 with_reply (target ∷ targets) server verdicts =
-    if awaits server target then record { server = server; reply = Some verdicts } ∷ targets else target ∷ with_reply targets server verdicts
+    if awaits server target then record { server = server; reply = Some verdicts } ∷ targets
+    else target ∷ with_reply targets server verdicts
 
 abbrev pub after_reply : Round → ServerId → List Verdict → Round
-after_reply round server verdicts = record round { targets = with_reply round.targets server verdicts }
+after_reply round server verdicts =
+    record round { targets = with_reply round.targets server verdicts }
 
 -- ---- what the replies are judged by
 
@@ -61,7 +72,8 @@ newest_in (Some reading) admin = option_map_or version_number (slice_get reading
 
 -- the version that an administrator's proofs are to have: under view consistency the greatest among them, else the master's newest
 abbrev pub target : List Level → Option Reading → List Verdict → AdminId → ℕ
-target levels reading proofs admin = if is_global_at levels admin then newest_in reading admin else greatest admin proofs
+target levels reading proofs admin =
+    if is_global_at levels admin then newest_in reading admin else greatest admin proofs
 
 abbrev pub aim_for : List Level → Option Reading → List Verdict → AdminId → AdminId × Version
 aim_for levels reading proofs admin = (admin, record { 0 = target levels reading proofs admin })
@@ -79,7 +91,8 @@ is_aimed aim verdict = list_any (is_version_of verdict) aim
 
 -- a proof of the server has another version than the target
 abbrev pub is_outdated : List (AdminId × Version) → Target → Bool
-is_outdated aim target = list_any (λ (verdict : Verdict). not (is_aimed aim verdict)) (verdicts_in target)
+is_outdated aim target =
+    list_any (λ (verdict : Verdict). not (is_aimed aim verdict)) (verdicts_in target)
 
 -- ---- the next round
 
@@ -102,16 +115,24 @@ next_target aim target = if is_outdated aim target then new_target target.server
 
 -- a proof of the administrator, whose level is global, is below its target
 abbrev pub is_below : List Level → List Verdict → AdminId × Version → Bool
-is_below levels proofs aimed = is_global_at levels aimed.0 && nat_lt (least aimed.0 proofs) aimed.1.0
+is_below levels proofs aimed =
+    is_global_at levels aimed.0 && nat_lt (least aimed.0 proofs) aimed.1.0
 
 abbrev pub met_at : Reading → List Verdict → AdminId × Version → Met
 met_at reading proofs aimed =
-    record { admin = aimed.0; used = record { 0 = least aimed.0 proofs }; newest = aimed.1; place = reading.place }
+    record {
+      admin = aimed.0;
+      used = record { 0 = least aimed.0 proofs };
+      newest = aimed.1;
+      place = reading.place;
+    }
 
 -- what the round met at the master: the least administrator that is below its target, with the least version used of it
-abbrev pub met_by : List Level → Option Reading → List Verdict → List (AdminId × Version) → Option Met
+abbrev pub met_by : List Level → Option Reading → List Verdict → List (AdminId × Version)
+    → Option Met
 met_by levels None proofs aim = None
-met_by levels (Some reading) proofs aim = option_map (met_at reading proofs) (find (is_below levels proofs) aim)
+met_by levels (Some reading) proofs aim =
+    option_map (met_at reading proofs) (find (is_below levels proofs) aim)
 
 -- ---- the judgement
 
@@ -136,12 +157,14 @@ final_answer (Some verdict) = False verdict
 
 -- a server is out of date
 abbrev pub update_answer : Round → List (AdminId × Version) → Option Met → Judged
-update_answer round aim met = if is_spent round met then Spent (mets_in round met) else Update (wants_of aim round.targets)
+update_answer round aim met =
+    if is_spent round met then Spent (mets_in round met) else Update (wants_of aim round.targets)
 
 abbrev pub judge : Round → Option Reading → Judged
 judge round reading =
     if is_waiting round reading then Waiting
-    else if list_any (is_outdated (aim_in round reading)) round.targets then update_answer round (aim_in round reading) (met_in round reading)
+    else if list_any (is_outdated (aim_in round reading)) round.targets
+    then update_answer round (aim_in round reading) (met_in round reading)
     else final_answer (least_false (proofs_in round.targets))
 
 -- the number of the next round; the greatest stays
@@ -151,7 +174,13 @@ next_number round = min (round.number + 1) (2 ^ 32 - 1)
 -- the next round: the replies of the servers that are out of date are awaited, and the others stay
 abbrev pub next_round : Round → List (AdminId × Version) → List Wanted → List Met → Round
 next_round round aim named mets =
-    record round { number = next_number round; targets = map (next_target aim) round.targets; aim = aim; named = named; mets = mets }
+    record round {
+      number = next_number round;
+      targets = map (next_target aim) round.targets;
+      aim = aim;
+      named = named;
+      mets = mets;
+    }
 
 -- the round after an answer: an update begins the next round, and the other answers change nothing
 abbrev pub after : Round → List (AdminId × Version) → Option Met → Judged → Round
@@ -160,4 +189,5 @@ after round aim met _ = round
 
 -- the round after it was judged
 abbrev pub after_judgement : Round → Option Reading → Round
-after_judgement round reading = after round (aim_in round reading) (met_in round reading) (judge round reading)
+after_judgement round reading =
+    after round (aim_in round reading) (met_in round reading) (judge round reading)

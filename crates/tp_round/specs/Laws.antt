@@ -22,7 +22,10 @@ target_in round reading admin = target round.levels reading (proofs_in round.tar
 
 -- a proof of the server has another version than its administrator's target
 abbrev pub is_behind : Round → Option Reading → Target → Bool
-is_behind round reading server = list_any (λ (verdict : Verdict). not (target_in round reading verdict.admin == verdict.version.0)) (verdicts_in server)
+is_behind round reading server =
+    list_any
+    (λ (verdict : Verdict). not (target_in round reading verdict.admin == verdict.version.0))
+    (verdicts_in server)
 
 abbrev pub is_for : AdminId → AdminId × Version → Bool
 is_for admin one = same_admin one.0 admin
@@ -35,21 +38,26 @@ abbrev pub wanted_of : List (AdminId × Version) → AdminId → Option ℕ
 wanted_of want admin = option_map version_in (find (is_for admin) want)
 
 -- the server is named, and of it the target of each administrator is wanted of which it has a proof, and of no other
-pub record IsNamed (round : Round) (reading : Option Reading) (server : Target) (named : Wanted) : Type 0 where
+pub record IsNamed (round : Round) (reading : Option Reading) (server : Target) (named : Wanted)
+    : Type 0 where
   pub same : named.server ≡ server.server
   pub targets : (admin : AdminId) → wanted_of named.want admin
-      ≡ (if list_any (is_of admin) (verdicts_in server) then Some (target_in round reading admin) else None)
+      ≡ (if list_any (is_of admin) (verdicts_in server) then Some (target_in round reading admin)
+      else None)
 
 -- these servers are named one by one, in their order, and no other
 abbrev pub AreNamed : Round → Option Reading → List Target → List Wanted → Type 0
 AreNamed round reading [] [] = Unit {0}
 AreNamed round reading [] (one ∷ named) = ⊥
 AreNamed round reading (server ∷ servers) [] = ⊥
-AreNamed round reading (server ∷ servers) (one ∷ named) = IsNamed round reading server one × AreNamed round reading servers named
+AreNamed round reading (server ∷ servers) (one ∷ named) =
+    IsNamed round reading server one × AreNamed round reading servers named
 
 -- an update names exactly the servers of which a proof has another version than the target
 abbrev pub UpdateNamesTheOutdated : Type 0
-UpdateNamesTheOutdated = (round : Round) (reading : Option Reading) (named : List Wanted) → judge round reading ≡ Update named
+UpdateNamesTheOutdated =
+    (round : Round) (reading : Option Reading) (named : List Wanted)
+    → judge round reading ≡ Update named
     → AreNamed round reading (filter (is_behind round reading) round.targets) named
 
 -- ---- what an agreed round shows
@@ -65,14 +73,17 @@ pub record AllAgree (round : Round) (reading : Option Reading) : Type 0 where
 
 -- where the answer is that all is true, it is
 abbrev pub AgreesWhereAllTrue : Type 0
-AgreesWhereAllTrue = (round : Round) (reading : Option Reading) → judge round reading ≡ AllTrue → AllAgree round reading
+AgreesWhereAllTrue =
+    (round : Round) (reading : Option Reading) → judge round reading ≡ AllTrue
+    → AllAgree round reading
 
 -- a false proof of a smaller query
 abbrev pub is_sooner : Verdict → Verdict → Bool
 is_sooner verdict other = is_none other.rule && nat_lt other.query verdict.query
 
 -- every proof has its administrator's target, and the verdict is one of the proofs, is false, and no false one has a smaller query
-pub record IsLeastFalse (round : Round) (reading : Option Reading) (verdict : Verdict) : Type 0 where
+pub record IsLeastFalse (round : Round) (reading : Option Reading) (verdict : Verdict)
+    : Type 0 where
   pub current : list_any (is_behind round reading) round.targets ≡ false
   pub place : ℕ
   pub there : slice_get (proofs_in round.targets) place ≡ Some verdict
@@ -81,17 +92,23 @@ pub record IsLeastFalse (round : Round) (reading : Option Reading) (verdict : Ve
 
 -- where the answer is a false proof, it is the false proof of least query
 abbrev pub FalseIsLeast : Type 0
-FalseIsLeast = (round : Round) (reading : Option Reading) (verdict : Verdict) → judge round reading ≡ False verdict → IsLeastFalse round reading verdict
+FalseIsLeast =
+    (round : Round) (reading : Option Reading) (verdict : Verdict)
+    → judge round reading ≡ False verdict → IsLeastFalse round reading verdict
 
 -- ---- that rounds are answered
 
 -- only where a reply or the reading is missing is the answer to wait
 abbrev pub WaitsForReplies : Type 0
-WaitsForReplies = (round : Round) (reading : Option Reading) → judge round reading ≡ Waiting → is_waiting round reading ≡ true
+WaitsForReplies =
+    (round : Round) (reading : Option Reading) → judge round reading ≡ Waiting
+    → is_waiting round reading ≡ true
 
 -- where nothing is missing, every proof has its administrator's target and is true, the answer is that all is true
 abbrev pub AllTrueWhereAgreed : Type 0
-AllTrueWhereAgreed = (round : Round) (reading : Option Reading) → is_waiting round reading ≡ false → list_any (is_behind round reading) round.targets ≡ false
+AllTrueWhereAgreed =
+    (round : Round) (reading : Option Reading) → is_waiting round reading ≡ false
+    → list_any (is_behind round reading) round.targets ≡ false
     → list_all is_true (proofs_in round.targets) ≡ true → judge round reading ≡ AllTrue
 
 -- ---- without global consistency
@@ -101,12 +118,17 @@ is_of_global levels verdict = is_global_at levels verdict.admin
 
 -- where nothing is missing and some server is out of date, the answer is an update; under global consistency the rounds may be spent
 abbrev pub UpdatesTheOutdated : Type 0
-UpdatesTheOutdated = (round : Round) (reading : Option Reading) → is_waiting round reading ≡ false → list_any (is_behind round reading) round.targets ≡ true
-    → list_any (is_of_global round.levels) (proofs_in round.targets) ≡ false → (named : List Wanted) × (judge round reading ≡ Update named)
+UpdatesTheOutdated =
+    (round : Round) (reading : Option Reading) → is_waiting round reading ≡ false
+    → list_any (is_behind round reading) round.targets ≡ true
+    → list_any (is_of_global round.levels) (proofs_in round.targets) ≡ false
+    → (named : List Wanted) × (judge round reading ≡ Update named)
 
 -- where no proof is of an administrator under global consistency, the rounds are never spent
 abbrev pub NeverSpentUnderView : Type 0
-NeverSpentUnderView = (round : Round) (reading : Option Reading) (mets : List Met) → list_any (is_of_global round.levels) (proofs_in round.targets) ≡ false
+NeverSpentUnderView =
+    (round : Round) (reading : Option Reading) (mets : List Met)
+    → list_any (is_of_global round.levels) (proofs_in round.targets) ≡ false
     → judge round reading ≡ Spent mets → ⊥
 
 -- what is done with a round
@@ -124,27 +146,37 @@ after_calls (call ∷ calls) round = after_calls calls (after_call call round)
 
 -- the last update named for the server the verdict's administrator, with the verdict's version
 abbrev pub was_named : Round → ServerId → Verdict → Bool
-was_named round server verdict = list_any (λ (one : Wanted). if same_server one.server server then is_aimed one.want verdict else false) round.named
+was_named round server verdict =
+    list_any
+    (λ (one : Wanted). if same_server one.server server then is_aimed one.want verdict else false)
+    round.named
 
 -- a reply that is kept after an update has the versions that were named for its server, and is of no other administrator
 abbrev pub is_as_named : Call → Round → Bool
 is_as_named (Replies server verdicts) round =
-    if round.number == 1 then true else if is_awaited round.targets server then list_all (was_named round server) verdicts else true
+    if round.number == 1 then true
+    else if is_awaited round.targets server then list_all (was_named round server) verdicts
+    else true
 is_as_named (Judges reading) round = true
 
 abbrev pub AreAsNamed : List Call → Round → Type 0
 AreAsNamed [] round = Unit {0}
-AreAsNamed (call ∷ calls) round = (is_as_named call round ≡ true) × AreAsNamed calls (after_call call round)
+AreAsNamed (call ∷ calls) round =
+    (is_as_named call round ≡ true) × AreAsNamed calls (after_call call round)
 
 -- the round's number is at most 2, and it is updated only while it is 1
 pub record HasTwoRounds (round : Round) : Type 0 where
   pub few : round.number ≤ 2
-  pub first : (reading : Option Reading) (named : List Wanted) → judge round reading ≡ Update named → round.number ≡ 1
+  pub first : (reading : Option Reading) (named : List Wanted) → judge round reading ≡ Update named
+      → round.number ≡ 1
 
 -- where every administrator is under view consistency and replies are as they were named, there are at most two rounds
 abbrev pub TwoRoundsUnderView : Type 0
-TwoRoundsUnderView = (servers : List ServerId) (limit : ℕ) (levels : List Level) (reads : Bool) → list_any is_global levels ≡ false
-    → (calls : List Call) → AreAsNamed calls (first_round servers limit levels reads) → HasTwoRounds (after_calls calls (first_round servers limit levels reads))
+TwoRoundsUnderView =
+    (servers : List ServerId) (limit : ℕ) (levels : List Level) (reads : Bool)
+    → list_any is_global levels ≡ false
+    → (calls : List Call) → AreAsNamed calls (first_round servers limit levels reads)
+    → HasTwoRounds (after_calls calls (first_round servers limit levels reads))
 
 -- ---- judging again
 
@@ -154,12 +186,15 @@ is_update _ = false
 
 -- a round that is judged again with the same reading answers the same, where the first answer was no update
 abbrev pub JudgesTheSameAgain : Type 0
-JudgesTheSameAgain = (round : Round) (reading : Option Reading) → is_update (judge round reading) ≡ false
+JudgesTheSameAgain =
+    (round : Round) (reading : Option Reading) → is_update (judge round reading) ≡ false
     → judge (after_judgement round reading) reading ≡ judge round reading
 
 -- after an update replies are missing, whatever is read
 abbrev pub WaitsAfterUpdate : Type 0
-WaitsAfterUpdate = (round : Round) (reading again : Option Reading) (named : List Wanted) → judge round reading ≡ Update named
+WaitsAfterUpdate =
+    (round : Round) (reading again : Option Reading) (named : List Wanted)
+    → judge round reading ≡ Update named
     → judge (after_judgement round reading) again ≡ Waiting
 
 -- ---- proofs by query
@@ -171,7 +206,9 @@ KeepsEachQuery = (proofs : List Verdict) (query : ℕ) → 1 ≤ query → query
 
 -- there is one proof of each query up to the number, and none of another
 abbrev pub HasOneForEach : ℕ → List Verdict → Type 0
-HasOneForEach count proofs = (query : ℕ) → 1 ≤ query → query ≤ 16 → length (filter (is_at_query query) proofs) ≡ (if nat_le query count then 1 else 0)
+HasOneForEach count proofs =
+    (query : ℕ) → 1 ≤ query → query ≤ 16
+    → length (filter (is_at_query query) proofs) ≡ (if nat_le query count then 1 else 0)
 
 abbrev pub query_of : Verdict → ℕ
 query_of verdict = verdict.query

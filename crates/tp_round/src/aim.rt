@@ -40,7 +40,8 @@ fn target(
     targets: &[Target],
     admin: AdminId,
 ) -> Version
-    ensures { result.0 ≡ rule.target levels.now (option_copied reading.entry) (replies.proofs_in targets.now) admin }
+    ensures { result.0 ≡ rule.target levels.now (option_copied reading.entry)
+        (replies.proofs_in targets.now) admin }
 {
     if is_global_at(levels, admin) {
         Version(newest_in(reading, admin))
@@ -56,7 +57,9 @@ pub fn aim_of(
     reading: Option<&Reading>,
     targets: &[Target],
 ) -> Result<List<(AdminId, Version)>, NoMemory>
-    ensures { IfOk result (λ made. made ≡ rule.aim_of levels.now (option_copied reading.entry) (replies.proofs_in targets.now)) }
+    ensures { IfOk result (λ made.
+        made ≡ rule.aim_of levels.now (option_copied reading.entry)
+        (replies.proofs_in targets.now)) }
 {
     let admins = admins_of(alloc, targets)?;
     let mut made = List::new(alloc);
@@ -194,7 +197,8 @@ pub fn met_by(
     targets: &[Target],
     aim: &[(AdminId, Version)],
 ) -> Option<Met>
-    ensures { result ≡ rule.met_by levels.now (option_copied reading.entry) (replies.proofs_in targets.now) aim.now }
+    ensures { result ≡ rule.met_by levels.now (option_copied reading.entry)
+        (replies.proofs_in targets.now) aim.now }
 {
     let reading = reading?;
     let aimed = first_below(levels, targets, aim)?;

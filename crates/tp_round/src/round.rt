@@ -109,7 +109,8 @@ fn is_missing(targets: &[Target]) -> bool
 }
 
 fn agreed(alloc: Global, targets: &[Target]) -> Result<Judged, NoMemory>
-    ensures { IfOk result (λ made. made ≡ rule.final_answer (replies.least_false (replies.proofs_in targets.now))) }
+    ensures { IfOk result (λ made.
+        made ≡ rule.final_answer (replies.least_false (replies.proofs_in targets.now))) }
 {
     match least_false(targets) {
         None => Ok(Judged::AllTrue),
@@ -202,7 +203,8 @@ impl Round {
     }
 
     fn met_in(&self, reading: Option<&Reading>, aim: &[(AdminId, Version)]) -> Option<Met>
-        ensures { result ≡ rule.met_by self.now.levels (option_copied reading.entry) (replies.proofs_in self.now.targets) aim.now }
+        ensures { result ≡ rule.met_by self.now.levels (option_copied reading.entry)
+            (replies.proofs_in self.now.targets) aim.now }
     {
         met_by(
             self.levels.as_slice(),
@@ -218,8 +220,10 @@ impl Round {
         aim: List<(AdminId, Version)>,
         mets: List<Met>,
     ) -> Result<Judged, NoMemory>
-        ensures answer { IfOk result (λ made. made ≡ judged.Update (rule.wants_of aim self.old.targets)) }
-        ensures next { OnOk result (self.new ≡ rule.next_round self.old aim (rule.wants_of aim self.old.targets) mets) }
+        ensures answer { IfOk result (λ made.
+            made ≡ judged.Update (rule.wants_of aim self.old.targets)) }
+        ensures next { OnOk result
+            (self.new ≡ rule.next_round self.old aim (rule.wants_of aim self.old.targets) mets) }
         ensures memory { OnErr result (self.new ≡ self.old) }
     {
         let named = named_by(alloc, aim.as_slice(), self.targets.as_slice())?;
@@ -239,7 +243,8 @@ impl Round {
         met: Option<Met>,
     ) -> Result<Judged, NoMemory>
         ensures answer { IfOk result (λ made. made ≡ rule.update_answer self.old aim met) }
-        ensures next { OnOk result (self.new ≡ rule.after self.old aim met (rule.update_answer self.old aim met)) }
+        ensures next { OnOk result
+            (self.new ≡ rule.after self.old aim met (rule.update_answer self.old aim met)) }
         ensures memory { OnErr result (self.new ≡ self.old) }
     {
         let mets = with_met(alloc, &self.mets, met)?;
@@ -252,8 +257,10 @@ impl Round {
     /// Judges the replies, with the master's reading where the round reads it. After an update the next round has begun, in which
     /// the replies of the named servers are awaited; after another answer, or where memory is refused, the round is as before.
     pub fn judge(&mut self, alloc: Global, reading: Option<&Reading>) -> Result<Judged, NoMemory>
-        ensures answer { IfOk result (λ made. made ≡ rule.judge self.old (option_copied reading.entry)) }
-        ensures next { OnOk result (self.new ≡ rule.after_judgement self.old (option_copied reading.entry)) }
+        ensures answer { IfOk result (λ made.
+            made ≡ rule.judge self.old (option_copied reading.entry)) }
+        ensures next { OnOk result
+            (self.new ≡ rule.after_judgement self.old (option_copied reading.entry)) }
         ensures memory { OnErr result (self.new ≡ self.old) }
     {
         if self.is_waiting(reading) {
@@ -277,7 +284,8 @@ impl Round {
 
     /// The proofs of the kept replies, in order of their queries; those of one query stay in the order of the servers.
     pub fn proofs(&self, alloc: Global) -> Result<List<Verdict>, NoMemory>
-        ensures { IfOk result (λ made. made ≡ replies.by_query (replies.proofs_in self.now.targets)) }
+        ensures { IfOk result (λ made.
+            made ≡ replies.by_query (replies.proofs_in self.now.targets)) }
     {
         proofs_of(alloc, self.targets.as_slice())
     }

@@ -35,7 +35,8 @@ value_at path value = if is_text value then word_at path value else number_at pa
 -- the credential of this number, after those of these names; it holds from 0 to 10^12 where nothing else is told
 unfoldable pub cred_at : Names → ℕ → Data → Result Credential Fault
 cred_at names at d = do
-  fields ← object_at (Member Credentials at) (Name ∷ Issuer ∷ Subject ∷ Attr ∷ Value ∷ []) (From ∷ Until ∷ []) d
+  fields ← object_at (Member Credentials at) (Name ∷ Issuer ∷ Subject ∷ Attr ∷ Value ∷ [])
+      (From ∷ Until ∷ []) d
   name ← new_name_at (Field Credentials at Name) names (field Name fields)
   issuer ← name_at (Field Credentials at Issuer) (field Issuer fields)
   subject ← name_at (Field Credentials at Subject) (field Subject fields)
@@ -43,7 +44,15 @@ cred_at names at d = do
   value ← value_at (Field Credentials at Value) (field Value fields)
   from ← count_or (Field Credentials at From) 0 clock_limit 0 (field From fields)
   until ← count_or (Field Credentials at Until) 0 clock_limit clock_limit (field Until fields)
-  Ok (record { name = name; issuer = issuer; subject = subject; attr = attr; value = value; from = from; until = until })
+  Ok (record {
+    name = name;
+    issuer = issuer;
+    subject = subject;
+    attr = attr;
+    value = value;
+    from = from;
+    until = until;
+  })
 
 abbrev pub cred_name : Credential → List ℕ
 cred_name cred = cred.name

@@ -25,13 +25,15 @@ lesser name None = Some name
 lesser name (Some other) = if is_lt (slice_cmp nat_cmp other name) then Some other else Some name
 
 abbrev pub below_or : Admin → Version → Option (List ℕ) → Option (List ℕ)
-below_or admin version found = if nat_lt version.0 admin.opening.0 then lesser admin.name found else found
+below_or admin version found =
+    if nat_lt version.0 admin.opening.0 then lesser admin.name found else found
 
 -- the first in byte order of the administrators of whom less than the opening version is known
 abbrev pub known_below : List Admin → List Version → Option (List ℕ)
 known_below [] versions = None
 known_below (admin ∷ admins) [] = None
-known_below (admin ∷ admins) (version ∷ versions) = below_or admin version (known_below admins versions)
+known_below (admin ∷ admins) (version ∷ versions) =
+    below_or admin version (known_below admins versions)
 
 abbrev pub known_site : List ℕ → Site
 known_site name = Known 0 name
@@ -47,7 +49,8 @@ servers_form admins (server ∷ other ∷ servers) = Some (At (Top Servers))
 -- another scheme than deferred; another level than view
 abbrev pub txn_form : Transaction → Option Site
 txn_form txn =
-    if is_deferred txn.scheme then (if is_view txn.level then None else Some (At (Field Transactions 0 Level)))
+    if is_deferred txn.scheme
+    then (if is_view txn.level then None else Some (At (Field Transactions 0 Level)))
     else Some (At (Field Transactions 0 Scheme))
 
 -- more than one transaction
@@ -74,7 +77,8 @@ delivered_after delivered _ = delivered
 abbrev pub steps_form : List ℕ → ℕ → List Step → Option ℕ
 steps_form delivered at [] = None
 steps_form delivered at (step ∷ steps) =
-    if is_step_form delivered step then Some at else steps_form (delivered_after delivered step) (at + 1) steps
+    if is_step_form delivered step then Some at
+    else steps_form (delivered_after delivered step) (at + 1) steps
 
 abbrev pub step_site : ℕ → Site
 step_site at = At (Member Steps at)

@@ -49,13 +49,16 @@ below path.Whole = []
 below (path.Top top) = of_key top
 below (path.Member top index) = of_key top ++ at_index index
 below (path.Field top index key) = of_key top ++ at_index index ++ of_key key
-below (path.Entry top index key inner) = of_key top ++ at_index index ++ of_key key ++ at_index inner
-below (path.Inner top index key inner last) = of_key top ++ at_index index ++ of_key key ++ at_index inner ++ of_key last
+below (path.Entry top index key inner) =
+    of_key top ++ at_index index ++ of_key key ++ at_index inner
+below (path.Inner top index key inner last) =
+    of_key top ++ at_index index ++ of_key key ++ at_index inner ++ of_key last
 below (path.Line top index line) = of_key top ++ at_index index ++ at_index line
 
 abbrev pub below_site : Site → List ℕ
 below_site (site.At path) = below path
-below_site (site.Known server admin) = of_key key.Servers ++ at_index server ++ of_key key.Knows ++ codes "." ++ admin
+below_site (site.Known server admin) =
+    of_key key.Servers ++ at_index server ++ of_key key.Knows ++ codes "." ++ admin
 
 abbrev pub site_text : Site → List ℕ
 site_text site = codes "$" ++ below_site site

@@ -26,14 +26,17 @@ is_register_digit byte = is_from_to 49 57 byte
 unfoldable pub register_of : List ℕ → Option ℕ
 register_of [] = None
 register_of (letter ∷ []) = None
-register_of (letter ∷ digit ∷ []) = if (letter == 114) && is_register_digit digit then Some (digit - 48) else None
+register_of (letter ∷ digit ∷ []) =
+    if (letter == 114) && is_register_digit digit then Some (digit - 48) else None
 register_of (letter ∷ digit ∷ other ∷ bytes) = None
 
 unfoldable pub constant_term : Bool → List ℕ → Option Term
-constant_term negated digits = option_map (λ n. record { minus = negated; operand = Constant (pos n) }) (number_of digits)
+constant_term negated digits =
+    option_map (λ n. record { minus = negated; operand = Constant (pos n) }) (number_of digits)
 
 abbrev pub term_at : Bool → List ℕ → Option ℕ → Option Term
-term_at negated word (Some register) = Some (record { minus = negated; operand = Register register })
+term_at negated word (Some register) =
+    Some (record { minus = negated; operand = Register register })
 term_at negated word None = constant_term negated word
 
 -- a register or a number
@@ -43,11 +46,14 @@ term_of negated word = term_at negated word (register_of word)
 -- the first term: a number may have `-` directly before it
 unfoldable pub first_term : List ℕ → Option Term
 first_term [] = None
-first_term (byte ∷ bytes) = if byte == 45 then constant_term true bytes else term_of false (byte ∷ bytes)
+first_term (byte ∷ bytes) =
+    if byte == 45 then constant_term true bytes else term_of false (byte ∷ bytes)
 
 -- a sign: `-` takes the next term away
 unfoldable pub sign_of : List ℕ → Option Bool
-sign_of word = if is_same word (codes "+") then Some false else (if is_same word (codes "-") then Some true else None)
+sign_of word =
+    if is_same word (codes "+") then Some false
+    else (if is_same word (codes "-") then Some true else None)
 
 -- a sign, and the term behind it
 unfoldable pub signed_term : List ℕ → List ℕ → Option Term
@@ -57,7 +63,8 @@ signed_term sign word = option_and_then (λ negated. term_of negated word) (sign
 abbrev pub terms_after : List Term → List (List ℕ) → Option (List Term)
 terms_after made [] = Some made
 terms_after made (sign ∷ []) = None
-terms_after made (sign ∷ word ∷ words) = option_and_then (λ term. terms_after (made ++ term ∷ []) words) (signed_term sign word)
+terms_after made (sign ∷ word ∷ words) =
+    option_and_then (λ term. terms_after (made ++ term ∷ []) words) (signed_term sign word)
 
 abbrev pub sum_of : List (List ℕ) → Option (List Term)
 sum_of [] = None
@@ -74,17 +81,21 @@ unfoldable pub read_of : List (List ℕ) → Option Asked
 read_of [] = None
 read_of (name ∷ []) = None
 read_of (name ∷ into ∷ words) =
-    if is_name name && is_same into (codes "into") then option_map (reads name) (option_and_then register_of (only words)) else None
+    if is_name name && is_same into (codes "into")
+    then option_map (reads name) (option_and_then register_of (only words))
+    else None
 
 -- `ITEM := TERM` and further terms
 unfoldable pub write_of : List (List ℕ) → Option Asked
 write_of (name ∷ sign ∷ words) =
-    if is_name name && is_same sign (codes ":=") then option_map (writes name) (sum_of words) else None
+    if is_name name && is_same sign (codes ":=") then option_map (writes name) (sum_of words)
+    else None
 write_of _ = None
 
 abbrev pub asked_by : List ℕ → List (List ℕ) → Option Asked
 asked_by verb words =
-    if is_same verb (codes "read") then read_of words else (if is_same verb (codes "write") then write_of words else None)
+    if is_same verb (codes "read") then read_of words
+    else (if is_same verb (codes "write") then write_of words else None)
 
 abbrev pub asked_in : List (List ℕ) → Option Asked
 asked_in [] = None
@@ -112,7 +123,8 @@ write_to path items name expr = do
 
 abbrev pub query_for : Path → Names → Asked → Result Query Fault
 query_for path items (reads name register) = read_from path items name register
-query_for path items (writes name expr) = if is_short expr then write_to path items name expr else Err (range path)
+query_for path items (writes name expr) =
+    if is_short expr then write_to path items name expr else Err (range path)
 
 -- a query: how it is spelled, its counts, and the item that it names
 unfoldable pub query_at : Path → Names → Data → Result Query Fault

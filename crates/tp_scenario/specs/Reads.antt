@@ -83,12 +83,16 @@ pub record IsText (bytes : List ℕ) (scenario : Scenario) : Type 0 where
 
 -- no bytes have two answers
 abbrev pub HasOneAnswer : Type 0
-HasOneAnswer = (bytes : List ℕ) (one other : Result Scenario ScenarioError) → Says bytes one → Says bytes other → one ≡ other
+HasOneAnswer =
+    (bytes : List ℕ) (one other : Result Scenario ScenarioError) → Says bytes one → Says bytes other
+    → one ≡ other
 
 -- no bytes are a text of two scenarios
 abbrev pub IsTextOfOne : Type 0
-IsTextOfOne = (bytes : List ℕ) (one other : Scenario) → IsText bytes one → IsText bytes other → one ≡ other
+IsTextOfOne =
+    (bytes : List ℕ) (one other : Scenario) → IsText bytes one → IsText bytes other → one ≡ other
 
 -- what the walk gives keeps every rule of a scenario
 abbrev pub GivesValid : Type 0
-GivesValid = (value : Data) (scenario : Scenario) → walk_of value ≡ Ok scenario → is_valid scenario ≡ true
+GivesValid =
+    (value : Data) (scenario : Scenario) → walk_of value ≡ Ok scenario → is_valid scenario ≡ true

@@ -27,19 +27,23 @@ use Rattle.tp_scenario.specs.Values.{array_at, each, items_at, items_or, place_a
 
 -- the transaction is submitted by one of these scripts, or by this beginning of another
 abbrev pub is_submitted : List (List TxnId) → List TxnId → TxnId → Bool
-is_submitted earlier made txn = list_any (same_txn txn) made || list_any (list_any (same_txn txn)) earlier
+is_submitted earlier made txn =
+    list_any (same_txn txn) made || list_any (list_any (same_txn txn)) earlier
 
 abbrev pub submission_or_range : Path → List (List TxnId) → List TxnId → TxnId → Result TxnId Fault
-submission_or_range path earlier made txn = if is_submitted earlier made txn then Err (range path) else Ok txn
+submission_or_range path earlier made txn =
+    if is_submitted earlier made txn then Err (range path) else Ok txn
 
 -- a transaction that no script has submitted so far
-unfoldable pub submission_at : Path → Names → List (List TxnId) → List TxnId → Data → Result TxnId Fault
+unfoldable pub submission_at : Path → Names → List (List TxnId) → List TxnId → Data
+    → Result TxnId Fault
 submission_at path txns earlier made d = do
   place ← place_at path txns (Some d)
   submission_or_range path earlier made (record { 0 = place })
 
 abbrev pub submission_in : Names → List (List TxnId) → List TxnId → Data → Result TxnId Fault
-submission_in txns earlier made d = submission_at (Line Clients (length earlier) (length made)) txns earlier made d
+submission_in txns earlier made d =
+    submission_at (Line Clients (length earlier) (length made)) txns earlier made d
 
 unfoldable pub client_at : Names → List (List TxnId) → Data → Result (List TxnId) Fault
 client_at txns earlier d = do
@@ -63,7 +67,8 @@ is_publishing (cut name mail calls fill) = false
 
 -- a step of another kind is out of range, whatever it names
 abbrev pub step_or_range : Bool → Path → Declared → Command → Result Step Fault
-step_or_range allowed path names command = if allowed then step_for path names command else Err (range path)
+step_or_range allowed path names command =
+    if allowed then step_for path names command else Err (range path)
 
 -- one version less is left of it, if one was
 abbrev pub fewer_or_range : Path → List ℕ → ℕ → ℕ → Result (List ℕ) Fault
@@ -72,7 +77,8 @@ fewer_or_range path left place (suc count) = Ok (slice_set left place count)
 
 -- the versions that are left after a step
 abbrev pub left_after : Path → List ℕ → Step → Result (List ℕ) Fault
-left_after path left (step.Publish admin) = fewer_or_range path left admin.0 (option_map_or (λ count. count) (slice_get left admin.0) 0)
+left_after path left (step.Publish admin) =
+    fewer_or_range path left admin.0 (option_map_or (λ count. count) (slice_get left admin.0) 0)
 left_after path left _ = Ok left
 
 -- the next step of a publisher
@@ -84,12 +90,14 @@ publication_at path names state d = do
   Ok (record { script = state.script ++ made ∷ []; left = left })
 
 abbrev pub publication_in : Declared → ℕ → Published → Data → Result Published Fault
-publication_in names at state d = publication_at (Line Publishers at (length state.script)) names state d
+publication_in names at state d =
+    publication_at (Line Publishers at (length state.script)) names state d
 
 unfoldable pub publisher_at : Declared → Publishing → Data → Result Publishing Fault
 publisher_at names state d = do
   steps ← array_at (Member Publishers (length state.scripts)) (Some d)
-  published ← through (publication_in names (length state.scripts)) (record { script = []; left = state.left }) steps
+  published ← through (publication_in names (length state.scripts))
+      (record { script = []; left = state.left }) steps
   Ok (record { scripts = state.scripts ++ published.script ∷ []; left = published.left })
 
 -- how many versions of an administrator come after the opening one

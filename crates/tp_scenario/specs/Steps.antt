@@ -77,7 +77,8 @@ cut_with_fill name mail calls (Some fill) = option_map (λ c. cut name mail c fi
 unfoldable pub calls_of : List ℕ → ℕ → List (List ℕ) → Option Command
 calls_of name mail [] = None
 calls_of name mail (key ∷ []) = None
-calls_of name mail (key ∷ calls ∷ words) = if is_same key (codes "at") then cut_with_fill name mail calls (fill_of words) else None
+calls_of name mail (key ∷ calls ∷ words) =
+    if is_same key (codes "at") then cut_with_fill name mail calls (fill_of words) else None
 
 -- `in K at C fill F`
 abbrev pub cut_in_mail : List ℕ → Option ℕ → List (List ℕ) → Option Command
@@ -87,11 +88,13 @@ cut_in_mail name (Some mail) words = calls_of name mail words
 unfoldable pub mail_of : List ℕ → List (List ℕ) → Option Command
 mail_of name [] = None
 mail_of name (key ∷ []) = None
-mail_of name (key ∷ mail ∷ words) = if is_same key (codes "in") then cut_in_mail name (number_of mail) words else None
+mail_of name (key ∷ mail ∷ words) =
+    if is_same key (codes "in") then cut_in_mail name (number_of mail) words else None
 
 -- `ACTOR`, or `ACTOR in K at C fill F`
 abbrev pub crash_by_name : List ℕ → List (List ℕ) → Option Command
-crash_by_name name words = if is_end words then Some (of_name verb.Crash name) else mail_of name words
+crash_by_name name words =
+    if is_end words then Some (of_name verb.Crash name) else mail_of name words
 
 unfoldable pub crash_of : List (List ℕ) → Option Command
 crash_of [] = None
@@ -111,7 +114,9 @@ command_by_count_or (Some verb) other words = option_map (by_number verb) (one_n
 command_by_count_or None other words = command_by_name other words
 
 unfoldable pub command_by : List ℕ → List (List ℕ) → Option Command
-command_by word words = if is_same word (codes "push") then push_of words else command_by_count_or (count_verb word) (name_verb word) words
+command_by word words =
+    if is_same word (codes "push") then push_of words
+    else command_by_count_or (count_verb word) (name_verb word) words
 
 abbrev pub command_in : List (List ℕ) → Option Command
 command_in [] = None
@@ -164,7 +169,8 @@ named_step path names verb.Timer name = do
 
 -- the step of a verb and a number: the clock moves by 1 to 1,000,000
 unfoldable pub counted_step : Path → CountVerb → ℕ → Result Step Fault
-counted_step path counting.Tick number = if is_from_to 1 1000000 number then Ok (step.Tick number) else Err (range path)
+counted_step path counting.Tick number =
+    if is_from_to 1 1000000 number then Ok (step.Tick number) else Err (range path)
 counted_step path counting.Deliver number = Ok (step.Deliver number)
 counted_step path counting.Lose number = Ok (step.Lose number)
 
@@ -184,7 +190,8 @@ cut_step path names name mail calls fill = do
   Ok (step.Crash who (Some (record { mail = mail; calls = calls; fill = fill })))
 
 abbrev pub cut_or_range : Path → Declared → List ℕ → ℕ → ℕ → ℕ → Result Step Fault
-cut_or_range path names name mail calls fill = if is_cut calls fill then cut_step path names name mail calls fill else Err (range path)
+cut_or_range path names name mail calls fill =
+    if is_cut calls fill then cut_step path names name mail calls fill else Err (range path)
 
 -- the step that was spelled: its numbers, and then the names that it uses
 abbrev pub step_for : Path → Declared → Command → Result Step Fault

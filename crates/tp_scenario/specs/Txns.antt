@@ -51,7 +51,8 @@ level_at path (Some d) = level_in_text path (Some d)
 
 -- a credential that is presented, after these
 abbrev pub credential_or_range : Path → List CredId → CredId → Result CredId Fault
-credential_or_range path made cred = if list_any (same_cred cred) made then Err (range path) else Ok cred
+credential_or_range path made cred =
+    if list_any (same_cred cred) made then Err (range path) else Ok cred
 
 unfoldable pub credential_at : Path → Names → List CredId → Data → Result CredId Fault
 credential_at path creds made d = do
@@ -59,7 +60,8 @@ credential_at path creds made d = do
   credential_or_range path made (record { 0 = place })
 
 abbrev pub credential_in : Names → ℕ → List CredId → Data → Result CredId Fault
-credential_in creds at made d = credential_at (Entry Transactions at Credentials (length made)) creds made d
+credential_in creds at made d =
+    credential_at (Entry Transactions at Credentials (length made)) creds made d
 
 -- at most 256, each at most once
 unfoldable pub credentials_at : Names → ℕ → Option Data → Result (List CredId) Fault
@@ -85,7 +87,8 @@ txn_name_at servers txns at value = do
 -- the transaction of this number
 unfoldable pub txn_at : Declared → ℕ → Data → Result Transaction Fault
 txn_at names at d = do
-  fields ← object_at (Member Transactions at) (Name ∷ Subject ∷ Queries ∷ []) (SchemeKey ∷ LevelKey ∷ Rounds ∷ Credentials ∷ []) d
+  fields ← object_at (Member Transactions at) (Name ∷ Subject ∷ Queries ∷ [])
+      (SchemeKey ∷ LevelKey ∷ Rounds ∷ Credentials ∷ []) d
   name ← txn_name_at names.servers names.txns at (field Name fields)
   subject ← name_at (Field Transactions at Subject) (field Subject fields)
   scheme ← scheme_at (Field Transactions at SchemeKey) (field SchemeKey fields)
@@ -93,7 +96,15 @@ txn_at names at d = do
   rounds ← count_or (Field Transactions at Rounds) 1 16 8 (field Rounds fields)
   creds ← credentials_at names.creds at (field Credentials fields)
   queries ← queries_at names.items at (field Queries fields)
-  Ok (record { name = name; subject = subject; scheme = scheme; level = level; rounds = rounds; creds = creds; queries = queries })
+  Ok (record {
+    name = name;
+    subject = subject;
+    scheme = scheme;
+    level = level;
+    rounds = rounds;
+    creds = creds;
+    queries = queries;
+  })
 
 abbrev pub txn_name : Transaction → List ℕ
 txn_name txn = txn.name

@@ -41,7 +41,8 @@ has_only keys (Some members) = have_keys keys members
 -- an object that has no other key than the needed ones and these, and every needed one
 unfoldable pub object_at : Path → List Key → List Key → Data → Result Data Fault
 object_at path needed others d =
-    if has_only (needed ++ others) (as_object d) && list_all (has d) needed then Ok d else Err (shape path)
+    if has_only (needed ++ others) (as_object d) && list_all (has d) needed then Ok d
+    else Err (shape path)
 
 -- ---- values that are there or not
 
@@ -106,7 +107,8 @@ item_count (item d ds) = item_count ds + 1
 
 -- the length is in its range
 unfoldable pub items_or_range : Path → ℕ → ℕ → Items → Result Items Fault
-items_or_range path least most items = if is_from_to least most (item_count items) then Ok items else Err (range path)
+items_or_range path least most items =
+    if is_from_to least most (item_count items) then Ok items else Err (range path)
 
 -- an array
 unfoldable pub array_at : Path → Option Data → Result Items Fault
@@ -127,6 +129,7 @@ through walk state no_items = Ok state
 through walk state (item d ds) = walk state d >>= λ next. through walk next ds
 
 -- the members in order, each walked with those that were made before it
-abbrev pub each : {X : Type 0} → (List X → Data → Result X Fault) → List X → Items → Result (List X) Fault
+abbrev pub each : {X : Type 0} → (List X → Data → Result X Fault) → List X → Items
+    → Result (List X) Fault
 each walk made no_items = Ok made
 each walk made (item d ds) = walk made d >>= λ x. each walk (made ++ x ∷ []) ds

@@ -36,11 +36,13 @@ no_names = record { admins = []; creds = []; servers = []; items = []; txns = []
 
 -- all names
 abbrev pub all_names : List Admin → List Credential → Served → List Transaction → Declared
-all_names admins creds served txns = record (names_before admins creds served) { txns = map txn_name txns }
+all_names admins creds served txns =
+    record (names_before admins creds served) { txns = map txn_name txns }
 
 unfoldable pub walk_of : Data → Result Scenario Fault
 walk_of d = do
-  fields ← object_at Whole (Admins ∷ Servers ∷ Transactions ∷ []) (Clock ∷ Credentials ∷ Steps ∷ Clients ∷ Publishers ∷ Officers ∷ []) d
+  fields ← object_at Whole (Admins ∷ Servers ∷ Transactions ∷ [])
+      (Clock ∷ Credentials ∷ Steps ∷ Clients ∷ Publishers ∷ Officers ∷ []) d
   admins ← admins_at (field Admins fields)
   clock ← count_or (Top Clock) 0 clock_limit 0 (field Clock fields)
   creds ← creds_at (field Credentials fields)

@@ -27,7 +27,8 @@ with_space ((byte ∷ bytes) ∷ words) = [] ∷ (byte ∷ bytes) ∷ words
 -- the words of a text. Beside a space at an end there stands an empty word, and the empty text has no other
 unfoldable pub words_of : List ℕ → List (List ℕ)
 words_of [] = [] ∷ []
-words_of (byte ∷ bytes) = if is_space byte then with_space (words_of bytes) else with_byte byte (words_of bytes)
+words_of (byte ∷ bytes) =
+    if is_space byte then with_space (words_of bytes) else with_byte byte (words_of bytes)
 
 -- how many bytes stand before the first space
 abbrev pub reach : List ℕ → ℕ

@@ -56,7 +56,8 @@ fn each_policy(alloc: Global, at: usize, values: &[Value]) -> Result<List<Policy
 
 #[tactic(auto, unfolding(crate::specs::Admins::policies_at))]
 fn policies_at(alloc: Global, at: usize, value: Option<&Value>) -> Result<List<Policy>, WalkError>
-    ensures value { Gives result (admins.policies_at at (option_map (λ v. view v.now) value.entry)) }
+    ensures value { Gives result
+        (admins.policies_at at (option_map (λ v. view v.now) value.entry)) }
     ensures few { IfOk result (λ made. length made ≤ 64) }
 {
     let texts = items_at(Path::Field(Key::Admins, at, Key::Policies), 1, 64, value)?;

@@ -188,7 +188,8 @@ fn by_verb<'a>(verb: NameVerb, words: Words<'a>) -> Option<Command<'a>>
 }
 
 fn named_by<'a>(word: &[u8], words: Words<'a>) -> Option<Command<'a>>
-    ensures { option_map command result ≡ steps.command_by_name (steps.name_verb word.now) words.entry }
+    ensures { option_map command result
+        ≡ steps.command_by_name (steps.name_verb word.now) words.entry }
 {
     match name_verb(word) {
         None => None,
@@ -197,14 +198,17 @@ fn named_by<'a>(word: &[u8], words: Words<'a>) -> Option<Command<'a>>
 }
 
 fn counted_by<'a>(verb: CountVerb, words: Words<'a>) -> Option<Command<'a>>
-    ensures { option_map command result ≡ option_map (by_number verb) (steps.one_number words.entry) }
+    ensures { option_map command result
+        ≡ option_map (by_number verb) (steps.one_number words.entry) }
 {
     let number = one_number(words)?;
     Some(Command::ByNumber(verb, number))
 }
 
 fn counted_or<'a>(word: &[u8], words: Words<'a>) -> Option<Command<'a>>
-    ensures { option_map command result ≡ steps.command_by_count_or (steps.count_verb word.now) (steps.name_verb word.now) words.entry }
+    ensures { option_map command result
+        ≡ steps.command_by_count_or (steps.count_verb word.now)
+        (steps.name_verb word.now) words.entry }
 {
     match count_verb(word) {
         Some(verb) => counted_by(verb, words),

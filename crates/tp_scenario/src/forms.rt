@@ -22,7 +22,8 @@ fn is_before(name: &[u8], other: &[u8]) -> bool
 
 /// Of two names that may be there, the one that comes first in byte order.
 fn lesser<'a>(name: &'a Name, found: Option<&'a Name>) -> Option<&'a Name>
-    ensures { option_map (λ n. n.now) result ≡ forms.lesser name.now (option_map (λ n. n.now) found.entry) }
+    ensures { option_map (λ n. n.now) result
+        ≡ forms.lesser name.now (option_map (λ n. n.now) found.entry) }
 {
     match found {
         None => Some(name),
@@ -37,7 +38,8 @@ fn lesser<'a>(name: &'a Name, found: Option<&'a Name>) -> Option<&'a Name>
 }
 
 fn below_or<'a>(admin: &'a Admin, version: Version, found: Option<&'a Name>) -> Option<&'a Name>
-    ensures { option_map (λ n. n.now) result ≡ forms.below_or admin.now version (option_map (λ n. n.now) found.entry) }
+    ensures { option_map (λ n. n.now) result
+        ≡ forms.below_or admin.now version (option_map (λ n. n.now) found.entry) }
 {
     if version.0 < admin.opening.0 {
         lesser(&admin.name, found)
@@ -64,7 +66,8 @@ fn known_form(
     admins: &[Admin],
     server: &ServerDecl,
 ) -> Result<Option<Site>, NoMemory>
-    ensures { IfOk result (λ found. found ≡ option_map forms.known_site (forms.known_below admins.now server.now.knows)) }
+    ensures { IfOk result (λ found.
+        found ≡ option_map forms.known_site (forms.known_below admins.now server.now.knows)) }
 {
     match known_below(admins, server.knows.as_slice()) {
         None => Ok(None),
@@ -171,7 +174,8 @@ fn steps_form(alloc: Global, steps: &[Step]) -> Result<Option<usize>, NoMemory>
 }
 
 fn steps_site(alloc: Global, steps: &[Step]) -> Result<Option<Site>, NoMemory>
-    ensures { IfOk result (λ found. found ≡ option_map forms.step_site (forms.steps_form [] 0 steps.now)) }
+    ensures { IfOk result (λ found.
+        found ≡ option_map forms.step_site (forms.steps_form [] 0 steps.now)) }
 {
     match steps_form(alloc, steps)? {
         None => Ok(None),

@@ -102,7 +102,8 @@ fn not_yet(alloc: Global, site: &Site) -> ScenarioError
 }
 
 fn built(alloc: Global, scenario: Scenario) -> Result<Scenario, ScenarioError>
-    ensures { IsOutOfMemory result ⊎ (result ≡ reads.built_or scenario (forms.first_form scenario)) }
+    ensures { IsOutOfMemory result
+        ⊎ (result ≡ reads.built_or scenario (forms.first_form scenario)) }
 {
     match first_form(alloc, &scenario) {
         Err(NoMemory) => Err(ScenarioError::NoMemory),
@@ -126,7 +127,8 @@ fn scenario_of(alloc: Global, value: &Value) -> Result<Scenario, ScenarioError>
 /// A key that an object has twice counts with its last value.
 pub fn read(alloc: Global, bytes: &[u8]) -> Result<Scenario, ScenarioError>
     ensures answer { IsOutOfMemory result ⊎ Says bytes.now result }
-    ensures only { (answer : Result Scenario ScenarioError) → Says bytes.now answer → IsOutOfMemory result ⊎ (result ≡ answer) }
+    ensures only { (answer : Result Scenario ScenarioError) → Says bytes.now answer
+        → IsOutOfMemory result ⊎ (result ≡ answer) }
     ensures text { IfOk result (λ scenario. IsText bytes.now scenario) }
     ensures valid { IfOk result (λ scenario. is_valid scenario ≡ true) }
     ensures built { IfOk result (λ scenario. is_built scenario ≡ true) }

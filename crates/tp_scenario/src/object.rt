@@ -51,7 +51,8 @@ fn has_key_of(needed: &[Key], others: &[Key], text: &str) -> bool
 }
 
 fn are_keys(needed: &[Key], others: &[Key], members: &Map<String, Value>) -> bool
-    ensures { result ≡ list_all (λ text. values.is_key (needed.now ++ others.now) (string_bytes text)) (keys members.now) }
+    ensures { result ≡ list_all
+        (λ text. values.is_key (needed.now ++ others.now) (string_bytes text)) (keys members.now) }
 {
     members
         .keys()
@@ -59,7 +60,8 @@ fn are_keys(needed: &[Key], others: &[Key], members: &Map<String, Value>) -> boo
 }
 
 fn have_keys(needed: &[Key], others: &[Key], members: &Map<String, Value>) -> bool
-    ensures { result ≡ values.have_keys (needed.now ++ others.now) (members_view members.now.entries) }
+    ensures { result ≡ values.have_keys (needed.now ++ others.now)
+        (members_view members.now.entries) }
 {
     are_keys(needed, others, members)
 }
@@ -81,7 +83,8 @@ pub(crate) fn object_at<'a>(
     others: &[Key],
     value: &'a Value,
 ) -> Result<&'a Value, WalkError>
-    ensures { GivesAs result (λ v. view v.now) (values.object_at path needed.now others.now (view value.now)) }
+    ensures { GivesAs result (λ v. view v.now)
+        (values.object_at path needed.now others.now (view value.now)) }
 {
     if has_only(needed, others, value) && has_all(value, needed) {
         Ok(value)

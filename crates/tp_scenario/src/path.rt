@@ -128,7 +128,9 @@ fn put_index(out: &mut Vec<u8>, index: usize) -> Result<(), NoMemory>
 
 #[tactic(auto, using(std::proofs::Common::append_assoc))]
 fn put_field(out: &mut Vec<u8>, top: Key, index: usize, key: Key) -> Result<(), NoMemory>
-    ensures { OnOk result (out.new.items ≡ out.old.items ++ (paths.of_key top ++ paths.at_index index ++ paths.of_key key)) }
+    ensures { OnOk result
+        (out.new.items
+        ≡ out.old.items ++ (paths.of_key top ++ paths.at_index index ++ paths.of_key key)) }
 {
     put_key(out, top)?;
     put_index(out, index)?;

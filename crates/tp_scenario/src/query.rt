@@ -167,7 +167,8 @@ fn written<'a>(
     item: &'a [u8],
     words: Words<'a>,
 ) -> Result<Option<Asked<'a>>, NoMemory>
-    ensures { IfOk result (λ found. option_map asked found ≡ option_map (writes item.now) (queries.sum_of words.entry)) }
+    ensures { IfOk result (λ found.
+        option_map asked found ≡ option_map (writes item.now) (queries.sum_of words.entry)) }
 {
     match sum_of(alloc, words)? {
         None => Ok(None),
@@ -193,7 +194,8 @@ fn write_of<'a>(alloc: Global, mut words: Words<'a>) -> Result<Option<Asked<'a>>
 }
 
 fn asked_by<'a>(alloc: Global, verb: &[u8], words: Words<'a>) -> Result<Option<Asked<'a>>, NoMemory>
-    ensures { IfOk result (λ found. option_map asked found ≡ queries.asked_by verb.now words.entry) }
+    ensures { IfOk result (λ found.
+        option_map asked found ≡ queries.asked_by verb.now words.entry) }
 {
     if verb == b"read".as_slice() {
         Ok(read_of(words))

@@ -61,7 +61,8 @@ fn submitted_at(
     made: &[TxnId],
     value: &Value,
 ) -> Result<TxnId, WalkError>
-    ensures { Gives result (scripts.submission_at path txns.now earlier.now made.now (view value.now)) }
+    ensures { Gives result
+        (scripts.submission_at path txns.now earlier.now made.now (view value.now)) }
 {
     let txn = TxnId(used_at(path, txns, Some(value))?);
     if is_submitted(earlier, made, txn) {
@@ -77,7 +78,8 @@ fn each_submitted(
     earlier: &[List<TxnId>],
     values: &[Value],
 ) -> Result<List<TxnId>, WalkError>
-    ensures { Gives result (each (scripts.submission_in txns.now earlier.now) [] (items_view values.now)) }
+    ensures { Gives result
+        (each (scripts.submission_in txns.now earlier.now) [] (items_view values.now)) }
 {
     let mut made = List::new(alloc);
     for value in values {
@@ -123,7 +125,8 @@ pub(crate) fn clients_at(
     txns: &Names,
     value: Option<&Value>,
 ) -> Result<List<List<TxnId>>, WalkError>
-    ensures { Gives result (scripts.clients_at txns.now (option_map (λ v. view v.now) value.entry)) }
+    ensures { Gives result
+        (scripts.clients_at txns.now (option_map (λ v. view v.now) value.entry)) }
 {
     let values = items_or(Path::Top(Key::Clients), 16, value)?;
     each_client(alloc, txns, values)
@@ -155,7 +158,8 @@ fn allowed_step(
     names: &Declared,
     command: Command<'_>,
 ) -> Result<Step, WalkError>
-    ensures { Gives result (scripts.step_or_range allowed path names.now (command_view command.entry)) }
+    ensures { Gives result
+        (scripts.step_or_range allowed path names.now (command_view command.entry)) }
 {
     if allowed {
         step_for(path, names, command)
@@ -178,7 +182,8 @@ fn each_official(
     at: usize,
     values: &[Value],
 ) -> Result<List<Step>, WalkError>
-    ensures { Gives result (each (scripts.official_step_in names.now at) [] (items_view values.now)) }
+    ensures { Gives result
+        (each (scripts.official_step_in names.now at) [] (items_view values.now)) }
 {
     let mut made = List::new(alloc);
     for value in values {
@@ -225,7 +230,8 @@ pub(crate) fn officers_at(
     names: &Declared,
     value: Option<&Value>,
 ) -> Result<List<List<Step>>, WalkError>
-    ensures { Gives result (scripts.officers_at names.now (option_map (λ v. view v.now) value.entry)) }
+    ensures { Gives result
+        (scripts.officers_at names.now (option_map (λ v. view v.now) value.entry)) }
 {
     let values = items_or(Path::Top(Key::Officers), 8, value)?;
     each_officer(alloc, names, values)
@@ -233,7 +239,9 @@ pub(crate) fn officers_at(
 
 /// Takes one version of an administrator from those that are left.
 fn take_version(path: Path, left: &mut List<usize>, place: usize) -> Result<(), WalkError>
-    ensures { GivesNew result left.new (scripts.fewer_or_range path left.old place (option_map_or (λ count. count) (slice_get left.old place) 0)) }
+    ensures { GivesNew result left.new
+        (scripts.fewer_or_range path left.old place
+        (option_map_or (λ count. count) (slice_get left.old place) 0)) }
 {
     match left.get(place).copied() {
         None => Err(range_at(path)),
@@ -266,7 +274,8 @@ fn published_at(
     state: &mut Published,
     value: &Value,
 ) -> Result<(), WalkError>
-    ensures { GivesNew result state.new (scripts.publication_at path names.now state.old (view value.now)) }
+    ensures { GivesNew result state.new
+        (scripts.publication_at path names.now state.old (view value.now)) }
 {
     let command = command_at(path, value)?;
     let made = allowed_step(is_publishing(command), path, names, command)?;
@@ -282,7 +291,8 @@ fn published_in(
     state: &mut Published,
     value: &Value,
 ) -> Result<(), WalkError>
-    ensures { GivesNew result state.new (scripts.publication_in names.now at state.old (view value.now)) }
+    ensures { GivesNew result state.new
+        (scripts.publication_in names.now at state.old (view value.now)) }
 {
     let path = Path::Line(Key::Publishers, at, state.script.len());
     published_at(alloc, path, names, state, value)
@@ -295,7 +305,9 @@ fn each_published(
     left: List<usize>,
     values: &[Value],
 ) -> Result<Published, WalkError>
-    ensures { Gives result (through (scripts.publication_in names.now at) (record { script = []; left = left }) (items_view values.now)) }
+    ensures { Gives result
+        (through (scripts.publication_in names.now at) (record { script = []; left = left })
+        (items_view values.now)) }
 {
     let mut state = Published {
         script: List::new(alloc),
@@ -342,7 +354,9 @@ fn each_publisher(
     left: List<usize>,
     values: &[Value],
 ) -> Result<Publishing, WalkError>
-    ensures { Gives result (through (scripts.publisher_at names.now) (record { scripts = []; left = left }) (items_view values.now)) }
+    ensures { Gives result
+        (through (scripts.publisher_at names.now) (record { scripts = []; left = left })
+        (items_view values.now)) }
 {
     let mut state = Publishing {
         scripts: List::new(alloc),
@@ -361,7 +375,8 @@ fn publishing_from(
     admins: &[Admin],
     value: Option<&Value>,
 ) -> Result<Publishing, WalkError>
-    ensures { Gives result (scripts.publishing_from names.now admins.now (option_map (λ v. view v.now) value.entry)) }
+    ensures { Gives result
+        (scripts.publishing_from names.now admins.now (option_map (λ v. view v.now) value.entry)) }
 {
     let values = items_or(Path::Top(Key::Publishers), 8, value)?;
     let left = versions_left(alloc, admins)?;
@@ -376,7 +391,8 @@ pub(crate) fn publishers_at(
     admins: &[Admin],
     value: Option<&Value>,
 ) -> Result<List<List<Step>>, WalkError>
-    ensures { Gives result (scripts.publishers_at names.now admins.now (option_map (λ v. view v.now) value.entry)) }
+    ensures { Gives result
+        (scripts.publishers_at names.now admins.now (option_map (λ v. view v.now) value.entry)) }
 {
     let Publishing { scripts, left: _ } = publishing_from(alloc, names, admins, value)?;
     Ok(scripts)

@@ -107,7 +107,8 @@ fn known_at(
     value: &Value,
 ) -> Result<(), WalkError>
     requires { names.now ≡ map admin_name admins.now }
-    ensures { GivesNew result versions.new (servers.known_at admins.now server versions.old key.now (view value.now)) }
+    ensures { GivesNew result versions.new
+        (servers.known_at admins.now server versions.old key.now (view value.now)) }
 {
     let place = key_at(alloc, names, server, key)?;
     let opening = opening_of(admins, place);
@@ -143,7 +144,9 @@ fn known_from(
     entries: &[(&String, &Value)],
 ) -> Result<List<Version>, WalkError>
     requires { names.now ≡ map admin_name admins.now }
-    ensures { Gives result (servers.known_from admins.now server (map servers.opening admins.now) (entries_view entries.now)) }
+    ensures { Gives result
+        (servers.known_from admins.now server (map servers.opening admins.now)
+        (entries_view entries.now)) }
 {
     let mut versions = openings_of(alloc, admins)?;
     for entry in entries {
@@ -170,7 +173,9 @@ fn known_in(
     members: &Map<String, Value>,
 ) -> Result<List<Version>, WalkError>
     requires { names.now ≡ map admin_name admins.now }
-    ensures { Gives result (servers.known_from admins.now server (map servers.opening admins.now) (members_view members.now.entries)) }
+    ensures { Gives result
+        (servers.known_from admins.now server (map servers.opening admins.now)
+        (members_view members.now.entries)) }
 {
     match entries_of(members, alloc) {
         Err(_) => Err(WalkError::NoMemory),
@@ -204,7 +209,8 @@ fn knows_at(
     value: Option<&Value>,
 ) -> Result<List<Version>, WalkError>
     requires { names.now ≡ map admin_name admins.now }
-    ensures { Gives result (servers.knows_at admins.now server (option_map (λ v. view v.now) value.entry)) }
+    ensures { Gives result
+        (servers.knows_at admins.now server (option_map (λ v. view v.now) value.entry)) }
 {
     match value {
         None => Ok(openings_of(alloc, admins)?),
@@ -286,7 +292,9 @@ fn each_item<'a>(
     values: &'a [Value],
 ) -> Result<(), WalkError>
     requires { names.old ≡ map servers.item_name made.old }
-    ensures value { GivesNew result made.new (each (servers.item_in admins.now server (length made.old)) made.old (items_view values.now)) }
+    ensures value { GivesNew result made.new
+        (each (servers.item_in admins.now server (length made.old)) made.old
+        (items_view values.now)) }
     ensures named { OnOk result (names.new ≡ map servers.item_name made.new) }
 {
     let before = made.len();
@@ -308,7 +316,8 @@ fn items_in<'a>(
     value: Option<&'a Value>,
 ) -> Result<(), WalkError>
     requires { names.old ≡ map servers.item_name made.old }
-    ensures value { GivesNew result made.new (servers.items_in admins.now server made.old (option_map (λ v. view v.now) value.entry)) }
+    ensures value { GivesNew result made.new
+        (servers.items_in admins.now server made.old (option_map (λ v. view v.now) value.entry)) }
     ensures named { OnOk result (names.new ≡ map servers.item_name made.new) }
 {
     let path = Path::Field(Key::Servers, server as usize, Key::Items);
@@ -339,8 +348,12 @@ fn server_in<'a>(
     requires admins { names.old.admins ≡ map admin_name admins.now }
     requires servers { names.old.servers ≡ map servers.server_name served.old.servers }
     requires items { names.old.items ≡ map servers.item_name served.old.items }
-    ensures value { GivesNew result served.new (servers.server_in admins.now served.old (view value.now)) }
-    ensures named { OnOk result (names.new ≡ record names.old { servers = map servers.server_name served.new.servers; items = map servers.item_name served.new.items }) }
+    ensures value { GivesNew result served.new
+        (servers.server_in admins.now served.old (view value.now)) }
+    ensures named { OnOk result (names.new ≡ record names.old {
+      servers = map servers.server_name served.new.servers;
+      items = map servers.item_name served.new.items;
+    }) }
 {
     let at = names.servers.count();
     let first = names.items.count();
@@ -383,8 +396,14 @@ fn each_server<'a>(
     requires admins { names.old.admins ≡ map admin_name admins.now }
     requires servers { names.old.servers ≡ [] }
     requires items { names.old.items ≡ [] }
-    ensures value { Gives result (through (servers.server_in admins.now) servers.nothing_served (items_view values.now)) }
-    ensures named { IfOk result (λ served. names.new ≡ record names.old { servers = map servers.server_name served.servers; items = map servers.item_name served.items }) }
+    ensures value { Gives result
+        (through (servers.server_in admins.now) servers.nothing_served (items_view values.now)) }
+    ensures named { IfOk result (λ served.
+        names.new
+        ≡ record names.old {
+          servers = map servers.server_name served.servers;
+          items = map servers.item_name served.items;
+        }) }
 {
     let mut served = Served {
         servers: List::new(alloc),
@@ -407,8 +426,14 @@ pub(crate) fn servers_at<'a>(
     requires admins { names.old.admins ≡ map admin_name admins.now }
     requires servers { names.old.servers ≡ [] }
     requires items { names.old.items ≡ [] }
-    ensures value { Gives result (servers.servers_at admins.now (option_map (λ v. view v.now) value.entry)) }
-    ensures named { IfOk result (λ served. names.new ≡ record names.old { servers = map servers.server_name served.servers; items = map servers.item_name served.items }) }
+    ensures value { Gives result
+        (servers.servers_at admins.now (option_map (λ v. view v.now) value.entry)) }
+    ensures named { IfOk result (λ served.
+        names.new
+        ≡ record names.old {
+          servers = map servers.server_name served.servers;
+          items = map servers.item_name served.items;
+        }) }
 {
     let values = items_at(Path::Top(Key::Servers), 1, 16, value)?;
     each_server(alloc, admins, names, values)

@@ -142,7 +142,8 @@ fn presented_by(
     at: usize,
     value: Option<&Value>,
 ) -> Result<List<CredId>, WalkError>
-    ensures { Gives result (txns.credentials_at creds.now at (option_map (λ v. view v.now) value.entry)) }
+    ensures { Gives result
+        (txns.credentials_at creds.now at (option_map (λ v. view v.now) value.entry)) }
 {
     let values = items_or(path_of(at, Key::Credentials), 256, value)?;
     each_presented(alloc, creds, at, values)
@@ -172,7 +173,8 @@ fn queries_at(
     at: usize,
     value: Option<&Value>,
 ) -> Result<List<Query>, WalkError>
-    ensures { Gives result (txns.queries_at items.now at (option_map (λ v. view v.now) value.entry)) }
+    ensures { Gives result
+        (txns.queries_at items.now at (option_map (λ v. view v.now) value.entry)) }
 {
     let values = items_at(path_of(at, Key::Queries), 1, 16, value)?;
     each_query(alloc, items, at, values)
@@ -187,7 +189,8 @@ fn txn_name_at<'a>(
     at: usize,
     value: Option<&'a Value>,
 ) -> Result<Name, WalkError>
-    ensures value { Gives result (txns.txn_name_at servers.now others.old at (option_map (λ v. view v.now) value.entry)) }
+    ensures value { Gives result
+        (txns.txn_name_at servers.now others.old at (option_map (λ v. view v.now) value.entry)) }
     ensures named { IfOk result (λ name. others.new ≡ others.old ++ name ∷ []) }
 {
     let path = path_of(at, Key::Name);
@@ -206,7 +209,8 @@ fn txn_at<'a>(
     value: &'a Value,
 ) -> Result<Transaction, WalkError>
     ensures value { Gives result (txns.txn_at names.old at (view value.now)) }
-    ensures named { IfOk result (λ txn. names.new ≡ record names.old { txns = names.old.txns ++ txn.name ∷ [] }) }
+    ensures named { IfOk result (λ txn.
+        names.new ≡ record names.old { txns = names.old.txns ++ txn.name ∷ [] }) }
 {
     let fields = object_at(
         Path::Member(Key::Transactions, at),
@@ -255,7 +259,8 @@ fn each_txn<'a>(
 ) -> Result<List<Transaction>, WalkError>
     requires { names.old.txns ≡ [] }
     ensures value { Gives result (each (txns.txn_in names.old) [] (items_view values.now)) }
-    ensures named { IfOk result (λ made. names.new ≡ record names.old { txns = map txns.txn_name made }) }
+    ensures named { IfOk result (λ made.
+        names.new ≡ record names.old { txns = map txns.txn_name made }) }
 {
     let mut made = List::new(alloc);
     for value in values {
@@ -272,8 +277,10 @@ pub(crate) fn txns_at<'a>(
     value: Option<&'a Value>,
 ) -> Result<List<Transaction>, WalkError>
     requires { names.old.txns ≡ [] }
-    ensures value { Gives result (txns.txns_at names.old (option_map (λ v. view v.now) value.entry)) }
-    ensures named { IfOk result (λ made. names.new ≡ record names.old { txns = map txns.txn_name made }) }
+    ensures value { Gives result
+        (txns.txns_at names.old (option_map (λ v. view v.now) value.entry)) }
+    ensures named { IfOk result (λ made.
+        names.new ≡ record names.old { txns = map txns.txn_name made }) }
 {
     let values = items_at(Path::Top(Key::Transactions), 0, 128, value)?;
     each_txn(alloc, names, values)

@@ -16,7 +16,8 @@ use tp_types::Name;
 /// A value that is needed.
 #[tactic(auto, unfolding(crate::specs::Values::needed))]
 pub(crate) fn needed(path: Path, value: Option<&Value>) -> Result<&Value, WalkError>
-    ensures { GivesAs result (λ v. view v.now) (values.needed path (option_map (λ v. view v.now) value.entry)) }
+    ensures { GivesAs result (λ v. view v.now)
+        (values.needed path (option_map (λ v. view v.now) value.entry)) }
 {
     value.ok_or(shape_at(path))
 }
@@ -24,7 +25,8 @@ pub(crate) fn needed(path: Path, value: Option<&Value>) -> Result<&Value, WalkEr
 /// A text.
 #[tactic(auto, unfolding(crate::specs::Values::text_at))]
 pub(crate) fn text_at(path: Path, value: Option<&Value>) -> Result<&[u8], WalkError>
-    ensures { GivesAs result (λ s. s.now) (values.text_at path (option_map (λ v. view v.now) value.entry)) }
+    ensures { GivesAs result (λ s. s.now)
+        (values.text_at path (option_map (λ v. view v.now) value.entry)) }
 {
     match value.and_then(Value::as_str) {
         None => Err(shape_at(path)),
@@ -35,7 +37,8 @@ pub(crate) fn text_at(path: Path, value: Option<&Value>) -> Result<&[u8], WalkEr
 /// A text that is spelled as a name, as it stands in the JSON.
 #[tactic(auto, unfolding(crate::specs::Values::name_at))]
 pub(crate) fn name_text(path: Path, value: Option<&Value>) -> Result<&[u8], WalkError>
-    ensures { GivesAs result (λ s. s.now) (values.name_at path (option_map (λ v. view v.now) value.entry)) }
+    ensures { GivesAs result (λ s. s.now)
+        (values.name_at path (option_map (λ v. view v.now) value.entry)) }
 {
     let text = text_at(path, value)?;
     if is_name(text) {
@@ -65,7 +68,8 @@ pub(crate) fn new_name_at<'a>(
     names: &mut Names<'a>,
     value: Option<&'a Value>,
 ) -> Result<Name, WalkError>
-    ensures value { Gives result (values.new_name_at path names.old (option_map (λ v. view v.now) value.entry)) }
+    ensures value { Gives result
+        (values.new_name_at path names.old (option_map (λ v. view v.now) value.entry)) }
     ensures named { IfOk result (λ name. names.new ≡ names.old ++ name ∷ []) }
 {
     let text = text_at(path, value)?;
@@ -95,7 +99,8 @@ pub(crate) fn used(path: Path, names: &Names, name: &[u8]) -> Result<u32, WalkEr
 /// The place of a name that is used by a value.
 #[tactic(auto, unfolding(crate::specs::Values::place_at))]
 pub(crate) fn used_at(path: Path, names: &Names, value: Option<&Value>) -> Result<u32, WalkError>
-    ensures { Gives result (values.place_at path names.now (option_map (λ v. view v.now) value.entry)) }
+    ensures { Gives result
+        (values.place_at path names.now (option_map (λ v. view v.now) value.entry)) }
 {
     used(path, names, name_text(path, value)?)
 }
@@ -125,7 +130,8 @@ pub(crate) fn whole_in(
     high: i64,
     value: Option<&Value>,
 ) -> Result<i64, WalkError>
-    ensures { Gives result (values.whole_in path low high (option_map (λ v. view v.now) value.entry)) }
+    ensures { Gives result
+        (values.whole_in path low high (option_map (λ v. view v.now) value.entry)) }
 {
     let number = whole_at(path, value)?;
     if is_between(low, high, number) {
@@ -164,7 +170,8 @@ pub(crate) fn count_at(
     high: u64,
     value: Option<&Value>,
 ) -> Result<u64, WalkError>
-    ensures value { Gives result (values.count_at path low high (option_map (λ v. view v.now) value.entry)) }
+    ensures value { Gives result
+        (values.count_at path low high (option_map (λ v. view v.now) value.entry)) }
     ensures most { IfOk result (λ n. n ≤ high) }
 {
     let number = whole_at(path, value)?;
@@ -180,7 +187,8 @@ pub(crate) fn count_or(
     missing: u64,
     value: Option<&Value>,
 ) -> Result<u64, WalkError>
-    ensures value { Gives result (values.count_or path low high missing (option_map (λ v. view v.now) value.entry)) }
+    ensures value { Gives result
+        (values.count_or path low high missing (option_map (λ v. view v.now) value.entry)) }
     ensures most { IfOk result (λ n. n ≤ max high missing) }
 {
     match value {
@@ -191,7 +199,8 @@ pub(crate) fn count_or(
 
 #[tactic(auto, unfolding(crate::specs::Values::items_or_range), using(crate::proofs::Views::viewed))]
 fn sized(path: Path, least: usize, most: usize, items: &[Value]) -> Result<&[Value], WalkError>
-    ensures value { GivesAs result (λ s. items_view s.now) (values.items_or_range path least most (items_view items.now)) }
+    ensures value { GivesAs result (λ s. items_view s.now)
+        (values.items_or_range path least most (items_view items.now)) }
     ensures few { IfOk result (λ s. length s.now ≤ most) }
 {
     if least <= items.len() && items.len() <= most {
@@ -204,7 +213,8 @@ fn sized(path: Path, least: usize, most: usize, items: &[Value]) -> Result<&[Val
 /// An array.
 #[tactic(auto, unfolding(crate::specs::Values::array_at))]
 pub(crate) fn array_at(path: Path, value: Option<&Value>) -> Result<&[Value], WalkError>
-    ensures { GivesAs result (λ s. items_view s.now) (values.array_at path (option_map (λ v. view v.now) value.entry)) }
+    ensures { GivesAs result (λ s. items_view s.now)
+        (values.array_at path (option_map (λ v. view v.now) value.entry)) }
 {
     match value.and_then(Value::as_array) {
         None => Err(shape_at(path)),
@@ -220,7 +230,8 @@ pub(crate) fn items_at(
     most: usize,
     value: Option<&Value>,
 ) -> Result<&[Value], WalkError>
-    ensures value { GivesAs result (λ s. items_view s.now) (values.items_at path least most (option_map (λ v. view v.now) value.entry)) }
+    ensures value { GivesAs result (λ s. items_view s.now)
+        (values.items_at path least most (option_map (λ v. view v.now) value.entry)) }
     ensures few { IfOk result (λ s. length s.now ≤ most) }
 {
     let items = array_at(path, value)?;
@@ -234,7 +245,8 @@ pub(crate) fn items_or(
     most: usize,
     value: Option<&Value>,
 ) -> Result<&[Value], WalkError>
-    ensures value { GivesAs result (λ s. items_view s.now) (values.items_or path most (option_map (λ v. view v.now) value.entry)) }
+    ensures value { GivesAs result (λ s. items_view s.now)
+        (values.items_or path most (option_map (λ v. view v.now) value.entry)) }
     ensures few { IfOk result (λ s. length s.now ≤ most) }
 {
     match value {

@@ -1,5 +1,5 @@
 -- Applying one write more is setting its item after the others.
-use Rattle.std.proofs.Common.{◌≡◌, ◌≢◌, ◌||◌, not, Bool, true, false, cond, leb, List, [], ◌∷◌, find, Some, set, refl, ap, sym, ◌∙◌, ℤ}
+use Rattle.std.proofs.Common.{◌≡◌, ◌≢◌, not, Bool, true, false, cond, leb, List, [], ◌∷◌, find, Some, set, refl, ap, sym, ◌∙◌, ℤ}
 use Rattle.std.proofs.lemmas.Bool.{and_parts, eq-eqb, eqb-true, not-true, or_parts}
 use Rattle.std.proofs.lemmas.List.{set-set, set_comm}
 use Rattle.std.specs.List.{list_any}

@@ -16,7 +16,8 @@ bounds_of item = record { min = item.min; max = item.max }
 
 -- the versions that the scenario says the server knows
 abbrev pub known_at_first : Scenario → ServerId → List Version
-known_at_first sc server = option_map_or (λ (declared : ServerDecl). declared.knows) (slice_get sc.servers server.0) []
+known_at_first sc server =
+    option_map_or (λ (declared : ServerDecl). declared.knows) (slice_get sc.servers server.0) []
 
 -- all items have their opening values, and no transaction has a write
 abbrev pub opening : Scenario → ServerId → Contents
@@ -60,11 +61,13 @@ query_and_value write = (write.query, write.value)
 
 -- of the writes outside their ranges that of the least query
 abbrev pub first_outside_in : Contents → TxnId → Option (ℕ × ℤ)
-first_outside_in store txn = option_map query_and_value (first_of (filter (is_outside store.bounds) (writes_of store txn)))
+first_outside_in store txn =
+    option_map query_and_value (first_of (filter (is_outside store.bounds) (writes_of store txn)))
 
 -- the writes of a transaction are the values of their items from now on
 abbrev pub after_apply : Contents → TxnId → Contents
-after_apply store txn = with_writes (record store { values = values_after store.values (writes_of store txn) }) txn []
+after_apply store txn =
+    with_writes (record store { values = values_after store.values (writes_of store txn) }) txn []
 
 -- the writes of a transaction are dropped
 abbrev pub after_forget : Contents → TxnId → Contents
@@ -81,4 +84,5 @@ greater one other = record { 0 = max one.0 other.0 }
 
 -- the greater of the version and of the one known is known
 abbrev pub with_version : Contents → AdminId → Version → Contents
-with_version store admin version = record store { known = slice_set store.known admin.0 (greater (newest_in store admin) version) }
+with_version store admin version =
+    record store { known = slice_set store.known admin.0 (greater (newest_in store admin) version) }

@@ -18,7 +18,8 @@ later kept new = if nat_le kept.query new.query then new else kept
 -- the writes with one more: in the place of one that is kept of the same item, where the new one is later, and else at the end
 abbrev pub with_write : List TentativeWrite → TentativeWrite → List TentativeWrite
 with_write [] new = new ∷ []
-with_write (kept ∷ writes) new = if is_on new.item kept then later kept new ∷ writes else kept ∷ with_write writes new
+with_write (kept ∷ writes) new =
+    if is_on new.item kept then later kept new ∷ writes else kept ∷ with_write writes new
 
 -- ---- ranges
 
@@ -48,4 +49,5 @@ first_of writes = first_from None writes
 -- the values of all items after these writes
 abbrev pub values_after : List ℤ → List TentativeWrite → List ℤ
 values_after values [] = values
-values_after values (write ∷ writes) = values_after (slice_set values write.item.0 write.value) writes
+values_after values (write ∷ writes) =
+    values_after (slice_set values write.item.0 write.value) writes

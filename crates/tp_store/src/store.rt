@@ -87,7 +87,11 @@ impl Store {
         item: ItemId,
         value: i128,
     ) -> Result<(), NoMemory>
-        ensures ok { OnOk result (self.new ≡ rule.after_write self.old txn (record { query = query; item = item; value = value })) }
+        ensures ok { OnOk result (self.new ≡ rule.after_write self.old txn (record {
+          query = query;
+          item = item;
+          value = value;
+        })) }
         ensures err { OnErr result (self.new ≡ self.old) }
     {
         self.keep(txn, TentativeWrite { query, item, value })

@@ -21,7 +21,8 @@ lowest_unsubmitted sc actors = find (λ (txn : TxnId). not (is_submitted actors 
 -- the oldest undelivered mail is delivered; where there is none, a transaction is submitted
 abbrev pub next_by : Scenario → Actors → Option ℕ → Option Step
 next_by sc actors (Some mail) = Some (step.Deliver mail)
-next_by sc actors None = option_map (λ (txn : TxnId). step.Submit txn) (lowest_unsubmitted sc actors)
+next_by sc actors None =
+    option_map (λ (txn : TxnId). step.Submit txn) (lowest_unsubmitted sc actors)
 
 -- the next automatic step, if there is one; the cursor is where timers will be looked for
 abbrev pub next_of : Scenario → Machine → ℕ → Option Step
@@ -37,7 +38,8 @@ is_quiet sc m = is_none (next_of sc m 0)
 abbrev pub automatic_from : Scenario → ℕ → ℕ → Machine → List Step
 automatic_from sc zero cursor m = []
 automatic_from sc (suc left) cursor m =
-    option_map_or (λ (taken : Step). taken ∷ automatic_from sc left cursor (after_step sc m taken)) (next_of sc m cursor) []
+    option_map_or (λ (taken : Step). taken ∷ automatic_from sc left cursor (after_step sc m taken))
+    (next_of sc m cursor) []
 
 -- the cursor begins at 0
 abbrev pub automatic_steps : Scenario → ℕ → Machine → List Step
@@ -82,8 +84,15 @@ most_rounds txns = fold (λ (most : ℕ) (txn : Transaction). max most txn.round
 -- the bound in numbers
 abbrev pub bound_by : ℕ → ℕ → ℕ → ℕ → ℕ → ℕ
 bound_by txns queries rounds servers undelivered =
-    3 * undelivered + (txns * ((queries + 1) * (3 * rounds + 3) + servers + 2) + 1) * (16 * (txns + 1) * (servers + 1)) + servers + txns + 2
+    3 * undelivered
+    + (txns * ((queries + 1) * (3 * rounds + 3) + servers + 2) + 1) *
+    (16 * (txns + 1) * (servers + 1))
+    + servers
+    + txns
+    + 2
 
 -- how many automatic steps a run allows, from so many undelivered mails on
 abbrev pub bound : Scenario → ℕ → ℕ
-bound sc undelivered = bound_by (length sc.txns) (most_queries sc.txns) (most_rounds sc.txns) (length sc.servers) undelivered
+bound sc undelivered =
+    bound_by (length sc.txns) (most_queries sc.txns) (most_rounds sc.txns)
+    (length sc.servers) undelivered

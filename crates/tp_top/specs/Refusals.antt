@@ -19,7 +19,8 @@ refusal_line BadJson = codes "refused badjson\n"
 refusal_line (Shape path) = codes "refused shape " ++ path.0 ++ codes "\n"
 refusal_line (Range path) = codes "refused range " ++ path.0 ++ codes "\n"
 refusal_line (Unknown path) = codes "refused unknown " ++ path.0 ++ codes "\n"
-refusal_line (Policy path fault) = codes "refused policy " ++ path.0 ++ fault_text fault ++ codes "\n"
+refusal_line (Policy path fault) =
+    codes "refused policy " ++ path.0 ++ fault_text fault ++ codes "\n"
 refusal_line (NotYet path) = codes "refused notyet " ++ path.0 ++ codes "\n"
 refusal_line NoMemory = []
 

@@ -64,7 +64,8 @@ pub record RunsTo (old new : Option (List ℕ)) (text : List ℕ) : Type 0 where
   pub reads : Reads bytes scenario
   pub quiet : is_quiet scenario (final scenario) ≡ true
   pub within : length (automatic scenario) ≤ automatic_bound scenario
-  pub trusted : TrustedHistory scenario (all_steps scenario) (final scenario).state.facts (ending_of scenario (final scenario).state)
+  pub trusted : TrustedHistory scenario (all_steps scenario) (final scenario).state.facts
+      (ending_of scenario (final scenario).state)
   pub text_is : text ≡ report_of scenario
 
 -- the input was read whole as a scenario, and as many automatic steps as the bound were done without an end
@@ -97,7 +98,8 @@ IsRefusedFor old new NoMemory = ⊥
 abbrev pub Answers : Option (List ℕ) → Option (List ℕ) → ℕ → ℕ → Answer → Type 0
 Answers old new faults faults' (answer.Report text) = RunsTo old new text.0
 Answers old new faults faults' (answer.Refused why) = IsRefusedFor old new why
-Answers old new faults faults' answer.ReadFault = Rose faults faults' × TakesAtMost (input_max + 1) old new
+Answers old new faults faults' answer.ReadFault =
+    Rose faults faults' × TakesAtMost (input_max + 1) old new
 Answers old new faults faults' answer.Budget = RunsOut old new
 Answers old new faults faults' answer.NoMemory = Unit {0}
 

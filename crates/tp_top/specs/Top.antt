@@ -137,15 +137,18 @@ EndsWith Budget call = IsBudget call
 
 -- the refusal with this line, or want of memory
 abbrev pub Says : Status → Option (List ℕ) → Option (List ℕ) → ScenarioError → Type 0
-Says status notes notes' why = ((status ≡ Refused) × Appends notes notes' (refusal_line why)) ⊎ (status ≡ NoMemory)
+Says status notes notes' why =
+    ((status ≡ Refused) × Appends notes notes' (refusal_line why)) ⊎ (status ≡ NoMemory)
 
 -- this status, or want of memory
 abbrev pub Ends : Status → Status → Type 0
 Ends status wanted = (status ≡ wanted) ⊎ (status ≡ NoMemory)
 
 -- each cause in the input has its status, and its line where it is a refusal
-pub record EndsRightly (input : List ℕ) (status : Status) (notes notes' : Option (List ℕ)) : Type 0 where
+pub record EndsRightly (input : List ℕ) (status : Status) (notes notes' : Option (List ℕ))
+    : Type 0 where
   pub too_long : input_max < length input → Says status notes notes' error.TooLong
   pub refused : (why : ScenarioError) → IsRefusedWith input why → Says status notes notes' why
   pub at_rest : (sc : Scenario) → Reads input sc → is_quiet sc (final sc) ≡ true → Ends status Done
-  pub restless : (sc : Scenario) → Reads input sc → is_quiet sc (final sc) ≡ false → Ends status Budget
+  pub restless : (sc : Scenario) → Reads input sc → is_quiet sc (final sc) ≡ false
+      → Ends status Budget

@@ -44,7 +44,8 @@ pub enum Answer {
 
 /// Reads an input to its end and runs its scenario.
 pub fn answer_to<I: Source>(alloc: Global, input: &mut I) -> Answer
-    ensures cause { Answers (I.left input.old) (I.left input.new) (I.faults input.old) (I.faults input.new) result }
+    ensures cause { Answers (I.left input.old) (I.left input.new) (I.faults input.old)
+        (I.faults input.new) result }
     ensures taken { TakesAtMost (input_max + 1) (I.left input.old) (I.left input.new) }
 {
     match read_to_end(alloc, input) {
@@ -93,7 +94,8 @@ fn proved_facts(world: &World) -> &List<Fact>
     ensures causes { is_caused world.now.scenario result.now ≡ true }
     ensures data { is_serial world.now.scenario result.now ≡ true }
     ensures lone { are_lone result.now ≡ true }
-    ensures so_far { world.now.given_up ≡ false → IsTrustedState world.now.scenario world.now.machine.state }
+    ensures so_far { world.now.given_up ≡ false
+        → IsTrustedState world.now.scenario world.now.machine.state }
 {
     let _so_far = world.facts();
     let _trusted = trusted(world);
@@ -103,7 +105,9 @@ fn proved_facts(world: &World) -> &List<Fact>
 
 /// The report of a world, of whose history all that holds at this moment is told.
 fn text_of(alloc: Global, world: &World) -> Result<Text, NoMemory>
-    ensures text { IfOk result (λ text. text.0 ≡ report_text world.now.scenario world.now.machine.state.facts (ending_of world.now.scenario world.now.machine.state)) }
+    ensures text { IfOk result (λ text.
+        text.0 ≡ report_text world.now.scenario world.now.machine.state.facts
+        (ending_of world.now.scenario world.now.machine.state)) }
     ensures so_far { OnOk result (IsTrustedState world.now.scenario world.now.machine.state) }
     ensures whole { OnOk result (HasAllCommits world.now.scenario world.now.machine.state) }
 {
@@ -159,7 +163,8 @@ fn put_fault(line: &mut Vec<u8>, fault: ParseError) -> Result<(), NoMemory>
 
 /// The line of a text that is no policy.
 fn policy_line(alloc: Global, path: &Text, fault: ParseError) -> Result<Text, NoMemory>
-    ensures { IfOk result (λ line. line.0 ≡ refusals.refusal_line (ScenarioError.Policy path.now fault)) }
+    ensures { IfOk result (λ line.
+        line.0 ≡ refusals.refusal_line (ScenarioError.Policy path.now fault)) }
 {
     let mut line = Vec::from_slice(alloc, b"refused policy ")?;
     put(&mut line, path.0.as_slice())?;

@@ -26,7 +26,8 @@ pub enum Drained {
 #[tactic(auto, using(crate::proofs::BoundLemmas::few_txns_built))]
 fn lowest_unsubmitted(world: &World) -> Option<TxnId>
     ensures value { result ≡ lowest_unsubmitted world.now.scenario world.now.machine.state.actors }
-    ensures unsubmitted { IfSome result (λ txn. is_submitted world.now.machine.state.actors txn ≡ false) }
+    ensures unsubmitted { IfSome result (λ txn.
+        is_submitted world.now.machine.state.actors txn ≡ false) }
     ensures declared { IfSome result (λ txn. txn.0 < length world.now.scenario.txns) }
 {
     (0..world.scenario().txns.len() as u32)
@@ -55,7 +56,8 @@ pub fn drain(world: &mut World, alloc: Global, budget: u64) -> Drained
     ensures quiet { result ≡ Drained.Quiet → is_quiet world.new.scenario world.new.machine ≡ true }
     ensures budget { result ≡ Drained.Budget → IsSpent world.old world.new budget }
     ensures memory { result ≡ Drained.NoMemory → world.new.given_up ≡ true }
-    ensures stopped { result ≡ Drained.NoMemory → world.old.given_up ≡ false → Stops world.old world.new budget }
+    ensures stopped { result ≡ Drained.NoMemory → world.old.given_up ≡ false
+        → Stops world.old world.new budget }
     ensures unchanged { world.old.given_up ≡ true → world.new ≡ world.old }
     ensures scenario { world.new.scenario ≡ world.old.scenario }
 {

@@ -26,15 +26,32 @@ pub fn tpvc<I: Source, O: Sink, N: Sink>(
 ) -> Status
     ensures ended { EndsWith result (record {
       words = words.now;
-      input = record { old = I.left input.old; new = I.left input.new; faults_old = I.faults input.old; faults_new = I.faults input.new };
-      out = record { old = O.written out.old; new = O.written out.new; faults_old = O.faults out.old; faults_new = O.faults out.new };
-      notes = record { old = N.written notes.old; new = N.written notes.new; faults_old = N.faults notes.old; faults_new = N.faults notes.new };
+      input = record {
+        old = I.left input.old;
+        new = I.left input.new;
+        faults_old = I.faults input.old;
+        faults_new = I.faults input.new;
+      };
+      out = record {
+        old = O.written out.old;
+        new = O.written out.new;
+        faults_old = O.faults out.old;
+        faults_new = O.faults out.new;
+      };
+      notes = record {
+        old = N.written notes.old;
+        new = N.written notes.new;
+        faults_old = N.faults notes.old;
+        faults_new = N.faults notes.new;
+      };
     }) }
 
     // Where no count rose, another command is answered by usage, and each cause in an input that is told by its status.
-    ensures called { ¬ (IsRun words.now) → ¬ (Rose (N.faults notes.old) (N.faults notes.new)) → result ≡ Status.Usage }
+    ensures called { ¬ (IsRun words.now) → ¬ (Rose (N.faults notes.old) (N.faults notes.new))
+        → result ≡ Status.Usage }
     ensures complete { IsRun words.now → ¬ (Rose (I.faults input.old) (I.faults input.new))
-        → ¬ (Rose (O.faults out.old) (O.faults out.new)) → ¬ (Rose (N.faults notes.old) (N.faults notes.new))
+        → ¬ (Rose (O.faults out.old) (O.faults out.new))
+        → ¬ (Rose (N.faults notes.old) (N.faults notes.new))
         → IfSome (I.left input.old) (λ bytes. EndsRightly bytes result (N.written notes.old) (N.written notes.new)) }
 
     // At every status at most one byte more than an input may have is read, and where the words are another command none is.

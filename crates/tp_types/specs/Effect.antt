@@ -11,7 +11,10 @@ pub record Effect (S : Type 0) : Type 0 where
 
 -- no record, and these letters
 abbrev pub sends : {S : Type 0} → S → List Letter → Effect S
-sends state letters = record { state = state; reaction = record { append = None; letters = letters } }
+sends state letters = record {
+  state = state;
+  reaction = record { append = None; letters = letters };
+}
 
 -- nothing is done, for good
 abbrev pub ignores : {S : Type 0} → S → Effect S
@@ -23,7 +26,10 @@ unbuilt state = sends state []
 
 -- a record is forced to the log, and then these letters are sent
 abbrev pub logs : {S : Type 0} → S → Record → List Letter → Effect S
-logs state forced letters = record { state = state; reaction = record { append = Some forced; letters = letters } }
+logs state forced letters = record {
+  state = state;
+  reaction = record { append = Some forced; letters = letters };
+}
 
 -- the code did what the row gives
 pub record Gives {S : Type 0} (effect : Effect S) (state : S) (reaction : Reaction) : Type 0 where

@@ -30,7 +30,9 @@ IsName bytes = IsTrue (is_name bytes)
 abbrev pub is_number : List ℕ → Bool
 is_number [] = false
 is_number (digit ∷ []) = is_digit digit
-is_number (digit ∷ other ∷ digits) = is_digit digit && nat_lt 48 digit && list_all is_digit (other ∷ digits) && nat_lt (length digits) 14
+is_number (digit ∷ other ∷ digits) =
+    is_digit digit && nat_lt 48 digit && list_all is_digit (other ∷ digits)
+    && nat_lt (length digits) 14
 
 -- the number that digits spell, after one that stands before them
 abbrev pub spelled_from : ℕ → List ℕ → ℕ

@@ -33,7 +33,9 @@ impl Model for Name {
 impl Name {
     /// The name that these bytes spell, or None exactly for another spelling.
     pub fn of(alloc: Global, bytes: &[u8]) -> Result<Option<Name>, NoMemory>
-        ensures { IfOk result (λ found. MatchOption found (¬ IsName bytes.now) (λ name. IsName bytes.now × (name ≡ bytes.now))) }
+        ensures { IfOk result (λ found.
+            MatchOption found (¬ IsName bytes.now)
+            (λ name. IsName bytes.now × (name ≡ bytes.now))) }
     {
         if !is_name(bytes) {
             return Ok(None);

@@ -42,7 +42,8 @@ pub fn sent_alone(alloc: Global, letter: Letter) -> Result<Reaction, NoMemory>
 
 /// A record is forced, and then one letter is sent.
 pub fn forced_and_sent(alloc: Global, forced: Record, letter: Letter) -> Result<Reaction, NoMemory>
-    ensures { IfOk result (λ reaction. reaction ≡ record { append = Some forced; letters = letter ∷ [] }) }
+    ensures { IfOk result (λ reaction.
+        reaction ≡ record { append = Some forced; letters = letter ∷ [] }) }
 {
     Ok(Reaction {
         append: Some(forced),

@@ -17,11 +17,14 @@ use Rattle.tp_model.specs.SerialRun.{number_at, sum_in}
 
 -- what those of the credentials say of the subject that are valid at the place
 abbrev pub held_by : Held → List Triple
-held_by held = triples_in held.scenario.now.creds held.subject.now (filter (is_valid held.scenario.now held.place held.facts.now) held.creds.now)
+held_by held =
+    triples_in held.scenario.now.creds held.subject.now
+    (filter (is_valid held.scenario.now held.place held.facts.now) held.creds.now)
 
 -- the credential is the subject's, and what it says passes the test
 abbrev pub says : (Triple → Bool) → Held → Credential → Bool
-says test held credential = same_name credential.subject held.subject.now && test (said_by credential)
+says test held credential =
+    same_name credential.subject held.subject.now && test (said_by credential)
 
 -- the credential of this number is the subject's, is valid at the place, and what it says passes the test
 abbrev pub shows : (Triple → Bool) → Held → CredId → Bool
@@ -39,7 +42,9 @@ tests_case test (Some case) = test (action_of case.query.now) case.item.now.name
 -- the verdict's rule matches the query, and is true of those credentials alone that it uses and that are valid at its place
 abbrev pub is_proved : Scenario → List Fact → Transaction → Verdict → Bool
 is_proved sc facts txn verdict =
-    tests_version (rule_proves sc txn (filter (is_valid sc verdict.place facts) verdict.uses) verdict.rule) sc txn verdict.query
+    tests_version
+    (rule_proves sc txn (filter (is_valid sc verdict.place facts) verdict.uses) verdict.rule) sc txn
+    verdict.query
     (policy_at sc verdict.admin verdict.version)
 
 -- ---- exact sums

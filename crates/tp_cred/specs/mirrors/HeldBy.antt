@@ -10,4 +10,5 @@ abbrev pub held_by : Presented → List Triple
 held_by held = held_in held.store.now held.subject.now held.clock held.revoked.now held.creds.now
 
 abbrev pub shows : Presented → (Triple → Bool) → CredId → Bool
-shows held test cred = shows_in held.store.now held.subject.now held.clock held.revoked.now test cred
+shows held test cred =
+    shows_in held.store.now held.subject.now held.clock held.revoked.now test cred

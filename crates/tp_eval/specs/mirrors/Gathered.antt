@@ -15,7 +15,8 @@ says held test cred = option_map_or test (said_in held.creds.now held.subject.no
 
 -- the credential is valid, and what it says of the subject passes the test
 abbrev pub shows : Evidence → (Triple → Bool) → CredId → Bool
-shows held test cred = shows_in held.creds.now held.subject.now held.clock held.revoked.now test cred
+shows held test cred =
+    shows_in held.creds.now held.subject.now held.clock held.revoked.now test cred
 
 abbrev pub takes : Evidence → Cond → Option (List CredId)
 takes held condition = taken (shows held) held.presented.now condition

@@ -60,10 +60,12 @@ waits_or_dies None = Waits
 waits_or_dies (Some elder) = Dies elder.entry.owner
 
 abbrev pub answer_to_new : TxnId → ℕ → Action → List Slot → Asked
-answer_to_new owner age mode slots = if has_conflict owner mode slots then waits_or_dies (elder_of owner age mode slots) else Granted
+answer_to_new owner age mode slots =
+    if has_conflict owner mode slots then waits_or_dies (elder_of owner age mode slots) else Granted
 
 abbrev pub answer : TxnId → ℕ → Action → List Slot → Asked
-answer owner age mode slots = if is_served owner mode slots then Granted else answer_to_new owner age mode slots
+answer owner age mode slots =
+    if is_served owner mode slots then Granted else answer_to_new owner age mode slots
 
 abbrev pub slot_of : TxnId → ℕ → Action → Bool → Slot
 slot_of owner age mode held = record { entry = rule.lock_of owner age mode held; told = true }
@@ -74,7 +76,9 @@ with_answer owner age mode Waits slots = slots ++ slot_of owner age mode false �
 with_answer owner age mode (Dies other) slots = slots
 
 abbrev pub with_slot : TxnId → ℕ → Action → List Slot → List Slot
-with_slot owner age mode slots = if is_served owner mode slots then slots else with_answer owner age mode (answer_to_new owner age mode slots) slots
+with_slot owner age mode slots =
+    if is_served owner mode slots then slots
+    else with_answer owner age mode (answer_to_new owner age mode slots) slots
 
 -- ---- a release
 
@@ -89,7 +93,8 @@ with_grant earlier slot = record {
 
 abbrev pub with_grants_from : List Slot → List Slot → List Slot
 with_grants_from earlier [] = []
-with_grants_from earlier (slot ∷ slots) = with_grant earlier slot ∷ with_grants_from (earlier ++ with_grant earlier slot ∷ []) slots
+with_grants_from earlier (slot ∷ slots) =
+    with_grant earlier slot ∷ with_grants_from (earlier ++ with_grant earlier slot ∷ []) slots
 
 abbrev pub is_of_other : TxnId → Slot → Bool
 is_of_other owner slot = rule.is_of_other owner slot.entry
@@ -107,12 +112,14 @@ untold_of slot = if slot.told then None else Some slot
 
 abbrev pub told_first : List Slot → List Slot
 told_first [] = []
-told_first (slot ∷ slots) = if slot.told then slot ∷ told_first slots else record slot { told = true } ∷ slots
+told_first (slot ∷ slots) =
+    if slot.told then slot ∷ told_first slots else record slot { told = true } ∷ slots
 
 -- the first that is not told, in the first list that has one
 abbrev pub told_lists : List (List Slot) → List (List Slot)
 told_lists [] = []
-told_lists (slots ∷ lists) = if is_some (find is_untold slots) then told_first slots ∷ lists else slots ∷ told_lists lists
+told_lists (slots ∷ lists) =
+    if is_some (find is_untold slots) then told_first slots ∷ lists else slots ∷ told_lists lists
 
 abbrev pub first_in : ℕ → List Slot → Option Grant
 first_in item slots = option_map (grant_in item) (find is_untold slots)
@@ -120,4 +127,5 @@ first_in item slots = option_map (grant_in item) (find is_untold slots)
 -- the first grant that nobody took in the lists of the items from this one on
 abbrev pub first_of : ℕ → List (List Slot) → Option Grant
 first_of item [] = None
-first_of item (slots ∷ lists) = if is_some (find is_untold slots) then first_in item slots else first_of (suc item) lists
+first_of item (slots ∷ lists) =
+    if is_some (find is_untold slots) then first_in item slots else first_of (suc item) lists

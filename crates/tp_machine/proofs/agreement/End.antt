@@ -16,11 +16,10 @@ use Rattle.tp_model.specs.Ids.{same_server, same_txn}
 use Rattle.tp_machine.specs.Logs.{decided_at, settled_at, settled_by}
 use Rattle.tp_machine.specs.Machine.{State}
 use Rattle.tp_machine.specs.Sound.{Each}
-use Rattle.tp_machine.specs.coord.Row.{is_begun}
 use Rattle.tp_machine.specs.coord.State.{Coordinator}
 use Rattle.tp_machine.specs.Parts.{Part}
 use Rattle.tp_machine.specs.server.State.{Server}
-use Rattle.tp_machine.proofs.agreement.Logs.{DecidedAs, once, outcome_settled, settled_outcome, submitted_count, submitted_up}
+use Rattle.tp_machine.proofs.agreement.Logs.{DecidedAs, outcome_settled, settled_outcome, submitted_count}
 use Rattle.tp_machine.proofs.agreement.World.{Agrees, FactFollows, Follows, SettledRests, WhatFollows}
 use Rattle.tp_machine.proofs.basics.Facts.{any_decided, any_settled, count_decisions, count_settlements, count_submissions, decisions, said, settlements}
 use Rattle.tp_machine.proofs.basics.Logs.{listed}

@@ -1,6 +1,5 @@
 -- Agreement, step by step: it holds before the first step, each step keeps it, and so it holds after every list of steps.
-use Rattle.std.specs.List.{range_with_len}
-use Rattle.std.proofs.Common.{IfSome, List, None, Option, Some, [], ap, arith, false, length, map, option_and_then, option_map, refl, replicate, slice_get, subst, suc, sym, true, zero, ℕ, ◌+◌, ◌∙◌, ◌∷◌, ◌≡◌}
+use Rattle.std.proofs.Common.{IfSome, List, None, Option, Some, [], ap, arith, false, length, option_and_then, option_map, refl, replicate, slice_get, subst, suc, sym, true, zero, ℕ, ◌∙◌, ◌∷◌, ◌≡◌}
 use Rattle.std.proofs.lemmas.List.FromFn.{length-map-range_with_len}
 use Rattle.tp_types.specs.Table.{flattened}
 use Rattle.tp_model.specs.Built.{is_built}

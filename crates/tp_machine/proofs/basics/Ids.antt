@@ -1,6 +1,5 @@
 -- Ids and their numbers.
-use Rattle.std.proofs.Common.{ap, arith, true, ℕ, ◌==◌, ◌≡◌}
-use Rattle.std.proofs.lemmas.Bool.Decides.{nat_tests}
+use Rattle.std.proofs.Common.{ap, true, ℕ, ◌==◌, ◌≡◌}
 use Rattle.std.proofs.lemmas.Bool.{eqb-true}
 use Rattle.tp_model.specs.Words.{ServerId, TxnId}
 use Rattle.tp_model.specs.Ids.{same_txn}

@@ -1,8 +1,7 @@
 -- What the form of scenarios that is built says, one by one. Where it widens these go.
-use Rattle.std.proofs.lemmas.Bool.{and_parts, eqb-true}
-use Rattle.std.proofs.Common.{◌≡◌, ℕ, List, [], ◌∷◌, length, Bool, true, false, not, ◌&&◌, ◌==◌, Option, Some, None, refl, sym, subst, ap, arith}
+use Rattle.std.proofs.lemmas.Bool.{and_parts}
+use Rattle.std.proofs.Common.{◌≡◌, List, [], ◌∷◌, length, Bool, true, false, not, ◌&&◌, ◌==◌, Option, Some, None, refl, sym, subst, ap, arith}
 use Rattle.std.specs.Cmp.Lexicographic.{pointwise}
-use Rattle.std.proofs.lemmas.Bool.Decides.{nat_tests}
 use Rattle.tp_model.specs.Words.{Item, Scenario, Scheme, ServerDecl, Transaction}
 use Rattle.tp_model.specs.Words.scheme
 use Rattle.tp_model.specs.Built.{is_built}

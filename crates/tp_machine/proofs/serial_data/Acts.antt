@@ -35,7 +35,7 @@ use Rattle.tp_machine.proofs.basics.Facts.{commit_found, filter_all, first_commi
 use Rattle.tp_machine.proofs.basics.Logs.{appended, decided_with, gained, listed, prepared_grown}
 use Rattle.tp_machine.proofs.serial_data.Built.{first_server, has_item_at_one_server, planned_at_one_server}
 use Rattle.tp_machine.proofs.serial_data.Coordinator.{CoordinatorKeeps, PhaseDeeds}
-use Rattle.tp_machine.proofs.serial_data.Lists.{at_changed, each_of_all, fold_both, fold_keeps, same_set, set_elsewhere}
+use Rattle.tp_machine.proofs.serial_data.Lists.{at_changed, each_of_all, fold_both, fold_keeps, set_elsewhere}
 use Rattle.tp_machine.proofs.serial_data.Plan.{DecisionSerial, IsInRange, IsTested, LetterSerial, RecordPlanned, RecordSerial, is_at, planned, planned_at, planned_what}
 use Rattle.tp_machine.proofs.serial_data.Server.{EntryPlanned, ServerKeeps}
 use Rattle.tp_machine.proofs.serial_data.World.{CoordinatorPartSerial, HoldsValues, IsPlannedCommit, MoveSerial, Serial, ServerPartSerial, ServerUpSerial, WhatSerial, overlaid_by}

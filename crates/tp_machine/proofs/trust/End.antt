@@ -1,11 +1,10 @@
 -- Trust of the facts: where the invariant holds, every commit is trusted and every abort has its cause.
 use Rattle.std.proofs.lemmas.Bool.{and_from, and_parts, le-leb, lt-ltb}
-use Rattle.std.proofs.Common.{Bool, List, None, Option, Some, [], ap, arith, false, if◌then◌else◌, is_none, is_some, length, nat_le, nat_lt, not, refl, slice_get, subst, true, ℕ, ◌&&◌, ◌<◌, ◌==◌, ◌||◌, ◌∙◌, ◌∷◌, ◌≡◌, ◌≤◌}
+use Rattle.tp_model.specs.Words.cause
+use Rattle.std.proofs.Common.{Bool, List, None, Option, Some, [], ap, arith, false, if◌then◌else◌, is_none, is_some, length, nat_le, not, refl, slice_get, subst, true, ℕ, ◌&&◌, ◌==◌, ◌||◌, ◌∙◌, ◌∷◌, ◌≡◌}
 use Rattle.std.specs.Cmp.Lexicographic.{pointwise}
 use Rattle.std.specs.List.{list_all, range_with_len}
 use Rattle.std.specs.Option.{option_map_or}
-use Rattle.std.proofs.lemmas.Bool.Decides.{nat_tests}
-use Rattle.tp_model.specs.Words.cause
 use Rattle.tp_model.specs.Words.{AdminId, Cause, CommitRecord, Denied, Fact, Scenario, Scheme, Transaction, TxnId, Verdict, What}
 use Rattle.tp_types.proofs.ListLemmas.{number_itself, three_from}
 use Rattle.tp_model.specs.Words.decision

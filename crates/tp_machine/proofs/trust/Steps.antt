@@ -1,7 +1,7 @@
 -- Trust, step by step: it holds before the first step, and each step keeps it.
 use Rattle.std.specs.Option.{option_map_or}
 use Rattle.std.proofs.lemmas.List.{length-replicate}
-use Rattle.std.proofs.Common.{Bool, IfSome, List, None, Option, Some, [], arith, false, length, refl, slice_get, subst, suc, sym, true, unwrap_or, zero, ℕ, ℤ, ◌+◌, ◌==◌, ◌||◌, ◌∙◌, ◌∷◌, ◌≡◌}
+use Rattle.std.proofs.Common.{IfSome, List, None, Option, Some, [], arith, false, length, refl, slice_get, subst, suc, sym, true, unwrap_or, zero, ℕ, ℤ, ◌+◌, ◌==◌, ◌∙◌, ◌∷◌, ◌≡◌}
 use Rattle.std.proofs.lemmas.Bool.{or_left, or_right}
 use Rattle.std.proofs.lemmas.List.Folds.{list_any-append}
 use Rattle.tp_types.proofs.ListLemmas.{number_itself}

@@ -1,10 +1,10 @@
 -- Trust over every list of steps: what is kept of a world, and what a step has to leave.
 use Rattle.std.specs.List.{cons_option, filter_map, sum_by}
-use Rattle.std.proofs.Common.{Bool, IfSome, List, None, Option, Some, [], ap, arith, length, option_and_then, refl, slice_get, subst, sym, true, ℕ, ◌++◌, ◌+◌, ◌<◌, ◌||◌, ◌∙◌, ◌∷◌, ◌≡◌, ◌≤◌}
+use Rattle.std.proofs.Common.{IfSome, List, None, Option, Some, [], ap, arith, length, option_and_then, refl, slice_get, subst, sym, ℕ, ◌++◌, ◌+◌, ◌<◌, ◌∙◌, ◌∷◌, ◌≡◌, ◌≤◌}
 use Rattle.std.proofs.lemmas.List.Sums.{sum_by-append, sum_by-cons}
 use Rattle.tp_model.specs.Words.cause
 use Rattle.tp_model.specs.Credentials.{clock_at, is_among, revoked_at, revoked_by, revoked_what, ticks, ticks_what}
-use Rattle.tp_model.specs.Facts.{before, is_submission}
+use Rattle.tp_model.specs.Facts.{is_submission}
 use Rattle.tp_model.specs.Words.{Body, Cause, CredId, Decision, Fact, Instance, Letter, Mail, Scenario, Step, TxnId, Verdict, What}
 use Rattle.std.proofs.lemmas.Bool.{or_left}
 use Rattle.std.proofs.lemmas.List.{append-nil, length_push}

@@ -1,6 +1,6 @@
 -- A server's row is walked once: what is shown of each of its outcomes holds of the row. A new outcome is a field here, and of each theorem's cases.
 use Rattle.std.specs.Option.{option_map_or}
-use Rattle.std.proofs.Common.{Bool, None, Option, Some, [], false, is_none, is_some, not, refl, slice_get, true, ℕ, ◌==◌, ◌∷◌, ◌≡◌}
+use Rattle.std.proofs.Common.{None, Option, Some, [], false, is_none, is_some, not, refl, slice_get, true, ℕ, ◌==◌, ◌∷◌, ◌≡◌}
 use Rattle.tp_types.specs.Effect.{Effect, ignores, sends}
 use Rattle.tp_types.specs.Table.{flattened}
 use Rattle.std.proofs.lemmas.Bool.{not-false}

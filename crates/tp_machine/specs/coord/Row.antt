@@ -27,14 +27,19 @@ next_turn c = min (c.turn + 1) (2 ^ 32 - 1)
 
 -- a letter to a server
 abbrev pub request : Coordinator → ServerId → Body → Letter
-request c server said = record { from = actor.Coordinator c.txn; to = actor.Server server; body = said }
+request c server said = record {
+  from = actor.Coordinator c.txn;
+  to = actor.Server server;
+  body = said;
+}
 
 abbrev pub requests : Coordinator → Body → List ServerId → List Letter
 requests c said servers = map (λ (server : ServerId). request c server said) servers
 
 -- a query of the transaction by its number
 abbrev pub query_of : Scenario → Coordinator → ℕ → Option Query
-query_of sc c number = option_and_then (λ (txn : Transaction). query_at txn number) (slice_get sc.txns c.txn.0)
+query_of sc c number =
+    option_and_then (λ (txn : Transaction). query_at txn number) (slice_get sc.txns c.txn.0)
 
 -- the server of an item
 abbrev pub server_at : Scenario → ItemId → Option ServerId
@@ -51,7 +56,16 @@ abbrev pub sends_first : Coordinator → Option ServerId → Option ℤ → Effe
 sends_first c (Some server) (Some value) =
     sends (record c { turn = next_turn c; phase = phase.Querying 1 None })
     (request c server
-    (body.Query (record { txn = c.txn; turn = next_turn c; query = 1; age = None; epoch = None; value = Some value; staple = None; pin = None })) ∷ [])
+    (body.Query (record {
+      txn = c.txn;
+      turn = next_turn c;
+      query = 1;
+      age = None;
+      epoch = None;
+      value = Some value;
+      staple = None;
+      pin = None;
+    })) ∷ [])
 sends_first c _ _ = unbuilt c
 
 abbrev pub begins : Scenario → Coordinator → Option Query → Effect Coordinator
@@ -79,33 +93,54 @@ first_round c = record { number = 1; aim = None; kept = []; awaited = c.servers;
 abbrev pub asks : Coordinator → Effect Coordinator
 asks c =
     sends (record c { turn = next_turn c; phase = phase.Asking (first_round c) })
-    (record { from = actor.Coordinator c.txn; to = actor.Authority; body = body.Ask (record { txn = c.txn; turn = next_turn c }) } ∷ [])
+    (record {
+      from = actor.Coordinator c.txn;
+      to = actor.Authority;
+      body = body.Ask (record { txn = c.txn; turn = next_turn c });
+    } ∷ [])
 
 abbrev pub deed_of : ℕ → Query → ℤ → Deed
-deed_of number query value = record { query = number; item = item_of query; action = action.Write; value = value }
+deed_of number query value = record {
+  query = number;
+  item = item_of query;
+  action = action.Write;
+  value = value;
+}
 
 -- a coordinator with the deed of a query that ran, and the epoch of its server
 abbrev pub with_deed : Coordinator → ServerId → DoneReply → Query → ℤ → Coordinator
 with_deed c server done query value =
-    record c { epochs = slice_set c.epochs server.0 (Some done.epoch); deeds = c.deeds ++ deed_of done.query query value ∷ [] }
+    record c {
+      epochs = slice_set c.epochs server.0 (Some done.epoch);
+      deeds = c.deeds ++ deed_of done.query query value ∷ [];
+    }
 
 -- the query is a write of a constant and the last one
 abbrev pub is_last_write : Scenario → Coordinator → Query → ℕ → Bool
-is_last_write sc c query number = is_some (written_constant query) && nat_lt number (2 ^ 32 - 1) && is_none (query_of sc c (number + 1))
+is_last_write sc c query number =
+    is_some (written_constant query) && nat_lt number (2 ^ 32 - 1)
+    && is_none (query_of sc c (number + 1))
 
 -- by the answer. A read, a further query, and an answer that ends the transaction are not built
-abbrev pub on_answer : Scenario → Coordinator → ServerId → DoneReply → Query → Answer → Effect Coordinator
-on_answer sc c server done query (answer.Ran value None) = if is_last_write sc c query done.query then asks (with_deed c server done query value) else unbuilt c
+abbrev pub on_answer : Scenario → Coordinator → ServerId → DoneReply → Query → Answer
+    → Effect Coordinator
+on_answer sc c server done query (answer.Ran value None) =
+    if is_last_write sc c query done.query then asks (with_deed c server done query value)
+    else unbuilt c
 on_answer sc c server done query _ = unbuilt c
 
 -- the reply to a query, from the server that was asked
-abbrev pub on_done_from : Scenario → Coordinator → Actor → DoneReply → Query → Option ServerId → Effect Coordinator
+abbrev pub on_done_from : Scenario → Coordinator → Actor → DoneReply → Query → Option ServerId
+    → Effect Coordinator
 on_done_from sc c from done query None = ignores c
-on_done_from sc c from done query (Some server) = if is_from from server then on_answer sc c server done query done.answer else ignores c
+on_done_from sc c from done query (Some server) =
+    if is_from from server then on_answer sc c server done query done.answer else ignores c
 
-abbrev pub on_done_of_query : Scenario → Coordinator → Actor → DoneReply → Option Query → Effect Coordinator
+abbrev pub on_done_of_query : Scenario → Coordinator → Actor → DoneReply → Option Query
+    → Effect Coordinator
 on_done_of_query sc c from done None = ignores c
-on_done_of_query sc c from done (Some query) = on_done_from sc c from done query (server_of sc query)
+on_done_of_query sc c from done (Some query) =
+    on_done_from sc c from done query (server_of sc query)
 
 -- the query that is awaited, in the present turn
 abbrev pub awaits_query : Coordinator → Phase → DoneReply → Bool
@@ -120,7 +155,8 @@ is_plain _ = true
 abbrev pub on_done : Scenario → Coordinator → Phase → Actor → DoneReply → Effect Coordinator
 on_done sc c awaited from done =
     if awaits_query c awaited done
-    then (if is_plain awaited then on_done_of_query sc c from done (query_of sc c done.query) else unbuilt c)
+    then (if is_plain awaited then on_done_of_query sc c from done (query_of sc c done.query)
+    else unbuilt c)
     else ignores c
 
 -- ---- Tell
@@ -131,7 +167,13 @@ epoch_of c server = unwrap_or (flattened (slice_get c.epochs server.0)) 0
 
 abbrev pub prepare_letter : Coordinator → Staple → ServerId → Letter
 prepare_letter c staple server =
-    request c server (body.Prepare (record { txn = c.txn; turn = next_turn c; epoch = epoch_of c server; staple = Some staple; want = [] }))
+    request c server (body.Prepare (record {
+      txn = c.txn;
+      turn = next_turn c;
+      epoch = epoch_of c server;
+      staple = Some staple;
+      want = [];
+    }))
 
 abbrev pub staple_of : TellReply → ℕ → Staple
 staple_of tell sent = record { place = sent; clock = tell.clock; revoked = tell.revoked }
@@ -139,15 +181,18 @@ staple_of tell sent = record { place = sent; clock = tell.clock; revoked = tell.
 -- a first round: each awaited server is asked to prepare with the staple
 abbrev pub prepares : Coordinator → Round → Staple → Effect Coordinator
 prepares c round staple =
-    sends (record c { turn = next_turn c; phase = phase.Checking round staple }) (map (prepare_letter c staple) round.awaited)
+    sends (record c { turn = next_turn c; phase = phase.Checking round staple })
+    (map (prepare_letter c staple) round.awaited)
 
 -- the authority was asked before a round; a round that is not the first is not built
 abbrev pub on_staple : Coordinator → Phase → Staple → Effect Coordinator
-on_staple c (phase.Asking round) staple = if is_none round.aim then prepares c round staple else unbuilt c
+on_staple c (phase.Asking round) staple =
+    if is_none round.aim then prepares c round staple else unbuilt c
 on_staple c _ staple = ignores c
 
 abbrev pub on_tell : Coordinator → Phase → ℕ → TellReply → Effect Coordinator
-on_tell c awaited sent tell = if tell.turn == c.turn then on_staple c awaited (staple_of tell sent) else ignores c
+on_tell c awaited sent tell =
+    if tell.turn == c.turn then on_staple c awaited (staple_of tell sent) else ignores c
 
 -- ---- Vote
 
@@ -160,7 +205,10 @@ without awaited server = filter (λ (other : ServerId). not (other.0 == server.0
 -- the round with a server's verdicts
 abbrev pub with_reply : Round → ServerId → List Verdict → Round
 with_reply round server verdicts =
-    record round { kept = round.kept ++ record { server = server; verdicts = verdicts } ∷ []; awaited = without round.awaited server }
+    record round {
+      kept = round.kept ++ record { server = server; verdicts = verdicts } ∷ [];
+      awaited = without round.awaited server;
+    }
 
 abbrev pub is_true_verdict : Verdict → Bool
 is_true_verdict verdict = is_some verdict.rule
@@ -171,7 +219,9 @@ agrees one other = if one.admin.0 == other.admin.0 then one.version.0 == other.v
 
 -- all verdicts are true, and those of one administrator have one version
 abbrev pub are_agreed : List Verdict → Bool
-are_agreed verdicts = list_all is_true_verdict verdicts && list_all (λ (one : Verdict). list_all (agrees one) verdicts) verdicts
+are_agreed verdicts =
+    list_all is_true_verdict verdicts
+    && list_all (λ (one : Verdict). list_all (agrees one) verdicts) verdicts
 
 abbrev pub instances_with : Coordinator → List Verdict → List Instance
 instances_with c proofs = c.instances ++ record { reading = None; proofs = proofs } ∷ []
@@ -180,7 +230,8 @@ abbrev pub commit_record : Coordinator → ℕ → List Verdict → CommitRecord
 commit_record c rounds proofs = record { rounds = rounds; instances = instances_with c proofs; deeds = c.deeds }
 
 abbrev pub decide_letters : Coordinator → Outcome → List Letter
-decide_letters c outcome = requests c (body.Decide (record { txn = c.txn; outcome = outcome })) c.servers
+decide_letters c outcome =
+    requests c (body.Decide (record { txn = c.txn; outcome = outcome })) c.servers
 
 -- the decision is forced before it is sent to all of the transaction's servers
 abbrev pub decides : Coordinator → Outcome → Decision → Effect Coordinator
@@ -219,14 +270,16 @@ on_verdicts c round verdicts None = if are_agreed verdicts then commits c round.
 abbrev pub judgement : Coordinator → Round → List Verdict → Effect Coordinator
 judgement c round verdicts = if is_empty round.kept then on_verdicts c round verdicts (first_false verdicts) else unbuilt c
 
-abbrev pub on_reply : Coordinator → Round → Staple → ServerId → List Verdict → List ServerId → Effect Coordinator
+abbrev pub on_reply : Coordinator → Round → Staple → ServerId → List Verdict → List ServerId
+    → Effect Coordinator
 on_reply c round staple server verdicts [] = judgement c round verdicts
 on_reply c round staple server verdicts (other ∷ others) =
     sends (record c { phase = phase.Checking (with_reply round server verdicts) staple }) []
 
 -- a NO ends the transaction, which is not built
 abbrev pub on_vote_of : Coordinator → Round → Staple → ServerId → Vote → Effect Coordinator
-on_vote_of c round staple server (vote.Yes verdicts) = on_reply c round staple server verdicts (without round.awaited server)
+on_vote_of c round staple server (vote.Yes verdicts) =
+    on_reply c round staple server verdicts (without round.awaited server)
 on_vote_of c round staple server (vote.No why) = unbuilt c
 
 -- the vote of this server is awaited
@@ -240,7 +293,8 @@ vote_at c _ server said = ignores c
 
 abbrev pub on_vote : Coordinator → Phase → Actor → VoteReply → Effect Coordinator
 on_vote c awaited (actor.Server server) reply =
-    if (reply.turn == c.turn) && awaits_vote awaited server then vote_at c awaited server reply.vote else ignores c
+    if (reply.turn == c.turn) && awaits_vote awaited server then vote_at c awaited server reply.vote
+    else ignores c
 on_vote c awaited _ reply = ignores c
 
 -- ---- Ack

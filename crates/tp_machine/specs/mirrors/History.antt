@@ -5,7 +5,8 @@ use Rattle.tp_machine.specs.declared.history.History.{History}
 use Rattle.tp_machine.specs.Machine.{facts_of, mails_of}
 
 -- the step is added with what happened in it and its letters, whose mails are undelivered
-pub record Notes (old new : History) (taken : Step) (happened : List What) (letters : List Letter) : Type 0 where
+pub record Notes (old new : History) (taken : Step) (happened : List What) (letters : List Letter)
+    : Type 0 where
   pub steps : new.steps ≡ old.steps ++ taken ∷ []
   pub facts : new.facts ≡ old.facts ++ facts_of (length old.steps) happened
   pub mails : new.mails ≡ old.mails ++ mails_of (length old.steps) (length old.mails) letters

@@ -6,7 +6,8 @@ use Rattle.tp_machine.specs.server.State.{Server}
 
 -- the versions that the scenario says the server knows
 abbrev pub known_at_first : Scenario → ServerId → List Version
-known_at_first sc server = option_map_or (λ (declared : ServerDecl). declared.knows) (slice_get sc.servers server.0) []
+known_at_first sc server =
+    option_map_or (λ (declared : ServerDecl). declared.knows) (slice_get sc.servers server.0) []
 
 abbrev pub opening : Scenario → ServerId → Server
 opening sc server =

@@ -38,7 +38,9 @@ reply s txn said = record { from = actor.Server s.server; to = actor.Coordinator
 
 -- the item that a request is about
 abbrev pub asked_item : Scenario → QueryRequest → Option ItemId
-asked_item sc q = option_map item_of (option_and_then (λ (txn : Transaction). query_at txn q.query) (slice_get sc.txns q.txn.0))
+asked_item sc q =
+    option_map item_of
+    (option_and_then (λ (txn : Transaction). query_at txn q.query) (slice_get sc.txns q.txn.0))
 
 -- the write that a request asks for, where it asks for one without evaluation and without a pin
 abbrev pub plain_write : QueryRequest → Option ItemId → Option ℤ → Option Deed
@@ -55,7 +57,13 @@ age_of q sent = unwrap_or q.age sent
 -- the answer to a write that ran
 abbrev pub done_reply : QueryRequest → ℕ → Deed → DoneReply
 done_reply q epoch deed =
-    record { txn = q.txn; turn = q.turn; query = q.query; epoch = epoch; answer = answer.Ran deed.value None }
+    record {
+      txn = q.txn;
+      turn = q.turn;
+      query = q.query;
+      epoch = epoch;
+      answer = answer.Ran deed.value None;
+    }
 
 -- the entry that a first write makes
 abbrev pub first_entry : Server → ℕ → QueryRequest → Deed → Entry
@@ -66,11 +74,13 @@ first_entry s sent q deed =
 abbrev pub begins : Server → ℕ → QueryRequest → Option Deed → Effect Server
 begins s sent q None = unbuilt s
 begins s sent q (Some deed) =
-    sends (with_entry s q.txn (Some (first_entry s sent q deed))) (reply s q.txn (body.Done (done_reply q s.epoch deed)) ∷ [])
+    sends (with_entry s q.txn (Some (first_entry s sent q deed)))
+    (reply s q.txn (body.Done (done_reply q s.epoch deed)) ∷ [])
 
 -- the request names an epoch, and the entry was made in another
 abbrev pub names_another_epoch : QueryRequest → Entry → Bool
-names_another_epoch q entry = option_map_or (λ (epoch : ℕ). not (epoch == entry.epoch)) q.epoch false
+names_another_epoch q entry =
+    option_map_or (λ (epoch : ℕ). not (epoch == entry.epoch)) q.epoch false
 
 -- the answer to a query goes to its coordinator
 abbrev pub answers : Server → TxnId → DoneReply → Effect Server
@@ -105,13 +115,15 @@ on_open_query sc s sent q None = if is_some q.epoch then restarts s q else begin
 on_open_query sc s sent q (Some entry) = on_query_again s q entry
 
 abbrev pub on_query : Scenario → Server → ℕ → QueryRequest → Effect Server
-on_query sc s sent q = if is_open s q.txn then on_open_query sc s sent q (entry_at s q.txn) else ignores s
+on_query sc s sent q =
+    if is_open s q.txn then on_open_query sc s sent q (entry_at s q.txn) else ignores s
 
 -- ---- Prepare
 
 -- the administrator of an item; that of the first where there is no such item
 abbrev pub admin_of : Scenario → ItemId → AdminId
-admin_of sc item = unwrap_or (option_map (λ (i : Item). i.admin) (slice_get sc.items item.0)) (record { 0 = 0 })
+admin_of sc item =
+    unwrap_or (option_map (λ (i : Item). i.admin) (slice_get sc.items item.0)) (record { 0 = 0 })
 
 -- the version that the server knows of an administrator; the first where there is no such administrator
 abbrev pub version_known : Server → AdminId → Version
@@ -140,18 +152,33 @@ is_in_range sc deed = is_in_range_of (slice_get sc.items deed.item.0) deed.value
 
 abbrev pub prepared_record : Server → PrepareRequest → Entry → List Verdict → Prepared
 prepared_record s p entry verdicts =
-    record { txn = p.txn; age = entry.age; epoch = entry.epoch; turn = p.turn; deeds = entry.deeds; verdicts = verdicts; told = s.known }
+    record {
+      txn = p.txn;
+      age = entry.age;
+      epoch = entry.epoch;
+      turn = p.turn;
+      deeds = entry.deeds;
+      verdicts = verdicts;
+      told = s.known;
+    }
 
 -- the vote YES, which is forced before it is sent
 abbrev pub casts : Server → Prepared → Entry → Effect Server
 casts s forced entry =
-    logs (with_entry s forced.txn (Some (record entry { ballot = Some (record { turn = forced.turn; verdicts = forced.verdicts }) })))
+    logs (with_entry s forced.txn (Some (record entry {
+      ballot = Some (record { turn = forced.turn; verdicts = forced.verdicts });
+    })))
     (log.Prepared forced)
-    (reply s forced.txn (body.Vote (record { txn = forced.txn; turn = forced.turn; vote = vote.Yes forced.verdicts })) ∷ [])
+    (reply s forced.txn (body.Vote (record {
+      txn = forced.txn;
+      turn = forced.turn;
+      vote = vote.Yes forced.verdicts;
+    })) ∷ [])
 
 -- the vote after an evaluation with a staple of that place
 abbrev pub votes : Scenario → Server → PrepareRequest → ℕ → Entry → Effect Server
-votes sc s p place entry = casts s (prepared_record s p entry (map (verdict_on sc s place) entry.deeds)) entry
+votes sc s p place entry =
+    casts s (prepared_record s p entry (map (verdict_on sc s place) entry.deeds)) entry
 
 -- each deed leaves its item in its range
 abbrev pub are_in_range : Scenario → List Deed → Bool
@@ -159,7 +186,8 @@ are_in_range sc deeds = list_all (is_in_range sc) deeds
 
 -- with a staple each deed is evaluated and voted on; without one there are no verdicts, and wanted versions are to be learnt
 abbrev pub evaluates : Scenario → Server → PrepareRequest → Entry → Option Staple → Effect Server
-evaluates sc s p entry (Some staple) = if is_empty p.want then votes sc s p staple.place entry else unbuilt s
+evaluates sc s p entry (Some staple) =
+    if is_empty p.want then votes sc s p staple.place entry else unbuilt s
 evaluates sc s p entry None = unbuilt s
 
 -- a request to prepare a transaction that is not settled. Without an entry of that epoch it is to be refused, and so where a write is out of
@@ -183,7 +211,8 @@ is_write action.Read = false
 is_write action.Write = true
 
 abbrev pub applied_deed : List ℤ → Deed → List ℤ
-applied_deed values deed = if is_write deed.action then slice_set values deed.item.0 deed.value else values
+applied_deed values deed =
+    if is_write deed.action then slice_set values deed.item.0 deed.value else values
 
 -- the items after these deeds
 abbrev pub applied : List ℤ → List Deed → List ℤ

@@ -123,7 +123,10 @@ fn are_valid_queries(scenario: &Scenario, queries: &List<Query>) -> bool
 }
 
 fn has_valid_work(scenario: &Scenario, txn: &Transaction) -> bool
-    ensures { result ≡ (has_count 1 16 txn.now.queries && list_all (valid.is_valid_query scenario.now) txn.now.queries && not (list_any (valid.is_name_of_server txn.now) scenario.now.servers)) }
+    ensures { result
+        ≡ (has_count 1 16 txn.now.queries
+        && list_all (valid.is_valid_query scenario.now) txn.now.queries
+        && not (list_any (valid.is_name_of_server txn.now) scenario.now.servers)) }
 {
     lists::has_count(1, 16, &txn.queries)
         && are_valid_queries(scenario, &txn.queries)

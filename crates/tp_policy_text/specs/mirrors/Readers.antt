@@ -63,15 +63,22 @@ pub record Digits : Type 0 where
 -- the digit may come after these: no other after a 0, no 0 after a `-`, and fifteen in all
 abbrev pub takes_digit : Bool → List ℕ → ℕ → Bool
 takes_digit negative [] byte = is_digit byte && not (negative && (byte == 48))
-takes_digit negative (head ∷ others) byte = is_digit byte && not (head == 48) && nat_lt (length others) 14
+takes_digit negative (head ∷ others) byte =
+    is_digit byte && not (head == 48) && nat_lt (length others) 14
 
 abbrev pub int_step : Digits → ℕ → Option Digits
 int_step d byte =
-    if takes_digit d.negative d.digits byte then Some (record { negative = d.negative; digits = d.digits ++ byte ∷ [] })
-    else (if (byte == 45) && not d.negative && not (is_some_text d.digits) then Some (record { negative = true; digits = [] }) else None)
+    if takes_digit d.negative d.digits byte then Some (record {
+      negative = d.negative;
+      digits = d.digits ++ byte ∷ [];
+    })
+    else (if (byte == 45) && not d.negative && not (is_some_text d.digits)
+    then Some (record { negative = true; digits = [] })
+    else None)
 
 abbrev pub int_of : Digits → ℤ
-int_of d = if d.negative then neg_ℤ (pos (spelled_from 0 d.digits)) else pos (spelled_from 0 d.digits)
+int_of d =
+    if d.negative then neg_ℤ (pos (spelled_from 0 d.digits)) else pos (spelled_from 0 d.digits)
 
 abbrev pub int_end : Digits → Option ℕ → Option ℤ
 int_end d next = if is_some_text d.digits && not (in_word next) then Some (int_of d) else None
@@ -95,7 +102,8 @@ issuer_step (Some issuer) = Some (record { issuer = issuer; attr = None })
 
 abbrev pub head_on : List ℕ → Option (List ℕ) → ℕ → Option Head
 head_on issuer None byte =
-    if (byte == 46) && is_some_text issuer then Some (record { issuer = issuer; attr = Some [] }) else issuer_step (name_step issuer byte)
+    if (byte == 46) && is_some_text issuer then Some (record { issuer = issuer; attr = Some [] })
+    else issuer_step (name_step issuer byte)
 head_on issuer (Some attr) byte = attr_step issuer (name_step attr byte)
 
 abbrev pub head_step : Head → ℕ → Option Head
@@ -108,9 +116,12 @@ same_text _ _ = false
 
 -- None stands for the word true
 abbrev pub head_of : List ℕ → Option (List ℕ) → Option ℕ → Option (Option Head)
-head_of issuer None next = if same_text issuer (codes "true") && not (in_word next) then Some None else None
+head_of issuer None next =
+    if same_text issuer (codes "true") && not (in_word next) then Some None else None
 head_of issuer (Some attr) next =
-    if is_some_text attr && not (in_word next) then Some (Some (record { issuer = issuer; attr = Some attr })) else None
+    if is_some_text attr && not (in_word next)
+    then Some (Some (record { issuer = issuer; attr = Some attr }))
+    else None
 
 abbrev pub head_end : Head → Option ℕ → Option (Option Head)
 head_end h next = head_of h.issuer h.attr next
@@ -131,7 +142,8 @@ unstarred (Some name) = Some (record { name = name; starred = false })
 abbrev pub starred_step : Starred → ℕ → Option Starred
 starred_step p byte =
     if p.starred then None
-    else (if (byte == 42) && is_some_text p.name then Some (record { name = p.name; starred = true }) else unstarred (name_step p.name byte))
+    else (if (byte == 42) && is_some_text p.name then Some (record { name = p.name; starred = true })
+    else unstarred (name_step p.name byte))
 
 abbrev pub starred_end : Starred → Option ℕ → Option Pattern
 starred_end p next =
@@ -149,7 +161,8 @@ comes byte None = false
 comes byte (Some other) = other == byte
 
 -- one reader and another, whatever comes next
-abbrev pub both : {A : Type 0} {B : Type 0} {C : Type 0} → (A → B → C) → Reader A → Reader B → Reader C
+abbrev pub both : {A : Type 0} {B : Type 0} {C : Type 0} → (A → B → C) → Reader A → Reader B
+    → Reader C
 both f r q = link (λ a o. inr (f a)) r q
 
 -- a value behind something that says nothing
@@ -182,7 +195,8 @@ begins_int None = false
 begins_int (Some byte) = is_digit byte || (byte == 45)
 
 abbrev pub value_at : Reader Value
-value_at = choice begins_int (λ s. mapped value.Number (int_at s)) (λ s. mapped value.Word (name_at s))
+value_at =
+    choice begins_int (λ s. mapped value.Number (int_at s)) (λ s. mapped value.Word (name_at s))
 
 abbrev pub equal_at : Reader Compared
 equal_at = both with_op (sign_at (codes "=") op.Equal) value_at
@@ -191,11 +205,14 @@ abbrev pub bound_at : List ℕ → Op → Reader Compared
 bound_at sign compares = both with_number (sign_at sign compares) int_at
 
 abbrev pub compared_at : Reader Compared
-compared_at = choice (comes 61) equal_at (choice (comes 62) (bound_at (codes ">=") op.AtLeast) (bound_at (codes "<=") op.AtMost))
+compared_at =
+    choice (comes 61) equal_at
+    (choice (comes 62) (bound_at (codes ">=") op.AtLeast) (bound_at (codes "<=") op.AtMost))
 
 abbrev pub atom_of : Option Head → Option ℕ → Cond ⊎ (Compared → Cond)
 atom_of None next = inl cond.True
-atom_of (Some head) next = inr (λ compared. cond.Atom head.issuer (attr_of head.attr) compared.op compared.wanted)
+atom_of (Some head) next =
+    inr (λ compared. cond.Atom head.issuer (attr_of head.attr) compared.op compared.wanted)
   where
     attr_of : Option (List ℕ) → List ℕ
     attr_of None = []
@@ -210,10 +227,12 @@ more_of byte a next = if comes byte next then inr (λ others. a ∷ others) else
 
 abbrev pub joined_at : {A : Type 0} → ℕ → ℕ → List ℕ → Reader A → Reader (List A)
 joined_at zero byte word r = stopped stop.Spent
-joined_at (suc turns) byte word r = link (more_of byte) r (both second (word_at word (tt {0})) (joined_at turns byte word r))
+joined_at (suc turns) byte word r =
+    link (more_of byte) r (both second (word_at word (tt {0})) (joined_at turns byte word r))
 
 abbrev pub in_parentheses : Reader Cond → Reader Cond
-in_parentheses r = both second (sign_at (codes "(") (tt {0})) (both earlier r (sign_at (codes ")") (tt {0})))
+in_parentheses r =
+    both second (sign_at (codes "(") (tt {0})) (both earlier r (sign_at (codes ")") (tt {0})))
 
 -- how many parentheses may still be opened
 abbrev pub part_at : ℕ → Reader Cond → Reader Cond
@@ -221,10 +240,12 @@ part_at zero inner = unopened atom_at
 part_at (suc depth) inner = choice is_open (in_parentheses inner) atom_at
 
 abbrev pub conj_at : ℕ → ℕ → Reader Cond → Reader Cond
-conj_at turns depth inner s = mapped and_of (joined_at turns 97 (codes "and") (part_at depth inner) s)
+conj_at turns depth inner s =
+    mapped and_of (joined_at turns 97 (codes "and") (part_at depth inner) s)
 
 abbrev pub disj_at : ℕ → ℕ → Reader Cond → Reader Cond
-disj_at turns depth inner s = mapped or_of (joined_at turns 111 (codes "or") (conj_at turns depth inner) s)
+disj_at turns depth inner s =
+    mapped or_of (joined_at turns 111 (codes "or") (conj_at turns depth inner) s)
 
 abbrev pub cond_at : ℕ → ℕ → Reader Cond
 cond_at turns zero = disj_at turns zero (stopped stop.Deep)
@@ -238,7 +259,9 @@ inner_at turns (suc depth) = cond_at turns depth
 -- ---- rules
 
 abbrev pub action_at : Reader (Option Action)
-action_at = choice (comes 114) (word_at (codes "read") (Some action.Read)) (choice (comes 119) (word_at (codes "write") (Some action.Write)) (word_at (codes "any") None))
+action_at =
+    choice (comes 114) (word_at (codes "read") (Some action.Read))
+    (choice (comes 119) (word_at (codes "write") (Some action.Write)) (word_at (codes "any") None))
 
 abbrev pub pattern_at : Reader Pattern
 pattern_at = choice (comes 42) (sign_at (codes "*") pattern.All) starred_at
@@ -251,15 +274,21 @@ abbrev pub rule_of : Option Action → Permitted → Rule
 rule_of acts p = record { action = acts; pattern = p.pattern; cond = p.cond }
 
 abbrev pub permitted_at : ℕ → ℕ → Reader Permitted
-permitted_at turns depth = both permitted pattern_at (both second (word_at (codes "if") (tt {0})) (both earlier (cond_at turns depth) (sign_at (codes ";") (tt {0}))))
+permitted_at turns depth =
+    both permitted pattern_at
+    (both second (word_at (codes "if") (tt {0}))
+    (both earlier (cond_at turns depth) (sign_at (codes ";") (tt {0}))))
 
 abbrev pub rule_at : ℕ → ℕ → Reader Rule
 rule_at turns depth =
-    both second (word_at (codes "allow") (tt {0})) (both rule_of action_at (both second (word_at (codes "on") (tt {0})) (permitted_at turns depth)))
+    both second (word_at (codes "allow") (tt {0}))
+    (both rule_of action_at
+    (both second (word_at (codes "on") (tt {0})) (permitted_at turns depth)))
 
 abbrev pub rules_at : ℕ → ℕ → ℕ → Reader (List Rule)
 rules_at zero turns depth = stopped stop.Spent
-rules_at (suc left) turns depth = link (more_of 97) (rule_at turns depth) (rules_at left turns depth)
+rules_at (suc left) turns depth =
+    link (more_of 97) (rule_at turns depth) (rules_at left turns depth)
 
 -- ---- a whole text
 
@@ -269,7 +298,8 @@ whole_of (Ok rules) (byte ∷ others) = stopped stop.Syntax (byte ∷ others)
 whole_of (Err why) left = stopped why left
 
 abbrev pub rules_only : ℕ → ℕ → Reader Policy
-rules_only turns depth text = whole_of (rules_at turns turns depth text).outcome (rules_at turns turns depth text).left
+rules_only turns depth text =
+    whole_of (rules_at turns turns depth text).outcome (rules_at turns turns depth text).left
 
 abbrev pub policy_from : ℕ → ℕ → List ℕ → Reading Policy
 policy_from turns depth [] = read (record { rules = [] }) []

@@ -16,7 +16,8 @@ abbrev pub stopped : {A : Type 0} → Stop → List ℕ → Reading A
 stopped why left = record { outcome = Err why; left = left }
 
 -- one reader after another
-abbrev pub go_on : {A : Type 0} {B : Type 0} → (A → List ℕ → Reading B) → Result A Stop → List ℕ → Reading B
+abbrev pub go_on : {A : Type 0} {B : Type 0} → (A → List ℕ → Reading B) → Result A Stop → List ℕ
+    → Reading B
 go_on next (Ok a) left = next a left
 go_on next (Err why) left = stopped why left
 
@@ -39,7 +40,8 @@ abbrev pub pick : {B : Type 0} {C : Type 0} → Reader B → C ⊎ (B → C) →
 pick q (inl c) m = read c m
 pick q (inr g) m = mapped g (q m)
 
-abbrev pub link : {A : Type 0} {B : Type 0} {C : Type 0} → (A → Option ℕ → C ⊎ (B → C)) → Reader A → Reader B → Reader C
+abbrev pub link : {A : Type 0} {B : Type 0} {C : Type 0} → (A → Option ℕ → C ⊎ (B → C)) → Reader A
+    → Reader B → Reader C
 link k r q s = seq (r s) (λ a m. pick q (k a (first m)) m)
 
 -- one of two readers, by the byte that comes next
@@ -67,7 +69,9 @@ taken None here further = here
 taken (Some next) here further = further next
 
 -- a token is read byte by byte, as far as the state takes the next byte
-abbrev pub machine : {S : Type 0} {A : Type 0} → (S → ℕ → Option S) → (S → Option ℕ → Option A) → S → Reader A
+abbrev pub machine : {S : Type 0} {A : Type 0} → (S → ℕ → Option S) → (S → Option ℕ → Option A) → S
+    → Reader A
 machine step final state [] = ended (final state None) []
 machine step final state (byte ∷ others) =
-    taken (step state byte) (ended (final state (Some byte)) (byte ∷ others)) (λ next. machine step final next others)
+    taken (step state byte) (ended (final state (Some byte)) (byte ∷ others))
+    (λ next. machine step final next others)

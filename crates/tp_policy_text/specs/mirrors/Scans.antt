@@ -13,7 +13,8 @@ use Rattle.tp_policy_text.specs.mirrors.Readings.{Reader, ended, read}
 -- how many bytes in front go on, where so many were read before them
 abbrev pub reach : (ℕ → ℕ → Bool) → ℕ → List ℕ → ℕ
 reach goes count [] = 0
-reach goes count (byte ∷ others) = if goes count byte then suc (reach goes (count + 1) others) else 0
+reach goes count (byte ∷ others) =
+    if goes count byte then suc (reach goes (count + 1) others) else 0
 
 -- the byte goes on with a name of which so many bytes were read
 abbrev pub follows : ℕ → ℕ → Bool
@@ -21,12 +22,14 @@ follows count byte = if count == 0 then is_letter byte else is_part byte && nat_
 
 -- the byte goes on with a number of which so many digits were read, and which does not begin with 0
 abbrev pub is_next_digit : ℕ → ℕ → Bool
-is_next_digit count byte = is_digit byte && (if count == 0 then not (byte == 48) else nat_lt count 15)
+is_next_digit count byte =
+    is_digit byte && (if count == 0 then not (byte == 48) else nat_lt count 15)
 
 -- a 0 in front is a number by itself, and none behind a sign
 abbrev pub digit_reach : Bool → List ℕ → ℕ
 digit_reach negative [] = 0
-digit_reach negative (byte ∷ others) = if byte == 48 then (if negative then 0 else 1) else reach is_next_digit 0 (byte ∷ others)
+digit_reach negative (byte ∷ others) =
+    if byte == 48 then (if negative then 0 else 1) else reach is_next_digit 0 (byte ∷ others)
 
 -- the bytes that a name takes in front, and what is left of the text
 abbrev pub name_front : List ℕ → List ℕ
@@ -45,22 +48,30 @@ digit_rest negative text = drop (digit_reach negative text) text
 -- an integer behind its sign, where it has one
 abbrev pub digits_at : Bool → Reader ℤ
 digits_at negative text =
-    ended (int_end (record { negative = negative; digits = digit_front negative text }) (first (digit_rest negative text))) (digit_rest negative text)
+    ended
+    (int_end (record { negative = negative; digits = digit_front negative text })
+    (first (digit_rest negative text)))
+    (digit_rest negative text)
 
 -- an attribute behind its issuer and the dot
 abbrev pub attr_at : List ℕ → Reader (Option Head)
-attr_at issuer text = ended (head_of issuer (Some (name_front text)) (first (name_rest text))) (name_rest text)
+attr_at issuer text =
+    ended (head_of issuer (Some (name_front text)) (first (name_rest text))) (name_rest text)
 
 -- what an atom begins with, behind what may be its issuer
 abbrev pub head_after : List ℕ → Reader (Option Head)
 head_after issuer text =
-    if comes 46 (first text) && is_some_text issuer then attr_at issuer (drop 1 text) else ended (head_of issuer None (first text)) text
+    if comes 46 (first text) && is_some_text issuer then attr_at issuer (drop 1 text)
+    else ended (head_of issuer None (first text)) text
 
 -- a pattern behind its name
 abbrev pub starred_after : List ℕ → Reader Pattern
 starred_after name text =
-    if comes 42 (first text) && is_some_text name then read (pattern.Prefix name) (skip (drop 1 text))
-    else ended (if is_some_text name && not (in_word (first text)) then Some (pattern.Exact name) else None) text
+    if comes 42 (first text) && is_some_text name
+    then read (pattern.Prefix name) (skip (drop 1 text))
+    else ended
+    (if is_some_text name && not (in_word (first text)) then Some (pattern.Exact name) else None)
+    text
 
 -- the issuer and the attribute of what an atom begins with
 abbrev pub said_attr : Option (List ℕ) → List ℕ

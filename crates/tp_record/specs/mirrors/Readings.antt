@@ -82,7 +82,8 @@ option_at r bytes = byte_at bytes >>= λ flag. flagged r flag.0 flag.1
 -- so many, one after the other
 abbrev pub times : {A : Type 0} → Reader A → ℕ → Reader (List A)
 times r zero bytes = Some ([], bytes)
-times r (suc n) bytes = r bytes >>= λ first. times r n first.1 >>= λ others. Some (first.0 ∷ others.0, others.1)
+times r (suc n) bytes =
+    r bytes >>= λ first. times r n first.1 >>= λ others. Some (first.0 ∷ others.0, others.1)
 
 abbrev pub list_at : {A : Type 0} → Reader A → Reader (List A)
 list_at r bytes = number_at 4 bytes >>= λ count. times r count.0 count.1
@@ -91,14 +92,16 @@ list_at r bytes = number_at 4 bytes >>= λ count. times r count.0 count.1
 
 abbrev pub action_of : ℕ → Reader Action
 action_of tag bytes =
-    if tag == 0 then Some (actions.Read, bytes) else (if tag == 1 then Some (actions.Write, bytes) else None)
+    if tag == 0 then Some (actions.Read, bytes)
+    else (if tag == 1 then Some (actions.Write, bytes) else None)
 
 unfoldable pub action_at : Reader Action
 action_at bytes = byte_at bytes >>= λ tag. action_of tag.0 tag.1
 
 abbrev pub outcome_of : ℕ → Reader Outcome
 outcome_of tag bytes =
-    if tag == 0 then Some (outcomes.Commit, bytes) else (if tag == 1 then Some (outcomes.Abort, bytes) else None)
+    if tag == 0 then Some (outcomes.Commit, bytes)
+    else (if tag == 1 then Some (outcomes.Abort, bytes) else None)
 
 unfoldable pub outcome_at : Reader Outcome
 outcome_at bytes = byte_at bytes >>= λ tag. outcome_of tag.0 tag.1
@@ -111,7 +114,12 @@ version_at bytes = mapped (λ n. record { 0 = n }) (number_at 4 bytes)
 
 unfoldable pub deed_at : Reader Deed
 deed_at bytes =
-    mapped (λ p. record { query = p.0; item = record { 0 = p.1.0 }; action = p.1.1.0; value = p.1.1.1 })
+    mapped (λ p. record {
+      query = p.0;
+      item = record { 0 = p.1.0 };
+      action = p.1.1.0;
+      value = p.1.1.1;
+    })
     (both (number_at 4) (both (number_at 4) (both action_at value_at)) bytes)
 
 unfoldable pub verdict_at : Reader Verdict
@@ -143,7 +151,12 @@ no_at bytes = byte_at bytes >>= λ tag. no_of tag.0 tag.1
 
 unfoldable pub met_at : Reader Met
 met_at bytes =
-    mapped (λ p. record { admin = record { 0 = p.0 }; used = p.1.0; newest = p.1.1.0; place = p.1.1.1 })
+    mapped (λ p. record {
+      admin = record { 0 = p.0 };
+      used = p.1.0;
+      newest = p.1.1.0;
+      place = p.1.1.1;
+    })
     (both (number_at 4) (both version_at (both version_at (number_at 8))) bytes)
 
 -- ---- why a transaction aborted
@@ -157,7 +170,8 @@ denied_at bytes =
       version = p.1.1.1.0;
       place = p.1.1.1.1;
     })
-    (both (number_at 4) (both (number_at 4) (both (number_at 4) (both version_at (number_at 8)))) bytes)
+    (both (number_at 4)
+    (both (number_at 4) (both (number_at 4) (both version_at (number_at 8)))) bytes)
 
 unfoldable pub out_of_range_at : Reader OutOfRange
 out_of_range_at bytes =
@@ -166,7 +180,12 @@ out_of_range_at bytes =
 
 unfoldable pub died_at : Reader Died
 died_at bytes =
-    mapped (λ p. record { query = p.0; server = record { 0 = p.1.0 }; other = record { 0 = p.1.1.0 }; place = p.1.1.1 })
+    mapped (λ p. record {
+      query = p.0;
+      server = record { 0 = p.1.0 };
+      other = record { 0 = p.1.1.0 };
+      place = p.1.1.1;
+    })
     (both (number_at 4) (both (number_at 4) (both (number_at 4) (number_at 8))) bytes)
 
 unfoldable pub newer_at : Reader Newer
@@ -247,4 +266,5 @@ abbrev pub measured : ℕ → ℕ → Record × List ℕ → Read Record
 measured count before r = if length r.1 + count == before then Some r else None
 
 unfoldable pub body_at : Reader Record
-body_at bytes = number_at 4 bytes >>= λ count. content_at count.1 >>= λ r. measured count.0 (length count.1) r
+body_at bytes =
+    number_at 4 bytes >>= λ count. content_at count.1 >>= λ r. measured count.0 (length count.1) r

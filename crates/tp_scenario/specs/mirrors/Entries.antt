@@ -13,4 +13,5 @@ lent entries = map (λ entry. (entry.0.now, entry.1.now)) entries
 -- what they stand for
 abbrev pub entries_view : List (Bor (String Global) × Bor Value) → Members
 entries_view [] = no_members
-entries_view (entry ∷ entries) = member (string_bytes entry.0.now) (view entry.1.now) (entries_view entries)
+entries_view (entry ∷ entries) =
+    member (string_bytes entry.0.now) (view entry.1.now) (entries_view entries)

@@ -4,6 +4,7 @@ use Rattle.tp_store.specs.declared.writes.TentativeWrite.{TentativeWrite}
 use Rattle.tp_store.specs.Writes.{later}
 
 -- the writes with one more, where this one is kept at the place
-abbrev pub renewed : List TentativeWrite → ℕ → Option TentativeWrite → TentativeWrite → List TentativeWrite
+abbrev pub renewed : List TentativeWrite → ℕ → Option TentativeWrite → TentativeWrite
+    → List TentativeWrite
 renewed writes at None new = writes
 renewed writes at (Some kept) new = slice_set writes at (later kept new)

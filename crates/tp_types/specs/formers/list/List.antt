@@ -33,20 +33,30 @@ the_empty = []
 abbrev pub the_items : (X : Type 0) → Plain X → Plain X
 the_items X members = members
 
-pub the_items_listed : (X : Type 0) (members : Plain X) → listed _ (children (the_former this) X members) ≡ the_items X members
+pub the_items_listed : (X : Type 0) (members : Plain X)
+    → listed _ (children (the_former this) X members) ≡ the_items X members
 the_items_listed X members = list-listed X members
 
 -- inside, its one field holds them as a vector does
 abbrev inner : Former {0}
-inner = via (vector.the_former this Global) Inside (λ X field. field.items) (λ X held. record { items = held }) (λ X field. refl) (λ X held. refl)
+inner =
+    via (vector.the_former this Global) Inside (λ X field. field.items)
+    (λ X held. record { items = held }) (λ X field. refl) (λ X held. refl)
 
 module _ (From To : RattleType) (change : From.Denot → To.Denot) where
   -- a change of every member is a change of the list, member by member
-  pub the_places : Alike From To change → Alike (whole.the_row From) (whole.the_row To) ((the_former this).map From.Denot To.Denot change)
+  pub the_places : Alike From To change
+      → Alike (whole.the_row From) (whole.the_row To)
+      ((the_former this).map From.Denot To.Denot change)
   the_places alike = view_places inner (list this) view (λ X Y f u. refl) (λ X u. refl) From.Denot To.Denot change (whole.the_row From).coded (whole.the_row To).coded
-      (invariant From.Denot) (invariant To.Denot) (λ u p q. refl) (λ u p q. refl) (λ u e. tt) (λ u e. tt)
+      (invariant From.Denot) (invariant To.Denot) (λ u p q. refl) (λ u p q. refl) (λ u e. tt)
+      (λ u e. tt)
       (over (within.the_row From)) (over (within.the_row To))
-      (struct_places (within.the_type From) (within.the_type To) (vector.mapped change, tt) _ (λ d. refl) refl (laid _ _ _ (vector.the_places heap.the_row ghosts From To change alike), tt))
+      (struct_places (within.the_type From) (within.the_type To) (vector.mapped change, tt) _
+      (λ d. refl) refl
+      (laid _ _ _ (vector.the_places heap.the_row ghosts From To change alike), tt))
 
-  pub the_codes_placed : Recodes From To change → Recodes (whole.the_row From) (whole.the_row To) ((the_former this).map From.Denot To.Denot change)
+  pub the_codes_placed : Recodes From To change
+      → Recodes (whole.the_row From) (whole.the_row To)
+      ((the_former this).map From.Denot To.Denot change)
   the_codes_placed same members = sym (code_map From.coded.code To.coded.code change (λ x. sym (same x)) members)
