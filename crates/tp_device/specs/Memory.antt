@@ -1,7 +1,7 @@
 -- The disk in memory.
 use Rattle.std.specs.Prelude.{◌≡◌, ◌⊎◌, ℕ, ◌+◌, ◌-◌, min, List, [], ◌∷◌, ◌++◌, length, take, drop, replicate, Option, Some, None, Result, Ok, Err, option_map}
 use Rattle.tp_device.specs.Disks.{Call, Write, Cut, Sync, DiskState, MayLeave, after_cut, clean_state, after_sync, after_write}
-use Rattle.tp_device.specs.Faults.{counted}
+use Rattle.tp_types.specs.Faults.{one_more}
 use Rattle.tp_device.specs.declared.disk.DiskError.{DiskError}
 use Rattle.tp_device.specs.declared.disk.DiskError.TheVariants as errors
 use Rattle.tp_device.specs.declared.span.Span.{Span}
@@ -36,7 +36,7 @@ after_pass disk m = record { disk = disk; left = fewer_calls m.left; faults = m.
 
 -- a call that was stopped changes nothing but the count of faults
 abbrev pub after_stop : Memory → Memory
-after_stop m = record m { faults = counted m.faults }
+after_stop m = record m { faults = one_more m.faults }
 
 -- a call passes where none is stopped, and leaves the disk so. It may also be refused memory, which changes nothing
 abbrev pub Calls : {T : Type 0} → DiskState → Memory → Result T DiskError → Memory → Type 0

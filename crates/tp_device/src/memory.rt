@@ -3,7 +3,8 @@ ghost use Rattle.std.specs.Prelude.{◌≡◌, ◌≤◌, ◌<◌, ◌⊎◌, �
 ghost use Rattle.std.proofs.Common.{inl, inr, ⊎_elim};
 ghost use Rattle.tp_device.specs.Disks as disks;
 ghost use Rattle.tp_device.specs.Disks.{Cut, Effect, MayLeave, Passes, ReadsAt, Sync, Write};
-ghost use Rattle.tp_device.specs.Faults.{HasCause, counted};
+ghost use Rattle.tp_types.specs.Faults.{one_more};
+ghost use Rattle.tp_device.specs.Faults.{HasCause};
 ghost use Rattle.tp_device.specs.Memory as memory;
 ghost use Rattle.tp_device.specs.Memory.{Calls};
 
@@ -25,7 +26,7 @@ impl Fuse {
     fn enter(&mut self) -> Result<(), DiskError>
         ensures ok { OnOk result ((self.old.left ≡ Some 0 → ⊥) × (self.new ≡ self.old)) }
         ensures err { OnErr result ((self.old.left ≡ Some 0) × (self.new ≡ record self.old {
-          faults = counted self.old.faults;
+          faults = one_more self.old.faults;
         })) }
         ensures failed { result ≡ Err DiskError.NoMemory → ⊥ }
     {

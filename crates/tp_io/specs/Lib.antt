@@ -1,4 +1,3 @@
 pub mod Adapters
 pub mod Fakes
-pub mod Faults
 pub mod Whole

@@ -2,7 +2,7 @@
 ghost use Rattle.std.specs.Prelude.{◌≡◌, ◌<◌, ◌≤◌, length, drop, is_ok, if◌then◌else◌, IfOk, OnErr};
 ghost use Rattle.std.specs.Io.{ReadsAtMost, WritesAtMost};
 ghost use Rattle.std.specs.Io.KnownBytes.{ReadConsumes, WriteAppends};
-ghost use Rattle.tp_io.specs.Faults.{Rose, counted};
+ghost use Rattle.tp_types.specs.Faults.{Rose, one_more};
 ghost use Rattle.tp_io.specs.Adapters as adapters;
 
 use crate::copy::copy_front;
@@ -54,7 +54,7 @@ impl<R: Read + Drop> Source for ReadSource<R> {
         ensures later { self.old.faults ≤ self.new.faults }
         ensures cause { OnErr result (Rose self.old.faults self.new.faults) }
         ensures exact { self.new.faults
-            ≡ (if is_ok result then self.old.faults else counted self.old.faults) }
+            ≡ (if is_ok result then self.old.faults else one_more self.old.faults) }
     {
         let mut piece = [0; PIECE_MAX];
         let (room, _) = piece.split_at_mut(buf.len().min(PIECE_MAX));
@@ -115,7 +115,7 @@ impl<W: Write + Drop> Sink for WriteSink<W> {
         ensures none_taken { IfOk result (λ n. n ≡ 0 → 0 < length piece.now
             → Rose self.old.faults self.new.faults) }
         ensures exact { self.new.faults ≡ (if adapters.took_some result piece.now
-            then self.old.faults else counted self.old.faults) }
+            then self.old.faults else one_more self.old.faults) }
     {
         let answer = self.writer.write(piece);
         if !took_some(&answer, piece) {

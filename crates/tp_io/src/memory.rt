@@ -2,7 +2,7 @@
 ghost use Rattle.std.specs.Prelude.{ℕ, ◌≡◌, ◌<◌, ◌≤◌, [], Some, length, drop, true, false, IfOk, OnOk, OnErr};
 ghost use Rattle.std.specs.Io.{ReadsAtMost, WritesAtMost};
 ghost use Rattle.std.specs.Io.KnownBytes.{ReadConsumes, WriteAppends};
-ghost use Rattle.tp_io.specs.Faults.{Rose, counted};
+ghost use Rattle.tp_types.specs.Faults.{Rose, one_more};
 ghost use Rattle.tp_io.specs.Fakes.{Supplies, Stores, is_due};
 
 use crate::copy::copy_front;
@@ -11,7 +11,7 @@ use std::alloc::Global;
 use std::marker::Model;
 use tp_types::List;
 
-/// Which calls are to fail, counted from 0, how many there were, and how many faults.
+/// Which calls are to fail, one_more from 0, how many there were, and how many faults.
 #[derive(Drop)]
 struct Script {
     fails: List<u64>,
@@ -33,11 +33,11 @@ impl Script {
     /// Counts a call, and fails where it is to fail.
     fn pass(&mut self) -> Result<(), Failed>
         ensures ok { OnOk result ((is_due self.old.fails self.old.calls ≡ false)
-            × (self.new ≡ record self.old { calls = counted self.old.calls })) }
+            × (self.new ≡ record self.old { calls = one_more self.old.calls })) }
         ensures err { OnErr result ((is_due self.old.fails self.old.calls ≡ true)
             × (self.new ≡ record self.old {
-              calls = counted self.old.calls;
-              faults = counted self.old.faults;
+              calls = one_more self.old.calls;
+              faults = one_more self.old.faults;
             })) }
         ensures later { self.old.faults ≤ self.new.faults }
     {
@@ -51,7 +51,7 @@ impl Script {
 
     /// Counts a fault.
     fn fault(&mut self) -> Failed
-        ensures counted { self.new ≡ record self.old { faults = counted self.old.faults } }
+        ensures one_more { self.new ≡ record self.old { faults = one_more self.old.faults } }
         ensures later { self.old.faults ≤ self.new.faults }
     {
         self.faults = self.faults.saturating_add(1);
@@ -65,7 +65,7 @@ fn is_among(call: u64, fails: &List<u64>) -> bool
     fails.iter().any(|due| *due == call)
 }
 
-/// A source of these bytes. `fails` names the calls that fail, counted from 0, and a call gives at
+/// A source of these bytes. `fails` names the calls that fail, one_more from 0, and a call gives at
 /// most `most` bytes.
 #[derive(Drop)]
 pub struct MemorySource {
@@ -131,7 +131,7 @@ impl Source for MemorySource {
     }
 }
 
-/// A sink that keeps what is written to it. `fails` names the calls that fail, counted from 0, and
+/// A sink that keeps what is written to it. `fails` names the calls that fail, one_more from 0, and
 /// a call takes at most `most` bytes. A call that gets no memory fails too.
 #[derive(Drop)]
 pub struct MemorySink {

@@ -2,7 +2,7 @@
 ghost use Rattle.std.specs.Prelude.{ℕ, ◌≡◌, ◌≢◌, ◌<◌, ◌≤◌, min, Some, None, length, drop, IfOk, IsOkAnd, OnErr};
 ghost use Rattle.std.specs.Io.{ReadsAtMost, WritesAtMost};
 ghost use Rattle.std.specs.Io.KnownBytes.{ReadConsumes, WriteAppends};
-ghost use Rattle.tp_io.specs.Faults.{Rose};
+ghost use Rattle.tp_types.specs.Faults.{Rose};
 
 use crate::copy::copy_front;
 use crate::{Failed, Sink, Source};

@@ -1,7 +1,7 @@
 //! Reading an input to its end, and writing a whole text.
 ghost use Rattle.std.specs.Prelude.{ℕ, ◌≡◌, ◌+◌, ◌-◌, ◌<◌, ◌≤◌, length, IfOk, OnOk, OnErr, IsErrOf};
 ghost use Rattle.std.specs.Io.KnownBytes.{Consumes, Appends, IsAtEnd};
-ghost use Rattle.tp_io.specs.Faults.{Rose};
+ghost use Rattle.tp_types.specs.Faults.{Rose};
 ghost use Rattle.tp_io.specs.Whole.{Took, TakesAtMost, TakesExactly, ReadsAll, AppendsFront, input_max};
 
 use crate::{Failed, Sink, Source};

@@ -3,7 +3,7 @@ use Rattle.std.proofs.Common.{◌≡◌, ◌≢◌, inl, inr, ⊎_elim, ℕ, ◌
 use Rattle.std.proofs.lemmas.List.{append-nil, ext_get_or, length-append}
 use Rattle.tp_types.specs.declared.records.Record.{Record}
 use Rattle.tp_device.specs.Disks.{Call, DiskState, Effect, LeavesOnly, MayLeave, Sync, Write, after_sync, after_write, clean_state}
-use Rattle.tp_device.specs.Faults.{Rose}
+use Rattle.tp_types.specs.Faults.{Rose}
 use Rattle.tp_device.specs.declared.disk.DiskError.{DiskError}
 use Rattle.tp_device.specs.declared.disk.DiskError.TheVariants as errors
 use Rattle.tp_record.specs.Records.{IsRecord}

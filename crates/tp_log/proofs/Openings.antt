@@ -1,7 +1,7 @@
 -- What opening a log does to its disk, from the calls that it made.
 use Rattle.std.proofs.Common.{◌≡◌, inl, inr, ⊎_elim, ℕ, ◌<◌, ◌≤◌, List, [], ◌∷◌, drop, length, Result, Ok, Err, refl, sym, ap, subst, ◌∙◌, arith}
 use Rattle.tp_device.specs.Disks.{Call, DiskState, Effect, LeavesOnly, MayLeave, Sync, Write, after_sync, after_write, clean_state}
-use Rattle.tp_device.specs.Faults.{Rose}
+use Rattle.tp_types.specs.Faults.{Rose}
 use Rattle.tp_device.specs.declared.disk.DiskError.{DiskError}
 use Rattle.tp_device.specs.declared.disk.DiskError.TheVariants as errors
 use Rattle.tp_log.specs.Openings.{GivesUp, LeftOpening, Opens, Reads, gate_calls}

@@ -5,7 +5,7 @@ use Rattle.tp_types.specs.declared.records.Record.{Record}
 use Rattle.tp_device.specs.Disks.{Call, DiskState, MayLeave, Sync, Write, clean_state}
 use Rattle.tp_device.specs.declared.disk.DiskError.{DiskError}
 use Rattle.tp_device.specs.declared.disk.DiskError.TheVariants as disk_errors
-use Rattle.tp_device.specs.Faults.{Rose}
+use Rattle.tp_types.specs.Faults.{Rose}
 use Rattle.tp_record.specs.Records.{IsRecord}
 use Rattle.tp_record.specs.Spelling.{spelling}
 use Rattle.tp_log.specs.Images.{Ends, Gives, blocks}
@@ -81,7 +81,7 @@ module _ {D : Type 0} (state : D → DiskState) (does : D → Call → Result (U
     pub kept : (records : List Record) → Keeps state old records
         → Keeps state new (records ++ r ∷ [])
 
-  -- a call of the disk failed, and counted a fault
+  -- a call of the disk failed, and one_more a fault
   pub record Fails (old : LogState D) (r : Record) (new : LogState D) : Type 0 where
     pub was_open : old.closed ≡ false
     pub is_closed : new.closed ≡ true

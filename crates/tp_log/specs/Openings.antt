@@ -3,7 +3,7 @@ use Rattle.std.specs.Prelude.{◌≡◌, ◌⊎◌, ◌<◌, ◌≤◌, ℕ, Lis
 use Rattle.tp_device.specs.Disks.{Call, DiskState, LeavesOnly, MayLeave, Passes, Sync, Write, after_sync, clean_state}
 use Rattle.tp_device.specs.declared.disk.DiskError.{DiskError}
 use Rattle.tp_device.specs.declared.disk.DiskError.TheVariants as disk_errors
-use Rattle.tp_device.specs.Faults.{Rose}
+use Rattle.tp_types.specs.Faults.{Rose}
 use Rattle.tp_log.specs.Logs.{Makes}
 
 -- the images that a crash leaves while a log is opened: those that it might have left before, and the bytes
@@ -36,7 +36,7 @@ module _ {D : Type 0} (state : D → DiskState) (left_since : D → D → List �
     pub moments : LeavesOnly left_since old new (LeftOpening (state old))
     pub later : faults old ≤ faults new
 
-  -- one of these calls was refused, and a fault counted
+  -- one of these calls was refused, and a fault one_more
   pub record GivesUp (old gone : D) : Type 0 where
     pub calls : does old Sync (Err disk_errors.Failed) gone
         ⊎ ((first : D) × does old Sync (Ok tt) first × (then : D) × Reads first then

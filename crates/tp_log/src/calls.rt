@@ -1,6 +1,6 @@
 //! What a log asks of its disk.
 ghost use Rattle.std.specs.Prelude.{◌≡◌, ◌+◌, ◌^◌, ◌<◌, ◌≤◌, ◌++◌, [], ◌∷◌, length, Err, IfErr, IfOk};
-ghost use Rattle.tp_device.specs.Faults.{Rose};
+ghost use Rattle.tp_types.specs.Faults.{Rose};
 ghost use Rattle.tp_log.specs.Openings.{Reads, gate_calls};
 ghost use Rattle.tp_log.specs.Refusals.{IfDevice};
 ghost use Rattle.tp_log.specs.mirrors.Steps.{Steps, forced_calls};

@@ -2,7 +2,7 @@
 use Rattle.std.specs.Prelude.{◌≡◌, ◌⊎◌, ◌<◌, ℕ, ◌+◌, List, [], length, true, false, Option}
 use Rattle.std.specs.Io.KnownBytes.{Appends}
 use Rattle.tp_model.specs.Words.{Scenario, Text}
-use Rattle.tp_io.specs.Faults.{Rose}
+use Rattle.tp_types.specs.Faults.{Rose}
 use Rattle.tp_io.specs.Whole.{AppendsFront, TakesAtMost, input_max}
 use Rattle.tp_scenario.specs.declared.from_bytes.ScenarioError.{ScenarioError}
 use Rattle.tp_scenario.specs.declared.from_bytes.ScenarioError.TheVariants as error

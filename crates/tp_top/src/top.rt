@@ -1,7 +1,7 @@
 //! The top call of the program.
 ghost use Rattle.std.specs.Prelude.{◌≡◌, ◌+◌, ◌≢◌, ◌⊎◌, ◌↔◌, [], IsTrue, IfOk, IfSome};
 ghost use Rattle.std.specs.Io.KnownBytes.{Appends};
-ghost use Rattle.tp_io.specs.Faults.{Rose};
+ghost use Rattle.tp_types.specs.Faults.{Rose};
 ghost use Rattle.tp_io.specs.Whole.{TakesAtMost, input_max};
 ghost use Rattle.tp_top.specs.declared.status.Status.TheVariants as Status;
 ghost use Rattle.tp_top.specs.Refusals.{usage_line};

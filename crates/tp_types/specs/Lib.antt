@@ -1,4 +1,5 @@
 pub mod Effect
+pub mod Faults
 pub mod Spelling
 pub mod Table
 pub mod formers
