@@ -188,7 +188,11 @@ to_authority actors mail =
 
 abbrev pub to_master : Actors → Mail → Move
 to_master actors mail =
-    record { actors = actors; happened = []; letters = (master.master_row actors.master mail).reaction.letters }
+    record {
+      actors = actors;
+      happened = [];
+      letters = (master.master_row actors.master mail).reaction.letters;
+    }
 
 -- a mail is delivered to its actor
 abbrev pub receipt : Scenario → Actors → Mail → Actor → Move
@@ -211,12 +215,20 @@ delivery sc actors (Some mail) = receipt sc actors mail mail.letter.to
 -- the clock moves
 abbrev pub ticks : Actors → ℕ → Move
 ticks actors by =
-    record { actors = record actors { authority = office.after_tick by actors.authority }; happened = what.Ticked by ∷ []; letters = [] }
+    record {
+      actors = record actors { authority = office.after_tick by actors.authority };
+      happened = what.Ticked by ∷ [];
+      letters = [];
+    }
 
 -- a credential is revoked
 abbrev pub revokes : Actors → CredId → Move
 revokes actors cred =
-    record { actors = record actors { authority = office.after_revocation cred actors.authority }; happened = what.Revoked cred ∷ []; letters = [] }
+    record {
+      actors = record actors { authority = office.after_revocation cred actors.authority };
+      happened = what.Revoked cred ∷ [];
+      letters = [];
+    }
 
 -- the numbers but this one
 abbrev pub without_number : List ℕ → ℕ → List ℕ
@@ -227,7 +239,8 @@ abbrev pub with_new : State → State → List ℕ → Machine
 with_new before after undelivered =
     record {
       state = after;
-      undelivered = undelivered ++ range_with_len (length before.mails) (length after.mails - length before.mails);
+      undelivered = undelivered
+          ++ range_with_len (length before.mails) (length after.mails - length before.mails);
     }
 
 -- a step is done that delivers and loses no mail
@@ -236,14 +249,17 @@ does m taken move = with_new m.state (state_after m.state taken move) m.undelive
 
 -- the machine after a step that is not refused. Other steps are not built, and change nothing
 abbrev pub machine_after : Scenario → Machine → Step → Machine
-machine_after sc m (step.Submit txn) = does m (step.Submit txn) (submission sc m.state.actors txn (length m.state.steps))
+machine_after sc m (step.Submit txn) =
+    does m (step.Submit txn) (submission sc m.state.actors txn (length m.state.steps))
 machine_after sc m (step.Deliver mail) =
     with_new m.state
     (state_after m.state (step.Deliver mail)
     (delivery sc m.state.actors (slice_get m.state.mails mail)))
     (without_number m.undelivered mail)
 machine_after sc m (step.Lose mail) =
-    with_new m.state (state_after m.state (step.Lose mail) (idle_move m.state.actors (what.Lost mail ∷ []))) (without_number m.undelivered mail)
+    with_new m.state
+    (state_after m.state (step.Lose mail) (idle_move m.state.actors (what.Lost mail ∷ [])))
+    (without_number m.undelivered mail)
 machine_after sc m (step.Tick by) = does m (step.Tick by) (ticks m.state.actors by)
 machine_after sc m (step.Revoke cred) = does m (step.Revoke cred) (revokes m.state.actors cred)
 machine_after sc m _ = m

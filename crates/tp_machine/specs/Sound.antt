@@ -498,7 +498,8 @@ pub record IsSoundCoordinatorPart (sc : Scenario) (txn : TxnId) (part : Part Coo
 
 -- the credentials that the authority revoked exist
 abbrev pub IsSoundAuthority : Scenario → Authority → Type 0
-IsSoundAuthority sc authority = Each (λ (place : Option CredId). IfSome place (IsCred sc)) authority.revoked
+IsSoundAuthority sc authority =
+    Each (λ (place : Option CredId). IfSome place (IsCred sc)) authority.revoked
 
 -- the master knows a version of each administrator
 abbrev pub IsSoundMaster : Scenario → Master → Type 0

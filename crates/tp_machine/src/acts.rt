@@ -139,7 +139,10 @@ fn deliver(
 
 fn tick(actors: &mut Actors, history: &mut History, alloc: Global, by: u64) -> Result<(), NoMemory>
     requires { actors.old.authority.clock + by < 2 ^ 63 }
-    ensures ok { OnOk result (machine_of actors.new history.new ≡ machine.does (machine_of actors.old history.old) (step.Tick by) (machine.ticks actors.old by)) }
+    ensures ok { OnOk result
+        (machine_of actors.new history.new
+        ≡ machine.does (machine_of actors.old history.old) (step.Tick by)
+        (machine.ticks actors.old by)) }
     ensures same_history { OnErr result (SameHistory history.old history.new) }
     ensures up { SameUp actors.old actors.new }
 {
@@ -153,7 +156,10 @@ fn revoke(
     alloc: Global,
     cred: CredId,
 ) -> Result<(), NoMemory>
-    ensures ok { OnOk result (machine_of actors.new history.new ≡ machine.does (machine_of actors.old history.old) (step.Revoke cred) (machine.revokes actors.old cred)) }
+    ensures ok { OnOk result
+        (machine_of actors.new history.new
+        ≡ machine.does (machine_of actors.old history.old) (step.Revoke cred)
+        (machine.revokes actors.old cred)) }
     ensures same_history { OnErr result (SameHistory history.old history.new) }
     ensures up { SameUp actors.old actors.new }
 {

@@ -543,7 +543,8 @@ impl Coordinator {
         outcome: Outcome,
         decision: Decision,
     ) -> Result<Reaction, NoMemory>
-        ensures { IfOk result (λ reaction. Gives (row.decides self.old outcome decision) self.new reaction) }
+        ensures { IfOk result (λ reaction.
+            Gives (row.decides self.old outcome decision) self.new reaction) }
     {
         let letters = self.decide_letters(alloc, outcome)?;
         self.phase = Phase::Ending {

@@ -174,7 +174,8 @@ impl Server {
         entry: &Entry,
         request: &QueryRequest,
     ) -> Result<Reaction, NoMemory>
-        ensures { IfOk result (λ reaction. Gives (row.on_query_again self.now request.now entry.now) self.now reaction) }
+        ensures { IfOk result (λ reaction.
+            Gives (row.on_query_again self.now request.now entry.now) self.now reaction) }
     {
         if entry.ballot.is_some() {
             return Ok(ignored(alloc));
@@ -194,7 +195,8 @@ impl Server {
 
     /// What the transaction did here was lost in an earlier epoch.
     fn restarts(&self, alloc: Global, request: &QueryRequest) -> Result<Reaction, NoMemory>
-        ensures { IfOk result (λ reaction. Gives (row.restarts self.now request.now) self.now reaction) }
+        ensures { IfOk result (λ reaction.
+            Gives (row.restarts self.now request.now) self.now reaction) }
     {
         let restarted = DoneReply {
             txn: request.txn,
@@ -207,7 +209,8 @@ impl Server {
     }
 
     fn answers(&self, alloc: Global, txn: TxnId, given: DoneReply) -> Result<Reaction, NoMemory>
-        ensures { IfOk result (λ reaction. Gives (row.answers self.now txn given) self.now reaction) }
+        ensures { IfOk result (λ reaction.
+            Gives (row.answers self.now txn given) self.now reaction) }
     {
         let letter = self.reply(txn, Body::Done(given));
         sent_alone(alloc, letter)
@@ -372,7 +375,11 @@ impl Server {
 
     /// An order to end what may be settled already.
     fn on_settled_decide(&self, alloc: Global, request: DecideRequest) -> Result<Reaction, NoMemory>
-        ensures { IfOk result (λ reaction. Gives (row.on_settled_decide self.now request (flattened (slice_get self.now.settled request.txn.0))) self.now reaction) }
+        ensures { IfOk result (λ reaction.
+            Gives
+            (row.on_settled_decide self.now request
+            (flattened (slice_get self.now.settled request.txn.0)))
+            self.now reaction) }
     {
         match self.settled.get(request.txn.0 as usize) {
             Some(Some(_)) => {

@@ -92,8 +92,11 @@ fn level_at(path: Path, value: Option<&Value>) -> Result<Level, WalkError>
 
 /// Notes the place of a credential, and tells whether it is new.
 fn noted(seen: &mut IndexSet<u32>, place: u32) -> Result<bool, NoMemory>
-    ensures new { IfOk result (λ new. new ≡ not (list_any (λ other. place == other) seen.old.keys)) }
-    ensures places { OnOk result (list_any (λ other. place == other) seen.old.keys ≡ false → seen.new.keys ≡ seen.old.keys ++ place ∷ []) }
+    ensures new { IfOk result (λ new.
+        new ≡ not (list_any (λ other. place == other) seen.old.keys)) }
+    ensures places { OnOk result
+        (list_any (λ other. place == other) seen.old.keys ≡ false
+        → seen.new.keys ≡ seen.old.keys ++ place ∷ []) }
 {
     Ok(seen.insert(place)?)
 }
@@ -106,7 +109,8 @@ fn presented_at(
     seen: &mut IndexSet<u32>,
     value: &Value,
 ) -> Result<CredId, WalkError>
-    ensures value { Gives result (txns.credential_at path creds.now (creds_at seen.old.keys) (view value.now)) }
+    ensures value { Gives result
+        (txns.credential_at path creds.now (creds_at seen.old.keys) (view value.now)) }
     ensures noted { IfOk result (λ cred. seen.new.keys ≡ seen.old.keys ++ cred.0 ∷ []) }
 {
     let place = used_at(path, creds, Some(value))?;

@@ -243,7 +243,8 @@ decides c outcome decided =
 -- the transaction commits on these proofs, which close an instance
 abbrev pub commits : Coordinator → ℕ → List Verdict → Effect Coordinator
 commits c rounds proofs =
-    decides (record c { instances = instances_with c proofs }) Commit (decision.Commit (commit_record c rounds proofs))
+    decides (record c { instances = instances_with c proofs }) Commit
+    (decision.Commit (commit_record c rounds proofs))
 
 -- the transaction aborts
 abbrev pub aborts : Coordinator → Cause → Effect Coordinator
@@ -259,16 +260,24 @@ first_false verdicts = find is_false_verdict verdicts
 -- what a false verdict denies
 abbrev pub denied_by : Verdict → Denied
 denied_by verdict =
-    record { query = verdict.query; server = verdict.server; admin = verdict.admin; version = verdict.version; place = verdict.place }
+    record {
+      query = verdict.query;
+      server = verdict.server;
+      admin = verdict.admin;
+      version = verdict.version;
+      place = verdict.place;
+    }
 
 -- a false verdict denies; proofs that agree commit; and differing versions are not built
 abbrev pub on_verdicts : Coordinator → Round → List Verdict → Option Verdict → Effect Coordinator
 on_verdicts c round verdicts (Some denied) = aborts c (cause.Denied (denied_by denied))
-on_verdicts c round verdicts None = if are_agreed verdicts then commits c round.number verdicts else unbuilt c
+on_verdicts c round verdicts None =
+    if are_agreed verdicts then commits c round.number verdicts else unbuilt c
 
 -- a round in which all have replied is judged. Replies of several servers are not built
 abbrev pub judgement : Coordinator → Round → List Verdict → Effect Coordinator
-judgement c round verdicts = if is_empty round.kept then on_verdicts c round verdicts (first_false verdicts) else unbuilt c
+judgement c round verdicts =
+    if is_empty round.kept then on_verdicts c round verdicts (first_false verdicts) else unbuilt c
 
 abbrev pub on_reply : Coordinator → Round → Staple → ServerId → List Verdict → List ServerId
     → Effect Coordinator

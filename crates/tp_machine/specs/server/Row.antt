@@ -88,7 +88,13 @@ answers s txn given = sends s (reply s txn (body.Done given) ∷ [])
 
 -- what the transaction did here was lost in an earlier epoch
 abbrev pub restarted_reply : QueryRequest → ℕ → DoneReply
-restarted_reply q epoch = record { txn = q.txn; turn = q.turn; query = q.query; epoch = epoch; answer = answer.Restarted }
+restarted_reply q epoch = record {
+  txn = q.txn;
+  turn = q.turn;
+  query = q.query;
+  epoch = epoch;
+  answer = answer.Restarted;
+}
 
 abbrev pub restarts : Server → QueryRequest → Effect Server
 restarts s q = answers s q.txn (restarted_reply q s.epoch)
@@ -111,7 +117,9 @@ on_query_again s q entry =
 
 -- a query of a transaction that is not settled. With an epoch that no entry has it is told that the server restarted
 abbrev pub on_open_query : Scenario → Server → ℕ → QueryRequest → Option Entry → Effect Server
-on_open_query sc s sent q None = if is_some q.epoch then restarts s q else begins s sent q (plain_write q (asked_item sc q) q.value)
+on_open_query sc s sent q None =
+    if is_some q.epoch then restarts s q
+    else begins s sent q (plain_write q (asked_item sc q) q.value)
 on_open_query sc s sent q (Some entry) = on_query_again s q entry
 
 abbrev pub on_query : Scenario → Server → ℕ → QueryRequest → Effect Server
@@ -247,7 +255,9 @@ on_settled_decide s d (Some settled) = sends s (ack_letter s d.txn ∷ [])
 on_settled_decide s d None = ignores s
 
 abbrev pub on_decide : Server → DecideRequest → Effect Server
-on_decide s d = if is_open s d.txn then settles s d else on_settled_decide s d (flattened (slice_get s.settled d.txn.0))
+on_decide s d =
+    if is_open s d.txn then settles s d
+    else on_settled_decide s d (flattened (slice_get s.settled d.txn.0))
 
 -- ---- all mails
 
