@@ -496,16 +496,12 @@ impl Coordinator {
             self.phase = Phase::Checking { round, staple };
             return Ok(nothing(alloc));
         }
-        if !round.kept.is_empty() {
+        if !round.kept.is_empty() || !have_one_version(verdicts.as_slice()) {
             self.phase = Phase::Checking { round, staple };
             return Ok(unbuilt(alloc));
         }
         if let Some(verdict) = first_false(verdicts.as_slice()) {
             return self.aborts(alloc, Cause::Denied(denied_by(verdict)));
-        }
-        if !are_agreed(verdicts.as_slice()) {
-            self.phase = Phase::Checking { round, staple };
-            return Ok(unbuilt(alloc));
         }
         self.commits(alloc, round.number, verdicts)
     }
@@ -715,8 +711,7 @@ fn agrees_with_all(one: &Verdict, verdicts: &[Verdict]) -> bool
 }
 
 fn have_one_version(verdicts: &[Verdict]) -> bool
-    ensures { result ≡ list_all
-        (λ (one : Verdict). list_all (row.agrees one) verdicts.now) verdicts.now }
+    ensures { result ≡ row.have_one_version verdicts.now }
 {
     verdicts.iter().all(|one| agrees_with_all(one, verdicts))
 }
@@ -739,16 +734,4 @@ fn denied_by(verdict: &Verdict) -> Denied
         version: verdict.version,
         place: verdict.place,
     }
-}
-
-fn are_true(verdicts: &[Verdict]) -> bool
-    ensures { result ≡ list_all row.is_true_verdict verdicts.now }
-{
-    verdicts.iter().all(|verdict| verdict.rule.is_some())
-}
-
-fn are_agreed(verdicts: &[Verdict]) -> bool
-    ensures { result ≡ row.are_agreed verdicts.now }
-{
-    are_true(verdicts) && have_one_version(verdicts)
 }

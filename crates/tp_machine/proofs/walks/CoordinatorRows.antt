@@ -1,7 +1,7 @@
 -- A coordinator's rows are walked once: what is shown of each of their outcomes holds of the rows. A new outcome is a field here, and of each
 -- theorem's cases.
-use Rattle.std.proofs.Common.{List, None, Option, Some, [], is_none, refl, true, ℤ, ◌&&◌, ◌==◌, ◌∷◌, ◌≡◌}
-use Rattle.std.proofs.lemmas.Bool.{and_parts}
+use Rattle.std.proofs.Common.{Bool, List, None, Option, Some, [], arith, false, is_none, is_some, refl, true, ℕ, ℤ, ◌&&◌, ◌==◌, ◌∷◌, ◌≡◌}
+use Rattle.std.proofs.lemmas.Bool.{and_from, and_parts}
 use Rattle.tp_types.specs.Effect.{Effect, ignores, sends}
 use Rattle.tp_model.specs.Queries.{written_constant}
 use Rattle.tp_model.specs.Stage.{is_empty}
@@ -11,12 +11,13 @@ use Rattle.tp_model.specs.Words.answer
 use Rattle.tp_model.specs.Words.body
 use Rattle.tp_model.specs.Words.cause
 use Rattle.tp_model.specs.Words.vote
-use Rattle.tp_machine.specs.coord.Row.{aborts, ack_from, are_agreed, asks, awaits_query, awaits_vote, begins, commits, coordinator_row, denied_by, first_false, is_awaited, is_from, is_last_write, is_plain, on_ack, on_answer, on_body, on_done_from, on_done_of_query, on_reply, on_staple, on_verdicts, on_vote, on_vote_of, prepares, query_of, sends_first, server_of, staple_of, submit_row, vote_at, with_deed, with_reply, without}
+use Rattle.tp_machine.specs.coord.Row.{aborts, ack_from, are_agreed, asks, awaits_query, awaits_vote, begins, commits, coordinator_row, denied_by, first_false, have_one_version, is_awaited, is_false_verdict, is_from, is_last_write, is_plain, is_true_verdict, on_ack, on_answer, on_body, on_done_from, on_done_of_query, on_reply, on_staple, on_verdicts, on_vote, on_vote_of, prepares, query_of, sends_first, server_of, staple_of, submit_row, vote_at, with_deed, with_reply, without}
 use Rattle.tp_machine.specs.coord.State.{Coordinator}
 use Rattle.tp_machine.specs.declared.coord.Phase.TheVariants as phase
 use Rattle.tp_machine.specs.declared.coord.Phase.{Phase}
 use Rattle.tp_machine.specs.declared.coord.Round.{Round}
 use Rattle.tp_machine.proofs.basics.Lists.{by_cond}
+use Rattle.std.specs.List.{list_all}
 
 -- ---- outcomes of a receipt
 
@@ -109,17 +110,37 @@ on_staple_by sc c mail P cases tell _ e present asking = cases.ignored
 
 -- ---- Vote
 
+a_rule : (rule : Option ℕ) → is_none rule ≡ false → is_some rule ≡ true
+a_rule None e = absurd (cc)
+a_rule (Some rule) e = refl
+
+true_first : (verdict : Verdict) (verdicts : List Verdict) (b : Bool) → is_false_verdict verdict ≡ b → (first_false verdicts ≡ None → list_all is_true_verdict verdicts ≡ true)
+    → first_false (verdict ∷ verdicts) ≡ None → list_all is_true_verdict (verdict ∷ verdicts) ≡ true
+true_first verdict verdicts true here later e = absurd (grind arith)
+true_first verdict verdicts false other later e =
+    let next : first_false verdicts ≡ None = grind arith in
+    and_from (is_true_verdict verdict) (list_all is_true_verdict verdicts) (a_rule verdict.rule other) (later next)
+
+-- where no verdict is false all are true
+all_true : (verdicts : List Verdict) → first_false verdicts ≡ None → list_all is_true_verdict verdicts ≡ true
+all_true [] e = refl
+all_true (verdict ∷ verdicts) e = true_first verdict verdicts (is_false_verdict verdict) refl (λ later. all_true verdicts later) e
+
 judged_by : (sc : Scenario) (c : Coordinator) (mail : Mail) (P : Effect Coordinator → Type 0) → CoordinatorCases sc c mail P → (reply : VoteReply) (round : Round) (staple : Staple) (server : ServerId)
-    (verdicts : List Verdict) (found : Option Verdict) → IsYes c mail reply round staple server verdicts → without round.awaited server ≡ [] → is_empty round.kept ≡ true → first_false verdicts ≡ found
+    (verdicts : List Verdict) (found : Option Verdict) → IsYes c mail reply round staple server verdicts → without round.awaited server ≡ [] → is_empty round.kept ≡ true → have_one_version verdicts ≡ true
+    → first_false verdicts ≡ found
     → P (on_verdicts c round verdicts found)
-judged_by sc c mail P cases reply round staple server verdicts (Some verdict) y e first f = cases.denied reply round staple server verdicts verdict y e f
-judged_by sc c mail P cases reply round staple server verdicts None y e first f =
-    by_cond P (are_agreed verdicts) (λ agreed. cases.committed reply round staple server verdicts y e first agreed) (λ other. cases.ignored)
+judged_by sc c mail P cases reply round staple server verdicts (Some verdict) y e first one f = cases.denied reply round staple server verdicts verdict y e f
+judged_by sc c mail P cases reply round staple server verdicts None y e first one f =
+    cases.committed reply round staple server verdicts y e first (and_from (list_all is_true_verdict verdicts) (have_one_version verdicts) (all_true verdicts f) one)
 
 on_reply_by : (sc : Scenario) (c : Coordinator) (mail : Mail) (P : Effect Coordinator → Type 0) → CoordinatorCases sc c mail P → (reply : VoteReply) (round : Round) (staple : Staple) (server : ServerId)
     (verdicts : List Verdict) (left : List ServerId) → IsYes c mail reply round staple server verdicts → without round.awaited server ≡ left → P (on_reply c round staple server verdicts left)
 on_reply_by sc c mail P cases reply round staple server verdicts [] y e =
-    by_cond P (is_empty round.kept) (λ first. judged_by sc c mail P cases reply round staple server verdicts (first_false verdicts) y e first refl) (λ other. cases.ignored)
+    by_cond P (is_empty round.kept && have_one_version verdicts)
+    (λ one. let parts = and_parts (is_empty round.kept) (have_one_version verdicts) one in
+    judged_by sc c mail P cases reply round staple server verdicts (first_false verdicts) y e parts.0 parts.1 refl)
+    (λ other. cases.ignored)
 on_reply_by sc c mail P cases reply round staple server verdicts (other ∷ others) y e = cases.counted reply round staple server verdicts other others y e
 
 on_vote_of_by : (sc : Scenario) (c : Coordinator) (mail : Mail) (P : Effect Coordinator → Type 0) → CoordinatorCases sc c mail P → (reply : VoteReply) (round : Round) (staple : Staple) (server : ServerId) (said : Vote)

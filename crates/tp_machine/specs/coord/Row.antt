@@ -217,11 +217,13 @@ is_true_verdict verdict = is_some verdict.rule
 abbrev pub agrees : Verdict → Verdict → Bool
 agrees one other = if one.admin.0 == other.admin.0 then one.version.0 == other.version.0 else true
 
+-- verdicts of one administrator have one version
+abbrev pub have_one_version : List Verdict → Bool
+have_one_version verdicts = list_all (λ (one : Verdict). list_all (agrees one) verdicts) verdicts
+
 -- all verdicts are true, and those of one administrator have one version
 abbrev pub are_agreed : List Verdict → Bool
-are_agreed verdicts =
-    list_all is_true_verdict verdicts
-    && list_all (λ (one : Verdict). list_all (agrees one) verdicts) verdicts
+are_agreed verdicts = list_all is_true_verdict verdicts && have_one_version verdicts
 
 abbrev pub instances_with : Coordinator → List Verdict → List Instance
 instances_with c proofs = c.instances ++ record { reading = None; proofs = proofs } ∷ []
@@ -268,16 +270,17 @@ denied_by verdict =
       place = verdict.place;
     }
 
--- a false verdict denies; proofs that agree commit; and differing versions are not built
+-- of verdicts that have one version each a false one denies, and else all are proofs
 abbrev pub on_verdicts : Coordinator → Round → List Verdict → Option Verdict → Effect Coordinator
 on_verdicts c round verdicts (Some denied) = aborts c (cause.Denied (denied_by denied))
-on_verdicts c round verdicts None =
-    if are_agreed verdicts then commits c round.number verdicts else unbuilt c
+on_verdicts c round verdicts None = commits c round.number verdicts
 
--- a round in which all have replied is judged. Replies of several servers are not built
+-- a round in which all have replied is judged. Replies of several servers, and versions that differ, are not built
 abbrev pub judgement : Coordinator → Round → List Verdict → Effect Coordinator
 judgement c round verdicts =
-    if is_empty round.kept then on_verdicts c round verdicts (first_false verdicts) else unbuilt c
+    if is_empty round.kept && have_one_version verdicts
+    then on_verdicts c round verdicts (first_false verdicts)
+    else unbuilt c
 
 abbrev pub on_reply : Coordinator → Round → Staple → ServerId → List Verdict → List ServerId
     → Effect Coordinator
