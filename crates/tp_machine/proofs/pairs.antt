@@ -1,7 +1,9 @@
 -- The deeds and epochs of one transaction at one server. Site and Pair say what is looked at, and Fits what holds in every state.
 -- Loses, Grows and Follows: what was sent or kept before still fits after an event. Moves, Answered and Letters: what the
 -- coordinator does and sends. Entries, Ran, Votes and Ends: what the server does. Outcomes: what follows.
+pub mod Actors
 pub mod Answered
+pub mod CoordinatorRows
 pub mod Ends
 pub mod Entries
 pub mod Fits
@@ -14,5 +16,7 @@ pub mod Moves
 pub mod Outcomes
 pub mod Pair
 pub mod Ran
+pub mod ServerRows
 pub mod Site
 pub mod Votes
+pub mod World

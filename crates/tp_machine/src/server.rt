@@ -11,11 +11,11 @@ ghost use Rattle.tp_machine.specs.server.Opened as opened;
 
 use std::alloc::Global;
 use std::marker::Model;
-use tp_model::{item_of, query_at};
+use tp_model::query_at;
 use tp_types::{
     AckReply, Action, Actor, AdminId, Answer, Body, DecideRequest, Deed, DoneReply, Item, ItemId,
-    Letter, List, Mail, NoMemory, Outcome, Place, PrepareRequest, Prepared, QueryRequest, Reaction,
-    Record, Scenario, ServerId, Settled, Staple, TryClone, TxnId, Verdict, Version, Vote,
+    Letter, List, Mail, NoMemory, Outcome, Place, PrepareRequest, Prepared, Query, QueryRequest,
+    Reaction, Record, Scenario, ServerId, Settled, Staple, TryClone, TxnId, Verdict, Version, Vote,
     VoteReply, forced_and_sent, ignored, none_for_each, sent_alone, taken, unbuilt,
 };
 
@@ -463,7 +463,16 @@ fn asked_item(scenario: &Scenario, request: &QueryRequest) -> Option<ItemId>
 {
     let txn = scenario.txns.get(request.txn.0 as usize)?;
     let query = query_at(txn, request.query)?;
-    Some(item_of(query))
+    written_item(query)
+}
+
+fn written_item(query: &Query) -> Option<ItemId>
+    ensures { result ≡ row.written_item query.now }
+{
+    match query {
+        Query::Write { item, .. } => Some(*item),
+        Query::Read { .. } => None,
+    }
 }
 
 fn plain_write(request: &QueryRequest, item: Option<ItemId>) -> Option<Deed>

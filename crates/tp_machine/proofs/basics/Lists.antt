@@ -87,6 +87,12 @@ missing [] n within e = omega arith
 missing (x ∷ xs) zero within e = cc
 missing (x ∷ xs) (suc n) within e = missing xs n (omega arith) e
 
+-- what was written at a place within a list stands there
+pub set_here : {A : Type 0} (xs : List A) (n : ℕ) (v : A) → n < length xs → slice_get (slice_set xs n v) n ≡ Some v
+set_here [] n v within = absurd (omega (arith, within))
+set_here (x ∷ xs) zero v within = refl
+set_here (x ∷ xs) (suc n) v within = set_here xs n v (omega (arith, within))
+
 pub at_set : {A : Type 0} (P : ℕ → A → Type 0) (xs : List A) (k : ℕ) (v : A) → EachAt P xs → P k v → EachAt P (slice_set xs k v)
 at_set P [] k v h p n found e = absurd (cc)
 at_set P (x ∷ xs) zero v h p zero found e = let same : v ≡ found = grind arith in subst (P 0) same p

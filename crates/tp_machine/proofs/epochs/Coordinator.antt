@@ -26,7 +26,7 @@ use Rattle.tp_machine.proofs.basics.Lists.{each_filter, each_more}
 
 -- ---- Tell
 
-some_is : (kept : Option ℕ) → is_some kept ≡ true → kept ≡ Some (unwrap_or kept 0)
+pub some_is : (kept : Option ℕ) → is_some kept ≡ true → kept ≡ Some (unwrap_or kept 0)
 some_is None e = absurd (cc)
 some_is (Some n) e = refl
 

@@ -86,7 +86,7 @@ ignores_keeps sc E A c h = plain_keeps sc E A c.txn (Some c) [] h tt
 
 -- ---- Done
 
-from_server : (from : Actor) (at : ServerId) → coord.is_from from at ≡ true → from ≡ actor.Server at
+pub from_server : (from : Actor) (at : ServerId) → coord.is_from from at ≡ true → from ≡ actor.Server at
 from_server (actor.Server other) at e = ap (λ (n : ℕ). actor.Server (server_number n)) (eqb-true other.0 at.0 e)
 from_server (actor.Coordinator txn) at e = absurd (cc)
 from_server actor.Master at e = absurd (cc)
@@ -97,7 +97,7 @@ flat_chosen true epoch other = refl
 flat_chosen false epoch other = refl
 
 -- the epoch of one server is kept anew
-kept_set : (epochs : List (Option ℕ)) (n m epoch : ℕ) → n < length epochs → flattened (slice_get (slice_set epochs n (Some epoch)) m) ≡ (if n == m then Some epoch else flattened (slice_get epochs m))
+pub kept_set : (epochs : List (Option ℕ)) (n m epoch : ℕ) → n < length epochs → flattened (slice_get (slice_set epochs n (Some epoch)) m) ≡ (if n == m then Some epoch else flattened (slice_get epochs m))
 kept_set epochs n m epoch within = by_found (slice_get epochs n) refl
   where
     by_found : (found : Option (Option ℕ)) → slice_get epochs n ≡ found → flattened (slice_get (slice_set epochs n (Some epoch)) m) ≡ (if n == m then Some epoch else flattened (slice_get epochs m))

@@ -384,7 +384,7 @@ nothing_kept zero n = refl
 nothing_kept (suc count) zero = refl
 nothing_kept (suc count) (suc n) = nothing_kept count n
 
-made_from_zero : {X : Type 0} (P : ℕ → X → Type 0) (f : ℕ → X) (count : ℕ) → ((n : ℕ) → P n (f n)) → EachAt P (map f (range_with_len 0 count))
+pub made_from_zero : {X : Type 0} (P : ℕ → X → Type 0) (f : ℕ → X) (count : ℕ) → ((n : ℕ) → P n (f n)) → EachAt P (map f (range_with_len 0 count))
 made_from_zero P f count h n x e =
     let same : 0 + n ≡ n = omega arith in
     subst (λ (m : ℕ). P m x) same (at_made P f 0 count (λ k within. h k) n x e)

@@ -1,15 +1,16 @@
 -- The server's row keeps its state sound, forces a sound record, and sends sound letters.
-use Rattle.std.proofs.Common.{Bool, IfSome, List, None, Option, Some, [], ap, arith, false, is_none, is_some, length, map, option_map, refl, slice_get, subst, suc, sym, true, unwrap_or, zero, ℕ, ℤ, ◌&&◌, ◌<◌, ◌==◌, ◌∙◌, ◌∷◌, ◌≡◌}
+use Rattle.std.proofs.Common.{Bool, IfSome, List, None, Option, Some, [], ap, arith, false, is_none, is_some, length, map, option_and_then, option_map, refl, slice_get, subst, suc, sym, true, unwrap_or, zero, ℕ, ℤ, ◌&&◌, ◌<◌, ◌==◌, ◌∙◌, ◌∷◌, ◌≡◌}
 use Rattle.std.proofs.lemmas.Option.{cond_some, same_Some}
 use Rattle.tp_types.specs.Effect.{Effect, ignores}
 use Rattle.tp_model.specs.Queries.{item_of}
-use Rattle.tp_model.specs.Words.{Admin, AdminId, Body, DecideRequest, Deed, DoneReply, Item, ItemId, Mail, PrepareRequest, QueryRequest, Scenario, ServerId, Settled, TxnId, Version}
+use Rattle.tp_model.specs.Words.{Admin, AdminId, Body, DecideRequest, Deed, DoneReply, Item, ItemId, Mail, PrepareRequest, Query, QueryRequest, Scenario, ServerId, Settled, TxnId, Version}
 use Rattle.tp_model.specs.Words.action
 use Rattle.tp_model.specs.Words.actor
 use Rattle.tp_model.specs.Words.body
+use Rattle.tp_model.specs.Words.query
 use Rattle.tp_machine.specs.Sound.{AreSoundVerdicts, AreVersionsOf, Each, IsAdmin, IsItemOf, IsSoundBody, IsSoundDeedAt, IsSoundDone, IsSoundEntry, IsSoundLetter, IsSoundQuery, IsSoundServer, IsSoundServerRecord, IsSoundSettled, IsSoundVerdict, IsTxn, IsVersion, IsVersionOf, query_in}
 use Rattle.tp_machine.specs.declared.server.Entry.{Entry}
-use Rattle.tp_machine.specs.server.Row.{admin_of, answers, asked_item, begins, done_reply, first_entry, plain_write, reply, restarted_reply, server_row, settled_as, settles, verdict_on, version_known, votes}
+use Rattle.tp_machine.specs.server.Row.{admin_of, answers, asked_item, begins, done_reply, first_entry, plain_write, reply, restarted_reply, server_row, settled_as, settles, verdict_on, version_known, votes, written_item}
 use Rattle.tp_machine.specs.server.State.{Server}
 use Rattle.tp_machine.proofs.walks.ServerRows.{server_by}
 use Rattle.tp_machine.proofs.ids.Valid.{IsValid, IsValidItem}
@@ -55,11 +56,16 @@ asked_deed q (Some item) (Some value) deed same e =
 asked_deed q (Some item) None deed same e = absurd (cc)
 asked_deed q None value deed same e = absurd (cc)
 
+-- the item that a query writes is the one that it is about
+pub writes_its_item : (asked : Query) (item : ItemId) → written_item asked ≡ Some item → item_of asked ≡ item
+writes_its_item (query.Write other expr) item e = same_Some other item e
+writes_its_item (query.Read other into) item e = absurd (cc)
+
 begins_sound : (sc : Scenario) (s : Server) (sent : ℕ) (q : QueryRequest) (deed : Deed) → IsSoundServer sc s → IsSoundQuery sc (actor.Server s.server) q
     → plain_write q (asked_item sc q) q.value ≡ Some deed → IsSoundServerEffect sc s (begins s sent q (Some deed))
 begins_sound sc s sent q deed h m e =
     let d : IsAskedDeed q (asked_item sc q) deed = asked_deed q (asked_item sc q) q.value deed refl e in
-    let item_is : deed.item ≡ item_of m.asked = same_Some deed.item (item_of m.asked) (sym d.item_is ∙ ap (option_map item_of) m.asked_is) in
+    let item_is : deed.item ≡ item_of m.asked = sym (writes_its_item m.asked deed.item (sym (ap (option_and_then written_item) m.asked_is) ∙ d.item_is)) in
     let at_is : m.at ≡ s.server = cc in
     let kept : IsItemOf sc s.server deed.item = subst (IsItemOf sc s.server) (sym item_is) (subst (λ (at : ServerId). IsItemOf sc at (item_of m.asked)) at_is m.kept) in
     let asked_is : query_in sc q.txn deed.query ≡ Some m.asked = subst (λ (n : ℕ). query_in sc q.txn n ≡ Some m.asked) (sym d.query_is) m.asked_is in

@@ -1,16 +1,16 @@
 -- Serial data, the server's rows: an entry and a vote YES have the server's part of the plan, and a settled commit applies it.
 use Rattle.std.specs.List.{list_all}
 use Rattle.std.specs.Option.{option_map_or}
-use Rattle.std.proofs.Common.{Bool, IfSome, List, None, Option, Some, [], ap, cond, false, filter, fold, if◌then◌else◌, is_none, is_some, option_map, refl, slice_set, subst, sym, true, ℕ, ℤ, ⊎_elim, ◌&&◌, ◌==◌, ◌∙◌, ◌∷◌, ◌≡◌}
+use Rattle.std.proofs.Common.{Bool, IfSome, List, None, Option, Some, [], ap, cond, false, filter, fold, if◌then◌else◌, is_none, is_some, option_and_then, option_map, refl, slice_set, subst, sym, true, ℕ, ℤ, ⊎_elim, ◌&&◌, ◌==◌, ◌∙◌, ◌∷◌, ◌≡◌}
 use Rattle.std.proofs.lemmas.Bool.{and_parts}
-use Rattle.std.proofs.lemmas.Option.{cond_some, same_Some}
+use Rattle.std.proofs.lemmas.Option.{cond_some}
 use Rattle.tp_types.proofs.ListLemmas.{number_itself}
 use Rattle.tp_types.specs.Effect.{Effect, ignores}
 use Rattle.tp_model.specs.Built.{is_built}
 use Rattle.tp_model.specs.Ids.{same_server}
 use Rattle.tp_model.specs.Queries.{item_of}
 use Rattle.tp_model.specs.SerialRun.{overlaid_at, stored, stored_by}
-use Rattle.tp_model.specs.Words.{Action, Body, DecideRequest, Deed, DoneReply, Item, ItemId, Mail, Outcome, PrepareRequest, QueryRequest, Record, Scenario, ServerId, TxnId}
+use Rattle.tp_model.specs.Words.{Action, Body, DecideRequest, Deed, DoneReply, Item, ItemId, Mail, Outcome, PrepareRequest, Query, QueryRequest, Record, Scenario, ServerId, TxnId}
 use Rattle.tp_model.specs.Words.action
 use Rattle.tp_model.specs.Words.actor
 use Rattle.tp_model.specs.Words.body
@@ -20,11 +20,12 @@ use Rattle.tp_machine.specs.Logs.{settled_in}
 use Rattle.tp_machine.specs.Sound.{Each, EachPlaced, IsItemOf, IsSoundBody, IsSoundQuery}
 use Rattle.tp_machine.specs.coord.Row.{deed_of}
 use Rattle.tp_machine.specs.declared.server.Entry.{Entry}
-use Rattle.tp_machine.specs.server.Row.{answers, applied, applied_deed, are_in_range, asked_item, begins, committed, entry_at, first_entry, is_in_range, is_in_range_of, is_write, plain_write, restarted_reply, server_row, settles, votes}
+use Rattle.tp_machine.specs.server.Row.{answers, applied, applied_deed, are_in_range, asked_item, begins, committed, entry_at, first_entry, is_in_range, is_in_range_of, is_write, plain_write, restarted_reply, server_row, settles, votes, written_item}
 use Rattle.tp_machine.specs.server.State.{Server}
 use Rattle.tp_machine.proofs.agreement.ServerActs.{server_facts}
 use Rattle.tp_machine.proofs.agreement.Logs.{LogPrepared, LogServed, outcome_settled}
 use Rattle.tp_machine.proofs.agreement.Server.{ServerAgrees, open_unsettled, prepared_entry}
+use Rattle.tp_machine.proofs.ids.Server.{writes_its_item}
 use Rattle.tp_machine.proofs.serial_data.Built.{IsAllPlanned, one_query_is_planned}
 use Rattle.tp_machine.proofs.serial_data.Plan.{BodySerial, IsInRange, IsPlannedValue, LetterSerial, RecordPlanned, is_at, planned, planned_at, planned_what}
 use Rattle.tp_machine.proofs.walks.ServerRows.{server_by}
@@ -67,16 +68,17 @@ record IsAskedWrite (q : QueryRequest) (item : ItemId) (deed : Deed) : Type 0 wh
   pub value_is : q.value ≡ Some value
   pub deed_is : deed ≡ record { query = q.query; item = item; action = action.Write; value = value }
 
-asked_write : (q : QueryRequest) (item : ItemId) (found : Option ItemId) (value : Option ℤ) (deed : Deed) → found ≡ Some item → q.value ≡ value → plain_write q found value ≡ Some deed → IsAskedWrite q item deed
-asked_write q item (Some other) (Some value) deed same given e =
+asked_write : (q : QueryRequest) (asked : Query) (found : Option ItemId) (value : Option ℤ) (deed : Deed) → found ≡ written_item asked → q.value ≡ value → plain_write q found value ≡ Some deed
+    → IsAskedWrite q (item_of asked) deed
+asked_write q asked (Some other) (Some value) deed same given e =
     let parts = cond_some (is_none q.staple && is_none q.pin) (record { query = q.query; item = other; action = action.Write; value = value }) deed e in
     record {
       value = value;
       value_is = given;
-      deed_is = sym parts.1 ∙ ap (λ (i : ItemId). record { query = q.query; item = i; action = action.Write; value = value }) (same_Some other item same);
+      deed_is = sym parts.1 ∙ ap (λ (i : ItemId). record { query = q.query; item = i; action = action.Write; value = value }) (sym (writes_its_item asked other (sym same)));
     }
-asked_write q item (Some other) None deed same given e = absurd (cc)
-asked_write q item None value deed same given e = absurd (cc)
+asked_write q asked (Some other) None deed same given e = absurd (cc)
+asked_write q asked None value deed same given e = absurd (cc)
 
 -- a deed on an item of the server is in the server's part
 kept_at : (sc : Scenario) (at : ServerId) (deed : Deed) → IsItemOf sc at deed.item → is_at sc at deed ≡ true
@@ -96,7 +98,7 @@ asked_by_one_query : (sc : Scenario) (s : Server) (q : QueryRequest) (deed : Dee
     → IfSome q.value (IsPlannedValue sc q.txn q.query) → plain_write q (asked_item sc q) q.value ≡ Some deed → IsWholePlan sc s.server q.txn q.query deed
 asked_by_one_query sc s q deed built m fits e =
     let all : IsAllPlanned sc q.txn q.query m.asked = one_query_is_planned sc q.txn q.query m.asked built m.asked_is in
-    let asked : IsAskedWrite q (item_of m.asked) deed = asked_write q (item_of m.asked) (asked_item sc q) q.value deed (ap (option_map item_of) m.asked_is) refl e in
+    let asked : IsAskedWrite q (item_of m.asked) deed = asked_write q m.asked (asked_item sc q) q.value deed (ap (option_and_then written_item) m.asked_is) refl e in
     let value : IsPlannedValue sc q.txn q.query asked.value = subst (λ (v : Option ℤ). IfSome v (IsPlannedValue sc q.txn q.query)) asked.value_is fits in
     let here : Each (λ (d : Deed). d.query ≡ q.query → d.value ≡ asked.value) (deed_of q.query m.asked all.value ∷ []) =
     subst (Each (λ (d : Deed). d.query ≡ q.query → d.value ≡ asked.value)) all.planned_is value in

@@ -90,7 +90,7 @@ ignores_trusts sc facts place c h = record { fits = h; decides = tt; says = λ s
 phase_fits : (sc : Scenario) (facts : List Fact) (place : ℕ) (c : Coordinator) (awaited : Phase) → CoordinatorFits sc facts place c → c.phase ≡ awaited → PhaseFits sc facts place c.txn awaited
 phase_fits sc facts place c awaited h e = subst (PhaseFits sc facts place c.txn) e h.awaits
 
-turn_low : (sc : Scenario) (facts : List Fact) (place : ℕ) (c : Coordinator) (awaited : Phase) → CoordinatorFits sc facts place c → c.phase ≡ awaited → c.turn ≤ ceiling_in (query_count sc c.txn) awaited
+pub turn_low : (sc : Scenario) (facts : List Fact) (place : ℕ) (c : Coordinator) (awaited : Phase) → CoordinatorFits sc facts place c → c.phase ≡ awaited → c.turn ≤ ceiling_in (query_count sc c.txn) awaited
 turn_low sc facts place c awaited h e = subst (λ (p : Phase). c.turn ≤ ceiling_in (query_count sc c.txn) p) e h.turn
 
 ran_last_trusts : (sc : Scenario) (facts : List Fact) (place : ℕ) (c : Coordinator) (done : DoneReply) (asked : Query) (server : ServerId) (value : ℤ) → AreFew sc → CoordinatorFits sc facts place c

@@ -18,6 +18,7 @@ use Rattle.tp_machine.proofs.agreement.End.{facts_agreed}
 use Rattle.tp_machine.proofs.agreement.Steps.{agrees_next, agrees_opening}
 use Rattle.tp_machine.proofs.epochs.World.{Epochs, epochs_next, epochs_opening}
 use Rattle.tp_machine.proofs.serial_data.Lone.{AreLone, facts_lone, lone_next, lone_opening}
+use Rattle.tp_machine.proofs.pairs.World.{Pairs, pairs_next, pairs_opening}
 use Rattle.tp_machine.proofs.outside.Steps.{outside_next, outside_opening}
 use Rattle.tp_machine.proofs.ids.Steps.{sound_next, sound_opening}
 use Rattle.tp_machine.proofs.serial_data.End.{serial_facts, serial_values, values_at_end}
@@ -27,8 +28,8 @@ use Rattle.tp_machine.proofs.trust.End.{facts_caused, facts_trusted}
 use Rattle.tp_machine.proofs.trust.Steps.{trusts_next, trusts_opening}
 use Rattle.tp_machine.proofs.trust.World.{Trusts}
 
--- what holds of every world: its ids exist, its actors agree, its commits are trusted and serial, and what
--- comes from outside is what its steps say
+-- what holds of every world: its ids exist, its actors agree, what servers hold of a transaction is what its coordinator knows, its
+-- commits are trusted and serial, and what comes from outside is what its steps say
 pub record Holds (sc : Scenario) (w : State) : Type 0 where
   pub sound : IsSound sc w
   pub agrees : Agrees sc w
@@ -37,11 +38,12 @@ pub record Holds (sc : Scenario) (w : State) : Type 0 where
   pub lone : AreLone w.facts
   pub outside : IsOutside sc w.steps w.facts
   pub trusts : Trusts sc w
+  pub pairs : Pairs sc w
   pub serial : Serial sc w
 
 pub holds_opening : (sc : Scenario) → is_built sc ≡ true → Holds sc (opening_state sc)
 holds_opening sc built =
-    record { sound = sound_opening sc built; agrees = agrees_opening sc; epochs = epochs_opening sc; ages = ages_opening sc; lone = lone_opening; outside = outside_opening sc; trusts = trusts_opening sc built; serial = serial_opening sc built }
+    record { sound = sound_opening sc built; agrees = agrees_opening sc; epochs = epochs_opening sc; ages = ages_opening sc; lone = lone_opening; outside = outside_opening sc; trusts = trusts_opening sc built; pairs = pairs_opening sc; serial = serial_opening sc built }
 
 -- each invariant may lean on all the others before the step
 pub holds_next : (sc : Scenario) (m : Machine) (taken : Step) → is_built sc ≡ true → IsStepOf sc taken → refusal m.state taken ≡ None → Holds sc m.state → Holds sc (machine_after sc m taken).state
@@ -54,6 +56,7 @@ holds_next sc m taken built exists allowed h =
       lone = lone_next sc m taken exists allowed h.agrees.coordinator_count h.agrees.past h.lone;
       outside = outside_next sc m taken exists allowed h.agrees.coordinator_count h.agrees.past h.outside;
       trusts = trusts_next sc m taken built exists allowed h.sound h.agrees h.trusts;
+      pairs = pairs_next sc m taken built exists allowed h.sound h.agrees h.epochs h.trusts h.pairs;
       serial = serial_next sc m taken built exists allowed h.sound h.agrees h.serial;
     }
 

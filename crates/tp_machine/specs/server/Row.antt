@@ -5,7 +5,7 @@ use Rattle.std.specs.Prelude.{Bool, List, None, Option, Some, [], false, if◌th
 use Rattle.std.proofs.Common.{is_some, not}
 use Rattle.tp_types.specs.Effect.{Effect, ignores, logs, sends, unbuilt}
 use Rattle.tp_types.specs.Table.{flattened, is_unset}
-use Rattle.tp_model.specs.Words.{Action, AdminId, Body, DecideRequest, Deed, DoneReply, Item, ItemId, Letter, Mail, Outcome, PrepareRequest, Prepared, QueryRequest, Scenario, Settled, Staple, Transaction, TxnId, Verdict, Version}
+use Rattle.tp_model.specs.Words.{Action, AdminId, Body, DecideRequest, Deed, DoneReply, Item, ItemId, Letter, Mail, Outcome, PrepareRequest, Prepared, Query, QueryRequest, Scenario, Settled, Staple, Transaction, TxnId, Verdict, Version}
 use Rattle.tp_model.specs.Words.action
 use Rattle.tp_model.specs.Words.actor
 use Rattle.tp_model.specs.Words.answer
@@ -14,7 +14,8 @@ use Rattle.tp_model.specs.Words.log
 use Rattle.tp_model.specs.Words.vote
 use Rattle.tp_types.specs.declared.records.Outcome.TheVariants.{Commit}
 use Rattle.tp_model.specs.Limits.{is_between}
-use Rattle.tp_model.specs.Queries.{item_of, query_at}
+use Rattle.tp_types.specs.declared.scenario.Query.TheVariants.{Read, Write}
+use Rattle.tp_model.specs.Queries.{query_at}
 use Rattle.tp_model.specs.Stage.{is_empty}
 use Rattle.tp_machine.specs.declared.server.Entry.{Entry}
 use Rattle.tp_machine.specs.server.State.{Server}
@@ -36,10 +37,15 @@ reply s txn said = record { from = actor.Server s.server; to = actor.Coordinator
 
 -- ---- Query
 
--- the item that a request is about
+-- the item that a query writes, if it writes
+abbrev pub written_item : Query → Option ItemId
+written_item (Write item expr) = Some item
+written_item (Read item into) = None
+
+-- the item that a request is to write
 abbrev pub asked_item : Scenario → QueryRequest → Option ItemId
 asked_item sc q =
-    option_map item_of
+    option_and_then written_item
     (option_and_then (λ (txn : Transaction). query_at txn q.query) (slice_get sc.txns q.txn.0))
 
 -- the write that a request asks for, where it asks for one without evaluation and without a pin

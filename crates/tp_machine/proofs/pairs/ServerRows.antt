@@ -1,0 +1,410 @@
+-- Deeds and epochs, the server's rows: each is an event at its own transaction, and nothing at the others.
+use Rattle.std.proofs.Common.{Bool, IfSome, List, None, Option, Some, [], ap, arith, false, if◌then◌else◌, is_none, is_some, length, map, option_and_then, refl, slice_get, slice_set, subst, sym, true, ℕ, ℤ, ◌&&◌, ◌<◌, ◌==◌, ◌∙◌, ◌∷◌, ◌≡◌}
+use Rattle.std.proofs.lemmas.Bool.{eqb-true}
+use Rattle.std.proofs.lemmas.List.{length-set}
+use Rattle.std.proofs.lemmas.Option.{cond_some, same_Some}
+use Rattle.tp_types.proofs.ListLemmas.{number_itself}
+use Rattle.tp_types.specs.Effect.{Effect, ignores, sends}
+use Rattle.tp_types.specs.Table.{flattened}
+use Rattle.tp_model.specs.Facts.{first_of}
+use Rattle.tp_model.specs.Ids.{same_txn}
+use Rattle.tp_model.specs.Queries.{item_of, query_at}
+use Rattle.tp_model.specs.Words.action
+use Rattle.tp_model.specs.Words.actor
+use Rattle.tp_model.specs.Words.body
+use Rattle.tp_model.specs.Words.log
+use Rattle.tp_model.specs.Words.query
+use Rattle.tp_model.specs.Words.{Action, Actor, Body, DecideRequest, Deed, DoneReply, ItemId, Letter, Mail, PrepareRequest, Prepared, Query, QueryRequest, Record, Scenario, ServerId, Settled, Transaction, TxnId}
+use Rattle.tp_machine.proofs.agreement.Server.{ServerAgrees, open_unsettled}
+use Rattle.tp_machine.proofs.agreement.Steps.{same_txn_from}
+use Rattle.tp_machine.proofs.basics.Ids.{same_txn_is}
+use Rattle.tp_machine.proofs.basics.Lists.{each_found, set_here}
+use Rattle.tp_machine.proofs.basics.Logs.{appended, first_none, prepared_with, settled_with}
+use Rattle.tp_machine.proofs.epochs.Server.{boots_push}
+use Rattle.tp_machine.proofs.pairs.Actors.{AllFit, AllNext, pair_up, site_of}
+use Rattle.tp_machine.proofs.pairs.Ends as end
+use Rattle.tp_machine.proofs.pairs.Ends.{ordered}
+use Rattle.tp_machine.proofs.pairs.Entries.{begun, changed, keeps, makes, with_entry}
+use Rattle.tp_machine.proofs.pairs.Fits.{DoneFits, EntryFits, Fits, PrepareFits, QueryFits}
+use Rattle.tp_machine.proofs.pairs.Follows.{Next, next_both, next_same, query_follows}
+use Rattle.tp_machine.proofs.pairs.Lists.{answer_in, of_some}
+use Rattle.tp_machine.proofs.pairs.Pair.{Asker, Pair}
+use Rattle.tp_machine.proofs.pairs.Ran.{IsAnswer, ran, runs}
+use Rattle.tp_machine.proofs.pairs.Site.{Site}
+use Rattle.tp_machine.proofs.pairs.Votes as vote
+use Rattle.tp_machine.proofs.pairs.Votes.{IsVoteOn, forces, with_ballot}
+use Rattle.tp_machine.proofs.serial_data.Lists.{set_elsewhere}
+use Rattle.tp_machine.proofs.serial_data.Runs.{action_of, deed_at, deed_of}
+use Rattle.tp_machine.proofs.walks.ServerRows.{server_by}
+use Rattle.tp_machine.specs.Logs.{epoch_in, preparation_in, prepared_in, settled_in, settlement_in, voted_in, while_unsettled}
+use Rattle.tp_machine.specs.Machine.{log_with}
+use Rattle.tp_machine.specs.Sound.{Each, IsSoundBody, IsSoundDone, IsSoundQuery, IsSoundServer}
+use Rattle.tp_machine.specs.declared.server.Ballot.{Ballot}
+use Rattle.tp_machine.specs.declared.server.Entry.{Entry}
+use Rattle.tp_machine.specs.server.Row as server
+use Rattle.tp_machine.specs.server.Row.{ack_letter, age_of, answer_to, answers, asked_item, begins, casts, done_reply, entry_at, first_entry, plain_write, prepared_record, restarts, server_row, settled_as, settles, verdict_on, written_item}
+use Rattle.tp_machine.specs.server.State.{Server}
+
+-- ---- an act
+
+-- what a server says of its transactions; it requests nothing
+abbrev pub ReplyPairs : Scenario → ServerId → (TxnId → Pair) → Body → Type 0
+ReplyPairs sc at Q (body.Done done) = (declared : Transaction) → slice_get sc.txns done.txn.0 ≡ Some declared → DoneFits (site_of sc at.0 declared) (Q done.txn) done
+ReplyPairs sc at Q (body.Query q) = ⊥
+ReplyPairs sc at Q (body.Prepare r) = ⊥
+ReplyPairs sc at Q _ = Unit {0}
+
+pub record IsReply (sc : Scenario) (at : ServerId) (Q : TxnId → Pair) (letter : Letter) : Type 0 where
+  pub from_is : letter.from ≡ actor.Server at
+  pub says : ReplyPairs sc at Q letter.body
+
+-- an act of a server that is up before and after it: each transaction goes on by events, and replies say so. A says what the coordinators know
+pub record ServerActsPairs (sc : Scenario) (at : ServerId) (A : TxnId → Option Asker) (s : Server) (kept : List Record) (now : Server) (append : Option Record) (letters : List Letter) : Type 0 where
+  pub next : AllNext sc at.0 (λ txn. pair_up txn (A txn) s kept) (λ txn. pair_up txn (A txn) now (log_with kept append))
+  pub places : length now.entries ≡ length s.entries
+  pub replies : Each (IsReply sc at (λ txn. pair_up txn (A txn) now (log_with kept append))) letters
+
+-- that of a row
+abbrev pub RowPairs : Scenario → (TxnId → Option Asker) → Server → List Record → Effect Server → Type 0
+RowPairs sc A s kept effect = ServerActsPairs sc s.server A s kept effect.state effect.reaction.append effect.reaction.letters
+
+-- a server before its row
+pub record ServerPaired (sc : Scenario) (A : TxnId → Option Asker) (s : Server) (kept : List Record) : Type 0 where
+  pub fits : AllFit sc s.server.0 (λ txn. pair_up txn (A txn) s kept)
+  pub agrees : ServerAgrees s kept
+  pub epoch_is : s.epoch ≡ epoch_in kept
+  pub places : length s.entries ≡ length sc.txns
+
+-- what a mail to a server says of its transaction there; an order to end comes after the decision
+abbrev pub RequestPairs : Scenario → ServerId → (TxnId → Option Asker) → (TxnId → Pair) → Body → Type 0
+RequestPairs sc at A P (body.Query q) = (declared : Transaction) → slice_get sc.txns q.txn.0 ≡ Some declared → QueryFits (site_of sc at.0 declared) (P q.txn) q
+RequestPairs sc at A P (body.Prepare r) = (declared : Transaction) → slice_get sc.txns r.txn.0 ≡ Some declared → PrepareFits (site_of sc at.0 declared) (P r.txn) r
+RequestPairs sc at A P (body.Decide d) = A d.txn ≡ None
+RequestPairs sc at A P _ = Unit {0}
+
+-- an order to end comes from a coordinator that has decided
+abbrev pub OrderDecided : (TxnId → Option Asker) → Body → Type 0
+OrderDecided A (body.Decide order) = A order.txn ≡ None
+OrderDecided A _ = Unit {0}
+
+-- ---- transactions that are not concerned
+
+-- a record is of this transaction, and no boot
+abbrev pub IsOwnRecord : TxnId → Record → Type 0
+IsOwnRecord owner (log.Prepared p) = p.txn ≡ owner
+IsOwnRecord owner (log.Settled s) = s.txn ≡ owner
+IsOwnRecord owner log.Boot = ⊥
+IsOwnRecord owner _ = Unit {0}
+
+settled_apart : (txn owner : TxnId) (append : Option Record) → same_txn owner txn ≡ false → IfSome append (IsOwnRecord owner) → appended (settlement_in txn) append ≡ None
+settled_apart txn owner None apart own = refl
+settled_apart txn owner (Some (log.Settled s)) apart own = ap (λ (b : Bool). if b then Some s else None) (ap (λ (t : TxnId). same_txn t txn) own ∙ apart)
+settled_apart txn owner (Some (log.Prepared p)) apart own = refl
+settled_apart txn owner (Some (log.Told t)) apart own = refl
+settled_apart txn owner (Some (log.Decided d)) apart own = refl
+settled_apart txn owner (Some log.Boot) apart own = refl
+
+prepared_apart : (txn owner : TxnId) (append : Option Record) → same_txn owner txn ≡ false → IfSome append (IsOwnRecord owner) → appended (preparation_in txn) append ≡ None
+prepared_apart txn owner None apart own = refl
+prepared_apart txn owner (Some (log.Prepared p)) apart own = ap (λ (b : Bool). if b then Some p else None) (ap (λ (t : TxnId). same_txn t txn) own ∙ apart)
+prepared_apart txn owner (Some (log.Settled s)) apart own = refl
+prepared_apart txn owner (Some (log.Told t)) apart own = refl
+prepared_apart txn owner (Some (log.Decided d)) apart own = refl
+prepared_apart txn owner (Some log.Boot) apart own = refl
+
+pub same_epoch_in : (owner : TxnId) (kept : List Record) (append : Option Record) → IfSome append (IsOwnRecord owner) → epoch_in (log_with kept append) ≡ epoch_in kept
+same_epoch_in owner kept None own = refl
+same_epoch_in owner kept (Some log.Boot) own = absurd own
+same_epoch_in owner kept (Some (log.Told t)) own = omega (arith, boots_push kept (log.Told t))
+same_epoch_in owner kept (Some (log.Prepared p)) own = omega (arith, boots_push kept (log.Prepared p))
+same_epoch_in owner kept (Some (log.Settled s)) own = omega (arith, boots_push kept (log.Settled s))
+same_epoch_in owner kept (Some (log.Decided d)) own = omega (arith, boots_push kept (log.Decided d))
+
+-- the pair of a server that is up, by what is looked up
+abbrev pub made_pair : Option Asker → ℕ → Option Settled → Option Entry → Option Prepared → Pair
+made_pair asker epoch settled entry prepared = record {
+  epoch = epoch;
+  up = true;
+  settled = is_some settled;
+  voted = false;
+  entry = entry;
+  prepared = prepared;
+  asker = asker;
+}
+
+pub same_made : (a : Option Asker) (e f : ℕ) (s t : Option Settled) (n m : Option Entry) (p q : Option Prepared) → e ≡ f → s ≡ t → n ≡ m → p ≡ q → made_pair a e s n p ≡ made_pair a f t m q
+same_made a e f s t n m p q ef st nm pq =
+    ap (λ (x : ℕ). made_pair a x s n p) ef
+    ∙ (ap (λ (x : Option Settled). made_pair a f x n p) st ∙ (ap (λ (x : Option Entry). made_pair a f t x p) nm ∙ ap (λ (x : Option Prepared). made_pair a f t m x) pq))
+
+-- the entry of one transaction changes, and what is forced is of it alone
+pub record IsOwnAct (owner : TxnId) (s now : Server) (append : Option Record) : Type 0 where
+  pub entry : Option Entry
+  pub entries : now.entries ≡ slice_set s.entries owner.0 entry
+  pub own : IfSome append (IsOwnRecord owner)
+
+-- the pair of another transaction stays
+pub other_pair : (a : Option Asker) (owner txn : TxnId) (s now : Server) (kept : List Record) (append : Option Record) → same_txn owner txn ≡ false → IsOwnAct owner s now append
+    → pair_up txn a now (log_with kept append) ≡ pair_up txn a s kept
+other_pair a owner txn s now kept append apart act =
+    let none : appended (settlement_in txn) append ≡ None = settled_apart txn owner append apart act.own in
+    let same : settled_in txn (log_with kept append) ≡ settled_in txn kept = settled_with txn kept append ∙ (ap (first_of (settled_in txn kept)) none ∙ first_none (settled_in txn kept)) in
+    let entry : entry_at now txn ≡ entry_at s txn = ap (λ (table : List (Option Entry)). flattened (slice_get table txn.0)) act.entries ∙ ap flattened (set_elsewhere s.entries owner.0 txn.0 act.entry apart) in
+    let prepared : prepared_in txn (log_with kept append) ≡ prepared_in txn kept =
+    prepared_with txn kept append
+    ∙ (ap (λ (x : Option Settled). while_unsettled (first_of (settled_in txn kept) x) (first_of (appended (preparation_in txn) append) (voted_in txn kept))) none
+    ∙ (ap (λ (x : Option Settled). while_unsettled x (first_of (appended (preparation_in txn) append) (voted_in txn kept))) (first_none (settled_in txn kept))
+    ∙ ap (λ (x : Option Prepared). while_unsettled (settled_in txn kept) (first_of x (voted_in txn kept))) (prepared_apart txn owner append apart act.own))) in
+    same_made a (epoch_in (log_with kept append)) (epoch_in kept) (settled_in txn (log_with kept append)) (settled_in txn kept) (entry_at now txn) (entry_at s txn) (prepared_in txn (log_with kept append)) (prepared_in txn kept)
+    (same_epoch_in owner kept append act.own) same entry prepared
+
+next_by : (sc : Scenario) (at : ℕ) (P Q : TxnId → Pair) (owner txn : TxnId) (declared : Transaction) (b : Bool) → same_txn owner txn ≡ b → Fits (site_of sc at declared) (P txn)
+    → (b ≡ true → Next (site_of sc at declared) (P txn) (Q txn)) → (b ≡ false → Q txn ≡ P txn) → Next (site_of sc at declared) (P txn) (Q txn)
+next_by sc at P Q owner txn declared true e fits own other = own refl
+next_by sc at P Q owner txn declared false e fits own other = subst (Next (site_of sc at declared) (P txn)) (sym (other refl)) (next_same (site_of sc at declared) (P txn) fits)
+
+-- all go on where one does, and the others stay
+pub own_next : (sc : Scenario) (at : ℕ) (P Q : TxnId → Pair) (owner : TxnId) → AllFit sc at P
+    → ((declared : Transaction) → slice_get sc.txns owner.0 ≡ Some declared → Next (site_of sc at declared) (P owner) (Q owner))
+    → ((txn : TxnId) → same_txn owner txn ≡ false → Q txn ≡ P txn) → AllNext sc at P Q
+own_next sc at P Q owner fits own other txn declared found =
+    next_by sc at P Q owner txn declared (same_txn owner txn) refl (fits txn declared found)
+    (λ same. let is : owner ≡ txn = same_txn_is owner txn same in
+    subst (λ (t : TxnId). Next (site_of sc at declared) (P t) (Q t)) is (own declared (ap (λ (t : TxnId). slice_get sc.txns t.0) is ∙ found)))
+    (λ apart. other txn apart)
+
+-- ---- rows that change nothing
+
+still_next : (sc : Scenario) (A : TxnId → Option Asker) (s : Server) (kept : List Record) → ServerPaired sc A s kept → AllNext sc s.server.0 (λ txn. pair_up txn (A txn) s kept) (λ txn. pair_up txn (A txn) s kept)
+still_next sc A s kept h txn declared found = next_same (site_of sc s.server.0 declared) (pair_up txn (A txn) s kept) (h.fits txn declared found)
+
+ignores_pairs : (sc : Scenario) (A : TxnId → Option Asker) (s : Server) (kept : List Record) → ServerPaired sc A s kept → RowPairs sc A s kept (ignores s)
+ignores_pairs sc A s kept h = record { next = still_next sc A s kept h; places = refl; replies = tt }
+
+restarts_pairs : (sc : Scenario) (A : TxnId → Option Asker) (s : Server) (kept : List Record) (q : QueryRequest) → ServerPaired sc A s kept → RowPairs sc A s kept (restarts s q)
+restarts_pairs sc A s kept q h = record { next = still_next sc A s kept h; places = refl; replies = (record { from_is = refl; says = λ declared found. tt }, tt) }
+
+acknowledges_pairs : (sc : Scenario) (A : TxnId → Option Asker) (s : Server) (kept : List Record) (d : DecideRequest) → ServerPaired sc A s kept → RowPairs sc A s kept (sends s (ack_letter s d.txn ∷ []))
+acknowledges_pairs sc A s kept d h = record { next = still_next sc A s kept h; places = refl; replies = (record { from_is = refl; says = tt }, tt) }
+
+-- an answer that is given again is kept
+answers_pairs : (sc : Scenario) (A : TxnId → Option Asker) (s : Server) (kept : List Record) (q : QueryRequest) (entry : Entry) (given : DoneReply) → ServerPaired sc A s kept → entry_at s q.txn ≡ Some entry
+    → given.txn ≡ q.txn → answer_to entry q.query ≡ Some given → RowPairs sc A s kept (answers s q.txn given)
+answers_pairs sc A s kept q entry given h there own found =
+    record {
+      next = still_next sc A s kept h;
+      places = refl;
+      replies = (
+        record {
+          from_is = refl;
+          says = λ declared e.
+              let p = pair_up q.txn (A q.txn) s kept in
+              let site = site_of sc s.server.0 declared in
+              let fits : Fits site p = h.fits q.txn declared (ap (λ (t : TxnId). slice_get sc.txns t.0) (sym own) ∙ e) in
+              let kept_are : Each (DoneFits site p) entry.answers = (of_some (EntryFits site p) p.entry entry there fits.entry).answers in
+              subst (λ (t : TxnId). DoneFits site (pair_up t (A t) s kept) given) (sym own) (each_found (DoneFits site p) (λ (d : DoneReply). d.query == q.query) entry.answers given kept_are found);
+        },
+        tt,
+      );
+    }
+
+-- ---- a query runs
+
+-- a query runs at an entry as soon as it comes
+pub runs_at_once : (s : Site) (p : Pair) (entry : Entry) (q : QueryRequest) (done : DoneReply) (value : ℤ) → p.up ≡ true → p.entry ≡ Some entry → Fits s p → QueryFits s p q
+    → IfSome q.epoch (λ (e : ℕ). e ≡ entry.epoch) → answer_in q.query entry.answers ≡ None → entry.ballot ≡ None → IsAnswer entry q done value
+    → Next s p (with_entry p (ran entry (deed_at s.txn q.query value) done))
+runs_at_once s p entry q done value up is h asked epoch fresh unvoted answered =
+    let waiting = changed entry (Some q) entry.answers in
+    let kept : Next s p (with_entry p waiting) = keeps s p entry q is h asked epoch fresh unvoted in
+    let gives : IsAnswer waiting q done value = record {
+      turn = answered.turn;
+      number = answered.number;
+      epoch = answered.epoch;
+      verdict = answered.verdict;
+      answer = answered.answer;
+      asked = answered.asked;
+    } in
+    next_both s p (with_entry p waiting) (with_entry p (ran entry (deed_at s.txn q.query value) done)) kept (runs s (with_entry p waiting) waiting q done value up refl refl kept.fits gives)
+
+-- a query that writes an item is a write of it
+written_is : (asked : Query) (item : ItemId) → written_item asked ≡ Some item → (item_of asked ≡ item) × (action_of asked ≡ action.Write)
+written_is (query.Write other expr) item e = (same_Some other item e, refl)
+written_is (query.Read other into) item e = absurd (cc)
+
+-- the deed of a first write is that of its query
+deed_is_own : (q : QueryRequest) (declared : Transaction) (asked : Query) (item : Option ItemId) (value : Option ℤ) (deed : Deed) → query_at declared q.query ≡ Some asked → item ≡ written_item asked
+    → plain_write q item value ≡ Some deed → (deed ≡ deed_at declared q.query deed.value) × IfSome value (λ (v : ℤ). deed.value ≡ v)
+deed_is_own q declared asked None value deed e i w = absurd (cc)
+deed_is_own q declared asked (Some item) None deed e i w = absurd (cc)
+deed_is_own q declared asked (Some item) (Some value) deed e i w =
+    let parts = cond_some (is_none q.staple && is_none q.pin) (record { query = q.query; item = item; action = action.Write; value = value }) deed w in
+    let is : deed ≡ record { query = q.query; item = item; action = action.Write; value = value } = sym parts.1 in
+    let value_is : deed.value ≡ value = ap (λ (d : Deed). d.value) is in
+    let writes = written_is asked item (sym i) in
+    let own : deed_of q.query (Some asked) value ≡ deed_at declared q.query value = ap (λ (found : Option Query). deed_of q.query found value) (sym e) in (
+      is
+          ∙ (ap (λ (x : ItemId). record { query = q.query; item = x; action = action.Write; value = value }) (sym writes.0)
+          ∙ (ap (λ (x : Action). record { query = q.query; item = item_of asked; action = x; value = value }) (sym writes.1)
+          ∙ (own ∙ ap (deed_at declared q.query) (sym value_is)))),
+      value_is,
+    )
+
+-- a first write, whose entry is made
+begins_pairs : (sc : Scenario) (A : TxnId → Option Asker) (s : Server) (kept : List Record) (sent : ℕ) (q : QueryRequest) (deed : Deed) → ServerPaired sc A s kept → settled_in q.txn kept ≡ None → entry_at s q.txn ≡ None
+    → q.epoch ≡ None → q.txn.0 < length sc.txns
+    → ((declared : Transaction) → slice_get sc.txns q.txn.0 ≡ Some declared → (deed ≡ deed_at declared q.query deed.value) × IfSome q.value (λ (v : ℤ). deed.value ≡ v))
+    → ((declared : Transaction) → slice_get sc.txns q.txn.0 ≡ Some declared → QueryFits (site_of sc s.server.0 declared) (pair_up q.txn (A q.txn) s kept) q)
+    → RowPairs sc A s kept (begins s sent q (Some deed))
+begins_pairs sc A s kept sent q deed h fresh none unnamed exists own asked =
+    let P : TxnId → Pair = λ txn. pair_up txn (A txn) s kept in
+    let first = first_entry s sent q deed in
+    let now = server.with_entry s q.txn (Some first) in
+    let Q : TxnId → Pair = λ txn. pair_up txn (A txn) now kept in
+    let done = done_reply q s.epoch deed in
+    let there : entry_at now q.txn ≡ Some first = ap flattened (set_here s.entries q.txn.0 (Some first) (omega (arith, exists, h.places))) in
+    let event : (declared : Transaction) → slice_get sc.txns q.txn.0 ≡ Some declared → Next (site_of sc s.server.0 declared) (P q.txn) (Q q.txn) = λ declared found.
+    let site = site_of sc s.server.0 declared in
+    let p = P q.txn in
+    let age = age_of q sent in
+    let unsettled : p.settled ≡ false = ap is_some fresh in
+    let made : Next site p (with_entry p (begun age p.epoch)) = makes site p age refl unsettled none (h.fits q.txn declared found) in
+    let p1 = with_entry p (begun age p.epoch) in
+    let named : IfSome q.epoch (λ (e : ℕ). e ≡ p.epoch) = subst (λ (o : Option ℕ). IfSome o (λ (e : ℕ). e ≡ p.epoch)) (sym unnamed) tt in
+    let answered : IsAnswer (begun age p.epoch) q done deed.value = record { turn = refl; number = refl; epoch = h.epoch_is; verdict = None; answer = refl; asked = (own declared found).1 } in
+    let ran_now : Next site p1 (with_entry p1 (ran (begun age p.epoch) (deed_at declared q.query deed.value) done)) =
+    runs_at_once site p1 (begun age p.epoch) q done deed.value refl refl made.fits (query_follows site p p1 q made.follows (asked declared found)) named refl refl answered in
+    let entry : ran (begun age p.epoch) (deed_at declared q.query deed.value) done ≡ first =
+    ap (λ (d : Deed). ran (begun age p.epoch) d done) (sym (own declared found).0) ∙ ap (λ (n : ℕ). ran (begun age n) deed done) (sym h.epoch_is) in
+    let whole : with_entry p1 (ran (begun age p.epoch) (deed_at declared q.query deed.value) done) ≡ Q q.txn =
+    ap (λ (n : Option Entry). made_pair (A q.txn) (epoch_in kept) (settled_in q.txn kept) n (prepared_in q.txn kept)) (ap Some entry ∙ sym there) in
+    subst (Next site p) whole (next_both site p p1 (with_entry p1 (ran (begun age p.epoch) (deed_at declared q.query deed.value) done)) made ran_now)
+    in
+    record {
+      next = own_next sc s.server.0 P Q q.txn h.fits event (λ txn apart. other_pair (A txn) q.txn txn s now kept None apart (record { entry = Some first; entries = refl; own = tt }));
+      places = length-set s.entries q.txn.0 (Some first);
+      replies = (
+        record {
+          from_is = refl;
+          says = λ declared found.
+              let site = site_of sc s.server.0 declared in
+              let fits : EntryFits site (Q q.txn) first = of_some (EntryFits site (Q q.txn)) (Q q.txn).entry first there (event declared found).fits.entry in
+              fits.answers.0;
+        },
+        tt,
+      );
+    }
+
+-- ---- Prepare
+
+-- what was prepared by a vote is what the log says
+prepared_now : (txn : TxnId) (kept : List Record) (p : Prepared) → p.txn ≡ txn → settled_in txn kept ≡ None → prepared_in txn (log_with kept (Some (log.Prepared p))) ≡ Some p
+prepared_now txn kept p own fresh =
+    let new : preparation_in txn (log.Prepared p) ≡ Some p = ap (λ (b : Bool). if b then Some p else None) (ap (λ (t : TxnId). same_txn t txn) own ∙ number_itself txn.0) in
+    prepared_with txn kept (Some (log.Prepared p))
+    ∙ (ap (λ (x : Option Settled). while_unsettled (first_of x None) (first_of (preparation_in txn (log.Prepared p)) (voted_in txn kept))) fresh
+    ∙ ap (λ (x : Option Prepared). first_of x (voted_in txn kept)) new)
+
+votes_pairs : (sc : Scenario) (A : TxnId → Option Asker) (s : Server) (kept : List Record) (r : PrepareRequest) (entry : Entry) (forced : Prepared) → ServerPaired sc A s kept → settled_in r.txn kept ≡ None
+    → entry_at s r.txn ≡ Some entry → entry.epoch ≡ r.epoch → r.txn.0 < length sc.txns → forced.txn ≡ r.txn → IsVoteOn entry forced
+    → ((declared : Transaction) → slice_get sc.txns r.txn.0 ≡ Some declared → PrepareFits (site_of sc s.server.0 declared) (pair_up r.txn (A r.txn) s kept) r)
+    → RowPairs sc A s kept (casts s forced entry)
+votes_pairs sc A s kept r entry forced h fresh there same exists own on asked =
+    let P : TxnId → Pair = λ txn. pair_up txn (A txn) s kept in
+    let effect = casts s forced entry in
+    let now = effect.state in
+    let append = effect.reaction.append in
+    let ballot : Ballot = record { turn = forced.turn; verdicts = forced.verdicts } in
+    let new = with_ballot entry ballot in
+    let Q : TxnId → Pair = λ txn. pair_up txn (A txn) now (log_with kept append) in
+    let is : same_txn forced.txn r.txn ≡ true = ap (λ (t : TxnId). same_txn t r.txn) own ∙ number_itself r.txn.0 in
+    let entries : now.entries ≡ slice_set s.entries r.txn.0 (Some new) = ap (λ (t : TxnId). slice_set s.entries t.0 (Some new)) own in
+    let found_new : entry_at now r.txn ≡ Some new = ap (λ (table : List (Option Entry)). flattened (slice_get table r.txn.0)) entries ∙ ap flattened (set_here s.entries r.txn.0 (Some new) (omega (arith, exists, h.places))) in
+    let act : IsOwnAct r.txn s now append = record { entry = Some new; entries = entries; own = own } in
+    let event : (declared : Transaction) → slice_get sc.txns r.txn.0 ≡ Some declared → Next (site_of sc s.server.0 declared) (P r.txn) (Q r.txn) = λ declared found.
+    let site = site_of sc s.server.0 declared in
+    let p = P r.txn in
+    let n : Next site p (vote.forced p entry ballot forced) = forces site p entry r ballot forced refl there (h.fits r.txn declared found) (asked declared found) same on in
+    let still : settled_in r.txn (log_with kept append) ≡ settled_in r.txn kept = settled_with r.txn kept append ∙ first_none (settled_in r.txn kept) in
+    let whole : vote.forced p entry ballot forced ≡ Q r.txn =
+    same_made (A r.txn) (epoch_in kept) (epoch_in (log_with kept append)) (settled_in r.txn kept) (settled_in r.txn (log_with kept append)) (Some new) (entry_at now r.txn) (Some forced) (prepared_in r.txn (log_with kept append))
+    (sym (same_epoch_in r.txn kept append own)) (sym still) (sym found_new) (sym (prepared_now r.txn kept forced own fresh)) in
+    subst (Next site p) whole n
+    in
+    record {
+      next = own_next sc s.server.0 P Q r.txn h.fits event (λ txn apart. other_pair (A txn) r.txn txn s now kept append apart act);
+      places = ap length entries ∙ length-set s.entries r.txn.0 (Some new);
+      replies = (record { from_is = refl; says = tt }, tt);
+    }
+
+-- ---- Decide
+
+settled_now : (txn : TxnId) (kept : List Record) (s : Settled) → s.txn ≡ txn → settled_in txn kept ≡ None → settled_in txn (log_with kept (Some (log.Settled s))) ≡ Some s
+settled_now txn kept s own fresh =
+    let new : settlement_in txn (log.Settled s) ≡ Some s = ap (λ (b : Bool). if b then Some s else None) (ap (λ (t : TxnId). same_txn t txn) own ∙ number_itself txn.0) in
+    settled_with txn kept (Some (log.Settled s)) ∙ (ap (λ (x : Option Settled). first_of x (settlement_in txn (log.Settled s))) fresh ∙ new)
+
+settles_pairs : (sc : Scenario) (A : TxnId → Option Asker) (s : Server) (kept : List Record) (d : DecideRequest) → ServerPaired sc A s kept → settled_in d.txn kept ≡ None → d.txn.0 < length sc.txns → A d.txn ≡ None
+    → RowPairs sc A s kept (settles s d)
+settles_pairs sc A s kept d h fresh exists decided =
+    let P : TxnId → Pair = λ txn. pair_up txn (A txn) s kept in
+    let effect = settles s d in
+    let now = effect.state in
+    let append = effect.reaction.append in
+    let Q : TxnId → Pair = λ txn. pair_up txn (A txn) now (log_with kept append) in
+    let act : IsOwnAct d.txn s now append = record { entry = None; entries = refl; own = refl } in
+    let none_there : entry_at now d.txn ≡ None = ap flattened (set_here s.entries d.txn.0 None (omega (arith, exists, h.places))) in
+    let ended : settled_in d.txn (log_with kept append) ≡ Some (settled_as d) = settled_now d.txn kept (settled_as d) refl fresh in
+    let nothing : prepared_in d.txn (log_with kept append) ≡ None = ap (λ (x : Option Settled). while_unsettled x (voted_in d.txn (log_with kept append))) ended in
+    let event : (declared : Transaction) → slice_get sc.txns d.txn.0 ≡ Some declared → Next (site_of sc s.server.0 declared) (P d.txn) (Q d.txn) = λ declared found.
+    let site = site_of sc s.server.0 declared in
+    let n : Next site (P d.txn) (end.settled (P d.txn)) = ordered site (P d.txn) refl decided (h.fits d.txn declared found) in
+    let whole : end.settled (P d.txn) ≡ Q d.txn =
+    same_made (A d.txn) (epoch_in kept) (epoch_in (log_with kept append)) (Some (settled_as d)) (settled_in d.txn (log_with kept append)) None (entry_at now d.txn) None (prepared_in d.txn (log_with kept append))
+    (sym (same_epoch_in d.txn kept append refl)) (sym ended) (sym none_there) (sym nothing) in
+    subst (Next site (P d.txn)) whole n
+    in
+    record {
+      next = own_next sc s.server.0 P Q d.txn h.fits event (λ txn apart. other_pair (A txn) d.txn txn s now kept append apart act);
+      places = length-set s.entries d.txn.0 None;
+      replies = (record { from_is = refl; says = tt }, tt);
+    }
+
+-- ---- all mails
+
+none_named : (epoch : Option ℕ) → is_none epoch ≡ true → epoch ≡ None
+none_named None e = refl
+none_named (Some n) e = absurd (cc)
+
+-- the deed that a request asks for
+asked_deed : (sc : Scenario) (to : Actor) (q : QueryRequest) (declared : Transaction) (deed : Deed) → (sound : IsSoundQuery sc to q) → slice_get sc.txns q.txn.0 ≡ Some declared
+    → plain_write q (asked_item sc q) q.value ≡ Some deed → (deed ≡ deed_at declared q.query deed.value) × IfSome q.value (λ (v : ℤ). deed.value ≡ v)
+asked_deed sc to q declared deed sound found w =
+    let asked_is : query_at declared q.query ≡ Some sound.asked = sym (ap (λ (x : Option Transaction). option_and_then (λ (d : Transaction). query_at d q.query) x) found) ∙ sound.asked_is in
+    deed_is_own q declared sound.asked (asked_item sc q) q.value deed asked_is (ap (option_and_then written_item) sound.asked_is) w
+
+-- every row of a server on receipt of a mail
+pub server_row_pairs : (sc : Scenario) (A : TxnId → Option Asker) (s : Server) (kept : List Record) (mail : Mail) → ServerPaired sc A s kept → IsSoundServer sc s → IsSoundBody sc (actor.Server s.server) mail.letter.body
+    → RequestPairs sc s.server A (λ txn. pair_up txn (A txn) s kept) mail.letter.body → RowPairs sc A s kept (server_row sc s mail)
+server_row_pairs sc A s kept mail h sound m asked =
+    let to = actor.Server s.server in
+    let P : TxnId → Pair = λ txn. pair_up txn (A txn) s kept in
+    server_by sc s mail (RowPairs sc A s kept)
+    (record {
+      ignored = ignores_pairs sc A s kept h;
+      begun = λ q deed k.
+          let query : IsSoundQuery sc to q = subst (IsSoundBody sc to) k.said_is m in
+          begins_pairs sc A s kept mail.sent q deed h (open_unsettled s kept q.txn h.agrees k.unsettled) k.no_entry (none_named q.epoch k.unnamed) query.txn
+          (λ declared found. asked_deed sc to q declared deed query found k.writes)
+          (subst (RequestPairs sc s.server A P) k.said_is asked);
+      restarted = λ q k. restarts_pairs sc A s kept q h;
+      answered = λ q entry given k.
+          answers_pairs sc A s kept q entry given h k.found
+          (same_txn_from q.txn given.txn (each_found (λ (d : DoneReply). IsSoundDone sc (actor.Coordinator q.txn) d) (λ (d : DoneReply). d.query == q.query) entry.answers given (sound.entries q.txn.0 entry k.found).answers k.given_is).goes_to) k.given_is;
+      voted = λ p entry staple k.
+          votes_pairs sc A s kept p entry (prepared_record s p entry (map (verdict_on sc s staple.place) entry.deeds)) h (open_unsettled s kept p.txn h.agrees k.unsettled) k.found (eqb-true entry.epoch p.epoch k.same_epoch)
+          (subst (IsSoundBody sc to) k.said_is m).txn refl (record { epoch = refl; deeds = refl }) (subst (RequestPairs sc s.server A P) k.said_is asked);
+      settled = λ d k.
+          settles_pairs sc A s kept d h (open_unsettled s kept d.txn h.agrees k.unsettled) (subst (IsSoundBody sc to) k.said_is m).txn (subst (RequestPairs sc s.server A P) k.said_is asked);
+      acknowledged = λ d settled k. acknowledges_pairs sc A s kept d h;
+    })
