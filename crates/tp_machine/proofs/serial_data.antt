@@ -1,17 +1,22 @@
 -- Reads and committed data are those of the serial run, in the order of commits. Runs, Reads, Joined, Stores and Commits are about
 -- lists of deeds alone: how deeds follow the queries, what they read, how a store stands to the values of servers, when a commit is serial.
-pub mod Acts
+-- Unsettled, Settling and Deciding say how the acts of servers and coordinators change them.
+pub mod Alone
 pub mod Built
 pub mod Commits
-pub mod Coordinator
+pub mod Deciding
 pub mod End
 pub mod Joined
+pub mod Lengths
 pub mod Lists
 pub mod Lone
-pub mod Plan
+pub mod Ranges
 pub mod Reads
+pub mod Rows
 pub mod Runs
-pub mod Server
+pub mod Settling
+pub mod Shares
 pub mod Steps
 pub mod Stores
+pub mod Unsettled
 pub mod World

@@ -234,7 +234,7 @@ ordered_commit V M kept s None e r commit = (e, subst (V s.txn) commit (r.ordere
 ordered_commit V M kept s (Some reason) e r commit = let aborted = (r.refused (ap is_some e)).0 in absurd (cc)
 
 -- an abort is not of what was decided as a commit
-not_committed : (sc : Scenario) (w : State) (at : ServerId) (part : Part Server) (s : Settled) (why : Option No) → Agrees sc w → slice_get w.actors.servers at.0 ≡ Some part → s.why ≡ why
+pub not_committed : (sc : Scenario) (w : State) (at : ServerId) (part : Part Server) (s : Settled) (why : Option No) → Agrees sc w → slice_get w.actors.servers at.0 ≡ Some part → s.why ≡ why
     → SettlementRests (DecidedAs w.actors.coordinators) (IsAsked sc w.actors.coordinators at) part.log s → s.outcome ≡ outcome.Abort → DecidedAs w.actors.coordinators s.txn outcome.Commit → ⊥
 not_committed sc w at part s None h found e r abort d =
     let decided = one_outcome w.actors.coordinators s.txn s.outcome outcome.Commit (r.ordered e) d in cc

@@ -1,7 +1,8 @@
 -- Laws of what holds of each member of a list or table, as the list grows or changes.
-use Rattle.std.proofs.Common.{Bool, List, None, Option, Some, [], arith, drop, false, filter, find, flat_map, if◌then◌else◌, length, map, refl, replicate, slice_get, slice_set, subst, suc, true, zero, ℕ, ◌++◌, ◌+◌, ◌<◌, ◌∷◌, ◌≡◌}
 use Rattle.std.specs.List.{list_all, range_with_len}
-use Rattle.tp_machine.specs.Sound.{Each, EachPlaced, EachAt}
+use Rattle.std.proofs.Common.{Bool, List, None, Option, Some, [], arith, drop, false, filter, find, flat_map, if◌then◌else◌, length, map, refl, replicate, slice_get, slice_set, subst, suc, true, zero, ℕ, ◌++◌, ◌+◌, ◌<◌, ◌∷◌, ◌≡◌}
+use Rattle.tp_types.specs.Table.{flattened}
+use Rattle.tp_machine.specs.Sound.{Each, EachAt, EachPlaced}
 
 -- ---- conditionals
 
@@ -129,6 +130,16 @@ placed_emptied P (x ∷ xs) zero h zero found e = absurd (cc)
 placed_emptied P (x ∷ xs) zero h (suc n) found e = h (suc n) found e
 placed_emptied P (x ∷ xs) (suc k) h zero found e = h 0 found e
 placed_emptied P (x ∷ xs) (suc k) h (suc n) found e = placed_emptied (λ m a. P (suc m) a) xs k (λ m a. h (suc m) a) n found e
+
+-- what holds of each other place holds of a table that is emptied at one
+pub placed_emptied_others : {A : Type 0} (P : ℕ → A → Type 0) (table : List (Option A)) (k : ℕ)
+    → ((n : ℕ) (found : A) → flattened (slice_get table n) ≡ Some found → (n ≡ k → ⊥) → P n found) → EachPlaced P (slice_set table k None)
+placed_emptied_others P [] k h n found e = absurd (cc)
+placed_emptied_others P (x ∷ xs) zero h zero found e = absurd (cc)
+placed_emptied_others P (x ∷ xs) zero h (suc n) found e = h (suc n) found e (λ same. omega (arith, same))
+placed_emptied_others P (x ∷ xs) (suc k) h zero found e = h 0 found e (λ same. omega (arith, same))
+placed_emptied_others P (x ∷ xs) (suc k) h (suc n) found e =
+    placed_emptied_others (λ m a. P (suc m) a) xs k (λ m a f apart. h (suc m) a f (λ same. apart (omega (arith, same)))) n found e
 
 -- an empty table
 pub placed_none : {A : Type 0} (P : ℕ → A → Type 0) (count : ℕ) → EachPlaced P (replicate count None)

@@ -342,7 +342,7 @@ coordinator_paired sc w declared txn part c few sound epochs trusts h up exists 
     }
 
 -- a transaction of the scenario
-declared_by : (sc : Scenario) (txn : TxnId) → IsTxn sc txn → (declared : Transaction) × (slice_get sc.txns txn.0 ≡ Some declared)
+pub declared_by : (sc : Scenario) (txn : TxnId) → IsTxn sc txn → (declared : Transaction) × (slice_get sc.txns txn.0 ≡ Some declared)
 declared_by sc txn exists = found (slice_get sc.txns txn.0) refl
   where
     found : (declared : Option Transaction) → slice_get sc.txns txn.0 ≡ declared → (d : Transaction) × (slice_get sc.txns txn.0 ≡ Some d)

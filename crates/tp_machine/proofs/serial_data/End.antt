@@ -1,42 +1,35 @@
--- Serial data, what it comes to: every commit is serial, each item has what settled commits leave, and once the transaction has
+-- Serial data, what it comes to: every commit is serial, each item has what settled commits leave, and once all transactions have
 -- ended everywhere that is what all commits leave.
-use Rattle.std.specs.List.{cons_option, list_any}
+use Rattle.tp_machine.proofs.serial_data.Shares.{server_there}
+use Rattle.tp_machine.proofs.serial_data.Unsettled.{IsUnsettled}
+use Rattle.std.specs.List.{list_any}
 use Rattle.std.specs.Option.{option_map_or}
-use Rattle.std.proofs.Common.{Bool, IfSome, List, None, Option, Some, [], ap, arith, false, fold, if◌then◌else◌, is_some, length, option_map, refl, slice_get, subst, suc, sym, true, unwrap_or, ℕ, ℤ, ◌&&◌, ◌+◌, ◌<◌, ◌||◌, ◌∙◌, ◌∷◌, ◌≡◌}
+use Rattle.std.proofs.Common.{Bool, IfSome, List, None, Option, Some, [], ap, arith, false, is_some, length, option_map, refl, slice_get, subst, suc, sym, true, unwrap_or, zero, ℕ, ℤ, ◌+◌, ◌<◌, ◌||◌, ◌∙◌, ◌∷◌, ◌≡◌}
 use Rattle.std.proofs.lemmas.Bool.{and_parts}
-use Rattle.std.proofs.lemmas.List.{length-map, length-set}
 use Rattle.std.proofs.lemmas.Option.{same_Some, slice_get_within}
-use Rattle.tp_model.proofs.BuiltLemmas.{length-servers_built, length-txns_built}
-use Rattle.tp_machine.proofs.agreement.End.{listed_passes}
-use Rattle.tp_model.specs.Words.{Action, CommitRecord, Decision, Deed, Fact, Item, Outcome, Scenario, ServerId, Transaction, TxnId, What}
-use Rattle.tp_model.specs.Words.action
-use Rattle.tp_model.specs.Words.decision
-use Rattle.tp_model.specs.Words.outcome
-use Rattle.tp_model.specs.Words.what
+use Rattle.tp_model.specs.Agreement.{has_item, has_item_at}
 use Rattle.tp_model.specs.Built.{is_built}
-use Rattle.tp_model.specs.Facts.{commit_of, is_decided_as, is_settled_as, is_submission, outcome_of, same_outcome}
-use Rattle.tp_model.specs.Ids.{same_server, same_txn}
+use Rattle.tp_model.specs.Facts.{is_decided_as, is_settled_as, is_submission, same_outcome}
 use Rattle.tp_model.specs.Queries.{servers_of}
-use Rattle.tp_model.specs.SerialRun.{is_serial, is_serial_commit, keeps_serial, keeps_serial_what, opening_store, opening_value, overlaid, overlaid_at, overlaid_deeds, overlaid_fact, overlaid_what, store_at, store_of, stored, stored_all, stored_by, stored_fact, stored_what}
-use Rattle.tp_model.specs.TrustedHistory.{ended_as, have_ended, is_settled_everywhere}
-use Rattle.tp_machine.specs.Logs.{decided_at}
+use Rattle.tp_model.specs.SerialRun.{is_serial, keeps_serial, overlaid, store_of}
+use Rattle.tp_model.specs.TrustedHistory.{ended_as, has_ended, have_ended, is_settled_everywhere}
+use Rattle.tp_model.specs.Words.outcome
+use Rattle.tp_model.specs.Words.{Deed, Fact, Item, Outcome, Scenario, ServerId, Settled, Transaction, TxnId}
+use Rattle.tp_machine.proofs.agreement.Logs.{outcome_settled, settled_outcome}
+use Rattle.tp_machine.proofs.agreement.World.{Agrees}
+use Rattle.tp_machine.proofs.basics.Facts.{all_from_each, any_settled, each_from_all}
+use Rattle.tp_machine.proofs.basics.Lists.{each_get, missing}
+use Rattle.tp_machine.proofs.basics.Logs.{listed}
+use Rattle.tp_machine.proofs.basics.Servers.{among_servers}
+use Rattle.tp_machine.proofs.ids.Valid.{IsValid, IsValidItem, valid_built}
+use Rattle.tp_machine.proofs.serial_data.Lengths.{overlaid_length, store_length}
+use Rattle.tp_machine.proofs.serial_data.World.{Serial, ServerUpSerial}
+use Rattle.tp_machine.specs.Logs.{settled_at}
 use Rattle.tp_machine.specs.Machine.{State, ending_of, item_value, item_values, value_up}
+use Rattle.tp_machine.specs.Parts.{Part}
 use Rattle.tp_machine.specs.Sound.{Each, IsServer, IsSound}
 use Rattle.tp_machine.specs.coord.Opened.{servers_at}
-use Rattle.tp_machine.specs.Parts.{Part}
 use Rattle.tp_machine.specs.server.State.{Server}
-use Rattle.tp_machine.proofs.agreement.Logs.{settled_outcome}
-use Rattle.tp_machine.proofs.agreement.World.{Agrees, FactFollows}
-use Rattle.tp_machine.proofs.basics.Servers.{among_servers}
-use Rattle.tp_machine.proofs.basics.Facts.{all_from_each, any_decided, any_settled, commit_found, decided_what, decisions, each_from_all, first_commit, said, settled_what, settlements}
-use Rattle.tp_machine.proofs.basics.Logs.{listed}
-use Rattle.tp_machine.proofs.serial_data.Acts.{commit_planned}
-use Rattle.tp_machine.proofs.serial_data.Built.{IsOneTransaction, first_server, has_item_at_one_server, only_one_of_each, only_transaction, planned_at_one_server}
-use Rattle.tp_machine.proofs.serial_data.Lists.{each_of_all, fold_as, fold_keeps}
-use Rattle.tp_machine.proofs.serial_data.Plan.{is_at, planned}
-use Rattle.tp_machine.proofs.serial_data.World.{IsPlannedCommit, Serial, ServerUpSerial}
-use Rattle.tp_machine.proofs.ids.Valid.{IsValidItem, valid_built}
-use Rattle.tp_machine.proofs.basics.Lists.{by_cond, each_as, each_get, missing}
 
 -- ---- commits
 
@@ -45,31 +38,6 @@ pub serial_facts : (sc : Scenario) (w : State) → Serial sc w → is_serial sc 
 serial_facts sc w h = all_from_each (λ (fact : Fact). keeps_serial sc w.facts fact ≡ true) (keeps_serial sc w.facts) (λ fact e. e) w.facts h.facts
 
 -- ---- values
-
-deed_length : (count : ℕ) (deed : Deed) (kind : Action) (store : List ℤ) → length store ≡ count → length (stored_by kind store deed) ≡ count
-deed_length count deed action.Read store e = e
-deed_length count deed action.Write store e = length-set store deed.item.0 deed.value ∙ e
-
-overlaid_at_length : (sc : Scenario) (at : ServerId) (count : ℕ) (deed : Deed) (store : List ℤ) → length store ≡ count → length (overlaid_at sc at store deed) ≡ count
-overlaid_at_length sc at count deed store e =
-    by_cond (λ (xs : List ℤ). length xs ≡ count) (is_at sc at deed) (λ here. deed_length count deed deed.action store e) (λ elsewhere. e)
-
-deeds_length : (sc : Scenario) (at : ServerId) (count : ℕ) (committed : Option CommitRecord) (store : List ℤ) → length store ≡ count → length (overlaid_deeds sc at store committed) ≡ count
-deeds_length sc at count None store e = e
-deeds_length sc at count (Some committed) store e =
-    fold_keeps (λ (xs : List ℤ). length xs ≡ count) (overlaid_at sc at) committed.deeds
-    (each_of_all (λ (deed : Deed). (b : List ℤ) → length b ≡ count → length (overlaid_at sc at b deed) ≡ count) (λ deed b k. overlaid_at_length sc at count deed b k) committed.deeds) store e
-
-what_length : (sc : Scenario) (facts : List Fact) (count : ℕ) (w : What) (store : List ℤ) → length store ≡ count → length (overlaid_what sc facts store w) ≡ count
-what_length sc facts count (what.Settled at txn outcome.Commit) store e = deeds_length sc at count (commit_of txn facts) store e
-what_length sc facts count _ store e = e
-
--- what settled commits leave has a value for each item
-overlaid_length : (sc : Scenario) (facts : List Fact) → length (overlaid sc facts) ≡ length sc.items
-overlaid_length sc facts =
-    fold_keeps (λ (xs : List ℤ). length xs ≡ length sc.items) (overlaid_fact sc facts) facts
-    (each_of_all (λ (fact : Fact). (b : List ℤ) → length b ≡ length sc.items → length (overlaid_fact sc facts b fact) ≡ length sc.items)
-    (λ fact b e. what_length sc facts (length sc.items) fact.what b e) facts) (opening_store sc) (length-map sc.items opening_value)
 
 unwrapped : (found : Option ℤ) (default : ℤ) → (found ≡ None → ⊥) → found ≡ Some (unwrap_or found default)
 unwrapped None default there = absurd (there refl)
@@ -110,7 +78,7 @@ value_at : (sc : Scenario) (w : State) (n : ℕ) (item : Item) (part : Option (P
 value_at sc w n item None built agrees h found there =
     let exists : IsServer sc item.server = (each_get (IsValidItem sc) sc.items n item (valid_built sc built).items found).server in
     absurd (missing w.actors.servers item.server.0 (omega (arith, exists, agrees.server_count)) there)
-value_at sc w n item (Some part) built agrees h found there = value_here sc w n item part part.up h found there refl (h.servers_up item.server.0 part there)
+value_at sc w n item (Some part) built agrees h found there = value_here sc w n item part part.up h found there refl (h.up item.server.0 part there)
 
 -- each item has the value that settled commits leave
 pub serial_values : (sc : Scenario) (w : State) → is_built sc ≡ true → IsSound sc w → Agrees sc w → Serial sc w → (ending_of sc w).values ≡ overlaid sc w.facts
@@ -121,188 +89,84 @@ serial_values sc w built sound agrees h =
     none_before : (n : ℕ) → n ≡ 0 + n
     none_before n = omega arith
 
--- ---- one transaction: the store is what its decision leaves
+-- ---- all transactions have ended
 
-abbrev first_txn : TxnId
-first_txn = record { 0 = 0 }
+both_ended : (a b : Bool) (P : Type 0) → (a ≡ true → P) → (b ≡ true → P) → (a || b) ≡ true → P
+both_ended true b P first second e = first refl
+both_ended false b P first second e = second e
 
--- a commit's fact is of the one transaction
-abbrev IsOfOne : What → Type 0
-IsOfOne (what.Decided txn (decision.Commit committed)) = txn ≡ first_txn
-IsOfOne _ = Unit {0}
+ended_at : (sc : Scenario) (facts : List Fact) (first : ℕ) (txns : List Transaction) (n : ℕ) (declared : Transaction) → have_ended sc facts first txns ≡ true → slice_get txns n ≡ Some declared
+    → has_ended sc facts (record { 0 = first + n }) declared ≡ true
+ended_at sc facts first [] n declared h e = absurd (cc)
+ended_at sc facts first (one ∷ txns) zero declared h e =
+    let here : first ≡ first + 0 = omega arith in
+    subst (λ (k : ℕ). has_ended sc facts (record { 0 = k }) declared ≡ true) here
+    (subst (λ (d : Transaction). has_ended sc facts (record { 0 = first }) d ≡ true) (same_Some one declared e) (and_parts (has_ended sc facts (record { 0 = first }) one) (have_ended sc facts (first + 1) txns) h).0)
+ended_at sc facts first (one ∷ txns) (suc n) declared h e =
+    let later : (first + 1) + n ≡ first + suc n = omega arith in
+    subst (λ (k : ℕ). has_ended sc facts (record { 0 = k }) declared ≡ true) later
+    (ended_at sc facts (first + 1) txns n declared (and_parts (has_ended sc facts (record { 0 = first }) one) (have_ended sc facts (first + 1) txns) h).1 e)
 
-abbrev stored_decision : List ℤ → Decision → List ℤ
-stored_decision store (decision.Commit committed) = stored_all store committed.deeds
-stored_decision store (decision.Abort why) = store
+listed_some : (found : Option Outcome) (ended : Outcome) → list_any (λ (o : Outcome). same_outcome o ended) (listed found) ≡ true → is_some found ≡ true
+listed_some None ended e = absurd (cc)
+listed_some (Some o) ended e = refl
 
-txn_is_first : (txn : TxnId) → txn.0 ≡ 0 → txn ≡ first_txn
-txn_is_first txn e = ap (λ (n : ℕ). record { 0 = n }) e
+mapped_some : (found : Option Settled) → is_some (option_map outcome_settled found) ≡ true → is_some found ≡ true
+mapped_some None e = absurd (cc)
+mapped_some (Some s) e = refl
 
-serial_of_one : (sc : Scenario) (store : List ℤ) (committed : CommitRecord) (txn : TxnId) (declared : Option Transaction) → is_built sc ≡ true → slice_get sc.txns txn.0 ≡ declared
-    → option_map_or (is_serial_commit sc store committed) declared false ≡ true → txn ≡ first_txn
-serial_of_one sc store committed txn None built found e = absurd (cc)
-serial_of_one sc store committed txn (Some declared) built found e =
-    let within = slice_get_within sc.txns txn.0 declared found in
-    let one = length-txns_built sc built in
-    txn_is_first txn (omega (arith, within, one))
+settled_everywhere : (sc : Scenario) (w : State) (txn : TxnId) (declared : Transaction) (ended : Outcome) (at : ServerId) → Agrees sc w → slice_get sc.txns txn.0 ≡ Some declared
+    → ended_as (servers_of sc declared) w.facts txn ended ≡ true → IsServer sc at → has_item_at sc at txn ≡ true → is_some (settled_at w.actors.servers at.0 txn) ≡ true
+settled_everywhere sc w txn declared ended at agrees found e exists item =
+    let P : ServerId → Type 0 = λ other. list_any (is_settled_as other txn ended) w.facts ≡ true in
+    let everywhere : Each P (servers_of sc declared) =
+    each_from_all (λ (other : ServerId). list_any (is_settled_as other txn ended) w.facts) (servers_of sc declared) (and_parts (list_any (is_decided_as txn ended) w.facts) (is_settled_everywhere (servers_of sc declared) w.facts txn ended) e).1 in
+    let servers : Each P (servers_at sc txn) = subst (λ (d : Option Transaction). Each P (option_map_or (servers_of sc) d [])) (sym found) everywhere in
+    let here : P at = among_servers P sc at txn exists item servers in
+    mapped_some (settled_at w.actors.servers at.0 txn)
+    (listed_some (settled_outcome w.actors.servers at txn) ended
+    (sym (any_settled at txn ended w.facts ∙ ap (list_any (λ (o : Outcome). same_outcome o ended)) (agrees.settled at txn)) ∙ here))
 
-fact_of_one : (sc : Scenario) (facts : List Fact) (place : ℕ) (w : What) → is_built sc ≡ true → keeps_serial_what sc facts place w ≡ true → IsOfOne w
-fact_of_one sc facts place (what.Decided txn (decision.Commit committed)) built e = serial_of_one sc (store_at sc place facts) committed txn (slice_get sc.txns txn.0) built refl e
-fact_of_one sc facts place _ built e = tt
+-- no commit is unsettled
+none_left : (sc : Scenario) (w : State) (at : ℕ) (deeds : List Deed) → IsValid sc → Agrees sc w → have_ended sc w.facts 0 sc.txns ≡ true → IsUnsettled sc w.actors at deeds → ⊥
+none_left sc w at deeds valid agrees ended u = by_declared (slice_get sc.txns u.txn.0) refl
+  where
+    exists : IsServer sc (record { 0 = at })
+    exists = server_there sc (record { 0 = at }) u.txn valid u.item
 
-decided_step : (b : Bool) (store : List ℤ) (decided : Decision) (ds : List Decision) → b ≡ true
-    → fold stored_decision store (cons_option (if b then Some decided else None) ds) ≡ fold stored_decision (stored_decision store decided) ds
-decided_step true store decided ds e = refl
-decided_step false store decided ds e = absurd (cc)
+    settled : (outcome_is : Outcome) (declared : Transaction) → slice_get sc.txns u.txn.0 ≡ Some declared → ended_as (servers_of sc declared) w.facts u.txn outcome_is ≡ true → ⊥
+    settled outcome_is declared found e =
+        let there = settled_everywhere sc w u.txn declared outcome_is (record { 0 = at }) agrees found e exists u.item in
+        let none = ap is_some u.unsettled in
+        cc
 
-aborted_step : (b : Bool) (store : List ℤ) (decided : Decision) (ds : List Decision) → stored_decision store decided ≡ store
-    → fold stored_decision store (cons_option (if b then Some decided else None) ds) ≡ fold stored_decision store ds
-aborted_step true store decided ds e = ap (λ (b : List ℤ). fold stored_decision b ds) e
-aborted_step false store decided ds e = refl
+    by_declared : (declared : Option Transaction) → slice_get sc.txns u.txn.0 ≡ declared → ⊥
+    by_declared None e = let absent : has_item_at sc (record { 0 = at }) u.txn ≡ false = ap (λ (d : Option Transaction). option_map_or (has_item sc (record { 0 = at })) d false) e in let there = u.item in cc
+    by_declared (Some declared) e =
+        let here : has_ended sc w.facts (record { 0 = 0 + u.txn.0 }) declared ≡ true = ended_at sc w.facts 0 sc.txns u.txn.0 declared ended e in
+        let same : 0 + u.txn.0 ≡ u.txn.0 = omega arith in
+        let now : has_ended sc w.facts u.txn declared ≡ true = subst (λ (k : ℕ). has_ended sc w.facts (record { 0 = k }) declared ≡ true) same here in
+        both_ended (ended_as (servers_of sc declared) w.facts u.txn outcome.Commit) (ended_as (servers_of sc declared) w.facts u.txn outcome.Abort) ⊥
+        (λ c. settled outcome.Commit declared e c) (λ a. settled outcome.Abort declared e a)
+        (and_parts (list_any (is_submission u.txn) w.facts) (ended_as (servers_of sc declared) w.facts u.txn outcome.Commit || ended_as (servers_of sc declared) w.facts u.txn outcome.Abort) now).1
 
-what_step : (w : What) (store : List ℤ) (ds : List Decision) → IsOfOne w → fold stored_decision (stored_what store w) ds ≡ fold stored_decision store (cons_option (decided_what first_txn w) ds)
-what_step (what.Decided txn (decision.Commit committed)) store ds one = sym (decided_step (same_txn txn first_txn) store (decision.Commit committed) ds (ap (λ (t : TxnId). same_txn t first_txn) one))
-what_step (what.Decided txn (decision.Abort why)) store ds one = sym (aborted_step (same_txn txn first_txn) store (decision.Abort why) ds refl)
-what_step _ store ds one = refl
+-- lists as long as one another with the same at each place
+same_places : (xs ys : List ℤ) → length xs ≡ length ys → ((n : ℕ) → n < length xs → slice_get xs n ≡ slice_get ys n) → xs ≡ ys
+same_places [] [] e h = refl
+same_places [] (y ∷ ys) e h = absurd (omega (arith, e))
+same_places (x ∷ xs) [] e h = absurd (omega (arith, e))
+same_places (x ∷ xs) (y ∷ ys) e h =
+    let first : x ≡ y = same_Some x y (h 0 (omega arith)) in
+    ap (λ (z : ℤ). z ∷ xs) first ∙ ap (λ (zs : List ℤ). y ∷ zs) (same_places xs ys (omega (arith, e)) (λ n within. h (suc n) (omega (arith, within))))
 
--- the store after facts is what the one transaction's decisions leave
-store_by_decisions : (facts : List Fact) (store : List ℤ) → Each (λ (fact : Fact). IsOfOne fact.what) facts → fold stored_fact store facts ≡ fold stored_decision store (decisions first_txn (said facts))
-store_by_decisions [] store h = refl
-store_by_decisions (fact ∷ facts) store h =
-    store_by_decisions facts (stored_what store fact.what) h.1 ∙ what_step fact.what store (decisions first_txn (said facts)) h.0
-
--- ---- one transaction at one server: what is overlaid is what its settlement leaves
-
--- a settled commit is of the one transaction at the one server
-abbrev IsSettledByOne : What → Type 0
-IsSettledByOne (what.Settled at txn outcome.Commit) = (at ≡ first_server) × (txn ≡ first_txn)
-IsSettledByOne _ = Unit {0}
-
-abbrev overlaid_outcome : Scenario → List Fact → List ℤ → Outcome → List ℤ
-overlaid_outcome sc facts store outcome.Commit = overlaid_deeds sc first_server store (commit_of first_txn facts)
-overlaid_outcome sc facts store outcome.Abort = store
-
-settled_by_one : (sc : Scenario) (facts : List Fact) (place : ℕ) (w : What) → is_built sc ≡ true → FactFollows sc facts (record { place = place; what = w }) → IsSettledByOne w
-settled_by_one sc facts place (what.Settled at txn outcome.Commit) built h = let one = only_one_of_each sc at txn built h.item in (one.0, txn_is_first txn one.1)
-settled_by_one sc facts place _ built h = tt
-
-settled_step : (sc : Scenario) (facts : List Fact) (b : Bool) (store : List ℤ) (ended : Outcome) (os : List Outcome) → b ≡ true
-    → fold (overlaid_outcome sc facts) store (cons_option (if b then Some ended else None) os) ≡ fold (overlaid_outcome sc facts) (overlaid_outcome sc facts store ended) os
-settled_step sc facts true store ended os e = refl
-settled_step sc facts false store ended os e = absurd (cc)
-
-unapplied_step : (sc : Scenario) (facts : List Fact) (b : Bool) (store : List ℤ) (os : List Outcome)
-    → fold (overlaid_outcome sc facts) store (cons_option (if b then Some outcome.Abort else None) os) ≡ fold (overlaid_outcome sc facts) store os
-unapplied_step sc facts true store os = refl
-unapplied_step sc facts false store os = refl
-
-overlaid_step : (sc : Scenario) (facts : List Fact) (w : What) (store : List ℤ) (os : List Outcome) → IsSettledByOne w
-    → fold (overlaid_outcome sc facts) (overlaid_what sc facts store w) os ≡ fold (overlaid_outcome sc facts) store (cons_option (settled_what first_server first_txn w) os)
-overlaid_step sc facts (what.Settled at txn outcome.Commit) store os one =
-    let here : overlaid_deeds sc at store (commit_of txn facts) ≡ overlaid_outcome sc facts store outcome.Commit =
-    ap (λ (s : ServerId). overlaid_deeds sc s store (commit_of txn facts)) one.0 ∙ ap (λ (t : TxnId). overlaid_deeds sc first_server store (commit_of t facts)) one.1 in
-    let there : (same_server at first_server && same_txn txn first_txn) ≡ true =
-    ap (λ (s : ServerId). same_server s first_server && same_txn txn first_txn) one.0 ∙ ap (λ (t : TxnId). same_txn t first_txn) one.1 in
-    ap (λ (b : List ℤ). fold (overlaid_outcome sc facts) b os) here
-    ∙ sym (settled_step sc facts (same_server at first_server && same_txn txn first_txn) store outcome.Commit os there)
-overlaid_step sc facts (what.Settled at txn outcome.Abort) store os one = sym (unapplied_step sc facts (same_server at first_server && same_txn txn first_txn) store os)
-overlaid_step sc facts _ store os one = refl
-
--- what is overlaid is what the one transaction's settlements at the one server leave
-overlaid_by_settlements : (sc : Scenario) (all facts : List Fact) (store : List ℤ) → Each (λ (fact : Fact). IsSettledByOne fact.what) facts
-    → fold (overlaid_fact sc all) store facts ≡ fold (overlaid_outcome sc all) store (settlements first_server first_txn (said facts))
-overlaid_by_settlements sc all [] store h = refl
-overlaid_by_settlements sc all (fact ∷ facts) store h =
-    overlaid_by_settlements sc all facts (overlaid_what sc all store fact.what) h.1 ∙ overlaid_step sc all fact.what store (settlements first_server first_txn (said facts)) h.0
-
--- ---- the end
-
-same_outcome_is : (given ended : Outcome) → (same_outcome given ended || false) ≡ true → given ≡ ended
-same_outcome_is outcome.Commit outcome.Commit e = refl
-same_outcome_is outcome.Abort outcome.Abort e = refl
-same_outcome_is outcome.Commit outcome.Abort e = absurd (cc)
-same_outcome_is outcome.Abort outcome.Commit e = absurd (cc)
-
-decided_one : (found : Option Decision) (ended : Outcome) → list_any (λ (d : Decision). same_outcome (outcome_of d) ended) (listed found) ≡ true → option_map outcome_of found ≡ Some ended
-decided_one None ended e = absurd (cc)
-decided_one (Some d) ended e = ap (λ (o : Outcome). Some o) (same_outcome_is (outcome_of d) ended e)
-
--- the one transaction was decided so, and settled so at the one server
-record EndedAs (sc : Scenario) (w : State) (ended : Outcome) : Type 0 where
-  pub decided : option_map outcome_of (decided_at w.actors.coordinators 0) ≡ Some ended
-  pub settled : settled_outcome w.actors.servers first_server first_txn ≡ Some ended
-
-ended_so : (sc : Scenario) (w : State) (declared : Transaction) (ended : Outcome) → is_built sc ≡ true → Agrees sc w → sc.txns ≡ declared ∷ [] → ended_as (servers_of sc declared) w.facts first_txn ended ≡ true → EndedAs sc w ended
-ended_so sc w declared ended built agrees txns_are e =
-    let parts = and_parts (list_any (is_decided_as first_txn ended) w.facts) (is_settled_everywhere (servers_of sc declared) w.facts first_txn ended) e in
-    let found : slice_get sc.txns 0 ≡ Some declared = ap (λ (ts : List Transaction). slice_get ts 0) txns_are in
-    let P : ServerId → Type 0 = λ at. list_any (is_settled_as at first_txn ended) w.facts ≡ true in
-    let everywhere : Each P (servers_of sc declared) = each_from_all (λ (at : ServerId). list_any (is_settled_as at first_txn ended) w.facts) (servers_of sc declared) parts.1 in
-    let servers : Each P (servers_at sc first_txn) = subst (λ (d : Option Transaction). Each P (option_map_or (servers_of sc) d [])) (sym found) everywhere in
-    let one = length-servers_built sc built in
-    let here : P first_server = among_servers P sc first_server first_txn (omega (arith, one)) (has_item_at_one_server sc first_txn declared built found) servers in
-    record {
-      decided = decided_one (decided_at w.actors.coordinators 0) ended
-          (sym (any_decided first_txn ended w.facts ∙ ap (list_any (λ (d : Decision). same_outcome (outcome_of d) ended)) (agrees.decided first_txn)) ∙ parts.0);
-      settled = listed_passes (settled_outcome w.actors.servers first_server first_txn) ended
-          (sym (any_settled first_server first_txn ended w.facts ∙ ap (list_any (λ (o : Outcome). same_outcome o ended)) (agrees.settled first_server first_txn)) ∙ here);
-    }
-
-store_is : (sc : Scenario) (w : State) → is_built sc ≡ true → Agrees sc w → Serial sc w → store_of sc w.facts ≡ fold stored_decision (opening_store sc) (listed (decided_at w.actors.coordinators 0))
-store_is sc w built agrees h =
-    store_by_decisions w.facts (opening_store sc)
-    (each_as (λ (fact : Fact). keeps_serial sc w.facts fact ≡ true) (λ (fact : Fact). IsOfOne fact.what) (λ fact e. fact_of_one sc w.facts fact.place fact.what built e) w.facts h.facts)
-    ∙ ap (fold stored_decision (opening_store sc)) (agrees.decided first_txn)
-
-overlaid_is : (sc : Scenario) (w : State) → is_built sc ≡ true → Agrees sc w
-    → overlaid sc w.facts ≡ fold (overlaid_outcome sc w.facts) (opening_store sc) (listed (settled_outcome w.actors.servers first_server first_txn))
-overlaid_is sc w built agrees =
-    overlaid_by_settlements sc w.facts w.facts (opening_store sc)
-    (each_as (FactFollows sc w.facts) (λ (fact : Fact). IsSettledByOne fact.what) (λ fact follows. settled_by_one sc w.facts fact.place fact.what built follows) w.facts agrees.facts)
-    ∙ ap (fold (overlaid_outcome sc w.facts) (opening_store sc)) (agrees.settled first_server first_txn)
-
-kept_here : (sc : Scenario) (store : List ℤ) (deed : Deed) → is_at sc first_server deed ≡ true → overlaid_at sc first_server store deed ≡ stored store deed
-kept_here sc store deed e = ap (λ (b : Bool). if b then stored store deed else store) e
-
--- at the one server the whole plan is overlaid
-whole_plan : (sc : Scenario) (txn : TxnId) (deeds : List Deed) (store : List ℤ) → is_built sc ≡ true → deeds ≡ planned sc txn → fold (overlaid_at sc first_server) store deeds ≡ stored_all store deeds
-whole_plan sc txn deeds store built e =
-    fold_as (overlaid_at sc first_server) stored deeds
-    (each_as (λ (deed : Deed). is_at sc first_server deed ≡ true) (λ (deed : Deed). (b : List ℤ) → overlaid_at sc first_server b deed ≡ stored b deed) (λ deed there b. kept_here sc b deed there) deeds
-    (subst (Each (λ (deed : Deed). is_at sc first_server deed ≡ true)) (sym e) (planned_at_one_server sc txn built))) store
-
-left_by : (sc : Scenario) (w : State) (decided : Option Decision) (ended : Outcome) → is_built sc ≡ true → Agrees sc w → Serial sc w → decided_at w.actors.coordinators 0 ≡ decided → option_map outcome_of decided ≡ Some ended
-    → fold (overlaid_outcome sc w.facts) (opening_store sc) (ended ∷ []) ≡ fold stored_decision (opening_store sc) (listed decided)
-left_by sc w None ended built agrees h e d = absurd (cc)
-left_by sc w (Some (decision.Commit committed)) outcome.Commit built agrees h e d =
-    let plan : IsPlannedCommit sc w.facts first_txn = commit_planned sc w first_txn agrees h (ap (option_map outcome_of) e) in
-    let found : commit_of first_txn w.facts ≡ Some committed = commit_found first_txn w.facts ∙ (ap first_commit (agrees.decided first_txn) ∙ ap (λ (x : Option Decision). first_commit (listed x)) e) in
-    let same : plan.committed ≡ committed = same_Some plan.committed committed (sym plan.found ∙ found) in
-    let deeds : committed.deeds ≡ planned sc first_txn = subst (λ (r : CommitRecord). r.deeds ≡ planned sc first_txn) same plan.deeds in
-    ap (overlaid_deeds sc first_server (opening_store sc)) found ∙ whole_plan sc first_txn committed.deeds (opening_store sc) built deeds
-left_by sc w (Some (decision.Abort why)) outcome.Abort built agrees h e d = refl
-left_by sc w (Some (decision.Commit committed)) outcome.Abort built agrees h e d = absurd (cc)
-left_by sc w (Some (decision.Abort why)) outcome.Commit built agrees h e d = absurd (cc)
-
-ended_values : (sc : Scenario) (w : State) (ended : Outcome) → is_built sc ≡ true → Agrees sc w → Serial sc w → EndedAs sc w ended → overlaid sc w.facts ≡ store_of sc w.facts
-ended_values sc w ended built agrees h so =
-    overlaid_is sc w built agrees
-    ∙ (ap (λ (o : Option Outcome). fold (overlaid_outcome sc w.facts) (opening_store sc) (listed o)) so.settled
-    ∙ (left_by sc w (decided_at w.actors.coordinators 0) ended built agrees h refl so.decided
-    ∙ sym (store_is sc w built agrees h)))
-
-either_end : (a b c : Bool) (P : Type 0) → (b ≡ true → P) → (c ≡ true → P) → ((a && (b || c)) && true) ≡ true → P
-either_end true true c P first second e = first refl
-either_end true false true P first second e = second refl
-either_end true false false P first second e = absurd (cc)
-either_end false b c P first second e = absurd (cc)
-
--- once the one transaction has ended at the one server, by a commit or an abort, what is settled is what all commits leave
+-- once all transactions have ended at each of their servers, what is settled is what all commits leave
 pub values_at_end : (sc : Scenario) (w : State) → is_built sc ≡ true → Agrees sc w → Serial sc w → have_ended sc w.facts 0 sc.txns ≡ true → overlaid sc w.facts ≡ store_of sc w.facts
 values_at_end sc w built agrees h ended =
-    let one : IsOneTransaction sc = only_transaction sc built in
-    let now : have_ended sc w.facts 0 (one.declared ∷ []) ≡ true = subst (λ (ts : List Transaction). have_ended sc w.facts 0 ts ≡ true) one.txns_are ended in
-    either_end (list_any (is_submission first_txn) w.facts) (ended_as (servers_of sc one.declared) w.facts first_txn outcome.Commit) (ended_as (servers_of sc one.declared) w.facts first_txn outcome.Abort)
-    (overlaid sc w.facts ≡ store_of sc w.facts)
-    (λ e. ended_values sc w outcome.Commit built agrees h (ended_so sc w one.declared outcome.Commit built agrees one.txns_are e))
-    (λ e. ended_values sc w outcome.Abort built agrees h (ended_so sc w one.declared outcome.Abort built agrees one.txns_are e)) now
+    let counts : length (overlaid sc w.facts) ≡ length sc.items = overlaid_length sc w.facts in
+    same_places (overlaid sc w.facts) (store_of sc w.facts) (counts ∙ sym (store_length sc w.facts))
+    (λ n within. by_item n (slice_get sc.items n) refl (omega (arith, within, counts)))
+  where
+    by_item : (n : ℕ) (item : Option Item) → slice_get sc.items n ≡ item → n < length sc.items → slice_get (overlaid sc w.facts) n ≡ slice_get (store_of sc w.facts) n
+    by_item n None e within = absurd (missing sc.items n within e)
+    by_item n (Some item) e within =
+        sym ((h.store item.server.0).bare n (record { declared = item; declared_is = e; at_is = refl }) (λ deeds u. absurd (none_left sc w item.server.0 deeds (valid_built sc built) agrees ended u)))

@@ -39,7 +39,7 @@ pub same_stored : (a : Action) (xs ys : List ℤ) (deed : Deed) (n : ℕ) → sl
 same_stored action.Read xs ys deed n e = e
 same_stored action.Write xs ys deed n e = same_set xs ys deed.item.0 n deed.value e
 
-other_stored : (a : Action) (xs : List ℤ) (deed : Deed) (n : ℕ) → (deed.item.0 ≡ n → ⊥) → slice_get (stored_by a xs deed) n ≡ slice_get xs n
+pub other_stored : (a : Action) (xs : List ℤ) (deed : Deed) (n : ℕ) → (deed.item.0 ≡ n → ⊥) → slice_get (stored_by a xs deed) n ≡ slice_get xs n
 other_stored action.Read xs deed n apart = refl
 other_stored action.Write xs deed n apart = set_elsewhere xs deed.item.0 n deed.value (ne_eqb deed.item.0 n apart)
 

@@ -73,6 +73,10 @@ pub store_as : (Own : ℕ → Type 0) (P Q : List Deed → Type 0) (values store
 store_as Own P Q values store more fewer h =
     record { covered = λ item deeds v own q e. h.covered item deeds v own (fewer deeds q) e; bare = λ item own none. h.bare item own (λ deeds p. none deeds (more deeds p)) }
 
+-- nor where other values are the same at the server's items
+pub values_as : (Own : ℕ → Type 0) (P : List Deed → Type 0) (values other store : List ℤ) → ((item : ℕ) → Own item → slice_get values item ≡ slice_get other item) → StoreFits Own P values store → StoreFits Own P other store
+values_as Own P values other store same h = record { covered = h.covered; bare = λ item own none. h.bare item own none ∙ same item own }
+
 -- Q are the deeds of P, and these
 pub record Adds (P : List Deed → Type 0) (deeds : List Deed) (Q : List Deed → Type 0) : Type 0 where
   pub kept : (other : List Deed) → P other → Q other

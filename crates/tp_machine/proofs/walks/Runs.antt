@@ -57,7 +57,7 @@ holds_next sc m taken built exists allowed h =
       outside = outside_next sc m taken exists allowed h.agrees.coordinator_count h.agrees.past h.outside;
       trusts = trusts_next sc m taken built exists allowed h.sound h.agrees h.trusts;
       pairs = pairs_next sc m taken built exists allowed h.sound h.agrees h.epochs h.trusts h.pairs;
-      serial = serial_next sc m taken built exists allowed h.sound h.agrees h.serial;
+      serial = serial_next sc m taken built exists allowed h.sound h.agrees h.pairs h.serial;
     }
 
 step_holds : (sc : Scenario) (m : Machine) (taken : Step) (why : Option StepError) → refusal m.state taken ≡ why → is_built sc ≡ true → IsStepOf sc taken → Holds sc m.state
