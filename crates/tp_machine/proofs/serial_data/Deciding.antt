@@ -281,8 +281,11 @@ commit_leaves sc w txn named part next declared committed own agrees h k r clear
           r.shares at p (ap (prepared_at w.actors.servers at) is ∙ e) ∙ ap (λ (c : CommitRecord). share_at sc at c.deeds) (same_commit committed given new.1))
           (either_decided w.actors txn part next (decision.Commit committed) (decision.Commit given) other.0 k d);
       store = λ at. commit_stands sc w txn part next declared committed at (has_item_at sc (record { 0 = at }) txn) refl h k r clear;
-      serial = (ap (λ (found : Option Transaction). option_map_or (is_serial_commit sc (store_of sc w.facts) committed) found false) (ap (λ (t : TxnId). slice_get sc.txns t.0) own ∙ r.declared_is)
-          ∙ run_is_serial sc (store_of sc w.facts) committed declared runs range, tt);
+      serial = (
+        ap (λ (found : Option Transaction). option_map_or (is_serial_commit sc (store_of sc w.facts) committed) found false) (ap (λ (t : TxnId). slice_get sc.txns t.0) own ∙ r.declared_is)
+            ∙ run_is_serial sc (store_of sc w.facts) committed declared runs range,
+        tt,
+      );
       range = range;
     }
 

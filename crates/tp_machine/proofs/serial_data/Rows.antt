@@ -13,8 +13,6 @@ use Rattle.tp_model.specs.Words.{Action, Body, DecideRequest, Deed, ItemId, Lett
 use Rattle.tp_machine.proofs.agreement.Server.{cast_in, vote_by}
 use Rattle.tp_machine.proofs.basics.Lists.{placed_emptied_others, placed_set}
 use Rattle.tp_machine.proofs.basics.Logs.{Prepares}
-use Rattle.tp_machine.proofs.pairs.Answered.{answered}
-use Rattle.tp_machine.proofs.pairs.Entries.{begun}
 use Rattle.tp_machine.proofs.serial_data.Ranges.{AreTested, tested_each}
 use Rattle.tp_machine.proofs.serial_data.Reads.{AreClear, IsReadBy, ReadsFrom, reads_clear}
 use Rattle.tp_machine.proofs.walks.ServerRows.{IsVote, server_by}

@@ -20,7 +20,6 @@ use Rattle.tp_machine.proofs.basics.Facts.{commit_found, first_commit}
 use Rattle.tp_machine.proofs.basics.Ids.{same_txn_is}
 use Rattle.tp_machine.proofs.basics.Lists.{at_set, each_as, set_here}
 use Rattle.tp_machine.proofs.basics.Logs.{appended, gained, listed, prepared_either, prepared_grown}
-use Rattle.tp_machine.proofs.pairs.Ends.{settled}
 use Rattle.tp_machine.proofs.serial_data.Commits.{IsItemAt, settle_store}
 use Rattle.tp_machine.proofs.serial_data.Joined.{at_home, is_at, other_stored, same_stored, share_at}
 use Rattle.tp_machine.proofs.serial_data.Lengths.{has_value}

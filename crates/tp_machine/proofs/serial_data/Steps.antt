@@ -13,8 +13,6 @@ use Rattle.tp_machine.proofs.agreement.Steps.{begun_lawful, coordinator_lawful, 
 use Rattle.tp_machine.proofs.agreement.World.{Agrees, BodyRests}
 use Rattle.tp_machine.proofs.basics.Lists.{at_made, placed_none}
 use Rattle.tp_machine.proofs.ids.Valid.{valid_built}
-use Rattle.tp_machine.proofs.pairs.Entries.{begun, keeps}
-use Rattle.tp_machine.proofs.pairs.Votes.{forces}
 use Rattle.tp_machine.proofs.pairs.World.{HasPlaces, Pairs, declared_by}
 use Rattle.tp_machine.proofs.serial_data.Alone.{IsAlone, alone_built, clear_commit, clear_of_others}
 use Rattle.tp_machine.proofs.serial_data.Built.{opening_in_range}
