@@ -10,7 +10,7 @@ use Rattle.tp_model.specs.Built.{is_built}
 use Rattle.tp_model.specs.Ids.{same_server}
 use Rattle.tp_model.specs.Queries.{item_of}
 use Rattle.tp_model.specs.SerialRun.{overlaid_at, stored, stored_by}
-use Rattle.tp_model.specs.Words.{Action, Body, DecideRequest, Deed, DoneReply, Item, ItemId, Mail, Outcome, PrepareRequest, Query, QueryRequest, Record, Scenario, ServerId, TxnId}
+use Rattle.tp_model.specs.Words.{Action, Body, DecideRequest, Deed, DoneReply, Item, ItemId, Mail, Outcome, PrepareRequest, Query, QueryRequest, Record, Scenario, ServerId, TxnId, Verdict}
 use Rattle.tp_model.specs.Words.action
 use Rattle.tp_model.specs.Words.actor
 use Rattle.tp_model.specs.Words.body
@@ -22,6 +22,7 @@ use Rattle.tp_machine.specs.coord.Row.{deed_of}
 use Rattle.tp_machine.specs.declared.server.Entry.{Entry}
 use Rattle.tp_machine.specs.server.Row.{answers, applied, applied_deed, are_in_range, asked_item, begins, committed, entry_at, first_entry, is_in_range, is_in_range_of, is_write, plain_write, restarted_reply, server_row, settles, votes, written_item}
 use Rattle.tp_machine.specs.server.State.{Server}
+use Rattle.tp_machine.specs.server.Verdicts.{verdicts_on}
 use Rattle.tp_machine.proofs.agreement.ServerActs.{server_facts}
 use Rattle.tp_machine.proofs.agreement.Logs.{LogPrepared, LogServed, outcome_settled}
 use Rattle.tp_machine.proofs.agreement.Server.{ServerAgrees, open_unsettled, prepared_entry}
@@ -135,9 +136,9 @@ tested_each sc (deed ∷ deeds) e =
     let parts = and_parts (is_in_range sc deed) (list_all (is_in_range sc) deeds) e in
     (λ item found. sym (ap (λ (declared : Option Item). is_in_range_of declared deed.value) found) ∙ parts.0, tested_each sc deeds parts.1)
 
-votes_keep : (sc : Scenario) (s : Server) (p : PrepareRequest) (place : ℕ) (entry : Entry) → ServerSerial sc s → entry_at s p.txn ≡ Some entry → are_in_range sc entry.deeds ≡ true
-    → ServerKeeps sc s (votes sc s p place entry)
-votes_keep sc s p place entry h e in_range =
+votes_keep : (sc : Scenario) (s : Server) (p : PrepareRequest) (verdicts : List Verdict) (entry : Entry) → ServerSerial sc s → entry_at s p.txn ≡ Some entry → are_in_range sc entry.deeds ≡ true
+    → ServerKeeps sc s (votes s p verdicts entry)
+votes_keep sc s p verdicts entry h e in_range =
     let old : EntryPlanned sc s.server p.txn.0 entry = h p.txn.0 entry e in
     let deeds : entry.deeds ≡ planned_at sc s.server p.txn = old.deeds in
     record {
@@ -206,7 +207,7 @@ server_row_keeps sc s kept mail built a h sound m o =
       restarted = λ q k. answers_keep sc s q (restarted_reply q s.epoch) h tt;
       answered = λ q entry given k.
           answers_keep sc s q given h (each_found (λ (d : DoneReply). BodySerial sc (body.Done d)) (λ (d : DoneReply). d.query == q.query) entry.answers given (h q.txn.0 entry k.found).answers k.given_is);
-      voted = λ p entry staple k. votes_keep sc s p staple.place entry h k.found k.in_range;
+      voted = λ p entry staple txn k. votes_keep sc s p (verdicts_on sc s txn staple entry.deeds) entry h k.found k.in_range;
       settled = λ d k. settles_keep sc s kept d a h (open_unsettled s kept d.txn a k.unsettled) (subst (OrderServed kept) k.said_is o);
       acknowledged = λ d settled k. record { state = h; same_server = refl; forces = tt; values = refl; letters = (tt, tt) };
     })
