@@ -5,11 +5,11 @@ ghost use Rattle.tp_model.specs.Authorisation as authorisation;
 ghost use Rattle.tp_model.specs.Causes as causes;
 ghost use Rattle.tp_model.specs.Versions as versions;
 
-use crate::authorisation::{is_allowed, is_own_query, policy_at};
+use crate::authorisation::{is_allowed, is_own_query};
 use crate::facts::has_query_on;
 use crate::trust::is_within;
 use crate::versions::newest;
-use tp_model::{is_global, level_of};
+use tp_model::{is_global, level_of, policy_at};
 use tp_types::{
     Actor, Cause, Decision, Denied, Fact, List, Place, Scenario, Scheme, ServerId, Transaction,
     TxnId, What,

@@ -12,6 +12,7 @@ pub mod laws;
 mod part;
 pub mod serial;
 mod server;
+mod verdicts;
 pub mod views;
 mod world;
 

@@ -8,15 +8,17 @@ ghost use Rattle.tp_types.specs.Effect.{Gives};
 ghost use Rattle.tp_types.specs.Table.{flattened};
 ghost use Rattle.tp_machine.specs.server.Row as row;
 ghost use Rattle.tp_machine.specs.server.Opened as opened;
+ghost use Rattle.tp_machine.specs.server.Verdicts.{HasFewRules};
 
+use crate::verdicts::verdicts_on;
 use std::alloc::Global;
 use std::marker::Model;
 use tp_model::query_at;
 use tp_types::{
-    AckReply, Action, Actor, AdminId, Answer, Body, DecideRequest, Deed, DoneReply, Item, ItemId,
-    Letter, List, Mail, NoMemory, Outcome, Place, PrepareRequest, Prepared, Query, QueryRequest,
-    Reaction, Record, Scenario, ServerId, Settled, Staple, TryClone, TxnId, Verdict, Version, Vote,
-    VoteReply, forced_and_sent, ignored, none_for_each, sent_alone, taken, unbuilt,
+    AckReply, Action, Actor, Answer, Body, DecideRequest, Deed, DoneReply, Item, ItemId, Letter,
+    List, Mail, NoMemory, Outcome, Place, PrepareRequest, Prepared, Query, QueryRequest, Reaction,
+    Record, Scenario, ServerId, Settled, TryClone, TxnId, Verdict, Version, Vote, VoteReply,
+    forced_and_sent, ignored, none_for_each, sent_alone, taken, unbuilt,
 };
 
 /// What a server voted YES on: the turn of the request, and its verdicts.
@@ -95,6 +97,7 @@ impl Server {
         scenario: &Scenario,
         mail: &Mail,
     ) -> Result<Reaction, NoMemory>
+        requires { HasFewRules scenario.now }
         ensures { IfOk result (λ reaction.
             Gives (row.server_row scenario.now self.old mail.now) self.new reaction) }
     {
@@ -245,6 +248,7 @@ impl Server {
         scenario: &Scenario,
         request: &PrepareRequest,
     ) -> Result<Reaction, NoMemory>
+        requires { HasFewRules scenario.now }
         ensures { IfOk result (λ reaction.
             Gives (row.on_prepare scenario.now self.old request.now) self.new reaction) }
     {
@@ -260,9 +264,14 @@ impl Server {
         {
             return Ok(unbuilt(alloc));
         }
+        let Some(txn) = scenario.txns.get(request.txn.0 as usize) else {
+            return Ok(ignored(alloc));
+        };
         match &request.staple {
             Some(staple) if request.want.is_empty() => {
-                let forced = self.prepared(alloc, scenario, request, staple.place, entry)?;
+                let deeds = entry.deeds.as_slice();
+                let verdicts = verdicts_on(alloc, scenario, self, txn, staple, deeds)?;
+                let forced = self.prepared(alloc, request, entry, verdicts)?;
                 self.votes(alloc, forced)
             }
             _ => Ok(unbuilt(alloc)),
@@ -272,14 +281,12 @@ impl Server {
     fn prepared(
         &self,
         alloc: Global,
-        scenario: &Scenario,
         request: &PrepareRequest,
-        place: Place,
         entry: &Entry,
+        verdicts: List<Verdict>,
     ) -> Result<Prepared, NoMemory>
         ensures { IfOk result (λ made.
-            made ≡ row.prepared_record self.now request.now entry.now
-            (map (row.verdict_on scenario.now self.now place) entry.now.deeds)) }
+            made ≡ row.prepared_record self.now request.now entry.now verdicts) }
     {
         Ok(Prepared {
             txn: request.txn,
@@ -287,50 +294,9 @@ impl Server {
             epoch: entry.epoch,
             turn: request.turn,
             deeds: entry.deeds.try_clone(alloc)?,
-            verdicts: self.verdicts_on(alloc, scenario, place, entry.deeds.as_slice())?,
+            verdicts,
             told: self.known.try_clone(alloc)?,
         })
-    }
-
-    fn version_known(&self, admin: AdminId) -> Version
-        ensures { result ≡ row.version_known self.now admin }
-    {
-        match self.known.get(admin.0 as usize) {
-            None => Version(1),
-            Some(version) => *version,
-        }
-    }
-
-    fn verdict_on(&self, alloc: Global, scenario: &Scenario, place: Place, deed: Deed) -> Verdict
-        ensures { result ≡ row.verdict_on scenario.now self.now place deed }
-    {
-        let admin = admin_of(scenario, deed.item);
-        Verdict {
-            query: deed.query,
-            server: self.server,
-            admin,
-            version: self.version_known(admin),
-            place,
-            rule: Some(1),
-            uses: List::new(alloc),
-        }
-    }
-
-    fn verdicts_on(
-        &self,
-        alloc: Global,
-        scenario: &Scenario,
-        place: Place,
-        deeds: &[Deed],
-    ) -> Result<List<Verdict>, NoMemory>
-        ensures { IfOk result (λ made.
-            made ≡ map (row.verdict_on scenario.now self.now place) deeds.now) }
-    {
-        let mut made = List::new(alloc);
-        for deed in deeds {
-            made.push(self.verdict_on(alloc, scenario, place, *deed))?;
-        }
-        Ok(made)
     }
 
     fn votes(&mut self, alloc: Global, forced: Prepared) -> Result<Reaction, NoMemory>
@@ -501,15 +467,6 @@ fn done(request: &QueryRequest, epoch: u64, deed: Deed) -> DoneReply
             value: deed.value,
             verdict: None,
         },
-    }
-}
-
-fn admin_of(scenario: &Scenario, item: ItemId) -> AdminId
-    ensures { result ≡ row.admin_of scenario.now item }
-{
-    match scenario.items.get(item.0 as usize) {
-        None => AdminId(0),
-        Some(found) => found.admin,
     }
 }
 

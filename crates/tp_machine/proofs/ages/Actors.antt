@@ -67,7 +67,7 @@ server_row_ages A place sc s mail h m =
           record { entries = placed_set (EntryAged A) s.entries q.txn.0 (server.first_entry s mail.sent q deed) h told; forces = tt; letters = (tt, tt) };
       restarted = λ q k. record { entries = h; forces = tt; letters = (tt, tt) };
       answered = λ q entry given k. record { entries = h; forces = tt; letters = (tt, tt) };
-      voted = λ p entry staple k.
+      voted = λ p entry staple txn k.
           let old : A p.txn entry.age = h p.txn.0 entry k.found in
           record { entries = placed_set (EntryAged A) s.entries p.txn.0 _ h old; forces = old; letters = (tt, tt) };
       settled = λ d k. record { entries = placed_emptied (EntryAged A) s.entries d.txn.0 h; forces = tt; letters = (tt, tt) };

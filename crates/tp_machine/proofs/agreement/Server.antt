@@ -2,7 +2,7 @@
 -- ---- what is kept
 -- the transaction of an entry is not settled on this log
 use Rattle.std.specs.Prelude.{if◌then◌else◌}
-use Rattle.std.proofs.Common.{Bool, IfSome, List, None, Option, Some, [], ap, false, is_some, map, option_and_then, option_map, refl, slice_get, slice_set, subst, suc, sym, true, zero, ℕ, ◌==◌, ◌∙◌, ◌∷◌, ◌≡◌}
+use Rattle.std.proofs.Common.{Bool, IfSome, List, None, Option, Some, [], ap, false, is_some, option_and_then, option_map, refl, slice_get, slice_set, subst, suc, sym, true, zero, ℕ, ◌==◌, ◌∙◌, ◌∷◌, ◌≡◌}
 use Rattle.std.proofs.lemmas.Bool.{eqb-true}
 use Rattle.tp_types.specs.Effect.{Effect, ignores, sends}
 use Rattle.tp_types.proofs.ListLemmas.{number_itself}
@@ -20,8 +20,9 @@ use Rattle.tp_machine.specs.Machine.{log_with}
 use Rattle.tp_machine.specs.Sound.{Each, EachPlaced}
 use Rattle.tp_machine.specs.declared.server.Ballot.{Ballot}
 use Rattle.tp_machine.specs.declared.server.Entry.{Entry}
-use Rattle.tp_machine.specs.server.Row.{ack_letter, answers, begins, entry_at, first_entry, is_open, prepared_record, reply, restarted_reply, server_row, settled_as, settles, verdict_on, votes}
+use Rattle.tp_machine.specs.server.Row.{ack_letter, answers, begins, entry_at, first_entry, is_open, prepared_record, reply, restarted_reply, server_row, settled_as, settles, votes}
 use Rattle.tp_machine.specs.server.State.{Server}
+use Rattle.tp_machine.specs.server.Verdicts.{verdicts_on}
 use Rattle.tp_machine.proofs.agreement.Logs.{LogPrepared}
 use Rattle.tp_machine.proofs.basics.Ids.{same_txn_is}
 use Rattle.tp_machine.proofs.basics.Logs.{first_none, get_set, prepared_with, settled_with}
@@ -221,11 +222,11 @@ votes_cast s kept txn other forced entry now h new own e cast false apart =
     ∙ (h.prepared other ∙ sym (ap (option_and_then cast_in) (entry_elsewhere s txn other (Some now) apart)))
 
 -- a vote YES settles nothing, and is prepared
-votes_lawful : (V : TxnId → Outcome → Type 0) (M : TxnId → Type 0) (sc : Scenario) (s : Server) (kept : List Record) (p : PrepareRequest) (place : ℕ) (entry : Entry) → ServerAgrees s kept
-    → settled_in p.txn kept ≡ None → entry_at s p.txn ≡ Some entry → ServerLawful V M s kept (votes sc s p place entry)
-votes_lawful V M sc s kept p place entry h new e =
-    let voting = prepared_record s p entry (map (verdict_on sc s place) entry.deeds) in
-    let forced = (votes sc s p place entry).reaction.append in
+votes_lawful : (V : TxnId → Outcome → Type 0) (M : TxnId → Type 0) (s : Server) (kept : List Record) (p : PrepareRequest) (verdicts : List Verdict) (entry : Entry) → ServerAgrees s kept
+    → settled_in p.txn kept ≡ None → entry_at s p.txn ≡ Some entry → ServerLawful V M s kept (votes s p verdicts entry)
+votes_lawful V M s kept p verdicts entry h new e =
+    let voting = prepared_record s p entry verdicts in
+    let forced = (votes s p verdicts entry).reaction.append in
     let now : Entry = record entry { ballot = Some (record { turn = voting.turn; verdicts = voting.verdicts }) } in
     let same : (txn : TxnId) → settled_in txn (log_with kept forced) ≡ settled_in txn kept = λ txn. settled_with txn kept forced ∙ first_none (settled_in txn kept) in
     record {
@@ -336,7 +337,7 @@ server_row_lawful V M sc s kept mail h m =
       begun = λ q deed k. begins_lawful V M s kept mail.sent q deed h (open_unsettled s kept q.txn h k.unsettled) k.no_entry;
       restarted = λ q k. answers_lawful V M s kept q (restarted_reply q s.epoch) h;
       answered = λ q entry given k. answers_lawful V M s kept q given h;
-      voted = λ p entry staple k. votes_lawful V M sc s kept p staple.place entry h (open_unsettled s kept p.txn h k.unsettled) k.found;
+      voted = λ p entry staple txn k. votes_lawful V M s kept p (verdicts_on sc s txn staple entry.deeds) entry h (open_unsettled s kept p.txn h k.unsettled) k.found;
       settled = λ d k. let rests = subst (RequestRests V M) k.said_is m in settles_lawful V M s kept d h k.unsettled rests.0 rests.1;
       acknowledged = λ d settled k. acknowledges_lawful V M s kept d settled h k.found;
     })

@@ -1,9 +1,9 @@
 -- Epochs, the actors' rows: what a server does it does in its epoch, and of a server that has told its epoch a coordinator keeps and
 -- names the one that was asked. A says which epochs were asked, E the present epoch of each server.
-use Rattle.std.proofs.Common.{Bool, IfSome, List, None, Option, Some, [], ap, arith, false, is_none, map, refl, subst, sym, true, ℕ, ◌++◌, ◌+◌, ◌==◌, ◌∙◌, ◌∷◌, ◌≡◌, ◌≤◌}
+use Rattle.std.proofs.Common.{Bool, IfSome, List, None, Option, Some, [], ap, arith, false, is_none, refl, subst, sym, true, ℕ, ◌++◌, ◌+◌, ◌==◌, ◌∙◌, ◌∷◌, ◌≡◌, ◌≤◌}
 use Rattle.std.proofs.lemmas.Bool.{eqb-true}
 use Rattle.tp_types.specs.Effect.{Effect, ignores}
-use Rattle.tp_model.specs.Words.{Actor, Answer, Body, DecideRequest, Deed, DoneReply, Letter, Mail, PrepareRequest, Prepared, QueryRequest, Record, Scenario, ServerId, TxnId}
+use Rattle.tp_model.specs.Words.{Actor, Answer, Body, DecideRequest, Deed, DoneReply, Letter, Mail, PrepareRequest, Prepared, QueryRequest, Record, Scenario, ServerId, TxnId, Verdict}
 use Rattle.tp_model.specs.Words.actor
 use Rattle.tp_model.specs.Words.answer
 use Rattle.tp_model.specs.Words.body
@@ -14,6 +14,7 @@ use Rattle.tp_machine.specs.Sound.{Each, EachPlaced}
 use Rattle.tp_machine.specs.declared.server.Entry.{Entry}
 use Rattle.tp_machine.specs.server.Row as server
 use Rattle.tp_machine.specs.server.State.{Server}
+use Rattle.tp_machine.specs.server.Verdicts.{verdicts_on}
 use Rattle.tp_machine.proofs.epochs.Asked.{Asking, IsAsked, IsOwnNaming, LetterNamed, NamesNone, NamesOwn, naming_of}
 use Rattle.tp_machine.proofs.basics.Phases.{is_first_at}
 use Rattle.tp_machine.proofs.walks.ServerRows.{server_by}
@@ -189,13 +190,13 @@ answers_made : (sc : Scenario) (A : Asking) (s : Server) (kept : List Record) (q
     → RowEpochs sc A s kept (server.answers s q.txn given)
 answers_made sc A s kept q given h d = record { made = h; forces = tt; replies = ((refl, record { past = omega (arith, d.past, h.epoch_is); asked = d.asked }), tt) }
 
-votes_made : (sc : Scenario) (A : Asking) (s : Server) (kept : List Record) (p : PrepareRequest) (place : ℕ) (entry : Entry) → ServerMade sc A s.server s kept → server.entry_at s p.txn ≡ Some entry
-    → entry.epoch ≡ p.epoch → A p.txn s.server ≡ Some p.epoch → RowEpochs sc A s kept (server.votes sc s p place entry)
-votes_made sc A s kept p place entry h e same m =
+votes_made : (sc : Scenario) (A : Asking) (s : Server) (kept : List Record) (p : PrepareRequest) (verdicts : List Verdict) (entry : Entry) → ServerMade sc A s.server s kept → server.entry_at s p.txn ≡ Some entry
+    → entry.epoch ≡ p.epoch → A p.txn s.server ≡ Some p.epoch → RowEpochs sc A s kept (server.votes s p verdicts entry)
+votes_made sc A s kept p verdicts entry h e same m =
     let old : EntryMade sc A s.server s.epoch entry = h.entries p.txn.0 entry e in
     record {
       made = record {
-        epoch_is = omega (arith, h.epoch_is, boots_push kept (log.Prepared (server.prepared_record s p entry (map (server.verdict_on sc s place) entry.deeds))));
+        epoch_is = omega (arith, h.epoch_is, boots_push kept (log.Prepared (server.prepared_record s p entry verdicts)));
         entries = placed_set (λ (n : ℕ) (found : Entry). EntryMade sc A s.server s.epoch found) s.entries p.txn.0 _ h.entries
             (record { past = old.past; present = λ none. absurd (cc); waiting = old.waiting; answers = old.answers });
       };
@@ -228,9 +229,9 @@ server_row_made sc A s kept mail h first m =
       answered = λ q entry given k.
           answers_made sc A s kept q given h
           (each_found (DoneMade sc A s.server s.epoch) (λ (d : DoneReply). d.query == q.query) entry.answers given (h.entries q.txn.0 entry k.found).answers k.given_is);
-      voted = λ p entry staple k.
+      voted = λ p entry staple txn k.
           let asked : A p.txn s.server ≡ Some p.epoch = subst (λ (said : Body). IfSome (naming_of said) (IsAsked A (actor.Server s.server))) k.said_is m in
-          votes_made sc A s kept p staple.place entry h k.found (eqb-true entry.epoch p.epoch k.same_epoch) asked;
+          votes_made sc A s kept p (verdicts_on sc s txn staple entry.deeds) entry h k.found (eqb-true entry.epoch p.epoch k.same_epoch) asked;
       settled = λ d k. settles_made sc A s kept d h;
       acknowledged = λ d settled k. record { made = h; forces = tt; replies = (tt, tt) };
     })

@@ -1,17 +1,24 @@
 -- The server's row keeps its state sound, forces a sound record, and sends sound letters.
-use Rattle.std.proofs.Common.{Bool, IfSome, List, None, Option, Some, [], ap, arith, false, is_none, is_some, length, map, option_and_then, option_map, refl, slice_get, subst, suc, sym, true, unwrap_or, zero, ℕ, ℤ, ◌&&◌, ◌<◌, ◌==◌, ◌∙◌, ◌∷◌, ◌≡◌}
+use Rattle.std.proofs.Common.{Bool, IfSome, List, None, Option, Some, [], ap, arith, false, is_none, is_some, length, option_and_then, option_map, refl, slice_get, subst, suc, sym, true, unwrap_or, zero, ℕ, ℤ, ◌&&◌, ◌||◌, ◌<◌, ◌==◌, ◌∙◌, ◌∷◌, ◌≡◌}
 use Rattle.std.proofs.lemmas.Option.{cond_some, same_Some}
 use Rattle.tp_types.specs.Effect.{Effect, ignores}
+use Rattle.std.specs.List.{list_all}
+use Rattle.std.proofs.lemmas.Bool.{and_parts, eqb-true}
+use Rattle.tp_model.specs.Authorisation.{policy_at}
+use Rattle.tp_model.specs.Credentials.{is_among, is_presented}
+use Rattle.tp_model.specs.Ids.{same_cred}
 use Rattle.tp_model.specs.Queries.{item_of}
-use Rattle.tp_model.specs.Words.{Admin, AdminId, Body, DecideRequest, Deed, DoneReply, Item, ItemId, Mail, PrepareRequest, Query, QueryRequest, Scenario, ServerId, Settled, TxnId, Version}
+use Rattle.tp_model.specs.Words.{Admin, AdminId, Body, CredId, DecideRequest, Deed, DoneReply, Item, ItemId, Mail, PrepareRequest, Query, QueryRequest, Scenario, ServerId, Settled, Staple, Transaction, TxnId, Version}
 use Rattle.tp_model.specs.Words.action
 use Rattle.tp_model.specs.Words.actor
 use Rattle.tp_model.specs.Words.body
 use Rattle.tp_model.specs.Words.query
-use Rattle.tp_machine.specs.Sound.{AreSoundVerdicts, AreVersionsOf, Each, IsAdmin, IsItemOf, IsSoundBody, IsSoundDeedAt, IsSoundDone, IsSoundEntry, IsSoundLetter, IsSoundQuery, IsSoundServer, IsSoundServerRecord, IsSoundSettled, IsSoundVerdict, IsTxn, IsVersion, IsVersionOf, query_in}
+use Rattle.tp_machine.specs.Sound.{AreCreds, AreSoundVerdicts, AreVersionsOf, Each, IsAdmin, IsCred, IsItemOf, IsSoundBody, IsSoundDeedAt, IsSoundDone, IsSoundEntry, IsSoundLetter, IsSoundQuery, IsSoundServer, IsSoundServerRecord, IsSoundSettled, IsSoundVerdict, IsTxn, IsVersion, IsVersionOf, query_in}
 use Rattle.tp_machine.specs.declared.server.Entry.{Entry}
-use Rattle.tp_machine.specs.server.Row.{admin_of, answers, asked_item, begins, done_reply, first_entry, plain_write, reply, restarted_reply, server_row, settled_as, settles, verdict_on, version_known, votes, written_item}
+use Rattle.tp_machine.specs.server.Row.{answers, asked_item, begins, done_reply, first_entry, plain_write, reply, restarted_reply, server_row, settled_as, settles, votes, written_item}
 use Rattle.tp_machine.specs.server.State.{Server}
+use Rattle.tp_machine.specs.server.Verdicts.{admin_of, verdict_on, verdicts_on, version_known}
+use Rattle.tp_machine.proofs.trust.Evaluation.{uses_presented}
 use Rattle.tp_machine.proofs.walks.ServerRows.{server_by}
 use Rattle.tp_machine.proofs.ids.Valid.{IsValid, IsValidItem}
 use Rattle.tp_machine.proofs.basics.Lists.{each_found, each_get, each_map, placed_emptied, placed_set}
@@ -116,9 +123,24 @@ known_version sc s admin h within =
     let found = version_of sc.admins s.known admin.0 (record { 0 = 1 }) h.known within in
     record { declared = found.0; declared_is = found.1; in_library = found.2 }
 
-pub verdict_sound : (sc : Scenario) (s : Server) (txn : TxnId) (place : ℕ) (deed : Deed) → IsValid sc → IsSoundServer sc s → IsSoundDeedAt sc s.server txn deed
-    → IsSoundVerdict sc txn (verdict_on sc s place deed)
-verdict_sound sc s txn place deed valid h d =
+-- what is among credentials that exist exists
+among_exists : (sc : Scenario) (creds : List CredId) (cred : CredId) → AreCreds sc creds → is_among creds cred ≡ true → IsCred sc cred
+among_exists sc [] cred h e = absurd (cc)
+among_exists sc (other ∷ creds) cred h e = by_same (same_cred cred other) refl (λ found. among_exists sc creds cred h.1 found) e
+  where
+    by_same : (b : Bool) → same_cred cred other ≡ b → (is_among creds cred ≡ true → IsCred sc cred) → (b || is_among creds cred) ≡ true → IsCred sc cred
+    by_same true same later found = subst (λ (n : ℕ). n < length sc.creds) (sym (eqb-true cred.0 other.0 same)) h.0
+    by_same false apart later found = later found
+
+presented_exist : (sc : Scenario) (txn : Transaction) (uses : List CredId) → AreCreds sc txn.creds → list_all (is_presented txn) uses ≡ true → AreCreds sc uses
+presented_exist sc txn [] h e = tt
+presented_exist sc txn (cred ∷ uses) h e =
+    let parts = and_parts (is_presented txn cred) (list_all (is_presented txn) uses) e in
+    (among_exists sc txn.creds cred h parts.0, presented_exist sc txn uses h parts.1)
+
+pub verdict_sound : (sc : Scenario) (s : Server) (txn : TxnId) (presenting : Transaction) (staple : Staple) (deed : Deed) → IsValid sc → IsSoundServer sc s → slice_get sc.txns txn.0 ≡ Some presenting
+    → IsSoundDeedAt sc s.server txn deed → IsSoundVerdict sc txn (verdict_on sc s presenting staple deed)
+verdict_sound sc s txn presenting staple deed valid h there d =
     let item_is : IsValidItem sc d.kept.declared = each_get (IsValidItem sc) sc.items deed.item.0 d.kept.declared valid.items d.kept.declared_is in
     let admin_is : d.kept.declared.admin ≡ admin_of sc deed.item =
     sym (ap (λ (found : Option Item). unwrap_or (option_map (λ (i : Item). i.admin) found) (record { 0 = 0 })) d.kept.declared_is) in
@@ -134,14 +156,15 @@ verdict_sound sc s txn place deed valid h d =
         admin_is = admin_is;
       };
       version = subst (λ (admin : AdminId). IsVersion sc admin (version_known s admin)) admin_is (known_version sc s d.kept.declared.admin h item_is.admin);
-      uses = tt;
+      uses = presented_exist sc presenting _ (each_get (λ (t : Transaction). AreCreds sc t.creds) sc.txns txn.0 presenting valid.creds there)
+          (uses_presented sc presenting staple deed.query (policy_at sc (admin_of sc deed.item) (version_known s (admin_of sc deed.item))) _ refl);
     }
 
-casts_sound : (sc : Scenario) (s : Server) (p : PrepareRequest) (place : ℕ) (entry : Entry) → IsValid sc → IsSoundServer sc s → IsTxn sc p.txn → IsSoundEntry sc s.server p.txn entry
-    → IsSoundServerEffect sc s (votes sc s p place entry)
-casts_sound sc s p place entry valid h exists k =
-    let verdicts : AreSoundVerdicts sc p.txn (map (verdict_on sc s place) entry.deeds) =
-    each_map (IsSoundDeedAt sc s.server p.txn) (IsSoundVerdict sc p.txn) (verdict_on sc s place) (λ deed d. verdict_sound sc s p.txn place deed valid h d) entry.deeds k.deeds in
+casts_sound : (sc : Scenario) (s : Server) (p : PrepareRequest) (txn : Transaction) (staple : Staple) (entry : Entry) → IsValid sc → IsSoundServer sc s → IsTxn sc p.txn
+    → slice_get sc.txns p.txn.0 ≡ Some txn → IsSoundEntry sc s.server p.txn entry → IsSoundServerEffect sc s (votes s p (verdicts_on sc s txn staple entry.deeds) entry)
+casts_sound sc s p txn staple entry valid h exists there k =
+    let verdicts : AreSoundVerdicts sc p.txn (verdicts_on sc s txn staple entry.deeds) =
+    each_map (IsSoundDeedAt sc s.server p.txn) (IsSoundVerdict sc p.txn) (verdict_on sc s txn staple) (λ deed d. verdict_sound sc s p.txn txn staple deed valid h there d) entry.deeds k.deeds in
     record {
       same_server = refl;
       state_is = record {
@@ -185,7 +208,7 @@ server_row_sound sc s mail valid h m =
       answered = λ q entry given k.
           answers_sound sc s q given h (said k.said_is).txn
           (each_found (IsSoundDone sc (actor.Coordinator q.txn)) (λ (d : DoneReply). d.query == q.query) entry.answers given (h.entries q.txn.0 entry k.found).answers k.given_is);
-      voted = λ p entry staple k. casts_sound sc s p staple.place entry valid h (said k.said_is).txn (h.entries p.txn.0 entry k.found);
+      voted = λ p entry staple txn k. casts_sound sc s p txn staple entry valid h (said k.said_is).txn k.declared (h.entries p.txn.0 entry k.found);
       settled = λ d k. settles_sound sc s d h (said k.said_is).txn;
       acknowledged = λ d settled k.
           record {

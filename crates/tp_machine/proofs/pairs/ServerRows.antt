@@ -1,5 +1,5 @@
 -- Deeds and epochs, the server's rows: each is an event at its own transaction, and nothing at the others.
-use Rattle.std.proofs.Common.{Bool, IfSome, List, None, Option, Some, [], ap, arith, false, if◌then◌else◌, is_none, is_some, length, map, option_and_then, refl, slice_get, slice_set, subst, sym, true, ℕ, ℤ, ◌&&◌, ◌<◌, ◌==◌, ◌∙◌, ◌∷◌, ◌≡◌}
+use Rattle.std.proofs.Common.{Bool, IfSome, List, None, Option, Some, [], ap, arith, false, if◌then◌else◌, is_none, is_some, length, option_and_then, refl, slice_get, slice_set, subst, sym, true, ℕ, ℤ, ◌&&◌, ◌<◌, ◌==◌, ◌∙◌, ◌∷◌, ◌≡◌}
 use Rattle.std.proofs.lemmas.Bool.{eqb-true}
 use Rattle.std.proofs.lemmas.List.{length-set}
 use Rattle.std.proofs.lemmas.Option.{cond_some, same_Some}
@@ -42,8 +42,9 @@ use Rattle.tp_machine.specs.Sound.{Each, IsSoundBody, IsSoundDone, IsSoundQuery,
 use Rattle.tp_machine.specs.declared.server.Ballot.{Ballot}
 use Rattle.tp_machine.specs.declared.server.Entry.{Entry}
 use Rattle.tp_machine.specs.server.Row as server
-use Rattle.tp_machine.specs.server.Row.{ack_letter, age_of, answer_to, answers, asked_item, begins, casts, done_reply, entry_at, first_entry, plain_write, prepared_record, restarts, server_row, settled_as, settles, verdict_on, written_item}
+use Rattle.tp_machine.specs.server.Row.{ack_letter, age_of, answer_to, answers, asked_item, begins, casts, done_reply, entry_at, first_entry, plain_write, prepared_record, restarts, server_row, settled_as, settles, written_item}
 use Rattle.tp_machine.specs.server.State.{Server}
+use Rattle.tp_machine.specs.server.Verdicts.{verdicts_on}
 
 -- ---- an act
 
@@ -401,8 +402,8 @@ server_row_pairs sc A s kept mail h sound m asked =
       answered = λ q entry given k.
           answers_pairs sc A s kept q entry given h k.found
           (same_txn_from q.txn given.txn (each_found (λ (d : DoneReply). IsSoundDone sc (actor.Coordinator q.txn) d) (λ (d : DoneReply). d.query == q.query) entry.answers given (sound.entries q.txn.0 entry k.found).answers k.given_is).goes_to) k.given_is;
-      voted = λ p entry staple k.
-          votes_pairs sc A s kept p entry (prepared_record s p entry (map (verdict_on sc s staple.place) entry.deeds)) h (open_unsettled s kept p.txn h.agrees k.unsettled) k.found (eqb-true entry.epoch p.epoch k.same_epoch)
+      voted = λ p entry staple txn k.
+          votes_pairs sc A s kept p entry (prepared_record s p entry (verdicts_on sc s txn staple entry.deeds)) h (open_unsettled s kept p.txn h.agrees k.unsettled) k.found (eqb-true entry.epoch p.epoch k.same_epoch)
           (subst (IsSoundBody sc to) k.said_is m).txn refl (record { epoch = refl; deeds = refl }) (subst (RequestPairs sc s.server A P) k.said_is asked);
       settled = λ d k.
           settles_pairs sc A s kept d h (open_unsettled s kept d.txn h.agrees k.unsettled) (subst (IsSoundBody sc to) k.said_is m).txn (subst (RequestPairs sc s.server A P) k.said_is asked);

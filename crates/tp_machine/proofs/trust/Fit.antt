@@ -21,8 +21,8 @@ use Rattle.tp_machine.specs.declared.coord.Round.{Round}
 use Rattle.tp_machine.specs.declared.server.Entry.{Entry}
 use Rattle.tp_offices.specs.Authority.{revocations}
 use Rattle.tp_offices.specs.declared.authority.Authority.{Authority}
-use Rattle.tp_machine.specs.server.Row.{version_known}
 use Rattle.tp_machine.specs.server.State.{Server}
+use Rattle.tp_machine.specs.server.Verdicts.{version_known}
 use Rattle.tp_machine.proofs.basics.Facts.{Grows}
 use Rattle.tp_machine.proofs.basics.Lists.{each_as}
 

@@ -5,11 +5,12 @@ use Rattle.tp_types.specs.Effect.{Effect, ignores, sends}
 use Rattle.tp_types.specs.Table.{flattened}
 use Rattle.std.proofs.lemmas.Bool.{not-false}
 use Rattle.tp_model.specs.Stage.{is_empty}
-use Rattle.tp_model.specs.Words.{Body, DecideRequest, Deed, DoneReply, Mail, PrepareRequest, QueryRequest, Scenario, Settled, Staple}
+use Rattle.tp_model.specs.Words.{Body, DecideRequest, Deed, DoneReply, Mail, PrepareRequest, QueryRequest, Scenario, Settled, Staple, Transaction}
 use Rattle.tp_model.specs.Words.body
 use Rattle.tp_machine.specs.declared.server.Entry.{Entry}
-use Rattle.tp_machine.specs.server.Row.{ack_letter, answer_to, answers, are_in_range, asked_item, asked_to_vote, begins, entry_at, evaluates, is_open, names_another_epoch, on_body, on_open_query, on_settled_decide, on_unlost_query, plain_write, restarts, server_row, settles, votes}
+use Rattle.tp_machine.specs.server.Row.{ack_letter, answer_to, answers, are_in_range, asked_item, asked_to_vote, begins, entry_at, evaluates, is_open, names_another_epoch, on_body, on_open_query, on_settled_decide, on_unlost_query, plain_write, restarts, server_row, settles, votes, votes_with}
 use Rattle.tp_machine.specs.server.State.{Server}
+use Rattle.tp_machine.specs.server.Verdicts.{verdicts_on}
 use Rattle.tp_machine.proofs.basics.Lists.{by_cond}
 
 -- ---- outcomes
@@ -22,8 +23,8 @@ pub record IsFirstWrite (sc : Scenario) (s : Server) (mail : Mail) (q : QueryReq
   pub unnamed : is_none q.epoch ≡ true
   pub writes : plain_write q (asked_item sc q) q.value ≡ Some deed
 
--- a request to prepare an entry that may be voted on
-pub record IsVote (sc : Scenario) (s : Server) (mail : Mail) (p : PrepareRequest) (entry : Entry) (staple : Staple) : Type 0 where
+-- a request to prepare an entry that may be voted on, of a transaction of the scenario
+pub record IsVote (sc : Scenario) (s : Server) (mail : Mail) (p : PrepareRequest) (entry : Entry) (staple : Staple) (txn : Transaction) : Type 0 where
   pub said_is : mail.letter.body ≡ body.Prepare p
   pub unsettled : is_open s p.txn ≡ true
   pub found : entry_at s p.txn ≡ Some entry
@@ -31,6 +32,7 @@ pub record IsVote (sc : Scenario) (s : Server) (mail : Mail) (p : PrepareRequest
   pub unvoted : is_some entry.ballot ≡ false
   pub in_range : are_in_range sc entry.deeds ≡ true
   pub stapled : p.staple ≡ Some staple
+  pub declared : slice_get sc.txns p.txn.0 ≡ Some txn
 
 -- an order to end a transaction that is not settled
 pub record IsOrder (s : Server) (mail : Mail) (d : DecideRequest) : Type 0 where
@@ -59,7 +61,7 @@ pub record ServerCases (sc : Scenario) (s : Server) (mail : Mail) (P : Effect Se
   pub begun : (q : QueryRequest) (deed : Deed) → IsFirstWrite sc s mail q deed → P (begins s mail.sent q (Some deed))
   pub restarted : (q : QueryRequest) → IsLost mail q → P (restarts s q)
   pub answered : (q : QueryRequest) (entry : Entry) (given : DoneReply) → IsAnswered s mail q entry given → P (answers s q.txn given)
-  pub voted : (p : PrepareRequest) (entry : Entry) (staple : Staple) → IsVote sc s mail p entry staple → P (votes sc s p staple.place entry)
+  pub voted : (p : PrepareRequest) (entry : Entry) (staple : Staple) (txn : Transaction) → IsVote sc s mail p entry staple txn → P (votes s p (verdicts_on sc s txn staple entry.deeds) entry)
   pub settled : (d : DecideRequest) → IsOrder s mail d → P (settles s d)
   pub acknowledged : (d : DecideRequest) (settled : Settled) → IsLateOrder s mail d settled → P (sends s (ack_letter s d.txn ∷ []))
 
@@ -95,10 +97,16 @@ on_open_query_by sc s mail P cases q (Some entry) e unsettled found =
 
 -- ---- Prepare
 
+votes_by : (sc : Scenario) (s : Server) (mail : Mail) (P : Effect Server → Type 0) → ServerCases sc s mail P → (p : PrepareRequest) (entry : Entry) (staple : Staple) (txn : Option Transaction)
+    → ((declared : Transaction) → txn ≡ Some declared → IsVote sc s mail p entry staple declared) → P (votes_with sc s p entry staple txn)
+votes_by sc s mail P cases p entry staple None vote_is = cases.ignored
+votes_by sc s mail P cases p entry staple (Some declared) vote_is = cases.voted p entry staple declared (vote_is declared refl)
+
 evaluates_by : (sc : Scenario) (s : Server) (mail : Mail) (P : Effect Server → Type 0) → ServerCases sc s mail P → (p : PrepareRequest) (entry : Entry) (staple : Option Staple)
-    → ((given : Staple) → staple ≡ Some given → IsVote sc s mail p entry given) → P (evaluates sc s p entry staple)
+    → ((given : Staple) (declared : Transaction) → staple ≡ Some given → slice_get sc.txns p.txn.0 ≡ Some declared → IsVote sc s mail p entry given declared) → P (evaluates sc s p entry staple)
 evaluates_by sc s mail P cases p entry None vote_is = cases.ignored
-evaluates_by sc s mail P cases p entry (Some staple) vote_is = by_cond P (is_empty p.want) (λ none_wanted. cases.voted p entry staple (vote_is staple refl)) (λ wanted. cases.ignored)
+evaluates_by sc s mail P cases p entry (Some staple) vote_is =
+    by_cond P (is_empty p.want) (λ none_wanted. votes_by sc s mail P cases p entry staple (slice_get sc.txns p.txn.0) (λ declared there. vote_is staple declared refl there)) (λ wanted. cases.ignored)
 
 asked_to_vote_by : (sc : Scenario) (s : Server) (mail : Mail) (P : Effect Server → Type 0) → ServerCases sc s mail P → (p : PrepareRequest) (entry : Option Entry) → mail.letter.body ≡ body.Prepare p
     → is_open s p.txn ≡ true → entry_at s p.txn ≡ entry → P (asked_to_vote sc s p entry)
@@ -108,7 +116,7 @@ asked_to_vote_by sc s mail P cases p (Some entry) e unsettled found =
     (λ same. by_cond P (is_some entry.ballot) (λ voted. cases.ignored)
     (λ unvoted. by_cond P (are_in_range sc entry.deeds)
     (λ in_range. evaluates_by sc s mail P cases p entry p.staple
-    (λ staple given. record {
+    (λ staple txn given declared. record {
       said_is = e;
       unsettled = unsettled;
       found = found;
@@ -116,6 +124,7 @@ asked_to_vote_by sc s mail P cases p (Some entry) e unsettled found =
       unvoted = unvoted;
       in_range = in_range;
       stapled = given;
+      declared = declared;
     }))
     (λ outside. cases.ignored)))
 

@@ -1,11 +1,11 @@
 -- A server's row: what it does on receipt of a mail. The first case that fits is done.
 use Rattle.std.specs.List.{find, list_all}
 use Rattle.std.specs.Option.{option_map_or}
-use Rattle.std.specs.Prelude.{Bool, List, None, Option, Some, [], false, if◌then◌else◌, is_none, map, option_and_then, option_map, slice_get, slice_set, true, unwrap_or, ℕ, ℤ, ◌&&◌, ◌==◌, ◌∷◌}
+use Rattle.std.specs.Prelude.{Bool, List, None, Option, Some, [], false, if◌then◌else◌, is_none, option_and_then, slice_get, slice_set, true, unwrap_or, ℕ, ℤ, ◌&&◌, ◌==◌, ◌∷◌}
 use Rattle.std.proofs.Common.{is_some, not}
 use Rattle.tp_types.specs.Effect.{Effect, ignores, logs, sends, unbuilt}
 use Rattle.tp_types.specs.Table.{flattened, is_unset}
-use Rattle.tp_model.specs.Words.{Action, AdminId, Body, DecideRequest, Deed, DoneReply, Item, ItemId, Letter, Mail, Outcome, PrepareRequest, Prepared, Query, QueryRequest, Scenario, Settled, Staple, Transaction, TxnId, Verdict, Version}
+use Rattle.tp_model.specs.Words.{Action, Body, DecideRequest, Deed, DoneReply, Item, ItemId, Letter, Mail, Outcome, PrepareRequest, Prepared, Query, QueryRequest, Scenario, Settled, Staple, Transaction, TxnId, Verdict}
 use Rattle.tp_model.specs.Words.action
 use Rattle.tp_model.specs.Words.actor
 use Rattle.tp_model.specs.Words.answer
@@ -19,6 +19,7 @@ use Rattle.tp_model.specs.Queries.{query_at}
 use Rattle.tp_model.specs.Stage.{is_empty}
 use Rattle.tp_machine.specs.declared.server.Entry.{Entry}
 use Rattle.tp_machine.specs.server.State.{Server}
+use Rattle.tp_machine.specs.server.Verdicts.{verdicts_on}
 
 -- a transaction of the scenario that the server has not settled
 abbrev pub is_open : Server → TxnId → Bool
@@ -134,28 +135,6 @@ on_query sc s sent q =
 
 -- ---- Prepare
 
--- the administrator of an item; that of the first where there is no such item
-abbrev pub admin_of : Scenario → ItemId → AdminId
-admin_of sc item =
-    unwrap_or (option_map (λ (i : Item). i.admin) (slice_get sc.items item.0)) (record { 0 = 0 })
-
--- the version that the server knows of an administrator; the first where there is no such administrator
-abbrev pub version_known : Server → AdminId → Version
-version_known s admin = unwrap_or (slice_get s.known admin.0) (record { 0 = 1 })
-
--- the verdict on a deed. The one policy that is built allows all by its first rule, and uses no credential
-abbrev pub verdict_on : Scenario → Server → ℕ → Deed → Verdict
-verdict_on sc s place deed =
-    record {
-      query = deed.query;
-      server = s.server;
-      admin = admin_of sc deed.item;
-      version = version_known s (admin_of sc deed.item);
-      place = place;
-      rule = Some 1;
-      uses = [];
-    }
-
 abbrev pub is_in_range_of : Option Item → ℤ → Bool
 is_in_range_of None value = true
 is_in_range_of (Some item) value = is_between item.min item.max value
@@ -189,19 +168,26 @@ casts s forced entry =
       vote = vote.Yes forced.verdicts;
     })) ∷ [])
 
--- the vote after an evaluation with a staple of that place
-abbrev pub votes : Scenario → Server → PrepareRequest → ℕ → Entry → Effect Server
-votes sc s p place entry =
-    casts s (prepared_record s p entry (map (verdict_on sc s place) entry.deeds)) entry
+-- the vote YES with these verdicts
+abbrev pub votes : Server → PrepareRequest → List Verdict → Entry → Effect Server
+votes s p verdicts entry = casts s (prepared_record s p entry verdicts) entry
 
 -- each deed leaves its item in its range
 abbrev pub are_in_range : Scenario → List Deed → Bool
 are_in_range sc deeds = list_all (is_in_range sc) deeds
 
+-- the vote on what a transaction of the scenario did here: each deed is evaluated with the staple
+abbrev pub votes_with : Scenario → Server → PrepareRequest → Entry → Staple → Option Transaction
+    → Effect Server
+votes_with sc s p entry staple None = ignores s
+votes_with sc s p entry staple (Some txn) =
+    votes s p (verdicts_on sc s txn staple entry.deeds) entry
+
 -- with a staple each deed is evaluated and voted on; without one there are no verdicts, and wanted versions are to be learnt
 abbrev pub evaluates : Scenario → Server → PrepareRequest → Entry → Option Staple → Effect Server
 evaluates sc s p entry (Some staple) =
-    if is_empty p.want then votes sc s p staple.place entry else unbuilt s
+    if is_empty p.want then votes_with sc s p entry staple (slice_get sc.txns p.txn.0)
+    else unbuilt s
 evaluates sc s p entry None = unbuilt s
 
 -- a request to prepare a transaction that is not settled. Without an entry of that epoch it is to be refused, and so where a write is out of
