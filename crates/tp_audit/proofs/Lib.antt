@@ -3,3 +3,4 @@ mod ClockLemmas
 mod DemandLemmas
 mod HeldLemmas
 mod SerialLemmas
+mod WideLemmas

@@ -1,17 +1,18 @@
 //! Causes of aborts: what a history shows where a transaction aborted.
-ghost use Rattle.std.specs.Prelude.{◌≡◌, ◌||◌, not, nat_le};
-ghost use Rattle.std.specs.List.{list_any};
+ghost use Rattle.std.specs.Prelude.{◌≡◌, ◌||◌, not, nat_le, IfOk};
 ghost use Rattle.tp_model.specs.Authorisation as authorisation;
 ghost use Rattle.tp_model.specs.Causes as causes;
 ghost use Rattle.tp_model.specs.Versions as versions;
 
 use crate::authorisation::{is_allowed, is_own_query};
-use crate::facts::has_query_on;
+use crate::crashes::{coordinator_crashed, is_server_of, server_crashed};
+use crate::refusals::is_refused;
 use crate::trust::is_within;
 use crate::versions::newest;
+use std::alloc::Global;
 use tp_model::{is_global, level_of, policy_at};
 use tp_types::{
-    Actor, Cause, Decision, Denied, Fact, List, Place, Scenario, Scheme, ServerId, Transaction,
+    Cause, Decision, Denied, Fact, List, NoMemory, Place, Scenario, Scheme, ServerId, Transaction,
     TxnId, What,
 };
 
@@ -111,64 +112,6 @@ fn is_denied(
         && is_denial(scenario, facts, declared, denied)
 }
 
-fn is_server_crash(at: ServerId, fact: &Fact) -> bool
-    ensures { result ≡ causes.is_crash_what (causes.is_server_actor at) fact.now.what }
-{
-    match &fact.what {
-        What::Crashed(Actor::Server(other)) => *other == at,
-        _ => false,
-    }
-}
-
-fn is_coordinator_crash(txn: TxnId, fact: &Fact) -> bool
-    ensures { result ≡ causes.is_crash_what (causes.is_coordinator_actor txn) fact.now.what }
-{
-    match &fact.what {
-        What::Crashed(Actor::Coordinator(other)) => *other == txn,
-        _ => false,
-    }
-}
-
-fn is_server_crash_within(
-    at: ServerId,
-    txn: TxnId,
-    decided: Place,
-    facts: &List<Fact>,
-    fact: &Fact,
-) -> bool
-    ensures { result ≡ causes.is_crash_within
-        (causes.is_server_actor at) txn decided facts.now fact.now }
-{
-    is_server_crash(at, fact) && is_within(txn, decided, facts, fact.place)
-}
-
-fn is_coordinator_crash_within(txn: TxnId, decided: Place, facts: &List<Fact>, fact: &Fact) -> bool
-    ensures { result ≡ causes.is_crash_within
-        (causes.is_coordinator_actor txn) txn decided facts.now fact.now }
-{
-    is_coordinator_crash(txn, fact) && is_within(txn, decided, facts, fact.place)
-}
-
-fn server_crashed(at: ServerId, txn: TxnId, decided: Place, facts: &List<Fact>) -> bool
-    ensures { result ≡ causes.crashed_within (causes.is_server_actor at) txn decided facts.now }
-{
-    facts.iter().any(|fact| is_server_crash_within(at, txn, decided, facts, fact))
-}
-
-fn coordinator_crashed(txn: TxnId, decided: Place, facts: &List<Fact>) -> bool
-    ensures { result ≡ causes.crashed_within
-        (causes.is_coordinator_actor txn) txn decided facts.now }
-{
-    facts.iter().any(|fact| is_coordinator_crash_within(txn, decided, facts, fact))
-}
-
-#[tactic(auto, using(crate::proofs::CauseLemmas::server_of))]
-fn is_server_of(scenario: &Scenario, at: ServerId, declared: &Transaction) -> bool
-    ensures { result ≡ causes.is_server_of scenario.now at declared.now }
-{
-    (at.0 as usize) < scenario.servers.len() && has_query_on(scenario, at, declared)
-}
-
 fn is_restart(
     scenario: &Scenario,
     txn: TxnId,
@@ -184,59 +127,73 @@ fn is_restart(
 }
 
 fn is_shown(
+    alloc: Global,
     scenario: &Scenario,
     txn: TxnId,
     decided: Place,
     facts: &List<Fact>,
     why: &Cause,
     declared: &Transaction,
-) -> bool
-    ensures { result ≡ causes.is_shown scenario.now txn decided facts.now why.now declared.now }
+) -> Result<bool, NoMemory>
+    ensures { IfOk result (λ shown. shown
+        ≡ causes.is_shown scenario.now txn decided facts.now why.now declared.now) }
 {
     match why {
-        Cause::Denied(denied) => is_denied(scenario, txn, decided, facts, denied, declared),
+        Cause::Denied(denied) => Ok(is_denied(scenario, txn, decided, facts, denied, declared)),
+        Cause::No(refused) => is_refused(alloc, scenario, txn, decided, facts, refused, declared),
         Cause::Restarted { server } => {
-            is_restart(scenario, txn, decided, facts, *server, declared)
+            Ok(is_restart(scenario, txn, decided, facts, *server, declared))
         }
-        Cause::Halted => coordinator_crashed(txn, decided, facts),
-        _ => false,
+        Cause::Halted => Ok(coordinator_crashed(txn, decided, facts)),
+        _ => Ok(false),
     }
 }
 
 fn is_caused_decision(
+    alloc: Global,
     scenario: &Scenario,
     facts: &List<Fact>,
     place: Place,
     txn: TxnId,
     decision: &Decision,
-) -> bool
-    ensures { result ≡ causes.keeps_causes_what scenario.now facts.now place
-        (What.Decided txn decision.now) }
+) -> Result<bool, NoMemory>
+    ensures { IfOk result (λ kept. kept
+        ≡ causes.keeps_causes_what scenario.now facts.now place (What.Decided txn decision.now)) }
 {
     let Decision::Abort(why) = decision else {
-        return true;
+        return Ok(true);
     };
     match scenario.txns.get(txn.0 as usize) {
-        None => false,
-        Some(declared) => is_shown(scenario, txn, place, facts, why, declared),
+        None => Ok(false),
+        Some(declared) => is_shown(alloc, scenario, txn, place, facts, why, declared),
     }
 }
 
 /// Whether one fact keeps causes beside all facts: if it is an abort, the history shows its cause.
-pub fn keeps_causes(scenario: &Scenario, facts: &List<Fact>, fact: &Fact) -> bool
-    ensures { result ≡ causes.keeps_causes scenario.now facts.now fact.now }
+pub fn keeps_causes(
+    alloc: Global,
+    scenario: &Scenario,
+    facts: &List<Fact>,
+    fact: &Fact,
+) -> Result<bool, NoMemory>
+    ensures { IfOk result (λ kept. kept ≡ causes.keeps_causes scenario.now facts.now fact.now) }
 {
     match &fact.what {
         What::Decided(txn, decision) => {
-            is_caused_decision(scenario, facts, fact.place, *txn, decision)
+            is_caused_decision(alloc, scenario, facts, fact.place, *txn, decision)
         }
-        _ => true,
+        _ => Ok(true),
     }
 }
 
 /// Whether the history shows the cause of every abort.
-pub fn is_caused(scenario: &Scenario, facts: &List<Fact>) -> bool
-    ensures { result ≡ causes.is_caused scenario.now facts.now }
+pub fn is_caused(alloc: Global, scenario: &Scenario, facts: &List<Fact>) -> Result<bool, NoMemory>
+    ensures { IfOk result (λ kept. kept ≡ causes.is_caused scenario.now facts.now) }
 {
-    facts.iter().all(|fact| keeps_causes(scenario, facts, fact))
+    for fact in facts.as_slice() {
+        if !keeps_causes(alloc, scenario, facts, fact)? {
+            return Ok(false);
+        }
+    }
+    Ok(true)
 }

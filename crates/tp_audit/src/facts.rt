@@ -68,6 +68,18 @@ pub fn is_decided_as(txn: TxnId, ended: Outcome, fact: &Fact) -> bool
     }
 }
 
+/// The fact settles the transaction at the server with this outcome.
+pub fn is_settled_as(at: ServerId, txn: TxnId, ended: Outcome, fact: &Fact) -> bool
+    ensures { result ≡ history.is_settled_as at txn ended fact.now }
+{
+    match &fact.what {
+        What::Settled(server, other, given) => {
+            *server == at && *other == txn && same_outcome(*given, ended)
+        }
+        _ => false,
+    }
+}
+
 /// The transaction was submitted before the place.
 pub fn was_submitted(txn: TxnId, place: Place, facts: &List<Fact>) -> bool
     ensures { result ≡ history.was_submitted txn place facts.now }

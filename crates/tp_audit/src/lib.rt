@@ -6,14 +6,18 @@ mod agreement;
 mod authorisation;
 mod causes;
 mod commits;
+mod crashes;
 mod credentials;
 mod demand;
 mod facts;
 mod policies;
+mod refusals;
+mod run;
 mod serial;
 mod total;
 mod trust;
 mod versions;
+mod wide;
 
 pub use agreement::{is_agreed, keeps_agreement};
 pub use causes::{is_caused, keeps_causes};

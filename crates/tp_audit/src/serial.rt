@@ -236,7 +236,7 @@ fn store_fact(store: &mut List<i128>, fact: &Fact)
 }
 
 /// The store before a place: the opening values, and then each commit's writes in order.
-fn store_at(
+pub fn store_at(
     alloc: Global,
     scenario: &Scenario,
     place: Place,

@@ -2,12 +2,13 @@
 ghost use Rattle.std.specs.Prelude.{◌≡◌, ℕ, ◌+◌, ◌^◌, pos, neg_ℤ, ◌+ℤ◌, ◌-ℤ◌, ◌<ℤ◌, ◌≤ℤ◌};
 ghost use Rattle.std.specs.Ordering.{int_eq};
 ghost use Rattle.tp_audit.specs.mirrors.Programs as program;
+ghost use Rattle.tp_model.specs.Queries.{signed};
 
 /// A sum that may be past an i128: its part in that range, and how often it wrapped, counted up above and down below.
 #[derive(Clone, Copy)]
 pub struct Total {
-    part: i128,
-    wraps: i128,
+    pub part: i128,
+    pub wraps: i128,
 }
 
 /// The sum of no terms.
@@ -66,6 +67,18 @@ pub fn minus(total: Total, term: i128) -> Total
         plus(plus(total, -(term + 1)), 1)
     } else {
         plus(total, -term)
+    }
+}
+
+/// The sum of a carry and of two digits, of which the second may be taken away.
+pub fn column(carry: i128, one: i128, other: i128, is_taken: bool) -> Total
+    ensures { program.value_of result ≡ (carry +ℤ one) +ℤ signed is_taken other }
+{
+    let total = plus(plus(nothing(), carry), one);
+    if is_taken {
+        minus(total, other)
+    } else {
+        plus(total, other)
     }
 }
 

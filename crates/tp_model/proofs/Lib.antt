@@ -3,6 +3,8 @@ pub mod ConditionLemmas
 pub mod FirstForm
 pub mod HistoryLemmas
 pub mod RuleLemmas
+pub mod RunBounds
 pub mod ServersLemmas
+pub mod StoreBounds
 pub mod ValidLemmas
 pub mod WorkLemmas

@@ -1,27 +1,37 @@
--- Causes of aborts: what a history shows where a transaction aborted. A denial, a server's restart and a halt of the coordinator
--- have their rows; the other causes have none yet, and what has no row is not shown.
-use Rattle.std.specs.Prelude.{ℕ, ◌&&◌, ◌||◌, nat_le, List, slice_get, Bool, true, false, not, is_some}
-use Rattle.std.specs.List.{list_all, list_any}
+-- Causes of aborts: what a history shows where a transaction aborted. A denial, a value out of its item's range, a server's restart
+-- and a halt of the coordinator have their rows; the other causes have none yet, and what has no row is not shown.
+use Rattle.std.specs.Prelude.{ℕ, ◌&&◌, ◌||◌, nat_le, List, drop, slice_get, Bool, true, false, Option, not, is_some, option_map, ℤ}
+use Rattle.std.specs.List.{find, list_all, list_any}
 use Rattle.std.specs.Option.{option_map_or}
+use Rattle.std.specs.Ordering.{int_eq}
 use Rattle.tp_types.specs.declared.fact.Fact.{Fact}
 use Rattle.tp_types.specs.declared.fact.What.{What}
 use Rattle.tp_types.specs.declared.fact.What.TheVariants as what
+use Rattle.tp_types.specs.declared.ids.ItemId.{ItemId}
 use Rattle.tp_types.specs.declared.ids.ServerId.{ServerId}
 use Rattle.tp_types.specs.declared.ids.TxnId.{TxnId}
 use Rattle.tp_types.specs.declared.records.Cause.{Cause}
 use Rattle.tp_types.specs.declared.records.Cause.TheVariants as cause
 use Rattle.tp_types.specs.declared.records.Decision.TheVariants as decision
 use Rattle.tp_types.specs.declared.records.Denied.{Denied}
+use Rattle.tp_types.specs.declared.records.OutOfRange.{OutOfRange}
+use Rattle.tp_types.specs.declared.records.Outcome.TheVariants as outcome
 use Rattle.tp_types.specs.declared.scenario.Actor.{Actor}
 use Rattle.tp_types.specs.declared.scenario.Actor.TheVariants as actor
+use Rattle.tp_types.specs.declared.scenario.Item.{Item}
+use Rattle.tp_types.specs.declared.scenario.Query.{Query}
+use Rattle.tp_types.specs.declared.scenario.Query.TheVariants.{Read, Write}
 use Rattle.tp_types.specs.declared.scenario.Scenario.{Scenario}
 use Rattle.tp_types.specs.declared.scenario.Scheme.{Scheme}
 use Rattle.tp_types.specs.declared.scenario.Scheme.TheVariants as scheme
 use Rattle.tp_types.specs.declared.scenario.Transaction.{Transaction}
 use Rattle.tp_model.specs.Authorisation.{is_allowed, is_own_query, policy_at}
-use Rattle.tp_model.specs.Ids.{same_server, same_txn}
+use Rattle.tp_model.specs.Facts.{before, is_settled_as, same_outcome}
+use Rattle.tp_model.specs.Ids.{same_item, same_server, same_txn}
 use Rattle.tp_model.specs.Levels.{is_global, level_of}
-use Rattle.tp_model.specs.Queries.{servers_of}
+use Rattle.tp_model.specs.Limits.{is_between}
+use Rattle.tp_model.specs.Queries.{query_at, servers_of}
+use Rattle.tp_model.specs.SerialRun.{run_value, store_at}
 use Rattle.tp_model.specs.Trust.{is_within}
 use Rattle.tp_model.specs.Versions.{newest}
 
@@ -78,12 +88,91 @@ crashed_within who txn decided facts = list_any (is_crash_within who txn decided
 abbrev pub is_server_of : Scenario → ServerId → Transaction → Bool
 is_server_of sc at declared = list_any (same_server at) (servers_of sc declared)
 
+-- ---- out of range
+
+abbrev pub is_write_of : ItemId → Query → Bool
+is_write_of item (Read other into) = false
+is_write_of item (Write other expr) = same_item other item
+
+-- the value is outside the range of the item, which the server has
+abbrev pub is_outside_range : ServerId → ℤ → Item → Bool
+is_outside_range at value item =
+    same_server item.server at && not (is_between item.min item.max value)
+
+-- the query writes an item that no later one writes; the server has the item, and the value is outside its range
+abbrev pub is_refused_write : Scenario → ServerId → ℤ → List Query → Query → Bool
+is_refused_write sc at value later (Read item into) = false
+is_refused_write sc at value later (Write item expr) =
+    not (list_any (is_write_of item) later)
+    && option_map_or (is_outside_range at value) (slice_get sc.items item.0) false
+
+-- so is the query of this number, and those with greater numbers are later
+abbrev pub has_refused_write : Scenario → Transaction → OutOfRange → Bool
+has_refused_write sc declared refused =
+    option_map_or
+    (is_refused_write sc refused.server refused.value (drop refused.query declared.queries))
+    (query_at declared refused.query) false
+
+-- before the decision the server had settled the transaction as an abort
+abbrev pub was_refused_at : ServerId → TxnId → ℕ → List Fact → Bool
+was_refused_at at txn decided facts =
+    list_any (is_settled_as at txn outcome.Abort) (before decided facts)
+
+abbrev pub is_abort_what : TxnId → What → Bool
+is_abort_what txn (what.Settled at other ended) =
+    same_txn other txn && same_outcome ended outcome.Abort
+is_abort_what txn _ = false
+
+-- the fact settles the transaction as an abort, at whichever server
+abbrev pub is_abort : TxnId → Fact → Bool
+is_abort txn fact = is_abort_what txn fact.what
+
+abbrev pub place_of : Fact → ℕ
+place_of fact = fact.place
+
+-- the place of the first such fact
+abbrev pub first_abort_of : TxnId → List Fact → Option ℕ
+first_abort_of txn facts = option_map place_of (find (is_abort txn) facts)
+
+abbrev pub is_own_server : Scenario → Transaction → Actor → Bool
+is_own_server sc declared (actor.Server at) = is_server_of sc at declared
+is_own_server sc declared _ = false
+
+-- a server of the transaction crashed between its submission and the place, so that work of it may be lost
+abbrev pub lost_work : Scenario → TxnId → List Fact → Transaction → ℕ → Bool
+lost_work sc txn facts declared place =
+    crashed_within (is_own_server sc declared) txn place facts
+
+-- the value is that of the query where the transaction runs by itself on the store before the place
+abbrev pub is_run_value : Scenario → List Fact → OutOfRange → Transaction → ℕ → Bool
+is_run_value sc facts refused declared place =
+    option_map_or (int_eq refused.value)
+    (run_value declared (store_at sc place facts) refused.query) false
+
+abbrev pub is_explained_at : Scenario → TxnId → List Fact → OutOfRange → Transaction → ℕ → Bool
+is_explained_at sc txn facts refused declared place =
+    lost_work sc txn facts declared place || is_run_value sc facts refused declared place
+
+-- at the place where the transaction first aborted, the value is that of its run on the store, if none of its work was lost by then
+abbrev pub is_explained : Scenario → TxnId → List Fact → OutOfRange → Transaction → Bool
+is_explained sc txn facts refused declared =
+    option_map_or (is_explained_at sc txn facts refused declared) (first_abort_of txn facts) false
+
+-- a server refused the last write of an item, whose value is outside the item's range
+abbrev pub is_refused : Scenario → TxnId → ℕ → List Fact → OutOfRange → Transaction → Bool
+is_refused sc txn decided facts refused declared =
+    has_refused_write sc declared refused
+    && was_refused_at refused.server txn decided facts
+    && is_explained sc txn facts refused declared
+
 -- ---- all causes
 
 -- the history shows the cause of an abort that was decided at the place
 abbrev pub is_shown : Scenario → TxnId → ℕ → List Fact → Cause → Transaction → Bool
 is_shown sc txn decided facts (cause.Denied denied) declared =
     is_denied sc txn decided facts denied declared
+is_shown sc txn decided facts (cause.No refused) declared =
+    is_refused sc txn decided facts refused declared
 is_shown sc txn decided facts (cause.Restarted at) declared =
     is_server_of sc at declared && crashed_within (is_server_actor at) txn decided facts
 is_shown sc txn decided facts cause.Halted declared =

@@ -1,7 +1,7 @@
 -- Serial data: each commit did what its transaction does by itself on the data of the commits before it.
-use Rattle.std.specs.Prelude.{ℕ, ◌+◌, ◌==◌, ◌&&◌, List, [], ◌∷◌, map, fold, replicate, slice_get, slice_set, Bool, true, false, Option, Some, None, unwrap_or, ℤ, pos, ◌+ℤ◌, if◌then◌else◌}
+use Rattle.std.specs.Prelude.{ℕ, ◌+◌, ◌==◌, ◌&&◌, List, [], ◌∷◌, map, fold, replicate, slice_get, slice_set, Bool, true, false, Option, Some, None, option_map, unwrap_or, ℤ, pos, ◌+ℤ◌, if◌then◌else◌}
 use Rattle.std.specs.Cmp.Lexicographic.{pointwise}
-use Rattle.std.specs.List.{list_all}
+use Rattle.std.specs.List.{find, list_all}
 use Rattle.std.specs.Option.{option_map_or}
 use Rattle.std.specs.Ordering.{int_eq}
 use Rattle.tp_types.specs.declared.fact.Fact.{Fact}
@@ -67,6 +67,16 @@ deeds_from number (Write item expr ∷ queries) registers store =
 -- the deeds of the transaction, run by itself on the store
 abbrev pub serial_run : Transaction → List ℤ → List Deed
 serial_run txn store = deeds_from 1 txn.queries cleared_registers store
+
+abbrev pub is_deed_of : ℕ → Deed → Bool
+is_deed_of number deed = deed.query == number
+
+abbrev pub deed_value : Deed → ℤ
+deed_value deed = deed.value
+
+-- the value of the query of this number in that run
+abbrev pub run_value : Transaction → List ℤ → ℕ → Option ℤ
+run_value txn store number = option_map deed_value (find (is_deed_of number) (serial_run txn store))
 
 -- ---- the store
 

@@ -50,6 +50,9 @@ pub const LEAST: u32 = 8;
 /// Of ann, who writes 1 to x, and presents a credential that begins at 5.
 pub const SOON: u32 = 9;
 
+/// Of ann, who reads y, writes it twice over to x, reads that, and writes to x what it is above y.
+pub const HUGE: u32 = 10;
+
 fn has_role(rt: &(impl Abort + AllocGlobal)) -> Cond {
     atom(rt, "ca", "role", Op::Equal, Says::Word("clerk"))
 }
@@ -283,6 +286,12 @@ fn least(rt: &(impl Abort + AllocGlobal)) -> Transaction {
     )
 }
 
+fn huge(rt: &(impl Abort + AllocGlobal)) -> Transaction {
+    let twice = write(rt, 0, [register(false, 1), register(false, 1)]);
+    let above = write(rt, 0, [register(false, 2), register(true, 1)]);
+    plain(rt, [read(1, 1), twice, read(0, 2), above])
+}
+
 fn transactions(rt: &(impl Abort + AllocGlobal)) -> List<Transaction> {
     let sure = presenting(rt, "ann", Level::Global, 0, put(rt, 0, 1));
     let bobs = presenting(rt, "bob", Level::View, 2, put(rt, 0, 9));
@@ -301,6 +310,7 @@ fn transactions(rt: &(impl Abort + AllocGlobal)) -> List<Transaction> {
             wide(rt),
             least(rt),
             soon,
+            huge(rt),
         ],
     )
 }
@@ -366,7 +376,7 @@ pub struct Basis {
 #[derive(Clone, Copy)]
 pub enum Why {
     Denied(Denied),
-    OutOfRange,
+    No(OutOfRange),
     Died,
     Newer,
     Rounds,
@@ -447,14 +457,6 @@ fn committed(rt: &(impl Abort + AllocGlobal), basis: &Basis) -> Decision {
     })
 }
 
-fn out_of_range() -> Cause {
-    Cause::No(OutOfRange {
-        query: 1,
-        server: ServerId(0),
-        value: 101,
-    })
-}
-
 fn died() -> Cause {
     Cause::Died(Died {
         query: 1,
@@ -475,7 +477,7 @@ fn newer() -> Cause {
 fn cause(rt: &(impl Abort + AllocGlobal), why: Why) -> Cause {
     match why {
         Why::Denied(denied) => Cause::Denied(denied),
-        Why::OutOfRange => out_of_range(),
+        Why::No(refused) => Cause::No(refused),
         Why::Died => died(),
         Why::Newer => newer(),
         Why::Rounds => Cause::Rounds(List::new(rt.alloc())),
@@ -617,7 +619,7 @@ fn is_trusted_in_each_sense(rt: HostRuntime) -> Result<(), Fail> {
     let facts = history(&rt, TRUSTED);
     assert!(rt; is_agreed(&scenario, &facts));
     assert!(rt; is_trusted(&scenario, &facts));
-    assert!(rt; is_caused(&scenario, &facts));
+    assert!(rt; is_caused(rt.alloc(), &scenario, &facts)?);
     assert!(rt; is_serial(rt.alloc(), &scenario, &facts)?);
     Ok(())
 }
@@ -628,7 +630,7 @@ fn is_trusted_without_facts(rt: HostRuntime) -> Result<(), Fail> {
     let facts = history(&rt, &[]);
     assert!(rt; is_agreed(&scenario, &facts));
     assert!(rt; is_trusted(&scenario, &facts));
-    assert!(rt; is_caused(&scenario, &facts));
+    assert!(rt; is_caused(rt.alloc(), &scenario, &facts)?);
     assert!(rt; is_serial(rt.alloc(), &scenario, &facts)?);
     Ok(())
 }

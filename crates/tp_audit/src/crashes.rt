@@ -1,0 +1,105 @@
+//! Crashes between two places, and the servers of a transaction.
+ghost use Rattle.std.specs.Prelude.{◌≡◌};
+ghost use Rattle.tp_model.specs.Causes as causes;
+
+use crate::facts::has_query_on;
+use crate::trust::is_within;
+use tp_types::{Actor, Fact, List, Place, Scenario, ServerId, Transaction, TxnId, What};
+
+fn is_server_crash(at: ServerId, fact: &Fact) -> bool
+    ensures { result ≡ causes.is_crash_what (causes.is_server_actor at) fact.now.what }
+{
+    match &fact.what {
+        What::Crashed(Actor::Server(other)) => *other == at,
+        _ => false,
+    }
+}
+
+fn is_own_crash(scenario: &Scenario, declared: &Transaction, fact: &Fact) -> bool
+    ensures { result ≡ causes.is_crash_what (causes.is_own_server scenario.now declared.now)
+        fact.now.what }
+{
+    match &fact.what {
+        What::Crashed(Actor::Server(at)) => is_server_of(scenario, *at, declared),
+        _ => false,
+    }
+}
+
+fn is_coordinator_crash(txn: TxnId, fact: &Fact) -> bool
+    ensures { result ≡ causes.is_crash_what (causes.is_coordinator_actor txn) fact.now.what }
+{
+    match &fact.what {
+        What::Crashed(Actor::Coordinator(other)) => *other == txn,
+        _ => false,
+    }
+}
+
+fn is_server_crash_within(
+    at: ServerId,
+    txn: TxnId,
+    decided: Place,
+    facts: &List<Fact>,
+    fact: &Fact,
+) -> bool
+    ensures { result ≡ causes.is_crash_within
+        (causes.is_server_actor at) txn decided facts.now fact.now }
+{
+    is_server_crash(at, fact) && is_within(txn, decided, facts, fact.place)
+}
+
+fn is_own_crash_within(
+    scenario: &Scenario,
+    txn: TxnId,
+    facts: &List<Fact>,
+    declared: &Transaction,
+    place: Place,
+    fact: &Fact,
+) -> bool
+    ensures { result ≡ causes.is_crash_within
+        (causes.is_own_server scenario.now declared.now) txn place facts.now fact.now }
+{
+    is_own_crash(scenario, declared, fact) && is_within(txn, place, facts, fact.place)
+}
+
+fn is_coordinator_crash_within(txn: TxnId, decided: Place, facts: &List<Fact>, fact: &Fact) -> bool
+    ensures { result ≡ causes.is_crash_within
+        (causes.is_coordinator_actor txn) txn decided facts.now fact.now }
+{
+    is_coordinator_crash(txn, fact) && is_within(txn, decided, facts, fact.place)
+}
+
+/// The server crashed between the submission and the decision.
+pub fn server_crashed(at: ServerId, txn: TxnId, decided: Place, facts: &List<Fact>) -> bool
+    ensures { result ≡ causes.crashed_within (causes.is_server_actor at) txn decided facts.now }
+{
+    facts.iter().any(|fact| is_server_crash_within(at, txn, decided, facts, fact))
+}
+
+/// A server of the transaction crashed between its submission and the place, so that work of it may be lost.
+pub fn lost_work(
+    scenario: &Scenario,
+    txn: TxnId,
+    facts: &List<Fact>,
+    declared: &Transaction,
+    place: Place,
+) -> bool
+    ensures { result ≡ causes.lost_work scenario.now txn facts.now declared.now place }
+{
+    facts.iter().any(|fact| is_own_crash_within(scenario, txn, facts, declared, place, fact))
+}
+
+/// The coordinator crashed between the submission and the decision.
+pub fn coordinator_crashed(txn: TxnId, decided: Place, facts: &List<Fact>) -> bool
+    ensures { result ≡ causes.crashed_within
+        (causes.is_coordinator_actor txn) txn decided facts.now }
+{
+    facts.iter().any(|fact| is_coordinator_crash_within(txn, decided, facts, fact))
+}
+
+/// The server is one of the transaction's.
+#[tactic(auto, using(crate::proofs::CauseLemmas::server_of))]
+pub fn is_server_of(scenario: &Scenario, at: ServerId, declared: &Transaction) -> bool
+    ensures { result ≡ causes.is_server_of scenario.now at declared.now }
+{
+    (at.0 as usize) < scenario.servers.len() && has_query_on(scenario, at, declared)
+}
