@@ -8,5 +8,6 @@ pub mod Machine
 pub mod Opened
 pub mod Phases
 pub mod Servers
+pub mod Stores
 pub mod Tables
 pub mod World

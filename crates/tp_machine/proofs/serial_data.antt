@@ -18,5 +18,6 @@ pub mod Settling
 pub mod Shares
 pub mod Steps
 pub mod Stores
+pub mod Tentative
 pub mod Unsettled
 pub mod World

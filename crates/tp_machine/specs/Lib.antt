@@ -3,6 +3,7 @@ pub mod Laws
 pub mod Logs
 pub mod Machine
 pub mod Parts
+pub mod Runs
 pub mod Seen
 pub mod Sound
 pub mod coord

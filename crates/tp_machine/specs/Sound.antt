@@ -437,7 +437,7 @@ pub record IsSoundEntry (sc : Scenario) (at : ServerId) (txn : TxnId) (entry : E
 -- a server's state: it exists, and what it knows and keeps of each transaction is sound
 pub record IsSoundServer (sc : Scenario) (s : Server) : Type 0 where
   pub exists : IsServer sc s.server
-  pub known : AreVersions sc s.known
+  pub known : AreVersions sc s.store.known
   pub settled : EachPlaced (λ (n : ℕ) (done : Settled). IsSoundSettled sc done) s.settled
   pub entries : EachPlaced
       (λ (n : ℕ) (entry : Entry). IsSoundEntry sc s.server (record { 0 = n }) entry) s.entries

@@ -9,13 +9,14 @@ ghost use Rattle.tp_types.specs.Effect.{Gives};
 ghost use Rattle.tp_machine.specs.coord.Opened as opened;
 ghost use Rattle.tp_machine.specs.coord.Row as row;
 
+use crate::runs::deed_of;
 use std::alloc::Global;
 use std::marker::Model;
 use std::mem;
 use tp_model::{item_of, query_at, servers_of, written_constant};
 use tp_types::{
-    Action, Actor, Answer, AskRequest, Body, Cause, CommitRecord, DecideRequest, Decided, Decision,
-    Deed, Denied, DoneReply, Instance, ItemId, Letter, List, Mail, Met, NoMemory, Outcome, Place,
+    Actor, Answer, AskRequest, Body, Cause, CommitRecord, DecideRequest, Decided, Decision, Deed,
+    Denied, DoneReply, Instance, ItemId, Letter, List, Mail, Met, NoMemory, Outcome, Place,
     PrepareRequest, Query, QueryRequest, Reaction, Record, Scenario, ServerId, Staple, TellReply,
     TryClone, TxnId, Verdict, Version, Vote, VoteReply, ignored, none_for_each, nothing,
     sent_alone, unbuilt,
@@ -315,13 +316,7 @@ impl Coordinator {
     ) -> Result<(), NoMemory>
         ensures { OnOk result (self.new ≡ row.with_deed self.old server done.now query.now value) }
     {
-        let deed = Deed {
-            query: done.query,
-            item: item_of(query),
-            action: Action::Write,
-            value,
-        };
-        self.deeds.push(deed)?;
+        self.deeds.push(deed_of(done.query, query, value))?;
         self.epochs.put(server.0 as usize, Some(done.epoch));
         Ok(())
     }

@@ -10,6 +10,7 @@ pub mod evaluation;
 mod history;
 pub mod laws;
 mod part;
+mod runs;
 pub mod serial;
 mod server;
 mod verdicts;

@@ -74,7 +74,7 @@ fn verdict_on(
         case.now.staple.now deed) }
 {
     let admin = admin_of(case.scenario, deed.item);
-    let version = version_known(server, admin);
+    let version = server.store.newest(admin);
     let found = certificate_of(alloc, case, deed.query, admin, version)?;
     Ok(verdict_of(
         alloc,
@@ -161,15 +161,6 @@ fn certificate_by(
         valid: case.valid,
     };
     certify(alloc, &held, policy, action_of(query), &item.name)
-}
-
-fn version_known(server: &Server, admin: AdminId) -> Version
-    ensures { result ≡ verdicts.version_known server.now admin }
-{
-    match server.known.get(admin.0 as usize) {
-        None => Version(1),
-        Some(version) => *version,
-    }
 }
 
 fn admin_of(scenario: &Scenario, item: ItemId) -> AdminId

@@ -1,21 +1,22 @@
 -- Ages, the rows: a server keeps for a transaction the age that a request told, or the place at which the request was sent, and a
 -- coordinator its own. A says which places are the submissions of which transactions.
-use Rattle.std.proofs.Common.{IfSome, List, Some, [], map, refl, subst, ℕ, ◌∷◌, ◌≡◌}
+use Rattle.std.proofs.Common.{IfSome, List, Some, [], map, refl, subst, sym, ℕ, ℤ, ⊎_elim, ◌∷◌, ◌≡◌}
 use Rattle.tp_types.specs.Effect.{Effect, ignores}
-use Rattle.tp_model.specs.Words.{Body, Letter, Mail, Outcome, Prepared, Record, Scenario, ServerId, Staple, TxnId}
 use Rattle.tp_model.specs.Words.body
 use Rattle.tp_model.specs.Words.outcome
+use Rattle.tp_model.specs.Words.{Body, Letter, Mail, Outcome, Prepared, Query, QueryRequest, Record, Scenario, ServerId, Staple, TxnId}
+use Rattle.tp_machine.proofs.basics.Lists.{placed_emptied, placed_set}
+use Rattle.tp_machine.proofs.basics.Logs.{Prepares}
+use Rattle.tp_machine.proofs.walks.CoordinatorRows.{coordinator_by, submit_by}
+use Rattle.tp_machine.proofs.walks.ServerRows.{IsFirstHere, IsFurther, IsGranted, server_by}
 use Rattle.tp_machine.specs.Machine.{with_age}
+use Rattle.tp_machine.specs.Runs.{deed_of}
 use Rattle.tp_machine.specs.Sound.{Each, EachPlaced}
 use Rattle.tp_machine.specs.coord.Row as coord
 use Rattle.tp_machine.specs.coord.State.{Coordinator}
 use Rattle.tp_machine.specs.declared.server.Entry.{Entry}
 use Rattle.tp_machine.specs.server.Row as server
 use Rattle.tp_machine.specs.server.State.{Server}
-use Rattle.tp_machine.proofs.walks.CoordinatorRows.{coordinator_by, submit_by}
-use Rattle.tp_machine.proofs.basics.Logs.{Prepares}
-use Rattle.tp_machine.proofs.walks.ServerRows.{server_by}
-use Rattle.tp_machine.proofs.basics.Lists.{placed_emptied, placed_set}
 
 -- ---- what is said of ages
 
@@ -55,6 +56,13 @@ pub record CoordinatorAges (A : TxnId → ℕ → Type 0) (place : ℕ) (c : Coo
 ignores_ages : (A : TxnId → ℕ → Type 0) (place : ℕ) (s : Server) → EachPlaced (EntryAged A) s.entries → ServerAges A place (ignores s)
 ignores_ages A place s h = record { entries = h; forces = tt; letters = tt }
 
+-- a query runs at an entry of its transaction's age
+ran_age : (A : TxnId → ℕ → Type 0) (sc : Scenario) (s : Server) (mail : Mail) (q : QueryRequest) (query : Query) (entry : Entry) (value : ℤ) → EachPlaced (EntryAged A) s.entries → BodyAged A mail.sent mail.letter.body
+    → IsGranted sc s mail q query entry value → A q.txn entry.age
+ran_age A sc s mail q query entry value h m k =
+    ⊎_elim (λ (first : IsFirstHere s mail.sent q entry). subst (λ (e : Entry). A q.txn e.age) (sym first.entry_is) (subst (BodyAged A mail.sent) k.said_is m))
+    (λ (further : IsFurther s q entry). h q.txn.0 entry further.found) k.place
+
 -- every row of a server on receipt of a mail
 pub server_row_ages : (A : TxnId → ℕ → Type 0) (place : ℕ) (sc : Scenario) (s : Server) (mail : Mail) → EachPlaced (EntryAged A) s.entries → BodyAged A mail.sent mail.letter.body
     → ServerAges A place (server.server_row sc s mail)
@@ -62,9 +70,12 @@ server_row_ages A place sc s mail h m =
     server_by sc s mail (ServerAges A place)
     (record {
       ignored = ignores_ages A place s h;
-      begun = λ q deed k.
-          let told : A q.txn (server.age_of q mail.sent) = subst (BodyAged A mail.sent) k.said_is m in
-          record { entries = placed_set (EntryAged A) s.entries q.txn.0 (server.first_entry s mail.sent q deed) h told; forces = tt; letters = (tt, tt) };
+      ran = λ q query entry value k.
+          record {
+            entries = placed_set (EntryAged A) s.entries q.txn.0 (server.entry_after q entry (deed_of q.query query value)) h (ran_age A sc s mail q query entry value h m k);
+            forces = tt;
+            letters = (tt, tt);
+          };
       restarted = λ q k. record { entries = h; forces = tt; letters = (tt, tt) };
       answered = λ q entry given k. record { entries = h; forces = tt; letters = (tt, tt) };
       voted = λ p entry staple txn k.

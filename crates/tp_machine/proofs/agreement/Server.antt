@@ -2,33 +2,34 @@
 -- ---- what is kept
 -- the transaction of an entry is not settled on this log
 use Rattle.std.specs.Prelude.{if◌then◌else◌}
-use Rattle.std.proofs.Common.{Bool, IfSome, List, None, Option, Some, [], ap, false, is_some, option_and_then, option_map, refl, slice_get, slice_set, subst, suc, sym, true, zero, ℕ, ◌==◌, ◌∙◌, ◌∷◌, ◌≡◌}
+use Rattle.std.proofs.Common.{Bool, IfSome, List, None, Option, Some, [], ap, false, is_some, option_and_then, option_map, refl, slice_get, slice_set, subst, suc, sym, true, zero, ℕ, ℤ, ⊎_elim, ◌==◌, ◌∙◌, ◌∷◌, ◌≡◌}
 use Rattle.std.proofs.lemmas.Bool.{eqb-true}
-use Rattle.tp_types.specs.Effect.{Effect, ignores, sends}
 use Rattle.tp_types.proofs.ListLemmas.{number_itself}
+use Rattle.tp_types.specs.Effect.{Effect, ignores, sends}
 use Rattle.tp_types.specs.Table.{flattened, is_unset}
 use Rattle.tp_model.specs.Facts.{first_of}
 use Rattle.tp_model.specs.Ids.{same_txn}
-use Rattle.tp_model.specs.Words.{Body, DecideRequest, Deed, DoneReply, Letter, Mail, Outcome, PrepareRequest, Prepared, QueryRequest, Record, Scenario, ServerId, Settled, TxnId, Verdict, Vote}
 use Rattle.tp_model.specs.Words.actor
 use Rattle.tp_model.specs.Words.body
 use Rattle.tp_model.specs.Words.log
 use Rattle.tp_model.specs.Words.outcome
 use Rattle.tp_model.specs.Words.vote
+use Rattle.tp_model.specs.Words.{Body, DecideRequest, Deed, DoneReply, Letter, Mail, Outcome, PrepareRequest, Prepared, Query, QueryRequest, Record, Scenario, ServerId, Settled, TxnId, Verdict, Vote}
+use Rattle.tp_machine.proofs.agreement.Logs.{LogPrepared}
+use Rattle.tp_machine.proofs.basics.Ids.{same_txn_is}
+use Rattle.tp_machine.proofs.basics.Lists.{placed_emptied, placed_set}
+use Rattle.tp_machine.proofs.basics.Logs.{first_none, get_set, prepared_with, settled_with}
+use Rattle.tp_machine.proofs.serial_data.Lists.{set_elsewhere}
+use Rattle.tp_machine.proofs.walks.ServerRows.{IsFirstHere, IsFurther, IsGranted, server_by}
 use Rattle.tp_machine.specs.Logs.{prepared_in, settled_in, voted_in, while_unsettled}
 use Rattle.tp_machine.specs.Machine.{log_with}
+use Rattle.tp_machine.specs.Runs.{deed_of}
 use Rattle.tp_machine.specs.Sound.{Each, EachPlaced}
 use Rattle.tp_machine.specs.declared.server.Ballot.{Ballot}
 use Rattle.tp_machine.specs.declared.server.Entry.{Entry}
-use Rattle.tp_machine.specs.server.Row.{ack_letter, answers, begins, entry_at, first_entry, is_open, prepared_record, reply, restarted_reply, server_row, settled_as, settles, votes}
+use Rattle.tp_machine.specs.server.Row.{ack_letter, answers, completes, entry_after, entry_at, is_open, prepared_record, restarted_reply, server_row, settled_as, settles, votes}
 use Rattle.tp_machine.specs.server.State.{Server}
 use Rattle.tp_machine.specs.server.Verdicts.{verdicts_on}
-use Rattle.tp_machine.proofs.agreement.Logs.{LogPrepared}
-use Rattle.tp_machine.proofs.basics.Ids.{same_txn_is}
-use Rattle.tp_machine.proofs.basics.Logs.{first_none, get_set, prepared_with, settled_with}
-use Rattle.tp_machine.proofs.serial_data.Lists.{set_elsewhere}
-use Rattle.tp_machine.proofs.walks.ServerRows.{server_by}
-use Rattle.tp_machine.proofs.basics.Lists.{placed_emptied, placed_set}
 
 abbrev pub IsUnsettled : List Record → ℕ → Entry → Type 0
 IsUnsettled kept n entry = settled_in (record { 0 = n }) kept ≡ None
@@ -159,26 +160,44 @@ entry_elsewhere s one other entry apart = ap flattened (set_elsewhere s.entries 
 
 -- ---- Query
 
-first_cast : (s : Server) (kept : List Record) (txn other : TxnId) (first : Entry) → ServerAgrees s kept → entry_at s txn ≡ None → first.ballot ≡ None → (b : Bool) → same_txn txn other ≡ b
-    → option_map vote_of (prepared_in other kept) ≡ option_and_then cast_in (flattened (slice_get (slice_set s.entries txn.0 (Some first)) other.0))
-first_cast s kept txn other first h e unvoted true same =
+-- the entry of a transaction that was not voted on changes, and is not voted on after it
+run_cast : (s : Server) (kept : List Record) (txn other : TxnId) (entry : Entry) → ServerAgrees s kept → option_and_then cast_in (entry_at s txn) ≡ None → entry.ballot ≡ None → (b : Bool) → same_txn txn other ≡ b
+    → option_map vote_of (prepared_in other kept) ≡ option_and_then cast_in (flattened (slice_get (slice_set s.entries txn.0 (Some entry)) other.0))
+run_cast s kept txn other entry h e unvoted true same =
     let here : other ≡ txn = sym (same_txn_is txn other same) in
-    let none : option_map vote_of (prepared_in txn kept) ≡ None = ap (option_map vote_of) (unprepared s kept txn h e) in
-    let now : option_map vote_of (prepared_in txn kept) ≡ option_and_then cast_in (flattened (slice_get (slice_set s.entries txn.0 (Some first)) txn.0)) =
-    written_there (λ (found : Option Entry). option_map vote_of (prepared_in txn kept) ≡ option_and_then cast_in found) s.entries txn.0 (Some first)
-    (none ∙ sym (ap (option_map (vote_by first)) unvoted)) none in
-    subst (λ (t : TxnId). option_map vote_of (prepared_in t kept) ≡ option_and_then cast_in (flattened (slice_get (slice_set s.entries txn.0 (Some first)) t.0))) (sym here) now
-first_cast s kept txn other first h e unvoted false apart = h.prepared other ∙ sym (ap (option_and_then cast_in) (entry_elsewhere s txn other (Some first) apart))
+    let none : option_map vote_of (prepared_in txn kept) ≡ None = h.prepared txn ∙ e in
+    let now : option_map vote_of (prepared_in txn kept) ≡ option_and_then cast_in (flattened (slice_get (slice_set s.entries txn.0 (Some entry)) txn.0)) =
+    written_there (λ (found : Option Entry). option_map vote_of (prepared_in txn kept) ≡ option_and_then cast_in found) s.entries txn.0 (Some entry)
+    (none ∙ sym (ap (option_map (vote_by entry)) unvoted)) none in
+    subst (λ (t : TxnId). option_map vote_of (prepared_in t kept) ≡ option_and_then cast_in (flattened (slice_get (slice_set s.entries txn.0 (Some entry)) t.0))) (sym here) now
+run_cast s kept txn other entry h e unvoted false apart = h.prepared other ∙ sym (ap (option_and_then cast_in) (entry_elsewhere s txn other (Some entry) apart))
 
-begins_lawful : (V : TxnId → Outcome → Type 0) (M : TxnId → Type 0) (s : Server) (kept : List Record) (sent : ℕ) (q : QueryRequest) (deed : Deed) → ServerAgrees s kept
-    → settled_in q.txn kept ≡ None → entry_at s q.txn ≡ None → ServerLawful V M s kept (begins s sent q (Some deed))
-begins_lawful V M s kept sent q deed h new none =
-    let first = first_entry s sent q deed in
+no_ballot : (ballot : Option Ballot) → is_some ballot ≡ false → ballot ≡ None
+no_ballot None e = refl
+no_ballot (Some ballot) e = absurd (cc)
+
+-- an entry at which a query runs was not voted on
+pub record IsUnvotedRun (s : Server) (q : QueryRequest) (entry : Entry) : Type 0 where
+  pub entry_unvoted : entry.ballot ≡ None
+  pub unvoted : option_and_then cast_in (entry_at s q.txn) ≡ None
+
+pub unvoted_run : (sc : Scenario) (s : Server) (mail : Mail) (q : QueryRequest) (query : Query) (entry : Entry) (value : ℤ) → IsGranted sc s mail q query entry value → IsUnvotedRun s q entry
+unvoted_run sc s mail q query entry value k =
+    ⊎_elim
+    (λ (first : IsFirstHere s mail.sent q entry).
+    record { entry_unvoted = ap (λ (e : Entry). e.ballot) first.entry_is; unvoted = ap (option_and_then cast_in) first.no_entry })
+    (λ (further : IsFurther s q entry).
+    let none : entry.ballot ≡ None = no_ballot entry.ballot further.unvoted in
+    record { entry_unvoted = none; unvoted = ap (option_and_then cast_in) further.found ∙ ap (option_map (vote_by entry)) none }) k.place
+
+runs_lawful : (V : TxnId → Outcome → Type 0) (M : TxnId → Type 0) (s : Server) (kept : List Record) (q : QueryRequest) (query : Query) (entry : Entry) (deed : Deed) → ServerAgrees s kept
+    → settled_in q.txn kept ≡ None → IsUnvotedRun s q entry → ServerLawful V M s kept (completes s q query entry deed)
+runs_lawful V M s kept q query entry deed h new u =
     record {
       agrees = record {
         settled = h.settled;
-        unsettled = placed_set (IsUnsettled kept) s.entries q.txn.0 first h.unsettled new;
-        prepared = λ txn. first_cast s kept q.txn txn first h none refl (same_txn q.txn txn) refl;
+        unsettled = placed_set (IsUnsettled kept) s.entries q.txn.0 (entry_after q entry deed) h.unsettled new;
+        prepared = λ txn. run_cast s kept q.txn txn (entry_after q entry deed) h u.unvoted u.entry_unvoted (same_txn q.txn txn) refl;
       };
       rests = tt;
       replies = (record { from_is = refl; says = tt }, tt);
@@ -334,7 +353,8 @@ server_row_lawful V M sc s kept mail h m =
     server_by sc s mail (ServerLawful V M s kept)
     (record {
       ignored = ignores_lawful V M s kept h;
-      begun = λ q deed k. begins_lawful V M s kept mail.sent q deed h (open_unsettled s kept q.txn h k.unsettled) k.no_entry;
+      ran = λ q query entry value k.
+          runs_lawful V M s kept q query entry (deed_of q.query query value) h (open_unsettled s kept q.txn h k.unsettled) (unvoted_run sc s mail q query entry value k);
       restarted = λ q k. answers_lawful V M s kept q (restarted_reply q s.epoch) h;
       answered = λ q entry given k. answers_lawful V M s kept q given h;
       voted = λ p entry staple txn k. votes_lawful V M s kept p (verdicts_on sc s txn staple entry.deeds) entry h (open_unsettled s kept p.txn h k.unsettled) k.found;

@@ -1,4 +1,5 @@
 -- The coordinator's rows keep its state sound, force a sound record, and send sound letters.
+use Rattle.tp_machine.specs.Runs.{deed_of}
 use Rattle.std.specs.List.{list_all}
 use Rattle.std.proofs.Common.{IfSome, List, None, Option, Some, [], arith, false, option_map, refl, slice_get, subst, true, ℕ, ℤ, ◌++◌, ◌∷◌, ◌≡◌}
 use Rattle.std.proofs.lemmas.Option.{same_Some}
@@ -9,7 +10,7 @@ use Rattle.tp_model.specs.Words.actor
 use Rattle.tp_model.specs.Words.cause
 use Rattle.tp_model.specs.Words.query
 use Rattle.tp_machine.specs.Sound.{AreSoundVerdicts, Each, HasValue, IsActor, IsItemOf, IsServer, IsSoundBallot, IsSoundBody, IsSoundCause, IsSoundCoordinator, IsSoundCoordinatorRecord, IsSoundDeed, IsSoundInstance, IsSoundLetter, IsSoundPhase, IsSoundProof, IsSoundQuery, IsSoundReply, IsSoundRound, IsSoundStaple, IsSoundVerdict, ProvesEach, proves_each, query_in}
-use Rattle.tp_machine.specs.coord.Row.{aborts, are_agreed, asks, commits, coordinator_row, coordinator_with_age, deed_of, denied_by, first_false, first_round, instances_with, is_false_verdict, is_true_verdict, next_turn, prepare_letter, prepares, request, sends_first, server_of, staple_of, submit_row, with_deed, with_reply, without}
+use Rattle.tp_machine.specs.coord.Row.{aborts, are_agreed, asks, commits, coordinator_row, coordinator_with_age, denied_by, first_false, first_round, instances_with, is_false_verdict, is_true_verdict, next_turn, prepare_letter, prepares, request, sends_first, server_of, staple_of, submit_row, with_deed, with_reply, without}
 use Rattle.tp_machine.specs.coord.State.{Coordinator}
 use Rattle.tp_machine.specs.declared.coord.Phase.TheVariants as phase
 use Rattle.tp_machine.specs.declared.coord.Phase.{Phase}

@@ -1,27 +1,27 @@
 -- The server's row keeps its state sound, forces a sound record, and sends sound letters.
-use Rattle.std.proofs.Common.{Bool, IfSome, List, None, Option, Some, [], ap, arith, false, is_none, is_some, length, option_and_then, option_map, refl, slice_get, subst, suc, sym, true, unwrap_or, zero, ℕ, ℤ, ◌&&◌, ◌||◌, ◌<◌, ◌==◌, ◌∙◌, ◌∷◌, ◌≡◌}
-use Rattle.std.proofs.lemmas.Option.{cond_some, same_Some}
-use Rattle.tp_types.specs.Effect.{Effect, ignores}
 use Rattle.std.specs.List.{list_all}
+use Rattle.std.proofs.Common.{Bool, IfSome, List, None, Option, Some, [], ap, arith, false, is_none, is_some, length, option_map, refl, slice_get, subst, suc, sym, true, unwrap_or, zero, ℕ, ℤ, ⊎_elim, ◌&&◌, ◌<◌, ◌==◌, ◌||◌, ◌∙◌, ◌∷◌, ◌≡◌}
 use Rattle.std.proofs.lemmas.Bool.{and_parts, eqb-true}
+use Rattle.std.proofs.lemmas.Option.{same_Some}
+use Rattle.tp_types.specs.Effect.{Effect, ignores}
 use Rattle.tp_model.specs.Authorisation.{policy_at}
 use Rattle.tp_model.specs.Credentials.{is_among, is_presented}
 use Rattle.tp_model.specs.Ids.{same_cred}
 use Rattle.tp_model.specs.Queries.{item_of}
-use Rattle.tp_model.specs.Words.{Admin, AdminId, Body, CredId, DecideRequest, Deed, DoneReply, Item, ItemId, Mail, PrepareRequest, Query, QueryRequest, Scenario, ServerId, Settled, Staple, Transaction, TxnId, Version}
-use Rattle.tp_model.specs.Words.action
 use Rattle.tp_model.specs.Words.actor
 use Rattle.tp_model.specs.Words.body
-use Rattle.tp_model.specs.Words.query
-use Rattle.tp_machine.specs.Sound.{AreCreds, AreSoundVerdicts, AreVersionsOf, Each, IsAdmin, IsCred, IsItemOf, IsSoundBody, IsSoundDeedAt, IsSoundDone, IsSoundEntry, IsSoundLetter, IsSoundQuery, IsSoundServer, IsSoundServerRecord, IsSoundSettled, IsSoundVerdict, IsTxn, IsVersion, IsVersionOf, query_in}
+use Rattle.tp_model.specs.Words.{Admin, AdminId, Body, CredId, DecideRequest, Deed, DoneReply, Item, ItemId, Mail, PrepareRequest, Query, QueryRequest, Scenario, ServerId, Settled, Staple, Transaction, TxnId, Version}
+use Rattle.tp_machine.proofs.basics.Lists.{each_append, each_found, each_get, each_map, placed_emptied, placed_set}
+use Rattle.tp_machine.proofs.basics.Stores.{ended_known, kept_known}
+use Rattle.tp_machine.proofs.ids.Valid.{IsValid, IsValidItem}
+use Rattle.tp_machine.proofs.trust.Evaluation.{uses_presented}
+use Rattle.tp_machine.proofs.walks.ServerRows.{IsFirstHere, IsFurther, IsGranted, server_by}
+use Rattle.tp_machine.specs.Runs.{deed_of}
+use Rattle.tp_machine.specs.Sound.{AreCreds, AreSoundVerdicts, AreVersions, AreVersionsOf, Each, IsAdmin, IsCred, IsItemOf, IsSoundBody, IsSoundDeedAt, IsSoundDone, IsSoundEntry, IsSoundLetter, IsSoundQuery, IsSoundServer, IsSoundServerRecord, IsSoundSettled, IsSoundVerdict, IsTxn, IsVersion, IsVersionOf}
 use Rattle.tp_machine.specs.declared.server.Entry.{Entry}
-use Rattle.tp_machine.specs.server.Row.{answers, asked_item, begins, done_reply, first_entry, plain_write, reply, restarted_reply, server_row, settled_as, settles, votes, written_item}
+use Rattle.tp_machine.specs.server.Row.{answers, completes, done_reply, entry_after, reply, restarted_reply, server_row, settled_as, settles, votes}
 use Rattle.tp_machine.specs.server.State.{Server}
 use Rattle.tp_machine.specs.server.Verdicts.{admin_of, verdict_on, verdicts_on, version_known}
-use Rattle.tp_machine.proofs.trust.Evaluation.{uses_presented}
-use Rattle.tp_machine.proofs.walks.ServerRows.{server_by}
-use Rattle.tp_machine.proofs.ids.Valid.{IsValid, IsValidItem}
-use Rattle.tp_machine.proofs.basics.Lists.{each_found, each_get, each_map, placed_emptied, placed_set}
 
 -- what a server's act leaves is sound: its state, still of the same server, what it forces and what it sends
 pub record IsSoundServerEffect (sc : Scenario) (s : Server) (effect : Effect Server) : Type 0 where
@@ -40,63 +40,53 @@ reply_sound sc s txn said h exists says = record { from_is_actor = h.exists; to_
 
 -- ---- Query
 
--- the deed that a request asks for, where it asks for one
-record IsAskedDeed (q : QueryRequest) (item : Option ItemId) (deed : Deed) : Type 0 where
-  pub query_is : deed.query ≡ q.query
-  pub item_is : item ≡ Some deed.item
-  pub value_is : q.value ≡ Some deed.value
-  pub unstapled : is_some q.staple ≡ false
-
 not_some : {A : Type 0} (found : Option A) (other : Bool) → (is_none found && other) ≡ true → is_some found ≡ false
 not_some None other e = refl
 not_some (Some x) other e = absurd (cc)
 
-asked_deed : (q : QueryRequest) (item : Option ItemId) (value : Option ℤ) (deed : Deed) → q.value ≡ value → plain_write q item value ≡ Some deed → IsAskedDeed q item deed
-asked_deed q (Some item) (Some value) deed same e =
-    let parts = cond_some (is_none q.staple && is_none q.pin) (record { query = q.query; item = item; action = action.Write; value = value }) deed e in
-    record {
-      query_is = sym (ap (λ (d : Deed). d.query) parts.1);
-      item_is = ap (λ (d : Deed). Some d.item) parts.1;
-      value_is = same ∙ ap (λ (d : Deed). Some d.value) parts.1;
-      unstapled = not_some q.staple (is_none q.pin) parts.0;
-    }
-asked_deed q (Some item) None deed same e = absurd (cc)
-asked_deed q None value deed same e = absurd (cc)
+-- an entry at which a query runs is sound
+run_entry : (sc : Scenario) (s : Server) (mail : Mail) (q : QueryRequest) (query : Query) (entry : Entry) (value : ℤ) → IsSoundServer sc s → IsGranted sc s mail q query entry value
+    → IsSoundEntry sc s.server q.txn entry
+run_entry sc s mail q query entry value h k =
+    ⊎_elim
+    (λ (first : IsFirstHere s mail.sent q entry). subst (IsSoundEntry sc s.server q.txn) (sym first.entry_is) (record { answers = tt; waiting = tt; deeds = tt; ballot = tt }))
+    (λ (further : IsFurther s q entry). h.entries q.txn.0 entry further.found) k.place
 
--- the item that a query writes is the one that it is about
-pub writes_its_item : (asked : Query) (item : ItemId) → written_item asked ≡ Some item → item_of asked ≡ item
-writes_its_item (query.Write other expr) item e = same_Some other item e
-writes_its_item (query.Read other into) item e = absurd (cc)
-
-begins_sound : (sc : Scenario) (s : Server) (sent : ℕ) (q : QueryRequest) (deed : Deed) → IsSoundServer sc s → IsSoundQuery sc (actor.Server s.server) q
-    → plain_write q (asked_item sc q) q.value ≡ Some deed → IsSoundServerEffect sc s (begins s sent q (Some deed))
-begins_sound sc s sent q deed h m e =
-    let d : IsAskedDeed q (asked_item sc q) deed = asked_deed q (asked_item sc q) q.value deed refl e in
-    let item_is : deed.item ≡ item_of m.asked = sym (writes_its_item m.asked deed.item (sym (ap (option_and_then written_item) m.asked_is) ∙ d.item_is)) in
+runs_sound : (sc : Scenario) (s : Server) (mail : Mail) (q : QueryRequest) (query : Query) (entry : Entry) (value : ℤ) → IsSoundServer sc s → IsSoundQuery sc (actor.Server s.server) q
+    → IsGranted sc s mail q query entry value → IsSoundServerEffect sc s (completes s q query entry (deed_of q.query query value))
+runs_sound sc s mail q query entry value h m k =
+    let deed = deed_of q.query query value in
+    let same : query ≡ m.asked = same_Some query m.asked (sym k.asked_is ∙ m.asked_is) in
     let at_is : m.at ≡ s.server = cc in
-    let kept : IsItemOf sc s.server deed.item = subst (IsItemOf sc s.server) (sym item_is) (subst (λ (at : ServerId). IsItemOf sc at (item_of m.asked)) at_is m.kept) in
-    let asked_is : query_in sc q.txn deed.query ≡ Some m.asked = subst (λ (n : ℕ). query_in sc q.txn n ≡ Some m.asked) (sym d.query_is) m.asked_is in
+    let item_is : item_of m.asked ≡ item_of query = ap item_of (sym same) in
+    let kept : IsItemOf sc s.server deed.item = subst (IsItemOf sc s.server) item_is (subst (λ (at : ServerId). IsItemOf sc at (item_of m.asked)) at_is m.kept) in
     let deed_sound : IsSoundDeedAt sc s.server q.txn deed =
-    record { sound = record { asked = m.asked; asked_is = asked_is; item_is = item_is }; kept = kept } in
-    let done_sound : IsSoundDone sc (actor.Coordinator q.txn) (done_reply q s.epoch deed) =
+    record { sound = record { asked = m.asked; asked_is = m.asked_is; item_is = sym item_is }; kept = kept } in
+    let done_sound : IsSoundDone sc (actor.Coordinator q.txn) (done_reply q entry.epoch deed) =
     record {
       txn = m.txn;
       goes_to = refl;
       query = record { asked = m.asked; asked_is = m.asked_is };
       answer_is_sound = tt;
-      proved = λ each. let stapled = m.stapled each in let unstapled = d.unstapled in absurd (cc);
+      proved = λ each. let stapled = m.stapled each in let unstapled = not_some q.staple (is_none q.pin) k.plain in absurd (cc);
     } in
+    let old : IsSoundEntry sc s.server q.txn entry = run_entry sc s mail q query entry value h k in
     record {
       same_server = refl;
       state_is = record {
         exists = h.exists;
-        known = h.known;
+        known = subst (AreVersions sc) (sym (kept_known s.store q query value)) h.known;
         settled = h.settled;
-        entries = placed_set (λ (n : ℕ) (found : Entry). IsSoundEntry sc s.server (record { 0 = n }) found) s.entries q.txn.0 (first_entry s sent q deed) h.entries
-            (record { answers = (done_sound, tt); waiting = tt; deeds = (deed_sound, tt); ballot = tt });
+        entries = placed_set (λ (n : ℕ) (found : Entry). IsSoundEntry sc s.server (record { 0 = n }) found) s.entries q.txn.0 (entry_after q entry deed) h.entries
+            (record {
+              answers = each_append (IsSoundDone sc (actor.Coordinator q.txn)) entry.answers (done_reply q entry.epoch deed ∷ []) old.answers (done_sound, tt);
+              waiting = old.waiting;
+              deeds = each_append (IsSoundDeedAt sc s.server q.txn) entry.deeds (deed ∷ []) old.deeds (deed_sound, tt);
+              ballot = old.ballot;
+            });
       };
       forces = tt;
-      sends_only = (reply_sound sc s q.txn (body.Done (done_reply q s.epoch deed)) h m.txn done_sound, tt);
+      sends_only = (reply_sound sc s q.txn (body.Done (done_reply q entry.epoch deed)) h m.txn done_sound, tt);
     }
 
 -- an answer that is given again, or for the first time
@@ -120,7 +110,7 @@ version_of (admin ∷ admins) (version ∷ versions) (suc n) default h within = 
 -- the version that a sound server knows of an administrator that exists
 pub known_version : (sc : Scenario) (s : Server) (admin : AdminId) → IsSoundServer sc s → IsAdmin sc admin → IsVersion sc admin (version_known s admin)
 known_version sc s admin h within =
-    let found = version_of sc.admins s.known admin.0 (record { 0 = 1 }) h.known within in
+    let found = version_of sc.admins s.store.known admin.0 (record { 0 = 1 }) h.known within in
     record { declared = found.0; declared_is = found.1; in_library = found.2 }
 
 -- what is among credentials that exist exists
@@ -187,7 +177,7 @@ settles_sound sc s d h exists =
       same_server = refl;
       state_is = record {
         exists = h.exists;
-        known = h.known;
+        known = subst (AreVersions sc) (sym (ended_known s.store d.txn d.outcome)) h.known;
         settled = placed_set (λ (n : ℕ) (found : Settled). IsSoundSettled sc found) s.settled d.txn.0 (settled_as d) h.settled settled;
         entries = placed_emptied (λ (n : ℕ) (found : Entry). IsSoundEntry sc s.server (record { 0 = n }) found) s.entries d.txn.0 h.entries;
       };
@@ -203,7 +193,7 @@ server_row_sound sc s mail valid h m =
     server_by sc s mail (IsSoundServerEffect sc s)
     (record {
       ignored = ignores_sound sc s h;
-      begun = λ q deed k. begins_sound sc s mail.sent q deed h (said k.said_is) k.writes;
+      ran = λ q query entry value k. runs_sound sc s mail q query entry value h (said k.said_is) k;
       restarted = λ q k. answers_sound sc s q (restarted_reply q s.epoch) h (said k.said_is).txn (restarted_sound sc s q (said k.said_is));
       answered = λ q entry given k.
           answers_sound sc s q given h (said k.said_is).txn

@@ -1,26 +1,23 @@
 -- Deeds and epochs, the coordinator's rows: each is an event at every server, as the coordinator's transaction is seen there.
-use Rattle.std.proofs.Math.IntN.{+ℤ_idl}
+use Rattle.std.specs.Option.{option_map_or}
+use Rattle.std.specs.Prelude.{◌^◌}
 use Rattle.std.proofs.Common.{Bool, List, None, Option, Some, [], ap, arith, false, if◌then◌else◌, is_none, is_some, length, map, nat_lt, option_and_then, option_map, pos, refl, replicate, slice_get, slice_set, subst, suc, sym, true, zero, ℕ, ℤ, ◌&&◌, ◌++◌, ◌+◌, ◌-◌, ◌<◌, ◌==◌, ◌∙◌, ◌∷◌, ◌≡◌, ◌≤◌}
+use Rattle.std.proofs.Math.IntN.{+ℤ_idl}
 use Rattle.std.proofs.lemmas.Bool.{and_parts, eq-eqb, eqb-true}
 use Rattle.std.proofs.lemmas.List.{length_push}
 use Rattle.std.proofs.lemmas.Option.{same_Some, slice_get_within}
-use Rattle.std.specs.Option.{option_map_or}
-use Rattle.std.specs.Prelude.{◌^◌}
 use Rattle.tp_types.proofs.ListLemmas.{number_itself}
 use Rattle.tp_types.specs.Effect.{Effect, ignores}
 use Rattle.tp_types.specs.Table.{flattened}
 use Rattle.tp_types.specs.declared.scenario.Operand.TheVariants.{Constant, Register}
-use Rattle.tp_model.specs.Authorisation.{action_of}
-use Rattle.tp_model.specs.Facts.{before}
 use Rattle.tp_model.specs.Queries.{is_at_server, item_of, only_value, operand_value, query_at, signed, term_value, written_constant}
 use Rattle.tp_model.specs.SerialRun.{cleared_registers, number_at, operand_in, sum_in, term_in}
-use Rattle.tp_model.specs.Words.action
 use Rattle.tp_model.specs.Words.actor
 use Rattle.tp_model.specs.Words.body
 use Rattle.tp_model.specs.Words.cause
 use Rattle.tp_model.specs.Words.outcome
 use Rattle.tp_model.specs.Words.query
-use Rattle.tp_model.specs.Words.{Action, Actor, Body, Deed, DoneReply, Item, Letter, Mail, Operand, Outcome, PrepareRequest, Query, QueryRequest, Scenario, ServerId, Staple, Term, Transaction, TxnId}
+use Rattle.tp_model.specs.Words.{Actor, Body, Deed, DoneReply, Item, Letter, Mail, Operand, Outcome, PrepareRequest, Query, QueryRequest, Scenario, ServerId, Staple, Term, Transaction, TxnId}
 use Rattle.tp_machine.proofs.agreement.Coordinator.{idle_is}
 use Rattle.tp_machine.proofs.basics.Lists.{each_get, set_here}
 use Rattle.tp_machine.proofs.basics.Phases.{awaits_is, is_undecided, sent_to_server}
@@ -42,8 +39,8 @@ use Rattle.tp_machine.proofs.serial_data.Runs.{deed_at}
 use Rattle.tp_machine.proofs.trust.Turns.{turn_rises}
 use Rattle.tp_machine.proofs.walks.CoordinatorRows.{IsFirstQuery, IsLastAnswer, coordinator_by, submit_by}
 use Rattle.tp_machine.specs.Machine.{with_age}
+use Rattle.tp_machine.specs.Runs.{deed_of}
 use Rattle.tp_machine.specs.Sound.{Each}
-use Rattle.tp_machine.specs.coord.Opened.{idle}
 use Rattle.tp_machine.specs.coord.Row as coord
 use Rattle.tp_machine.specs.coord.Row.{awaits_query, next_turn, query_of, server_of}
 use Rattle.tp_machine.specs.coord.State.{Coordinator}
@@ -213,7 +210,6 @@ record IsAwaited (sc : Scenario) (declared : Transaction) (P : ℕ → Pair) (c 
   pub turn : done.turn ≡ c.turn
   pub asked_is : query_at declared done.query ≡ Some asked
   pub server_is : server_of sc asked ≡ Some server
-  pub writes : action_of asked ≡ action.Write
   pub ran : RanFits (site_of sc server.0 declared) (P server.0) done value
   pub last : query_at declared (done.query + 1) ≡ None
   pub exists : server.0 < length sc.servers
@@ -255,10 +251,9 @@ ran_asker : (sc : Scenario) (declared : Transaction) (P : ℕ → Pair) (c : Coo
     → asker_of at (coord.asks (coord.with_deed c server done asked value)).state ≡ moved (answered (site_of sc at declared) (asker_of at c) epoch value) Prepares (next_turn c)
 ran_asker sc declared P c done asked server value at epoch h k e =
     let number : done.query ≡ length c.deeds + 1 = subst (λ (p : Phase). PhaseNumbered p c.deeds) k.awaits h.numbered in
-    let deed : coord.deed_of done.query asked value ≡ deed_at declared (length c.deeds + 1) value =
-    ap (λ (x : Action). record { query = done.query; item = item_of asked; action = x; value = value }) (sym k.writes)
-    ∙ (ap (λ (found : Option Query). run.deed_of done.query found value) (sym k.asked_is) ∙ ap (λ (n : ℕ). deed_at declared n value) number) in
-    ap (λ (x : Option ℕ). record { stand = Prepares; turn = next_turn c; epoch = x; deeds = c.deeds ++ coord.deed_of done.query asked value ∷ [] }) e
+    let deed : deed_of done.query asked value ≡ deed_at declared (length c.deeds + 1) value =
+    ap (λ (found : Option Query). run.deed_asked done.query found value) (sym k.asked_is) ∙ ap (λ (n : ℕ). deed_at declared n value) number in
+    ap (λ (x : Option ℕ). record { stand = Prepares; turn = next_turn c; epoch = x; deeds = c.deeds ++ deed_of done.query asked value ∷ [] }) e
     ∙ ap (λ (x : Deed). record { stand = Prepares; turn = next_turn c; epoch = epoch; deeds = c.deeds ++ x ∷ [] }) deed
 
 -- the next turn, and that all queries have run
@@ -378,11 +373,6 @@ abbrev pub AnswerPairs : Scenario → Transaction → (ℕ → Pair) → Actor �
 AnswerPairs sc declared P (actor.Server at) (body.Done done) = DoneFits (site_of sc at.0 declared) (P at.0) done
 AnswerPairs sc declared P _ _ = Unit {0}
 
-written_writes : (asked : Query) → is_some (written_constant asked) ≡ true → action_of asked ≡ action.Write
-written_writes (query.Write item expr) e = refl
-written_writes (query.Read item into) e = absurd (cc)
-
--- the awaited answer to the last query
 last_awaited : (sc : Scenario) (declared : Transaction) (P : ℕ → Pair) (c : Coordinator) (mail : Mail) (done : DoneReply) (server : ServerId) (asked : Query) (value : ℤ) → CoordinatorPaired sc declared P c
     → AnswerPairs sc declared P mail.letter.from mail.letter.body → server.0 < length sc.servers → IsLastAnswer sc c mail done server asked value → IsAwaited sc declared P c done asked server value
 last_awaited sc declared P c mail done server asked value h m exists k =
@@ -390,13 +380,11 @@ last_awaited sc declared P c mail done server asked value h m exists k =
     let present : awaits_query c (phase.Querying done.query None) done ≡ true = subst (λ (p : Phase). awaits_query c p done ≡ true) awaits k.awaited in
     let fits : DoneFits (site_of sc server.0 declared) (P server.0) done = subst (λ (from : Actor). AnswerPairs sc declared P from (body.Done done)) (from_server mail.letter.from server k.from_is) (subst (AnswerPairs sc declared P mail.letter.from) k.said_is m) in
     let first = and_parts (is_some (written_constant asked) && nat_lt done.query (2 ^ 32 - 1)) (is_none (query_of sc c (done.query + 1))) k.last in
-    let writes = (and_parts (is_some (written_constant asked)) (nat_lt done.query (2 ^ 32 - 1)) first.0).0 in
     record {
       awaits = awaits;
       turn = eqb-true done.turn c.turn (and_parts (done.turn == c.turn) (done.query == done.query) present).0;
       asked_is = own_query sc c declared done.query asked h.declared_is k.asked_is;
       server_is = k.server_is;
-      writes = written_writes asked writes;
       ran = subst (AnswerFits (site_of sc server.0 declared) (P server.0) done) k.answer_is fits;
       last = sym (ap (λ (found : Option Transaction). option_and_then (λ (d : Transaction). query_at d (done.query + 1)) found) h.declared_is) ∙ none_is (query_of sc c (done.query + 1)) first.1;
       exists = exists;

@@ -116,7 +116,7 @@ still_pairs sc w happened letters actors h servers coordinators plain =
 -- ---- a server acts
 
 -- what a server that is up is to its transactions
-pair_of_up : (actors : Actors) (at : ServerId) (part : Part Server) (s : Server) (txn : TxnId) → slice_get actors.servers at.0 ≡ Some part → part.up ≡ Some s
+pub pair_of_up : (actors : Actors) (at : ServerId) (part : Part Server) (s : Server) (txn : TxnId) → slice_get actors.servers at.0 ≡ Some part → part.up ≡ Some s
     → pair_at actors txn at.0 ≡ pair_up txn (asker_at actors.coordinators txn.0 at.0) s part.log
 pair_of_up actors at part s txn found up =
     ap (pair_by txn (asker_at actors.coordinators txn.0 at.0)) found ∙ ap (λ (u : Option Server). pair_by txn (asker_at actors.coordinators txn.0 at.0) (Some (record { up = u; log = part.log }))) up

@@ -1,8 +1,7 @@
 -- Serial data, an act of a coordinator: a commit has the deeds of its transaction run by itself on the store, and leaves it in range.
-use Rattle.std.proofs.lemmas.List.Sums.{fold-append}
-use Rattle.tp_machine.proofs.pairs.Pair.{Prepares}
 use Rattle.std.specs.Option.{option_map_or}
 use Rattle.std.proofs.Common.{Bool, IfSome, List, None, Option, Some, [], ap, false, fold, if◌then◌else◌, is_some, length, option_and_then, refl, slice_get, subst, sym, true, ℕ, ℤ, ⊎_elim, ◌++◌, ◌∙◌, ◌∷◌, ◌≡◌}
+use Rattle.std.proofs.lemmas.List.Sums.{fold-append}
 use Rattle.tp_types.specs.Effect.{Effect}
 use Rattle.tp_model.specs.Agreement.{has_item_at}
 use Rattle.tp_model.specs.Facts.{first_of}
@@ -25,6 +24,7 @@ use Rattle.tp_machine.proofs.pairs.Actors.{asker_by, asker_of, asker_up, pair_at
 use Rattle.tp_machine.proofs.pairs.Fits.{AskerFits}
 use Rattle.tp_machine.proofs.pairs.Lists.{of_some}
 use Rattle.tp_machine.proofs.pairs.Outcomes.{prepared_for}
+use Rattle.tp_machine.proofs.pairs.Pair.{Prepares}
 use Rattle.tp_machine.proofs.pairs.World.{Pairs, declared_by}
 use Rattle.tp_machine.proofs.serial_data.Commits.{IsClearAtHome, IsItemAt, commit_elsewhere, commit_serial, commit_store}
 use Rattle.tp_machine.proofs.serial_data.Joined.{share_at}
@@ -226,8 +226,8 @@ read_up : (sc : Scenario) (w : State) (txn : TxnId) (at : ℕ) (deeds : List Dee
 read_up sc w txn at deeds h None e there serial agrees share = absurd (cc)
 read_up sc w txn at deeds h (Some s) e there serial agrees share =
     let entry : IsPreparedEntry s txn h.p = prepared_here s h.part.log txn h.p agrees h.prepared_is in
-    let reads : ReadsFrom s.values (share_at sc at deeds) = subst (ReadsFrom s.values) (entry.deeds_are ∙ share) (serial.reads txn.0 entry.entry entry.found) in
-    share_reads sc at s.values (overlaid sc w.facts) deeds (λ n item found home. serial.values n item found (ap (λ (m : ℕ). record { 0 = m }) home)) reads
+    let reads : ReadsFrom s.store.values (share_at sc at deeds) = subst (ReadsFrom s.store.values) (entry.deeds_are ∙ share) (serial.reads.reads txn.0 entry.entry entry.found) in
+    share_reads sc at s.store.values (overlaid sc w.facts) deeds (λ n item found home. serial.values n item found (ap (λ (m : ℕ). record { 0 = m }) home)) reads
 
 read_here : (sc : Scenario) (w : State) (txn : TxnId) (declared : Transaction) (deeds : List Deed) (at : ℕ) (b : Bool) → has_item_at sc (record { 0 = at }) txn ≡ b → Agrees sc w → Serial sc w → IsReady sc w txn declared deeds
     → ReadsFrom (overlaid sc w.facts) (share_at sc at deeds)

@@ -1,14 +1,14 @@
 -- Deeds whose reads have the values of a store, own writes among them. They stay so as deeds are applied that are clear of them.
-use Rattle.std.proofs.Common.{◌≡◌, ℕ, ◌+◌, List, [], ◌∷◌, ◌++◌, length, slice_get, slice_set, Option, Some, unwrap_or, ℤ, pos, refl, sym, ap, subst, ◌∙◌, arith}
+use Rattle.std.proofs.Common.{List, Option, Some, [], ap, arith, length, pos, refl, slice_get, slice_set, subst, sym, unwrap_or, ℕ, ℤ, ◌++◌, ◌+◌, ◌∙◌, ◌∷◌, ◌≡◌}
 use Rattle.std.proofs.lemmas.Bool.{ne_eqb}
 use Rattle.std.proofs.lemmas.List.{set_comm}
-use Rattle.tp_model.specs.Words.{Action, Deed, Query, Transaction}
-use Rattle.tp_model.specs.Words.action
 use Rattle.tp_types.specs.declared.scenario.Query.TheVariants.{Read, Write}
 use Rattle.tp_model.specs.SerialRun.{cleared_registers, deeds_from, number_at, serial_run, stored, stored_all, stored_by}
-use Rattle.tp_machine.specs.Sound.{Each}
+use Rattle.tp_model.specs.Words.action
+use Rattle.tp_model.specs.Words.{Action, Deed, Query, Transaction}
 use Rattle.tp_machine.proofs.serial_data.Lists.{set_elsewhere}
-use Rattle.tp_machine.proofs.serial_data.Runs.{RunsFrom, RunsSoFar, deed_of}
+use Rattle.tp_machine.proofs.serial_data.Runs.{RunsFrom, RunsSoFar, deed_asked}
+use Rattle.tp_machine.specs.Sound.{Each}
 
 -- ---- reads
 
@@ -105,18 +105,18 @@ run_from number [] registers store (deed ∷ deeds) h all reads = absurd h
 run_from number (query ∷ queries) registers store [] h all reads = absurd (omega (arith, all))
 run_from number (Read item into ∷ queries) registers store (deed ∷ deeds) h all reads =
     let is = h.0.deed_is in
-    let here : ReadsOn store deeds (deed_of number (Some (Read item into)) deed.value) = subst (ReadsOn store deeds) is reads in
+    let here : ReadsOn store deeds (deed_asked number (Some (Read item into)) deed.value) = subst (ReadsOn store deeds) is reads in
     let later : deeds ≡ deeds_from (number + 1) queries (slice_set registers into deed.value) store = run_from (number + 1) queries (slice_set registers into deed.value) store deeds h.1 (omega (arith, all)) here.1 in
     ap (λ (first : Deed). first ∷ deeds) is
-    ∙ (ap (λ (rest : List Deed). deed_of number (Some (Read item into)) deed.value ∷ rest) later
-    ∙ ap (λ (value : ℤ). deed_of number (Some (Read item into)) value ∷ deeds_from (number + 1) queries (slice_set registers into value) store) here.0)
+    ∙ (ap (λ (rest : List Deed). deed_asked number (Some (Read item into)) deed.value ∷ rest) later
+    ∙ ap (λ (value : ℤ). deed_asked number (Some (Read item into)) value ∷ deeds_from (number + 1) queries (slice_set registers into value) store) here.0)
 run_from number (Write item expr ∷ queries) registers store (deed ∷ deeds) h all reads =
     let is = h.0.deed_is in
-    let here : ReadsOn store deeds (deed_of number (Some (Write item expr)) deed.value) = subst (ReadsOn store deeds) is reads in
+    let here : ReadsOn store deeds (deed_asked number (Some (Write item expr)) deed.value) = subst (ReadsOn store deeds) is reads in
     let later : deeds ≡ deeds_from (number + 1) queries registers (slice_set store item.0 deed.value) = run_from (number + 1) queries registers (slice_set store item.0 deed.value) deeds h.1 (omega (arith, all)) here.1 in
     ap (λ (first : Deed). first ∷ deeds) is
-    ∙ (ap (λ (rest : List Deed). deed_of number (Some (Write item expr)) deed.value ∷ rest) later
-    ∙ ap (λ (value : ℤ). deed_of number (Some (Write item expr)) value ∷ deeds_from (number + 1) queries registers (slice_set store item.0 value)) h.0.value_is)
+    ∙ (ap (λ (rest : List Deed). deed_asked number (Some (Write item expr)) deed.value ∷ rest) later
+    ∙ ap (λ (value : ℤ). deed_asked number (Some (Write item expr)) value ∷ deeds_from (number + 1) queries registers (slice_set store item.0 value)) h.0.value_is)
 
 -- deeds of all queries whose reads are those of a store are the transaction's run by itself on that store
 pub run_is : (txn : Transaction) (store : List ℤ) (deeds : List Deed) → RunsSoFar txn deeds → length deeds ≡ length txn.queries → ReadsFrom store deeds → deeds ≡ serial_run txn store

@@ -1,27 +1,26 @@
--- What trust takes from the form that is built: a transaction has one query, and a deferred commit reads no master. Here alone the
+-- What trust takes from the form that is built: a deferred commit reads no master. Here alone the
 -- proofs of trust lean on that form.
-use Rattle.std.proofs.lemmas.Bool.{and_parts, eqb-true}
-use Rattle.std.proofs.Common.{◌≡◌, ℕ, zero, suc, ◌<◌, ◌==◌, ◌&&◌, ◌||◌, List, [], ◌∷◌, length, not, Bool, true, false, slice_get, Option, Some, None, option_map, unwrap_or, refl, sym, ap, subst, ◌∙◌, arith}
+use Rattle.std.specs.Cmp.Lexicographic.{pointwise}
 use Rattle.std.specs.List.{list_any}
 use Rattle.std.specs.Option.{option_map_or}
-use Rattle.std.specs.Cmp.Lexicographic.{pointwise}
-use Rattle.tp_model.specs.Words.{Admin, AdminId, Item, Level, Query, Scenario, Scheme, ServerDecl, Transaction, Version}
-use Rattle.tp_model.specs.Words.scheme
-use Rattle.tp_types.specs.declared.scenario.Level.TheVariants.{View, Global}
+use Rattle.std.proofs.Common.{Bool, List, None, Option, Some, [], ap, arith, false, length, not, option_map, refl, slice_get, subst, suc, sym, true, unwrap_or, zero, ℕ, ◌&&◌, ◌<◌, ◌==◌, ◌||◌, ◌∙◌, ◌∷◌, ◌≡◌}
+use Rattle.std.proofs.lemmas.Bool.{and_parts, eqb-true}
+use Rattle.tp_types.specs.declared.scenario.Level.TheVariants.{Global, View}
+use Rattle.tp_model.proofs.FirstForm.{is_first_query}
 use Rattle.tp_model.specs.Built.{is_built}
+use Rattle.tp_model.specs.Levels.{is_global, is_global_item, is_global_query, level_of, reads_master}
 use Rattle.tp_model.specs.Queries.{item_of}
 use Rattle.tp_model.specs.Stage.{is_deferred, is_empty, is_open_policy, is_single, is_view}
-use Rattle.tp_model.proofs.FirstForm.{is_first_query, single_length}
-use Rattle.tp_model.specs.Levels.{is_global, is_global_item, is_global_query, level_of, reads_master}
 use Rattle.tp_model.specs.Versions.{opening_of}
-use Rattle.tp_machine.specs.Sound.{Each, IsAdmin}
+use Rattle.tp_model.specs.Words.scheme
+use Rattle.tp_model.specs.Words.{Admin, AdminId, Item, Level, Query, Scenario, Scheme, ServerDecl, Transaction, Version}
 use Rattle.tp_machine.proofs.ids.Built.{HasForm, IsOnly, count_of, each_of_one, has_form, second_and_last, single_is}
+use Rattle.tp_machine.specs.Sound.{Each, IsAdmin}
 
 -- ---- the form
 
--- a transaction has one query, is deferred and reads no master; and what servers know at first is not newer than the opening versions
+-- a transaction is deferred and reads no master; and what servers know at first is not newer than the opening versions
 pub record IsFirstForm (sc : Scenario) : Type 0 where
-  pub one_query : Each (λ (txn : Transaction). length txn.queries ≡ 1) sc.txns
   pub deferred : Each (λ (txn : Transaction). txn.scheme ≡ scheme.Deferred) sc.txns
   pub levels : Each (λ (t : Transaction). (admin : AdminId) → is_global (level_of t admin) ≡ false) sc.txns
   pub view : Each (λ (txn : Transaction). reads_master sc txn ≡ false) sc.txns
@@ -85,7 +84,6 @@ first_form sc built =
     (is_single (is_first_query form.item) txn.queries) form.txn_fits in
     let server_parts = and_parts (is_single (λ (version : Version). version.0 == 1) form.server.knows) _ form.server_fits in
     record {
-      one_query = each_of_one (λ (t : Transaction). length t.queries ≡ 1) sc.txns txn form.txns_are (single_length (is_first_query form.item) txn.queries parts.1);
       deferred = each_of_one (λ (t : Transaction). t.scheme ≡ scheme.Deferred) sc.txns txn form.txns_are (deferred_is txn.scheme parts.0);
       levels = each_of_one (λ (t : Transaction). (admin : AdminId) → is_global (level_of t admin) ≡ false) sc.txns txn form.txns_are (λ admin. view_not_global txn.level view_is);
       view = each_of_one (λ (t : Transaction). reads_master sc t ≡ false) sc.txns txn form.txns_are (view_reads_none sc txn (view_not_global txn.level view_is));

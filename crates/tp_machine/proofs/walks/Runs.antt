@@ -55,7 +55,7 @@ holds_next sc m taken built exists allowed h =
       ages = ages_next sc m taken exists allowed h.sound h.agrees h.ages;
       lone = lone_next sc m taken exists allowed h.agrees.coordinator_count h.agrees.past h.lone;
       outside = outside_next sc m taken exists allowed h.agrees.coordinator_count h.agrees.past h.outside;
-      trusts = trusts_next sc m taken built exists allowed h.sound h.agrees h.trusts;
+      trusts = trusts_next sc m taken built exists allowed h.sound h.agrees h.pairs h.trusts;
       pairs = pairs_next sc m taken built exists allowed h.sound h.agrees h.epochs h.trusts h.pairs;
       serial = serial_next sc m taken built exists allowed h.sound h.agrees h.pairs h.serial;
     }

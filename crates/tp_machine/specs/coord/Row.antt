@@ -4,8 +4,7 @@ use Rattle.std.specs.List.{find, list_all, list_any}
 use Rattle.std.specs.Prelude.{Bool, List, None, Option, Some, [], false, filter, if◌then◌else◌, is_none, is_some, map, min, nat_lt, not, option_and_then, option_map, slice_get, slice_set, true, unwrap_or, ℕ, ℤ, ◌&&◌, ◌++◌, ◌+◌, ◌-◌, ◌==◌, ◌^◌, ◌∷◌}
 use Rattle.tp_types.specs.Effect.{Effect, ignores, logs, sends, unbuilt}
 use Rattle.tp_types.specs.Table.{flattened}
-use Rattle.tp_model.specs.Words.{Actor, Answer, Body, Cause, CommitRecord, Decision, Deed, Denied, DoneReply, Instance, Item, ItemId, Letter, Mail, Outcome, Query, Scenario, ServerId, Staple, TellReply, Transaction, Verdict, Vote, VoteReply}
-use Rattle.tp_model.specs.Words.action
+use Rattle.tp_model.specs.Words.{Actor, Answer, Body, Cause, CommitRecord, Decision, Denied, DoneReply, Instance, Item, ItemId, Letter, Mail, Outcome, Query, Scenario, ServerId, Staple, TellReply, Transaction, Verdict, Vote, VoteReply}
 use Rattle.tp_model.specs.Words.actor
 use Rattle.tp_model.specs.Words.answer
 use Rattle.tp_model.specs.Words.body
@@ -16,6 +15,7 @@ use Rattle.tp_types.specs.declared.records.Outcome.TheVariants.{Abort, Commit}
 use Rattle.tp_model.specs.Words.cause
 use Rattle.tp_model.specs.Queries.{item_of, query_at, written_constant}
 use Rattle.tp_model.specs.Stage.{is_empty}
+use Rattle.tp_machine.specs.Runs.{deed_of}
 use Rattle.tp_machine.specs.coord.State.{Coordinator}
 use Rattle.tp_machine.specs.declared.coord.Phase.TheVariants as phase
 use Rattle.tp_machine.specs.declared.coord.Phase.{Phase}
@@ -98,14 +98,6 @@ asks c =
       to = actor.Authority;
       body = body.Ask (record { txn = c.txn; turn = next_turn c });
     } ∷ [])
-
-abbrev pub deed_of : ℕ → Query → ℤ → Deed
-deed_of number query value = record {
-  query = number;
-  item = item_of query;
-  action = action.Write;
-  value = value;
-}
 
 -- a coordinator with the deed of a query that ran, and the epoch of its server
 abbrev pub with_deed : Coordinator → ServerId → DoneReply → Query → ℤ → Coordinator

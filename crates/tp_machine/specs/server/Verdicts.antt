@@ -2,6 +2,7 @@
 use Rattle.std.specs.Prelude.{◌≡◌, ◌<◌, ◌^◌, List, Some, length, map, option_map, slice_get, unwrap_or}
 use Rattle.tp_model.specs.Authorisation.{policy_at}
 use Rattle.tp_model.specs.Words.{AdminId, Deed, Item, ItemId, Policy, Scenario, Staple, Transaction, Verdict, Version}
+use Rattle.tp_store.specs.Rule.{newest_in}
 use Rattle.tp_machine.specs.Evaluation.{evaluation}
 use Rattle.tp_machine.specs.server.State.{Server}
 
@@ -10,9 +11,9 @@ abbrev pub admin_of : Scenario → ItemId → AdminId
 admin_of sc item =
     unwrap_or (option_map (λ (i : Item). i.admin) (slice_get sc.items item.0)) (record { 0 = 0 })
 
--- the version that the server knows of an administrator; the first where there is no such administrator
+-- the version that the server knows of an administrator
 abbrev pub version_known : Server → AdminId → Version
-version_known s admin = unwrap_or (slice_get s.known admin.0) (record { 0 = 1 })
+version_known s admin = newest_in s.store admin
 
 -- the verdict on a deed of the transaction: that of the version which the server knows of the administrator of its item, at the clock
 -- and the revocations of the staple
