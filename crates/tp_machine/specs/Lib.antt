@@ -6,6 +6,7 @@ pub mod Parts
 pub mod Runs
 pub mod Seen
 pub mod Sound
+pub mod Sums
 pub mod coord
 pub mod mirrors
 pub mod server

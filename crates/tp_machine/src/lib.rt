@@ -13,6 +13,7 @@ mod part;
 mod runs;
 pub mod serial;
 mod server;
+mod sums;
 mod verdicts;
 pub mod views;
 mod world;

@@ -1,34 +1,46 @@
 -- Provisional: that the one run of a built scenario ends with all decided and settled, by walking its nine automatic steps. The rule of
 -- timers will replace it. Nothing about proofs, agreement or data rests on it.
-use Rattle.std.proofs.Common.{◌≡◌, ℕ, ◌&&◌, List, [], ◌∷◌, Bool, true, Option, Some, None, unwrap_or, option_map, not, cond, ℤ, refl, sym, ap, subst, ◌∙◌}
-use Rattle.std.proofs.lemmas.Bool.{and_parts}
-use Rattle.tp_model.specs.Words.{AdminId, Body, Mail, Policy, PrepareRequest, Scenario, ServerId, Staple, TxnId, Version}
-use Rattle.tp_model.specs.Words.action
-use Rattle.tp_model.specs.Words.body
-use Rattle.tp_model.specs.Words.step
+use Rattle.tp_model.specs.SerialRun.{cleared_registers}
+use Rattle.tp_machine.proofs.serial_data.Reads.{valid_queries}
+use Rattle.std.proofs.Math.IntN.{+ℤ_idl}
+use Rattle.tp_machine.proofs.ids.Valid.{valid_built}
+use Rattle.std.specs.List.{AllByRecursion}
 use Rattle.std.specs.Prelude.{slice_get}
+use Rattle.std.proofs.Common.{Bool, List, None, Option, Some, [], ap, arith, cond, not, option_map, pos, refl, subst, sym, true, unwrap_or, ℕ, ℤ, ◌^◌, ◌∙◌, ◌∷◌, ◌≡◌}
+use Rattle.std.proofs.lemmas.Bool.{and_parts}
+use Rattle.std.proofs.lemmas.Int.{ints}
+use Rattle.std.proofs.lemmas.List.Elements.{All-replicate, recursion_from_All}
+use Rattle.tp_types.specs.Effect.{Effect}
+use Rattle.tp_types.specs.declared.scenario.Operand.TheVariants.{Constant}
+use Rattle.tp_model.proofs.FirstForm.{is_first_admin}
+use Rattle.tp_model.proofs.RunBounds.{IsWithin}
 use Rattle.tp_model.specs.Authorisation.{policy_at}
 use Rattle.tp_model.specs.Built.{is_built}
 use Rattle.tp_model.specs.Limits.{is_between}
 use Rattle.tp_model.specs.Stage.{is_open_policy, is_single}
 use Rattle.tp_model.specs.TrustedHistory.{have_ended}
-use Rattle.tp_model.proofs.FirstForm.{is_first_admin}
+use Rattle.tp_model.specs.Valid.{is_item, is_valid_query, is_valid_sum, is_valid_txn}
+use Rattle.tp_model.specs.Words.action
+use Rattle.tp_model.specs.Words.body
+use Rattle.tp_model.specs.Words.step
+use Rattle.tp_model.specs.Words.{AdminId, Body, Mail, Policy, PrepareRequest, Scenario, ServerId, Staple, Term, TxnId, Version}
 use Rattle.tp_eval.specs.declared.policies.Certificate.{Certificate}
+use Rattle.tp_machine.proofs.ids.Built.{IsOnly, single_is}
+use Rattle.tp_machine.proofs.serial_data.Clamped.{clamped_is}
 use Rattle.tp_machine.specs.Evaluation.{certificate_of_version, verdict_of}
-use Rattle.tp_machine.specs.Parts.{Part}
-use Rattle.tp_machine.specs.declared.server.Entry.{Entry}
-use Rattle.tp_machine.specs.server.State.{Server}
-use Rattle.tp_types.specs.Effect.{Effect}
-use Rattle.tp_store.specs.Rule.{first_outside_in, query_and_value, writes_of}
-use Rattle.tp_store.specs.Writes.{first_of}
 use Rattle.tp_machine.specs.Machine.{Machine, acts_by, after_steps, opening, server_fact, server_move, state_after, with_new, without_number}
+use Rattle.tp_machine.specs.Parts.{Part}
+use Rattle.tp_machine.specs.Sums.{clamped_sum}
+use Rattle.tp_machine.specs.declared.server.Entry.{Entry}
 use Rattle.tp_machine.specs.server.Opened as server
 use Rattle.tp_machine.specs.server.Row.{entry_at, votes, votes_in_range}
+use Rattle.tp_machine.specs.server.State.{Server}
+use Rattle.tp_store.specs.Rule.{first_outside_in, query_and_value, writes_of}
+use Rattle.tp_store.specs.Writes.{first_of}
+use Rattle.tp_top.proofs.FirstForm.{HasLeaves, Leaves, has_leaves, query_of_leaves, scenario_of, txn_of_leaves, written}
+use Rattle.tp_top.proofs.OpenPolicy.{open_certificate}
 use Rattle.tp_top.specs.Auto.{automatic_from}
 use Rattle.tp_top.specs.Run.{final}
-use Rattle.tp_machine.proofs.ids.Built.{IsOnly, single_is}
-use Rattle.tp_top.proofs.FirstForm.{HasLeaves, Leaves, has_leaves, scenario_of, txn_of_leaves, written}
-use Rattle.tp_top.proofs.OpenPolicy.{open_certificate}
 
 -- ---- unrolling
 
@@ -109,7 +121,14 @@ voting l outside = votes_in_range (scenario_of l) (server_asked l) (request_aske
 sixth : (l : Leaves) → settled_by (scenario_of l) 3711 (asked l) ≡ settled_by (scenario_of l) 3710 (after_act l (voting l (first_outside_in (server_asked l).store the_txn)))
 sixth l = refl
 
-may_vote : (l : Leaves) → is_between l.min l.max (written l) ≡ true → first_outside_in (server_asked l).store the_txn ≡ None
+-- the value that the server is asked to write
+abbrev terms_of : Leaves → List Term
+terms_of l = record { minus = l.minus; operand = Constant l.constant } ∷ []
+
+abbrev value_asked : Leaves → ℤ
+value_asked l = clamped_sum cleared_registers (terms_of l)
+
+may_vote : (l : Leaves) → is_between l.min l.max (value_asked l) ≡ true → first_outside_in (server_asked l).store the_txn ≡ None
 may_vote l e = ap (λ (b : Bool). option_map query_and_value (first_of (cond (not b) (writes_of (server_asked l).store the_txn) []))) e
 
 -- its one policy gives its first rule
@@ -124,7 +143,7 @@ answered l opened =
 abbrev vote_of : Leaves → Effect Server
 vote_of l = vote_by l (Some (record { rule = 1; uses = [] }))
 
-voted : (l : Leaves) → is_first_admin l.admin ≡ true → is_between l.min l.max (written l) ≡ true → final (scenario_of l) ≡ settled_by (scenario_of l) 3710 (after_act l (vote_of l))
+voted : (l : Leaves) → is_first_admin l.admin ≡ true → is_between l.min l.max (value_asked l) ≡ true → final (scenario_of l) ≡ settled_by (scenario_of l) 3710 (after_act l (vote_of l))
 voted l opened e =
     first_five l
     ∙ (sixth l
@@ -133,11 +152,27 @@ voted l opened e =
 
 -- ---- the end
 
-leaves_end : (l : Leaves) → is_first_admin l.admin ≡ true → is_between l.min l.max (written l) ≡ true → have_ended (scenario_of l) (final (scenario_of l)).state.facts 0 (scenario_of l).txns ≡ true
+leaves_end : (l : Leaves) → is_first_admin l.admin ≡ true → is_between l.min l.max (value_asked l) ≡ true → have_ended (scenario_of l) (final (scenario_of l)).state.facts 0 (scenario_of l).txns ≡ true
 leaves_end l opened e = ap (λ (m : Machine). have_ended (scenario_of l) m.state.facts 0 (scenario_of l).txns) (voted l opened e)
+
+-- the one sum is of the scenario's own constant, which an i128 holds
+terms_valid : (l : Leaves) → is_built (scenario_of l) ≡ true → is_valid_sum (terms_of l) ≡ true
+terms_valid l built =
+    let valid : is_valid_txn (scenario_of l) (txn_of_leaves l) ≡ true = (valid_built (scenario_of l) built).txns.0 in
+    let queries = valid_queries (scenario_of l) (txn_of_leaves l) valid in
+    (and_parts (is_item (scenario_of l) (record { 0 = 0 })) (is_valid_sum (terms_of l)) (and_parts (is_valid_query (scenario_of l) (query_of_leaves l)) true queries).0).1
+
+cleared_within : AllByRecursion (IsWithin (10 ^ 15)) cleared_registers
+cleared_within = recursion_from_All (IsWithin (10 ^ 15)) cleared_registers (All-replicate (IsWithin (10 ^ 15)) 10 (pos 0) (record { low = omega (arith, ints); high = omega (arith, ints) }))
+
+asked_is_written : (l : Leaves) → is_built (scenario_of l) ≡ true → value_asked l ≡ written l
+asked_is_written l built = clamped_is (10 ^ 15) cleared_registers (terms_of l) (omega arith) (omega arith) (terms_valid l built) cleared_within ∙ +ℤ_idl (written l)
 
 -- the one run of a built scenario ends with its transaction decided and settled
 pub first_run_ends : (sc : Scenario) → is_built sc ≡ true → have_ended sc (final sc).state.facts 0 sc.txns ≡ true
 first_run_ends sc built =
     let h : HasLeaves sc = has_leaves sc built in
-    subst (λ (x : Scenario). have_ended x (final x).state.facts 0 x.txns ≡ true) (sym h.shape) (leaves_end h.leaves h.opened h.in_range)
+    let l = h.leaves in
+    let exact : value_asked l ≡ written l = asked_is_written l (subst (λ (x : Scenario). is_built x ≡ true) h.shape built) in
+    subst (λ (x : Scenario). have_ended x (final x).state.facts 0 x.txns ≡ true) (sym h.shape)
+    (leaves_end l h.opened (subst (λ (value : ℤ). is_between l.min l.max value ≡ true) (sym exact) h.in_range))

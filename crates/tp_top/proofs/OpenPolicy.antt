@@ -1,6 +1,6 @@
 -- The one policy text that is built: on every query its certificate is its first rule, and no credential.
 use Rattle.std.proofs.lemmas.Bool.{and_from}
-use Rattle.std.proofs.Common.{◌≡◌, ℕ, ◌&&◌, List, [], ◌∷◌, Bool, true, false, Option, Some, None, is_none, option_map, if◌then◌else◌, refl, ap, ◌∙◌, arith}
+use Rattle.std.proofs.Common.{◌≡◌, ℕ, ◌&&◌, List, [], Bool, true, false, Option, Some, None, is_none, option_map, if◌then◌else◌, refl, ap, ◌∙◌, arith}
 use Rattle.std.specs.Option.{option_map_or, option_or}
 use Rattle.tp_types.proofs.ListLemmas.{three_parts}
 use Rattle.tp_model.specs.Words.{Action, Cond, CredId, Credential, Pattern, Policy, Rule}
@@ -11,7 +11,6 @@ use Rattle.tp_types.specs.declared.policy.Pattern.TheVariants.{All, Exact, Prefi
 use Rattle.tp_model.specs.Credentials.{is_valid_in, said_in}
 use Rattle.tp_model.specs.Policies.{Triple, is_about_action, is_about_item}
 use Rattle.tp_model.specs.Stage.{allows_all, is_all, is_open_policy, is_true_cond, is_true_shape}
-use Rattle.tp_eval.specs.declared.policies.Certificate.{Certificate}
 use Rattle.tp_eval.specs.Taken.{certificate, certificate_of, first_certificate, level, taken, taken_by_rule}
 use Rattle.tp_machine.proofs.ids.Built.{IsOnly, single_is}
 

@@ -3,12 +3,23 @@ use Rattle.std.proofs.Common.{IfSome, List, None, Option, Some, [], ap, arith, f
 use Rattle.std.proofs.lemmas.List.FromFn.{length-map-range_with_len}
 use Rattle.tp_types.specs.Table.{flattened}
 use Rattle.tp_model.specs.Built.{is_built}
-use Rattle.tp_model.specs.Words.{Actor, Body, CredId, Decision, Mail, Scenario, ServerId, Settled, Step, TxnId, Vote, What}
 use Rattle.tp_model.specs.Words.actor
 use Rattle.tp_model.specs.Words.body
 use Rattle.tp_model.specs.Words.step
 use Rattle.tp_model.specs.Words.vote
 use Rattle.tp_model.specs.Words.what
+use Rattle.tp_model.specs.Words.{Actor, Body, CredId, Decision, Mail, Scenario, ServerId, Settled, Step, TxnId, Vote, What}
+use Rattle.tp_machine.proofs.agreement.Coordinator.{CoordinatorLawful, Keeps, ReplyRests, SubmissionLawful, YesRests, coordinator_row_lawful, submit_row_lawful}
+use Rattle.tp_machine.proofs.agreement.CoordinatorActs.{coordinator_acts_agrees, receipt_acts, submission_acts}
+use Rattle.tp_machine.proofs.agreement.Logs.{DecidedAs, IsAsked, IsPrepared, IsSettled, outcome_settled, submitted_count, submitted_up}
+use Rattle.tp_machine.proofs.agreement.Server.{IsUnsettled, LetterKept, RequestRests, ServerAgrees, ServerLawful, cast_in, server_row_lawful}
+use Rattle.tp_machine.proofs.agreement.ServerActs.{SaysOnly, server_acts_agrees, unmoved_agrees}
+use Rattle.tp_machine.proofs.agreement.World.{Agrees, BodyRests, CoordinatorUpAgrees, DecidedServed, LetterRests, MailRests, MoveAgrees, VoteRests, state_after_agrees}
+use Rattle.tp_machine.proofs.basics.Homes.{first_row_begins}
+use Rattle.tp_machine.proofs.basics.Lists.{at_made, each_get, placed_none}
+use Rattle.tp_machine.proofs.basics.Logs.{listed}
+use Rattle.tp_machine.proofs.ids.Queries.{homes_built}
+use Rattle.tp_machine.proofs.walks.Steps.{Cases, IsCoordinatorUp, IsServerUp, SaysIdle, WasSent, machine_after_by}
 use Rattle.tp_machine.specs.Logs.{decided_at, decided_by, decided_in, settled_by, settled_in}
 use Rattle.tp_machine.specs.Machine.{Machine, State, acts_by, coordinator_fact, coordinator_move, idle_move, is_part_submitted, log_with, machine_after, opened_actors, opened_part, opening_state, refusal, server_fact, server_move, with_age}
 use Rattle.tp_machine.specs.Parts.{Part}
@@ -17,23 +28,13 @@ use Rattle.tp_machine.specs.coord.Opened as coord
 use Rattle.tp_machine.specs.coord.Row.{coordinator_row, submit_row}
 use Rattle.tp_machine.specs.coord.State.{Coordinator}
 use Rattle.tp_machine.specs.declared.actors.Actors.{Actors}
-use Rattle.tp_offices.specs.Authority as office
-use Rattle.tp_offices.specs.declared.authority.Authority.{Authority}
-use Rattle.tp_offices.specs.declared.master.Master.{Master}
-use Rattle.tp_offices.specs.Master as master
 use Rattle.tp_machine.specs.server.Opened as server
 use Rattle.tp_machine.specs.server.Row.{server_row}
 use Rattle.tp_machine.specs.server.State.{Server}
-use Rattle.tp_machine.proofs.agreement.ServerActs.{SaysOnly, server_acts_agrees, unmoved_agrees}
-use Rattle.tp_machine.proofs.agreement.Coordinator.{CoordinatorLawful, Keeps, ReplyRests, SubmissionLawful, YesRests, coordinator_row_lawful, submit_row_lawful}
-use Rattle.tp_machine.proofs.agreement.CoordinatorActs.{coordinator_acts_agrees, receipt_acts, submission_acts}
-use Rattle.tp_machine.proofs.agreement.Logs.{DecidedAs, IsAsked, IsPrepared, IsSettled, outcome_settled, submitted_count, submitted_up}
-use Rattle.tp_machine.proofs.agreement.Server.{IsUnsettled, LetterKept, RequestRests, ServerAgrees, ServerLawful, cast_in, server_row_lawful}
-use Rattle.tp_machine.proofs.agreement.World.{Agrees, BodyRests, CoordinatorUpAgrees, DecidedServed, LetterRests, MailRests, MoveAgrees, VoteRests, state_after_agrees}
-use Rattle.tp_machine.proofs.walks.Steps.{Cases, IsCoordinatorUp, IsServerUp, SaysIdle, WasSent, machine_after_by}
-use Rattle.tp_machine.proofs.basics.Logs.{listed}
-use Rattle.tp_machine.proofs.serial_data.Built.{first_row_begins}
-use Rattle.tp_machine.proofs.basics.Lists.{at_made, each_get, placed_none}
+use Rattle.tp_offices.specs.Authority as office
+use Rattle.tp_offices.specs.Master as master
+use Rattle.tp_offices.specs.declared.authority.Authority.{Authority}
+use Rattle.tp_offices.specs.declared.master.Master.{Master}
 
 -- ---- what a step says by itself
 
@@ -145,7 +146,7 @@ pub begun_lawful : (sc : Scenario) (w : State) → is_built sc ≡ true → IsSo
     → is_part_submitted (Some c) ≡ false → SubmissionLawful sc (IsPrepared w.actors.servers txn) (IsSettled w.actors.servers txn) c part.log (with_age (submit_row sc c) (length w.steps))
 begun_lawful sc w built sound h txn part c exists up new =
     submit_row_lawful sc (IsPrepared w.actors.servers txn) (IsSettled w.actors.servers txn) c part.log (length w.steps) (coordinator_agrees sc w txn part c h up) new
-    (first_row_begins sc c built (subst (IsTxn sc) (sym (own_txn sc w txn part c sound up.found up.up)) exists))
+    (first_row_begins sc c (homes_built sc built) (subst (IsTxn sc) (sym (own_txn sc w txn part c sound up.found up.up)) exists))
 
 begun_agrees : (sc : Scenario) (w : State) → is_built sc ≡ true → IsSound sc w → Agrees sc w → (txn : TxnId) (part : Part Coordinator) (c : Coordinator) → IsTxn sc txn → IsCoordinatorUp w txn part c
     → is_part_submitted (Some c) ≡ false

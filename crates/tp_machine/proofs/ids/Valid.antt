@@ -5,8 +5,8 @@ use Rattle.std.proofs.lemmas.Bool.{and_parts}
 use Rattle.std.specs.List.{list_all}
 use Rattle.tp_model.proofs.RuleLemmas as rules
 use Rattle.tp_model.specs.Built.{is_built}
-use Rattle.tp_model.specs.Limits.{has_count, is_from_to}
-use Rattle.tp_model.specs.Valid.{are_by_server, are_distinct, are_known, are_valid_from, has_valid_creds, has_valid_range, is_admin, is_cred, is_known, is_server, is_valid_admin, is_valid_item, is_valid_policy, is_valid_server, is_valid_txn, owned_from, same_admin_name, same_item_name, same_server_name, same_txn_name}
+use Rattle.tp_model.specs.Limits.{has_count, is_between, is_from_to, is_value}
+use Rattle.tp_model.specs.Valid.{are_by_server, are_distinct, are_known, are_valid_from, has_valid_bounds, has_valid_creds, has_valid_range, is_admin, is_cred, is_known, is_server, is_valid_admin, is_valid_item, is_valid_policy, is_valid_server, is_valid_txn, owned_from, same_admin_name, same_item_name, same_server_name, same_txn_name}
 use Rattle.tp_model.specs.Authorisation.{version_in, version_of}
 use Rattle.tp_model.specs.Ids.{same_cred, same_item}
 use Rattle.std.specs.Cmp.Lexicographic.{pointwise}
@@ -20,13 +20,16 @@ use Rattle.tp_machine.proofs.ids.Built.{deferred_built}
 
 -- ---- what is taken
 
--- the item's server and administrator exist
+-- the item's server and administrator exist, and its bounds are values
 pub record IsValidItem (sc : Scenario) (item : Item) : Type 0 where
   pub server : IsServer sc item.server
   pub admin : IsAdmin sc item.admin
+  pub min : is_value item.min ≡ true
+  pub max : is_value item.max ≡ true
 
--- what the scenario names exists; no query is proved as it runs, which goes when schemes are built
+-- what the scenario names exists, and each transaction is valid; no query is proved as it runs, which goes when schemes are built
 pub record IsValid (sc : Scenario) : Type 0 where
+  pub txns : Each (λ (declared : Transaction). is_valid_txn sc declared ≡ true) sc.txns
   pub creds : Each (λ (declared : Transaction). AreCreds sc declared.creds) sc.txns
   pub items : Each (IsValidItem sc) sc.items
   pub servers : Each (λ (declared : ServerDecl). AreVersions sc declared.knows) sc.servers
@@ -52,7 +55,8 @@ three a b c e = let outer = and_parts (a && b) c e in let inner = and_parts a b 
 item_valid : (sc : Scenario) (item : Item) → is_valid_item sc item ≡ true → IsValidItem sc item
 item_valid sc item e =
     let parts = three (is_server sc item.server) (is_admin sc item.admin) (has_valid_range item) e in
-    record { server = less item.server.0 (length sc.servers) parts.0; admin = less item.admin.0 (length sc.admins) parts.1 }
+    let bounds = and_parts (is_value item.min) (is_value item.max) (and_parts (has_valid_bounds item) (is_between item.min item.max item.value) parts.2).0 in
+    record { server = less item.server.0 (length sc.servers) parts.0; admin = less item.admin.0 (length sc.admins) parts.1; min = bounds.0; max = bounds.1 }
 
 opening_valid : (admin : Admin) → is_valid_admin admin ≡ true → IsVersionOf admin admin.opening
 opening_valid admin e =
@@ -125,6 +129,7 @@ valid_built sc built =
     let txns = three (has_count 0 128 sc.txns) (list_all (is_valid_txn sc) sc.txns) (are_distinct same_txn_name sc.txns) kept.txns in
     let items = three (list_all (is_valid_item sc) sc.items) (are_by_server 0 sc.items) (are_distinct same_item_name sc.items) kept.items in
     record {
+      txns = each_from_all (is_valid_txn sc) sc.txns txns.1;
       creds = each_as (λ (txn : Transaction). is_valid_txn sc txn ≡ true) (λ (txn : Transaction). AreCreds sc txn.creds) (creds_valid sc) sc.txns (each_from_all (is_valid_txn sc) sc.txns txns.1);
       items = each_as (λ (item : Item). is_valid_item sc item ≡ true) (IsValidItem sc) (item_valid sc) sc.items (each_from_all (is_valid_item sc) sc.items items.0);
       servers = servers_valid sc 0 sc.servers opening servers.1;

@@ -1,4 +1,5 @@
 -- Deeds and epochs, the server's rows: each is an event at its own transaction, and nothing at the others.
+use Rattle.tp_machine.specs.Sums.{registers_after, sum_asked}
 use Rattle.std.specs.Option.{option_map_or}
 use Rattle.std.proofs.Common.{Bool, IfSome, List, None, Option, Some, [], ap, arith, false, find, if◌then◌else◌, is_some, length, not, option_and_then, refl, slice_get, slice_set, subst, sym, true, ℕ, ℤ, ⊎_elim, ◌++◌, ◌<◌, ◌==◌, ◌∙◌, ◌∷◌, ◌≡◌, ◌⊎◌}
 use Rattle.std.proofs.lemmas.Bool.{eqb-true, not-false}
@@ -10,7 +11,6 @@ use Rattle.tp_types.specs.Table.{flattened}
 use Rattle.tp_model.specs.Facts.{first_of}
 use Rattle.tp_model.specs.Ids.{same_txn}
 use Rattle.tp_model.specs.Queries.{query_at}
-use Rattle.tp_model.specs.SerialRun.{sum_in}
 use Rattle.tp_model.specs.Words.actor
 use Rattle.tp_model.specs.Words.body
 use Rattle.tp_model.specs.Words.log
@@ -35,12 +35,13 @@ use Rattle.tp_machine.proofs.pairs.Site.{Site}
 use Rattle.tp_machine.proofs.pairs.Votes as vote
 use Rattle.tp_machine.proofs.pairs.Votes.{IsVoteOn, forces, with_ballot}
 use Rattle.tp_machine.proofs.serial_data.Lists.{set_elsewhere}
-use Rattle.tp_machine.proofs.serial_data.Runs.{deed_asked, deed_at, registers_after, sum_asked}
+use Rattle.tp_machine.proofs.serial_data.Runs.{deed_asked, deed_at}
 use Rattle.tp_machine.proofs.walks.ServerRows.{IsFirstHere, IsFurther, server_by}
 use Rattle.tp_machine.specs.Logs.{epoch_in, preparation_in, prepared_in, settled_in, settlement_in, voted_in, while_unsettled}
 use Rattle.tp_machine.specs.Machine.{log_with}
 use Rattle.tp_machine.specs.Runs.{deed_of}
 use Rattle.tp_machine.specs.Sound.{Each, IsSoundBody, IsSoundDone, IsSoundQuery, IsSoundServer}
+use Rattle.tp_machine.specs.Sums.{clamped_sum, registers_after, sum_asked}
 use Rattle.tp_machine.specs.declared.server.Ballot.{Ballot}
 use Rattle.tp_machine.specs.declared.server.Entry.{Entry}
 use Rattle.tp_machine.specs.server.Row.{ack_letter, age_of, answer_to, answers, asked_query, casts, completes, done_reply, entry_after, entry_at, prepared_record, restarts, server_row, settled_as, settles, value_of_run}
@@ -241,7 +242,7 @@ value_asked s q run value declared deeds (Some (query.Read item into)) e is give
 value_asked s q run value declared deeds (Some (query.Write item expr)) e is gives asked =
     let same : query.Write item expr ≡ run = same_Some (query.Write item expr) run is in
     let write : q.value ≡ Some value = subst (λ (found : Query). value_of_run s q found ≡ Some value) (sym same) gives in
-    same_Some value (sum_in (registers_after declared deeds) expr) (sym write ∙ asked)
+    same_Some value (clamped_sum (registers_after declared deeds) expr) (sym write ∙ asked)
 
 -- what is known of a query that runs, beside its entry
 record IsRunOf (sc : Scenario) (s : Server) (q : QueryRequest) (query : Query) (value : ℤ) : Type 0 where

@@ -1,12 +1,16 @@
--- Ranges of items: deeds that leave each item which they write in its range leave a store in range.
-use Rattle.std.proofs.Common.{List, None, Option, Some, [], ap, is_some, refl, slice_get, subst, suc, sym, true, zero, ℕ, ℤ, ◌∷◌, ◌≡◌}
+-- Ranges of items: deeds that leave each item which they write in its range leave a store in range, and what is in range is within 10^15.
+use Rattle.std.proofs.Common.{List, None, Option, Some, [], ap, arith, is_some, length, refl, slice_get, subst, suc, sym, true, zero, ℕ, ℤ, ◌^◌, ◌∷◌, ◌≡◌}
 use Rattle.std.proofs.lemmas.Bool.{and_from, and_parts}
 use Rattle.std.proofs.lemmas.Option.{same_Some}
+use Rattle.std.specs.List.{AllByRecursion}
+use Rattle.tp_model.proofs.RunBounds.{IsWithin, between_within, value_within}
 use Rattle.tp_model.specs.Facts.{first_of}
 use Rattle.tp_model.specs.Limits.{is_between}
 use Rattle.tp_model.specs.SerialRun.{are_in_range, stored_all}
 use Rattle.tp_model.specs.Words.{Deed, Item, Scenario}
+use Rattle.tp_machine.proofs.ids.Valid.{IsValid, IsValidItem}
 use Rattle.tp_machine.proofs.serial_data.Stores.{last_write, stored_last}
+use Rattle.tp_machine.specs.Sound.{Each}
 
 -- what the deeds write last to each item is in the item's range
 abbrev pub AreTested : Scenario → List Deed → Type 0
@@ -53,3 +57,19 @@ stored_in_range sc store deeds tested range =
     let old : IsHeld item (slice_get store n) = range_at sc.items store n item range e in
     subst (IsHeld item) (sym (stored_last store deeds n (ap is_some old.found_is)))
     (held_after item n deeds (slice_get store n) (last_write n deeds) refl (λ v last. tested n item v e last) old))
+
+-- ---- limits
+
+items_within : (sc : Scenario) (items : List Item) (store : List ℤ) → Each (IsValidItem sc) items → length store ≡ length items → are_in_range items store ≡ true → AllByRecursion (IsWithin (10 ^ 15)) store
+items_within sc [] [] valid e range = tt
+items_within sc [] (value ∷ store) valid e range = absurd (omega (arith, e))
+items_within sc (item ∷ items) [] valid e range = absurd (cc)
+items_within sc (item ∷ items) (value ∷ store) valid e range =
+    let parts = and_parts (is_between item.min item.max value) (are_in_range items store) range in (
+      between_within (10 ^ 15) item.min item.max value (value_within item.min valid.0.min) (value_within item.max valid.0.max) parts.0,
+      items_within sc items store valid.1 (omega (arith, e)) parts.1,
+    )
+
+-- each value of a store in range is within 10^15
+pub store_within : (sc : Scenario) (store : List ℤ) → IsValid sc → length store ≡ length sc.items → are_in_range sc.items store ≡ true → AllByRecursion (IsWithin (10 ^ 15)) store
+store_within sc store valid e range = items_within sc sc.items store valid.items e range

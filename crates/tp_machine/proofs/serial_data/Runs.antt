@@ -1,40 +1,14 @@
 -- Deeds as a transaction's queries run one after the other: numbers, items, actions, and the sums that are written.
 use Rattle.std.specs.Option.{option_map_or}
-use Rattle.std.proofs.Common.{IfSome, List, None, Option, Some, [], ap, arith, length, option_and_then, refl, slice_get, slice_set, subst, suc, sym, take, zero, ℕ, ℤ, ◌++◌, ◌+◌, ◌∙◌, ◌∷◌, ◌≡◌}
+use Rattle.std.proofs.Common.{IfSome, List, None, Option, Some, [], ap, arith, length, option_and_then, refl, slice_get, subst, suc, sym, take, zero, ℕ, ℤ, ◌++◌, ◌+◌, ◌∙◌, ◌∷◌, ◌≡◌}
 use Rattle.std.proofs.lemmas.Option.{same_Some}
-use Rattle.tp_types.specs.declared.scenario.Query.TheVariants.{Read, Write}
 use Rattle.tp_model.specs.Authorisation.{action_of}
 use Rattle.tp_model.specs.Queries.{item_of, query_at}
-use Rattle.tp_model.specs.SerialRun.{cleared_registers, sum_in}
+use Rattle.tp_model.specs.SerialRun.{cleared_registers}
 use Rattle.tp_model.specs.Words.action
 use Rattle.tp_model.specs.Words.{Action, Deed, ItemId, Query, Transaction}
 use Rattle.tp_machine.specs.Sound.{Each}
-
--- ---- registers
-
--- the registers after a query with this value: a read keeps it
-abbrev pub registers_with : Query → ℤ → List ℤ → List ℤ
-registers_with (Read item into) value registers = slice_set registers into value
-registers_with (Write item expr) value registers = registers
-
--- the registers after the deeds of queries
-abbrev pub registers_from : List Query → List Deed → List ℤ → List ℤ
-registers_from [] deeds registers = registers
-registers_from (query ∷ queries) [] registers = registers
-registers_from (query ∷ queries) (deed ∷ deeds) registers = registers_from queries deeds (registers_with query deed.value registers)
-
--- the registers after a transaction's first deeds
-abbrev pub registers_after : Transaction → List Deed → List ℤ
-registers_after txn deeds = registers_from txn.queries deeds cleared_registers
-
--- the value that a query asks for: a write's sum
-abbrev pub sum_asked : List ℤ → Query → Option ℤ
-sum_asked registers (Read item into) = None
-sum_asked registers (Write item expr) = Some (sum_in registers expr)
-
--- the value that a query is asked with after these deeds: the sum where it writes
-abbrev pub asked_value : Transaction → List Deed → ℕ → Option ℤ
-asked_value txn deeds number = option_and_then (sum_asked (registers_after txn deeds)) (query_at txn number)
+use Rattle.tp_machine.specs.Sums.{asked_value, registers_after, registers_from, registers_with, sum_asked}
 
 -- ---- deeds
 

@@ -1,6 +1,6 @@
 -- Trust, step by step: it holds before the first step, and each step keeps it.
 use Rattle.std.specs.Option.{option_map_or}
-use Rattle.std.proofs.Common.{IfSome, List, None, Option, Some, [], arith, false, length, refl, slice_get, subst, suc, sym, true, unwrap_or, zero, ℕ, ℤ, ◌+◌, ◌==◌, ◌∙◌, ◌∷◌, ◌≡◌}
+use Rattle.std.proofs.Common.{IfSome, List, None, Option, Some, [], arith, false, length, refl, slice_get, subst, suc, sym, true, unwrap_or, zero, ℕ, ◌+◌, ◌==◌, ◌∙◌, ◌∷◌, ◌≡◌}
 use Rattle.std.proofs.lemmas.Bool.{or_left, or_right}
 use Rattle.std.proofs.lemmas.List.Folds.{list_any-append}
 use Rattle.std.proofs.lemmas.List.{length-replicate}
@@ -8,17 +8,18 @@ use Rattle.tp_types.proofs.ListLemmas.{number_itself}
 use Rattle.tp_model.proofs.RuleLemmas as rules
 use Rattle.tp_model.specs.Built.{is_built}
 use Rattle.tp_model.specs.Facts.{is_submission}
-use Rattle.tp_model.specs.Queries.{written_constant}
 use Rattle.tp_model.specs.Words.actor
 use Rattle.tp_model.specs.Words.body
 use Rattle.tp_model.specs.Words.step
 use Rattle.tp_model.specs.Words.what
-use Rattle.tp_model.specs.Words.{Actor, AdminId, Body, CredId, Fact, Mail, Query, Scenario, ServerDecl, ServerId, Step, TxnId, Version, What}
+use Rattle.tp_model.specs.Words.{Actor, AdminId, Body, CredId, Fact, Mail, Scenario, ServerDecl, ServerId, Step, TxnId, Version, What}
 use Rattle.tp_machine.proofs.agreement.CoordinatorActs.{coordinator_facts}
 use Rattle.tp_machine.proofs.agreement.Steps.{own_txn}
 use Rattle.tp_machine.proofs.agreement.World.{Agrees}
 use Rattle.tp_machine.proofs.basics.Facts.{ArePast}
+use Rattle.tp_machine.proofs.basics.Homes.{HaveHomes}
 use Rattle.tp_machine.proofs.basics.Lists.{at_made, each_get, placed_none}
+use Rattle.tp_machine.proofs.ids.Queries.{homes_built}
 use Rattle.tp_machine.proofs.ids.Valid.{IsValid, valid_built}
 use Rattle.tp_machine.proofs.pairs.Actors.{BodyPairs, LetterPairs, pair_at}
 use Rattle.tp_machine.proofs.pairs.World.{Pairs}
@@ -38,7 +39,7 @@ use Rattle.tp_machine.specs.Parts.{Part}
 use Rattle.tp_machine.specs.Sound.{Each, IsServer, IsSound, IsSoundBody, IsSoundLetter, IsSoundMail, IsSoundServerUp, IsStepOf}
 use Rattle.tp_machine.specs.coord.Opened as coord
 use Rattle.tp_machine.specs.coord.Opened.{idle}
-use Rattle.tp_machine.specs.coord.Row.{begins, coordinator_row, is_begun, query_of, sends_first, server_of, submit_row}
+use Rattle.tp_machine.specs.coord.Row.{begins, coordinator_row, home_of, is_begun, submit_row}
 use Rattle.tp_machine.specs.coord.State.{Coordinator}
 use Rattle.tp_machine.specs.declared.server.Entry.{Entry}
 use Rattle.tp_machine.specs.server.Opened as server
@@ -106,9 +107,9 @@ receipt_by_server sc w built valid sound past pairs h n mail at part s sent up =
 coordinator_fits : (sc : Scenario) (w : State) (txn : TxnId) (part : Part Coordinator) (c : Coordinator) → Trusts sc w → IsCoordinatorUp w txn part c → CoordinatorFits sc w.facts (length w.steps) c
 coordinator_fits sc w txn part c h up = subst (λ (u : Option Coordinator). IfSome u (CoordinatorFits sc w.facts (length w.steps))) up.up (h.coordinators txn.0 part up.found)
 
-receipt_by_coordinator : (sc : Scenario) (w : State) → AreFew sc → IsSound sc w → ArePast (length w.steps) w.facts → Trusts sc w → (n : ℕ) (mail : Mail) (txn : TxnId) (part : Part Coordinator) (c : Coordinator)
+receipt_by_coordinator : (sc : Scenario) (w : State) → AreFew sc → HaveHomes sc → IsSound sc w → ArePast (length w.steps) w.facts → Trusts sc w → (n : ℕ) (mail : Mail) (txn : TxnId) (part : Part Coordinator) (c : Coordinator)
     → WasSent w n mail (actor.Coordinator txn) → IsCoordinatorUp w txn part c → MoveTrusts sc w (coordinator_move w.actors txn (acts_by coordinator_fact [] part.log (coordinator_row sc c mail)))
-receipt_by_coordinator sc w few sound past h n mail txn part c sent up =
+receipt_by_coordinator sc w few homes sound past h n mail txn part c sent up =
     let place = length w.steps in
     let effect = coordinator_row sc c mail in
     let append = effect.reaction.append in
@@ -116,7 +117,7 @@ receipt_by_coordinator sc w few sound past h n mail txn part c sent up =
     let m = mail_trusted sc w n mail (actor.Coordinator txn) sound h sent in
     let same : c.txn ≡ txn = own_txn sc w txn part c sound up.found up.up in
     let row : CoordinatorTrusts sc w.facts place c.txn (Some c) (Some effect.state) append letters =
-    coordinator_row_trusts sc w.facts place c mail few (coordinator_fits sc w txn part c h up) (subst (λ (t : TxnId). IsSoundBody sc (actor.Coordinator t) mail.letter.body) (sym same) m.says) m.fits in
+    coordinator_row_trusts sc w.facts place c mail few homes (coordinator_fits sc w txn part c h up) (subst (λ (t : TxnId). IsSoundBody sc (actor.Coordinator t) mail.letter.body) (sym same) m.says) m.fits in
     coordinator_acts_trusts sc w txn part [] (Some effect.state) append letters past h up.found
     (act_trusts sc w txn part.up (Some effect.state) [] append letters (record { still = tt; fit = λ facts. tt })
     (subst (λ (was : Option Coordinator). CoordinatorTrusts sc w.facts place txn was (Some effect.state) append letters) (sym up.up)
@@ -130,13 +131,9 @@ now_submitted w txn more =
     list_any-append (is_submission txn) w.facts (facts_of (length w.steps) (what.Submitted txn ∷ more)) ∙ or_right _ _ (or_left (txn.0 == txn.0) _ (number_itself txn.0))
 
 -- a submission decides nothing
-begins_nothing : (sc : Scenario) (w : State) (c : Coordinator) (asked : Option Query) → IfSome (begins sc c asked).reaction.append (RecordDecides sc w.facts (length w.steps))
+begins_nothing : (sc : Scenario) (w : State) (c : Coordinator) (home : Option ServerId) → IfSome (begins sc c home).reaction.append (RecordDecides sc w.facts (length w.steps))
 begins_nothing sc w c None = tt
-begins_nothing sc w c (Some asked) = first (server_of sc asked) (written_constant asked)
-  where
-    first : (at : Option ServerId) (value : Option ℤ) → IfSome (sends_first c at value).reaction.append (RecordDecides sc w.facts (length w.steps))
-    first (Some at) (Some value) = tt
-    first _ _ = tt
+begins_nothing sc w c (Some at) = tt
 
 submission_fits : (sc : Scenario) (w : State) (txn : TxnId) (c : Coordinator) → c.txn ≡ txn → CoordinatorFits sc w.facts (length w.steps) c → is_begun c.phase ≡ false
     → ActTrusts sc w txn (Some c) (Some (with_age (submit_row sc c) (length w.steps)).state) (what.Submitted txn ∷ []) (submit_row sc c).reaction.append (submit_row sc c).reaction.letters
@@ -152,7 +149,7 @@ submission_fits sc w txn c same fits begun =
     record {
       says = record { still = (tt, tt); fit = λ facts. (tt, tt) };
       fits = λ facts e. (row facts e).fits;
-      decides = begins_nothing sc w c (query_of sc c 1);
+      decides = begins_nothing sc w c (home_of sc c 1);
       letters = λ facts e. (row facts e).says place;
       timely = subst (λ (u : TxnId). Each (LetterOfTurn sc u (Some effect.state) place) effect.reaction.letters) same ((row after refl).timely place);
       old = (row after refl).old;
@@ -175,7 +172,7 @@ trusts_cases sc w built valid few sound a pairs h =
     record {
       idle = idle_trusts sc w a.past h;
       server_received = λ n mail at part s sent up. receipt_by_server sc w built valid sound a.past pairs h n mail at part s sent up;
-      coordinator_received = λ n mail txn part c sent up. receipt_by_coordinator sc w few sound a.past h n mail txn part c sent up;
+      coordinator_received = λ n mail txn part c sent up. receipt_by_coordinator sc w few (homes_built sc built) sound a.past h n mail txn part c sent up;
       authority_told = λ n mail sent.
           let m = mail_trusted sc w n mail actor.Authority sound h sent in
           unmoved_trusts sc w [] (office.authority_row w.actors.authority mail).reaction.letters a.past h (record { still = tt; fit = λ facts. tt })

@@ -1,32 +1,33 @@
 -- All invariants together, after every list of steps that name what exists.
-use Rattle.std.proofs.Common.{◌≡◌, List, [], ◌∷◌, true, Option, Some, None, is_some, if◌then◌else◌, refl, sym, ap, subst, ◌∙◌}
-use Rattle.tp_model.specs.Words.{Fact, Scenario, Step}
+use Rattle.std.proofs.Common.{List, None, Option, Some, [], ap, if◌then◌else◌, is_some, refl, subst, sym, true, ◌∙◌, ◌∷◌, ◌≡◌}
 use Rattle.tp_model.specs.Agreement.{is_agreed}
 use Rattle.tp_model.specs.Built.{is_built}
 use Rattle.tp_model.specs.Causes.{is_caused}
-use Rattle.tp_model.specs.Outside.{IsOutside}
 use Rattle.tp_model.specs.Commits.{are_lone}
+use Rattle.tp_model.specs.Outside.{IsOutside}
 use Rattle.tp_model.specs.SerialRun.{is_serial}
 use Rattle.tp_model.specs.Trust.{is_trusted}
-use Rattle.tp_machine.specs.declared.error.StepError.{StepError}
-use Rattle.tp_machine.specs.Machine.{Machine, State, after, after_step, after_steps, machine_after, opening, opening_state, refusal}
-use Rattle.tp_machine.specs.Laws.{HasAllCommits, IsTrustedState}
-use Rattle.tp_machine.specs.Sound.{Each, IsSound, IsStepOf}
-use Rattle.tp_machine.proofs.agreement.World.{Agrees}
+use Rattle.tp_model.specs.Words.{Fact, Scenario, Step}
 use Rattle.tp_machine.proofs.ages.World.{Ages, ages_next, ages_opening}
 use Rattle.tp_machine.proofs.agreement.End.{facts_agreed}
 use Rattle.tp_machine.proofs.agreement.Steps.{agrees_next, agrees_opening}
+use Rattle.tp_machine.proofs.agreement.World.{Agrees}
 use Rattle.tp_machine.proofs.epochs.World.{Epochs, epochs_next, epochs_opening}
-use Rattle.tp_machine.proofs.serial_data.Lone.{AreLone, facts_lone, lone_next, lone_opening}
-use Rattle.tp_machine.proofs.pairs.World.{Pairs, pairs_next, pairs_opening}
-use Rattle.tp_machine.proofs.outside.Steps.{outside_next, outside_opening}
+use Rattle.tp_machine.proofs.ids.Queries.{homes_built}
 use Rattle.tp_machine.proofs.ids.Steps.{sound_next, sound_opening}
+use Rattle.tp_machine.proofs.outside.Steps.{outside_next, outside_opening}
+use Rattle.tp_machine.proofs.pairs.World.{Pairs, pairs_next, pairs_opening}
 use Rattle.tp_machine.proofs.serial_data.End.{serial_facts, serial_values, values_at_end}
+use Rattle.tp_machine.proofs.serial_data.Lone.{AreLone, facts_lone, lone_next, lone_opening}
 use Rattle.tp_machine.proofs.serial_data.Steps.{serial_next, serial_opening}
 use Rattle.tp_machine.proofs.serial_data.World.{Serial}
 use Rattle.tp_machine.proofs.trust.End.{facts_caused, facts_trusted}
 use Rattle.tp_machine.proofs.trust.Steps.{trusts_next, trusts_opening}
 use Rattle.tp_machine.proofs.trust.World.{Trusts}
+use Rattle.tp_machine.specs.Laws.{HasAllCommits, IsTrustedState}
+use Rattle.tp_machine.specs.Machine.{Machine, State, after, after_step, after_steps, machine_after, opening, opening_state, refusal}
+use Rattle.tp_machine.specs.Sound.{Each, IsSound, IsStepOf}
+use Rattle.tp_machine.specs.declared.error.StepError.{StepError}
 
 -- what holds of every world: its ids exist, its actors agree, what servers hold of a transaction is what its coordinator knows, its
 -- commits are trusted and serial, and what comes from outside is what its steps say
@@ -51,7 +52,7 @@ holds_next sc m taken built exists allowed h =
     record {
       sound = sound_next sc m taken built exists allowed h.agrees.coordinator_count h.sound;
       agrees = agrees_next sc m taken built exists allowed h.sound h.agrees;
-      epochs = epochs_next sc m taken exists allowed h.sound h.agrees h.epochs;
+      epochs = epochs_next sc m taken (homes_built sc built) exists allowed h.sound h.agrees h.epochs;
       ages = ages_next sc m taken exists allowed h.sound h.agrees h.ages;
       lone = lone_next sc m taken exists allowed h.agrees.coordinator_count h.agrees.past h.lone;
       outside = outside_next sc m taken exists allowed h.agrees.coordinator_count h.agrees.past h.outside;
