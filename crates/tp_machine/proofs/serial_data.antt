@@ -14,6 +14,7 @@ pub mod Lists
 pub mod Lone
 pub mod Ranges
 pub mod Reads
+pub mod Refused
 pub mod Rows
 pub mod Runs
 pub mod Settling

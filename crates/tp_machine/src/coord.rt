@@ -17,10 +17,10 @@ use std::mem;
 use tp_model::{item_of, query_at, servers_of};
 use tp_types::{
     Actor, Answer, AskRequest, Body, Cause, CommitRecord, DecideRequest, Decided, Decision, Deed,
-    Denied, DoneReply, Instance, ItemId, Letter, List, Mail, Met, NoMemory, Outcome, Place,
-    PrepareRequest, Query, QueryRequest, Reaction, Record, Scenario, ServerId, Staple, TellReply,
-    TryClone, TxnId, Verdict, Version, Vote, VoteReply, ignored, none_for_each, nothing,
-    sent_alone, unbuilt,
+    Denied, DoneReply, Instance, ItemId, Letter, List, Mail, Met, No, NoMemory, OutOfRange,
+    Outcome, Place, PrepareRequest, Query, QueryRequest, Reaction, Record, Scenario, ServerId,
+    Staple, TellReply, TryClone, TxnId, Verdict, Version, Vote, VoteReply, ignored, none_for_each,
+    nothing, sent_alone, unbuilt,
 };
 
 /// A server's reply in a round.
@@ -495,8 +495,9 @@ impl Coordinator {
         if reply.turn != self.turn || !awaits_vote(&self.phase, server) {
             return Ok(ignored(alloc));
         }
-        let Vote::Yes(verdicts) = &reply.vote else {
-            return Ok(unbuilt(alloc));
+        let verdicts = match &reply.vote {
+            Vote::Yes(verdicts) => verdicts,
+            Vote::No(why) => return self.on_no(alloc, server, *why),
         };
         match mem::replace(&mut self.phase, Phase::Idle) {
             Phase::Checking { round, staple } => self.voted(alloc, round, staple, server, verdicts),
@@ -504,6 +505,27 @@ impl Coordinator {
                 self.phase = other;
                 Ok(ignored(alloc))
             }
+        }
+    }
+
+    /// A vote NO of a server that is awaited ends the transaction at once.
+    fn on_no(&mut self, alloc: Global, server: ServerId, why: No) -> Result<Reaction, NoMemory>
+        ensures { IfOk result (λ reaction.
+            Gives (row.vote_at self.old self.old.phase server (vote.No why)) self.new reaction) }
+    {
+        if !matches!(self.phase, Phase::Checking { .. }) {
+            return Ok(ignored(alloc));
+        }
+        match why {
+            No::Range { query, value } => self.aborts(
+                alloc,
+                Cause::No(OutOfRange {
+                    query,
+                    server,
+                    value,
+                }),
+            ),
+            No::Restarted => Ok(unbuilt(alloc)),
         }
     }
 

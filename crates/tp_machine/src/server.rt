@@ -17,10 +17,10 @@ use std::marker::Model;
 use tp_model::query_at;
 use tp_store::Store;
 use tp_types::{
-    AckReply, Actor, Answer, Body, DecideRequest, Deed, DoneReply, Letter, List, Mail, NoMemory,
-    Outcome, Place, PrepareRequest, Prepared, Query, QueryRequest, Reaction, Record, Scenario,
-    ServerId, Settled, TryClone, TxnId, Verdict, Vote, VoteReply, forced_and_sent, ignored,
-    none_for_each, sent_alone, taken, unbuilt,
+    AckReply, Actor, Answer, Body, DecideRequest, Deed, DoneReply, Letter, List, Mail, No,
+    NoMemory, Outcome, Place, PrepareRequest, Prepared, Query, QueryRequest, Reaction, Record,
+    Scenario, ServerId, Settled, TryClone, TxnId, Verdict, Vote, VoteReply, forced_and_sent,
+    ignored, none_for_each, sent_alone, taken, unbuilt,
 };
 
 /// What a server voted YES on: the turn of the request, and its verdicts.
@@ -340,14 +340,17 @@ impl Server {
             Gives (row.on_prepare scenario.now self.old request.now) self.new reaction) }
     {
         if !self.is_open(request.txn) {
-            return Ok(unbuilt(alloc));
+            return self.on_settled_prepare(alloc, request);
         }
-        let is_outside = self.store.first_outside(request.txn).is_some();
+        let outside = self.store.first_outside(request.txn);
         let Some(entry) = self.entry_at(request.txn) else {
             return Ok(unbuilt(alloc));
         };
-        if entry.epoch != request.epoch || entry.ballot.is_some() || is_outside {
+        if entry.epoch != request.epoch || entry.ballot.is_some() {
             return Ok(unbuilt(alloc));
+        }
+        if let Some((query, value)) = outside {
+            return self.refuses(alloc, request, No::Range { query, value });
         }
         let Some(txn) = scenario.txns.get(request.txn.0 as usize) else {
             return Ok(ignored(alloc));
@@ -361,6 +364,77 @@ impl Server {
             }
             _ => Ok(unbuilt(alloc)),
         }
+    }
+
+    /// A request to prepare what is settled already: a vote NO is given again with its reason.
+    fn on_settled_prepare(
+        &self,
+        alloc: Global,
+        request: &PrepareRequest,
+    ) -> Result<Reaction, NoMemory>
+        ensures { IfOk result (λ reaction.
+            Gives
+            (row.on_settled_prepare self.now request.now
+            (flattened (slice_get self.now.settled request.now.txn.0)))
+            self.now reaction) }
+    {
+        match self.settled.get(request.txn.0 as usize) {
+            Some(Some(settled)) => match settled.why {
+                Some(why) => {
+                    let letter = self.no_letter(request, why);
+                    sent_alone(alloc, letter)
+                }
+                None => Ok(ignored(alloc)),
+            },
+            _ => Ok(ignored(alloc)),
+        }
+    }
+
+    fn no_letter(&self, request: &PrepareRequest, why: No) -> Letter
+        ensures { result ≡ row.no_letter self.now request.now why }
+    {
+        let vote = VoteReply {
+            txn: request.txn,
+            turn: request.turn,
+            vote: Vote::No(why),
+        };
+        self.reply(request.txn, Body::Vote(vote))
+    }
+
+    /// Aborts the transaction here, and votes NO.
+    fn refuses(
+        &mut self,
+        alloc: Global,
+        request: &PrepareRequest,
+        why: No,
+    ) -> Result<Reaction, NoMemory>
+        ensures { IfOk result (λ reaction.
+            Gives (row.refuses self.old request.now why) self.new reaction) }
+    {
+        let settled = Settled {
+            txn: request.txn,
+            outcome: Outcome::Abort,
+            why: Some(why),
+        };
+        let vote = self.no_letter(request, why);
+        self.ends(alloc, settled, vote)
+    }
+
+    /// Forces how a transaction ended, ends its entry, and sends the letter.
+    fn ends(
+        &mut self,
+        alloc: Global,
+        settled: Settled,
+        letter: Letter,
+    ) -> Result<Reaction, NoMemory>
+        ensures { IfOk result (λ reaction.
+            Gives (row.ends self.old settled letter) self.new reaction) }
+    {
+        let at = settled.txn.0 as usize;
+        self.end(settled.txn, settled.outcome);
+        self.settled.put(at, Some(settled));
+        self.entries.put(at, None);
+        forced_and_sent(alloc, Record::Settled(settled), letter)
     }
 
     fn prepared(
@@ -409,17 +483,13 @@ impl Server {
         if !self.is_open(request.txn) {
             return self.on_settled_decide(alloc, request);
         }
-        let at = request.txn.0 as usize;
-        self.end(request.txn, request.outcome);
         let settled = Settled {
             txn: request.txn,
             outcome: request.outcome,
             why: None,
         };
-        self.settled.put(at, Some(settled));
-        self.entries.put(at, None);
         let letter = self.ack_letter(request.txn);
-        forced_and_sent(alloc, Record::Settled(settled), letter)
+        self.ends(alloc, settled, letter)
     }
 
     /// An order to end what may be settled already.

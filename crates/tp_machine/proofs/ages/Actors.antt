@@ -88,6 +88,8 @@ server_row_ages A place sc s mail h m =
       voted = λ p entry staple txn k.
           let old : A p.txn entry.age = h p.txn.0 entry k.found in
           record { entries = placed_set (EntryAged A) s.entries p.txn.0 _ h old; forces = old; letters = (tt, tt) };
+      refused = λ p entry number value k. record { entries = placed_emptied (EntryAged A) s.entries p.txn.0 h; forces = tt; letters = (tt, tt) };
+      refused_again = λ p settled why k. record { entries = h; forces = tt; letters = (tt, tt) };
       settled = λ d k. record { entries = placed_emptied (EntryAged A) s.entries d.txn.0 h; forces = tt; letters = (tt, tt) };
       acknowledged = λ d settled k. record { entries = h; forces = tt; letters = (tt, tt) };
     })
@@ -127,6 +129,8 @@ coordinator_row_ages A place sc c mail h =
       committed = λ reply round staple server verdicts y e first agreed.
           record { same_age = refl; known = λ querying. absurd (cc); same_txn = refl; letters = orders_aged A place c outcome.Commit c.servers };
       denied = λ reply round staple server verdicts verdict y e f.
+          record { same_age = refl; known = λ querying. absurd (cc); same_txn = refl; letters = orders_aged A place c outcome.Abort c.servers };
+      refused = λ reply round staple server number value k.
           record { same_age = refl; known = λ querying. absurd (cc); same_txn = refl; letters = orders_aged A place c outcome.Abort c.servers };
       acknowledged = λ ack ended awaited server a. record { same_age = refl; known = λ querying. absurd (cc); same_txn = refl; letters = tt };
     })

@@ -28,7 +28,7 @@ use Rattle.tp_machine.specs.Logs.{decided_in, decision_in}
 use Rattle.tp_machine.specs.Machine.{log_with, with_age}
 use Rattle.tp_machine.specs.Sound.{Each}
 use Rattle.tp_machine.specs.coord.Opened.{servers_at}
-use Rattle.tp_machine.specs.coord.Row.{aborts, asks, awaits_query, commits, coordinator_row, denied_by, is_awaited, is_begun, next_number, prepare_letter, prepares, query_of, request, sends_query, server_of, staple_of, submit_row, with_deed, without}
+use Rattle.tp_machine.specs.coord.Row.{aborts, asks, awaits_query, commits, coordinator_row, denied_by, is_awaited, is_begun, next_number, prepare_letter, prepares, query_of, refused_by, request, sends_query, server_of, staple_of, submit_row, with_deed, without}
 use Rattle.tp_machine.specs.coord.State.{Coordinator}
 use Rattle.tp_machine.specs.declared.coord.Phase.TheVariants as phase
 use Rattle.tp_machine.specs.declared.coord.Phase.{Phase}
@@ -424,6 +424,9 @@ coordinator_row_lawful sc P S c kept mail h m =
       denied = λ reply round staple server verdicts verdict y e f.
           let k = yes_counted sc P S c kept mail reply round staple server verdicts h m y in
           aborts_lawful sc P S c kept (cause.Denied (denied_by verdict)) h k.undecided k.begun;
+      refused = λ reply round staple server number value k.
+          let undecided : decided_in kept ≡ None = subst (λ (p : Phase). PhaseAgrees p (decided_in kept)) k.checking h.agrees.decided in
+          aborts_lawful sc P S c kept (cause.No (refused_by server number value)) h undecided (ap is_begun k.checking);
       acknowledged = λ ack ended awaited server a. acknowledged_lawful sc P S c kept mail ack ended awaited server h m a;
     })
 

@@ -125,6 +125,9 @@ coordinator_row_keeps sc E A c mail homes h servers m =
       denied = λ reply round staple at verdicts verdict y e f.
           plain_keeps sc E A c.txn (Some (coord.aborts c (cause.Denied (coord.denied_by verdict))).state) (coord.decide_letters c outcome.Abort)
           (record { places = h.places; past = h.past; undecided = λ unsure. absurd (cc) }) (orders_plain c outcome.Abort c.servers);
+      refused = λ reply round staple at number value k.
+          plain_keeps sc E A c.txn (Some (coord.aborts c (cause.No (coord.refused_by at number value))).state) (coord.decide_letters c outcome.Abort)
+          (record { places = h.places; past = h.past; undecided = λ unsure. absurd (cc) }) (orders_plain c outcome.Abort c.servers);
       acknowledged = λ ack ended awaited at k.
           plain_keeps sc E A c.txn (Some (record c { phase = phase.Ending ended (coord.without awaited at) })) []
           (record { places = h.places; past = h.past; undecided = λ unsure. absurd (cc) }) tt;

@@ -9,7 +9,8 @@ use Rattle.tp_model.specs.Words.actor
 use Rattle.tp_model.specs.Words.answer
 use Rattle.tp_model.specs.Words.body
 use Rattle.tp_model.specs.Words.log
-use Rattle.tp_model.specs.Words.{Actor, Answer, Body, DecideRequest, Deed, DoneReply, Letter, Mail, PrepareRequest, Prepared, Query, QueryRequest, Record, Scenario, ServerId, TxnId, Verdict}
+use Rattle.tp_model.specs.Words.no
+use Rattle.tp_model.specs.Words.{Actor, Answer, Body, Deed, DoneReply, Letter, Mail, PrepareRequest, Prepared, Query, QueryRequest, Record, Scenario, ServerId, Settled, TxnId, Verdict}
 use Rattle.tp_machine.proofs.basics.Lists.{each_append, each_as, each_found, placed_emptied, placed_set}
 use Rattle.tp_machine.proofs.basics.Phases.{is_first_at}
 use Rattle.tp_machine.proofs.epochs.Asked.{Asking, IsAsked, IsOwnNaming, LetterNamed, NamesNone, NamesOwn, naming, naming_of}
@@ -258,15 +259,15 @@ votes_made sc A s kept p verdicts entry h e same m =
       replies = (tt, tt);
     }
 
-settles_made : (sc : Scenario) (A : Asking) (s : Server) (kept : List Record) (d : DecideRequest) → ServerMade sc A s.server s kept → RowEpochs sc A s kept (server.settles s d)
-settles_made sc A s kept d h =
+ends_made : (sc : Scenario) (A : Asking) (s : Server) (kept : List Record) (order : Settled) (letter : Letter) → ServerMade sc A s.server s kept → ReplyMade sc A s.server (epoch_in (log_with kept (Some (log.Settled order)))) letter.from letter.body → RowEpochs sc A s kept (server.ends s order letter)
+ends_made sc A s kept order letter h reply =
     record {
       made = record {
-        epoch_is = omega (arith, h.epoch_is, boots_push kept (log.Settled (server.settled_as d)));
-        entries = placed_emptied (λ (n : ℕ) (entry : Entry). EntryMade sc A s.server s.epoch entry) s.entries d.txn.0 h.entries;
+        epoch_is = omega (arith, h.epoch_is, boots_push kept (log.Settled order));
+        entries = placed_emptied (λ (n : ℕ) (entry : Entry). EntryMade sc A s.server s.epoch entry) s.entries order.txn.0 h.entries;
       };
       forces = tt;
-      replies = (tt, tt);
+      replies = (reply, tt);
     }
 
 -- every row of a server on receipt of a mail
@@ -287,6 +288,8 @@ server_row_made sc A s kept mail h first m =
       voted = λ p entry staple txn k.
           let asked : A p.txn s.server ≡ Some p.epoch = subst (λ (said : Body). IfSome (naming_of said) (IsAsked A (actor.Server s.server))) k.said_is m in
           votes_made sc A s kept p (verdicts_on sc s txn staple entry.deeds) entry h k.found (eqb-true entry.epoch p.epoch k.same_epoch) asked;
-      settled = λ d k. settles_made sc A s kept d h;
+      refused = λ p entry number value k. ends_made sc A s kept (server.refused_as p (no.Range number value)) (server.no_letter s p (no.Range number value)) h tt;
+      refused_again = λ p settled why k. record { made = h; forces = tt; replies = (tt, tt) };
+      settled = λ d k. ends_made sc A s kept (server.settled_as d) (server.ack_letter s d.txn) h tt;
       acknowledged = λ d settled k. record { made = h; forces = tt; replies = (tt, tt) };
     })

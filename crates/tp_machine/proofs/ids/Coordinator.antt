@@ -7,15 +7,15 @@ use Rattle.tp_model.specs.Queries.{item_of, query_at}
 use Rattle.tp_model.specs.Words.actor
 use Rattle.tp_model.specs.Words.cause
 use Rattle.tp_model.specs.Words.query
-use Rattle.tp_model.specs.Words.{Body, Cause, DoneReply, Item, Mail, Outcome, Query, Scenario, ServerId, Staple, Transaction, TxnId, Verdict, VoteReply}
+use Rattle.tp_model.specs.Words.{Actor, Body, Cause, DoneReply, Item, Mail, Outcome, Query, Scenario, ServerId, Staple, Transaction, TxnId, Verdict, VoteReply}
 use Rattle.tp_machine.proofs.basics.Homes.{IsHome, home_is}
 use Rattle.tp_machine.proofs.basics.Lists.{each_filter, each_found, each_get, each_map, each_more, each_passing}
 use Rattle.tp_machine.proofs.ids.Valid.{IsValid, IsValidItem}
-use Rattle.tp_machine.proofs.walks.CoordinatorRows.{IsYes, coordinator_by, submit_by}
+use Rattle.tp_machine.proofs.walks.CoordinatorRows.{IsNo, IsYes, coordinator_by, submit_by}
 use Rattle.tp_machine.specs.Runs.{deed_of}
-use Rattle.tp_machine.specs.Sound.{AreSoundVerdicts, Each, HasValue, IsActor, IsItemOf, IsServer, IsSoundBallot, IsSoundBody, IsSoundCause, IsSoundCoordinator, IsSoundCoordinatorRecord, IsSoundDeed, IsSoundInstance, IsSoundLetter, IsSoundPhase, IsSoundProof, IsSoundQuery, IsSoundReply, IsSoundRound, IsSoundStaple, IsSoundVerdict, ProvesEach, proves_each, query_in}
+use Rattle.tp_machine.specs.Sound.{AreSoundVerdicts, Each, HasValue, IsActor, IsItemOf, IsRefusalOf, IsServer, IsSoundBallot, IsSoundBody, IsSoundCause, IsSoundCoordinator, IsSoundCoordinatorRecord, IsSoundDeed, IsSoundInstance, IsSoundLetter, IsSoundPhase, IsSoundProof, IsSoundQuery, IsSoundRefusal, IsSoundReply, IsSoundRound, IsSoundStaple, IsSoundVerdict, ProvesEach, proves_each, query_in}
 use Rattle.tp_machine.specs.Sums.{asked_value, registers_after, sum_asked}
-use Rattle.tp_machine.specs.coord.Row.{aborts, are_agreed, asks, commits, coordinator_row, coordinator_with_age, denied_by, first_false, first_round, instances_with, is_false_verdict, is_true_verdict, next_number, next_turn, prepare_letter, prepares, query_of, query_request, request, sends_query, staple_of, submit_row, value_of, with_deed, with_reply, without}
+use Rattle.tp_machine.specs.coord.Row.{aborts, are_agreed, asks, commits, coordinator_row, coordinator_with_age, denied_by, first_false, first_round, instances_with, is_false_verdict, is_true_verdict, next_number, next_turn, prepare_letter, prepares, query_of, query_request, refused_by, request, sends_query, staple_of, submit_row, value_of, with_deed, with_reply, without}
 use Rattle.tp_machine.specs.coord.State.{Coordinator}
 use Rattle.tp_machine.specs.declared.coord.Phase.TheVariants as phase
 use Rattle.tp_machine.specs.declared.coord.Phase.{Phase}
@@ -40,7 +40,7 @@ moved sc c next turn epochs h n =
 -- a letter to a server that exists
 request_sound : (sc : Scenario) (c : Coordinator) (server : ServerId) (said : Body) → IsSoundCoordinator sc c → IsServer sc server → IsSoundBody sc (actor.Server server) said
     → IsSoundLetter sc (request c server said)
-request_sound sc c server said h exists says = record { from_is_actor = h.exists; to_is_actor = exists; says = says }
+request_sound sc c server said h exists says = record { from_is_actor = h.exists; to_is_actor = exists; says = says; refuses = tt }
 
 -- ---- Submit
 
@@ -126,7 +126,7 @@ asks_sound sc c h =
       same_txn = refl;
       state_is = moved sc c (phase.Asking (first_round c)) (next_turn c) c.epochs h (record { aim = tt; kept = tt; awaited = h.servers; mets = tt });
       forces = tt;
-      sends_only = (record { from_is_actor = h.exists; to_is_actor = tt; says = record { txn = h.exists; goes_to = refl } }, tt);
+      sends_only = (record { from_is_actor = h.exists; to_is_actor = tt; says = record { txn = h.exists; goes_to = refl }; refuses = tt }, tt);
     }
 
 with_deed_sound : (sc : Scenario) (c : Coordinator) (server : ServerId) (done : DoneReply) (asked : Query) (value : ℤ) → IsSoundCoordinator sc c
@@ -234,9 +234,18 @@ yes_sound sc c mail reply round staple server verdicts m y =
     let ballot : IsSoundBallot sc c.txn reply.vote = subst (λ (txn : TxnId). IsSoundBallot sc txn reply.vote) (same_txn_of c.txn reply.txn said.goes_to) said.ballot in
     subst (IsSoundBallot sc c.txn) y.vote_is ballot
 
+-- the reason of an awaited vote NO
+no_sound : (sc : Scenario) (c : Coordinator) (mail : Mail) (reply : VoteReply) (round : Round) (staple : Staple) (server : ServerId) (number : ℕ) (value : ℤ) → IsSoundRefusal sc mail.letter.from mail.letter.body
+    → IsSoundBody sc (actor.Coordinator c.txn) mail.letter.body → IsNo c mail reply round staple server number value → IsSoundCause sc c.txn (cause.No (refused_by server number value))
+no_sound sc c mail reply round staple server number value r m k =
+    let said = subst (IsSoundBody sc (actor.Coordinator c.txn)) k.said_is m in
+    let refusal : IsRefusalOf sc server reply.txn reply.vote = subst (λ (body : Body). IsSoundRefusal sc (actor.Server server) body) k.said_is (subst (λ (from : Actor). IsSoundRefusal sc from mail.letter.body) k.from_is r) in
+    let own : IsRefusalOf sc server c.txn reply.vote = subst (λ (txn : TxnId). IsRefusalOf sc server txn reply.vote) (same_txn_of c.txn reply.txn said.goes_to) refusal in
+    record { query = subst (IsRefusalOf sc server c.txn) k.vote_is own }
+
 pub coordinator_row_sound : (sc : Scenario) (c : Coordinator) (mail : Mail) → IsValid sc → IsSoundCoordinator sc c → IsActor sc mail.letter.from
-    → IsSoundBody sc (actor.Coordinator c.txn) mail.letter.body → IsSoundCoordinatorEffect sc c (coordinator_row sc c mail)
-coordinator_row_sound sc c mail valid h a m =
+    → IsSoundRefusal sc mail.letter.from mail.letter.body → IsSoundBody sc (actor.Coordinator c.txn) mail.letter.body → IsSoundCoordinatorEffect sc c (coordinator_row sc c mail)
+coordinator_row_sound sc c mail valid h a r m =
     coordinator_by sc c mail (IsSoundCoordinatorEffect sc c)
     (record {
       ignored = ignores_sound sc c h;
@@ -256,6 +265,8 @@ coordinator_row_sound sc c mail valid h a m =
           commits_sound sc c round.number verdicts h (proofs_sound sc c.txn verdicts agreed (yes_sound sc c mail reply round staple server verdicts m y));
       denied = λ reply round staple server verdicts verdict y e f.
           aborts_sound sc c (cause.Denied (denied_by verdict)) h (denied_sound sc c.txn verdicts verdict (yes_sound sc c mail reply round staple server verdicts m y) f);
+      refused = λ reply round staple server number value k.
+          aborts_sound sc c (cause.No (refused_by server number value)) h (no_sound sc c mail reply round staple server number value r m k);
       acknowledged = λ ack ended awaited server k. acknowledged_sound sc c ended awaited server h (awaits k.ending);
     })
   where

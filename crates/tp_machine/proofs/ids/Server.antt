@@ -1,27 +1,33 @@
 -- The server's row keeps its state sound, forces a sound record, and sends sound letters.
-use Rattle.std.specs.List.{list_all}
-use Rattle.std.proofs.Common.{Bool, IfSome, List, None, Option, Some, [], ap, arith, false, is_none, is_some, length, option_map, refl, slice_get, subst, suc, sym, true, unwrap_or, zero, ℕ, ℤ, ⊎_elim, ◌&&◌, ◌<◌, ◌==◌, ◌||◌, ◌∙◌, ◌∷◌, ◌≡◌}
+use Rattle.std.specs.List.{list_all, list_any}
+use Rattle.std.proofs.Common.{Bool, IfSome, List, MatchOption, None, Option, Some, [], ap, arith, false, is_none, is_some, length, option_map, refl, slice_get, subst, suc, sym, true, unwrap_or, zero, ℕ, ℤ, ⊎_elim, ◌&&◌, ◌<◌, ◌==◌, ◌||◌, ◌∙◌, ◌∷◌, ◌≡◌}
 use Rattle.std.proofs.lemmas.Bool.{and_parts, eqb-true}
 use Rattle.std.proofs.lemmas.Option.{same_Some}
 use Rattle.tp_types.specs.Effect.{Effect, ignores}
+use Rattle.tp_types.specs.Table.{flattened}
 use Rattle.tp_model.specs.Authorisation.{policy_at}
 use Rattle.tp_model.specs.Credentials.{is_among, is_presented}
 use Rattle.tp_model.specs.Ids.{same_cred}
 use Rattle.tp_model.specs.Queries.{item_of}
 use Rattle.tp_model.specs.Words.actor
 use Rattle.tp_model.specs.Words.body
-use Rattle.tp_model.specs.Words.{Admin, AdminId, Body, CredId, DecideRequest, Deed, DoneReply, Item, ItemId, Mail, PrepareRequest, Query, QueryRequest, Scenario, ServerId, Settled, Staple, Transaction, TxnId, Version}
+use Rattle.tp_model.specs.Words.no
+use Rattle.tp_model.specs.Words.{Admin, AdminId, Body, CredId, DecideRequest, Deed, DoneReply, Item, ItemId, Letter, Mail, No, PrepareRequest, Query, QueryRequest, Scenario, ServerId, Settled, Staple, Transaction, TxnId, Version}
 use Rattle.tp_machine.proofs.basics.Lists.{each_append, each_found, each_get, each_map, placed_emptied, placed_set}
-use Rattle.tp_machine.proofs.basics.Stores.{ended_known, kept_known}
+use Rattle.tp_machine.proofs.basics.Stores.{ended_each, ended_known, kept_each, kept_known}
 use Rattle.tp_machine.proofs.ids.Valid.{IsValid, IsValidItem}
 use Rattle.tp_machine.proofs.trust.Evaluation.{uses_presented}
 use Rattle.tp_machine.proofs.walks.ServerRows.{IsFirstHere, IsFurther, IsGranted, server_by}
 use Rattle.tp_machine.specs.Runs.{deed_of}
-use Rattle.tp_machine.specs.Sound.{AreCreds, AreSoundVerdicts, AreVersions, AreVersionsOf, Each, IsAdmin, IsCred, IsItemOf, IsSoundBody, IsSoundDeedAt, IsSoundDone, IsSoundEntry, IsSoundLetter, IsSoundQuery, IsSoundServer, IsSoundServerRecord, IsSoundSettled, IsSoundVerdict, IsTxn, IsVersion, IsVersionOf}
+use Rattle.tp_machine.specs.Sound.{AreCreds, AreSoundVerdicts, AreVersions, AreVersionsOf, Each, IsAdmin, IsCred, IsItemOf, IsQueryOf, IsReasonOf, IsSettledOf, IsSoundBody, IsSoundDeedAt, IsSoundDone, IsSoundEntry, IsSoundLetter, IsSoundNo, IsSoundQuery, IsSoundRefusal, IsSoundServer, IsSoundServerRecord, IsSoundSettled, IsSoundVerdict, IsTxn, IsVersion, IsVersionOf, IsWriteOf}
 use Rattle.tp_machine.specs.declared.server.Entry.{Entry}
-use Rattle.tp_machine.specs.server.Row.{answers, completes, done_reply, entry_after, reply, restarted_reply, server_row, settled_as, settles, votes}
+use Rattle.tp_machine.specs.server.Row.{ack_letter, answers, completes, done_reply, ends, entry_after, no_letter, refused_as, refuses, reply, restarted_reply, server_row, settled_as, settles, votes}
 use Rattle.tp_machine.specs.server.State.{Server}
 use Rattle.tp_machine.specs.server.Verdicts.{admin_of, verdict_on, verdicts_on, version_known}
+use Rattle.tp_store.proofs.OutsideLemmas.{first_is_least}
+use Rattle.tp_store.specs.Laws.{IsLeastOutside}
+use Rattle.tp_store.specs.Rule.{first_outside_in, writes_of}
+use Rattle.tp_store.specs.Writes.{is_outside}
 
 -- what a server's act leaves is sound: its state, still of the same server, what it forces and what it sends
 pub record IsSoundServerEffect (sc : Scenario) (s : Server) (effect : Effect Server) : Type 0 where
@@ -35,8 +41,8 @@ ignores_sound sc s h = record { same_server = refl; state_is = h; forces = tt; s
 
 -- a server's letter to the coordinator of an existing transaction
 reply_sound : (sc : Scenario) (s : Server) (txn : TxnId) (said : Body) → IsSoundServer sc s → IsTxn sc txn → IsSoundBody sc (actor.Coordinator txn) said
-    → IsSoundLetter sc (reply s txn said)
-reply_sound sc s txn said h exists says = record { from_is_actor = h.exists; to_is_actor = exists; says = says }
+    → IsSoundRefusal sc (actor.Server s.server) said → IsSoundLetter sc (reply s txn said)
+reply_sound sc s txn said h exists says refuses = record { from_is_actor = h.exists; to_is_actor = exists; says = says; refuses = refuses }
 
 -- ---- Query
 
@@ -76,6 +82,8 @@ runs_sound sc s mail q query entry value h m k =
       state_is = record {
         exists = h.exists;
         known = subst (AreVersions sc) (sym (kept_known s.store q query value)) h.known;
+        writes = kept_each (IsWriteOf sc s.server) s.store q query value h.writes
+            (record { query = record { asked = m.asked; asked_is = m.asked_is; kept = subst (λ (at : ServerId). IsItemOf sc at (item_of m.asked)) at_is m.kept }; item = kept });
         settled = h.settled;
         entries = placed_set (λ (n : ℕ) (found : Entry). IsSoundEntry sc s.server (record { 0 = n }) found) s.entries q.txn.0 (entry_after q entry deed) h.entries
             (record {
@@ -86,13 +94,13 @@ runs_sound sc s mail q query entry value h m k =
             });
       };
       forces = tt;
-      sends_only = (reply_sound sc s q.txn (body.Done (done_reply q entry.epoch deed)) h m.txn done_sound, tt);
+      sends_only = (reply_sound sc s q.txn (body.Done (done_reply q entry.epoch deed)) h m.txn done_sound tt, tt);
     }
 
 -- an answer that is given again, or for the first time
 answers_sound : (sc : Scenario) (s : Server) (q : QueryRequest) (given : DoneReply) → IsSoundServer sc s → IsTxn sc q.txn → IsSoundDone sc (actor.Coordinator q.txn) given
     → IsSoundServerEffect sc s (answers s q.txn given)
-answers_sound sc s q given h exists d = record { same_server = refl; state_is = h; forces = tt; sends_only = (reply_sound sc s q.txn (body.Done given) h exists d, tt) }
+answers_sound sc s q given h exists d = record { same_server = refl; state_is = h; forces = tt; sends_only = (reply_sound sc s q.txn (body.Done given) h exists d tt, tt) }
 
 restarted_sound : (sc : Scenario) (s : Server) (q : QueryRequest) → IsSoundQuery sc (actor.Server s.server) q → IsSoundDone sc (actor.Coordinator q.txn) (restarted_reply q s.epoch)
 restarted_sound sc s q m = record { txn = m.txn; goes_to = refl; query = record { asked = m.asked; asked_is = m.asked_is }; answer_is_sound = tt; proved = λ each. tt }
@@ -160,30 +168,61 @@ casts_sound sc s p txn staple entry valid h exists there k =
       state_is = record {
         exists = h.exists;
         known = h.known;
+        writes = h.writes;
         settled = h.settled;
         entries = placed_set (λ (n : ℕ) (found : Entry). IsSoundEntry sc s.server (record { 0 = n }) found) s.entries p.txn.0 _ h.entries
             (record { answers = k.answers; waiting = k.waiting; deeds = k.deeds; ballot = verdicts });
       };
       forces = record { txn = exists; deeds = k.deeds; verdicts = verdicts; told = h.known };
-      sends_only = (reply_sound sc s p.txn _ h exists (record { txn = exists; goes_to = refl; ballot = verdicts }), tt);
+      sends_only = (reply_sound sc s p.txn _ h exists (record { txn = exists; goes_to = refl; ballot = verdicts }) tt, tt);
     }
 
 -- ---- Decide
 
-settles_sound : (sc : Scenario) (s : Server) (d : DecideRequest) → IsSoundServer sc s → IsTxn sc d.txn → IsSoundServerEffect sc s (settles s d)
-settles_sound sc s d h exists =
-    let settled : IsSoundSettled sc (settled_as d) = record { txn = exists; why = tt } in
+ends_sound : (sc : Scenario) (s : Server) (order : Settled) (letter : Letter) → IsSoundServer sc s → IsSoundSettled sc s.server order → IsSoundLetter sc letter → IsSoundServerEffect sc s (ends s order letter)
+ends_sound sc s order letter h settled sent =
     record {
       same_server = refl;
       state_is = record {
         exists = h.exists;
-        known = subst (AreVersions sc) (sym (ended_known s.store d.txn d.outcome)) h.known;
-        settled = placed_set (λ (n : ℕ) (found : Settled). IsSoundSettled sc found) s.settled d.txn.0 (settled_as d) h.settled settled;
-        entries = placed_emptied (λ (n : ℕ) (found : Entry). IsSoundEntry sc s.server (record { 0 = n }) found) s.entries d.txn.0 h.entries;
+        known = subst (AreVersions sc) (sym (ended_known s.store order.txn order.outcome)) h.known;
+        writes = ended_each (IsWriteOf sc s.server) s.store order.txn order.outcome h.writes;
+        settled = placed_set (λ (n : ℕ) (found : Settled). IsSettledOf sc s.server (record { 0 = n }) found) s.settled order.txn.0 order h.settled (record { own = refl; sound = settled });
+        entries = placed_emptied (λ (n : ℕ) (found : Entry). IsSoundEntry sc s.server (record { 0 = n }) found) s.entries order.txn.0 h.entries;
       };
       forces = settled;
-      sends_only = (reply_sound sc s d.txn _ h exists (record { txn = exists; goes_to = refl }), tt);
+      sends_only = (sent, tt);
     }
+
+settles_sound : (sc : Scenario) (s : Server) (d : DecideRequest) → IsSoundServer sc s → IsTxn sc d.txn → IsSoundServerEffect sc s (settles s d)
+settles_sound sc s d h exists =
+    ends_sound sc s (settled_as d) (ack_letter s d.txn) h (record { txn = exists; why = tt }) (reply_sound sc s d.txn _ h exists (record { txn = exists; goes_to = refl }) tt)
+
+-- a reason names a query of the transaction
+named_reason : (sc : Scenario) (at : ServerId) (txn : TxnId) (why : No) → IsReasonOf sc at txn why → IsSoundNo sc txn why
+named_reason sc at txn (no.Range number value) h = record { asked = h.asked; asked_is = h.asked_is }
+named_reason sc at txn no.Restarted h = tt
+
+-- the write that is refused is of a query of the transaction there
+refused_query : (sc : Scenario) (s : Server) (txn : TxnId) (number : ℕ) (value : ℤ) → IsSoundServer sc s → first_outside_in s.store txn ≡ Some (number, value) → IsQueryOf sc txn number s.server
+refused_query sc s txn number value h e = found (first_outside_in s.store txn) e (first_is_least s.store txn)
+  where
+    found : (first : Option (ℕ × ℤ)) → first ≡ Some (number, value) → MatchOption first (list_any (is_outside s.store.bounds) (writes_of s.store txn) ≡ false) (IsLeastOutside s.store txn) → IsQueryOf sc txn number s.server
+    found None f m = absurd (cc)
+    found (Some first) f m =
+        let same : first ≡ (number, value) = same_Some first (number, value) f in
+        let is : number ≡ m.write.query = ap (λ (x : ℕ × ℤ). x.0) (sym same) ∙ m.query in
+        subst (λ (n : ℕ). IsQueryOf sc txn n s.server) (sym is) (each_get (IsWriteOf sc s.server txn) (writes_of s.store txn) m.at m.write (h.writes txn) m.kept).query
+
+-- the reason of what was settled so is sound
+settled_reason : (sc : Scenario) (s : Server) (txn : TxnId) (settled : Settled) (why : No) → IsSoundServer sc s → flattened (slice_get s.settled txn.0) ≡ Some settled → settled.why ≡ Some why
+    → IsReasonOf sc s.server txn why
+settled_reason sc s txn settled why h found why_is =
+    let kept = h.settled txn.0 settled found in
+    subst (λ (t : TxnId). IsReasonOf sc s.server t why) kept.own (subst (λ (x : Option No). IfSome x (IsReasonOf sc s.server settled.txn)) why_is kept.sound.why)
+
+no_letter_sound : (sc : Scenario) (s : Server) (p : PrepareRequest) (why : No) → IsSoundServer sc s → IsTxn sc p.txn → IsReasonOf sc s.server p.txn why → IsSoundLetter sc (no_letter s p why)
+no_letter_sound sc s p why h exists reason = reply_sound sc s p.txn _ h exists (record { txn = exists; goes_to = refl; ballot = named_reason sc s.server p.txn why reason }) reason
 
 -- ---- all mails
 
@@ -199,13 +238,21 @@ server_row_sound sc s mail valid h m =
           answers_sound sc s q given h (said k.said_is).txn
           (each_found (IsSoundDone sc (actor.Coordinator q.txn)) (λ (d : DoneReply). d.query == q.query) entry.answers given (h.entries q.txn.0 entry k.found).answers k.given_is);
       voted = λ p entry staple txn k. casts_sound sc s p txn staple entry valid h (said k.said_is).txn k.declared (h.entries p.txn.0 entry k.found);
+      refused = λ p entry number value k.
+          let exists = (said k.said_is).txn in
+          let query : IsQueryOf sc p.txn number s.server = refused_query sc s p.txn number value h k.outside in
+          ends_sound sc s (refused_as p (no.Range number value)) (no_letter s p (no.Range number value)) h (record { txn = exists; why = query }) (no_letter_sound sc s p (no.Range number value) h exists query);
+      refused_again = λ p settled why k.
+          let exists = (said k.said_is).txn in
+          let reason : IsReasonOf sc s.server p.txn why = settled_reason sc s p.txn settled why h k.found k.why_is in
+          record { same_server = refl; state_is = h; forces = tt; sends_only = (no_letter_sound sc s p why h exists reason, tt) };
       settled = λ d k. settles_sound sc s d h (said k.said_is).txn;
       acknowledged = λ d settled k.
           record {
             same_server = refl;
             state_is = h;
             forces = tt;
-            sends_only = (reply_sound sc s d.txn _ h (said k.said_is).txn (record { txn = (said k.said_is).txn; goes_to = refl }), tt);
+            sends_only = (reply_sound sc s d.txn _ h (said k.said_is).txn (record { txn = (said k.said_is).txn; goes_to = refl }) tt, tt);
           };
     })
   where

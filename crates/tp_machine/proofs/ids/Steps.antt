@@ -77,7 +77,7 @@ sound_cases sc w valid h =
           record { actors_are = servers_sound sc w.actors at _ h.actors_are move.part_is; left = move.left };
       coordinator_received = λ n mail txn part c sent up.
           let says = letter_sound sc w n mail (actor.Coordinator txn) h sent in
-          let move = coordinator_receipt_sound sc txn part c mail valid (h.actors_are.coordinators txn.0 part up.found) up.up says.0 says.1 in
+          let move = coordinator_receipt_sound sc txn part c mail valid (h.actors_are.coordinators txn.0 part up.found) up.up says.0 (each_get (IsSoundMail sc) w.mails n mail h.mails_are sent.sent).refuses says.1 in
           record { actors_are = coordinators_sound sc w.actors txn _ h.actors_are move.part_is; left = move.left };
       authority_told = λ n mail sent.
           record { actors_are = h.actors_are; left = record { facts_are = tt; letters_are = authority_sends_sound sc w.actors.authority mail h.actors_are.authority (letter_sound sc w n mail actor.Authority h sent).1 } };

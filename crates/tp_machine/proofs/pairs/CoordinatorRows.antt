@@ -424,6 +424,7 @@ coordinator_row_asks sc declared P c mail valid homes h m =
       };
       committed = λ reply round staple server verdicts y e first agreed. ends_asks sc declared P c (coord.commits c round.number verdicts).state outcome.Commit c.servers h refl tt;
       denied = λ reply round staple server verdicts verdict y e f. ends_asks sc declared P c (coord.aborts c (cause.Denied (coord.denied_by verdict))).state outcome.Abort c.servers h refl tt;
+      refused = λ reply round staple server number value k. ends_asks sc declared P c (coord.aborts c (cause.No (coord.refused_by server number value))).state outcome.Abort c.servers h refl tt;
       acknowledged = λ ack ended awaited server a. record {
         next = λ at. still_asks sc declared P c (record c { phase = phase.Ending ended (coord.without awaited server) }) at h (sym (ap (λ (p : Phase). if is_undecided p then Some (asker_of at c) else None) a.ending));
         numbered = tt;

@@ -1,5 +1,4 @@
 -- Deeds and epochs, the server's rows: each is an event at its own transaction, and nothing at the others.
-use Rattle.tp_machine.specs.Sums.{registers_after, sum_asked}
 use Rattle.std.specs.Option.{option_map_or}
 use Rattle.std.proofs.Common.{Bool, IfSome, List, None, Option, Some, [], ap, arith, false, find, if◌then◌else◌, is_some, length, not, option_and_then, refl, slice_get, slice_set, subst, sym, true, ℕ, ℤ, ⊎_elim, ◌++◌, ◌<◌, ◌==◌, ◌∙◌, ◌∷◌, ◌≡◌, ◌⊎◌}
 use Rattle.std.proofs.lemmas.Bool.{eqb-true, not-false}
@@ -14,8 +13,9 @@ use Rattle.tp_model.specs.Queries.{query_at}
 use Rattle.tp_model.specs.Words.actor
 use Rattle.tp_model.specs.Words.body
 use Rattle.tp_model.specs.Words.log
+use Rattle.tp_model.specs.Words.no
 use Rattle.tp_model.specs.Words.query
-use Rattle.tp_model.specs.Words.{Body, DecideRequest, Deed, DoneReply, Letter, Mail, PrepareRequest, Prepared, Query, QueryRequest, Record, Scenario, ServerId, Settled, Transaction, TxnId}
+use Rattle.tp_model.specs.Words.{Body, DecideRequest, Deed, DoneReply, Letter, Mail, No, PrepareRequest, Prepared, Query, QueryRequest, Record, Scenario, ServerId, Settled, Transaction, TxnId}
 use Rattle.tp_machine.proofs.agreement.Server.{ServerAgrees, open_unsettled}
 use Rattle.tp_machine.proofs.agreement.Steps.{same_txn_from}
 use Rattle.tp_machine.proofs.basics.Ids.{same_txn_is}
@@ -44,7 +44,7 @@ use Rattle.tp_machine.specs.Sound.{Each, IsSoundBody, IsSoundDone, IsSoundQuery,
 use Rattle.tp_machine.specs.Sums.{clamped_sum, registers_after, sum_asked}
 use Rattle.tp_machine.specs.declared.server.Ballot.{Ballot}
 use Rattle.tp_machine.specs.declared.server.Entry.{Entry}
-use Rattle.tp_machine.specs.server.Row.{ack_letter, age_of, answer_to, answers, asked_query, casts, completes, done_reply, entry_after, entry_at, prepared_record, restarts, server_row, settled_as, settles, value_of_run}
+use Rattle.tp_machine.specs.server.Row.{ack_letter, age_of, answer_to, answers, asked_query, casts, completes, done_reply, ends, entry_after, entry_at, no_letter, prepared_record, refused_as, refuses, restarts, server_row, settled_as, settles, value_of_run}
 use Rattle.tp_machine.specs.server.State.{Server}
 use Rattle.tp_machine.specs.server.Verdicts.{verdicts_on}
 
@@ -423,31 +423,58 @@ settled_now txn kept s own fresh =
     let new : settlement_in txn (log.Settled s) ≡ Some s = ap (λ (b : Bool). if b then Some s else None) (ap (λ (t : TxnId). same_txn t txn) own ∙ number_itself txn.0) in
     settled_with txn kept (Some (log.Settled s)) ∙ (ap (λ (x : Option Settled). first_of x (settlement_in txn (log.Settled s))) fresh ∙ new)
 
+-- the transaction is settled at the server
+ends_next : (sc : Scenario) (A : TxnId → Option Asker) (s : Server) (kept : List Record) (order : Settled) (letter : Letter) → ServerPaired sc A s kept → settled_in order.txn kept ≡ None → order.txn.0 < length sc.txns
+    → ((declared : Transaction) → slice_get sc.txns order.txn.0 ≡ Some declared → Next (site_of sc s.server.0 declared) (pair_up order.txn (A order.txn) s kept) (end.settled (pair_up order.txn (A order.txn) s kept)))
+    → AllNext sc s.server.0 (λ txn. pair_up txn (A txn) s kept) (λ txn. pair_up txn (A txn) (ends s order letter).state (log_with kept (Some (log.Settled order))))
+ends_next sc A s kept order letter h fresh exists may =
+    let P : TxnId → Pair = λ txn. pair_up txn (A txn) s kept in
+    let now = (ends s order letter).state in
+    let append = Some (log.Settled order) in
+    let Q : TxnId → Pair = λ txn. pair_up txn (A txn) now (log_with kept append) in
+    let act : IsOwnAct order.txn s now append = record { entry = None; entries = refl; own = refl } in
+    let none_there : entry_at now order.txn ≡ None = ap flattened (set_here s.entries order.txn.0 None (omega (arith, exists, h.places))) in
+    let ended : settled_in order.txn (log_with kept append) ≡ Some order = settled_now order.txn kept order refl fresh in
+    let nothing : prepared_in order.txn (log_with kept append) ≡ None = ap (λ (x : Option Settled). while_unsettled x (voted_in order.txn (log_with kept append))) ended in
+    let event : (declared : Transaction) → slice_get sc.txns order.txn.0 ≡ Some declared → Next (site_of sc s.server.0 declared) (P order.txn) (Q order.txn) = λ declared found.
+    let site = site_of sc s.server.0 declared in
+    let whole : end.settled (P order.txn) ≡ Q order.txn =
+    same_made (A order.txn) (epoch_in kept) (epoch_in (log_with kept append)) (Some order) (settled_in order.txn (log_with kept append)) None (entry_at now order.txn) None (prepared_in order.txn (log_with kept append))
+    (sym (same_epoch_in order.txn kept append refl)) (sym ended) (sym none_there) (sym nothing) in
+    subst (Next site (P order.txn)) whole (may declared found)
+    in
+    own_next sc s.server.0 P Q order.txn h.fits event (λ txn apart. other_pair (A txn) order.txn txn s now kept append apart act)
+
 settles_pairs : (sc : Scenario) (A : TxnId → Option Asker) (s : Server) (kept : List Record) (d : DecideRequest) → ServerPaired sc A s kept → settled_in d.txn kept ≡ None → d.txn.0 < length sc.txns → A d.txn ≡ None
     → RowPairs sc A s kept (settles s d)
 settles_pairs sc A s kept d h fresh exists decided =
-    let P : TxnId → Pair = λ txn. pair_up txn (A txn) s kept in
-    let effect = settles s d in
-    let now = effect.state in
-    let append = effect.reaction.append in
-    let Q : TxnId → Pair = λ txn. pair_up txn (A txn) now (log_with kept append) in
-    let act : IsOwnAct d.txn s now append = record { entry = None; entries = refl; own = refl } in
-    let none_there : entry_at now d.txn ≡ None = ap flattened (set_here s.entries d.txn.0 None (omega (arith, exists, h.places))) in
-    let ended : settled_in d.txn (log_with kept append) ≡ Some (settled_as d) = settled_now d.txn kept (settled_as d) refl fresh in
-    let nothing : prepared_in d.txn (log_with kept append) ≡ None = ap (λ (x : Option Settled). while_unsettled x (voted_in d.txn (log_with kept append))) ended in
-    let event : (declared : Transaction) → slice_get sc.txns d.txn.0 ≡ Some declared → Next (site_of sc s.server.0 declared) (P d.txn) (Q d.txn) = λ declared found.
-    let site = site_of sc s.server.0 declared in
-    let n : Next site (P d.txn) (end.settled (P d.txn)) = ordered site (P d.txn) refl decided (h.fits d.txn declared found) in
-    let whole : end.settled (P d.txn) ≡ Q d.txn =
-    same_made (A d.txn) (epoch_in kept) (epoch_in (log_with kept append)) (Some (settled_as d)) (settled_in d.txn (log_with kept append)) None (entry_at now d.txn) None (prepared_in d.txn (log_with kept append))
-    (sym (same_epoch_in d.txn kept append refl)) (sym ended) (sym none_there) (sym nothing) in
-    subst (Next site (P d.txn)) whole n
-    in
     record {
-      next = own_next sc s.server.0 P Q d.txn h.fits event (λ txn apart. other_pair (A txn) d.txn txn s now kept append apart act);
+      next = ends_next sc A s kept (settled_as d) (ack_letter s d.txn) h fresh exists
+          (λ declared found. ordered (site_of sc s.server.0 declared) (pair_up d.txn (A d.txn) s kept) refl decided (h.fits d.txn declared found));
       places = length-set s.entries d.txn.0 None;
       replies = (record { from_is = refl; says = tt }, tt);
     }
+
+unvoted_ballot : (ballot : Option Ballot) → is_some ballot ≡ false → ballot ≡ None
+unvoted_ballot None e = refl
+unvoted_ballot (Some ballot) e = absurd (cc)
+
+-- the server refuses what it has not voted on
+refuses_pairs : (sc : Scenario) (A : TxnId → Option Asker) (s : Server) (kept : List Record) (p : PrepareRequest) (entry : Entry) (why : No) → ServerPaired sc A s kept → settled_in p.txn kept ≡ None → p.txn.0 < length sc.txns
+    → entry_at s p.txn ≡ Some entry → is_some entry.ballot ≡ false → RequestPairs sc s.server A (λ txn. pair_up txn (A txn) s kept) (body.Prepare p) → RowPairs sc A s kept (refuses s p why)
+refuses_pairs sc A s kept p entry why h fresh exists found unvoted asked =
+    let none : entry.ballot ≡ None = unvoted_ballot entry.ballot unvoted in
+    record {
+      next = ends_next sc A s kept (refused_as p why) (no_letter s p why) h fresh exists
+          (λ declared there. end.refuses (site_of sc s.server.0 declared) (pair_up p.txn (A p.txn) s kept) p refl (h.fits p.txn declared there) (asked declared there)
+          (λ other is epoch. subst (λ (e : Entry). e.ballot ≡ None) (same_Some entry other (sym found ∙ is)) none));
+      places = length-set s.entries p.txn.0 None;
+      replies = (record { from_is = refl; says = tt }, tt);
+    }
+
+-- a vote NO again
+refused_again_pairs : (sc : Scenario) (A : TxnId → Option Asker) (s : Server) (kept : List Record) (p : PrepareRequest) (why : No) → ServerPaired sc A s kept → RowPairs sc A s kept (sends s (no_letter s p why ∷ []))
+refused_again_pairs sc A s kept p why h = let still = ignores_pairs sc A s kept h in record { next = still.next; places = still.places; replies = (record { from_is = refl; says = tt }, tt) }
 
 -- ---- all mails
 
@@ -471,6 +498,10 @@ server_row_pairs sc A s kept mail h sound m asked =
       voted = λ p entry staple txn k.
           votes_pairs sc A s kept p entry (prepared_record s p entry (verdicts_on sc s txn staple entry.deeds)) h (open_unsettled s kept p.txn h.agrees k.unsettled) k.found (eqb-true entry.epoch p.epoch k.same_epoch)
           (subst (IsSoundBody sc to) k.said_is m).txn refl (record { epoch = refl; deeds = refl }) (subst (RequestPairs sc s.server A P) k.said_is asked);
+      refused = λ p entry number value k.
+          refuses_pairs sc A s kept p entry (no.Range number value) h (open_unsettled s kept p.txn h.agrees k.unsettled) (subst (IsSoundBody sc to) k.said_is m).txn k.found k.unvoted
+          (subst (RequestPairs sc s.server A P) k.said_is asked);
+      refused_again = λ p settled why k. refused_again_pairs sc A s kept p why h;
       settled = λ d k.
           settles_pairs sc A s kept d h (open_unsettled s kept d.txn h.agrees k.unsettled) (subst (IsSoundBody sc to) k.said_is m).txn (subst (RequestPairs sc s.server A P) k.said_is asked);
       acknowledged = λ d settled k. acknowledges_pairs sc A s kept d h;

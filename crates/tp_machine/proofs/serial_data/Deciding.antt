@@ -81,6 +81,7 @@ coordinator_row_own sc c mail =
       counted = λ reply round staple server verdicts other others y e. tt;
       committed = λ reply round staple server verdicts y e first agreed. record { deeds = refl; prepares = ap stand_of y.checking };
       denied = λ reply round staple server verdicts verdict y e f. tt;
+      refused = λ reply round staple server number value k. tt;
       acknowledged = λ ack ended awaited server a. tt;
     })
 

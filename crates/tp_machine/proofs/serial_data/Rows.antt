@@ -11,9 +11,10 @@ use Rattle.tp_model.specs.Queries.{item_of}
 use Rattle.tp_model.specs.SerialRun.{stored_all}
 use Rattle.tp_model.specs.Words.body
 use Rattle.tp_model.specs.Words.log
+use Rattle.tp_model.specs.Words.no
 use Rattle.tp_model.specs.Words.outcome
 use Rattle.tp_model.specs.Words.query
-use Rattle.tp_model.specs.Words.{Body, DecideRequest, Deed, Letter, Mail, Outcome, PrepareRequest, Prepared, Query, QueryRequest, Record, Scenario, Staple, Transaction, TxnId}
+use Rattle.tp_model.specs.Words.{Body, Deed, Letter, Mail, Outcome, PrepareRequest, Prepared, Query, QueryRequest, Record, Scenario, Settled, Staple, Transaction, TxnId}
 use Rattle.tp_machine.proofs.agreement.Server.{cast_in, vote_by, written_over}
 use Rattle.tp_machine.proofs.basics.Ids.{same_txn_is}
 use Rattle.tp_machine.proofs.basics.Lists.{missing, placed_emptied_others, placed_set, set_here}
@@ -30,7 +31,7 @@ use Rattle.tp_machine.specs.Runs.{deed_of}
 use Rattle.tp_machine.specs.Sound.{EachPlaced}
 use Rattle.tp_machine.specs.declared.server.Ballot.{Ballot}
 use Rattle.tp_machine.specs.declared.server.Entry.{Entry}
-use Rattle.tp_machine.specs.server.Row.{ack_letter, answer_to, asked_query, completes, ended_store, entry_after, entry_at, is_open, kept_by, reply, restarted_reply, server_row, settles, tentative_write, value_of_run, votes}
+use Rattle.tp_machine.specs.server.Row.{ack_letter, answer_to, asked_query, completes, ended_store, ends, entry_after, entry_at, is_open, kept_by, no_letter, refused_as, reply, restarted_reply, server_row, settled_as, tentative_write, value_of_run, votes}
 use Rattle.tp_machine.specs.server.State.{Server}
 use Rattle.tp_machine.specs.server.Verdicts.{verdicts_on}
 use Rattle.tp_store.specs.Contents.{Contents}
@@ -106,11 +107,16 @@ pub record OrderClear (sc : Scenario) (s : Server) (txn : TxnId) : Type 0 where
   pub exists : txn.0 < length sc.txns
   pub clear : IsClearOfOthers s txn
 
+-- a request to prepare was made, and may end its transaction
+pub record PrepareClear (sc : Scenario) (M : TxnId → Type 0) (s : Server) (txn : TxnId) : Type 0 where
+  pub made : M txn
+  pub ends : OrderClear sc s txn
+
 -- what is known of a mail to the server; M says which requests were made
 abbrev pub RequestClear : Scenario → (TxnId → Type 0) → Server → Body → Type 0
 RequestClear sc M s (body.Query q) = QueryRises sc s q
 RequestClear sc M s (body.Decide d) = OrderClear sc s d.txn
-RequestClear sc M s (body.Prepare p) = M p.txn
+RequestClear sc M s (body.Prepare p) = PrepareClear sc M s p.txn
 RequestClear sc M s _ = Unit {0}
 
 -- ---- rows
@@ -295,8 +301,8 @@ others_read : (ended : Outcome) (values : List ℤ) (deeds others : List Deed) �
 others_read outcome.Commit values deeds others clear h = reads_clear values others deeds clear h
 others_read outcome.Abort values deeds others clear h = h
 
-settles_keep : (sc : Scenario) (M : TxnId → Type 0) (s : Server) (d : DecideRequest) → ServerReads sc s → OrderClear sc s d.txn → ServerKeeps sc M s (settles s d)
-settles_keep sc M s d h m =
+ends_keep : (sc : Scenario) (M : TxnId → Type 0) (s : Server) (d : Settled) (letter : Letter) → ServerReads sc s → OrderClear sc s d.txn → ServerKeeps sc M s (ends s d letter)
+ends_keep sc M s d letter h m =
     let deeds = deeds_in (entry_at s d.txn) in
     let after = ended_store s.store d.txn d.outcome in
     let values : after.values ≡ values_by s.store.values d.outcome deeds = ended_values s.store d.txn d.outcome deeds (h.last d.txn) in
@@ -334,7 +340,9 @@ server_row_keeps sc M s mail h clear =
       ran = λ q query entry value k. runs_keep sc M s mail q query entry value h (subst (RequestClear sc M s) k.said_is clear) k;
       restarted = λ q k. stays_keep sc M s (reply s q.txn (body.Done (restarted_reply q s.epoch)) ∷ []) h;
       answered = λ q entry given k. stays_keep sc M s (reply s q.txn (body.Done given) ∷ []) h;
-      voted = λ p entry staple txn k. votes_keep sc M s mail p entry staple txn h (subst (RequestClear sc M s) k.said_is clear) k;
-      settled = λ d k. settles_keep sc M s d h (subst (RequestClear sc M s) k.said_is clear);
+      voted = λ p entry staple txn k. votes_keep sc M s mail p entry staple txn h (subst (RequestClear sc M s) k.said_is clear).made k;
+      refused = λ p entry number value k. ends_keep sc M s (refused_as p (no.Range number value)) (no_letter s p (no.Range number value)) h (subst (RequestClear sc M s) k.said_is clear).ends;
+      refused_again = λ p settled why k. stays_keep sc M s (no_letter s p why ∷ []) h;
+      settled = λ d k. ends_keep sc M s (settled_as d) (ack_letter s d.txn) h (subst (RequestClear sc M s) k.said_is clear);
       acknowledged = λ d settled k. stays_keep sc M s (ack_letter s d.txn ∷ []) h;
     })

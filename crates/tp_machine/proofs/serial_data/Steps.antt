@@ -81,7 +81,7 @@ request_clear : (sc : Scenario) (w : State) (at : ServerId) (part : Part Server)
     → RequestClear sc (IsAsked sc w.actors.coordinators at) s said
 request_clear sc w at part s from (body.Query q) alone places up pairs sound rests paired = query_rises sc w at part s q up sound pairs paired
 request_clear sc w at part s from (body.Decide d) alone places up pairs sound rests paired = record { exists = sound.txn; clear = clear_of_others sc s at d.txn alone places rests.1.item }
-request_clear sc w at part s from (body.Prepare p) alone places up pairs sound rests paired = rests
+request_clear sc w at part s from (body.Prepare p) alone places up pairs sound rests paired = record { made = rests; ends = record { exists = sound.txn; clear = clear_of_others sc s at p.txn alone places rests.item } }
 request_clear sc w at part s from _ alone places up pairs sound rests paired = tt
 
 receipt_by_server : (sc : Scenario) (w : State) → is_built sc ≡ true → IsSound sc w → Agrees sc w → Pairs sc w → Serial sc w → (n : ℕ) (mail : Mail) (at : ServerId) (part : Part Server) (s : Server)

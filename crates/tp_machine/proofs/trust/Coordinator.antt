@@ -17,7 +17,7 @@ use Rattle.tp_machine.proofs.trust.Turns.{AreFew, IsAbove, IsOfPast, Now, Prepar
 use Rattle.tp_machine.proofs.walks.CoordinatorRows.{IsYes, coordinator_by, submit_by}
 use Rattle.tp_machine.specs.Machine.{with_age}
 use Rattle.tp_machine.specs.Sound.{Each, IsSoundBody, query_in}
-use Rattle.tp_machine.specs.coord.Row.{aborts, are_agreed, asks, commits, coordinator_row, coordinator_with_age, denied_by, first_false, is_begun, is_false_verdict, next_number, next_turn, prepare_letter, prepares, requests, sends_query, staple_of, submit_row, with_deed, with_reply, without}
+use Rattle.tp_machine.specs.coord.Row.{aborts, are_agreed, asks, commits, coordinator_row, coordinator_with_age, denied_by, first_false, is_begun, is_false_verdict, next_number, next_turn, prepare_letter, prepares, refused_by, requests, sends_query, staple_of, submit_row, with_deed, with_reply, without}
 use Rattle.tp_machine.specs.coord.State.{Coordinator}
 use Rattle.tp_machine.specs.declared.coord.Phase.TheVariants as phase
 use Rattle.tp_machine.specs.declared.coord.Phase.{Phase}
@@ -49,9 +49,10 @@ pub record DeniedFits (sc : Scenario) (facts : List Fact) (place : ℕ) (txn : T
   pub right : Right sc facts place txn verdict
   pub ruleless : is_false_verdict verdict ≡ true
 
--- no coordinator aborts for another cause yet
+-- what a server refused is shown elsewhere. No coordinator aborts for another cause yet
 abbrev pub CauseFits : Scenario → List Fact → ℕ → TxnId → Cause → Type 0
 CauseFits sc facts place txn (cause.Denied denied) = DeniedFits sc facts place txn denied
+CauseFits sc facts place txn (cause.No refused) = Unit {0}
 CauseFits sc facts place txn _ = ⊥
 
 abbrev pub DecisionFits : Scenario → List Fact → ℕ → TxnId → Decision → Type 0
@@ -218,6 +219,26 @@ agreed_trusts sc facts place c round staple proofs h e v agreed =
     commits_trusts sc facts place c round.number proofs (h.unclosed (ap is_undecided e)) f.1.number
     (end_move (query_count sc c.txn) round.number 2 c.turn (omega (arith, f.1.number)) (omega arith) low) v agreed
 
+-- a vote NO ends the transaction
+refused_trusts : (sc : Scenario) (facts : List Fact) (place : ℕ) (c : Coordinator) (round : Round) (staple : Staple) (server : ServerId) (number : ℕ) (value : ℤ) → CoordinatorFits sc facts place c
+    → c.phase ≡ phase.Checking round staple → RowTrusts sc facts place c (aborts c (cause.No (refused_by server number value)))
+refused_trusts sc facts place c round staple server number value h e =
+    let f = phase_fits sc facts place c (phase.Checking round staple) h e in
+    let low : c.turn ≤ until_round (query_count sc c.txn) round.number 2 = turn_low sc facts place c (phase.Checking round staple) h e in
+    let now = aborts c (cause.No (refused_by server number value)) in
+    record {
+      fits = record {
+        awaits = tt;
+        unclosed = λ unsure. absurd (cc);
+        above = λ unsure. absurd (cc);
+        turn = end_move (query_count sc c.txn) round.number 2 c.turn (omega (arith, f.1.number)) (omega arith) low;
+      };
+      decides = tt;
+      says = λ sent. orders_fit sc facts place sent c outcome.Abort c.servers;
+      timely = λ sent. orders_timely sc c (Some now.state) sent outcome.Abort c.servers;
+      old = λ sent turn said t unsure. absurd (cc);
+    }
+
 -- a false verdict of the one reply denies
 denied_trusts : (sc : Scenario) (facts : List Fact) (place : ℕ) (c : Coordinator) (round : Round) (staple : Staple) (proofs : List Verdict) (verdict : Verdict) → CoordinatorFits sc facts place c
     → c.phase ≡ phase.Checking round staple → VerdictsFit sc facts place c.txn proofs → first_false proofs ≡ Some verdict → RowTrusts sc facts place c (aborts c (cause.Denied (denied_by verdict)))
@@ -313,6 +334,7 @@ coordinator_row_trusts sc facts place c mail few homes h m f =
           agreed_trusts sc facts place c round staple proofs h y.checking (yes_fits sc facts place c mail reply round staple server proofs m f y) agreed;
       denied = λ reply round staple server proofs verdict y e found.
           denied_trusts sc facts place c round staple proofs verdict h y.checking (yes_fits sc facts place c mail reply round staple server proofs m f y) found;
+      refused = λ reply round staple server number value k. refused_trusts sc facts place c round staple server number value h k.checking;
       acknowledged = λ ack ended awaited server k. acknowledged_trusts sc facts place c ended awaited server h k.ending;
     })
 

@@ -9,8 +9,9 @@ use Rattle.tp_model.specs.Authorisation.{is_item_at, is_own_query, is_query_at, 
 use Rattle.tp_model.specs.Queries.{query_at}
 use Rattle.tp_model.specs.Versions.{newest}
 use Rattle.tp_model.specs.Words.body
+use Rattle.tp_model.specs.Words.no
 use Rattle.tp_model.specs.Words.vote
-use Rattle.tp_model.specs.Words.{Admin, AdminId, Body, DecideRequest, Deed, DoneReply, Fact, Item, Letter, Mail, Policy, PrepareRequest, Query, QueryRequest, Record, Scenario, ServerId, Staple, Transaction, TxnId, Verdict, Version}
+use Rattle.tp_model.specs.Words.{Admin, AdminId, Body, Deed, DoneReply, Fact, Item, Letter, Mail, No, Policy, PrepareRequest, Query, QueryRequest, Record, Scenario, ServerId, Settled, Staple, Transaction, TxnId, Verdict, Version}
 use Rattle.tp_machine.proofs.basics.Lists.{each_append, each_found, each_map, placed_emptied, placed_set}
 use Rattle.tp_machine.proofs.basics.Stores.{ended_known, kept_known}
 use Rattle.tp_machine.proofs.ids.Server.{verdict_sound}
@@ -27,7 +28,7 @@ use Rattle.tp_machine.specs.Sound.{Each, IsQueryAt, IsSoundDeedAt, IsSoundEntry,
 use Rattle.tp_machine.specs.declared.coord.Phase.TheVariants as phase
 use Rattle.tp_machine.specs.declared.coord.Phase.{Phase}
 use Rattle.tp_machine.specs.declared.server.Entry.{Entry}
-use Rattle.tp_machine.specs.server.Row.{answers, completes, done_reply, entry_after, entry_at, restarted_reply, server_row, settles, votes}
+use Rattle.tp_machine.specs.server.Row.{ack_letter, answers, completes, done_reply, ends, entry_after, entry_at, no_letter, refused_as, restarted_reply, server_row, settled_as, votes}
 use Rattle.tp_machine.specs.server.State.{Server}
 use Rattle.tp_machine.specs.server.Verdicts.{verdict_on, verdicts_on}
 
@@ -218,16 +219,43 @@ votes_trusts sc facts place T s p txn staple entry valid sound h closed t e ther
       timely = (timely, tt);
     }
 
--- ---- Decide
+-- ---- the end of a transaction
 
-settles_trusts : (sc : Scenario) (facts : List Fact) (place : ℕ) (T : Body → Type 0) (s : Server) (d : DecideRequest) → ServerTrusted sc facts place T s → RowTrusts sc facts place T (settles s d)
-settles_trusts sc facts place T s d h =
+-- a letter that says nothing of authorisation fits, and is timely if it answers a request
+record LetterTrusts (sc : Scenario) (facts : List Fact) (place : ℕ) (T : Body → Type 0) (letter : Letter) : Type 0 where
+  says : BodyFits sc facts place place letter.body
+  timely : IfSome (stamp_of letter.body) (λ (stamped : Stamp). T letter.body)
+
+no_now : (awaited : Phase) (why : No) → VoteNow awaited (vote.No why)
+no_now (phase.Checking round staple) why = tt
+no_now phase.Idle why = tt
+no_now (phase.Querying number staple) why = tt
+no_now (phase.Asking round) why = tt
+no_now (phase.Ending ended awaited) why = tt
+
+-- a vote NO answers the request to prepare
+no_letter_trusts : (sc : Scenario) (facts : List Fact) (place : ℕ) (T : Body → Type 0) (s : Server) (p : PrepareRequest) (why : No) → IsClosed T → T (body.Prepare p) → LetterTrusts sc facts place T (no_letter s p why)
+no_letter_trusts sc facts place T s p why closed t =
     record {
-      fits = knows_as sc facts place s (settles s d).state (ended_known s.store d.txn d.outcome) h.fits;
+      says = tt;
+      timely = closed (body.Prepare p) (no_letter s p why).body (record { txn = p.txn; turn = p.turn })
+          (record {
+            asked = record { txn = p.txn; turn = p.turn };
+            asked_is = refl;
+            reply_is = refl;
+            same_txn = refl;
+            timely = λ sc c sent place t unsure. record { past = (t unsure).past; now = λ e. no_now c.phase why };
+          }) t;
+    }
+
+ends_trusts : (sc : Scenario) (facts : List Fact) (place : ℕ) (T : Body → Type 0) (s : Server) (d : Settled) (letter : Letter) → ServerTrusted sc facts place T s → LetterTrusts sc facts place T letter → RowTrusts sc facts place T (ends s d letter)
+ends_trusts sc facts place T s d letter h l =
+    record {
+      fits = knows_as sc facts place s (ends s d letter).state (ended_known s.store d.txn d.outcome) h.fits;
       keeps = placed_emptied (λ (n : ℕ) (entry : Entry). IsKept (IsTrusted sc facts place T) (record { 0 = n }) entry) s.entries d.txn.0 h.keeps;
       forces = tt;
-      says = (tt, tt);
-      timely = (tt, tt);
+      says = (l.says, tt);
+      timely = (l.timely, tt);
     }
 
 -- every row of a server on receipt of a mail
@@ -246,6 +274,11 @@ server_row_trusts sc facts place T s mail valid sound h f whole closed t =
           let fits : IfSome p.staple (StapleFits sc facts place p.txn) = subst (BodyFits sc facts place mail.sent) k.said_is f in
           votes_trusts sc facts place T s p txn staple entry valid sound h closed (subst T k.said_is t) k.stapled k.declared (subst (λ (x : Option Staple). IfSome x (StapleFits sc facts place p.txn)) k.stapled fits) k.found
           (subst (WholeMail sc s) k.said_is whole entry k.found (eqb-true entry.epoch p.epoch k.same_epoch));
-      settled = λ d k. settles_trusts sc facts place T s d h;
+      refused = λ p entry number value k.
+          ends_trusts sc facts place T s (refused_as p (no.Range number value)) (no_letter s p (no.Range number value)) h (no_letter_trusts sc facts place T s p (no.Range number value) closed (subst T k.said_is t));
+      refused_again = λ p settled why k.
+          let l = no_letter_trusts sc facts place T s p why closed (subst T k.said_is t) in
+          record { fits = h.fits; keeps = h.keeps; forces = tt; says = (l.says, tt); timely = (l.timely, tt) };
+      settled = λ d k. ends_trusts sc facts place T s (settled_as d) (ack_letter s d.txn) h (record { says = tt; timely = tt });
       acknowledged = λ d settled k. record { fits = h.fits; keeps = h.keeps; forces = tt; says = (tt, tt); timely = (tt, tt) };
     })

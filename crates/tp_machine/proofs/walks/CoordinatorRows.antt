@@ -1,7 +1,7 @@
 -- A coordinator's rows are walked once: what is shown of each of their outcomes holds of the rows. A new outcome is a field here, and of each
 -- theorem's cases.
 use Rattle.std.specs.List.{list_all}
-use Rattle.std.proofs.Common.{Bool, List, None, Option, Some, [], arith, false, is_none, is_some, refl, true, ℕ, ℤ, ◌&&◌, ◌==◌, ◌∷◌, ◌≡◌}
+use Rattle.std.proofs.Common.{Bool, List, None, Option, Some, [], ap, arith, false, is_none, is_some, refl, true, ℕ, ℤ, ◌&&◌, ◌==◌, ◌∷◌, ◌≡◌}
 use Rattle.std.proofs.lemmas.Bool.{and_from, and_parts}
 use Rattle.tp_types.specs.Effect.{Effect, ignores, sends}
 use Rattle.tp_model.specs.Stage.{is_empty}
@@ -9,10 +9,11 @@ use Rattle.tp_model.specs.Words.actor
 use Rattle.tp_model.specs.Words.answer
 use Rattle.tp_model.specs.Words.body
 use Rattle.tp_model.specs.Words.cause
+use Rattle.tp_model.specs.Words.no
 use Rattle.tp_model.specs.Words.vote
-use Rattle.tp_model.specs.Words.{AckReply, Actor, Answer, Body, DoneReply, Mail, Outcome, Query, Scenario, ServerId, Staple, TellReply, Verdict, Vote, VoteReply}
+use Rattle.tp_model.specs.Words.{AckReply, Actor, Answer, Body, DoneReply, Mail, No, Outcome, Query, Scenario, ServerId, Staple, TellReply, Verdict, Vote, VoteReply}
 use Rattle.tp_machine.proofs.basics.Lists.{by_cond}
-use Rattle.tp_machine.specs.coord.Row.{aborts, ack_from, are_agreed, asks, asks_next, awaits_query, awaits_vote, begins, commits, coordinator_row, denied_by, first_false, have_one_version, home_of, is_awaited, is_false_verdict, is_from, is_plain, is_true_verdict, next_number, on_ack, on_answer, on_body, on_done_from, on_done_of_query, on_reply, on_staple, on_verdicts, on_vote, on_vote_of, prepares, query_of, sends_query, server_of, staple_of, submit_row, vote_at, with_deed, with_reply, without}
+use Rattle.tp_machine.specs.coord.Row.{aborts, ack_from, are_agreed, asks, asks_next, awaits_query, awaits_vote, begins, commits, coordinator_row, denied_by, first_false, have_one_version, home_of, is_awaited, is_false_verdict, is_from, is_plain, is_true_verdict, next_number, on_ack, on_answer, on_body, on_done_from, on_done_of_query, on_no, on_reply, on_staple, on_verdicts, on_vote, on_vote_of, prepares, query_of, refused_by, sends_query, server_of, staple_of, submit_row, vote_at, with_deed, with_reply, without}
 use Rattle.tp_machine.specs.coord.State.{Coordinator}
 use Rattle.tp_machine.specs.declared.coord.Phase.TheVariants as phase
 use Rattle.tp_machine.specs.declared.coord.Phase.{Phase}
@@ -46,6 +47,15 @@ pub record IsYes (c : Coordinator) (mail : Mail) (reply : VoteReply) (round : Ro
   pub awaited : is_awaited round.awaited server ≡ true
   pub vote_is : reply.vote ≡ vote.Yes verdicts
 
+-- an awaited vote NO, for a value outside its range
+pub record IsNo (c : Coordinator) (mail : Mail) (reply : VoteReply) (round : Round) (staple : Staple) (server : ServerId) (number : ℕ) (value : ℤ) : Type 0 where
+  pub said_is : mail.letter.body ≡ body.Vote reply
+  pub from_is : mail.letter.from ≡ actor.Server server
+  pub present : (reply.turn == c.turn) ≡ true
+  pub checking : c.phase ≡ phase.Checking round staple
+  pub awaited : is_awaited round.awaited server ≡ true
+  pub vote_is : reply.vote ≡ vote.No (no.Range number value)
+
 -- an acknowledgement of what was decided
 pub record IsAck (c : Coordinator) (mail : Mail) (ack : AckReply) (ended : Outcome) (awaited : List ServerId) (server : ServerId) : Type 0 where
   pub said_is : mail.letter.body ≡ body.Ack ack
@@ -66,6 +76,8 @@ pub record CoordinatorCases (sc : Scenario) (c : Coordinator) (mail : Mail) (P :
       → without round.awaited server ≡ [] → is_empty round.kept ≡ true → are_agreed verdicts ≡ true → P (commits c round.number verdicts)
   pub denied : (reply : VoteReply) (round : Round) (staple : Staple) (server : ServerId) (verdicts : List Verdict) (verdict : Verdict) → IsYes c mail reply round staple server verdicts
       → without round.awaited server ≡ [] → first_false verdicts ≡ Some verdict → P (aborts c (cause.Denied (denied_by verdict)))
+  pub refused : (reply : VoteReply) (round : Round) (staple : Staple) (server : ServerId) (number : ℕ) (value : ℤ) → IsNo c mail reply round staple server number value
+      → P (aborts c (cause.No (refused_by server number value)))
   pub acknowledged : (ack : AckReply) (ended : Outcome) (awaited : List ServerId) (server : ServerId) → IsAck c mail ack ended awaited server
       → P (sends (record c { phase = phase.Ending ended (without awaited server) }) [])
 
@@ -140,10 +152,17 @@ on_reply_by sc c mail P cases reply round staple server verdicts [] y e =
     (λ other. cases.ignored)
 on_reply_by sc c mail P cases reply round staple server verdicts (other ∷ others) y e = cases.counted reply round staple server verdicts other others y e
 
+on_no_by : (sc : Scenario) (c : Coordinator) (mail : Mail) (P : Effect Coordinator → Type 0) → CoordinatorCases sc c mail P → (reply : VoteReply) (round : Round) (staple : Staple) (server : ServerId) (why : No)
+    → ((number : ℕ) (value : ℤ) → why ≡ no.Range number value → IsNo c mail reply round staple server number value) → P (on_no c server why)
+on_no_by sc c mail P cases reply round staple server (no.Range number value) n = cases.refused reply round staple server number value (n number value refl)
+on_no_by sc c mail P cases reply round staple server no.Restarted n = cases.ignored
+
 on_vote_of_by : (sc : Scenario) (c : Coordinator) (mail : Mail) (P : Effect Coordinator → Type 0) → CoordinatorCases sc c mail P → (reply : VoteReply) (round : Round) (staple : Staple) (server : ServerId) (said : Vote)
-    → ((verdicts : List Verdict) → said ≡ vote.Yes verdicts → IsYes c mail reply round staple server verdicts) → P (on_vote_of c round staple server said)
-on_vote_of_by sc c mail P cases reply round staple server (vote.Yes verdicts) y = on_reply_by sc c mail P cases reply round staple server verdicts (without round.awaited server) (y verdicts refl) refl
-on_vote_of_by sc c mail P cases reply round staple server (vote.No why) y = cases.ignored
+    → ((verdicts : List Verdict) → said ≡ vote.Yes verdicts → IsYes c mail reply round staple server verdicts)
+    → ((number : ℕ) (value : ℤ) → said ≡ vote.No (no.Range number value) → IsNo c mail reply round staple server number value) → P (on_vote_of c round staple server said)
+on_vote_of_by sc c mail P cases reply round staple server (vote.Yes verdicts) y n = on_reply_by sc c mail P cases reply round staple server verdicts (without round.awaited server) (y verdicts refl) refl
+on_vote_of_by sc c mail P cases reply round staple server (vote.No why) y n =
+    on_no_by sc c mail P cases reply round staple server why (λ number value e. n number value (ap (λ (w : No). vote.No w) e))
 
 vote_by_phase : (sc : Scenario) (c : Coordinator) (mail : Mail) (P : Effect Coordinator → Type 0) → CoordinatorCases sc c mail P → (reply : VoteReply) (awaited : Phase) (server : ServerId)
     → mail.letter.body ≡ body.Vote reply → mail.letter.from ≡ actor.Server server → (reply.turn == c.turn) ≡ true → c.phase ≡ awaited → awaits_vote awaited server ≡ true
@@ -151,6 +170,7 @@ vote_by_phase : (sc : Scenario) (c : Coordinator) (mail : Mail) (P : Effect Coor
 vote_by_phase sc c mail P cases reply (phase.Checking round staple) server e from present checking is_awaited_here =
     on_vote_of_by sc c mail P cases reply round staple server reply.vote
     (λ verdicts yes_is. record { said_is = e; from_is = from; present = present; checking = checking; awaited = is_awaited_here; vote_is = yes_is })
+    (λ number value no_is. record { said_is = e; from_is = from; present = present; checking = checking; awaited = is_awaited_here; vote_is = no_is })
 vote_by_phase sc c mail P cases reply _ server e from present checking is_awaited_here = cases.ignored
 
 vote_by_sender : (sc : Scenario) (c : Coordinator) (mail : Mail) (P : Effect Coordinator → Type 0) → CoordinatorCases sc c mail P → (reply : VoteReply) (from : Actor)

@@ -17,6 +17,8 @@ use Rattle.tp_machine.proofs.ids.Queries.{homes_built}
 use Rattle.tp_machine.proofs.ids.Steps.{sound_next, sound_opening}
 use Rattle.tp_machine.proofs.outside.Steps.{outside_next, outside_opening}
 use Rattle.tp_machine.proofs.pairs.World.{Pairs, pairs_next, pairs_opening}
+use Rattle.tp_machine.proofs.refusals.Steps.{refusals_next, refusals_opening}
+use Rattle.tp_machine.proofs.refusals.World.{Refusals}
 use Rattle.tp_machine.proofs.serial_data.End.{serial_facts, serial_values, values_at_end}
 use Rattle.tp_machine.proofs.serial_data.Lone.{AreLone, facts_lone, lone_next, lone_opening}
 use Rattle.tp_machine.proofs.serial_data.Steps.{serial_next, serial_opening}
@@ -41,10 +43,11 @@ pub record Holds (sc : Scenario) (w : State) : Type 0 where
   pub trusts : Trusts sc w
   pub pairs : Pairs sc w
   pub serial : Serial sc w
+  pub refusals : Refusals sc w
 
 pub holds_opening : (sc : Scenario) → is_built sc ≡ true → Holds sc (opening_state sc)
 holds_opening sc built =
-    record { sound = sound_opening sc built; agrees = agrees_opening sc; epochs = epochs_opening sc; ages = ages_opening sc; lone = lone_opening; outside = outside_opening sc; trusts = trusts_opening sc built; pairs = pairs_opening sc; serial = serial_opening sc built }
+    record { sound = sound_opening sc built; agrees = agrees_opening sc; epochs = epochs_opening sc; ages = ages_opening sc; lone = lone_opening; outside = outside_opening sc; trusts = trusts_opening sc built; pairs = pairs_opening sc; serial = serial_opening sc built; refusals = refusals_opening sc }
 
 -- each invariant may lean on all the others before the step
 pub holds_next : (sc : Scenario) (m : Machine) (taken : Step) → is_built sc ≡ true → IsStepOf sc taken → refusal m.state taken ≡ None → Holds sc m.state → Holds sc (machine_after sc m taken).state
@@ -59,6 +62,7 @@ holds_next sc m taken built exists allowed h =
       trusts = trusts_next sc m taken built exists allowed h.sound h.agrees h.pairs h.trusts;
       pairs = pairs_next sc m taken built exists allowed h.sound h.agrees h.epochs h.trusts h.pairs;
       serial = serial_next sc m taken built exists allowed h.sound h.agrees h.pairs h.serial;
+      refusals = refusals_next sc m taken built exists allowed h.sound h.agrees h.pairs h.serial h.refusals;
     }
 
 step_holds : (sc : Scenario) (m : Machine) (taken : Step) (why : Option StepError) → refusal m.state taken ≡ why → is_built sc ≡ true → IsStepOf sc taken → Holds sc m.state
@@ -83,7 +87,7 @@ shows sc w built h =
       outside = h.outside;
       agreed = facts_agreed sc w h.agrees;
       trusted = facts_trusted sc w built h.sound h.trusts;
-      caused = facts_caused sc w built h.sound h.trusts;
+      caused = facts_caused sc w built h.sound h.refusals h.trusts;
       serial = serial_facts sc w h.serial;
       lone = facts_lone w.facts h.lone;
       values_are = serial_values sc w built h.sound h.agrees h.serial;

@@ -6,11 +6,12 @@ use Rattle.tp_types.specs.Effect.{Effect, ignores, sends}
 use Rattle.tp_types.specs.Table.{flattened}
 use Rattle.tp_model.specs.Stage.{is_empty}
 use Rattle.tp_model.specs.Words.body
-use Rattle.tp_model.specs.Words.{Body, DecideRequest, DoneReply, Mail, PrepareRequest, Query, QueryRequest, Scenario, Settled, Staple, Transaction}
+use Rattle.tp_model.specs.Words.no
+use Rattle.tp_model.specs.Words.{Body, DecideRequest, DoneReply, Mail, No, PrepareRequest, Query, QueryRequest, Scenario, Settled, Staple, Transaction}
 use Rattle.tp_machine.proofs.basics.Lists.{by_cond}
 use Rattle.tp_machine.specs.Runs.{deed_of}
 use Rattle.tp_machine.specs.declared.server.Entry.{Entry}
-use Rattle.tp_machine.specs.server.Row.{ack_letter, age_of, answer_to, answers, asked_query, asked_to_vote, completes, entry_at, evaluates, is_open, names_another_epoch, new_entry, on_body, on_granted, on_open_query, on_settled_decide, on_unlost_query, restarts, runs_query, runs_with, server_row, settles, value_of_run, votes, votes_in_range, votes_with}
+use Rattle.tp_machine.specs.server.Row.{ack_letter, age_of, answer_to, answers, asked_query, asked_to_vote, completes, entry_at, evaluates, is_open, names_another_epoch, new_entry, no_letter, on_body, on_granted, on_open_query, on_refused, on_settled_decide, on_settled_prepare, on_unlost_query, refuses, restarts, runs_query, runs_with, server_row, settles, value_of_run, votes, votes_in_range, votes_with}
 use Rattle.tp_machine.specs.server.State.{Server}
 use Rattle.tp_machine.specs.server.Verdicts.{verdicts_on}
 use Rattle.tp_store.specs.Rule.{first_outside_in}
@@ -51,6 +52,21 @@ pub record IsVote (sc : Scenario) (s : Server) (mail : Mail) (p : PrepareRequest
   pub stapled : p.staple ≡ Some staple
   pub declared : slice_get sc.txns p.txn.0 ≡ Some txn
 
+-- a request to prepare an entry that wrote a value outside its item's range
+pub record IsRefusal (s : Server) (mail : Mail) (p : PrepareRequest) (entry : Entry) (number : ℕ) (value : ℤ) : Type 0 where
+  pub said_is : mail.letter.body ≡ body.Prepare p
+  pub unsettled : is_open s p.txn ≡ true
+  pub found : entry_at s p.txn ≡ Some entry
+  pub same_epoch : (entry.epoch == p.epoch) ≡ true
+  pub unvoted : is_some entry.ballot ≡ false
+  pub outside : first_outside_in s.store p.txn ≡ Some (number, value)
+
+-- a request to prepare a transaction that was settled by a vote NO
+pub record IsLateRequest (s : Server) (mail : Mail) (p : PrepareRequest) (settled : Settled) (why : No) : Type 0 where
+  pub said_is : mail.letter.body ≡ body.Prepare p
+  pub found : flattened (slice_get s.settled p.txn.0) ≡ Some settled
+  pub why_is : settled.why ≡ Some why
+
 -- an order to end a transaction that is not settled
 pub record IsOrder (s : Server) (mail : Mail) (d : DecideRequest) : Type 0 where
   pub said_is : mail.letter.body ≡ body.Decide d
@@ -79,6 +95,8 @@ pub record ServerCases (sc : Scenario) (s : Server) (mail : Mail) (P : Effect Se
   pub restarted : (q : QueryRequest) → IsLost mail q → P (restarts s q)
   pub answered : (q : QueryRequest) (entry : Entry) (given : DoneReply) → IsAnswered s mail q entry given → P (answers s q.txn given)
   pub voted : (p : PrepareRequest) (entry : Entry) (staple : Staple) (txn : Transaction) → IsVote sc s mail p entry staple txn → P (votes s p (verdicts_on sc s txn staple entry.deeds) entry)
+  pub refused : (p : PrepareRequest) (entry : Entry) (number : ℕ) (value : ℤ) → IsRefusal s mail p entry number value → P (refuses s p (no.Range number value))
+  pub refused_again : (p : PrepareRequest) (settled : Settled) (why : No) → IsLateRequest s mail p settled why → P (sends s (no_letter s p why ∷ []))
   pub settled : (d : DecideRequest) → IsOrder s mail d → P (settles s d)
   pub acknowledged : (d : DecideRequest) (settled : Settled) → IsLateOrder s mail d settled → P (sends s (ack_letter s d.txn ∷ []))
 
@@ -141,7 +159,8 @@ in_range_by sc s mail P cases p entry None e unsettled found same unvoted in_ran
     evaluates_by sc s mail P cases p entry p.staple
     (λ staple txn given declared.
     record { said_is = e; unsettled = unsettled; found = found; same_epoch = same; unvoted = unvoted; in_range = in_range; stapled = given; declared = declared })
-in_range_by sc s mail P cases p entry (Some outside) e unsettled found same unvoted in_range = cases.ignored
+in_range_by sc s mail P cases p entry (Some outside) e unsettled found same unvoted first =
+    cases.refused p entry outside.0 outside.1 (record { said_is = e; unsettled = unsettled; found = found; same_epoch = same; unvoted = unvoted; outside = first })
 
 asked_to_vote_by : (sc : Scenario) (s : Server) (mail : Mail) (P : Effect Server → Type 0) → ServerCases sc s mail P → (p : PrepareRequest) (entry : Option Entry) → mail.letter.body ≡ body.Prepare p
     → is_open s p.txn ≡ true → entry_at s p.txn ≡ entry → P (asked_to_vote sc s p entry)
@@ -150,6 +169,16 @@ asked_to_vote_by sc s mail P cases p (Some entry) e unsettled found =
     by_cond P (not (entry.epoch == p.epoch)) (λ another. cases.ignored)
     (λ same. by_cond P (is_some entry.ballot) (λ voted. cases.ignored)
     (λ unvoted. in_range_by sc s mail P cases p entry (first_outside_in s.store p.txn) e unsettled found (not-false (entry.epoch == p.epoch) same) unvoted refl))
+
+refused_by : (sc : Scenario) (s : Server) (mail : Mail) (P : Effect Server → Type 0) → ServerCases sc s mail P → (p : PrepareRequest) (settled : Settled) (why : Option No) → mail.letter.body ≡ body.Prepare p
+    → flattened (slice_get s.settled p.txn.0) ≡ Some settled → settled.why ≡ why → P (on_refused s p why)
+refused_by sc s mail P cases p settled None e found why_is = cases.ignored
+refused_by sc s mail P cases p settled (Some why) e found why_is = cases.refused_again p settled why (record { said_is = e; found = found; why_is = why_is })
+
+late_request_by : (sc : Scenario) (s : Server) (mail : Mail) (P : Effect Server → Type 0) → ServerCases sc s mail P → (p : PrepareRequest) (settled : Option Settled) → mail.letter.body ≡ body.Prepare p
+    → flattened (slice_get s.settled p.txn.0) ≡ settled → P (on_settled_prepare s p settled)
+late_request_by sc s mail P cases p None e found = cases.ignored
+late_request_by sc s mail P cases p (Some settled) e found = refused_by sc s mail P cases p settled settled.why e found refl
 
 -- ---- Decide
 
@@ -164,7 +193,8 @@ said_by : (sc : Scenario) (s : Server) (mail : Mail) (P : Effect Server → Type
 said_by sc s mail P cases (body.Query q) e =
     by_cond P (is_open s q.txn) (λ unsettled. on_open_query_by sc s mail P cases q (entry_at s q.txn) e unsettled refl) (λ settled. cases.ignored)
 said_by sc s mail P cases (body.Prepare p) e =
-    by_cond P (is_open s p.txn) (λ unsettled. asked_to_vote_by sc s mail P cases p (entry_at s p.txn) e unsettled refl) (λ settled. cases.ignored)
+    by_cond P (is_open s p.txn) (λ unsettled. asked_to_vote_by sc s mail P cases p (entry_at s p.txn) e unsettled refl)
+    (λ settled. late_request_by sc s mail P cases p (flattened (slice_get s.settled p.txn.0)) e refl)
 said_by sc s mail P cases (body.Decide d) e =
     by_cond P (is_open s d.txn) (λ unsettled. cases.settled d (record { said_is = e; unsettled = unsettled })) (λ settled. late_by sc s mail P cases d (flattened (slice_get s.settled d.txn.0)) e refl)
 said_by sc s mail P cases _ e = cases.ignored

@@ -4,19 +4,20 @@ use Rattle.std.specs.List.{find, list_all, list_any}
 use Rattle.std.specs.Prelude.{Bool, List, None, Option, Some, [], false, filter, if◌then◌else◌, is_none, is_some, map, min, not, option_and_then, option_map, slice_get, slice_set, true, unwrap_or, ℕ, ℤ, ◌&&◌, ◌++◌, ◌+◌, ◌-◌, ◌==◌, ◌^◌, ◌∷◌}
 use Rattle.tp_types.specs.Effect.{Effect, ignores, logs, sends, unbuilt}
 use Rattle.tp_types.specs.Table.{flattened}
-use Rattle.tp_model.specs.Words.{Actor, Answer, Body, Cause, CommitRecord, Decision, Denied, DoneReply, Instance, Item, ItemId, Letter, Mail, Outcome, Query, QueryRequest, Scenario, ServerId, Staple, TellReply, Transaction, Verdict, Vote, VoteReply}
+use Rattle.tp_types.specs.declared.records.Outcome.TheVariants.{Abort, Commit}
+use Rattle.tp_model.specs.Queries.{item_of, query_at}
+use Rattle.tp_model.specs.Stage.{is_empty}
 use Rattle.tp_model.specs.Words.actor
 use Rattle.tp_model.specs.Words.answer
 use Rattle.tp_model.specs.Words.body
+use Rattle.tp_model.specs.Words.cause
 use Rattle.tp_model.specs.Words.decision
 use Rattle.tp_model.specs.Words.log
+use Rattle.tp_model.specs.Words.no
 use Rattle.tp_model.specs.Words.vote
-use Rattle.tp_types.specs.declared.records.Outcome.TheVariants.{Abort, Commit}
-use Rattle.tp_model.specs.Words.cause
-use Rattle.tp_model.specs.Queries.{item_of, query_at}
-use Rattle.tp_model.specs.Stage.{is_empty}
-use Rattle.tp_machine.specs.Sums.{asked_value}
+use Rattle.tp_model.specs.Words.{Actor, Answer, Body, Cause, CommitRecord, Decision, Denied, DoneReply, Instance, Item, ItemId, Letter, Mail, No, OutOfRange, Outcome, Query, QueryRequest, Scenario, ServerId, Staple, TellReply, Transaction, Verdict, Vote, VoteReply}
 use Rattle.tp_machine.specs.Runs.{deed_of}
+use Rattle.tp_machine.specs.Sums.{asked_value}
 use Rattle.tp_machine.specs.coord.State.{Coordinator}
 use Rattle.tp_machine.specs.declared.coord.Phase.TheVariants as phase
 use Rattle.tp_machine.specs.declared.coord.Phase.{Phase}
@@ -306,11 +307,19 @@ on_reply c round staple server verdicts [] = judgement c round verdicts
 on_reply c round staple server verdicts (other ∷ others) =
     sends (record c { phase = phase.Checking (with_reply round server verdicts) staple }) []
 
--- a NO ends the transaction, which is not built
+-- what a server's vote NO refuses
+abbrev pub refused_by : ServerId → ℕ → ℤ → OutOfRange
+refused_by server number value = record { query = number; server = server; value = value }
+
+-- a NO ends the transaction at once. One of a server that has restarted is not built
+abbrev pub on_no : Coordinator → ServerId → No → Effect Coordinator
+on_no c server (no.Range number value) = aborts c (cause.No (refused_by server number value))
+on_no c server no.Restarted = unbuilt c
+
 abbrev pub on_vote_of : Coordinator → Round → Staple → ServerId → Vote → Effect Coordinator
 on_vote_of c round staple server (vote.Yes verdicts) =
     on_reply c round staple server verdicts (without round.awaited server)
-on_vote_of c round staple server (vote.No why) = unbuilt c
+on_vote_of c round staple server (vote.No why) = on_no c server why
 
 -- the vote of this server is awaited
 abbrev pub awaits_vote : Phase → ServerId → Bool

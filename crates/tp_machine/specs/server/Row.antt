@@ -5,23 +5,24 @@ use Rattle.std.specs.Prelude.{Bool, List, None, Option, Some, [], false, if◌th
 use Rattle.std.proofs.Common.{is_some, not}
 use Rattle.tp_types.specs.Effect.{Effect, ignores, logs, sends, unbuilt}
 use Rattle.tp_types.specs.Table.{flattened, is_unset}
-use Rattle.tp_model.specs.Words.{Body, DecideRequest, Deed, DoneReply, ItemId, Letter, Mail, Outcome, PrepareRequest, Prepared, Query, QueryRequest, Scenario, Settled, Staple, Transaction, TxnId, Verdict}
-use Rattle.tp_model.specs.Words.actor
-use Rattle.tp_model.specs.Words.answer
-use Rattle.tp_model.specs.Words.body
-use Rattle.tp_model.specs.Words.log
-use Rattle.tp_model.specs.Words.vote
 use Rattle.tp_types.specs.declared.records.Outcome.TheVariants.{Abort, Commit}
 use Rattle.tp_types.specs.declared.scenario.Query.TheVariants.{Read, Write}
 use Rattle.tp_model.specs.Queries.{query_at}
 use Rattle.tp_model.specs.Stage.{is_empty}
-use Rattle.tp_store.specs.Contents.{Contents}
-use Rattle.tp_store.specs.Rule.{after_apply, after_forget, after_write, first_outside_in, read_in}
-use Rattle.tp_store.specs.declared.writes.TentativeWrite.{TentativeWrite}
+use Rattle.tp_model.specs.Words.actor
+use Rattle.tp_model.specs.Words.answer
+use Rattle.tp_model.specs.Words.body
+use Rattle.tp_model.specs.Words.log
+use Rattle.tp_model.specs.Words.no
+use Rattle.tp_model.specs.Words.vote
+use Rattle.tp_model.specs.Words.{Body, DecideRequest, Deed, DoneReply, ItemId, Letter, Mail, No, Outcome, PrepareRequest, Prepared, Query, QueryRequest, Scenario, Settled, Staple, Transaction, TxnId, Verdict}
 use Rattle.tp_machine.specs.Runs.{deed_of}
 use Rattle.tp_machine.specs.declared.server.Entry.{Entry}
 use Rattle.tp_machine.specs.server.State.{Server}
 use Rattle.tp_machine.specs.server.Verdicts.{verdicts_on}
+use Rattle.tp_store.specs.Contents.{Contents}
+use Rattle.tp_store.specs.Rule.{after_apply, after_forget, after_write, first_outside_in, read_in}
+use Rattle.tp_store.specs.declared.writes.TentativeWrite.{TentativeWrite}
 
 -- a transaction of the scenario that the server has not settled
 abbrev pub is_open : Server → TxnId → Bool
@@ -216,11 +217,44 @@ evaluates sc s p entry (Some staple) =
     else unbuilt s
 evaluates sc s p entry None = unbuilt s
 
--- the vote where no write is outside its range. Where one is, a vote NO is to be given
+-- ---- the end of a transaction
+
+-- the store once a transaction has ended: a commit's writes are applied, and an abort's are dropped
+abbrev pub ended_store : Contents → TxnId → Outcome → Contents
+ended_store store txn Commit = after_apply store txn
+ended_store store txn Abort = after_forget store txn
+
+-- the outcome is forced before the letter is sent, and the entry ends
+abbrev pub ends : Server → Settled → Letter → Effect Server
+ends s settled letter =
+    logs (record s {
+      store = ended_store s.store settled.txn settled.outcome;
+      settled = slice_set s.settled settled.txn.0 (Some settled);
+      entries = slice_set s.entries settled.txn.0 None;
+    })
+    (log.Settled settled)
+    (letter ∷ [])
+
+-- ---- a vote NO
+
+abbrev pub no_letter : Server → PrepareRequest → No → Letter
+no_letter s p why =
+    reply s p.txn (body.Vote (record { txn = p.txn; turn = p.turn; vote = vote.No why }))
+
+abbrev pub refused_as : PrepareRequest → No → Settled
+refused_as p why = record { txn = p.txn; outcome = Abort; why = Some why }
+
+-- the server aborts the transaction by itself, and votes NO
+abbrev pub refuses : Server → PrepareRequest → No → Effect Server
+refuses s p why = ends s (refused_as p why) (no_letter s p why)
+
+-- ---- the vote
+
+-- the vote where no write is outside its range. Where one is, the first such write by query is the reason of a vote NO
 abbrev pub votes_in_range : Scenario → Server → PrepareRequest → Entry → Option (ℕ × ℤ)
     → Effect Server
 votes_in_range sc s p entry None = evaluates sc s p entry p.staple
-votes_in_range sc s p entry (Some outside) = unbuilt s
+votes_in_range sc s p entry (Some outside) = refuses s p (no.Range outside.0 outside.1)
 
 -- a request to prepare a transaction that is not settled. Without an entry of that epoch it is to be refused; one that is prepared is to
 -- vote again
@@ -231,16 +265,22 @@ asked_to_vote sc s p (Some entry) =
     else if is_some entry.ballot then unbuilt s
     else votes_in_range sc s p entry (first_outside_in s.store p.txn)
 
--- of one that is settled a vote NO is to be given again
+-- a vote NO is given again with its reason
+abbrev pub on_refused : Server → PrepareRequest → Option No → Effect Server
+on_refused s p None = ignores s
+on_refused s p (Some why) = sends s (no_letter s p why ∷ [])
+
+-- of one that was settled by a vote NO the same vote is given again
+abbrev pub on_settled_prepare : Server → PrepareRequest → Option Settled → Effect Server
+on_settled_prepare s p None = ignores s
+on_settled_prepare s p (Some settled) = on_refused s p settled.why
+
 abbrev pub on_prepare : Scenario → Server → PrepareRequest → Effect Server
-on_prepare sc s p = if is_open s p.txn then asked_to_vote sc s p (entry_at s p.txn) else unbuilt s
+on_prepare sc s p =
+    if is_open s p.txn then asked_to_vote sc s p (entry_at s p.txn)
+    else on_settled_prepare s p (flattened (slice_get s.settled p.txn.0))
 
 -- ---- Decide
-
--- the store once a transaction has ended: a commit's writes are applied, and an abort's are dropped
-abbrev pub ended_store : Contents → TxnId → Outcome → Contents
-ended_store store txn Commit = after_apply store txn
-ended_store store txn Abort = after_forget store txn
 
 abbrev pub settled_as : DecideRequest → Settled
 settled_as d = record { txn = d.txn; outcome = d.outcome; why = None }
@@ -249,16 +289,9 @@ settled_as d = record { txn = d.txn; outcome = d.outcome; why = None }
 abbrev pub ack_letter : Server → TxnId → Letter
 ack_letter s txn = reply s txn (body.Ack (record { txn = txn }))
 
--- the outcome is forced, a commit's writes are applied, and the entry ends
+-- the outcome that is ordered is forced, and acknowledged
 abbrev pub settles : Server → DecideRequest → Effect Server
-settles s d =
-    logs (record s {
-      store = ended_store s.store d.txn d.outcome;
-      settled = slice_set s.settled d.txn.0 (Some (settled_as d));
-      entries = slice_set s.entries d.txn.0 None;
-    })
-    (log.Settled (settled_as d))
-    (ack_letter s d.txn ∷ [])
+settles s d = ends s (settled_as d) (ack_letter s d.txn)
 
 -- of one that is settled the Ack is given again
 abbrev pub on_settled_decide : Server → DecideRequest → Option Settled → Effect Server
