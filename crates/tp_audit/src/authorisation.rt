@@ -11,20 +11,11 @@ ghost use Rattle.tp_model.specs.Queries as queries;
 
 use crate::credentials::{Held, is_presented, is_valid};
 use crate::policies::{allows, rule_allows};
-use tp_model::{item_of, query_at, rule_in};
+use tp_model::{action_of, item_of, policy_at, query_at, rule_in};
 use tp_types::{
-    Action, AdminId, CredId, Fact, Item, List, Place, Policy, Query, Rule, Scenario, ServerId,
-    Transaction, Verdict, Version,
+    AdminId, CredId, Fact, Item, List, Place, Policy, Query, Rule, Scenario, ServerId, Transaction,
+    Verdict, Version,
 };
-
-fn action_of(query: &Query) -> Action
-    ensures { result ≡ authorisation.action_of query.now }
-{
-    match query {
-        Query::Read { item: _, into: _ } => Action::Read,
-        Query::Write { item: _, expr: _ } => Action::Write,
-    }
-}
 
 fn is_query_at(scenario: &Scenario, at: ServerId, admin: AdminId, query: &Query) -> bool
     ensures { result ≡ authorisation.is_query_at scenario.now at admin query.now }
@@ -48,25 +39,6 @@ pub fn is_own_query(
     match query_at(txn, number) {
         None => false,
         Some(query) => is_query_at(scenario, at, admin, query),
-    }
-}
-
-fn version_in(library: &List<Policy>, version: u32) -> Option<&Policy>
-    ensures { option_copied result ≡ authorisation.version_in library.now version }
-{
-    if version == 0 {
-        return None;
-    }
-    library.get(version as usize - 1)
-}
-
-/// A version of an administrator's policy, where its library has it.
-pub fn policy_at(scenario: &Scenario, admin: AdminId, version: Version) -> Option<&Policy>
-    ensures { option_copied result ≡ authorisation.policy_at scenario.now admin version }
-{
-    match scenario.admins.get(admin.0 as usize) {
-        None => None,
-        Some(declared) => version_in(&declared.library, version.0),
     }
 }
 

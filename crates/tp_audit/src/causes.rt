@@ -4,13 +4,13 @@ ghost use Rattle.tp_model.specs.Authorisation as authorisation;
 ghost use Rattle.tp_model.specs.Causes as causes;
 ghost use Rattle.tp_model.specs.Versions as versions;
 
-use crate::authorisation::{is_allowed, is_own_query, policy_at};
+use crate::authorisation::{is_allowed, is_own_query};
 use crate::crashes::{coordinator_crashed, is_server_of, server_crashed};
 use crate::refusals::is_refused;
 use crate::trust::is_within;
 use crate::versions::newest;
 use std::alloc::Global;
-use tp_model::{is_global, level_of};
+use tp_model::{is_global, level_of, policy_at};
 use tp_types::{
     Cause, Decision, Denied, Fact, List, NoMemory, Place, Scenario, Scheme, ServerId, Transaction,
     TxnId, What,

@@ -5,6 +5,7 @@ pub mod epochs
 pub mod ids
 pub mod outside
 pub mod pairs
+pub mod refusals
 pub mod serial_data
 pub mod trust
 pub mod walks

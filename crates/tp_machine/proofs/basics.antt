@@ -1,6 +1,7 @@
 -- Lemmas on lists, tables, ids, logs, facts and the machine, which know no theorem.
 pub mod Facts
 pub mod Flags
+pub mod Homes
 pub mod Ids
 pub mod Lists
 pub mod Logs
@@ -8,5 +9,6 @@ pub mod Machine
 pub mod Opened
 pub mod Phases
 pub mod Servers
+pub mod Stores
 pub mod Tables
 pub mod World

@@ -16,6 +16,7 @@ pub mod Moves
 pub mod Outcomes
 pub mod Pair
 pub mod Ran
+pub mod Rises
 pub mod ServerRows
 pub mod Site
 pub mod Votes

@@ -9,5 +9,6 @@ pub mod Kept
 pub mod Server
 pub mod Steps
 pub mod Turns
+pub mod Whole
 pub mod World
 pub mod Offices

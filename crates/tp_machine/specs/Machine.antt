@@ -351,7 +351,7 @@ is_down actors _ = false
 
 abbrev pub value_up : Option Server → ℕ → ℤ → ℤ
 value_up None item opening = opening
-value_up (Some s) item opening = unwrap_or (slice_get s.values item) opening
+value_up (Some s) item opening = unwrap_or (slice_get s.store.values item) opening
 
 -- the value of an item at its server; what a server that is down holds is not built
 abbrev pub item_value : List (Part Server) → ℕ → Item → ℤ

@@ -1,6 +1,7 @@
 -- What is asked of each mail, record and fact of a world: that all they name exists, and that their values are bounded.
-use Rattle.std.specs.Prelude.{◌≡◌, ℕ, ◌<◌, ◌≤◌, List, [], ◌∷◌, length, slice_get, Bool, true, false, Option, Some, is_some, IfSome, option_map, option_and_then, ℤ}
-use Rattle.tp_model.specs.Words.{Actor, Admin, AdminId, Answer, Body, Cause, CommitRecord, CredId, Decided, Decision, Deed, Denied, Died, DoneReply, Fact, Instance, Item, ItemId, Letter, Mail, Met, Newer, NewestReply, No, OutOfRange, PrepareRequest, Prepared, PushNotice, Query, QueryRequest, Record, Scenario, Scheme, ServerId, Settled, Staple, Step, TellReply, Transaction, TxnId, ValidateRequest, Verdict, VerdictsReply, Version, Vote, VoteReply, What}
+use Rattle.std.specs.Prelude.{Bool, IfSome, List, Option, Some, [], false, is_some, length, option_and_then, option_map, slice_get, true, ℕ, ℤ, ◌<◌, ◌∷◌, ◌≡◌, ◌≤◌}
+use Rattle.tp_types.specs.Table.{flattened}
+use Rattle.tp_model.specs.Queries.{item_of, query_at}
 use Rattle.tp_model.specs.Words.actor
 use Rattle.tp_model.specs.Words.answer
 use Rattle.tp_model.specs.Words.body
@@ -13,21 +14,22 @@ use Rattle.tp_model.specs.Words.scheme
 use Rattle.tp_model.specs.Words.step
 use Rattle.tp_model.specs.Words.vote
 use Rattle.tp_model.specs.Words.what
-use Rattle.tp_model.specs.Queries.{item_of, query_at}
-use Rattle.tp_types.specs.Table.{flattened}
-use Rattle.tp_machine.specs.declared.actors.Actors.{Actors}
+use Rattle.tp_model.specs.Words.{Actor, Admin, AdminId, Answer, Body, Cause, CommitRecord, CredId, Decided, Decision, Deed, Denied, Died, DoneReply, Fact, Instance, Item, ItemId, Letter, Mail, Met, Newer, NewestReply, No, OutOfRange, PrepareRequest, Prepared, PushNotice, Query, QueryRequest, Record, Scenario, Scheme, ServerId, Settled, Staple, Step, TellReply, Transaction, TxnId, ValidateRequest, Verdict, VerdictsReply, Version, Vote, VoteReply, What}
+use Rattle.tp_machine.specs.Machine.{State}
+use Rattle.tp_machine.specs.Parts.{Part}
 use Rattle.tp_machine.specs.coord.State.{Coordinator}
-use Rattle.tp_machine.specs.declared.coord.Phase.{Phase}
+use Rattle.tp_machine.specs.declared.actors.Actors.{Actors}
 use Rattle.tp_machine.specs.declared.coord.Phase.TheVariants as phase
+use Rattle.tp_machine.specs.declared.coord.Phase.{Phase}
 use Rattle.tp_machine.specs.declared.coord.Reply.{Reply}
 use Rattle.tp_machine.specs.declared.coord.Round.{Round}
-use Rattle.tp_offices.specs.declared.authority.Authority.{Authority}
-use Rattle.tp_offices.specs.declared.master.Master.{Master}
-use Rattle.tp_machine.specs.Parts.{Part}
 use Rattle.tp_machine.specs.declared.server.Ballot.{Ballot}
 use Rattle.tp_machine.specs.declared.server.Entry.{Entry}
 use Rattle.tp_machine.specs.server.State.{Server}
-use Rattle.tp_machine.specs.Machine.{State}
+use Rattle.tp_offices.specs.declared.authority.Authority.{Authority}
+use Rattle.tp_offices.specs.declared.master.Master.{Master}
+use Rattle.tp_store.specs.Rule.{writes_of}
+use Rattle.tp_store.specs.declared.writes.TentativeWrite.{TentativeWrite}
 
 -- ---- lists
 
@@ -329,11 +331,25 @@ IsSoundBody sc to (body.Ack ack) = IsSoundReport sc to ack.txn
 IsSoundBody sc to (body.Inquire inquiry) = IsSoundReport sc to inquiry.txn
 IsSoundBody sc to (body.Push push) = IsSoundPush sc to push
 
+-- a value that a server refuses is of a query of the transaction on an item of the server
+abbrev pub IsReasonOf : Scenario → ServerId → TxnId → No → Type 0
+IsReasonOf sc at txn (no.Range number value) = IsQueryOf sc txn number at
+IsReasonOf sc at txn _ = Unit {0}
+
+abbrev pub IsRefusalOf : Scenario → ServerId → TxnId → Vote → Type 0
+IsRefusalOf sc at txn (vote.No why) = IsReasonOf sc at txn why
+IsRefusalOf sc at txn _ = Unit {0}
+
+abbrev pub IsSoundRefusal : Scenario → Actor → Body → Type 0
+IsSoundRefusal sc (actor.Server at) (body.Vote reply) = IsRefusalOf sc at reply.txn reply.vote
+IsSoundRefusal sc _ _ = Unit {0}
+
 -- the letter's actors exist, and what it says is sound
 pub record IsSoundLetter (sc : Scenario) (letter : Letter) : Type 0 where
   pub from_is_actor : IsActor sc letter.from
   pub to_is_actor : IsActor sc letter.to
   pub says : IsSoundBody sc letter.to letter.body
+  pub refuses : IsSoundRefusal sc letter.from letter.body
 
 -- the mail's letter is sound
 abbrev pub IsSoundMail : Scenario → Mail → Type 0
@@ -349,15 +365,15 @@ pub record IsSoundPrepared (sc : Scenario) (at : ServerId) (p : Prepared) : Type
   pub told : AreVersions sc p.told
 
 -- the transaction exists, and the reason for a NO is sound
-pub record IsSoundSettled (sc : Scenario) (settled : Settled) : Type 0 where
+pub record IsSoundSettled (sc : Scenario) (at : ServerId) (settled : Settled) : Type 0 where
   pub txn : IsTxn sc settled.txn
-  pub why : IfSome settled.why (IsSoundNo sc settled.txn)
+  pub why : IfSome settled.why (IsReasonOf sc at settled.txn)
 
 -- what is asked of a record of a server's log
 abbrev pub IsSoundServerRecord : Scenario → ServerId → Record → Type 0
 IsSoundServerRecord sc at (log.Told told) = IsVersion sc told.admin told.version
 IsSoundServerRecord sc at (log.Prepared p) = IsSoundPrepared sc at p
-IsSoundServerRecord sc at (log.Settled settled) = IsSoundSettled sc settled
+IsSoundServerRecord sc at (log.Settled settled) = IsSoundSettled sc at settled
 IsSoundServerRecord sc at _ = Unit {0}
 
 -- each proof and each deed is sound
@@ -434,11 +450,23 @@ pub record IsSoundEntry (sc : Scenario) (at : ServerId) (txn : TxnId) (entry : E
   pub deeds : Each (IsSoundDeedAt sc at txn) entry.deeds
   pub ballot : IfSome entry.ballot (λ (cast : Ballot). AreSoundVerdicts sc txn cast.verdicts)
 
+-- what was settled of this transaction
+pub record IsSettledOf (sc : Scenario) (at : ServerId) (txn : TxnId) (settled : Settled) : Type 0 where
+  pub own : settled.txn ≡ txn
+  pub sound : IsSoundSettled sc at settled
+
+-- a write that is kept of a transaction is of one of its queries there, and of an item of the server
+pub record IsWriteOf (sc : Scenario) (at : ServerId) (txn : TxnId) (write : TentativeWrite) : Type 0 where
+  pub query : IsQueryOf sc txn write.query at
+  pub item : IsItemOf sc at write.item
+
 -- a server's state: it exists, and what it knows and keeps of each transaction is sound
 pub record IsSoundServer (sc : Scenario) (s : Server) : Type 0 where
   pub exists : IsServer sc s.server
-  pub known : AreVersions sc s.known
-  pub settled : EachPlaced (λ (n : ℕ) (done : Settled). IsSoundSettled sc done) s.settled
+  pub known : AreVersions sc s.store.known
+  pub writes : (txn : TxnId) → Each (IsWriteOf sc s.server txn) (writes_of s.store txn)
+  pub settled : EachPlaced
+      (λ (n : ℕ) (done : Settled). IsSettledOf sc s.server (record { 0 = n }) done) s.settled
   pub entries : EachPlaced
       (λ (n : ℕ) (entry : Entry). IsSoundEntry sc s.server (record { 0 = n }) entry) s.entries
 

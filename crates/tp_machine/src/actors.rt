@@ -2,6 +2,7 @@
 ghost use Rattle.std.specs.Prelude.{◌≡◌, ◌+◌, ◌<◌, ◌^◌, ◌∷◌, [], length, map, slice_get, IfOk};
 ghost use Rattle.std.specs.Option.{option_copied};
 ghost use Rattle.tp_machine.specs.Machine as machine;
+ghost use Rattle.tp_machine.specs.server.Verdicts.{HasFewRules};
 
 use crate::coord::Coordinator;
 use crate::part::{Act, Part, coordinator_submits, coordinator_takes, no_act, server_takes};
@@ -70,6 +71,7 @@ impl Actors {
         scenario: &Scenario,
         mail: &Mail,
     ) -> Result<Act, NoMemory>
+        requires { HasFewRules scenario.now }
         ensures ok { IfOk result (λ act.
             Moves
             (machine.receipt scenario.now self.old mail.now mail.now.letter.to) self.new act) }
@@ -90,6 +92,7 @@ impl Actors {
         mail: &Mail,
         at: ServerId,
     ) -> Result<Act, NoMemory>
+        requires { HasFewRules scenario.now }
         ensures ok { IfOk result (λ act.
             Moves
             (machine.to_server scenario.now self.old mail.now at

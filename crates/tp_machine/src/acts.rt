@@ -6,6 +6,7 @@ ghost use Rattle.tp_machine.specs.mirrors.Acts.{Moves, SameUp};
 ghost use Rattle.tp_machine.specs.mirrors.History.{SameHistory};
 ghost use Rattle.tp_machine.specs.Machine as machine;
 ghost use Rattle.tp_machine.specs.Seen.{IsBuiltStep, machine_of, state_of};
+ghost use Rattle.tp_machine.specs.server.Verdicts.{HasFewRules};
 
 use crate::actors::Actors;
 use crate::coord::Coordinator;
@@ -81,6 +82,7 @@ pub fn act(
     scenario: &Scenario,
     taken: &Step,
 ) -> Result<(), NoMemory>
+    requires few { HasFewRules scenario.now }
     requires built { IsBuiltStep taken.now }
     requires allowed { machine.refusal (state_of actors.old history.old) taken.now ≡ None }
     ensures ok { OnOk result
@@ -123,7 +125,8 @@ fn deliver(
     scenario: &Scenario,
     mail: u64,
 ) -> Result<(), NoMemory>
-    requires { mail < length history.old.mails }
+    requires few { HasFewRules scenario.now }
+    requires sent { mail < length history.old.mails }
     ensures ok { OnOk result
         (machine_of actors.new history.new
         ≡ machine.machine_after scenario.now (machine_of actors.old history.old)
@@ -174,6 +177,7 @@ fn receive(
     mails: &[Mail],
     mail: u64,
 ) -> Result<Act, NoMemory>
+    requires { HasFewRules scenario.now }
     ensures ok { IfOk result (λ act.
         Moves
         (machine.delivery scenario.now actors.old (slice_get mails.now mail)) actors.new act) }

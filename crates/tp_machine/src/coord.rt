@@ -9,16 +9,18 @@ ghost use Rattle.tp_types.specs.Effect.{Gives};
 ghost use Rattle.tp_machine.specs.coord.Opened as opened;
 ghost use Rattle.tp_machine.specs.coord.Row as row;
 
+use crate::runs::deed_of;
+use crate::sums::asked_value;
 use std::alloc::Global;
 use std::marker::Model;
 use std::mem;
-use tp_model::{item_of, query_at, servers_of, written_constant};
+use tp_model::{item_of, query_at, servers_of};
 use tp_types::{
-    Action, Actor, Answer, AskRequest, Body, Cause, CommitRecord, DecideRequest, Decided, Decision,
-    Deed, Denied, DoneReply, Instance, ItemId, Letter, List, Mail, Met, NoMemory, Outcome, Place,
-    PrepareRequest, Query, QueryRequest, Reaction, Record, Scenario, ServerId, Staple, TellReply,
-    TryClone, TxnId, Verdict, Version, Vote, VoteReply, ignored, none_for_each, nothing,
-    sent_alone, unbuilt,
+    Actor, Answer, AskRequest, Body, Cause, CommitRecord, DecideRequest, Decided, Decision, Deed,
+    Denied, DoneReply, Instance, ItemId, Letter, List, Mail, Met, No, NoMemory, OutOfRange,
+    Outcome, Place, PrepareRequest, Query, QueryRequest, Reaction, Record, Scenario, ServerId,
+    Staple, TellReply, TryClone, TxnId, Verdict, Version, Vote, VoteReply, ignored, none_for_each,
+    nothing, sent_alone, unbuilt,
 };
 
 /// A server's reply in a round.
@@ -129,12 +131,9 @@ impl Coordinator {
         ensures { IfOk result (λ reaction.
             Gives (row.submit_row scenario.now self.old) self.new reaction) }
     {
-        let Some(query) = self.query_of(scenario, 1) else {
-            return Ok(ignored(alloc));
-        };
-        match (server_of(scenario, query), written_constant(query)) {
-            (Some(server), Some(value)) => self.sends_first(alloc, server, value),
-            _ => Ok(unbuilt(alloc)),
+        match self.home_of(scenario, 1) {
+            None => Ok(ignored(alloc)),
+            Some(server) => self.sends_query(alloc, scenario, 1, server),
         }
     }
 
@@ -189,6 +188,16 @@ impl Coordinator {
         }
     }
 
+    /// The server of the transaction's query of this number.
+    fn home_of(&self, scenario: &Scenario, number: u32) -> Option<ServerId>
+        ensures { result ≡ row.home_of scenario.now self.now number }
+    {
+        match self.query_of(scenario, number) {
+            None => None,
+            Some(query) => server_of(scenario, query),
+        }
+    }
+
     fn request(&self, server: ServerId, body: Body) -> Letter
         ensures { result ≡ row.request self.now server body }
     {
@@ -205,33 +214,76 @@ impl Coordinator {
         self.turn.saturating_add(1)
     }
 
-    fn sends_first(
+    /// The epoch that a server has told the transaction, if it has told one.
+    fn epoch_told(&self, server: ServerId) -> Option<u64>
+        ensures { result ≡ row.epoch_told self.now server }
+    {
+        match self.epochs.get(server.0 as usize) {
+            Some(told) => *told,
+            None => None,
+        }
+    }
+
+    /// The value that a query is asked with: a write's sum over what was read.
+    fn value_of(
+        &self,
+        alloc: Global,
+        scenario: &Scenario,
+        number: u32,
+    ) -> Result<Option<i128>, NoMemory>
+        ensures { IfOk result (λ value. value ≡ row.value_of scenario.now self.now number) }
+    {
+        match scenario.txns.get(self.txn.0 as usize) {
+            Some(txn) => asked_value(alloc, txn, self.deeds.as_slice(), number),
+            None => Ok(None),
+        }
+    }
+
+    fn sends_query(
         &mut self,
         alloc: Global,
+        scenario: &Scenario,
+        number: u32,
         server: ServerId,
-        value: i128,
     ) -> Result<Reaction, NoMemory>
         ensures { IfOk result (λ reaction.
-            Gives (row.sends_first self.old (Some server) (Some value)) self.new reaction) }
+            Gives (row.sends_query scenario.now self.old number server) self.new reaction) }
     {
         let turn = self.next_turn();
         let query = QueryRequest {
             txn: self.txn,
             turn,
-            query: 1,
-            age: None,
-            epoch: None,
-            value: Some(value),
+            query: number,
+            age: self.age,
+            epoch: self.epoch_told(server),
+            value: self.value_of(alloc, scenario, number)?,
             staple: None,
             pin: None,
         };
         let letter = self.request(server, Body::Query(query));
         self.turn = turn;
         self.phase = Phase::Querying {
-            query: 1,
+            query: number,
             staple: None,
         };
         sent_alone(alloc, letter)
+    }
+
+    /// After the query of this number the next one is asked; after the last the servers are to prepare.
+    fn goes_on(
+        &mut self,
+        alloc: Global,
+        scenario: &Scenario,
+        number: u32,
+    ) -> Result<Reaction, NoMemory>
+        ensures { IfOk result (λ reaction.
+            Gives (row.goes_on scenario.now self.old number) self.new reaction) }
+    {
+        let next = number.saturating_add(1);
+        match self.home_of(scenario, next) {
+            None => self.asks(alloc),
+            Some(server) => self.sends_query(alloc, scenario, next, server),
+        }
     }
 
     fn on_done(
@@ -279,11 +331,8 @@ impl Coordinator {
                 value,
                 verdict: None,
             } => {
-                if !self.is_last_write(scenario, query, done.query) {
-                    return Ok(unbuilt(alloc));
-                }
                 self.ran(server, done, query, *value)?;
-                self.asks(alloc)
+                self.goes_on(alloc, scenario, done.query)
             }
             _ => Ok(unbuilt(alloc)),
         }
@@ -298,14 +347,6 @@ impl Coordinator {
         }
     }
 
-    fn is_last_write(&self, scenario: &Scenario, query: &Query, number: u32) -> bool
-        ensures { result ≡ row.is_last_write scenario.now self.now query.now number }
-    {
-        written_constant(query).is_some()
-            && number < u32::MAX
-            && self.query_of(scenario, number + 1).is_none()
-    }
-
     fn ran(
         &mut self,
         server: ServerId,
@@ -315,13 +356,7 @@ impl Coordinator {
     ) -> Result<(), NoMemory>
         ensures { OnOk result (self.new ≡ row.with_deed self.old server done.now query.now value) }
     {
-        let deed = Deed {
-            query: done.query,
-            item: item_of(query),
-            action: Action::Write,
-            value,
-        };
-        self.deeds.push(deed)?;
+        self.deeds.push(deed_of(done.query, query, value))?;
         self.epochs.put(server.0 as usize, Some(done.epoch));
         Ok(())
     }
@@ -359,10 +394,7 @@ impl Coordinator {
     fn epoch_of(&self, server: ServerId) -> u64
         ensures { result ≡ row.epoch_of self.now server }
     {
-        match self.epochs.get(server.0 as usize) {
-            Some(Some(epoch)) => *epoch,
-            _ => 0,
-        }
+        self.epoch_told(server).unwrap_or(0)
     }
 
     fn prepare_letter(
@@ -463,8 +495,9 @@ impl Coordinator {
         if reply.turn != self.turn || !awaits_vote(&self.phase, server) {
             return Ok(ignored(alloc));
         }
-        let Vote::Yes(verdicts) = &reply.vote else {
-            return Ok(unbuilt(alloc));
+        let verdicts = match &reply.vote {
+            Vote::Yes(verdicts) => verdicts,
+            Vote::No(why) => return self.on_no(alloc, server, *why),
         };
         match mem::replace(&mut self.phase, Phase::Idle) {
             Phase::Checking { round, staple } => self.voted(alloc, round, staple, server, verdicts),
@@ -472,6 +505,27 @@ impl Coordinator {
                 self.phase = other;
                 Ok(ignored(alloc))
             }
+        }
+    }
+
+    /// A vote NO of a server that is awaited ends the transaction at once.
+    fn on_no(&mut self, alloc: Global, server: ServerId, why: No) -> Result<Reaction, NoMemory>
+        ensures { IfOk result (λ reaction.
+            Gives (row.vote_at self.old self.old.phase server (vote.No why)) self.new reaction) }
+    {
+        if !matches!(self.phase, Phase::Checking { .. }) {
+            return Ok(ignored(alloc));
+        }
+        match why {
+            No::Range { query, value } => self.aborts(
+                alloc,
+                Cause::No(OutOfRange {
+                    query,
+                    server,
+                    value,
+                }),
+            ),
+            No::Restarted => Ok(unbuilt(alloc)),
         }
     }
 

@@ -10,8 +10,11 @@ pub mod evaluation;
 mod history;
 pub mod laws;
 mod part;
+mod runs;
 pub mod serial;
 mod server;
+mod sums;
+mod verdicts;
 pub mod views;
 mod world;
 

@@ -3,6 +3,7 @@ ghost use Rattle.std.specs.Prelude.{◌≡◌, [], ◌++◌, IfOk, OnOk};
 ghost use Rattle.std.specs.Option.{option_copied, option_map_or};
 ghost use Rattle.tp_machine.specs.mirrors.Acts.{Acts};
 ghost use Rattle.tp_machine.specs.Machine as machine;
+ghost use Rattle.tp_machine.specs.server.Verdicts.{HasFewRules};
 
 use crate::coord::Coordinator;
 use crate::server::Server;
@@ -79,6 +80,7 @@ pub fn server_takes(
     at: ServerId,
     mail: &Mail,
 ) -> Result<Act, NoMemory>
+    requires { HasFewRules scenario.now }
     ensures ok { IfOk result (λ act.
         Acts (machine.server_takes scenario.now at part.old mail.now) part.new act) }
     ensures up { machine.is_part_down part.new ≡ machine.is_part_down part.old }

@@ -1,22 +1,26 @@
 //! A server: what it does on receipt of a mail.
-ghost use Rattle.std.specs.Prelude.{◌≡◌, Option, Some, None, [], ◌∷◌, map, slice_get, slice_set, IfOk};
+ghost use Rattle.std.specs.Prelude.{◌≡◌, Option, Some, None, [], ◌∷◌, map, slice_get, slice_set, IfOk, OnOk};
 ghost use Rattle.std.specs.Option.{option_copied};
-ghost use Rattle.tp_model.specs.Words.{Item};
-ghost use Rattle.tp_types.specs.declared.records.Outcome.TheVariants as Outcome;
 ghost use Rattle.tp_machine.specs.declared.server.Entry.{Entry};
 ghost use Rattle.tp_types.specs.Effect.{Gives};
 ghost use Rattle.tp_types.specs.Table.{flattened};
 ghost use Rattle.tp_machine.specs.server.Row as row;
 ghost use Rattle.tp_machine.specs.server.Opened as opened;
+ghost use Rattle.tp_machine.specs.server.Verdicts.{HasFewRules};
+ghost use Rattle.tp_machine.specs.mirrors.Entries.{entry_of, IsNoted};
+ghost use Rattle.tp_machine.specs.Runs as ran;
 
+use crate::runs::deed_of;
+use crate::verdicts::verdicts_on;
 use std::alloc::Global;
 use std::marker::Model;
 use tp_model::query_at;
+use tp_store::Store;
 use tp_types::{
-    AckReply, Action, Actor, AdminId, Answer, Body, DecideRequest, Deed, DoneReply, Item, ItemId,
-    Letter, List, Mail, NoMemory, Outcome, Place, PrepareRequest, Prepared, Query, QueryRequest,
-    Reaction, Record, Scenario, ServerId, Settled, Staple, TryClone, TxnId, Verdict, Version, Vote,
-    VoteReply, forced_and_sent, ignored, none_for_each, sent_alone, taken, unbuilt,
+    AckReply, Actor, Answer, Body, DecideRequest, Deed, DoneReply, Letter, List, Mail, No,
+    NoMemory, Outcome, Place, PrepareRequest, Prepared, Query, QueryRequest, Reaction, Record,
+    Scenario, ServerId, Settled, TryClone, TxnId, Verdict, Vote, VoteReply, forced_and_sent,
+    ignored, none_for_each, sent_alone, taken, unbuilt,
 };
 
 /// What a server voted YES on: the turn of the request, and its verdicts.
@@ -48,10 +52,8 @@ pub struct Server {
     pub server: ServerId,
     /// One plus the number of its boots.
     pub epoch: u64,
-    /// The newest version known of each administrator.
-    pub known: List<Version>,
-    /// The value of each item of the scenario; only its own are read or written.
-    pub values: List<i128>,
+    /// The values of items, the writes of each transaction that is not settled, and the newest versions known.
+    pub store: Store,
     /// How each transaction of the scenario was settled here, if it was.
     pub settled: List<Option<Settled>>,
     /// The entry of each transaction of the scenario, if it has one.
@@ -66,8 +68,7 @@ impl Model for Server {
     ghost view = { λ s. record {
       server = s.server;
       epoch = s.epoch;
-      known = s.known;
-      values = s.values;
+      store = s.store;
       settled = s.settled;
       entries = s.entries;
     } };
@@ -81,8 +82,7 @@ impl Server {
         Ok(Server {
             server,
             epoch: 1,
-            known: known_at_first(alloc, scenario, server)?,
-            values: opening_values(alloc, scenario.items.as_slice())?,
+            store: Store::opened(alloc, scenario, server)?,
             settled: none_for_each(alloc, scenario.txns.len())?,
             entries: none_for_each(alloc, scenario.txns.len())?,
         })
@@ -95,6 +95,7 @@ impl Server {
         scenario: &Scenario,
         mail: &Mail,
     ) -> Result<Reaction, NoMemory>
+        requires { HasFewRules scenario.now }
         ensures { IfOk result (λ reaction.
             Gives (row.server_row scenario.now self.old mail.now) self.new reaction) }
     {
@@ -109,9 +110,9 @@ impl Server {
 
     /// The value of an item of the scenario; None where there is no such item.
     pub fn value(&self, item: usize) -> Option<i128>
-        ensures { result ≡ slice_get self.now.values item }
+        ensures { result ≡ slice_get self.now.store.values item }
     {
-        self.values.get(item).copied()
+        self.store.values().get(item).copied()
     }
 
     fn is_open(&self, txn: TxnId) -> bool
@@ -155,41 +156,153 @@ impl Server {
         if !self.is_open(request.txn) {
             return Ok(ignored(alloc));
         }
-        if let Some(entry) = self.entry_at(request.txn) {
-            return self.asked_again(alloc, entry, request);
-        }
-        if request.epoch.is_some() {
-            return self.restarts(alloc, request);
-        }
-        match plain_write(request, asked_item(scenario, request)) {
-            None => Ok(unbuilt(alloc)),
-            Some(deed) => self.begins(alloc, sent, request, deed),
-        }
-    }
-
-    /// A query of a transaction that has an entry.
-    fn asked_again(
-        &self,
-        alloc: Global,
-        entry: &Entry,
-        request: &QueryRequest,
-    ) -> Result<Reaction, NoMemory>
-        ensures { IfOk result (λ reaction.
-            Gives (row.on_query_again self.now request.now entry.now) self.now reaction) }
-    {
+        let Some(entry) = self.entry_at(request.txn) else {
+            return self.on_first_query(alloc, scenario, sent, request);
+        };
         if entry.ballot.is_some() {
             return Ok(ignored(alloc));
         }
         if names_another_epoch(entry, request) {
             return self.restarts(alloc, request);
         }
-        match answer_to(entry, request.query) {
-            Some(given) => {
-                let given = given.try_clone(alloc)?;
-                self.answers(alloc, request.txn, given)
+        if let Some(given) = answer_to(entry, request.query) {
+            let given = given.try_clone(alloc)?;
+            return self.answers(alloc, request.txn, given);
+        }
+        if entry.waiting.is_some() {
+            return Ok(ignored(alloc));
+        }
+        self.on_granted(alloc, scenario, sent, request)
+    }
+
+    /// A query of a transaction that has no entry.
+    fn on_first_query(
+        &mut self,
+        alloc: Global,
+        scenario: &Scenario,
+        sent: Place,
+        request: &QueryRequest,
+    ) -> Result<Reaction, NoMemory>
+        ensures { row.entry_at self.old request.now.txn ≡ None → IfOk result (λ reaction.
+            Gives (row.on_open_query scenario.now self.old sent request.now None) self.new reaction) }
+    {
+        if request.epoch.is_some() {
+            return self.restarts(alloc, request);
+        }
+        self.on_granted(alloc, scenario, sent, request)
+    }
+
+    /// A query that may run.
+    fn on_granted(
+        &mut self,
+        alloc: Global,
+        scenario: &Scenario,
+        sent: Place,
+        request: &QueryRequest,
+    ) -> Result<Reaction, NoMemory>
+        ensures { IfOk result (λ reaction.
+            Gives
+            (row.on_granted scenario.now self.old request.now
+            (entry_of self.old sent request.now))
+            self.new reaction) }
+    {
+        if request.staple.is_some() || request.pin.is_some() {
+            return Ok(unbuilt(alloc));
+        }
+        let Some(query) = asked_query(scenario, request) else {
+            return Ok(ignored(alloc));
+        };
+        let Some(value) = self.value_of_run(request, query) else {
+            return Ok(ignored(alloc));
+        };
+        self.runs(alloc, sent, request, query, value)
+    }
+
+    fn value_of_run(&self, request: &QueryRequest, query: &Query) -> Option<i128>
+        ensures { result ≡ row.value_of_run self.now request.now query.now }
+    {
+        match query {
+            Query::Read { item, .. } => Some(self.store.read(request.txn, *item)),
+            Query::Write { .. } => request.value,
+        }
+    }
+
+    /// What the query does is kept and answered.
+    fn runs(
+        &mut self,
+        alloc: Global,
+        sent: Place,
+        request: &QueryRequest,
+        query: &Query,
+        value: i128,
+    ) -> Result<Reaction, NoMemory>
+        ensures { IfOk result (λ reaction.
+            Gives
+            (row.completes self.old request.now query.now
+            (entry_of self.old sent request.now)
+            (ran.deed_of request.now.query query.now value))
+            self.new reaction) }
+    {
+        let deed = deed_of(request.query, query, value);
+        let epoch = self.notes(alloc, sent, request, deed)?;
+        self.keep(alloc, request, query, value)?;
+        let letter = self.reply(request.txn, Body::Done(done(request, epoch, deed)));
+        sent_alone(alloc, letter)
+    }
+
+    /// Adds a deed, with its answer, to the entry of its transaction, and gives the entry's epoch.
+    #[tactic(auto, using(crate::proofs::basics::Tables::set_twice))]
+    fn notes(
+        &mut self,
+        alloc: Global,
+        sent: Place,
+        request: &QueryRequest,
+        deed: Deed,
+    ) -> Result<u64, NoMemory>
+        ensures { IfOk result (λ epoch. IsNoted self.old sent request.now deed self.new epoch) }
+    {
+        let entry = self.entry_for(alloc, sent, request);
+        let epoch = entry.epoch;
+        let entry = after_run(entry, request, deed)?;
+        self.entries.put(request.txn.0 as usize, Some(entry));
+        Ok(epoch)
+    }
+
+    /// Takes the entry of a transaction, or makes one.
+    fn entry_for(&mut self, alloc: Global, sent: Place, request: &QueryRequest) -> Entry
+        ensures taken { result ≡ entry_of self.old sent request.now }
+        ensures left { self.new
+            ≡ record self.old { entries = slice_set self.old.entries request.now.txn.0 None } }
+    {
+        match taken(&mut self.entries, request.txn.0 as usize) {
+            Some(entry) => entry,
+            None => Entry {
+                age: request.age.unwrap_or(sent),
+                epoch: self.epoch,
+                answers: List::new(alloc),
+                waiting: None,
+                deeds: List::new(alloc),
+                ballot: None,
+            },
+        }
+    }
+
+    fn keep(
+        &mut self,
+        alloc: Global,
+        request: &QueryRequest,
+        query: &Query,
+        value: i128,
+    ) -> Result<(), NoMemory>
+        ensures { OnOk result (self.new
+            ≡ record self.old { store = row.kept_by self.old.store request.now query.now value }) }
+    {
+        match query {
+            Query::Read { .. } => Ok(()),
+            Query::Write { item, .. } => {
+                self.store
+                    .write(alloc, request.txn, request.query, *item, value)
             }
-            None if entry.waiting.is_some() => Ok(ignored(alloc)),
-            None => Ok(unbuilt(alloc)),
         }
     }
 
@@ -216,70 +329,123 @@ impl Server {
         sent_alone(alloc, letter)
     }
 
-    fn begins(
-        &mut self,
-        alloc: Global,
-        sent: Place,
-        request: &QueryRequest,
-        deed: Deed,
-    ) -> Result<Reaction, NoMemory>
-        ensures { IfOk result (λ reaction.
-            Gives (row.begins self.old sent request.now (Some deed)) self.new reaction) }
-    {
-        let entry = Entry {
-            age: request.age.unwrap_or(sent),
-            epoch: self.epoch,
-            answers: List::of_one(alloc, done(request, self.epoch, deed))?,
-            waiting: None,
-            deeds: List::of_one(alloc, deed)?,
-            ballot: None,
-        };
-        self.entries.put(request.txn.0 as usize, Some(entry));
-        let letter = self.reply(request.txn, Body::Done(done(request, self.epoch, deed)));
-        sent_alone(alloc, letter)
-    }
-
     fn on_prepare(
         &mut self,
         alloc: Global,
         scenario: &Scenario,
         request: &PrepareRequest,
     ) -> Result<Reaction, NoMemory>
+        requires { HasFewRules scenario.now }
         ensures { IfOk result (λ reaction.
             Gives (row.on_prepare scenario.now self.old request.now) self.new reaction) }
     {
         if !self.is_open(request.txn) {
-            return Ok(unbuilt(alloc));
+            return self.on_settled_prepare(alloc, request);
         }
+        let outside = self.store.first_outside(request.txn);
         let Some(entry) = self.entry_at(request.txn) else {
             return Ok(unbuilt(alloc));
         };
-        if entry.epoch != request.epoch
-            || entry.ballot.is_some()
-            || !are_in_range(scenario, entry.deeds.as_slice())
-        {
+        if entry.epoch != request.epoch || entry.ballot.is_some() {
             return Ok(unbuilt(alloc));
         }
+        if let Some((query, value)) = outside {
+            return self.refuses(alloc, request, No::Range { query, value });
+        }
+        let Some(txn) = scenario.txns.get(request.txn.0 as usize) else {
+            return Ok(ignored(alloc));
+        };
         match &request.staple {
             Some(staple) if request.want.is_empty() => {
-                let forced = self.prepared(alloc, scenario, request, staple.place, entry)?;
+                let deeds = entry.deeds.as_slice();
+                let verdicts = verdicts_on(alloc, scenario, self, txn, staple, deeds)?;
+                let forced = self.prepared(alloc, request, entry, verdicts)?;
                 self.votes(alloc, forced)
             }
             _ => Ok(unbuilt(alloc)),
         }
     }
 
+    /// A request to prepare what is settled already: a vote NO is given again with its reason.
+    fn on_settled_prepare(
+        &self,
+        alloc: Global,
+        request: &PrepareRequest,
+    ) -> Result<Reaction, NoMemory>
+        ensures { IfOk result (λ reaction.
+            Gives
+            (row.on_settled_prepare self.now request.now
+            (flattened (slice_get self.now.settled request.now.txn.0)))
+            self.now reaction) }
+    {
+        match self.settled.get(request.txn.0 as usize) {
+            Some(Some(settled)) => match settled.why {
+                Some(why) => {
+                    let letter = self.no_letter(request, why);
+                    sent_alone(alloc, letter)
+                }
+                None => Ok(ignored(alloc)),
+            },
+            _ => Ok(ignored(alloc)),
+        }
+    }
+
+    fn no_letter(&self, request: &PrepareRequest, why: No) -> Letter
+        ensures { result ≡ row.no_letter self.now request.now why }
+    {
+        let vote = VoteReply {
+            txn: request.txn,
+            turn: request.turn,
+            vote: Vote::No(why),
+        };
+        self.reply(request.txn, Body::Vote(vote))
+    }
+
+    /// Aborts the transaction here, and votes NO.
+    fn refuses(
+        &mut self,
+        alloc: Global,
+        request: &PrepareRequest,
+        why: No,
+    ) -> Result<Reaction, NoMemory>
+        ensures { IfOk result (λ reaction.
+            Gives (row.refuses self.old request.now why) self.new reaction) }
+    {
+        let settled = Settled {
+            txn: request.txn,
+            outcome: Outcome::Abort,
+            why: Some(why),
+        };
+        let vote = self.no_letter(request, why);
+        self.ends(alloc, settled, vote)
+    }
+
+    /// Forces how a transaction ended, ends its entry, and sends the letter.
+    fn ends(
+        &mut self,
+        alloc: Global,
+        settled: Settled,
+        letter: Letter,
+    ) -> Result<Reaction, NoMemory>
+        ensures { IfOk result (λ reaction.
+            Gives (row.ends self.old settled letter) self.new reaction) }
+    {
+        let at = settled.txn.0 as usize;
+        self.end(settled.txn, settled.outcome);
+        self.settled.put(at, Some(settled));
+        self.entries.put(at, None);
+        forced_and_sent(alloc, Record::Settled(settled), letter)
+    }
+
     fn prepared(
         &self,
         alloc: Global,
-        scenario: &Scenario,
         request: &PrepareRequest,
-        place: Place,
         entry: &Entry,
+        verdicts: List<Verdict>,
     ) -> Result<Prepared, NoMemory>
         ensures { IfOk result (λ made.
-            made ≡ row.prepared_record self.now request.now entry.now
-            (map (row.verdict_on scenario.now self.now place) entry.now.deeds)) }
+            made ≡ row.prepared_record self.now request.now entry.now verdicts) }
     {
         Ok(Prepared {
             txn: request.txn,
@@ -287,50 +453,9 @@ impl Server {
             epoch: entry.epoch,
             turn: request.turn,
             deeds: entry.deeds.try_clone(alloc)?,
-            verdicts: self.verdicts_on(alloc, scenario, place, entry.deeds.as_slice())?,
-            told: self.known.try_clone(alloc)?,
+            verdicts,
+            told: self.store.known().try_clone(alloc)?,
         })
-    }
-
-    fn version_known(&self, admin: AdminId) -> Version
-        ensures { result ≡ row.version_known self.now admin }
-    {
-        match self.known.get(admin.0 as usize) {
-            None => Version(1),
-            Some(version) => *version,
-        }
-    }
-
-    fn verdict_on(&self, alloc: Global, scenario: &Scenario, place: Place, deed: Deed) -> Verdict
-        ensures { result ≡ row.verdict_on scenario.now self.now place deed }
-    {
-        let admin = admin_of(scenario, deed.item);
-        Verdict {
-            query: deed.query,
-            server: self.server,
-            admin,
-            version: self.version_known(admin),
-            place,
-            rule: Some(1),
-            uses: List::new(alloc),
-        }
-    }
-
-    fn verdicts_on(
-        &self,
-        alloc: Global,
-        scenario: &Scenario,
-        place: Place,
-        deeds: &[Deed],
-    ) -> Result<List<Verdict>, NoMemory>
-        ensures { IfOk result (λ made.
-            made ≡ map (row.verdict_on scenario.now self.now place) deeds.now) }
-    {
-        let mut made = List::new(alloc);
-        for deed in deeds {
-            made.push(self.verdict_on(alloc, scenario, place, *deed))?;
-        }
-        Ok(made)
     }
 
     fn votes(&mut self, alloc: Global, forced: Prepared) -> Result<Reaction, NoMemory>
@@ -358,19 +483,13 @@ impl Server {
         if !self.is_open(request.txn) {
             return self.on_settled_decide(alloc, request);
         }
-        let at = request.txn.0 as usize;
-        if let Outcome::Commit = request.outcome {
-            self.apply(request.txn);
-        }
         let settled = Settled {
             txn: request.txn,
             outcome: request.outcome,
             why: None,
         };
-        self.settled.put(at, Some(settled));
-        self.entries.put(at, None);
         let letter = self.ack_letter(request.txn);
-        forced_and_sent(alloc, Record::Settled(settled), letter)
+        self.ends(alloc, settled, letter)
     }
 
     /// An order to end what may be settled already.
@@ -396,15 +515,14 @@ impl Server {
         self.reply(txn, Body::Ack(AckReply { txn }))
     }
 
-    fn apply(&mut self, txn: TxnId)
+    /// Applies what a commit has written, or drops what an abort has.
+    fn end(&mut self, txn: TxnId, outcome: Outcome)
         ensures { self.new
-            ≡ record self.old {
-              values = row.committed self.old.values Outcome.Commit (row.entry_at self.old txn);
-            } }
+            ≡ record self.old { store = row.ended_store self.old.store txn outcome } }
     {
-        match self.entries.get(txn.0 as usize) {
-            Some(Some(entry)) => apply_deeds(&mut self.values, entry.deeds.as_slice()),
-            _ => {}
+        match outcome {
+            Outcome::Commit => self.store.apply(txn),
+            Outcome::Abort => self.store.forget(txn),
         }
     }
 }
@@ -430,22 +548,6 @@ fn answer_to(entry: &Entry, number: u32) -> Option<&DoneReply>
         .find(|given| given.query == number)
 }
 
-fn apply_deeds(values: &mut List<i128>, deeds: &[Deed])
-    ensures { values.new ≡ row.applied values.old deeds.now }
-{
-    for deed in deeds {
-        apply_deed(values, *deed);
-    }
-}
-
-fn apply_deed(values: &mut List<i128>, deed: Deed)
-    ensures { values.new ≡ row.applied_deed values.old deed }
-{
-    if let Action::Write = deed.action {
-        values.put(deed.item.0 as usize, deed.value);
-    }
-}
-
 /// Casts a vote at the entry that stands there.
 #[tactic(auto, using(crate::proofs::basics::Tables::set_twice))]
 fn cast(entries: &mut List<Option<Entry>>, at: usize, ballot: Ballot)
@@ -458,35 +560,21 @@ fn cast(entries: &mut List<Option<Entry>>, at: usize, ballot: Ballot)
     }
 }
 
-fn asked_item(scenario: &Scenario, request: &QueryRequest) -> Option<ItemId>
-    ensures { result ≡ row.asked_item scenario.now request.now }
+fn asked_query<'a>(scenario: &'a Scenario, request: &QueryRequest) -> Option<&'a Query>
+    ensures { option_copied result ≡ row.asked_query scenario.now request.now }
 {
     let txn = scenario.txns.get(request.txn.0 as usize)?;
-    let query = query_at(txn, request.query)?;
-    written_item(query)
+    query_at(txn, request.query)
 }
 
-fn written_item(query: &Query) -> Option<ItemId>
-    ensures { result ≡ row.written_item query.now }
+/// The entry once its query ran.
+fn after_run(mut entry: Entry, request: &QueryRequest, deed: Deed) -> Result<Entry, NoMemory>
+    ensures { IfOk result (λ made. made ≡ row.entry_after request.now entry deed) }
 {
-    match query {
-        Query::Write { item, .. } => Some(*item),
-        Query::Read { .. } => None,
-    }
-}
-
-fn plain_write(request: &QueryRequest, item: Option<ItemId>) -> Option<Deed>
-    ensures { result ≡ row.plain_write request.now item request.now.value }
-{
-    if request.staple.is_some() || request.pin.is_some() {
-        return None;
-    }
-    Some(Deed {
-        query: request.query,
-        item: item?,
-        action: Action::Write,
-        value: request.value?,
-    })
+    let answer = done(request, entry.epoch, deed);
+    entry.answers.push(answer)?;
+    entry.deeds.push(deed)?;
+    Ok(entry)
 }
 
 fn done(request: &QueryRequest, epoch: u64, deed: Deed) -> DoneReply
@@ -502,51 +590,4 @@ fn done(request: &QueryRequest, epoch: u64, deed: Deed) -> DoneReply
             verdict: None,
         },
     }
-}
-
-fn admin_of(scenario: &Scenario, item: ItemId) -> AdminId
-    ensures { result ≡ row.admin_of scenario.now item }
-{
-    match scenario.items.get(item.0 as usize) {
-        None => AdminId(0),
-        Some(found) => found.admin,
-    }
-}
-
-fn is_in_range(scenario: &Scenario, deed: &Deed) -> bool
-    ensures { result ≡ row.is_in_range scenario.now deed.now }
-{
-    match scenario.items.get(deed.item.0 as usize) {
-        None => true,
-        Some(item) => i128::from(item.min) <= deed.value && deed.value <= i128::from(item.max),
-    }
-}
-
-fn are_in_range(scenario: &Scenario, deeds: &[Deed]) -> bool
-    ensures { result ≡ row.are_in_range scenario.now deeds.now }
-{
-    deeds.iter().all(|deed| is_in_range(scenario, deed))
-}
-
-fn known_at_first(
-    alloc: Global,
-    scenario: &Scenario,
-    server: ServerId,
-) -> Result<List<Version>, NoMemory>
-    ensures { IfOk result (λ made. made ≡ opened.known_at_first scenario.now server) }
-{
-    match scenario.servers.get(server.0 as usize) {
-        None => Ok(List::new(alloc)),
-        Some(declared) => declared.knows.try_clone(alloc),
-    }
-}
-
-fn opening_values(alloc: Global, items: &[Item]) -> Result<List<i128>, NoMemory>
-    ensures { IfOk result (λ made. made ≡ map (λ (item : Item). item.value) items.now) }
-{
-    let mut made = List::new(alloc);
-    for item in items {
-        made.push(i128::from(item.value))?;
-    }
-    Ok(made)
 }

@@ -11,8 +11,8 @@ mod versions;
 
 pub use built::is_built;
 pub use level::{is_global, level_of, reads_master};
-pub use policy::{matches, meets, rule_in};
-pub use query::{has_query_at, item_of, only, query_at, servers_of, written_constant};
+pub use policy::{matches, meets, policy_at, rule_in};
+pub use query::{action_of, has_query_at, item_of, only, query_at, servers_of, written_constant};
 pub use stage::is_stage;
 pub use valid::is_valid;
 pub use versions::{newest_at, publications};

@@ -1,11 +1,13 @@
-//! What a rule of a policy is about, and what satisfies an atom of its condition.
+//! What a rule of a policy is about, what satisfies an atom of its condition, and the versions of policies.
 ghost use Rattle.std.specs.Prelude.{◌≡◌};
 ghost use Rattle.std.specs.Option.{option_copied};
 ghost use Rattle.tp_model.specs.Authorisation as authorisation;
 ghost use Rattle.tp_model.specs.Credentials as credentials;
 ghost use Rattle.tp_model.specs.Policies as policies;
 
-use tp_types::{Action, Credential, Name, Op, Pattern, Policy, Rule, Value};
+use tp_types::{
+    Action, AdminId, Credential, List, Name, Op, Pattern, Policy, Rule, Scenario, Value, Version,
+};
 
 fn is_number(value: &Value, wanted: i64) -> bool
     ensures { result ≡ policies.same_value (Value.Number wanted) value.now }
@@ -97,4 +99,23 @@ pub fn rule_in(policy: &Policy, number: u32) -> Option<&Rule>
         return None;
     }
     policy.rules.get(number as usize - 1)
+}
+
+fn version_in(library: &List<Policy>, version: u32) -> Option<&Policy>
+    ensures { option_copied result ≡ authorisation.version_in library.now version }
+{
+    if version == 0 {
+        return None;
+    }
+    library.get(version as usize - 1)
+}
+
+/// A version of an administrator's policy, where its library has it.
+pub fn policy_at(scenario: &Scenario, admin: AdminId, version: Version) -> Option<&Policy>
+    ensures { option_copied result ≡ authorisation.policy_at scenario.now admin version }
+{
+    match scenario.admins.get(admin.0 as usize) {
+        None => None,
+        Some(declared) => version_in(&declared.library, version.0),
+    }
 }

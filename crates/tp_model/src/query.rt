@@ -2,10 +2,13 @@
 ghost use Rattle.std.specs.Prelude.{◌≡◌, ◌^◌, ◌<◌, length, IfOk};
 ghost use Rattle.std.specs.Option.{option_copied};
 ghost use Rattle.std.specs.List.{list_any};
+ghost use Rattle.tp_model.specs.Authorisation as authorisation;
 ghost use Rattle.tp_model.specs.Queries as queries;
 
 use std::alloc::Global;
-use tp_types::{ItemId, List, NoMemory, Operand, Query, Scenario, ServerId, Term, Transaction};
+use tp_types::{
+    Action, ItemId, List, NoMemory, Operand, Query, Scenario, ServerId, Term, Transaction,
+};
 
 /// The item that a query reads or writes.
 pub fn item_of(query: &Query) -> ItemId
@@ -14,6 +17,16 @@ pub fn item_of(query: &Query) -> ItemId
     match query {
         Query::Read { item, into: _ } => *item,
         Query::Write { item, expr: _ } => *item,
+    }
+}
+
+/// What a query does to its item.
+pub fn action_of(query: &Query) -> Action
+    ensures { result ≡ authorisation.action_of query.now }
+{
+    match query {
+        Query::Read { item: _, into: _ } => Action::Read,
+        Query::Write { item: _, expr: _ } => Action::Write,
     }
 }
 

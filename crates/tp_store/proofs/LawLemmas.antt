@@ -32,7 +32,7 @@ last_first kept new writes true e is rest = rw (later_is kept new is) (found_her
 last_first kept new writes false e is rest = rw e (rest is)
 
 -- the last write of an item is the one that is found
-last_is_found : (writes : List TentativeWrite) (new : TentativeWrite)
+pub last_is_found : (writes : List TentativeWrite) (new : TentativeWrite)
     → option_map_or (λ (other : TentativeWrite). leb other.query new.query) (find (is_on new.item) writes) true ≡ true
     → find (is_on new.item) (with_write writes new) ≡ Some new
 last_is_found [] new is = found_here new []
@@ -58,14 +58,14 @@ other_first item kept new writes true e apart rest =
     rw (next, was) refl
 other_first item kept new writes false e apart rest = ap (λ found. cond (is_on item kept) (Some kept) found) rest
 
-other_is_found : (item : ItemId) (writes : List TentativeWrite) (new : TentativeWrite) → is_on item new ≡ false
+pub other_is_found : (item : ItemId) (writes : List TentativeWrite) (new : TentativeWrite) → is_on item new ≡ false
     → find (is_on item) (with_write writes new) ≡ find (is_on item) writes
 other_is_found item [] new apart = rw apart refl
 other_is_found item (kept ∷ writes) new apart = other_first item kept new writes (is_on new.item kept) refl apart (other_is_found item writes new apart)
 
 -- ---- the store
 
-writes_after : (store : Contents) (txn : TxnId) (write : TentativeWrite) → txn.0 < length store.tentative
+pub writes_after : (store : Contents) (txn : TxnId) (write : TentativeWrite) → txn.0 < length store.tentative
     → writes_of (after_write store txn write) txn ≡ with_write (writes_of store txn) write
 writes_after store txn write there =
     unwrap_or-slice_get (set store.tentative txn.0 (with_write (writes_of store txn) write)) txn.0 []

@@ -38,6 +38,20 @@ impl Store {
         })
     }
 
+    /// The value of each item of the scenario; only the server's own are read or written.
+    pub fn values(&self) -> &[i128]
+        ensures { result.now ≡ self.now.values }
+    {
+        self.values.as_slice()
+    }
+
+    /// The newest version known of each administrator.
+    pub fn known(&self) -> &List<Version>
+        ensures { result.now ≡ self.now.known }
+    {
+        &self.known
+    }
+
     /// The value of an item that every transaction reads which has not written it; 0 where there is no such item.
     pub fn value(&self, item: ItemId) -> i128
         ensures { result ≡ rule.value_in self.now item }

@@ -10,7 +10,7 @@ use Rattle.tp_types.specs.declared.scenario.Operand.TheVariants.{Constant, Regis
 use Rattle.tp_types.specs.declared.scenario.Query.TheVariants.{Read, Write}
 use Rattle.tp_model.specs.Built.{is_built}
 use Rattle.tp_model.specs.Stage.{is_view}
-use Rattle.tp_model.proofs.FirstForm.{form_built, is_first_constant, is_first_item, is_first_query, is_first_server, is_first_term, is_first_txn}
+use Rattle.tp_model.proofs.FirstForm.{form_built, is_first_admin, is_first_constant, is_first_item, is_first_query, is_first_server, is_first_term, is_first_txn}
 use Rattle.tp_model.specs.Limits.{is_between}
 use Rattle.tp_model.specs.Queries.{signed, term_value}
 use Rattle.tp_machine.proofs.ids.Built.{HasForm, IsOnly, has_form, single_is}
@@ -66,6 +66,7 @@ pub record HasLeaves (sc : Scenario) : Type 0 where
   pub leaves : Leaves
   pub shape : sc ≡ scenario_of leaves
   pub in_range : is_between leaves.min leaves.max (written leaves) ≡ true
+  pub opened : is_first_admin leaves.admin ≡ true
 
 -- ---- its parts
 
@@ -222,6 +223,7 @@ has_leaves sc e =
           ∙ ap (λ (x : Query). txn_of form.txn.name form.txn.subject x ∷ []) w.shape))
           plain.steps plain.clients plain.publishers plain.officers;
       in_range = w.in_range;
+      opened = form.admins.passes;
     }
   where
     txn_of : List ℕ → List ℕ → Query → Transaction

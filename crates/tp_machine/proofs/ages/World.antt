@@ -1,32 +1,32 @@
 -- Ages over every list of steps: the age of an entry, of what is prepared and of a coordinator is the place of the submission.
-use Rattle.std.proofs.Common.{IfSome, List, None, Option, Some, [], length, refl, slice_get, subst, suc, sym, zero, ℕ, ◌++◌, ◌+◌, ◌∷◌, ◌≡◌}
+use Rattle.std.proofs.Common.{IfSome, List, None, Option, Some, [], ap, is_some, length, refl, slice_get, subst, suc, sym, zero, ℕ, ◌++◌, ◌+◌, ◌∙◌, ◌∷◌, ◌≡◌}
 use Rattle.tp_types.specs.Effect.{Effect}
-use Rattle.tp_model.specs.Words.{Body, Letter, Mail, Prepared, Record, Scenario, ServerId, Step, TxnId, What}
 use Rattle.tp_model.specs.Words.body
 use Rattle.tp_model.specs.Words.step
 use Rattle.tp_model.specs.Words.what
+use Rattle.tp_model.specs.Words.{Body, Letter, Mail, Prepared, Record, Scenario, ServerId, Step, TxnId, What}
+use Rattle.tp_machine.proofs.ages.Actors.{BodyAged, CoordinatorAged, CoordinatorAges, EntryAged, LetterAged, PreparedAged, RecordAged, SubmissionAges, coordinator_row_ages, server_row_ages, submit_row_ages}
+use Rattle.tp_machine.proofs.agreement.Steps.{own_txn}
+use Rattle.tp_machine.proofs.agreement.World.{Agrees}
+use Rattle.tp_machine.proofs.basics.Lists.{at_made, at_set, each_append, each_as, each_get, placed_none}
+use Rattle.tp_machine.proofs.basics.Logs.{prepared_grown}
+use Rattle.tp_machine.proofs.walks.Steps.{Cases, IsCoordinatorUp, machine_after_by}
 use Rattle.tp_machine.specs.Logs.{prepared_in}
 use Rattle.tp_machine.specs.Machine.{Machine, Move, State, acts, acts_by, coordinator_fact, coordinator_move, log_with, machine_after, mails_of, opened_part, opening_state, refusal, server_fact, server_move, state_after, with_age}
+use Rattle.tp_machine.specs.Parts.{Part}
 use Rattle.tp_machine.specs.Sound.{Each, EachAt, EachPlaced, IsSound, IsStepOf}
 use Rattle.tp_machine.specs.coord.Opened as coord_opened
 use Rattle.tp_machine.specs.coord.Opened.{idle}
 use Rattle.tp_machine.specs.coord.Row.{coordinator_row, submit_row}
-use Rattle.tp_machine.specs.declared.actors.Actors.{Actors}
 use Rattle.tp_machine.specs.coord.State.{Coordinator}
-use Rattle.tp_offices.specs.declared.authority.Authority.{Authority}
-use Rattle.tp_offices.specs.declared.master.Master.{Master}
-use Rattle.tp_offices.specs.Master as master
-use Rattle.tp_machine.specs.Parts.{Part}
-use Rattle.tp_machine.specs.server.State.{Server}
-use Rattle.tp_offices.specs.Authority as office
+use Rattle.tp_machine.specs.declared.actors.Actors.{Actors}
 use Rattle.tp_machine.specs.server.Opened as server_opened
 use Rattle.tp_machine.specs.server.Row.{age_of, server_row}
-use Rattle.tp_machine.proofs.ages.Actors.{BodyAged, CoordinatorAges, EntryAged, LetterAged, PreparedAged, RecordAged, SubmissionAges, coordinator_row_ages, server_row_ages, submit_row_ages}
-use Rattle.tp_machine.proofs.agreement.Steps.{own_txn}
-use Rattle.tp_machine.proofs.agreement.World.{Agrees}
-use Rattle.tp_machine.proofs.walks.Steps.{Cases, IsCoordinatorUp, machine_after_by}
-use Rattle.tp_machine.proofs.basics.Logs.{prepared_grown}
-use Rattle.tp_machine.proofs.basics.Lists.{at_made, at_set, each_append, each_as, each_get, placed_none}
+use Rattle.tp_machine.specs.server.State.{Server}
+use Rattle.tp_offices.specs.Authority as office
+use Rattle.tp_offices.specs.Master as master
+use Rattle.tp_offices.specs.declared.authority.Authority.{Authority}
+use Rattle.tp_offices.specs.declared.master.Master.{Master}
 
 -- ---- the invariant
 
@@ -38,10 +38,6 @@ IsSubmission steps txn place = slice_get steps place ≡ Some (step.Submit txn)
 pub record ServerPartAged (A : TxnId → ℕ → Type 0) (part : Part Server) : Type 0 where
   pub entries : IfSome part.up (λ (s : Server). EachPlaced (EntryAged A) s.entries)
   pub prepared : (txn : TxnId) (p : Prepared) → prepared_in txn part.log ≡ Some p → A txn p.age
-
--- where a coordinator knows an age
-abbrev pub CoordinatorAged : (TxnId → ℕ → Type 0) → Coordinator → Type 0
-CoordinatorAged A c = IfSome c.age (A c.txn)
 
 abbrev pub MailAged : (TxnId → ℕ → Type 0) → Mail → Type 0
 MailAged A mail = BodyAged A mail.sent mail.letter.body
@@ -84,7 +80,7 @@ age_widens A B txn (Some place) wider h = wider txn place h
 
 coordinator_widens : (A B : TxnId → ℕ → Type 0) (up : Option Coordinator) → Widens A B → IfSome up (CoordinatorAged A) → IfSome up (CoordinatorAged B)
 coordinator_widens A B None wider h = tt
-coordinator_widens A B (Some c) wider h = age_widens A B c.txn c.age wider h
+coordinator_widens A B (Some c) wider h = record { age = age_widens A B c.txn c.age wider h.age; known = h.known }
 
 all_widen : (A B : TxnId → ℕ → Type 0) (actors : Actors) (mails : List Mail) → Widens A B → AreAged A actors mails → AreAged B actors mails
 all_widen A B actors mails wider h =
@@ -168,10 +164,18 @@ coordinator_acts_ages w taken txn kept now own append letters h aged_is letters_
 -- a coordinator that keeps its age and its transaction
 aged_still : (A : TxnId → ℕ → Type 0) (place : ℕ) (c : Coordinator) (effect : Effect Coordinator) → CoordinatorAges A place c effect → CoordinatorAged A c → CoordinatorAged A effect.state
 aged_still A place c effect t h =
-    subst (λ (age : Option ℕ). IfSome age (A effect.state.txn)) (sym t.same_age) (subst (λ (txn : TxnId). IfSome c.age (A txn)) (sym t.same_txn) h)
+    record {
+      age = subst (λ (age : Option ℕ). IfSome age (A effect.state.txn)) (sym t.same_age) (subst (λ (txn : TxnId). IfSome c.age (A txn)) (sym t.same_txn) h.age);
+      known = λ querying. ap (λ (age : Option ℕ). is_some age) t.same_age ∙ t.known querying;
+    }
 
+-- one that is submitted knows its age
 aged_now : (A : TxnId → ℕ → Type 0) (place : ℕ) (c : Coordinator) (effect : Effect Coordinator) → SubmissionAges A place c effect → A c.txn place → CoordinatorAged A effect.state
-aged_now A place c effect t m = subst (λ (age : Option ℕ). IfSome age (A effect.state.txn)) (sym t.age_is) (subst (λ (txn : TxnId). A txn place) (sym t.same_txn) m)
+aged_now A place c effect t m =
+    record {
+      age = subst (λ (age : Option ℕ). IfSome age (A effect.state.txn)) (sym t.age_is) (subst (λ (txn : TxnId). A txn place) (sym t.same_txn) m);
+      known = λ querying. ap (λ (age : Option ℕ). is_some age) t.age_is;
+    }
 
 -- the authority's answers tell no age
 tells_no_age : (A : TxnId → ℕ → Type 0) (place : ℕ) (authority : Authority) (said : Body) → Each (LetterAged A place) (office.on_body authority said).reaction.letters
@@ -195,7 +199,8 @@ begun_ages sc w sound h txn part c up =
     let place = length w.steps in
     let effect = with_age (submit_row sc c) place in
     let m : A c.txn place = subst (λ (t : TxnId). A t place) (sym (own_txn sc w txn part c sound up.found up.up)) (last_found w.steps (step.Submit txn)) in
-    let t = submit_row_ages A place sc c m in
+    let aged = subst (λ (up : Option Coordinator). IfSome up (CoordinatorAged A)) up.up ((ages_now w (step.Submit txn) h).coordinators txn.0 part up.found) in
+    let t = submit_row_ages A place sc c aged.age m in
     coordinator_acts_ages w (step.Submit txn) txn part.log (Some effect.state) (what.Submitted txn ∷ []) effect.reaction.append effect.reaction.letters h (aged_now A place c effect t m) t.letters
 
 -- ---- steps
@@ -216,7 +221,7 @@ ages_cases sc w sound h =
           let taken = step.Deliver n in
           let now = ages_now w taken h in
           let aged = subst (λ (u : Option Coordinator). IfSome u (CoordinatorAged (Now w taken))) up.up (now.coordinators txn.0 part up.found) in
-          let t = coordinator_row_ages (Now w taken) (length w.steps) sc c mail in
+          let t = coordinator_row_ages (Now w taken) (length w.steps) sc c mail aged in
           let effect = coordinator_row sc c mail in
           coordinator_acts_ages w taken txn part.log (Some effect.state) [] effect.reaction.append effect.reaction.letters h (aged_still (Now w taken) (length w.steps) c (coordinator_row sc c mail) t aged) t.letters;
       authority_told = λ n mail sent. record { actors_are = ages_now w (step.Deliver n) h; letters = tells_no_age (Now w (step.Deliver n)) (length w.steps) w.actors.authority mail.letter.body };
@@ -239,6 +244,6 @@ ages_opening sc =
       servers = λ n part e. at_made (λ (k : ℕ) (found : Part Server). ServerPartAged (IsSubmission []) found) (λ (k : ℕ). opened_part (server_opened.opening sc (record { 0 = k }))) 0 (length sc.servers)
           (λ k within. record { entries = placed_none (EntryAged (IsSubmission [])) (length sc.txns); prepared = λ txn p f. absurd (cc) }) n part e;
       coordinators = λ n part e. at_made (λ (k : ℕ) (found : Part Coordinator). IfSome found.up (CoordinatorAged (IsSubmission []))) (λ (k : ℕ). opened_part (coord_opened.idle sc (record { 0 = k }))) 0 (length sc.txns)
-          (λ k within. tt) n part e;
+          (λ k within. record { age = tt; known = λ querying. absurd (cc) }) n part e;
       sent = tt;
     }

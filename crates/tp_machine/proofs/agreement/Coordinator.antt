@@ -3,15 +3,14 @@
 use Rattle.std.specs.List.{list_any}
 use Rattle.std.specs.Option.{option_map_or}
 use Rattle.std.proofs.Common.{Bool, IfSome, List, None, Option, Some, [], ap, arith, cond, false, is_some, length, map, not, option_and_then, option_map, refl, slice_get, subst, suc, sym, true, zero, ℕ, ◌+◌, ◌==◌, ◌||◌, ◌∙◌, ◌∷◌, ◌≡◌}
-use Rattle.std.proofs.lemmas.Option.{same_Some}
 use Rattle.std.proofs.lemmas.Bool.{or_left, or_right}
 use Rattle.std.proofs.lemmas.Map.Keys.{any_passes_from_place}
+use Rattle.std.proofs.lemmas.Option.{same_Some}
 use Rattle.tp_types.proofs.ListLemmas.{number_itself}
 use Rattle.tp_types.specs.Effect.{Effect, ignores, sends}
 use Rattle.tp_model.specs.Agreement.{has_item, has_item_at}
 use Rattle.tp_model.specs.Facts.{first_of, outcome_of}
 use Rattle.tp_model.specs.Queries.{is_at_server, item_of, query_at, servers_from, servers_of}
-use Rattle.tp_model.specs.Words.{AckReply, Actor, Body, Cause, DecideRequest, Decision, DoneReply, Item, Letter, Mail, Outcome, Query, Record, Scenario, ServerId, Staple, Transaction, TxnId, Verdict, Vote, VoteReply}
 use Rattle.tp_model.specs.Words.actor
 use Rattle.tp_model.specs.Words.body
 use Rattle.tp_model.specs.Words.cause
@@ -19,20 +18,21 @@ use Rattle.tp_model.specs.Words.decision
 use Rattle.tp_model.specs.Words.log
 use Rattle.tp_model.specs.Words.outcome
 use Rattle.tp_model.specs.Words.vote
+use Rattle.tp_model.specs.Words.{AckReply, Actor, Body, Cause, DecideRequest, Decision, DoneReply, Item, Letter, Mail, Outcome, Query, Record, Scenario, ServerId, Staple, Transaction, TxnId, Verdict, Vote, VoteReply}
+use Rattle.tp_machine.proofs.basics.Homes.{IsHome, home_is}
+use Rattle.tp_machine.proofs.basics.Ids.{same_server_is}
+use Rattle.tp_machine.proofs.basics.Lists.{by_cond, each_as, each_filter}
+use Rattle.tp_machine.proofs.basics.Logs.{appended, decided_with}
+use Rattle.tp_machine.proofs.walks.CoordinatorRows.{IsAck, IsYes, coordinator_by, submit_by}
 use Rattle.tp_machine.specs.Logs.{decided_in, decision_in}
 use Rattle.tp_machine.specs.Machine.{log_with, with_age}
 use Rattle.tp_machine.specs.Sound.{Each}
 use Rattle.tp_machine.specs.coord.Opened.{servers_at}
-use Rattle.tp_machine.specs.coord.Row.{aborts, asks, awaits_query, commits, coordinator_row, denied_by, is_awaited, is_begun, prepare_letter, prepares, query_of, request, server_of, staple_of, submit_row, with_deed, without}
+use Rattle.tp_machine.specs.coord.Row.{aborts, asks, awaits_query, commits, coordinator_row, denied_by, is_awaited, is_begun, next_number, prepare_letter, prepares, query_of, refused_by, request, sends_query, server_of, staple_of, submit_row, with_deed, without}
 use Rattle.tp_machine.specs.coord.State.{Coordinator}
 use Rattle.tp_machine.specs.declared.coord.Phase.TheVariants as phase
 use Rattle.tp_machine.specs.declared.coord.Phase.{Phase}
 use Rattle.tp_machine.specs.declared.coord.Round.{Round}
-use Rattle.tp_machine.specs.server.Row.{committed}
-use Rattle.tp_machine.proofs.walks.CoordinatorRows.{IsAck, IsYes, coordinator_by, submit_by}
-use Rattle.tp_machine.proofs.basics.Ids.{same_server_is}
-use Rattle.tp_machine.proofs.basics.Logs.{appended, decided_with}
-use Rattle.tp_machine.proofs.basics.Lists.{by_cond, each_as, each_filter}
 
 -- ---- what is kept
 
@@ -266,6 +266,19 @@ asks_lawful sc P S c kept d b s =
       letters = (tt, tt);
     }
 
+-- a query is asked, which is sent to a server with an item of the transaction
+sends_query_lawful : (sc : Scenario) (P S : ServerId → Type 0) (c : Coordinator) (kept : List Record) (number : ℕ) (at : ServerId) → decided_in kept ≡ None → is_begun c.phase ≡ true → c.servers ≡ servers_at sc c.txn
+    → IsHome sc c number at → CoordinatorLawful sc P S c kept (sends_query sc c number at)
+sends_query_lawful sc P S c kept number at d b s k =
+    record {
+      agrees = record { decided = d; servers = s; awaited = tt };
+      replied = tt;
+      same_begun = sym b;
+      same_txn = refl;
+      fresh = tt;
+      letters = (record { same_txn = refl; item = asked_has_item sc c number k.asked at k.asked_is k.server_is; submitted = refl }, tt);
+    }
+
 prepare_letters_lawful : (sc : Scenario) (c : Coordinator) (begun : Bool) (decided : Option Decision) (staple : Staple) (servers : List ServerId) → begun ≡ true → HaveItems sc c.txn servers
     → Each (LetterAgrees sc c.txn begun decided) (map (prepare_letter c staple) servers)
 prepare_letters_lawful sc c begun decided staple [] b h = tt
@@ -383,7 +396,13 @@ coordinator_row_lawful sc P S c kept mail h m =
     coordinator_by sc c mail (CoordinatorLawful sc P S c kept)
     (record {
       ignored = ignores_lawful sc P S c kept h;
-      ran_last = λ done server asked value k.
+      ran_next = λ done server asked value next k home.
+          let now = awaiting_query c c.phase done (decided_in kept) k.awaited h.agrees.decided in
+          let further : IsHome sc c (next_number done.query) next = home_is sc c (next_number done.query) next home in
+          let on = sends_query_lawful sc P S (with_deed c server done asked value) kept (next_number done.query) next now.0 now.1 h.agrees.servers
+          (record { asked = further.asked; asked_is = further.asked_is; server_is = further.server_is }) in
+          record { agrees = on.agrees; replied = on.replied; same_begun = sym now.1; same_txn = refl; fresh = tt; letters = on.letters };
+      ran_last = λ done server asked value k none.
           let now = awaiting_query c c.phase done (decided_in kept) k.awaited h.agrees.decided in
           let on = asks_lawful sc P S (with_deed c server done asked value) kept now.0 now.1 h.agrees.servers in
           record { agrees = on.agrees; replied = on.replied; same_begun = sym now.1; same_txn = refl; fresh = tt; letters = on.letters };
@@ -405,6 +424,9 @@ coordinator_row_lawful sc P S c kept mail h m =
       denied = λ reply round staple server verdicts verdict y e f.
           let k = yes_counted sc P S c kept mail reply round staple server verdicts h m y in
           aborts_lawful sc P S c kept (cause.Denied (denied_by verdict)) h k.undecided k.begun;
+      refused = λ reply round staple server number value k.
+          let undecided : decided_in kept ≡ None = subst (λ (p : Phase). PhaseAgrees p (decided_in kept)) k.checking h.agrees.decided in
+          aborts_lawful sc P S c kept (cause.No (refused_by server number value)) h undecided (ap is_begun k.checking);
       acknowledged = λ ack ended awaited server a. acknowledged_lawful sc P S c kept mail ack ended awaited server h m a;
     })
 
@@ -427,13 +449,14 @@ submit_row_lawful sc P S c kept place h e b =
     (record {
       ignored = λ begun.
           record { agrees = record { decided = h.agrees.decided; servers = h.agrees.servers; awaited = h.agrees.awaited }; replied = h.replied; begun = begun; same_txn = refl; forces = refl; letters = tt };
-      sent = λ asked server value k begun.
+      sent = λ server home begun.
+          let k : IsHome sc c 1 server = home_is sc c 1 server home in
           record {
             agrees = record { decided = undecided_idle c.phase (decided_in kept) e h.agrees.decided; servers = h.agrees.servers; awaited = tt };
             replied = tt;
             begun = refl;
             same_txn = refl;
             forces = refl;
-            letters = (record { same_txn = refl; item = asked_has_item sc c 1 asked server k.asked_is k.server_is; submitted = refl }, tt);
+            letters = (record { same_txn = refl; item = asked_has_item sc c 1 k.asked server k.asked_is k.server_is; submitted = refl }, tt);
           };
     }) b

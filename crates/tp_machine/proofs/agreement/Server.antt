@@ -2,32 +2,35 @@
 -- ---- what is kept
 -- the transaction of an entry is not settled on this log
 use Rattle.std.specs.Prelude.{if◌then◌else◌}
-use Rattle.std.proofs.Common.{Bool, IfSome, List, None, Option, Some, [], ap, false, is_some, map, option_and_then, option_map, refl, slice_get, slice_set, subst, suc, sym, true, zero, ℕ, ◌==◌, ◌∙◌, ◌∷◌, ◌≡◌}
+use Rattle.std.proofs.Common.{Bool, IfSome, List, None, Option, Some, [], ap, false, is_some, option_and_then, option_map, refl, slice_get, slice_set, subst, suc, sym, true, zero, ℕ, ℤ, ⊎_elim, ◌==◌, ◌∙◌, ◌∷◌, ◌≡◌}
 use Rattle.std.proofs.lemmas.Bool.{eqb-true}
-use Rattle.tp_types.specs.Effect.{Effect, ignores, sends}
 use Rattle.tp_types.proofs.ListLemmas.{number_itself}
+use Rattle.tp_types.specs.Effect.{Effect, ignores, sends}
 use Rattle.tp_types.specs.Table.{flattened, is_unset}
 use Rattle.tp_model.specs.Facts.{first_of}
 use Rattle.tp_model.specs.Ids.{same_txn}
-use Rattle.tp_model.specs.Words.{Body, DecideRequest, Deed, DoneReply, Letter, Mail, Outcome, PrepareRequest, Prepared, QueryRequest, Record, Scenario, ServerId, Settled, TxnId, Verdict, Vote}
 use Rattle.tp_model.specs.Words.actor
 use Rattle.tp_model.specs.Words.body
 use Rattle.tp_model.specs.Words.log
+use Rattle.tp_model.specs.Words.no
 use Rattle.tp_model.specs.Words.outcome
 use Rattle.tp_model.specs.Words.vote
+use Rattle.tp_model.specs.Words.{Body, DecideRequest, Deed, DoneReply, Letter, Mail, No, Outcome, PrepareRequest, Prepared, Query, QueryRequest, Record, Scenario, ServerId, Settled, TxnId, Verdict, Vote}
+use Rattle.tp_machine.proofs.agreement.Logs.{LogPrepared}
+use Rattle.tp_machine.proofs.basics.Ids.{same_txn_is}
+use Rattle.tp_machine.proofs.basics.Lists.{placed_emptied, placed_set}
+use Rattle.tp_machine.proofs.basics.Logs.{first_none, get_set, prepared_with, settled_with}
+use Rattle.tp_machine.proofs.serial_data.Lists.{set_elsewhere}
+use Rattle.tp_machine.proofs.walks.ServerRows.{IsFirstHere, IsFurther, IsGranted, server_by}
 use Rattle.tp_machine.specs.Logs.{prepared_in, settled_in, voted_in, while_unsettled}
 use Rattle.tp_machine.specs.Machine.{log_with}
+use Rattle.tp_machine.specs.Runs.{deed_of}
 use Rattle.tp_machine.specs.Sound.{Each, EachPlaced}
 use Rattle.tp_machine.specs.declared.server.Ballot.{Ballot}
 use Rattle.tp_machine.specs.declared.server.Entry.{Entry}
-use Rattle.tp_machine.specs.server.Row.{ack_letter, answers, begins, entry_at, first_entry, is_open, prepared_record, reply, restarted_reply, server_row, settled_as, settles, verdict_on, votes}
+use Rattle.tp_machine.specs.server.Row.{ack_letter, answers, completes, ends, entry_after, entry_at, is_open, no_letter, prepared_record, refused_as, refuses, restarted_reply, server_row, settled_as, settles, votes}
 use Rattle.tp_machine.specs.server.State.{Server}
-use Rattle.tp_machine.proofs.agreement.Logs.{LogPrepared}
-use Rattle.tp_machine.proofs.basics.Ids.{same_txn_is}
-use Rattle.tp_machine.proofs.basics.Logs.{first_none, get_set, prepared_with, settled_with}
-use Rattle.tp_machine.proofs.serial_data.Lists.{set_elsewhere}
-use Rattle.tp_machine.proofs.walks.ServerRows.{server_by}
-use Rattle.tp_machine.proofs.basics.Lists.{placed_emptied, placed_set}
+use Rattle.tp_machine.specs.server.Verdicts.{verdicts_on}
 
 abbrev pub IsUnsettled : List Record → ℕ → Entry → Type 0
 IsUnsettled kept n entry = settled_in (record { 0 = n }) kept ≡ None
@@ -158,26 +161,44 @@ entry_elsewhere s one other entry apart = ap flattened (set_elsewhere s.entries 
 
 -- ---- Query
 
-first_cast : (s : Server) (kept : List Record) (txn other : TxnId) (first : Entry) → ServerAgrees s kept → entry_at s txn ≡ None → first.ballot ≡ None → (b : Bool) → same_txn txn other ≡ b
-    → option_map vote_of (prepared_in other kept) ≡ option_and_then cast_in (flattened (slice_get (slice_set s.entries txn.0 (Some first)) other.0))
-first_cast s kept txn other first h e unvoted true same =
+-- the entry of a transaction that was not voted on changes, and is not voted on after it
+run_cast : (s : Server) (kept : List Record) (txn other : TxnId) (entry : Entry) → ServerAgrees s kept → option_and_then cast_in (entry_at s txn) ≡ None → entry.ballot ≡ None → (b : Bool) → same_txn txn other ≡ b
+    → option_map vote_of (prepared_in other kept) ≡ option_and_then cast_in (flattened (slice_get (slice_set s.entries txn.0 (Some entry)) other.0))
+run_cast s kept txn other entry h e unvoted true same =
     let here : other ≡ txn = sym (same_txn_is txn other same) in
-    let none : option_map vote_of (prepared_in txn kept) ≡ None = ap (option_map vote_of) (unprepared s kept txn h e) in
-    let now : option_map vote_of (prepared_in txn kept) ≡ option_and_then cast_in (flattened (slice_get (slice_set s.entries txn.0 (Some first)) txn.0)) =
-    written_there (λ (found : Option Entry). option_map vote_of (prepared_in txn kept) ≡ option_and_then cast_in found) s.entries txn.0 (Some first)
-    (none ∙ sym (ap (option_map (vote_by first)) unvoted)) none in
-    subst (λ (t : TxnId). option_map vote_of (prepared_in t kept) ≡ option_and_then cast_in (flattened (slice_get (slice_set s.entries txn.0 (Some first)) t.0))) (sym here) now
-first_cast s kept txn other first h e unvoted false apart = h.prepared other ∙ sym (ap (option_and_then cast_in) (entry_elsewhere s txn other (Some first) apart))
+    let none : option_map vote_of (prepared_in txn kept) ≡ None = h.prepared txn ∙ e in
+    let now : option_map vote_of (prepared_in txn kept) ≡ option_and_then cast_in (flattened (slice_get (slice_set s.entries txn.0 (Some entry)) txn.0)) =
+    written_there (λ (found : Option Entry). option_map vote_of (prepared_in txn kept) ≡ option_and_then cast_in found) s.entries txn.0 (Some entry)
+    (none ∙ sym (ap (option_map (vote_by entry)) unvoted)) none in
+    subst (λ (t : TxnId). option_map vote_of (prepared_in t kept) ≡ option_and_then cast_in (flattened (slice_get (slice_set s.entries txn.0 (Some entry)) t.0))) (sym here) now
+run_cast s kept txn other entry h e unvoted false apart = h.prepared other ∙ sym (ap (option_and_then cast_in) (entry_elsewhere s txn other (Some entry) apart))
 
-begins_lawful : (V : TxnId → Outcome → Type 0) (M : TxnId → Type 0) (s : Server) (kept : List Record) (sent : ℕ) (q : QueryRequest) (deed : Deed) → ServerAgrees s kept
-    → settled_in q.txn kept ≡ None → entry_at s q.txn ≡ None → ServerLawful V M s kept (begins s sent q (Some deed))
-begins_lawful V M s kept sent q deed h new none =
-    let first = first_entry s sent q deed in
+no_ballot : (ballot : Option Ballot) → is_some ballot ≡ false → ballot ≡ None
+no_ballot None e = refl
+no_ballot (Some ballot) e = absurd (cc)
+
+-- an entry at which a query runs was not voted on
+pub record IsUnvotedRun (s : Server) (q : QueryRequest) (entry : Entry) : Type 0 where
+  pub entry_unvoted : entry.ballot ≡ None
+  pub unvoted : option_and_then cast_in (entry_at s q.txn) ≡ None
+
+pub unvoted_run : (sc : Scenario) (s : Server) (mail : Mail) (q : QueryRequest) (query : Query) (entry : Entry) (value : ℤ) → IsGranted sc s mail q query entry value → IsUnvotedRun s q entry
+unvoted_run sc s mail q query entry value k =
+    ⊎_elim
+    (λ (first : IsFirstHere s mail.sent q entry).
+    record { entry_unvoted = ap (λ (e : Entry). e.ballot) first.entry_is; unvoted = ap (option_and_then cast_in) first.no_entry })
+    (λ (further : IsFurther s q entry).
+    let none : entry.ballot ≡ None = no_ballot entry.ballot further.unvoted in
+    record { entry_unvoted = none; unvoted = ap (option_and_then cast_in) further.found ∙ ap (option_map (vote_by entry)) none }) k.place
+
+runs_lawful : (V : TxnId → Outcome → Type 0) (M : TxnId → Type 0) (s : Server) (kept : List Record) (q : QueryRequest) (query : Query) (entry : Entry) (deed : Deed) → ServerAgrees s kept
+    → settled_in q.txn kept ≡ None → IsUnvotedRun s q entry → ServerLawful V M s kept (completes s q query entry deed)
+runs_lawful V M s kept q query entry deed h new u =
     record {
       agrees = record {
         settled = h.settled;
-        unsettled = placed_set (IsUnsettled kept) s.entries q.txn.0 first h.unsettled new;
-        prepared = λ txn. first_cast s kept q.txn txn first h none refl (same_txn q.txn txn) refl;
+        unsettled = placed_set (IsUnsettled kept) s.entries q.txn.0 (entry_after q entry deed) h.unsettled new;
+        prepared = λ txn. run_cast s kept q.txn txn (entry_after q entry deed) h u.unvoted u.entry_unvoted (same_txn q.txn txn) refl;
       };
       rests = tt;
       replies = (record { from_is = refl; says = tt }, tt);
@@ -221,11 +242,11 @@ votes_cast s kept txn other forced entry now h new own e cast false apart =
     ∙ (h.prepared other ∙ sym (ap (option_and_then cast_in) (entry_elsewhere s txn other (Some now) apart)))
 
 -- a vote YES settles nothing, and is prepared
-votes_lawful : (V : TxnId → Outcome → Type 0) (M : TxnId → Type 0) (sc : Scenario) (s : Server) (kept : List Record) (p : PrepareRequest) (place : ℕ) (entry : Entry) → ServerAgrees s kept
-    → settled_in p.txn kept ≡ None → entry_at s p.txn ≡ Some entry → ServerLawful V M s kept (votes sc s p place entry)
-votes_lawful V M sc s kept p place entry h new e =
-    let voting = prepared_record s p entry (map (verdict_on sc s place) entry.deeds) in
-    let forced = (votes sc s p place entry).reaction.append in
+votes_lawful : (V : TxnId → Outcome → Type 0) (M : TxnId → Type 0) (s : Server) (kept : List Record) (p : PrepareRequest) (verdicts : List Verdict) (entry : Entry) → ServerAgrees s kept
+    → settled_in p.txn kept ≡ None → entry_at s p.txn ≡ Some entry → ServerLawful V M s kept (votes s p verdicts entry)
+votes_lawful V M s kept p verdicts entry h new e =
+    let voting = prepared_record s p entry verdicts in
+    let forced = (votes s p verdicts entry).reaction.append in
     let now : Entry = record entry { ballot = Some (record { turn = voting.turn; verdicts = voting.verdicts }) } in
     let same : (txn : TxnId) → settled_in txn (log_with kept forced) ≡ settled_in txn kept = λ txn. settled_with txn kept forced ∙ first_none (settled_in txn kept) in
     record {
@@ -289,33 +310,63 @@ settled_now true order None e = refl
 settled_now true order (Some s) e = refl
 settled_now false order old e = absurd (cc)
 
--- an order to end a transaction that is open is forced as it is
-settles_lawful : (V : TxnId → Outcome → Type 0) (M : TxnId → Type 0) (s : Server) (kept : List Record) (d : DecideRequest) → ServerAgrees s kept → is_open s d.txn ≡ true → V d.txn d.outcome → M d.txn
-    → ServerLawful V M s kept (settles s d)
-settles_lawful V M s kept d h unsettled decided asked =
-    let empty : slice_get s.settled d.txn.0 ≡ Some None = unset_is (slice_get s.settled d.txn.0) unsettled in
-    let fresh : settled_in d.txn kept ≡ None = open_unsettled s kept d.txn h unsettled in
-    let order = settled_as d in
-    let forced = (settles s d).reaction.append in
+settled_first : (b : Bool) (order : Settled) (old : Option Settled) → b ≡ true → old ≡ None → first_of old (if b then Some order else None) ≡ Some order
+settled_first true order None e fresh = refl
+settled_first true order (Some s) e fresh = absurd (cc)
+settled_first false order old e fresh = absurd (cc)
+
+-- the transaction of an open place is settled, with a letter that rests on that
+ends_lawful : (V : TxnId → Outcome → Type 0) (M : TxnId → Type 0) (s : Server) (kept : List Record) (order : Settled) (letter : Letter) → ServerAgrees s kept → is_open s order.txn ≡ true
+    → SettlementRests V M kept order → letter.from ≡ actor.Server s.server
+    → (settled_in order.txn (log_with kept (Some (log.Settled order))) ≡ Some order → ReplyKept (log_with kept (Some (log.Settled order))) letter.body) → ServerLawful V M s kept (ends s order letter)
+ends_lawful V M s kept order letter h unsettled rests from says =
+    let empty : slice_get s.settled order.txn.0 ≡ Some None = unset_is (slice_get s.settled order.txn.0) unsettled in
+    let forced = (ends s order letter).reaction.append in
     record {
       agrees = record {
         settled = λ txn.
-            ap flattened (get_set s.settled d.txn.0 txn.0 None (Some order) empty)
-            ∙ (settled_here (d.txn.0 == txn.0) order (slice_get s.settled txn.0) (settled_in txn kept) (h.settled txn)
-            (λ same. sym (h.settled txn) ∙ ap flattened (subst (λ (n : ℕ). slice_get s.settled n ≡ Some None) (eqb-true d.txn.0 txn.0 same) empty))
+            ap flattened (get_set s.settled order.txn.0 txn.0 None (Some order) empty)
+            ∙ (settled_here (order.txn.0 == txn.0) order (slice_get s.settled txn.0) (settled_in txn kept) (h.settled txn)
+            (λ same. sym (h.settled txn) ∙ ap flattened (subst (λ (n : ℕ). slice_get s.settled n ≡ Some None) (eqb-true order.txn.0 txn.0 same) empty))
             ∙ sym (settled_with txn kept forced));
-        unsettled = λ n found e. others_unsettled s kept order h (d.txn.0 == n) n found refl e;
-        prepared = λ txn. ends_cast s kept order txn h (same_txn d.txn txn) refl;
+        unsettled = λ n found e. others_unsettled s kept order h (order.txn.0 == n) n found refl e;
+        prepared = λ txn. ends_cast s kept order txn h (same_txn order.txn txn) refl;
       };
-      rests = record { fresh = fresh; asked = asked; ordered = λ none. decided; refused = λ some. absurd (cc) };
+      rests = rests;
       replies = (
         record {
-          from_is = refl;
-          says = ap is_some (settled_with d.txn kept forced) ∙ settled_now (same_txn d.txn d.txn) order (settled_in d.txn kept) (number_itself d.txn.0);
+          from_is = from;
+          says = says (settled_with order.txn kept forced ∙ settled_first (same_txn order.txn order.txn) order (settled_in order.txn kept) (number_itself order.txn.0) rests.fresh);
         },
         tt,
       );
     }
+
+-- an order to end a transaction that is open is forced as it is
+settles_lawful : (V : TxnId → Outcome → Type 0) (M : TxnId → Type 0) (s : Server) (kept : List Record) (d : DecideRequest) → ServerAgrees s kept → is_open s d.txn ≡ true → V d.txn d.outcome → M d.txn
+    → ServerLawful V M s kept (settles s d)
+settles_lawful V M s kept d h unsettled decided asked =
+    ends_lawful V M s kept (settled_as d) (ack_letter s d.txn) h unsettled
+    (record { fresh = open_unsettled s kept d.txn h unsettled; asked = asked; ordered = λ none. decided; refused = λ some. absurd (cc) }) refl
+    (λ settled. ap is_some settled)
+
+none_voted : (entry : Option Entry) (found : Entry) (old : Option Prepared) → entry ≡ Some found → is_some found.ballot ≡ false → option_map vote_of old ≡ option_and_then cast_in entry → old ≡ None
+none_voted entry found None e unvoted h = refl
+none_voted entry found (Some p) e unvoted h =
+    let none : option_and_then cast_in entry ≡ None = ap (option_and_then cast_in) e ∙ ap (option_map (vote_by found)) (no_ballot found.ballot unvoted) in
+    absurd (cc)
+
+-- the server aborts what it has not prepared
+refuses_lawful : (V : TxnId → Outcome → Type 0) (M : TxnId → Type 0) (s : Server) (kept : List Record) (p : PrepareRequest) (entry : Entry) (why : No) → ServerAgrees s kept → is_open s p.txn ≡ true
+    → entry_at s p.txn ≡ Some entry → is_some entry.ballot ≡ false → M p.txn → ServerLawful V M s kept (refuses s p why)
+refuses_lawful V M s kept p entry why h unsettled found unvoted asked =
+    ends_lawful V M s kept (refused_as p why) (no_letter s p why) h unsettled
+    (record {
+      fresh = open_unsettled s kept p.txn h unsettled;
+      asked = asked;
+      ordered = λ none. absurd (cc);
+      refused = λ some. (refl, none_voted (entry_at s p.txn) entry (prepared_in p.txn kept) found unvoted (h.prepared p.txn));
+    }) refl (λ settled. settled)
 
 -- an order to end what is settled is acknowledged again
 acknowledges_lawful : (V : TxnId → Outcome → Type 0) (M : TxnId → Type 0) (s : Server) (kept : List Record) (d : DecideRequest) (settled : Settled) → ServerAgrees s kept
@@ -326,17 +377,40 @@ acknowledges_lawful V M s kept d settled h found = record { agrees = h; rests = 
 answers_lawful : (V : TxnId → Outcome → Type 0) (M : TxnId → Type 0) (s : Server) (kept : List Record) (q : QueryRequest) (given : DoneReply) → ServerAgrees s kept → ServerLawful V M s kept (answers s q.txn given)
 answers_lawful V M s kept q given h = record { agrees = h; rests = tt; replies = (record { from_is = refl; says = tt }, tt) }
 
+-- what was settled with a reason is an abort of the server's own
+abbrev pub RefusalsAbort : List Record → Type 0
+RefusalsAbort kept = (txn : TxnId) (settled : Settled) → settled_in txn kept ≡ Some settled → is_some settled.why ≡ true → settled ≡ record { txn = txn; outcome = outcome.Abort; why = settled.why }
+
+-- a vote NO is given again with its reason
+refused_again_lawful : (V : TxnId → Outcome → Type 0) (M : TxnId → Type 0) (s : Server) (kept : List Record) (p : PrepareRequest) (settled : Settled) (why : No) → ServerAgrees s kept → RefusalsAbort kept
+    → flattened (slice_get s.settled p.txn.0) ≡ Some settled → settled.why ≡ Some why → ServerLawful V M s kept (sends s (no_letter s p why ∷ []))
+refused_again_lawful V M s kept p settled why h aborts found why_is =
+    let logged : settled_in p.txn kept ≡ Some settled = sym (h.settled p.txn) ∙ found in
+    let is : settled ≡ record { txn = p.txn; outcome = outcome.Abort; why = settled.why } = aborts p.txn settled logged (ap is_some why_is) in
+    record {
+      agrees = h;
+      rests = tt;
+      replies = (
+        record { from_is = refl; says = logged ∙ (ap (λ (x : Settled). Some x) is ∙ ap (λ (w : Option No). Some (record { txn = p.txn; outcome = outcome.Abort; why = w })) why_is) },
+        tt,
+      );
+    }
+
 -- every row of a server on receipt of a mail
-pub server_row_lawful : (V : TxnId → Outcome → Type 0) (M : TxnId → Type 0) (sc : Scenario) (s : Server) (kept : List Record) (mail : Mail) → ServerAgrees s kept → RequestRests V M mail.letter.body
-    → ServerLawful V M s kept (server_row sc s mail)
-server_row_lawful V M sc s kept mail h m =
+pub server_row_lawful : (V : TxnId → Outcome → Type 0) (M : TxnId → Type 0) (sc : Scenario) (s : Server) (kept : List Record) (mail : Mail) → ServerAgrees s kept → RefusalsAbort kept
+    → RequestRests V M mail.letter.body → ServerLawful V M s kept (server_row sc s mail)
+server_row_lawful V M sc s kept mail h aborts m =
     server_by sc s mail (ServerLawful V M s kept)
     (record {
       ignored = ignores_lawful V M s kept h;
-      begun = λ q deed k. begins_lawful V M s kept mail.sent q deed h (open_unsettled s kept q.txn h k.unsettled) k.no_entry;
+      ran = λ q query entry value k.
+          runs_lawful V M s kept q query entry (deed_of q.query query value) h (open_unsettled s kept q.txn h k.unsettled) (unvoted_run sc s mail q query entry value k);
       restarted = λ q k. answers_lawful V M s kept q (restarted_reply q s.epoch) h;
       answered = λ q entry given k. answers_lawful V M s kept q given h;
-      voted = λ p entry staple k. votes_lawful V M sc s kept p staple.place entry h (open_unsettled s kept p.txn h k.unsettled) k.found;
+      voted = λ p entry staple txn k. votes_lawful V M s kept p (verdicts_on sc s txn staple entry.deeds) entry h (open_unsettled s kept p.txn h k.unsettled) k.found;
+      refused = λ p entry number value k.
+          refuses_lawful V M s kept p entry (no.Range number value) h k.unsettled k.found k.unvoted (subst (RequestRests V M) k.said_is m);
+      refused_again = λ p settled why k. refused_again_lawful V M s kept p settled why h aborts k.found k.why_is;
       settled = λ d k. let rests = subst (RequestRests V M) k.said_is m in settles_lawful V M s kept d h k.unsettled rests.0 rests.1;
       acknowledged = λ d settled k. acknowledges_lawful V M s kept d settled h k.found;
     })

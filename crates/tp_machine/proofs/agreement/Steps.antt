@@ -1,14 +1,31 @@
 -- Agreement, step by step: it holds before the first step, each step keeps it, and so it holds after every list of steps.
-use Rattle.std.proofs.Common.{IfSome, List, None, Option, Some, [], ap, arith, false, length, option_and_then, option_map, refl, replicate, slice_get, subst, suc, sym, true, zero, ℕ, ◌∙◌, ◌∷◌, ◌≡◌}
+use Rattle.std.proofs.Common.{Bool, IfSome, List, None, Option, Some, [], ap, arith, false, if◌then◌else◌, length, option_and_then, option_map, refl, replicate, slice_get, subst, suc, sym, true, zero, ℕ, ◌∙◌, ◌∷◌, ◌≡◌}
 use Rattle.std.proofs.lemmas.List.FromFn.{length-map-range_with_len}
+use Rattle.std.proofs.lemmas.Option.{same_Some}
 use Rattle.tp_types.specs.Table.{flattened}
 use Rattle.tp_model.specs.Built.{is_built}
-use Rattle.tp_model.specs.Words.{Actor, Body, CredId, Decision, Mail, Scenario, ServerId, Settled, Step, TxnId, Vote, What}
+use Rattle.tp_model.specs.Facts.{first_of}
+use Rattle.tp_model.specs.Ids.{same_txn}
 use Rattle.tp_model.specs.Words.actor
 use Rattle.tp_model.specs.Words.body
+use Rattle.tp_model.specs.Words.log
+use Rattle.tp_model.specs.Words.outcome
 use Rattle.tp_model.specs.Words.step
 use Rattle.tp_model.specs.Words.vote
 use Rattle.tp_model.specs.Words.what
+use Rattle.tp_model.specs.Words.{Actor, Body, CredId, Decision, Mail, Outcome, Record, Scenario, ServerId, Settled, Step, TxnId, Vote, What}
+use Rattle.tp_machine.proofs.agreement.Coordinator.{CoordinatorLawful, Keeps, ReplyRests, SubmissionLawful, YesRests, coordinator_row_lawful, submit_row_lawful}
+use Rattle.tp_machine.proofs.agreement.CoordinatorActs.{coordinator_acts_agrees, receipt_acts, submission_acts}
+use Rattle.tp_machine.proofs.agreement.Logs.{DecidedAs, IsAsked, IsPrepared, IsSettled, outcome_settled, submitted_count, submitted_up}
+use Rattle.tp_machine.proofs.agreement.Server.{IsUnsettled, LetterKept, RefusalsAbort, RequestRests, ServerAgrees, ServerLawful, cast_in, server_row_lawful}
+use Rattle.tp_machine.proofs.agreement.ServerActs.{SaysOnly, server_acts_agrees, unmoved_agrees}
+use Rattle.tp_machine.proofs.agreement.World.{Agrees, BodyRests, CoordinatorUpAgrees, DecidedServed, LetterRests, MailRests, MoveAgrees, VoteRests, state_after_agrees}
+use Rattle.tp_machine.proofs.basics.Homes.{first_row_begins}
+use Rattle.tp_machine.proofs.basics.Ids.{same_txn_is}
+use Rattle.tp_machine.proofs.basics.Lists.{at_made, each_get, placed_none}
+use Rattle.tp_machine.proofs.basics.Logs.{listed}
+use Rattle.tp_machine.proofs.ids.Queries.{homes_built}
+use Rattle.tp_machine.proofs.walks.Steps.{Cases, IsCoordinatorUp, IsServerUp, SaysIdle, WasSent, machine_after_by}
 use Rattle.tp_machine.specs.Logs.{decided_at, decided_by, decided_in, settled_by, settled_in}
 use Rattle.tp_machine.specs.Machine.{Machine, State, acts_by, coordinator_fact, coordinator_move, idle_move, is_part_submitted, log_with, machine_after, opened_actors, opened_part, opening_state, refusal, server_fact, server_move, with_age}
 use Rattle.tp_machine.specs.Parts.{Part}
@@ -17,23 +34,13 @@ use Rattle.tp_machine.specs.coord.Opened as coord
 use Rattle.tp_machine.specs.coord.Row.{coordinator_row, submit_row}
 use Rattle.tp_machine.specs.coord.State.{Coordinator}
 use Rattle.tp_machine.specs.declared.actors.Actors.{Actors}
-use Rattle.tp_offices.specs.Authority as office
-use Rattle.tp_offices.specs.declared.authority.Authority.{Authority}
-use Rattle.tp_offices.specs.declared.master.Master.{Master}
-use Rattle.tp_offices.specs.Master as master
 use Rattle.tp_machine.specs.server.Opened as server
 use Rattle.tp_machine.specs.server.Row.{server_row}
 use Rattle.tp_machine.specs.server.State.{Server}
-use Rattle.tp_machine.proofs.agreement.ServerActs.{SaysOnly, server_acts_agrees, unmoved_agrees}
-use Rattle.tp_machine.proofs.agreement.Coordinator.{CoordinatorLawful, Keeps, ReplyRests, SubmissionLawful, YesRests, coordinator_row_lawful, submit_row_lawful}
-use Rattle.tp_machine.proofs.agreement.CoordinatorActs.{coordinator_acts_agrees, receipt_acts, submission_acts}
-use Rattle.tp_machine.proofs.agreement.Logs.{DecidedAs, IsAsked, IsPrepared, IsSettled, outcome_settled, submitted_count, submitted_up}
-use Rattle.tp_machine.proofs.agreement.Server.{IsUnsettled, LetterKept, RequestRests, ServerAgrees, ServerLawful, cast_in, server_row_lawful}
-use Rattle.tp_machine.proofs.agreement.World.{Agrees, BodyRests, CoordinatorUpAgrees, DecidedServed, LetterRests, MailRests, MoveAgrees, VoteRests, state_after_agrees}
-use Rattle.tp_machine.proofs.walks.Steps.{Cases, IsCoordinatorUp, IsServerUp, SaysIdle, WasSent, machine_after_by}
-use Rattle.tp_machine.proofs.basics.Logs.{listed}
-use Rattle.tp_machine.proofs.serial_data.Built.{first_row_begins}
-use Rattle.tp_machine.proofs.basics.Lists.{at_made, each_get, placed_none}
+use Rattle.tp_offices.specs.Authority as office
+use Rattle.tp_offices.specs.Master as master
+use Rattle.tp_offices.specs.declared.authority.Authority.{Authority}
+use Rattle.tp_offices.specs.declared.master.Master.{Master}
 
 -- ---- what a step says by itself
 
@@ -145,7 +152,7 @@ pub begun_lawful : (sc : Scenario) (w : State) → is_built sc ≡ true → IsSo
     → is_part_submitted (Some c) ≡ false → SubmissionLawful sc (IsPrepared w.actors.servers txn) (IsSettled w.actors.servers txn) c part.log (with_age (submit_row sc c) (length w.steps))
 begun_lawful sc w built sound h txn part c exists up new =
     submit_row_lawful sc (IsPrepared w.actors.servers txn) (IsSettled w.actors.servers txn) c part.log (length w.steps) (coordinator_agrees sc w txn part c h up) new
-    (first_row_begins sc c built (subst (IsTxn sc) (sym (own_txn sc w txn part c sound up.found up.up)) exists))
+    (first_row_begins sc c (homes_built sc built) (subst (IsTxn sc) (sym (own_txn sc w txn part c sound up.found up.up)) exists))
 
 begun_agrees : (sc : Scenario) (w : State) → is_built sc ≡ true → IsSound sc w → Agrees sc w → (txn : TxnId) (part : Part Coordinator) (c : Coordinator) → IsTxn sc txn → IsCoordinatorUp w txn part c
     → is_part_submitted (Some c) ≡ false
@@ -158,11 +165,34 @@ begun_agrees sc w built sound h txn part c exists up new =
 
 -- ---- receipts
 
+settled_own : (b : Bool) (one settled : Settled) (later : Option Settled) (txn : TxnId) → same_txn one.txn txn ≡ b → first_of (if b then Some one else None) later ≡ Some settled
+    → (later ≡ Some settled → settled.txn ≡ txn) → settled.txn ≡ txn
+settled_own true one settled later txn same e rest = let is : one ≡ settled = same_Some one settled e in ap (λ (x : Settled). x.txn) (sym is) ∙ same_txn_is one.txn txn same
+settled_own false one settled later txn apart e rest = rest e
+
+-- what was settled of a transaction says that transaction
+settled_of : (txn : TxnId) (kept : List Record) (settled : Settled) → settled_in txn kept ≡ Some settled → settled.txn ≡ txn
+settled_of txn [] settled e = absurd (cc)
+settled_of txn (log.Settled one ∷ kept) settled e = settled_own (same_txn one.txn txn) one settled (settled_in txn kept) txn refl e (λ later. settled_of txn kept settled later)
+settled_of txn (log.Boot ∷ kept) settled e = settled_of txn kept settled e
+settled_of txn (log.Told told ∷ kept) settled e = settled_of txn kept settled e
+settled_of txn (log.Prepared p ∷ kept) settled e = settled_of txn kept settled e
+settled_of txn (log.Decided d ∷ kept) settled e = settled_of txn kept settled e
+
+refusals_abort : (sc : Scenario) (w : State) (at : ServerId) (part : Part Server) → Agrees sc w → slice_get w.actors.servers at.0 ≡ Some part → RefusalsAbort part.log
+refusals_abort sc w at part h found txn settled e some = by_outcome settled.outcome refl
+  where
+    by_outcome : (ended : Outcome) → settled.outcome ≡ ended → settled ≡ record { txn = txn; outcome = outcome.Abort; why = settled.why }
+    by_outcome outcome.Commit is = let none = ((h.servers at.0 part found).settled txn settled e).commit is in let why = none.0 in absurd (cc)
+    by_outcome outcome.Abort is =
+        ap (λ (t : TxnId). record { txn = t; outcome = settled.outcome; why = settled.why }) (settled_of txn part.log settled e)
+        ∙ ap (λ (o : Outcome). record { txn = txn; outcome = o; why = settled.why }) is
+
 -- a server's row on a mail that was sent
 pub server_lawful : (sc : Scenario) (w : State) → Agrees sc w → (n : ℕ) (mail : Mail) (at : ServerId) (part : Part Server) (s : Server) → WasSent w n mail (actor.Server at) → IsServerUp w at part s
     → ServerLawful (DecidedAs w.actors.coordinators) (IsAsked sc w.actors.coordinators at) s part.log (server_row sc s mail)
 server_lawful sc w h n mail at part s sent up =
-    server_row_lawful (DecidedAs w.actors.coordinators) (IsAsked sc w.actors.coordinators at) sc s part.log mail (server_agrees sc w at part s h up)
+    server_row_lawful (DecidedAs w.actors.coordinators) (IsAsked sc w.actors.coordinators at) sc s part.log mail (server_agrees sc w at part s h up) (refusals_abort sc w at part h up.found)
     (request_rests sc w mail.letter.from at mail.letter.body (mail_rests sc w n mail (actor.Server at) h sent))
 
 -- a coordinator's row on a mail that was sent

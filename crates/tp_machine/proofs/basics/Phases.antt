@@ -19,6 +19,11 @@ abbrev pub is_undecided : Phase → Bool
 is_undecided (phase.Ending ended awaited) = false
 is_undecided _ = true
 
+-- the answer to a query is awaited
+abbrev pub is_querying : Phase → Bool
+is_querying (phase.Querying number staple) = true
+is_querying _ = false
+
 -- all queries ran, and their servers are asked to prepare
 abbrev pub is_late : Phase → Bool
 is_late (phase.Asking round) = true
@@ -54,6 +59,13 @@ awaits_is c phase.Idle done e plain = absurd (cc)
 awaits_is c (phase.Asking round) done e plain = absurd (cc)
 awaits_is c (phase.Checking round staple) done e plain = absurd (cc)
 awaits_is c (phase.Ending ended servers) done e plain = absurd (cc)
+
+pub querying_is : (c : Coordinator) (awaited : Phase) (done : DoneReply) → awaits_query c awaited done ≡ true → is_querying awaited ≡ true
+querying_is c (phase.Querying number staple) done e = refl
+querying_is c phase.Idle done e = absurd (cc)
+querying_is c (phase.Asking round) done e = absurd (cc)
+querying_is c (phase.Checking round staple) done e = absurd (cc)
+querying_is c (phase.Ending ended servers) done e = absurd (cc)
 
 any_declared : (sc : Scenario) (at : ServerId) (found : Option Transaction)
     → list_any (is_at_server sc at.0) (option_map_or (λ (declared : Transaction). declared.queries) found []) ≡ option_map_or (has_item sc at) found false

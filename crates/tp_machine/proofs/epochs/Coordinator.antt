@@ -1,11 +1,20 @@
 -- Epochs, the coordinator's other rows: they name what is kept, and keep it.
-use Rattle.std.proofs.Common.{Bool, List, None, Option, Some, [], ap, false, is_some, map, not, refl, subst, true, unwrap_or, ℕ, ℤ, ◌==◌, ◌||◌, ◌∙◌, ◌∷◌, ◌≡◌}
+use Rattle.std.proofs.Common.{Bool, List, None, Option, Some, [], ap, false, is_some, map, not, refl, subst, true, unwrap_or, ℕ, ◌==◌, ◌||◌, ◌∙◌, ◌∷◌, ◌≡◌}
 use Rattle.std.proofs.lemmas.Bool.{eqb-true}
 use Rattle.tp_types.specs.Effect.{Effect, ignores, sends}
-use Rattle.tp_model.specs.Words.{Actor, Body, Mail, Outcome, Scenario, ServerId, Staple, Verdict}
 use Rattle.tp_model.specs.Words.body
 use Rattle.tp_model.specs.Words.cause
 use Rattle.tp_model.specs.Words.outcome
+use Rattle.tp_model.specs.Words.{Actor, Body, Mail, Outcome, Scenario, ServerId, Staple, Verdict}
+use Rattle.tp_machine.proofs.agreement.Coordinator.{idle_is}
+use Rattle.tp_machine.proofs.basics.Homes.{HaveHomes}
+use Rattle.tp_machine.proofs.basics.Ids.{server_number}
+use Rattle.tp_machine.proofs.basics.Lists.{each_filter, each_more}
+use Rattle.tp_machine.proofs.basics.Phases.{has_run_at, is_undecided}
+use Rattle.tp_machine.proofs.epochs.Asked.{Asking, NamesKept, asked_then, kept_are_asked, kept_are_own, then_kept}
+use Rattle.tp_machine.proofs.epochs.Kept.{CoordinatorKeeps, IsDoneMail, KeepsAsked, KeepsEpoch, PhaseKept, RoundKept, RowKeeps, ignores_keeps, kept_epoch, plain_keeps, query_keeps, ran_last_keeps, ran_next_keeps}
+use Rattle.tp_machine.proofs.epochs.Server.{IsPlainLetter, LetterFirst, LetterTold}
+use Rattle.tp_machine.proofs.walks.CoordinatorRows.{coordinator_by, submit_by}
 use Rattle.tp_machine.specs.Machine.{with_age}
 use Rattle.tp_machine.specs.Sound.{Each}
 use Rattle.tp_machine.specs.coord.Opened.{servers_at}
@@ -15,14 +24,6 @@ use Rattle.tp_machine.specs.declared.coord.Phase.TheVariants as phase
 use Rattle.tp_machine.specs.declared.coord.Phase.{Phase}
 use Rattle.tp_machine.specs.declared.coord.Reply.{Reply}
 use Rattle.tp_machine.specs.declared.coord.Round.{Round}
-use Rattle.tp_machine.proofs.agreement.Coordinator.{idle_is}
-use Rattle.tp_machine.proofs.epochs.Asked.{Asking, NamesKept, asked_then, kept_are_asked, kept_are_own, then_kept}
-use Rattle.tp_machine.proofs.walks.CoordinatorRows.{coordinator_by, submit_by}
-use Rattle.tp_machine.proofs.epochs.Server.{IsPlainLetter, LetterFirst, LetterTold}
-use Rattle.tp_machine.proofs.epochs.Kept.{CoordinatorKeeps, IsDoneMail, KeepsAsked, KeepsEpoch, PhaseKept, RoundKept, RowKeeps, ignores_keeps, kept_epoch, plain_keeps, ran_last_keeps}
-use Rattle.tp_machine.proofs.basics.Ids.{server_number}
-use Rattle.tp_machine.proofs.basics.Phases.{has_run_at, is_undecided}
-use Rattle.tp_machine.proofs.basics.Lists.{each_filter, each_more}
 
 -- ---- Tell
 
@@ -108,13 +109,14 @@ IsMail sc E A c from (body.Done done) = IsDoneMail sc E A c from done
 IsMail sc E A c from _ = Unit {0}
 
 -- every row of a coordinator on receipt of a mail
-pub coordinator_row_keeps : (sc : Scenario) (E : ℕ → ℕ) (A : Asking) (c : Coordinator) (mail : Mail) → CoordinatorKeeps sc E (A c.txn) c → c.servers ≡ servers_at sc c.txn
+pub coordinator_row_keeps : (sc : Scenario) (E : ℕ → ℕ) (A : Asking) (c : Coordinator) (mail : Mail) → HaveHomes sc → CoordinatorKeeps sc E (A c.txn) c → c.servers ≡ servers_at sc c.txn
     → IsMail sc E A c mail.letter.from mail.letter.body → RowKeeps sc E A c (coord.coordinator_row sc c mail)
-coordinator_row_keeps sc E A c mail h servers m =
+coordinator_row_keeps sc E A c mail homes h servers m =
     coordinator_by sc c mail (RowKeeps sc E A c)
     (record {
       ignored = ignores_keeps sc E A c h;
-      ran_last = λ done at asked value k. ran_last_keeps sc E A c mail done at asked value h servers (subst (IsMail sc E A c mail.letter.from) k.said_is m) k;
+      ran_next = λ done at asked value next k home. ran_next_keeps sc E A c mail done at asked value next homes h (subst (IsMail sc E A c mail.letter.from) k.said_is m) k;
+      ran_last = λ done at asked value k none. ran_last_keeps sc E A c mail done at asked value homes h servers (subst (IsMail sc E A c mail.letter.from) k.said_is m) k none;
       told_first = λ tell round k. prepares_keeps sc E A c round (coord.staple_of tell mail.sent) h k.asking;
       counted = λ reply round staple at verdicts other others y e. counted_keeps sc E A c round staple at verdicts h y.checking y.awaited;
       committed = λ reply round staple at verdicts y e first agreed.
@@ -123,6 +125,9 @@ coordinator_row_keeps sc E A c mail h servers m =
       denied = λ reply round staple at verdicts verdict y e f.
           plain_keeps sc E A c.txn (Some (coord.aborts c (cause.Denied (coord.denied_by verdict))).state) (coord.decide_letters c outcome.Abort)
           (record { places = h.places; past = h.past; undecided = λ unsure. absurd (cc) }) (orders_plain c outcome.Abort c.servers);
+      refused = λ reply round staple at number value k.
+          plain_keeps sc E A c.txn (Some (coord.aborts c (cause.No (coord.refused_by at number value))).state) (coord.decide_letters c outcome.Abort)
+          (record { places = h.places; past = h.past; undecided = λ unsure. absurd (cc) }) (orders_plain c outcome.Abort c.servers);
       acknowledged = λ ack ended awaited at k.
           plain_keeps sc E A c.txn (Some (record c { phase = phase.Ending ended (coord.without awaited at) })) []
           (record { places = h.places; past = h.past; undecided = λ unsure. absurd (cc) }) tt;
@@ -130,32 +135,25 @@ coordinator_row_keeps sc E A c mail h servers m =
 
 -- ---- Submit
 
-unsent_keeps : (sc : Scenario) (E : ℕ → ℕ) (A : Asking) (c : Coordinator) (age : ℕ) → CoordinatorKeeps sc E (A c.txn) c → RowKeeps sc E A c (with_age (ignores c) age)
-unsent_keeps sc E A c age h =
-    plain_keeps sc E A c.txn (Some (coord.coordinator_with_age c age)) []
-    (record { places = h.places; past = h.past; undecided = λ unsure. let k = h.undecided unsure in record { asked = k.asked; ran = k.ran; round = k.round } }) tt
-
-sends_first_keeps : (sc : Scenario) (E : ℕ → ℕ) (A : Asking) (c : Coordinator) (age : ℕ) (at : ServerId) (value : ℤ) → CoordinatorKeeps sc E (A c.txn) c → c.phase ≡ phase.Idle
-    → RowKeeps sc E A c (with_age (coord.sends_first c (Some at) (Some value)) age)
-sends_first_keeps sc E A c age at value h e =
-    let k : KeepsAsked sc (A c.txn) c = h.undecided (ap is_undecided e) in
-    let letters = (coord.sends_first c (Some at) (Some value)).reaction.letters in
+-- what is kept of epochs does not hang on the age
+aged_keeps : (sc : Scenario) (E : ℕ → ℕ) (A : Asking) (c : Coordinator) (effect : Effect Coordinator) (age : ℕ) → RowKeeps sc E A c effect → RowKeeps sc E A c (with_age effect age)
+aged_keeps sc E A c effect age h =
     record {
-      keeps = record {
-        places = h.places;
-        past = h.past;
-        undecided = λ unsure. record {
-          asked = λ s epoch. then_kept A c.txn s (kept_epoch c) letters (k.asked s) (tt, tt) epoch;
-          ran = λ s. k.ran s ∙ ap (λ (p : Phase). has_run_at sc c.txn p s) e;
-          round = tt;
-        };
-      };
-      own = (tt, tt);
-      sent = record { named = (tt, tt); first = (refl, tt); told = (tt, tt) };
+      keeps = record { places = h.keeps.places; past = h.keeps.past; undecided = λ unsure. let k = h.keeps.undecided unsure in record { asked = k.asked; ran = k.ran; round = k.round } };
+      own = h.own;
+      sent = h.sent;
     }
+
+sent_keeps : (sc : Scenario) (E : ℕ → ℕ) (A : Asking) (c : Coordinator) (at : ServerId) → CoordinatorKeeps sc E (A c.txn) c → c.phase ≡ phase.Idle → RowKeeps sc E A c (coord.sends_query sc c 1 at)
+sent_keeps sc E A c at h e =
+    let k : KeepsAsked sc (A c.txn) c = h.undecided (ap is_undecided e) in
+    query_keeps sc E A c 1 at h.places h.past k.asked (λ s. k.ran s ∙ ap (λ (p : Phase). has_run_at sc c.txn p s) e)
 
 -- the submission of a transaction
 pub submit_row_keeps : (sc : Scenario) (E : ℕ → ℕ) (A : Asking) (c : Coordinator) (age : ℕ) → CoordinatorKeeps sc E (A c.txn) c → coord.is_begun c.phase ≡ false → RowKeeps sc E A c (with_age (coord.submit_row sc c) age)
 submit_row_keeps sc E A c age h b =
     submit_by sc c (λ (effect : Effect Coordinator). RowKeeps sc E A c (with_age effect age))
-    (record { ignored = unsent_keeps sc E A c age h; sent = λ asked at value k. sends_first_keeps sc E A c age at value h (idle_is c.phase b) })
+    (record {
+      ignored = aged_keeps sc E A c (ignores c) age (ignores_keeps sc E A c h);
+      sent = λ at home. aged_keeps sc E A c (coord.sends_query sc c 1 at) age (sent_keeps sc E A c at h (idle_is c.phase b));
+    })

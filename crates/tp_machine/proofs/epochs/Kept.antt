@@ -1,18 +1,26 @@
 -- Epochs, what a coordinator keeps: of each server at which a query of its transaction ran, one that has not decided keeps an epoch, and
 -- all that was asked of a server is what it keeps. And its row on the answer to a query, which is where it learns an epoch.
 use Rattle.std.specs.List.{list_any}
-use Rattle.std.proofs.Common.{Bool, IfSome, List, None, Option, Some, [], ap, arith, false, if◌then◌else◌, is_none, is_some, length, nat_lt, not, refl, slice_get, slice_set, subst, sym, true, ℕ, ℤ, ◌+◌, ◌-◌, ◌<◌, ◌==◌, ◌^◌, ◌||◌, ◌∙◌, ◌≡◌, ◌≤◌}
+use Rattle.std.proofs.Common.{Bool, IfSome, List, None, Option, Some, [], ap, arith, false, if◌then◌else◌, is_none, is_some, length, not, option_map, refl, slice_get, slice_set, subst, sym, take, true, ℕ, ℤ, ◌+◌, ◌-◌, ◌<◌, ◌==◌, ◌||◌, ◌∙◌, ◌≡◌, ◌≤◌}
+use Rattle.std.proofs.lemmas.Bool.{eqb-true}
 use Rattle.std.proofs.lemmas.List.{length-set}
 use Rattle.std.proofs.lemmas.Option.{same_Some}
-use Rattle.std.proofs.lemmas.Bool.{eqb-true}
-use Rattle.tp_types.proofs.ListLemmas.{third_of_three}
 use Rattle.tp_types.specs.Effect.{Effect, ignores}
 use Rattle.tp_types.specs.Table.{flattened}
 use Rattle.tp_model.specs.Agreement.{has_item_at}
-use Rattle.tp_model.specs.Queries.{is_at_server, written_constant}
-use Rattle.tp_model.specs.Words.{Actor, DoneReply, Letter, Mail, Query, Scenario, ServerId, TxnId}
+use Rattle.tp_model.specs.Queries.{is_at_server}
 use Rattle.tp_model.specs.Words.actor
 use Rattle.tp_model.specs.Words.body
+use Rattle.tp_model.specs.Words.{Actor, DoneReply, Letter, Mail, Query, Scenario, ServerId, TxnId}
+use Rattle.tp_machine.proofs.agreement.Coordinator.{servers_at_have_items}
+use Rattle.tp_machine.proofs.basics.Homes.{HaveHomes, last_is, next_is}
+use Rattle.tp_machine.proofs.basics.Ids.{server_number}
+use Rattle.tp_machine.proofs.basics.Lists.{each_as, missing, placed_set}
+use Rattle.tp_machine.proofs.basics.Logs.{get_set}
+use Rattle.tp_machine.proofs.basics.Phases.{all_ran, awaits_is, has_run_at, is_first_at, is_undecided, late_has_run, next_ran, queries_of, sent_to_server}
+use Rattle.tp_machine.proofs.epochs.Asked.{Asking, IsKeptNaming, NamesKept, NamesOwn, asked_then, kept_are_asked, kept_are_own, naming, none_then, then_kept}
+use Rattle.tp_machine.proofs.epochs.Server.{BodyTold, DoneMade, IsPlainLetter, LettersEpochs, has_restarted, plain_letters, plain_names_none, plain_names_own}
+use Rattle.tp_machine.proofs.walks.CoordinatorRows.{IsRanAnswer}
 use Rattle.tp_machine.specs.Sound.{Each, EachPlaced, IsActor, query_in}
 use Rattle.tp_machine.specs.coord.Opened.{servers_at}
 use Rattle.tp_machine.specs.coord.Row as coord
@@ -21,14 +29,6 @@ use Rattle.tp_machine.specs.declared.coord.Phase.TheVariants as phase
 use Rattle.tp_machine.specs.declared.coord.Phase.{Phase}
 use Rattle.tp_machine.specs.declared.coord.Reply.{Reply}
 use Rattle.tp_machine.specs.declared.coord.Round.{Round}
-use Rattle.tp_machine.proofs.agreement.Coordinator.{servers_at_have_items}
-use Rattle.tp_machine.proofs.epochs.Asked.{Asking, NamesOwn, asked_then, none_then}
-use Rattle.tp_machine.proofs.walks.CoordinatorRows.{IsLastAnswer}
-use Rattle.tp_machine.proofs.epochs.Server.{BodyTold, DoneMade, IsPlainLetter, LettersEpochs, has_restarted, plain_letters, plain_names_none, plain_names_own}
-use Rattle.tp_machine.proofs.basics.Ids.{server_number}
-use Rattle.tp_machine.proofs.basics.Logs.{get_set}
-use Rattle.tp_machine.proofs.basics.Phases.{all_ran, awaits_is, has_run_at, is_first_at, is_undecided, late_has_run, next_ran, sent_to_server}
-use Rattle.tp_machine.proofs.basics.Lists.{each_as, missing, placed_set}
 
 -- ---- what is kept
 
@@ -145,31 +145,48 @@ each_server sc c K e h =
     subst (λ (servers : List ServerId). Each K servers) (sym e)
     (each_as (λ (at : ServerId). has_item_at sc at c.txn ≡ true) K (λ at item. h at item) (servers_at sc c.txn) (servers_at_have_items sc c.txn))
 
--- the last query ran: its server's epoch is kept, and all servers are asked to prepare
+-- a coordinator once the answer's epoch is kept
+record DeedKept (sc : Scenario) (E : ℕ → ℕ) (A : Asking) (c : Coordinator) (number : ℕ) (next : Coordinator) : Type 0 where
+  pub places : length next.epochs ≡ length sc.servers
+  pub past : EachPlaced (λ (n : ℕ) (epoch : ℕ). epoch ≤ E n) next.epochs
+  pub asked : (s : ServerId) (epoch : ℕ) → A c.txn s ≡ Some epoch → kept_epoch next s ≡ Some epoch
+  pub ran : (s : ServerId) → is_some (kept_epoch next s) ≡ list_any (is_at_server sc s.0) (take number (queries_of sc c.txn))
+
+deed_keeps : (sc : Scenario) (E : ℕ → ℕ) (A : Asking) (c : Coordinator) (done : DoneReply) (asked : Query) (at : ServerId) (value : ℤ) → CoordinatorKeeps sc E (A c.txn) c
+    → IsAnswer sc E A c done asked at → DeedKept sc E A c done.query (coord.with_deed c at done asked value)
+deed_keeps sc E A c done asked at value h m =
+    let k : KeepsAsked sc (A c.txn) c = h.undecided (ap is_undecided m.awaits) in
+    let next = coord.with_deed c at done asked value in
+    let within : at.0 < length c.epochs = omega (arith, h.places, m.exists) in
+    let now : (s : ServerId) → kept_epoch next s ≡ (if at.0 == s.0 then Some done.epoch else kept_epoch c s) = λ s. kept_set c.epochs at.0 s.0 done.epoch within in
+    record {
+      places = length-set c.epochs at.0 (Some done.epoch) ∙ h.places;
+      past = placed_set (λ (n : ℕ) (epoch : ℕ). epoch ≤ E n) c.epochs at.0 done.epoch h.past m.told.past;
+      asked = λ s epoch e. now s
+          ∙ asked_chosen (at.0 == s.0) done.epoch epoch (kept_epoch c s)
+          (λ same. told_is_asked sc E A c done asked at epoch (is_first_at sc at c.txn done.query) refl m k
+          (subst (λ (t : ServerId). A c.txn t ≡ Some epoch) (ap server_number (sym (eqb-true at.0 s.0 same))) e))
+          (k.asked s epoch e);
+      ran = λ s. ap is_some (now s)
+          ∙ (some_chosen (at.0 == s.0) done.epoch (kept_epoch c s)
+          ∙ (ap (λ (b : Bool). b || (at.0 == s.0)) (k.ran s ∙ ap (λ (p : Phase). has_run_at sc c.txn p s) m.awaits)
+          ∙ (ap (λ (b : Bool). has_run_at sc c.txn (phase.Querying done.query None) s || b) (sym (sent_to_server sc asked at s.0 m.at_is))
+          ∙ sym (next_ran sc c.txn done.query asked (is_at_server sc s.0) m.asked_is))));
+    }
+
+-- the last query ran: all servers are asked to prepare
 last_keeps : (sc : Scenario) (E : ℕ → ℕ) (A : Asking) (c : Coordinator) (done : DoneReply) (asked : Query) (at : ServerId) (value : ℤ) → CoordinatorKeeps sc E (A c.txn) c → c.servers ≡ servers_at sc c.txn
     → IsAnswer sc E A c done asked at → query_in sc c.txn (done.query + 1) ≡ None → RowKeeps sc E A c (coord.asks (coord.with_deed c at done asked value))
 last_keeps sc E A c done asked at value h servers m last =
-    let k : KeepsAsked sc (A c.txn) c = h.undecided (ap is_undecided m.awaits) in
     let next = (coord.asks (coord.with_deed c at done asked value)).state in
-    let within : at.0 < length c.epochs = omega (arith, h.places, m.exists) in
-    let now : (s : ServerId) → kept_epoch next s ≡ (if at.0 == s.0 then Some done.epoch else kept_epoch c s) = λ s. kept_set c.epochs at.0 s.0 done.epoch within in
-    let ran : (s : ServerId) → is_some (kept_epoch next s) ≡ has_run_at sc c.txn next.phase s = λ s.
-    ap is_some (now s)
-    ∙ (some_chosen (at.0 == s.0) done.epoch (kept_epoch c s)
-    ∙ (ap (λ (b : Bool). b || (at.0 == s.0)) (k.ran s ∙ ap (λ (p : Phase). has_run_at sc c.txn p s) m.awaits)
-    ∙ (ap (λ (b : Bool). has_run_at sc c.txn (phase.Querying done.query None) s || b) (sym (sent_to_server sc asked at s.0 m.at_is))
-    ∙ (sym (next_ran sc c.txn done.query asked (is_at_server sc s.0) m.asked_is)
-    ∙ ap (list_any (is_at_server sc s.0)) (all_ran sc c.txn done.query last))))) in
+    let k = deed_keeps sc E A c done asked at value h m in
+    let ran : (s : ServerId) → is_some (kept_epoch next s) ≡ has_run_at sc c.txn next.phase s = λ s. k.ran s ∙ ap (list_any (is_at_server sc s.0)) (all_ran sc c.txn done.query last) in
     plain_keeps sc E A c.txn (Some next) (coord.asks (coord.with_deed c at done asked value)).reaction.letters
     (record {
-      places = length-set c.epochs at.0 (Some done.epoch) ∙ h.places;
-      past = placed_set (λ (n : ℕ) (epoch : ℕ). epoch ≤ E n) c.epochs at.0 done.epoch h.past m.told.past;
+      places = k.places;
+      past = k.past;
       undecided = λ unsure. record {
-        asked = λ s epoch e. now s
-            ∙ asked_chosen (at.0 == s.0) done.epoch epoch (kept_epoch c s)
-            (λ same. told_is_asked sc E A c done asked at epoch (is_first_at sc at c.txn done.query) refl m k
-            (subst (λ (t : ServerId). A c.txn t ≡ Some epoch) (ap server_number (sym (eqb-true at.0 s.0 same))) e))
-            (k.asked s epoch e);
+        asked = k.asked;
         ran = ran;
         round = record {
           awaited = each_server sc c (KeepsEpoch next) servers (λ s item. ran s ∙ (late_has_run sc c.txn next.phase s refl ∙ item));
@@ -178,9 +195,45 @@ last_keeps sc E A c done asked at value h servers m last =
       };
     }) (tt, tt)
 
-none_is : {A : Type 0} (found : Option A) → is_none found ≡ true → found ≡ None
-none_is None e = refl
-none_is (Some x) e = absurd (cc)
+-- ---- Query
+
+names_told : (c : Coordinator) (at : ServerId) (told : Option ℕ) → kept_epoch c at ≡ told → IfSome (option_map (naming c.txn) told) (IsKeptNaming c.txn (kept_epoch c) (actor.Server at))
+names_told c at None e = tt
+names_told c at (Some epoch) e = (refl, e)
+
+none_or_some : (told : Option ℕ) (b : Bool) → is_some told ≡ b → is_none told ≡ not b
+none_or_some None b e = ap not e
+none_or_some (Some epoch) b e = ap not e
+
+-- a query is asked, of the epoch that is kept of its server
+pub query_keeps : (sc : Scenario) (E : ℕ → ℕ) (A : Asking) (c : Coordinator) (number : ℕ) (at : ServerId) → length c.epochs ≡ length sc.servers → EachPlaced (λ (n : ℕ) (epoch : ℕ). epoch ≤ E n) c.epochs
+    → ((s : ServerId) (epoch : ℕ) → A c.txn s ≡ Some epoch → kept_epoch c s ≡ Some epoch) → ((s : ServerId) → is_some (kept_epoch c s) ≡ has_run_at sc c.txn (phase.Querying number None) s)
+    → RowKeeps sc E A c (coord.sends_query sc c number at)
+query_keeps sc E A c number at places past asked ran =
+    let letters = (coord.sends_query sc c number at).reaction.letters in
+    let names : Each (NamesKept c.txn (kept_epoch c)) letters = (names_told c at (kept_epoch c at) refl, tt) in
+    record {
+      keeps = record {
+        places = places;
+        past = past;
+        undecided = λ unsure. record { asked = λ s epoch. then_kept A c.txn s (kept_epoch c) letters (asked s) names epoch; ran = ran; round = tt };
+      };
+      own = kept_are_own c.txn (kept_epoch c) letters names;
+      sent = record {
+        named = kept_are_asked A c.txn (kept_epoch c) letters asked names;
+        first = (none_or_some (kept_epoch c at) (has_run_at sc c.txn (phase.Querying number None) at) (ran at), tt);
+        told = (tt, tt);
+      };
+    }
+
+-- a further query is to run
+next_keeps : (sc : Scenario) (E : ℕ → ℕ) (A : Asking) (c : Coordinator) (done : DoneReply) (asked : Query) (at next : ServerId) (value : ℤ) → CoordinatorKeeps sc E (A c.txn) c
+    → IsAnswer sc E A c done asked at → coord.next_number done.query ≡ done.query + 1 → RowKeeps sc E A c (coord.sends_query sc (coord.with_deed c at done asked value) (coord.next_number done.query) next)
+next_keeps sc E A c done asked at next value h m further =
+    let k = deed_keeps sc E A c done asked at value h m in
+    let before : done.query ≡ coord.next_number done.query - 1 = omega (arith, further) in
+    query_keeps sc E A (coord.with_deed c at done asked value) (coord.next_number done.query) next k.places k.past k.asked
+    (λ s. k.ran s ∙ ap (λ (n : ℕ). list_any (is_at_server sc s.0) (take n (queries_of sc c.txn))) before)
 
 -- what a coordinator knows of the mail's sender and transaction
 pub record IsDoneMail (sc : Scenario) (E : ℕ → ℕ) (A : Asking) (c : Coordinator) (from : Actor) (done : DoneReply) : Type 0 where
@@ -188,13 +241,11 @@ pub record IsDoneMail (sc : Scenario) (E : ℕ → ℕ) (A : Asking) (c : Coordi
   pub told : BodyTold sc A E from (body.Done done)
   pub own : done.txn ≡ c.txn
 
--- the answer to the last query
-pub ran_last_keeps : (sc : Scenario) (E : ℕ → ℕ) (A : Asking) (c : Coordinator) (mail : Mail) (done : DoneReply) (at : ServerId) (asked : Query) (value : ℤ) → CoordinatorKeeps sc E (A c.txn) c
-    → c.servers ≡ servers_at sc c.txn → IsDoneMail sc E A c mail.letter.from done → IsLastAnswer sc c mail done at asked value → RowKeeps sc E A c (coord.asks (coord.with_deed c at done asked value))
-ran_last_keeps sc E A c mail done at asked value h servers m k =
+is_answer : (sc : Scenario) (E : ℕ → ℕ) (A : Asking) (c : Coordinator) (mail : Mail) (done : DoneReply) (at : ServerId) (asked : Query) (value : ℤ) → IsDoneMail sc E A c mail.letter.from done
+    → IsRanAnswer sc c mail done at asked value → IsAnswer sc E A c done asked at
+is_answer sc E A c mail done at asked value m k =
     let is : mail.letter.from ≡ actor.Server at = from_server mail.letter.from at k.from_is in
-    last_keeps sc E A c done asked at value h servers
-    (record {
+    record {
       awaits = awaits_is c c.phase done k.awaited k.plain;
       asked_is = k.asked_is;
       at_is = k.server_is;
@@ -202,5 +253,18 @@ ran_last_keeps sc E A c mail done at asked value h servers m k =
       ran = ap has_restarted k.answer_is;
       told = subst (λ (a : Actor). BodyTold sc A E a (body.Done done)) is m.told;
       own = m.own;
-    })
-    (none_is (query_in sc c.txn (done.query + 1)) (third_of_three (is_some (written_constant asked)) (nat_lt done.query (2 ^ 32 - 1)) (is_none (query_in sc c.txn (done.query + 1))) k.last))
+    }
+
+-- the answer to the last query
+pub ran_last_keeps : (sc : Scenario) (E : ℕ → ℕ) (A : Asking) (c : Coordinator) (mail : Mail) (done : DoneReply) (at : ServerId) (asked : Query) (value : ℤ) → HaveHomes sc → CoordinatorKeeps sc E (A c.txn) c
+    → c.servers ≡ servers_at sc c.txn → IsDoneMail sc E A c mail.letter.from done → IsRanAnswer sc c mail done at asked value → coord.home_of sc c (coord.next_number done.query) ≡ None
+    → RowKeeps sc E A c (coord.asks (coord.with_deed c at done asked value))
+ran_last_keeps sc E A c mail done at asked value homes h servers m k none =
+    last_keeps sc E A c done asked at value h servers (is_answer sc E A c mail done at asked value m k) (last_is sc c done.query asked homes k.asked_is none)
+
+-- the answer to another one
+pub ran_next_keeps : (sc : Scenario) (E : ℕ → ℕ) (A : Asking) (c : Coordinator) (mail : Mail) (done : DoneReply) (at : ServerId) (asked : Query) (value : ℤ) (next : ServerId) → HaveHomes sc
+    → CoordinatorKeeps sc E (A c.txn) c → IsDoneMail sc E A c mail.letter.from done → IsRanAnswer sc c mail done at asked value
+    → RowKeeps sc E A c (coord.sends_query sc (coord.with_deed c at done asked value) (coord.next_number done.query) next)
+ran_next_keeps sc E A c mail done at asked value next homes h m k =
+    next_keeps sc E A c done asked at next value h (is_answer sc E A c mail done at asked value m k) (next_is sc c done.query asked homes k.asked_is)

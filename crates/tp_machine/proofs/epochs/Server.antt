@@ -1,23 +1,28 @@
 -- Epochs, the actors' rows: what a server does it does in its epoch, and of a server that has told its epoch a coordinator keeps and
 -- names the one that was asked. A says which epochs were asked, E the present epoch of each server.
-use Rattle.std.proofs.Common.{Bool, IfSome, List, None, Option, Some, [], ap, arith, false, is_none, map, refl, subst, sym, true, ℕ, ◌++◌, ◌+◌, ◌==◌, ◌∙◌, ◌∷◌, ◌≡◌, ◌≤◌}
-use Rattle.std.proofs.lemmas.Bool.{eqb-true}
+use Rattle.std.specs.Option.{option_map_or}
+use Rattle.std.proofs.Common.{Bool, IfSome, List, None, Option, Some, [], ap, arith, false, is_none, is_some, not, option_map, refl, subst, sym, true, ℕ, ℤ, ⊎_elim, ◌++◌, ◌+◌, ◌==◌, ◌∙◌, ◌∷◌, ◌≡◌, ◌≤◌}
+use Rattle.std.proofs.lemmas.Bool.{eqb-true, not-false}
+use Rattle.std.proofs.lemmas.Option.{same_Some}
 use Rattle.tp_types.specs.Effect.{Effect, ignores}
-use Rattle.tp_model.specs.Words.{Actor, Answer, Body, DecideRequest, Deed, DoneReply, Letter, Mail, PrepareRequest, Prepared, QueryRequest, Record, Scenario, ServerId, TxnId}
 use Rattle.tp_model.specs.Words.actor
 use Rattle.tp_model.specs.Words.answer
 use Rattle.tp_model.specs.Words.body
 use Rattle.tp_model.specs.Words.log
+use Rattle.tp_model.specs.Words.no
+use Rattle.tp_model.specs.Words.{Actor, Answer, Body, Deed, DoneReply, Letter, Mail, PrepareRequest, Prepared, Query, QueryRequest, Record, Scenario, ServerId, Settled, TxnId, Verdict}
+use Rattle.tp_machine.proofs.basics.Lists.{each_append, each_as, each_found, placed_emptied, placed_set}
+use Rattle.tp_machine.proofs.basics.Phases.{is_first_at}
+use Rattle.tp_machine.proofs.epochs.Asked.{Asking, IsAsked, IsOwnNaming, LetterNamed, NamesNone, NamesOwn, naming, naming_of}
+use Rattle.tp_machine.proofs.walks.ServerRows.{IsFirstHere, IsFurther, IsGranted, server_by}
 use Rattle.tp_machine.specs.Logs.{boots_in, epoch_in}
 use Rattle.tp_machine.specs.Machine.{log_with}
+use Rattle.tp_machine.specs.Runs.{deed_of}
 use Rattle.tp_machine.specs.Sound.{Each, EachPlaced}
 use Rattle.tp_machine.specs.declared.server.Entry.{Entry}
 use Rattle.tp_machine.specs.server.Row as server
 use Rattle.tp_machine.specs.server.State.{Server}
-use Rattle.tp_machine.proofs.epochs.Asked.{Asking, IsAsked, IsOwnNaming, LetterNamed, NamesNone, NamesOwn, naming_of}
-use Rattle.tp_machine.proofs.basics.Phases.{is_first_at}
-use Rattle.tp_machine.proofs.walks.ServerRows.{server_by}
-use Rattle.tp_machine.proofs.basics.Lists.{each_as, each_found, placed_emptied, placed_set}
+use Rattle.tp_machine.specs.server.Verdicts.{verdicts_on}
 
 -- ---- what is said of epochs
 
@@ -171,17 +176,68 @@ RowEpochs sc A s kept effect = ServerEpochs sc A s.server kept (Some effect.stat
 ignores_made : (sc : Scenario) (A : Asking) (s : Server) (kept : List Record) → ServerMade sc A s.server s kept → RowEpochs sc A s kept (ignores s)
 ignores_made sc A s kept h = record { made = h; forces = tt; replies = tt }
 
-begins_made : (sc : Scenario) (A : Asking) (s : Server) (kept : List Record) (sent : ℕ) (q : QueryRequest) (deed : Deed) → ServerMade sc A s.server s kept → is_first_at sc s.server q.txn q.query ≡ true
-    → RowEpochs sc A s kept (server.begins s sent q (Some deed))
-begins_made sc A s kept sent q deed h first =
+-- the epoch that a request names where it names none but the entry's
+pub same_named : (epoch : Option ℕ) (named of_entry : ℕ) → epoch ≡ Some named → option_map_or (λ (e : ℕ). not (e == of_entry)) epoch false ≡ false → named ≡ of_entry
+same_named None named of_entry is same = absurd (cc)
+same_named (Some e) named of_entry is same =
+    let one : e ≡ named = same_Some e named is in
+    omega (arith, one, eqb-true e of_entry (not-false (e == of_entry) same))
+
+-- a request that names an epoch names the one that is asked
+record IsAskedEpoch (A : Asking) (at : ServerId) (q : QueryRequest) : Type 0 where
+  pub named : ℕ
+  pub epoch_is : q.epoch ≡ Some named
+  pub asked : A q.txn at ≡ Some named
+
+asked_epoch : (A : Asking) (at : ServerId) (q : QueryRequest) (epoch : Option ℕ) → q.epoch ≡ epoch → is_none epoch ≡ false → IfSome (option_map (naming q.txn) epoch) (IsAsked A (actor.Server at)) → IsAskedEpoch A at q
+asked_epoch A at q None is none h = absurd (cc)
+asked_epoch A at q (Some named) is none h = record { named = named; epoch_is = is; asked = h }
+
+-- an entry at which a query runs is made as entries are; a further query names the entry's epoch, which is the one that is asked
+record IsRunMade (sc : Scenario) (A : Asking) (s : Server) (q : QueryRequest) (entry : Entry) : Type 0 where
+  pub made : EntryMade sc A s.server s.epoch entry
+  pub asked : is_first_at sc s.server q.txn q.query ≡ false → A q.txn s.server ≡ Some entry.epoch
+
+none_of : (epoch : Option ℕ) → is_some epoch ≡ false → is_none epoch ≡ true
+none_of None e = refl
+none_of (Some named) e = absurd (cc)
+
+run_made : (sc : Scenario) (A : Asking) (s : Server) (kept : List Record) (mail : Mail) (q : QueryRequest) (query : Query) (entry : Entry) (value : ℤ) → ServerMade sc A s.server s kept
+    → is_none q.epoch ≡ is_first_at sc s.server q.txn q.query → IfSome (option_map (naming q.txn) q.epoch) (IsAsked A (actor.Server s.server)) → IsGranted sc s mail q query entry value → IsRunMade sc A s q entry
+run_made sc A s kept mail q query entry value h first m k =
+    ⊎_elim
+    (λ (new : IsFirstHere s mail.sent q entry).
+    record {
+      made = subst (EntryMade sc A s.server s.epoch) (sym new.entry_is) (record { past = omega arith; present = λ none. refl; waiting = tt; answers = tt });
+      asked = λ later.
+          let unnamed : is_none q.epoch ≡ true = none_of q.epoch new.unnamed in
+          absurd (cc);
+    })
+    (λ (further : IsFurther s q entry).
+    record {
+      made = h.entries q.txn.0 entry further.found;
+      asked = λ later.
+          let n : IsAskedEpoch A s.server q = asked_epoch A s.server q q.epoch refl (first ∙ later) m in
+          n.asked ∙ ap Some (same_named q.epoch n.named entry.epoch n.epoch_is further.same_epoch);
+    }) k.place
+
+runs_made : (sc : Scenario) (A : Asking) (s : Server) (kept : List Record) (q : QueryRequest) (query : Query) (entry : Entry) (deed : Deed) → ServerMade sc A s.server s kept → IsRunMade sc A s q entry
+    → RowEpochs sc A s kept (server.completes s q query entry deed)
+runs_made sc A s kept q query entry deed h r =
+    let answer : DoneMade sc A s.server s.epoch (server.done_reply q entry.epoch deed) = record { past = r.made.past; asked = λ ran later. r.asked later } in
     record {
       made = record {
         epoch_is = h.epoch_is;
-        entries = placed_set (λ (n : ℕ) (entry : Entry). EntryMade sc A s.server s.epoch entry) s.entries q.txn.0 (server.first_entry s sent q deed) h.entries
-            (record { past = omega arith; present = λ none. refl; waiting = tt; answers = (record { past = omega arith; asked = λ ran later. absurd (cc) }, tt) });
+        entries = placed_set (λ (n : ℕ) (found : Entry). EntryMade sc A s.server s.epoch found) s.entries q.txn.0 (server.entry_after q entry deed) h.entries
+            (record {
+              past = r.made.past;
+              present = r.made.present;
+              waiting = r.made.waiting;
+              answers = each_append (DoneMade sc A s.server s.epoch) entry.answers (server.done_reply q entry.epoch deed ∷ []) r.made.answers (answer, tt);
+            });
       };
       forces = tt;
-      replies = ((refl, record { past = omega (arith, h.epoch_is); asked = λ ran later. absurd (cc) }), tt);
+      replies = ((refl, record { past = omega (arith, answer.past, h.epoch_is); asked = answer.asked }), tt);
     }
 
 -- an answer that is given again, or that the server restarted
@@ -189,13 +245,13 @@ answers_made : (sc : Scenario) (A : Asking) (s : Server) (kept : List Record) (q
     → RowEpochs sc A s kept (server.answers s q.txn given)
 answers_made sc A s kept q given h d = record { made = h; forces = tt; replies = ((refl, record { past = omega (arith, d.past, h.epoch_is); asked = d.asked }), tt) }
 
-votes_made : (sc : Scenario) (A : Asking) (s : Server) (kept : List Record) (p : PrepareRequest) (place : ℕ) (entry : Entry) → ServerMade sc A s.server s kept → server.entry_at s p.txn ≡ Some entry
-    → entry.epoch ≡ p.epoch → A p.txn s.server ≡ Some p.epoch → RowEpochs sc A s kept (server.votes sc s p place entry)
-votes_made sc A s kept p place entry h e same m =
+votes_made : (sc : Scenario) (A : Asking) (s : Server) (kept : List Record) (p : PrepareRequest) (verdicts : List Verdict) (entry : Entry) → ServerMade sc A s.server s kept → server.entry_at s p.txn ≡ Some entry
+    → entry.epoch ≡ p.epoch → A p.txn s.server ≡ Some p.epoch → RowEpochs sc A s kept (server.votes s p verdicts entry)
+votes_made sc A s kept p verdicts entry h e same m =
     let old : EntryMade sc A s.server s.epoch entry = h.entries p.txn.0 entry e in
     record {
       made = record {
-        epoch_is = omega (arith, h.epoch_is, boots_push kept (log.Prepared (server.prepared_record s p entry (map (server.verdict_on sc s place) entry.deeds))));
+        epoch_is = omega (arith, h.epoch_is, boots_push kept (log.Prepared (server.prepared_record s p entry verdicts)));
         entries = placed_set (λ (n : ℕ) (found : Entry). EntryMade sc A s.server s.epoch found) s.entries p.txn.0 _ h.entries
             (record { past = old.past; present = λ none. absurd (cc); waiting = old.waiting; answers = old.answers });
       };
@@ -203,15 +259,15 @@ votes_made sc A s kept p place entry h e same m =
       replies = (tt, tt);
     }
 
-settles_made : (sc : Scenario) (A : Asking) (s : Server) (kept : List Record) (d : DecideRequest) → ServerMade sc A s.server s kept → RowEpochs sc A s kept (server.settles s d)
-settles_made sc A s kept d h =
+ends_made : (sc : Scenario) (A : Asking) (s : Server) (kept : List Record) (order : Settled) (letter : Letter) → ServerMade sc A s.server s kept → ReplyMade sc A s.server (epoch_in (log_with kept (Some (log.Settled order)))) letter.from letter.body → RowEpochs sc A s kept (server.ends s order letter)
+ends_made sc A s kept order letter h reply =
     record {
       made = record {
-        epoch_is = omega (arith, h.epoch_is, boots_push kept (log.Settled (server.settled_as d)));
-        entries = placed_emptied (λ (n : ℕ) (entry : Entry). EntryMade sc A s.server s.epoch entry) s.entries d.txn.0 h.entries;
+        epoch_is = omega (arith, h.epoch_is, boots_push kept (log.Settled order));
+        entries = placed_emptied (λ (n : ℕ) (entry : Entry). EntryMade sc A s.server s.epoch entry) s.entries order.txn.0 h.entries;
       };
       forces = tt;
-      replies = (tt, tt);
+      replies = (reply, tt);
     }
 
 -- every row of a server on receipt of a mail
@@ -221,16 +277,19 @@ server_row_made sc A s kept mail h first m =
     server_by sc s mail (RowEpochs sc A s kept)
     (record {
       ignored = ignores_made sc A s kept h;
-      begun = λ q deed k.
+      ran = λ q query entry value k.
           let is_first : is_none q.epoch ≡ is_first_at sc s.server q.txn q.query = subst (QueryFirst sc (actor.Server s.server)) k.said_is first in
-          begins_made sc A s kept mail.sent q deed h (sym is_first ∙ k.unnamed);
+          let asked : IfSome (option_map (naming q.txn) q.epoch) (IsAsked A (actor.Server s.server)) = subst (λ (said : Body). IfSome (naming_of said) (IsAsked A (actor.Server s.server))) k.said_is m in
+          runs_made sc A s kept q query entry (deed_of q.query query value) h (run_made sc A s kept mail q query entry value h is_first asked k);
       restarted = λ q k. answers_made sc A s kept q (server.restarted_reply q s.epoch) h (record { past = omega arith; asked = λ ran later. absurd (cc) });
       answered = λ q entry given k.
           answers_made sc A s kept q given h
           (each_found (DoneMade sc A s.server s.epoch) (λ (d : DoneReply). d.query == q.query) entry.answers given (h.entries q.txn.0 entry k.found).answers k.given_is);
-      voted = λ p entry staple k.
+      voted = λ p entry staple txn k.
           let asked : A p.txn s.server ≡ Some p.epoch = subst (λ (said : Body). IfSome (naming_of said) (IsAsked A (actor.Server s.server))) k.said_is m in
-          votes_made sc A s kept p staple.place entry h k.found (eqb-true entry.epoch p.epoch k.same_epoch) asked;
-      settled = λ d k. settles_made sc A s kept d h;
+          votes_made sc A s kept p (verdicts_on sc s txn staple entry.deeds) entry h k.found (eqb-true entry.epoch p.epoch k.same_epoch) asked;
+      refused = λ p entry number value k. ends_made sc A s kept (server.refused_as p (no.Range number value)) (server.no_letter s p (no.Range number value)) h tt;
+      refused_again = λ p settled why k. record { made = h; forces = tt; replies = (tt, tt) };
+      settled = λ d k. ends_made sc A s kept (server.settled_as d) (server.ack_letter s d.txn) h tt;
       acknowledged = λ d settled k. record { made = h; forces = tt; replies = (tt, tt) };
     })

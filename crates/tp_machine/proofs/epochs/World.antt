@@ -9,37 +9,39 @@ use Rattle.std.proofs.lemmas.Option.{cond_some, same_Some}
 use Rattle.tp_types.proofs.ListLemmas.{number_itself}
 use Rattle.tp_types.specs.Table.{flattened}
 use Rattle.tp_model.specs.Ids.{same_txn}
-use Rattle.tp_model.specs.Words.{Actor, Body, DoneReply, Letter, Mail, Prepared, QueryRequest, Record, Scenario, ServerId, Step, TxnId, What}
 use Rattle.tp_model.specs.Words.actor
 use Rattle.tp_model.specs.Words.body
 use Rattle.tp_model.specs.Words.log
 use Rattle.tp_model.specs.Words.what
+use Rattle.tp_model.specs.Words.{Actor, Body, DoneReply, Letter, Mail, Prepared, QueryRequest, Record, Scenario, ServerId, Step, TxnId, What}
+use Rattle.tp_machine.proofs.agreement.Steps.{own_txn}
+use Rattle.tp_machine.proofs.agreement.World.{Agrees, CoordinatorUpAgrees}
+use Rattle.tp_machine.proofs.basics.Homes.{HaveHomes}
+use Rattle.tp_machine.proofs.basics.Ids.{server_number, txn_number}
+use Rattle.tp_machine.proofs.basics.Lists.{at_made, at_set, each_append, each_as, each_get, placed_none}
+use Rattle.tp_machine.proofs.basics.Logs.{appended, get_set, prepared_either}
+use Rattle.tp_machine.proofs.epochs.Asked.{Asking, IsAsked, LetterNamed, NamesNone, StaysAsked, asked_in, asked_more, asked_then, letter_stays, naming_of, none_then, other_then, then_stays}
+use Rattle.tp_machine.proofs.epochs.Coordinator.{IsMail, coordinator_row_keeps, submit_row_keeps}
+use Rattle.tp_machine.proofs.epochs.Kept.{CoordinatorEpochs, CoordinatorKeeps}
+use Rattle.tp_machine.proofs.epochs.Server.{BodyTold, DoneMade, DoneTold, EntryMade, IsPlainLetter, LetterFirst, LetterTold, LettersEpochs, PreparedMade, QueryFirst, RecordMade, ReplyMade, ServerEpochs, ServerMade, WaitsMade, epoch_rises, plain_letters, plain_names_none, server_row_made}
+use Rattle.tp_machine.proofs.walks.Steps.{Cases, IsCoordinatorUp, IsServerUp, WasSent, machine_after_by}
 use Rattle.tp_machine.specs.Logs.{epoch_at, epoch_by, epoch_in, preparation_in, prepared_in}
 use Rattle.tp_machine.specs.Machine.{Machine, Move, State, acts, acts_by, coordinator_fact, coordinator_move, is_part_submitted, log_with, machine_after, mails_of, opened_part, opening_state, refusal, server_fact, server_move, state_after, with_age}
 use Rattle.tp_machine.specs.Parts.{Part}
 use Rattle.tp_machine.specs.Sound.{Each, EachAt, IsSound, IsSoundLetter, IsSoundMail, IsSoundServerUp, IsStepOf}
 use Rattle.tp_machine.specs.coord.Opened as coord_opened
+use Rattle.tp_machine.specs.coord.Opened.{idle}
 use Rattle.tp_machine.specs.coord.Row.{coordinator_row, submit_row}
 use Rattle.tp_machine.specs.coord.State.{Coordinator}
 use Rattle.tp_machine.specs.declared.actors.Actors.{Actors}
 use Rattle.tp_machine.specs.declared.server.Entry.{Entry}
-use Rattle.tp_offices.specs.Authority as office
-use Rattle.tp_offices.specs.declared.authority.Authority.{Authority}
-use Rattle.tp_offices.specs.declared.master.Master.{Master}
-use Rattle.tp_offices.specs.Master as master
 use Rattle.tp_machine.specs.server.Opened as server_opened
 use Rattle.tp_machine.specs.server.Row.{server_row}
 use Rattle.tp_machine.specs.server.State.{Server}
-use Rattle.tp_machine.proofs.agreement.Steps.{own_txn}
-use Rattle.tp_machine.proofs.agreement.World.{Agrees, CoordinatorUpAgrees}
-use Rattle.tp_machine.proofs.epochs.Asked.{Asking, IsAsked, LetterNamed, NamesNone, StaysAsked, asked_in, asked_more, asked_then, letter_stays, naming_of, none_then, other_then, then_stays}
-use Rattle.tp_machine.proofs.walks.Steps.{Cases, IsCoordinatorUp, IsServerUp, WasSent, machine_after_by}
-use Rattle.tp_machine.proofs.epochs.Server.{BodyTold, DoneMade, DoneTold, EntryMade, IsPlainLetter, LetterFirst, LetterTold, LettersEpochs, PreparedMade, QueryFirst, RecordMade, ReplyMade, ServerEpochs, ServerMade, WaitsMade, epoch_rises, plain_letters, plain_names_none, server_row_made}
-use Rattle.tp_machine.proofs.epochs.Coordinator.{IsMail, coordinator_row_keeps, submit_row_keeps}
-use Rattle.tp_machine.proofs.epochs.Kept.{CoordinatorEpochs, CoordinatorKeeps}
-use Rattle.tp_machine.proofs.basics.Ids.{server_number, txn_number}
-use Rattle.tp_machine.proofs.basics.Logs.{appended, get_set, prepared_either}
-use Rattle.tp_machine.proofs.basics.Lists.{at_made, at_set, each_append, each_as, each_get, placed_none}
+use Rattle.tp_offices.specs.Authority as office
+use Rattle.tp_offices.specs.Master as master
+use Rattle.tp_offices.specs.declared.authority.Authority.{Authority}
+use Rattle.tp_offices.specs.declared.master.Master.{Master}
 
 -- ---- the invariant
 
@@ -313,9 +315,9 @@ mail_is sc E A c from to (body.Done done) sound e told =
     same_coordinator one other f = cc
 mail_is sc E A c from to _ sound e told = tt
 
-receipt_by_coordinator : (sc : Scenario) (w : State) → IsSound sc w → Agrees sc w → Epochs sc w → (n : ℕ) (mail : Mail) (txn : TxnId) (part : Part Coordinator) (c : Coordinator)
+receipt_by_coordinator : (sc : Scenario) (w : State) → HaveHomes sc → IsSound sc w → Agrees sc w → Epochs sc w → (n : ℕ) (mail : Mail) (txn : TxnId) (part : Part Coordinator) (c : Coordinator)
     → WasSent w n mail (actor.Coordinator txn) → IsCoordinatorUp w txn part c → StepEpochs sc w (coordinator_move w.actors txn (acts_by coordinator_fact [] part.log (coordinator_row sc c mail)))
-receipt_by_coordinator sc w sound a h n mail txn part c sent up =
+receipt_by_coordinator sc w homes sound a h n mail txn part c sent up =
     let E = epoch_at w.actors.servers in
     let A = asked_in w.mails in
     let effect = coordinator_row sc c mail in
@@ -323,7 +325,7 @@ receipt_by_coordinator sc w sound a h n mail txn part c sent up =
     let own : CoordinatorUpAgrees sc w.actors.servers txn part.log c = subst (λ (u : Option Coordinator). IfSome u (CoordinatorUpAgrees sc w.actors.servers txn part.log)) up.up (a.coordinators txn.0 part up.found).state in
     coordinator_acts_epochs sc w txn part [] (Some effect.state) effect.reaction.append effect.reaction.letters h up.found
     (subst (λ (t : TxnId). CoordinatorEpochs sc E A t (Some effect.state) effect.reaction.letters) same
-    (coordinator_row_keeps sc E A c mail (coordinator_keeps sc w txn part c h up same) own.agrees.servers
+    (coordinator_row_keeps sc E A c mail homes (coordinator_keeps sc w txn part c h up same) own.agrees.servers
     (mail_is sc E A c mail.letter.from mail.letter.to mail.letter.body (each_get (IsSoundMail sc) w.mails n mail sound.mails_are sent.sent) (sent.goes_to ∙ ap (λ (t : TxnId). actor.Coordinator t) (sym same))
     (each_get (λ (m : Mail). LetterTold sc A E m.letter) w.mails n mail h.told sent.sent))))
 
@@ -358,12 +360,12 @@ authority_epochs sc w authority happened h =
 
 -- ---- steps
 
-epochs_cases : (sc : Scenario) (w : State) → IsSound sc w → Agrees sc w → Epochs sc w → Cases sc w (λ taken move. StepEpochs sc w move)
-epochs_cases sc w sound a h =
+epochs_cases : (sc : Scenario) (w : State) → HaveHomes sc → IsSound sc w → Agrees sc w → Epochs sc w → Cases sc w (λ taken move. StepEpochs sc w move)
+epochs_cases sc w homes sound a h =
     record {
       idle = λ taken happened e. unmoved_epochs sc w happened [] h tt;
       server_received = λ n mail at part s sent up. receipt_by_server sc w sound h n mail at part s sent up;
-      coordinator_received = λ n mail txn part c sent up. receipt_by_coordinator sc w sound a h n mail txn part c sent up;
+      coordinator_received = λ n mail txn part c sent up. receipt_by_coordinator sc w homes sound a h n mail txn part c sent up;
       authority_told = λ n mail sent. unmoved_epochs sc w [] (office.authority_row w.actors.authority mail).reaction.letters h (tells_plain w.actors.authority mail.letter.body);
       master_told = λ n mail sent. unmoved_epochs sc w [] (master.master_row w.actors.master mail).reaction.letters h (newest_plain w.actors.master mail.letter.body);
       ticked = λ by. authority_epochs sc w (office.after_tick by w.actors.authority) (what.Ticked by ∷ []) h;
@@ -372,9 +374,9 @@ epochs_cases sc w sound a h =
     }
 
 -- a step that is not refused keeps what is said of epochs
-pub epochs_next : (sc : Scenario) (m : Machine) (taken : Step) → IsStepOf sc taken → refusal m.state taken ≡ None → IsSound sc m.state → Agrees sc m.state → Epochs sc m.state → Epochs sc (machine_after sc m taken).state
-epochs_next sc m taken exists allowed sound a h =
-    machine_after_by sc m (λ taken move. StepEpochs sc m.state move) (Epochs sc) (epochs_cases sc m.state sound a h) a.coordinator_count
+pub epochs_next : (sc : Scenario) (m : Machine) (taken : Step) → HaveHomes sc → IsStepOf sc taken → refusal m.state taken ≡ None → IsSound sc m.state → Agrees sc m.state → Epochs sc m.state → Epochs sc (machine_after sc m taken).state
+epochs_next sc m taken homes exists allowed sound a h =
+    machine_after_by sc m (λ taken move. StepEpochs sc m.state move) (Epochs sc) (epochs_cases sc m.state homes sound a h) a.coordinator_count
     (λ taken move t. state_after_epochs sc m.state taken move t) h taken exists allowed
 
 -- ---- before the first step

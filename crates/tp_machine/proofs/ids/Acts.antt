@@ -1,33 +1,34 @@
 -- What an actor does when it acts keeps its part sound, and gives sound facts and letters; and the actors before the first
 -- step are sound.
-use Rattle.std.proofs.Common.{◌≡◌, ℕ, zero, suc, ◌+◌, List, [], ◌∷◌, ◌++◌, length, drop, flat_map, replicate, slice_get, Option, Some, None, IfSome, refl, sym, subst, arith}
 use Rattle.std.specs.List.{list_any}
 use Rattle.std.specs.Option.{option_map_or}
-use Rattle.tp_model.specs.Words.{Body, CredId, Letter, Mail, Query, Record, Scenario, ServerDecl, ServerId, Settled, Transaction, TxnId, What}
+use Rattle.std.proofs.Common.{IfSome, List, None, Option, Some, [], arith, drop, flat_map, length, refl, replicate, slice_get, subst, suc, sym, zero, ℕ, ◌++◌, ◌+◌, ◌∷◌, ◌≡◌}
+use Rattle.tp_types.specs.Effect.{Effect}
+use Rattle.tp_model.specs.Queries.{is_at_server, servers_from, servers_of}
 use Rattle.tp_model.specs.Words.actor
 use Rattle.tp_model.specs.Words.body
 use Rattle.tp_model.specs.Words.log
 use Rattle.tp_model.specs.Words.what
-use Rattle.tp_model.specs.Queries.{is_at_server, servers_from, servers_of}
-use Rattle.tp_machine.specs.coord.State.{Coordinator}
-use Rattle.tp_offices.specs.declared.authority.Authority.{Authority}
-use Rattle.tp_offices.specs.declared.master.Master.{Master}
-use Rattle.tp_machine.specs.Parts.{Part}
-use Rattle.tp_machine.specs.declared.server.Entry.{Entry}
-use Rattle.tp_machine.specs.server.State.{Server}
-use Rattle.tp_types.specs.Effect.{Effect}
+use Rattle.tp_model.specs.Words.{Body, CredId, Letter, Mail, Query, Record, Scenario, ServerDecl, ServerId, Settled, Transaction, TxnId, What}
+use Rattle.tp_machine.proofs.basics.Lists.{by_cond, each_append, each_drop, each_flat_map, each_get, each_more, each_set, missing, placed_none}
+use Rattle.tp_machine.proofs.basics.Stores.{opened_each}
+use Rattle.tp_machine.proofs.ids.Coordinator.{IsSoundCoordinatorEffect, coordinator_row_sound, coordinator_with_age_sound, submit_row_sound}
+use Rattle.tp_machine.proofs.ids.Server.{IsSoundServerEffect, server_row_sound}
+use Rattle.tp_machine.proofs.ids.Valid.{IsValid}
 use Rattle.tp_machine.specs.Machine.{PartMove, acts_by, coordinator_fact, log_with, opened_part, server_fact, with_age}
-use Rattle.tp_machine.specs.Sound.{AreCreds, AreVersions, Each, IsActor, IsServer, IsCred, IsSoundAuthority, IsSoundBody, IsSoundCoordinatorPart, IsSoundCoordinatorRecord, IsSoundCoordinatorUp, IsSoundDecision, IsSoundEntry, IsSoundLetter, IsSoundMaster, IsSoundServerPart, IsSoundServerRecord, IsSoundServerUp, IsSoundSettled, IsSoundWhat, IsTxn}
+use Rattle.tp_machine.specs.Parts.{Part}
+use Rattle.tp_machine.specs.Sound.{AreCreds, AreVersions, Each, IsActor, IsCred, IsServer, IsSettledOf, IsSoundAuthority, IsSoundBody, IsSoundCoordinatorPart, IsSoundCoordinatorRecord, IsSoundCoordinatorUp, IsSoundDecision, IsSoundEntry, IsSoundLetter, IsSoundMaster, IsSoundRefusal, IsSoundServerPart, IsSoundServerRecord, IsSoundServerUp, IsSoundWhat, IsTxn, IsWriteOf}
 use Rattle.tp_machine.specs.coord.Opened as coord
 use Rattle.tp_machine.specs.coord.Row.{coordinator_row, submit_row}
-use Rattle.tp_offices.specs.Authority as office
-use Rattle.tp_offices.specs.Master as master
+use Rattle.tp_machine.specs.coord.State.{Coordinator}
+use Rattle.tp_machine.specs.declared.server.Entry.{Entry}
 use Rattle.tp_machine.specs.server.Opened as server
 use Rattle.tp_machine.specs.server.Row.{server_row}
-use Rattle.tp_machine.proofs.ids.Valid.{IsValid}
-use Rattle.tp_machine.proofs.ids.Coordinator.{IsSoundCoordinatorEffect, coordinator_row_sound, coordinator_with_age_sound, submit_row_sound}
-use Rattle.tp_machine.proofs.basics.Lists.{by_cond, each_append, each_drop, each_flat_map, each_get, each_more, each_set, missing, placed_none}
-use Rattle.tp_machine.proofs.ids.Server.{IsSoundServerEffect, server_row_sound}
+use Rattle.tp_machine.specs.server.State.{Server}
+use Rattle.tp_offices.specs.Authority as office
+use Rattle.tp_offices.specs.Master as master
+use Rattle.tp_offices.specs.declared.authority.Authority.{Authority}
+use Rattle.tp_offices.specs.declared.master.Master.{Master}
 
 -- ---- what all actors share
 
@@ -109,13 +110,13 @@ coordinator_acts_sound sc c own kept effect exists e k o =
     }
 
 -- a coordinator that is up and receives a mail to it
-pub coordinator_receipt_sound : (sc : Scenario) (txn : TxnId) (part : Part Coordinator) (c : Coordinator) (mail : Mail) → IsSoundCoordinatorPart sc txn part → part.up ≡ Some c
-    → IsActor sc mail.letter.from → IsSoundBody sc (actor.Coordinator txn) mail.letter.body → IsSoundCoordinatorMove sc txn (acts_by coordinator_fact [] part.log (coordinator_row sc c mail))
-coordinator_receipt_sound sc txn part c mail h e a m =
+pub coordinator_receipt_sound : (sc : Scenario) (txn : TxnId) (part : Part Coordinator) (c : Coordinator) (mail : Mail) → IsValid sc → IsSoundCoordinatorPart sc txn part → part.up ≡ Some c
+    → IsActor sc mail.letter.from → IsSoundRefusal sc mail.letter.from mail.letter.body → IsSoundBody sc (actor.Coordinator txn) mail.letter.body → IsSoundCoordinatorMove sc txn (acts_by coordinator_fact [] part.log (coordinator_row sc c mail))
+coordinator_receipt_sound sc txn part c mail valid h e a r m =
     let state : IsSoundCoordinatorUp sc txn c = subst (λ (up : Option Coordinator). IfSome up (IsSoundCoordinatorUp sc txn)) e h.state in
     let P = λ (to : TxnId). IsSoundBody sc (actor.Coordinator to) mail.letter.body → Each (IsSoundCoordinatorRecord sc to) part.log
     → IsSoundCoordinatorMove sc to (acts_by coordinator_fact [] part.log (coordinator_row sc c mail)) in
-    let act : P c.txn = λ said kept. coordinator_acts_sound sc c [] part.log (coordinator_row sc c mail) state.sound.exists (coordinator_row_sound sc c mail state.sound a said) kept tt in
+    let act : P c.txn = λ said kept. coordinator_acts_sound sc c [] part.log (coordinator_row sc c mail) state.sound.exists (coordinator_row_sound sc c mail valid state.sound a r said) kept tt in
     subst P state.txn_is act m h.records
 
 with_age_sound : (sc : Scenario) (c : Coordinator) (effect : Effect Coordinator) (place : ℕ) → IsSoundCoordinatorEffect sc c effect → IsSoundCoordinatorEffect sc c (with_age effect place)
@@ -152,7 +153,7 @@ none_sound sc (suc count) = (tt, none_sound sc count)
 told_sound : (sc : Scenario) (authority : Authority) (said : Body) → IsSoundAuthority sc authority → IsSoundBody sc actor.Authority said
     → Each (IsSoundLetter sc) (office.on_body authority said).reaction.letters
 told_sound sc authority (body.Ask ask) h m =
-    (record { from_is_actor = tt; to_is_actor = m.txn; says = record { txn = m.txn; goes_to = refl; revoked = revocations_sound sc authority.revoked h } }, tt)
+    (record { from_is_actor = tt; to_is_actor = m.txn; says = record { txn = m.txn; goes_to = refl; revoked = revocations_sound sc authority.revoked h }; refuses = tt }, tt)
 told_sound sc authority _ h m = tt
 
 -- what the authority sends on receipt of a mail to it
@@ -163,7 +164,7 @@ authority_sends_sound sc authority mail h m = told_sound sc authority mail.lette
 -- ---- the master
 
 newest_sound : (sc : Scenario) (held : Master) (said : Body) → IsSoundMaster sc held → IsSoundBody sc actor.Master said → Each (IsSoundLetter sc) (master.on_body held said).reaction.letters
-newest_sound sc held (body.Probe probe) h m = (record { from_is_actor = tt; to_is_actor = m.txn; says = record { txn = m.txn; goes_to = refl; newest = h } }, tt)
+newest_sound sc held (body.Probe probe) h m = (record { from_is_actor = tt; to_is_actor = m.txn; says = record { txn = m.txn; goes_to = refl; newest = h }; refuses = tt }, tt)
 newest_sound sc held _ h m = tt
 
 -- what the master sends on receipt of a mail to it
@@ -187,7 +188,8 @@ server_opening_sound sc at valid exists =
         sound = record {
           exists = exists;
           known = known_sound sc at (slice_get sc.servers at.0) valid exists refl;
-          settled = placed_none (λ (n : ℕ) (found : Settled). IsSoundSettled sc found) (length sc.txns);
+          writes = opened_each (IsWriteOf sc at) (server.opening sc at).store (length sc.txns) refl;
+          settled = placed_none (λ (n : ℕ) (found : Settled). IsSettledOf sc at (record { 0 = n }) found) (length sc.txns);
           entries = placed_none (λ (n : ℕ) (found : Entry). IsSoundEntry sc at (record { 0 = n }) found) (length sc.txns);
         };
       };

@@ -1,22 +1,25 @@
 -- The coordinator's rows keep its state sound, force a sound record, and send sound letters.
 use Rattle.std.specs.List.{list_all}
-use Rattle.std.proofs.Common.{IfSome, List, None, Option, Some, [], arith, false, option_map, refl, slice_get, subst, true, ℕ, ℤ, ◌++◌, ◌∷◌, ◌≡◌}
+use Rattle.std.proofs.Common.{IfSome, List, None, Option, Some, [], ap, arith, false, is_some, option_and_then, option_map, refl, slice_get, subst, true, ℕ, ℤ, ◌++◌, ◌∷◌, ◌≡◌}
 use Rattle.std.proofs.lemmas.Option.{same_Some}
 use Rattle.tp_types.specs.Effect.{Effect, ignores, sends}
-use Rattle.tp_model.specs.Queries.{item_of}
-use Rattle.tp_model.specs.Words.{Body, Cause, DoneReply, Item, Mail, Outcome, Query, Scenario, ServerId, Staple, Transaction, TxnId, Verdict, VoteReply}
+use Rattle.tp_model.specs.Queries.{item_of, query_at}
 use Rattle.tp_model.specs.Words.actor
 use Rattle.tp_model.specs.Words.cause
 use Rattle.tp_model.specs.Words.query
-use Rattle.tp_machine.specs.Sound.{AreSoundVerdicts, Each, HasValue, IsActor, IsItemOf, IsServer, IsSoundBallot, IsSoundBody, IsSoundCause, IsSoundCoordinator, IsSoundCoordinatorRecord, IsSoundDeed, IsSoundInstance, IsSoundLetter, IsSoundPhase, IsSoundProof, IsSoundQuery, IsSoundReply, IsSoundRound, IsSoundStaple, IsSoundVerdict, ProvesEach, proves_each, query_in}
-use Rattle.tp_machine.specs.coord.Row.{aborts, are_agreed, asks, commits, coordinator_row, coordinator_with_age, deed_of, denied_by, first_false, first_round, instances_with, is_false_verdict, is_true_verdict, next_turn, prepare_letter, prepares, request, sends_first, server_of, staple_of, submit_row, with_deed, with_reply, without}
+use Rattle.tp_model.specs.Words.{Actor, Body, Cause, DoneReply, Item, Mail, Outcome, Query, Scenario, ServerId, Staple, Transaction, TxnId, Verdict, VoteReply}
+use Rattle.tp_machine.proofs.basics.Homes.{IsHome, home_is}
+use Rattle.tp_machine.proofs.basics.Lists.{each_filter, each_found, each_get, each_map, each_more, each_passing}
+use Rattle.tp_machine.proofs.ids.Valid.{IsValid, IsValidItem}
+use Rattle.tp_machine.proofs.walks.CoordinatorRows.{IsNo, IsYes, coordinator_by, submit_by}
+use Rattle.tp_machine.specs.Runs.{deed_of}
+use Rattle.tp_machine.specs.Sound.{AreSoundVerdicts, Each, HasValue, IsActor, IsItemOf, IsRefusalOf, IsServer, IsSoundBallot, IsSoundBody, IsSoundCause, IsSoundCoordinator, IsSoundCoordinatorRecord, IsSoundDeed, IsSoundInstance, IsSoundLetter, IsSoundPhase, IsSoundProof, IsSoundQuery, IsSoundRefusal, IsSoundReply, IsSoundRound, IsSoundStaple, IsSoundVerdict, ProvesEach, proves_each, query_in}
+use Rattle.tp_machine.specs.Sums.{asked_value, registers_after, sum_asked}
+use Rattle.tp_machine.specs.coord.Row.{aborts, are_agreed, asks, commits, coordinator_row, coordinator_with_age, denied_by, first_false, first_round, instances_with, is_false_verdict, is_true_verdict, next_number, next_turn, prepare_letter, prepares, query_of, query_request, refused_by, request, sends_query, staple_of, submit_row, value_of, with_deed, with_reply, without}
 use Rattle.tp_machine.specs.coord.State.{Coordinator}
 use Rattle.tp_machine.specs.declared.coord.Phase.TheVariants as phase
 use Rattle.tp_machine.specs.declared.coord.Phase.{Phase}
 use Rattle.tp_machine.specs.declared.coord.Round.{Round}
-use Rattle.tp_machine.proofs.walks.CoordinatorRows.{IsYes, coordinator_by, submit_by}
-use Rattle.tp_machine.proofs.ids.Valid.{IsValid, IsValidItem}
-use Rattle.tp_machine.proofs.basics.Lists.{each_filter, each_found, each_get, each_map, each_more, each_passing}
 
 -- what a coordinator's act leaves is sound: its state, still of the same transaction, what it forces and what it sends
 pub record IsSoundCoordinatorEffect (sc : Scenario) (c : Coordinator) (effect : Effect Coordinator) : Type 0 where
@@ -37,7 +40,7 @@ moved sc c next turn epochs h n =
 -- a letter to a server that exists
 request_sound : (sc : Scenario) (c : Coordinator) (server : ServerId) (said : Body) → IsSoundCoordinator sc c → IsServer sc server → IsSoundBody sc (actor.Server server) said
     → IsSoundLetter sc (request c server said)
-request_sound sc c server said h exists says = record { from_is_actor = h.exists; to_is_actor = exists; says = says }
+request_sound sc c server said h exists says = record { from_is_actor = h.exists; to_is_actor = exists; says = says; refuses = tt }
 
 -- ---- Submit
 
@@ -69,31 +72,38 @@ proves_none sc txn None valid f e = cc
 not_each : (sc : Scenario) (txn : TxnId) → IsValid sc → ProvesEach sc txn → ⊥
 not_each sc txn valid e = proves_none sc txn (slice_get sc.txns txn.0) valid refl e
 
-has_value : (asked : Query) (value : ℤ) → HasValue asked (Some value)
-has_value (query.Write item expr) value = refl
-has_value (query.Read item into) value = tt
+valued : (registers : List ℤ) (asked : Query) (found : Option Query) → found ≡ Some asked → HasValue asked (option_and_then (sum_asked registers) found)
+valued registers asked None e = absurd (cc)
+valued registers (query.Write item expr) (Some found) e = ap (λ (q : Query). is_some (sum_asked registers q)) (same_Some found (query.Write item expr) e)
+valued registers (query.Read item into) (Some found) e = tt
 
-sends_first_sound : (sc : Scenario) (c : Coordinator) (asked : Query) (server : ServerId) (value : ℤ) → IsValid sc → IsSoundCoordinator sc c
-    → query_in sc c.txn 1 ≡ Some asked → server_of sc asked ≡ Some server → IsSoundCoordinatorEffect sc c (sends_first c (Some server) (Some value))
-sends_first_sound sc c asked server value valid h e f =
-    let at : IsServerOf sc asked server = server_found sc asked server (slice_get sc.items (item_of asked).0) valid refl f in
-    let asks_of : IsSoundQuery sc (actor.Server server)
-    (record { txn = c.txn; turn = next_turn c; query = 1; age = None; epoch = None; value = Some value; staple = None; pin = None }) =
+-- a write is asked with a value
+has_value : (sc : Scenario) (c : Coordinator) (number : ℕ) (asked : Query) → query_of sc c number ≡ Some asked → HasValue asked (value_of sc c number)
+has_value sc c number asked e = found (slice_get sc.txns c.txn.0) e
+  where
+    found : (declared : Option Transaction) → option_and_then (λ (txn : Transaction). query_at txn number) declared ≡ Some asked → HasValue asked (option_and_then (λ (txn : Transaction). asked_value txn c.deeds number) declared)
+    found None f = absurd (cc)
+    found (Some declared) f = valued (registers_after declared c.deeds) asked (query_at declared number) f
+
+sends_query_sound : (sc : Scenario) (c : Coordinator) (number : ℕ) (server : ServerId) → IsValid sc → IsSoundCoordinator sc c → IsHome sc c number server → IsSoundCoordinatorEffect sc c (sends_query sc c number server)
+sends_query_sound sc c number server valid h k =
+    let at : IsServerOf sc k.asked server = server_found sc k.asked server (slice_get sc.items (item_of k.asked).0) valid refl k.server_is in
+    let asks_of : IsSoundQuery sc (actor.Server server) (query_request sc c server number) =
     record {
       txn = h.exists;
-      asked = asked;
-      asked_is = e;
+      asked = k.asked;
+      asked_is = k.asked_is;
       at = server;
       goes_to = refl;
       kept = at.kept;
-      has_value = has_value asked value;
+      has_value = has_value sc c number k.asked k.asked_is;
       stapled = λ each. absurd (not_each sc c.txn valid each);
       staple = tt;
       pin = tt;
     } in
     record {
       same_txn = refl;
-      state_is = moved sc c (phase.Querying 1 None) (next_turn c) c.epochs h (record { asked = asked; asked_is = e }, tt);
+      state_is = moved sc c (phase.Querying number None) (next_turn c) c.epochs h (record { asked = k.asked; asked_is = k.asked_is }, tt);
       forces = tt;
       sends_only = (request_sound sc c server _ h at.exists asks_of, tt);
     }
@@ -101,7 +111,7 @@ sends_first_sound sc c asked server value valid h e f =
 pub submit_row_sound : (sc : Scenario) (c : Coordinator) → IsValid sc → IsSoundCoordinator sc c → IsSoundCoordinatorEffect sc c (submit_row sc c)
 submit_row_sound sc c valid h =
     submit_by sc c (IsSoundCoordinatorEffect sc c)
-    (record { ignored = ignores_sound sc c h; sent = λ asked server value k. sends_first_sound sc c asked server value valid h k.asked_is k.server_is })
+    (record { ignored = ignores_sound sc c h; sent = λ server home. sends_query_sound sc c 1 server valid h (home_is sc c 1 server home) })
 
 -- the place of the submission changes nothing of this
 pub coordinator_with_age_sound : (sc : Scenario) (c : Coordinator) (place : ℕ) → IsSoundCoordinator sc c → IsSoundCoordinator sc (coordinator_with_age c place)
@@ -116,7 +126,7 @@ asks_sound sc c h =
       same_txn = refl;
       state_is = moved sc c (phase.Asking (first_round c)) (next_turn c) c.epochs h (record { aim = tt; kept = tt; awaited = h.servers; mets = tt });
       forces = tt;
-      sends_only = (record { from_is_actor = h.exists; to_is_actor = tt; says = record { txn = h.exists; goes_to = refl } }, tt);
+      sends_only = (record { from_is_actor = h.exists; to_is_actor = tt; says = record { txn = h.exists; goes_to = refl }; refuses = tt }, tt);
     }
 
 with_deed_sound : (sc : Scenario) (c : Coordinator) (server : ServerId) (done : DoneReply) (asked : Query) (value : ℤ) → IsSoundCoordinator sc c
@@ -224,13 +234,28 @@ yes_sound sc c mail reply round staple server verdicts m y =
     let ballot : IsSoundBallot sc c.txn reply.vote = subst (λ (txn : TxnId). IsSoundBallot sc txn reply.vote) (same_txn_of c.txn reply.txn said.goes_to) said.ballot in
     subst (IsSoundBallot sc c.txn) y.vote_is ballot
 
-pub coordinator_row_sound : (sc : Scenario) (c : Coordinator) (mail : Mail) → IsSoundCoordinator sc c → IsActor sc mail.letter.from
-    → IsSoundBody sc (actor.Coordinator c.txn) mail.letter.body → IsSoundCoordinatorEffect sc c (coordinator_row sc c mail)
-coordinator_row_sound sc c mail h a m =
+-- the reason of an awaited vote NO
+no_sound : (sc : Scenario) (c : Coordinator) (mail : Mail) (reply : VoteReply) (round : Round) (staple : Staple) (server : ServerId) (number : ℕ) (value : ℤ) → IsSoundRefusal sc mail.letter.from mail.letter.body
+    → IsSoundBody sc (actor.Coordinator c.txn) mail.letter.body → IsNo c mail reply round staple server number value → IsSoundCause sc c.txn (cause.No (refused_by server number value))
+no_sound sc c mail reply round staple server number value r m k =
+    let said = subst (IsSoundBody sc (actor.Coordinator c.txn)) k.said_is m in
+    let refusal : IsRefusalOf sc server reply.txn reply.vote = subst (λ (body : Body). IsSoundRefusal sc (actor.Server server) body) k.said_is (subst (λ (from : Actor). IsSoundRefusal sc from mail.letter.body) k.from_is r) in
+    let own : IsRefusalOf sc server c.txn reply.vote = subst (λ (txn : TxnId). IsRefusalOf sc server txn reply.vote) (same_txn_of c.txn reply.txn said.goes_to) refusal in
+    record { query = subst (IsRefusalOf sc server c.txn) k.vote_is own }
+
+pub coordinator_row_sound : (sc : Scenario) (c : Coordinator) (mail : Mail) → IsValid sc → IsSoundCoordinator sc c → IsActor sc mail.letter.from
+    → IsSoundRefusal sc mail.letter.from mail.letter.body → IsSoundBody sc (actor.Coordinator c.txn) mail.letter.body → IsSoundCoordinatorEffect sc c (coordinator_row sc c mail)
+coordinator_row_sound sc c mail valid h a r m =
     coordinator_by sc c mail (IsSoundCoordinatorEffect sc c)
     (record {
       ignored = ignores_sound sc c h;
-      ran_last = λ done server asked value k.
+      ran_next = λ done server asked value next k home.
+          let now = with_deed c server done asked value in
+          let further : IsHome sc c (next_number done.query) next = home_is sc c (next_number done.query) next home in
+          let on = sends_query_sound sc now (next_number done.query) next valid (with_deed_sound sc c server done asked value h k.asked_is)
+          (record { asked = further.asked; asked_is = further.asked_is; server_is = further.server_is }) in
+          record { same_txn = refl; state_is = on.state_is; forces = tt; sends_only = on.sends_only };
+      ran_last = λ done server asked value k none.
           let on = asks_sound sc (with_deed c server done asked value) (with_deed_sound sc c server done asked value h k.asked_is) in
           record { same_txn = refl; state_is = on.state_is; forces = tt; sends_only = on.sends_only };
       told_first = λ tell round k. prepares_sound sc c round (staple_of tell mail.sent) h (awaits k.asking) (subst (IsSoundBody sc (actor.Coordinator c.txn)) k.said_is m).revoked;
@@ -240,6 +265,8 @@ coordinator_row_sound sc c mail h a m =
           commits_sound sc c round.number verdicts h (proofs_sound sc c.txn verdicts agreed (yes_sound sc c mail reply round staple server verdicts m y));
       denied = λ reply round staple server verdicts verdict y e f.
           aborts_sound sc c (cause.Denied (denied_by verdict)) h (denied_sound sc c.txn verdicts verdict (yes_sound sc c mail reply round staple server verdicts m y) f);
+      refused = λ reply round staple server number value k.
+          aborts_sound sc c (cause.No (refused_by server number value)) h (no_sound sc c mail reply round staple server number value r m k);
       acknowledged = λ ack ended awaited server k. acknowledged_sound sc c ended awaited server h (awaits k.ending);
     })
   where

@@ -1,6 +1,6 @@
 -- The items of a valid scenario's queries exist.
 use Rattle.std.specs.List.{list_all, list_any}
-use Rattle.std.proofs.Common.{List, Some, arith, length, not, slice_get, true, ℕ, ◌&&◌, ◌<◌, ◌≡◌}
+use Rattle.std.proofs.Common.{List, Some, arith, length, not, slice_get, true, ℕ, ◌&&◌, ◌<◌, ◌≡◌, ◌≤◌}
 use Rattle.std.proofs.lemmas.Bool.Decides.{nat_tests}
 use Rattle.std.proofs.lemmas.Bool.{and_parts}
 use Rattle.tp_types.specs.declared.scenario.Query.TheVariants.{Read, Write}
@@ -11,6 +11,7 @@ use Rattle.tp_model.specs.Queries.{item_of}
 use Rattle.tp_model.specs.Valid.{has_valid_creds, is_item, is_name_of_server, is_register, is_valid_query, is_valid_sum, is_valid_txn}
 use Rattle.tp_model.specs.Words.{ItemId, Query, Scenario, Transaction}
 use Rattle.tp_machine.proofs.basics.Facts.{each_from_all}
+use Rattle.tp_machine.proofs.basics.Homes.{HaveHomes}
 use Rattle.tp_machine.proofs.basics.Lists.{each_as, each_get}
 use Rattle.tp_machine.specs.Sound.{Each}
 
@@ -39,3 +40,32 @@ queries_on_items sc n declared built found =
     each_get (λ (txn : Transaction). AreOnItems sc txn.queries) sc.txns n declared
     (each_as (λ (txn : Transaction). is_valid_txn sc txn ≡ true) (λ (txn : Transaction). AreOnItems sc txn.queries) (txn_there sc) sc.txns
     (each_from_all (is_valid_txn sc) sc.txns (and_parts (has_count 0 128 sc.txns) (list_all (is_valid_txn sc) sc.txns) txns.0).1)) found
+
+-- and there are some, but few
+pub record AreSome (queries : List Query) : Type 0 where
+  pub some : 0 < length queries
+  pub few : length queries ≤ 16
+
+queries_some : (sc : Scenario) (n : ℕ) (declared : Transaction) → is_built sc ≡ true → slice_get sc.txns n ≡ Some declared → AreSome declared.queries
+queries_some sc n declared built found =
+    let kept = rules.valid_built sc built in
+    let txns = and_parts (has_count 0 128 sc.txns && list_all (is_valid_txn sc) sc.txns) _ kept.txns in
+    let valid : is_valid_txn sc declared ≡ true = each_get (λ (txn : Transaction). is_valid_txn sc txn ≡ true) sc.txns n declared
+    (each_from_all (is_valid_txn sc) sc.txns (and_parts (has_count 0 128 sc.txns) (list_all (is_valid_txn sc) sc.txns) txns.0).1) found in
+    let queries = and_parts (has_count 1 16 declared.queries && list_all (is_valid_query sc) declared.queries) (not (list_any (is_name_of_server declared) sc.servers)) (and_parts (has_valid_creds sc declared && is_from_to 1 16 declared.rounds) _ valid).1 in
+    let count : is_from_to 1 16 (length declared.queries) ≡ true = (and_parts (has_count 1 16 declared.queries) (list_all (is_valid_query sc) declared.queries) queries.0).0 in
+    record { some = least_of (length declared.queries) count; few = most_of (length declared.queries) count }
+  where
+    least_of : (count : ℕ) → is_from_to 1 16 count ≡ true → 0 < count
+    least_of count e = grind (arith, nat_tests)
+
+    most_of : (count : ℕ) → is_from_to 1 16 count ≡ true → count ≤ 16
+    most_of count e = grind (arith, nat_tests)
+
+pub homes_built : (sc : Scenario) → is_built sc ≡ true → HaveHomes sc
+homes_built sc built =
+    record {
+      on_items = λ n declared found. queries_on_items sc n declared built found;
+      few = λ n declared found. (queries_some sc n declared built found).few;
+      some = λ n declared found. (queries_some sc n declared built found).some;
+    }

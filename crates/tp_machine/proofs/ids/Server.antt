@@ -1,20 +1,33 @@
 -- The server's row keeps its state sound, forces a sound record, and sends sound letters.
-use Rattle.std.proofs.Common.{Bool, IfSome, List, None, Option, Some, [], ap, arith, false, is_none, is_some, length, map, option_and_then, option_map, refl, slice_get, subst, suc, sym, true, unwrap_or, zero, ℕ, ℤ, ◌&&◌, ◌<◌, ◌==◌, ◌∙◌, ◌∷◌, ◌≡◌}
-use Rattle.std.proofs.lemmas.Option.{cond_some, same_Some}
+use Rattle.std.specs.List.{list_all, list_any}
+use Rattle.std.proofs.Common.{Bool, IfSome, List, MatchOption, None, Option, Some, [], ap, arith, false, is_none, is_some, length, option_map, refl, slice_get, subst, suc, sym, true, unwrap_or, zero, ℕ, ℤ, ⊎_elim, ◌&&◌, ◌<◌, ◌==◌, ◌||◌, ◌∙◌, ◌∷◌, ◌≡◌}
+use Rattle.std.proofs.lemmas.Bool.{and_parts, eqb-true}
+use Rattle.std.proofs.lemmas.Option.{same_Some}
 use Rattle.tp_types.specs.Effect.{Effect, ignores}
+use Rattle.tp_types.specs.Table.{flattened}
+use Rattle.tp_model.specs.Authorisation.{policy_at}
+use Rattle.tp_model.specs.Credentials.{is_among, is_presented}
+use Rattle.tp_model.specs.Ids.{same_cred}
 use Rattle.tp_model.specs.Queries.{item_of}
-use Rattle.tp_model.specs.Words.{Admin, AdminId, Body, DecideRequest, Deed, DoneReply, Item, ItemId, Mail, PrepareRequest, Query, QueryRequest, Scenario, ServerId, Settled, TxnId, Version}
-use Rattle.tp_model.specs.Words.action
 use Rattle.tp_model.specs.Words.actor
 use Rattle.tp_model.specs.Words.body
-use Rattle.tp_model.specs.Words.query
-use Rattle.tp_machine.specs.Sound.{AreSoundVerdicts, AreVersionsOf, Each, IsAdmin, IsItemOf, IsSoundBody, IsSoundDeedAt, IsSoundDone, IsSoundEntry, IsSoundLetter, IsSoundQuery, IsSoundServer, IsSoundServerRecord, IsSoundSettled, IsSoundVerdict, IsTxn, IsVersion, IsVersionOf, query_in}
-use Rattle.tp_machine.specs.declared.server.Entry.{Entry}
-use Rattle.tp_machine.specs.server.Row.{admin_of, answers, asked_item, begins, done_reply, first_entry, plain_write, reply, restarted_reply, server_row, settled_as, settles, verdict_on, version_known, votes, written_item}
-use Rattle.tp_machine.specs.server.State.{Server}
-use Rattle.tp_machine.proofs.walks.ServerRows.{server_by}
+use Rattle.tp_model.specs.Words.no
+use Rattle.tp_model.specs.Words.{Admin, AdminId, Body, CredId, DecideRequest, Deed, DoneReply, Item, ItemId, Letter, Mail, No, PrepareRequest, Query, QueryRequest, Scenario, ServerId, Settled, Staple, Transaction, TxnId, Version}
+use Rattle.tp_machine.proofs.basics.Lists.{each_append, each_found, each_get, each_map, placed_emptied, placed_set}
+use Rattle.tp_machine.proofs.basics.Stores.{ended_each, ended_known, kept_each, kept_known}
 use Rattle.tp_machine.proofs.ids.Valid.{IsValid, IsValidItem}
-use Rattle.tp_machine.proofs.basics.Lists.{each_found, each_get, each_map, placed_emptied, placed_set}
+use Rattle.tp_machine.proofs.trust.Evaluation.{uses_presented}
+use Rattle.tp_machine.proofs.walks.ServerRows.{IsFirstHere, IsFurther, IsGranted, server_by}
+use Rattle.tp_machine.specs.Runs.{deed_of}
+use Rattle.tp_machine.specs.Sound.{AreCreds, AreSoundVerdicts, AreVersions, AreVersionsOf, Each, IsAdmin, IsCred, IsItemOf, IsQueryOf, IsReasonOf, IsSettledOf, IsSoundBody, IsSoundDeedAt, IsSoundDone, IsSoundEntry, IsSoundLetter, IsSoundNo, IsSoundQuery, IsSoundRefusal, IsSoundServer, IsSoundServerRecord, IsSoundSettled, IsSoundVerdict, IsTxn, IsVersion, IsVersionOf, IsWriteOf}
+use Rattle.tp_machine.specs.declared.server.Entry.{Entry}
+use Rattle.tp_machine.specs.server.Row.{ack_letter, answers, completes, done_reply, ends, entry_after, no_letter, refused_as, refuses, reply, restarted_reply, server_row, settled_as, settles, votes}
+use Rattle.tp_machine.specs.server.State.{Server}
+use Rattle.tp_machine.specs.server.Verdicts.{admin_of, verdict_on, verdicts_on, version_known}
+use Rattle.tp_store.proofs.OutsideLemmas.{first_is_least}
+use Rattle.tp_store.specs.Laws.{IsLeastOutside}
+use Rattle.tp_store.specs.Rule.{first_outside_in, writes_of}
+use Rattle.tp_store.specs.Writes.{is_outside}
 
 -- what a server's act leaves is sound: its state, still of the same server, what it forces and what it sends
 pub record IsSoundServerEffect (sc : Scenario) (s : Server) (effect : Effect Server) : Type 0 where
@@ -28,74 +41,66 @@ ignores_sound sc s h = record { same_server = refl; state_is = h; forces = tt; s
 
 -- a server's letter to the coordinator of an existing transaction
 reply_sound : (sc : Scenario) (s : Server) (txn : TxnId) (said : Body) → IsSoundServer sc s → IsTxn sc txn → IsSoundBody sc (actor.Coordinator txn) said
-    → IsSoundLetter sc (reply s txn said)
-reply_sound sc s txn said h exists says = record { from_is_actor = h.exists; to_is_actor = exists; says = says }
+    → IsSoundRefusal sc (actor.Server s.server) said → IsSoundLetter sc (reply s txn said)
+reply_sound sc s txn said h exists says refuses = record { from_is_actor = h.exists; to_is_actor = exists; says = says; refuses = refuses }
 
 -- ---- Query
-
--- the deed that a request asks for, where it asks for one
-record IsAskedDeed (q : QueryRequest) (item : Option ItemId) (deed : Deed) : Type 0 where
-  pub query_is : deed.query ≡ q.query
-  pub item_is : item ≡ Some deed.item
-  pub value_is : q.value ≡ Some deed.value
-  pub unstapled : is_some q.staple ≡ false
 
 not_some : {A : Type 0} (found : Option A) (other : Bool) → (is_none found && other) ≡ true → is_some found ≡ false
 not_some None other e = refl
 not_some (Some x) other e = absurd (cc)
 
-asked_deed : (q : QueryRequest) (item : Option ItemId) (value : Option ℤ) (deed : Deed) → q.value ≡ value → plain_write q item value ≡ Some deed → IsAskedDeed q item deed
-asked_deed q (Some item) (Some value) deed same e =
-    let parts = cond_some (is_none q.staple && is_none q.pin) (record { query = q.query; item = item; action = action.Write; value = value }) deed e in
-    record {
-      query_is = sym (ap (λ (d : Deed). d.query) parts.1);
-      item_is = ap (λ (d : Deed). Some d.item) parts.1;
-      value_is = same ∙ ap (λ (d : Deed). Some d.value) parts.1;
-      unstapled = not_some q.staple (is_none q.pin) parts.0;
-    }
-asked_deed q (Some item) None deed same e = absurd (cc)
-asked_deed q None value deed same e = absurd (cc)
+-- an entry at which a query runs is sound
+run_entry : (sc : Scenario) (s : Server) (mail : Mail) (q : QueryRequest) (query : Query) (entry : Entry) (value : ℤ) → IsSoundServer sc s → IsGranted sc s mail q query entry value
+    → IsSoundEntry sc s.server q.txn entry
+run_entry sc s mail q query entry value h k =
+    ⊎_elim
+    (λ (first : IsFirstHere s mail.sent q entry). subst (IsSoundEntry sc s.server q.txn) (sym first.entry_is) (record { answers = tt; waiting = tt; deeds = tt; ballot = tt }))
+    (λ (further : IsFurther s q entry). h.entries q.txn.0 entry further.found) k.place
 
--- the item that a query writes is the one that it is about
-pub writes_its_item : (asked : Query) (item : ItemId) → written_item asked ≡ Some item → item_of asked ≡ item
-writes_its_item (query.Write other expr) item e = same_Some other item e
-writes_its_item (query.Read other into) item e = absurd (cc)
-
-begins_sound : (sc : Scenario) (s : Server) (sent : ℕ) (q : QueryRequest) (deed : Deed) → IsSoundServer sc s → IsSoundQuery sc (actor.Server s.server) q
-    → plain_write q (asked_item sc q) q.value ≡ Some deed → IsSoundServerEffect sc s (begins s sent q (Some deed))
-begins_sound sc s sent q deed h m e =
-    let d : IsAskedDeed q (asked_item sc q) deed = asked_deed q (asked_item sc q) q.value deed refl e in
-    let item_is : deed.item ≡ item_of m.asked = sym (writes_its_item m.asked deed.item (sym (ap (option_and_then written_item) m.asked_is) ∙ d.item_is)) in
+runs_sound : (sc : Scenario) (s : Server) (mail : Mail) (q : QueryRequest) (query : Query) (entry : Entry) (value : ℤ) → IsSoundServer sc s → IsSoundQuery sc (actor.Server s.server) q
+    → IsGranted sc s mail q query entry value → IsSoundServerEffect sc s (completes s q query entry (deed_of q.query query value))
+runs_sound sc s mail q query entry value h m k =
+    let deed = deed_of q.query query value in
+    let same : query ≡ m.asked = same_Some query m.asked (sym k.asked_is ∙ m.asked_is) in
     let at_is : m.at ≡ s.server = cc in
-    let kept : IsItemOf sc s.server deed.item = subst (IsItemOf sc s.server) (sym item_is) (subst (λ (at : ServerId). IsItemOf sc at (item_of m.asked)) at_is m.kept) in
-    let asked_is : query_in sc q.txn deed.query ≡ Some m.asked = subst (λ (n : ℕ). query_in sc q.txn n ≡ Some m.asked) (sym d.query_is) m.asked_is in
+    let item_is : item_of m.asked ≡ item_of query = ap item_of (sym same) in
+    let kept : IsItemOf sc s.server deed.item = subst (IsItemOf sc s.server) item_is (subst (λ (at : ServerId). IsItemOf sc at (item_of m.asked)) at_is m.kept) in
     let deed_sound : IsSoundDeedAt sc s.server q.txn deed =
-    record { sound = record { asked = m.asked; asked_is = asked_is; item_is = item_is }; kept = kept } in
-    let done_sound : IsSoundDone sc (actor.Coordinator q.txn) (done_reply q s.epoch deed) =
+    record { sound = record { asked = m.asked; asked_is = m.asked_is; item_is = sym item_is }; kept = kept } in
+    let done_sound : IsSoundDone sc (actor.Coordinator q.txn) (done_reply q entry.epoch deed) =
     record {
       txn = m.txn;
       goes_to = refl;
       query = record { asked = m.asked; asked_is = m.asked_is };
       answer_is_sound = tt;
-      proved = λ each. let stapled = m.stapled each in let unstapled = d.unstapled in absurd (cc);
+      proved = λ each. let stapled = m.stapled each in let unstapled = not_some q.staple (is_none q.pin) k.plain in absurd (cc);
     } in
+    let old : IsSoundEntry sc s.server q.txn entry = run_entry sc s mail q query entry value h k in
     record {
       same_server = refl;
       state_is = record {
         exists = h.exists;
-        known = h.known;
+        known = subst (AreVersions sc) (sym (kept_known s.store q query value)) h.known;
+        writes = kept_each (IsWriteOf sc s.server) s.store q query value h.writes
+            (record { query = record { asked = m.asked; asked_is = m.asked_is; kept = subst (λ (at : ServerId). IsItemOf sc at (item_of m.asked)) at_is m.kept }; item = kept });
         settled = h.settled;
-        entries = placed_set (λ (n : ℕ) (found : Entry). IsSoundEntry sc s.server (record { 0 = n }) found) s.entries q.txn.0 (first_entry s sent q deed) h.entries
-            (record { answers = (done_sound, tt); waiting = tt; deeds = (deed_sound, tt); ballot = tt });
+        entries = placed_set (λ (n : ℕ) (found : Entry). IsSoundEntry sc s.server (record { 0 = n }) found) s.entries q.txn.0 (entry_after q entry deed) h.entries
+            (record {
+              answers = each_append (IsSoundDone sc (actor.Coordinator q.txn)) entry.answers (done_reply q entry.epoch deed ∷ []) old.answers (done_sound, tt);
+              waiting = old.waiting;
+              deeds = each_append (IsSoundDeedAt sc s.server q.txn) entry.deeds (deed ∷ []) old.deeds (deed_sound, tt);
+              ballot = old.ballot;
+            });
       };
       forces = tt;
-      sends_only = (reply_sound sc s q.txn (body.Done (done_reply q s.epoch deed)) h m.txn done_sound, tt);
+      sends_only = (reply_sound sc s q.txn (body.Done (done_reply q entry.epoch deed)) h m.txn done_sound tt, tt);
     }
 
 -- an answer that is given again, or for the first time
 answers_sound : (sc : Scenario) (s : Server) (q : QueryRequest) (given : DoneReply) → IsSoundServer sc s → IsTxn sc q.txn → IsSoundDone sc (actor.Coordinator q.txn) given
     → IsSoundServerEffect sc s (answers s q.txn given)
-answers_sound sc s q given h exists d = record { same_server = refl; state_is = h; forces = tt; sends_only = (reply_sound sc s q.txn (body.Done given) h exists d, tt) }
+answers_sound sc s q given h exists d = record { same_server = refl; state_is = h; forces = tt; sends_only = (reply_sound sc s q.txn (body.Done given) h exists d tt, tt) }
 
 restarted_sound : (sc : Scenario) (s : Server) (q : QueryRequest) → IsSoundQuery sc (actor.Server s.server) q → IsSoundDone sc (actor.Coordinator q.txn) (restarted_reply q s.epoch)
 restarted_sound sc s q m = record { txn = m.txn; goes_to = refl; query = record { asked = m.asked; asked_is = m.asked_is }; answer_is_sound = tt; proved = λ each. tt }
@@ -113,12 +118,27 @@ version_of (admin ∷ admins) (version ∷ versions) (suc n) default h within = 
 -- the version that a sound server knows of an administrator that exists
 pub known_version : (sc : Scenario) (s : Server) (admin : AdminId) → IsSoundServer sc s → IsAdmin sc admin → IsVersion sc admin (version_known s admin)
 known_version sc s admin h within =
-    let found = version_of sc.admins s.known admin.0 (record { 0 = 1 }) h.known within in
+    let found = version_of sc.admins s.store.known admin.0 (record { 0 = 1 }) h.known within in
     record { declared = found.0; declared_is = found.1; in_library = found.2 }
 
-pub verdict_sound : (sc : Scenario) (s : Server) (txn : TxnId) (place : ℕ) (deed : Deed) → IsValid sc → IsSoundServer sc s → IsSoundDeedAt sc s.server txn deed
-    → IsSoundVerdict sc txn (verdict_on sc s place deed)
-verdict_sound sc s txn place deed valid h d =
+-- what is among credentials that exist exists
+among_exists : (sc : Scenario) (creds : List CredId) (cred : CredId) → AreCreds sc creds → is_among creds cred ≡ true → IsCred sc cred
+among_exists sc [] cred h e = absurd (cc)
+among_exists sc (other ∷ creds) cred h e = by_same (same_cred cred other) refl (λ found. among_exists sc creds cred h.1 found) e
+  where
+    by_same : (b : Bool) → same_cred cred other ≡ b → (is_among creds cred ≡ true → IsCred sc cred) → (b || is_among creds cred) ≡ true → IsCred sc cred
+    by_same true same later found = subst (λ (n : ℕ). n < length sc.creds) (sym (eqb-true cred.0 other.0 same)) h.0
+    by_same false apart later found = later found
+
+presented_exist : (sc : Scenario) (txn : Transaction) (uses : List CredId) → AreCreds sc txn.creds → list_all (is_presented txn) uses ≡ true → AreCreds sc uses
+presented_exist sc txn [] h e = tt
+presented_exist sc txn (cred ∷ uses) h e =
+    let parts = and_parts (is_presented txn cred) (list_all (is_presented txn) uses) e in
+    (among_exists sc txn.creds cred h parts.0, presented_exist sc txn uses h parts.1)
+
+pub verdict_sound : (sc : Scenario) (s : Server) (txn : TxnId) (presenting : Transaction) (staple : Staple) (deed : Deed) → IsValid sc → IsSoundServer sc s → slice_get sc.txns txn.0 ≡ Some presenting
+    → IsSoundDeedAt sc s.server txn deed → IsSoundVerdict sc txn (verdict_on sc s presenting staple deed)
+verdict_sound sc s txn presenting staple deed valid h there d =
     let item_is : IsValidItem sc d.kept.declared = each_get (IsValidItem sc) sc.items deed.item.0 d.kept.declared valid.items d.kept.declared_is in
     let admin_is : d.kept.declared.admin ≡ admin_of sc deed.item =
     sym (ap (λ (found : Option Item). unwrap_or (option_map (λ (i : Item). i.admin) found) (record { 0 = 0 })) d.kept.declared_is) in
@@ -134,43 +154,75 @@ verdict_sound sc s txn place deed valid h d =
         admin_is = admin_is;
       };
       version = subst (λ (admin : AdminId). IsVersion sc admin (version_known s admin)) admin_is (known_version sc s d.kept.declared.admin h item_is.admin);
-      uses = tt;
+      uses = presented_exist sc presenting _ (each_get (λ (t : Transaction). AreCreds sc t.creds) sc.txns txn.0 presenting valid.creds there)
+          (uses_presented sc presenting staple deed.query (policy_at sc (admin_of sc deed.item) (version_known s (admin_of sc deed.item))) _ refl);
     }
 
-casts_sound : (sc : Scenario) (s : Server) (p : PrepareRequest) (place : ℕ) (entry : Entry) → IsValid sc → IsSoundServer sc s → IsTxn sc p.txn → IsSoundEntry sc s.server p.txn entry
-    → IsSoundServerEffect sc s (votes sc s p place entry)
-casts_sound sc s p place entry valid h exists k =
-    let verdicts : AreSoundVerdicts sc p.txn (map (verdict_on sc s place) entry.deeds) =
-    each_map (IsSoundDeedAt sc s.server p.txn) (IsSoundVerdict sc p.txn) (verdict_on sc s place) (λ deed d. verdict_sound sc s p.txn place deed valid h d) entry.deeds k.deeds in
+casts_sound : (sc : Scenario) (s : Server) (p : PrepareRequest) (txn : Transaction) (staple : Staple) (entry : Entry) → IsValid sc → IsSoundServer sc s → IsTxn sc p.txn
+    → slice_get sc.txns p.txn.0 ≡ Some txn → IsSoundEntry sc s.server p.txn entry → IsSoundServerEffect sc s (votes s p (verdicts_on sc s txn staple entry.deeds) entry)
+casts_sound sc s p txn staple entry valid h exists there k =
+    let verdicts : AreSoundVerdicts sc p.txn (verdicts_on sc s txn staple entry.deeds) =
+    each_map (IsSoundDeedAt sc s.server p.txn) (IsSoundVerdict sc p.txn) (verdict_on sc s txn staple) (λ deed d. verdict_sound sc s p.txn txn staple deed valid h there d) entry.deeds k.deeds in
     record {
       same_server = refl;
       state_is = record {
         exists = h.exists;
         known = h.known;
+        writes = h.writes;
         settled = h.settled;
         entries = placed_set (λ (n : ℕ) (found : Entry). IsSoundEntry sc s.server (record { 0 = n }) found) s.entries p.txn.0 _ h.entries
             (record { answers = k.answers; waiting = k.waiting; deeds = k.deeds; ballot = verdicts });
       };
       forces = record { txn = exists; deeds = k.deeds; verdicts = verdicts; told = h.known };
-      sends_only = (reply_sound sc s p.txn _ h exists (record { txn = exists; goes_to = refl; ballot = verdicts }), tt);
+      sends_only = (reply_sound sc s p.txn _ h exists (record { txn = exists; goes_to = refl; ballot = verdicts }) tt, tt);
     }
 
 -- ---- Decide
 
-settles_sound : (sc : Scenario) (s : Server) (d : DecideRequest) → IsSoundServer sc s → IsTxn sc d.txn → IsSoundServerEffect sc s (settles s d)
-settles_sound sc s d h exists =
-    let settled : IsSoundSettled sc (settled_as d) = record { txn = exists; why = tt } in
+ends_sound : (sc : Scenario) (s : Server) (order : Settled) (letter : Letter) → IsSoundServer sc s → IsSoundSettled sc s.server order → IsSoundLetter sc letter → IsSoundServerEffect sc s (ends s order letter)
+ends_sound sc s order letter h settled sent =
     record {
       same_server = refl;
       state_is = record {
         exists = h.exists;
-        known = h.known;
-        settled = placed_set (λ (n : ℕ) (found : Settled). IsSoundSettled sc found) s.settled d.txn.0 (settled_as d) h.settled settled;
-        entries = placed_emptied (λ (n : ℕ) (found : Entry). IsSoundEntry sc s.server (record { 0 = n }) found) s.entries d.txn.0 h.entries;
+        known = subst (AreVersions sc) (sym (ended_known s.store order.txn order.outcome)) h.known;
+        writes = ended_each (IsWriteOf sc s.server) s.store order.txn order.outcome h.writes;
+        settled = placed_set (λ (n : ℕ) (found : Settled). IsSettledOf sc s.server (record { 0 = n }) found) s.settled order.txn.0 order h.settled (record { own = refl; sound = settled });
+        entries = placed_emptied (λ (n : ℕ) (found : Entry). IsSoundEntry sc s.server (record { 0 = n }) found) s.entries order.txn.0 h.entries;
       };
       forces = settled;
-      sends_only = (reply_sound sc s d.txn _ h exists (record { txn = exists; goes_to = refl }), tt);
+      sends_only = (sent, tt);
     }
+
+settles_sound : (sc : Scenario) (s : Server) (d : DecideRequest) → IsSoundServer sc s → IsTxn sc d.txn → IsSoundServerEffect sc s (settles s d)
+settles_sound sc s d h exists =
+    ends_sound sc s (settled_as d) (ack_letter s d.txn) h (record { txn = exists; why = tt }) (reply_sound sc s d.txn _ h exists (record { txn = exists; goes_to = refl }) tt)
+
+-- a reason names a query of the transaction
+named_reason : (sc : Scenario) (at : ServerId) (txn : TxnId) (why : No) → IsReasonOf sc at txn why → IsSoundNo sc txn why
+named_reason sc at txn (no.Range number value) h = record { asked = h.asked; asked_is = h.asked_is }
+named_reason sc at txn no.Restarted h = tt
+
+-- the write that is refused is of a query of the transaction there
+refused_query : (sc : Scenario) (s : Server) (txn : TxnId) (number : ℕ) (value : ℤ) → IsSoundServer sc s → first_outside_in s.store txn ≡ Some (number, value) → IsQueryOf sc txn number s.server
+refused_query sc s txn number value h e = found (first_outside_in s.store txn) e (first_is_least s.store txn)
+  where
+    found : (first : Option (ℕ × ℤ)) → first ≡ Some (number, value) → MatchOption first (list_any (is_outside s.store.bounds) (writes_of s.store txn) ≡ false) (IsLeastOutside s.store txn) → IsQueryOf sc txn number s.server
+    found None f m = absurd (cc)
+    found (Some first) f m =
+        let same : first ≡ (number, value) = same_Some first (number, value) f in
+        let is : number ≡ m.write.query = ap (λ (x : ℕ × ℤ). x.0) (sym same) ∙ m.query in
+        subst (λ (n : ℕ). IsQueryOf sc txn n s.server) (sym is) (each_get (IsWriteOf sc s.server txn) (writes_of s.store txn) m.at m.write (h.writes txn) m.kept).query
+
+-- the reason of what was settled so is sound
+settled_reason : (sc : Scenario) (s : Server) (txn : TxnId) (settled : Settled) (why : No) → IsSoundServer sc s → flattened (slice_get s.settled txn.0) ≡ Some settled → settled.why ≡ Some why
+    → IsReasonOf sc s.server txn why
+settled_reason sc s txn settled why h found why_is =
+    let kept = h.settled txn.0 settled found in
+    subst (λ (t : TxnId). IsReasonOf sc s.server t why) kept.own (subst (λ (x : Option No). IfSome x (IsReasonOf sc s.server settled.txn)) why_is kept.sound.why)
+
+no_letter_sound : (sc : Scenario) (s : Server) (p : PrepareRequest) (why : No) → IsSoundServer sc s → IsTxn sc p.txn → IsReasonOf sc s.server p.txn why → IsSoundLetter sc (no_letter s p why)
+no_letter_sound sc s p why h exists reason = reply_sound sc s p.txn _ h exists (record { txn = exists; goes_to = refl; ballot = named_reason sc s.server p.txn why reason }) reason
 
 -- ---- all mails
 
@@ -180,19 +232,27 @@ server_row_sound sc s mail valid h m =
     server_by sc s mail (IsSoundServerEffect sc s)
     (record {
       ignored = ignores_sound sc s h;
-      begun = λ q deed k. begins_sound sc s mail.sent q deed h (said k.said_is) k.writes;
+      ran = λ q query entry value k. runs_sound sc s mail q query entry value h (said k.said_is) k;
       restarted = λ q k. answers_sound sc s q (restarted_reply q s.epoch) h (said k.said_is).txn (restarted_sound sc s q (said k.said_is));
       answered = λ q entry given k.
           answers_sound sc s q given h (said k.said_is).txn
           (each_found (IsSoundDone sc (actor.Coordinator q.txn)) (λ (d : DoneReply). d.query == q.query) entry.answers given (h.entries q.txn.0 entry k.found).answers k.given_is);
-      voted = λ p entry staple k. casts_sound sc s p staple.place entry valid h (said k.said_is).txn (h.entries p.txn.0 entry k.found);
+      voted = λ p entry staple txn k. casts_sound sc s p txn staple entry valid h (said k.said_is).txn k.declared (h.entries p.txn.0 entry k.found);
+      refused = λ p entry number value k.
+          let exists = (said k.said_is).txn in
+          let query : IsQueryOf sc p.txn number s.server = refused_query sc s p.txn number value h k.outside in
+          ends_sound sc s (refused_as p (no.Range number value)) (no_letter s p (no.Range number value)) h (record { txn = exists; why = query }) (no_letter_sound sc s p (no.Range number value) h exists query);
+      refused_again = λ p settled why k.
+          let exists = (said k.said_is).txn in
+          let reason : IsReasonOf sc s.server p.txn why = settled_reason sc s p.txn settled why h k.found k.why_is in
+          record { same_server = refl; state_is = h; forces = tt; sends_only = (no_letter_sound sc s p why h exists reason, tt) };
       settled = λ d k. settles_sound sc s d h (said k.said_is).txn;
       acknowledged = λ d settled k.
           record {
             same_server = refl;
             state_is = h;
             forces = tt;
-            sends_only = (reply_sound sc s d.txn _ h (said k.said_is).txn (record { txn = (said k.said_is).txn; goes_to = refl }), tt);
+            sends_only = (reply_sound sc s d.txn _ h (said k.said_is).txn (record { txn = (said k.said_is).txn; goes_to = refl }) tt, tt);
           };
     })
   where

@@ -1,23 +1,24 @@
 -- The world is sound before the first step, and each step keeps it sound.
-use Rattle.std.proofs.Common.{◌≡◌, ℕ, ◌+◌, List, [], ◌∷◌, length, slice_set, true, None, subst, arith, sym}
-use Rattle.tp_model.specs.Words.{Actor, Letter, Mail, Scenario, ServerId, Step, TxnId, What}
+use Rattle.std.proofs.Common.{List, None, [], arith, length, slice_set, subst, sym, true, ℕ, ◌+◌, ◌∷◌, ◌≡◌}
+use Rattle.tp_model.specs.Built.{is_built}
 use Rattle.tp_model.specs.Words.actor
 use Rattle.tp_model.specs.Words.step
 use Rattle.tp_model.specs.Words.what
-use Rattle.tp_model.specs.Built.{is_built}
-use Rattle.tp_machine.specs.declared.actors.Actors.{Actors}
-use Rattle.tp_machine.specs.coord.State.{Coordinator}
-use Rattle.tp_machine.specs.Parts.{Part}
-use Rattle.tp_machine.specs.server.State.{Server}
-use Rattle.tp_machine.specs.Machine.{Machine, Move, State, facts_of, idle_move, machine_after, mails_of, opened_part, opening_state, refusal, state_after}
-use Rattle.tp_machine.specs.Sound.{AreSoundActors, Each, IsActor, IsSound, IsSoundAuthority, IsSoundBody, IsSoundCoordinatorPart, IsSoundFact, IsSoundLetter, IsSoundMail, IsSoundServerPart, IsSoundWhat, IsStepOf}
-use Rattle.tp_offices.specs.declared.authority.Authority.{Authority}
-use Rattle.tp_machine.specs.coord.Opened as coord
-use Rattle.tp_machine.specs.server.Opened as server
-use Rattle.tp_machine.proofs.ids.Acts.{IsSoundAct, authority_sends_sound, master_sends_sound, none_sound, revoked_sound, coordinator_idle_sound, server_opening_sound, coordinator_begun_sound, coordinator_receipt_sound, server_receipt_sound}
-use Rattle.tp_machine.proofs.ids.Valid.{IsValid, valid_built}
+use Rattle.tp_model.specs.Words.{Actor, Letter, Mail, Scenario, ServerId, Step, TxnId, What}
 use Rattle.tp_machine.proofs.basics.Lists.{at_made, at_set, each_append, each_get, each_map}
+use Rattle.tp_machine.proofs.ids.Acts.{IsSoundAct, authority_sends_sound, coordinator_begun_sound, coordinator_idle_sound, coordinator_receipt_sound, master_sends_sound, none_sound, revoked_sound, server_opening_sound, server_receipt_sound}
+use Rattle.tp_machine.proofs.ids.Valid.{IsValid, valid_built}
 use Rattle.tp_machine.proofs.walks.Steps.{Cases, SaysIdle, WasSent, machine_after_by}
+use Rattle.tp_machine.specs.Machine.{Machine, Move, State, facts_of, idle_move, machine_after, mails_of, opened_part, opening_state, refusal, state_after}
+use Rattle.tp_machine.specs.Parts.{Part}
+use Rattle.tp_machine.specs.Sound.{AreSoundActors, Each, IsActor, IsSound, IsSoundAuthority, IsSoundBody, IsSoundCoordinatorPart, IsSoundFact, IsSoundLetter, IsSoundMail, IsSoundServerPart, IsSoundWhat, IsStepOf}
+use Rattle.tp_machine.specs.coord.Opened as coord
+use Rattle.tp_machine.specs.coord.Opened.{idle}
+use Rattle.tp_machine.specs.coord.State.{Coordinator}
+use Rattle.tp_machine.specs.declared.actors.Actors.{Actors}
+use Rattle.tp_machine.specs.server.Opened as server
+use Rattle.tp_machine.specs.server.State.{Server}
+use Rattle.tp_offices.specs.declared.authority.Authority.{Authority}
 
 -- ---- a move
 
@@ -76,7 +77,7 @@ sound_cases sc w valid h =
           record { actors_are = servers_sound sc w.actors at _ h.actors_are move.part_is; left = move.left };
       coordinator_received = λ n mail txn part c sent up.
           let says = letter_sound sc w n mail (actor.Coordinator txn) h sent in
-          let move = coordinator_receipt_sound sc txn part c mail (h.actors_are.coordinators txn.0 part up.found) up.up says.0 says.1 in
+          let move = coordinator_receipt_sound sc txn part c mail valid (h.actors_are.coordinators txn.0 part up.found) up.up says.0 (each_get (IsSoundMail sc) w.mails n mail h.mails_are sent.sent).refuses says.1 in
           record { actors_are = coordinators_sound sc w.actors txn _ h.actors_are move.part_is; left = move.left };
       authority_told = λ n mail sent.
           record { actors_are = h.actors_are; left = record { facts_are = tt; letters_are = authority_sends_sound sc w.actors.authority mail h.actors_are.authority (letter_sound sc w n mail actor.Authority h sent).1 } };

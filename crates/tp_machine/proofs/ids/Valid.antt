@@ -1,30 +1,36 @@
 -- What the proofs of soundness take from a scenario: rules that every scenario keeps, and one of the form that is built.
-use Rattle.std.proofs.Common.{Bool, List, [], arith, false, length, map, nat_lt, true, ℕ, ◌&&◌, ◌+◌, ◌<◌, ◌∷◌, ◌≡◌, ◌≤◌}
+use Rattle.std.proofs.Common.{Bool, List, None, Option, Some, [], arith, false, length, map, nat_le, nat_lt, option_and_then, refl, slice_get, suc, true, zero, ℕ, ◌&&◌, ◌+◌, ◌<◌, ◌∷◌, ◌≡◌, ◌≤◌}
 use Rattle.std.proofs.lemmas.Bool.Decides.{nat_tests}
 use Rattle.std.proofs.lemmas.Bool.{and_parts}
 use Rattle.std.specs.List.{list_all}
 use Rattle.tp_model.proofs.RuleLemmas as rules
 use Rattle.tp_model.specs.Built.{is_built}
-use Rattle.tp_model.specs.Limits.{has_count, is_from_to}
-use Rattle.tp_model.specs.Valid.{are_by_server, are_distinct, are_known, are_valid_from, has_valid_range, is_admin, is_known, is_server, is_valid_admin, is_valid_item, is_valid_policy, is_valid_server, owned_from, same_admin_name, same_item_name, same_server_name}
-use Rattle.tp_model.specs.Ids.{same_item}
+use Rattle.tp_model.specs.Limits.{has_count, is_between, is_from_to, is_value}
+use Rattle.tp_model.specs.Valid.{are_by_server, are_distinct, are_known, are_valid_from, has_valid_bounds, has_valid_creds, has_valid_range, is_admin, is_cred, is_known, is_server, is_valid_admin, is_valid_item, is_valid_policy, is_valid_server, is_valid_txn, owned_from, same_admin_name, same_item_name, same_server_name, same_txn_name}
+use Rattle.tp_model.specs.Authorisation.{version_in, version_of}
+use Rattle.tp_model.specs.Ids.{same_cred, same_item}
 use Rattle.std.specs.Cmp.Lexicographic.{pointwise}
-use Rattle.tp_model.specs.Words.{Admin, Item, Scenario, ServerDecl, Transaction, Version}
+use Rattle.tp_model.specs.Words.{Admin, CredId, Item, Policy, Scenario, ServerDecl, Transaction, Version}
 use Rattle.tp_offices.specs.Master.{opening_of}
-use Rattle.tp_machine.specs.Sound.{AreVersions, AreVersionsOf, Each, IsAdmin, IsServer, IsVersionOf, proves_each}
+use Rattle.tp_machine.specs.Sound.{AreCreds, AreVersions, AreVersionsOf, Each, IsAdmin, IsCred, IsServer, IsVersionOf, proves_each}
 use Rattle.tp_machine.proofs.basics.Facts.{each_from_all}
-use Rattle.tp_machine.proofs.basics.Lists.{each_as}
+use Rattle.tp_machine.specs.server.Verdicts.{HasFewRules}
+use Rattle.tp_machine.proofs.basics.Lists.{each_as, each_get}
 use Rattle.tp_machine.proofs.ids.Built.{deferred_built}
 
 -- ---- what is taken
 
--- the item's server and administrator exist
+-- the item's server and administrator exist, and its bounds are values
 pub record IsValidItem (sc : Scenario) (item : Item) : Type 0 where
   pub server : IsServer sc item.server
   pub admin : IsAdmin sc item.admin
+  pub min : is_value item.min ≡ true
+  pub max : is_value item.max ≡ true
 
--- what the scenario names exists; no query is proved as it runs, which goes when schemes are built
+-- what the scenario names exists, and each transaction is valid; no query is proved as it runs, which goes when schemes are built
 pub record IsValid (sc : Scenario) : Type 0 where
+  pub txns : Each (λ (declared : Transaction). is_valid_txn sc declared ≡ true) sc.txns
+  pub creds : Each (λ (declared : Transaction). AreCreds sc declared.creds) sc.txns
   pub items : Each (IsValidItem sc) sc.items
   pub servers : Each (λ (declared : ServerDecl). AreVersions sc declared.knows) sc.servers
   pub openings : AreVersions sc (map opening_of sc.admins)
@@ -49,7 +55,8 @@ three a b c e = let outer = and_parts (a && b) c e in let inner = and_parts a b 
 item_valid : (sc : Scenario) (item : Item) → is_valid_item sc item ≡ true → IsValidItem sc item
 item_valid sc item e =
     let parts = three (is_server sc item.server) (is_admin sc item.admin) (has_valid_range item) e in
-    record { server = less item.server.0 (length sc.servers) parts.0; admin = less item.admin.0 (length sc.admins) parts.1 }
+    let bounds = and_parts (is_value item.min) (is_value item.max) (and_parts (has_valid_bounds item) (is_between item.min item.max item.value) parts.2).0 in
+    record { server = less item.server.0 (length sc.servers) parts.0; admin = less item.admin.0 (length sc.admins) parts.1; min = bounds.0; max = bounds.1 }
 
 opening_valid : (admin : Admin) → is_valid_admin admin ≡ true → IsVersionOf admin admin.opening
 opening_valid admin e =
@@ -77,6 +84,38 @@ servers_valid sc at (server ∷ servers) h e =
     let knows = three (are_known sc.admins server.knows) (has_count 0 64 server.items) (pointwise same_item server.items (owned_from at 0 sc.items)) parts.0 in
     (known_valid sc.admins server.knows h knows.0, servers_valid sc (at + 1) servers h parts.1)
 
+creds_valid : (sc : Scenario) (txn : Transaction) → is_valid_txn sc txn ≡ true → AreCreds sc txn.creds
+creds_valid sc txn e =
+    let parts = three (has_valid_creds sc txn) (is_from_to 1 16 txn.rounds) _ e in
+    let creds = three (has_count 0 256 txn.creds) (list_all (is_cred sc) txn.creds) (are_distinct same_cred txn.creds) parts.0 in
+    each_as (λ (cred : CredId). is_cred sc cred ≡ true) (IsCred sc) (λ cred c. less cred.0 (length sc.creds) c) txn.creds (each_from_all (is_cred sc) txn.creds creds.1)
+
+-- ---- policies
+
+at_most : (n bound : ℕ) → nat_le n bound ≡ true → n ≤ bound
+at_most n bound e = grind (arith, nat_tests)
+
+few_in_library : (library : List Policy) (version : ℕ) (policy : Policy) → list_all is_valid_policy library ≡ true → version_in library version ≡ Some policy → length policy.rules ≤ 4096
+few_in_library library zero policy all e = absurd (cc)
+few_in_library library (suc before) policy all e =
+    at_most (length policy.rules) 4096 (each_get (λ (p : Policy). is_valid_policy p ≡ true) library before policy (each_from_all is_valid_policy library all) e)
+
+few_of : (admins : List Admin) (admin version : ℕ) (found : Option Admin) (policy : Policy) → Each (λ (a : Admin). is_valid_admin a ≡ true) admins → slice_get admins admin ≡ found
+    → option_and_then (version_of version) found ≡ Some policy → length policy.rules ≤ 4096
+few_of admins admin version None policy all found_is e = absurd (cc)
+few_of admins admin version (Some declared) policy all found_is e =
+    let valid : is_valid_admin declared ≡ true = each_get (λ (a : Admin). is_valid_admin a ≡ true) admins admin declared all found_is in
+    let parts = three (has_count 1 64 declared.library) (list_all is_valid_policy declared.library) (is_from_to 1 (length declared.library) declared.opening.0) valid in
+    few_in_library declared.library version policy parts.1 e
+
+-- a certificate counts the rules of each policy
+pub few_rules : (sc : Scenario) → is_built sc ≡ true → HasFewRules sc
+few_rules sc built admin version policy e =
+    let kept = rules.valid_built sc built in
+    let admins = three (has_count 1 16 sc.admins) (list_all is_valid_admin sc.admins) (are_distinct same_admin_name sc.admins) kept.admins in
+    let few = few_of sc.admins admin.0 version.0 (slice_get sc.admins admin.0) policy (each_from_all is_valid_admin sc.admins admins.1) refl e in
+    omega (arith, few)
+
 -- ---- the scenario
 
 -- what is built is valid
@@ -87,8 +126,11 @@ valid_built sc built =
     let opening : Each (λ (admin : Admin). IsVersionOf admin admin.opening) sc.admins =
     each_as (λ (admin : Admin). is_valid_admin admin ≡ true) (λ (admin : Admin). IsVersionOf admin admin.opening) opening_valid sc.admins (each_from_all is_valid_admin sc.admins admins.1) in
     let servers = three (has_count 1 16 sc.servers) (are_valid_from sc 0 sc.servers) (are_distinct same_server_name sc.servers) kept.servers in
+    let txns = three (has_count 0 128 sc.txns) (list_all (is_valid_txn sc) sc.txns) (are_distinct same_txn_name sc.txns) kept.txns in
     let items = three (list_all (is_valid_item sc) sc.items) (are_by_server 0 sc.items) (are_distinct same_item_name sc.items) kept.items in
     record {
+      txns = each_from_all (is_valid_txn sc) sc.txns txns.1;
+      creds = each_as (λ (txn : Transaction). is_valid_txn sc txn ≡ true) (λ (txn : Transaction). AreCreds sc txn.creds) (creds_valid sc) sc.txns (each_from_all (is_valid_txn sc) sc.txns txns.1);
       items = each_as (λ (item : Item). is_valid_item sc item ≡ true) (IsValidItem sc) (item_valid sc) sc.items (each_from_all (is_valid_item sc) sc.items items.0);
       servers = servers_valid sc 0 sc.servers opening servers.1;
       openings = openings_valid sc.admins opening;

@@ -1,27 +1,20 @@
 -- Deeds and epochs, the coordinator's rows: each is an event at every server, as the coordinator's transaction is seen there.
-use Rattle.std.proofs.Math.IntN.{+ℤ_idl}
-use Rattle.std.proofs.Common.{Bool, List, None, Option, Some, [], ap, arith, false, if◌then◌else◌, is_none, is_some, length, map, nat_lt, option_and_then, option_map, pos, refl, replicate, slice_get, slice_set, subst, suc, sym, true, zero, ℕ, ℤ, ◌&&◌, ◌++◌, ◌+◌, ◌-◌, ◌<◌, ◌==◌, ◌∙◌, ◌∷◌, ◌≡◌, ◌≤◌}
+use Rattle.std.specs.Option.{option_map_or}
+use Rattle.std.proofs.Common.{Bool, List, None, Option, Some, [], ap, arith, false, if◌then◌else◌, length, map, option_and_then, option_map, refl, slice_get, slice_set, subst, suc, sym, true, zero, ℕ, ℤ, ◌++◌, ◌+◌, ◌<◌, ◌==◌, ◌∙◌, ◌∷◌, ◌≡◌, ◌≤◌}
 use Rattle.std.proofs.lemmas.Bool.{and_parts, eq-eqb, eqb-true}
 use Rattle.std.proofs.lemmas.List.{length_push}
 use Rattle.std.proofs.lemmas.Option.{same_Some, slice_get_within}
-use Rattle.std.specs.Option.{option_map_or}
-use Rattle.std.specs.Prelude.{◌^◌}
 use Rattle.tp_types.proofs.ListLemmas.{number_itself}
 use Rattle.tp_types.specs.Effect.{Effect, ignores}
 use Rattle.tp_types.specs.Table.{flattened}
-use Rattle.tp_types.specs.declared.scenario.Operand.TheVariants.{Constant, Register}
-use Rattle.tp_model.specs.Authorisation.{action_of}
-use Rattle.tp_model.specs.Facts.{before}
-use Rattle.tp_model.specs.Queries.{is_at_server, item_of, only_value, operand_value, query_at, signed, term_value, written_constant}
-use Rattle.tp_model.specs.SerialRun.{cleared_registers, number_at, operand_in, sum_in, term_in}
-use Rattle.tp_model.specs.Words.action
+use Rattle.tp_model.specs.Queries.{is_at_server, item_of, query_at}
 use Rattle.tp_model.specs.Words.actor
 use Rattle.tp_model.specs.Words.body
 use Rattle.tp_model.specs.Words.cause
 use Rattle.tp_model.specs.Words.outcome
-use Rattle.tp_model.specs.Words.query
-use Rattle.tp_model.specs.Words.{Action, Actor, Body, Deed, DoneReply, Item, Letter, Mail, Operand, Outcome, PrepareRequest, Query, QueryRequest, Scenario, ServerId, Staple, Term, Transaction, TxnId}
+use Rattle.tp_model.specs.Words.{Actor, Body, Deed, DoneReply, Item, Letter, Mail, Outcome, PrepareRequest, Query, QueryRequest, Scenario, ServerId, Staple, Transaction, TxnId}
 use Rattle.tp_machine.proofs.agreement.Coordinator.{idle_is}
+use Rattle.tp_machine.proofs.basics.Homes.{HaveHomes, IsHome, home_is, last_is, next_is}
 use Rattle.tp_machine.proofs.basics.Lists.{each_get, set_here}
 use Rattle.tp_machine.proofs.basics.Phases.{awaits_is, is_undecided, sent_to_server}
 use Rattle.tp_machine.proofs.epochs.Coordinator.{some_is}
@@ -29,23 +22,23 @@ use Rattle.tp_machine.proofs.epochs.Kept.{KeepsEpoch, PhaseKept, RoundKept, from
 use Rattle.tp_machine.proofs.ids.Valid.{IsValid, IsValidItem}
 use Rattle.tp_machine.proofs.pairs.Actors.{asker_of, asker_up, site_of, stand_of}
 use Rattle.tp_machine.proofs.pairs.Answered.{Taken, answered, elsewhere, next_deed, taken, takes}
-use Rattle.tp_machine.proofs.pairs.Fits.{AnswerFits, AskerFits, DoneFits, Fits, Pairing, PrepareFits, QueryFits, RanFits}
+use Rattle.tp_machine.proofs.pairs.Fits.{AnswerFits, AskerFits, DoneFits, Fits, PrepareFits, QueryFits, RanFits}
 use Rattle.tp_machine.proofs.pairs.Follows.{Next, next_both, next_same}
 use Rattle.tp_machine.proofs.pairs.Letters.{asks, prepares}
 use Rattle.tp_machine.proofs.pairs.Lists.{of_some}
 use Rattle.tp_machine.proofs.pairs.Moves.{ends, moved, moves, with_asker}
 use Rattle.tp_machine.proofs.pairs.Pair.{Asker, Asks, Pair, Prepares, Rests, Stand}
-use Rattle.tp_machine.proofs.pairs.Site.{Site, count, here, one_home, upto}
+use Rattle.tp_machine.proofs.pairs.Site.{Site, count, here, one_home}
 use Rattle.tp_machine.proofs.serial_data.Lists.{set_elsewhere}
-use Rattle.tp_machine.proofs.serial_data.Runs as run
-use Rattle.tp_machine.proofs.serial_data.Runs.{deed_at}
+use Rattle.tp_machine.proofs.serial_data.Runs.{deed_asked, deed_at}
 use Rattle.tp_machine.proofs.trust.Turns.{turn_rises}
-use Rattle.tp_machine.proofs.walks.CoordinatorRows.{IsFirstQuery, IsLastAnswer, coordinator_by, submit_by}
+use Rattle.tp_machine.proofs.walks.CoordinatorRows.{IsRanAnswer, coordinator_by, submit_by}
 use Rattle.tp_machine.specs.Machine.{with_age}
+use Rattle.tp_machine.specs.Runs.{deed_of}
 use Rattle.tp_machine.specs.Sound.{Each}
-use Rattle.tp_machine.specs.coord.Opened.{idle}
+use Rattle.tp_machine.specs.Sums.{asked_value}
 use Rattle.tp_machine.specs.coord.Row as coord
-use Rattle.tp_machine.specs.coord.Row.{awaits_query, next_turn, query_of, server_of}
+use Rattle.tp_machine.specs.coord.Row.{awaits_query, next_number, next_turn, query_of, server_of}
 use Rattle.tp_machine.specs.coord.State.{Coordinator}
 use Rattle.tp_machine.specs.declared.coord.Phase.TheVariants as phase
 use Rattle.tp_machine.specs.declared.coord.Phase.{Phase}
@@ -113,36 +106,6 @@ ignores_asks sc declared P c h = record { next = λ at. still_asks sc declared P
 
 -- ---- Submit
 
-number_of_none : (count r : ℕ) → number_at (replicate count (pos 0)) r ≡ pos 0
-number_of_none zero r = refl
-number_of_none (suc count) zero = refl
-number_of_none (suc count) (suc r) = number_of_none count r
-
-cleared_operand : (operand : Operand) → operand_in cleared_registers operand ≡ operand_value operand
-cleared_operand (Constant c) = refl
-cleared_operand (Register r) = number_of_none 10 r
-
--- before the first query all registers are 0
-first_sum : (expr : List Term) (value : ℤ) → only_value expr ≡ Some value → sum_in cleared_registers expr ≡ value
-first_sum [] value e = absurd (cc)
-first_sum (term ∷ []) value e =
-    +ℤ_idl (term_in cleared_registers term) ∙ (ap (signed term.minus) (cleared_operand term.operand) ∙ same_Some (term_value term) value e)
-first_sum (term ∷ other ∷ expr) value e = absurd (cc)
-
-no_registers : (queries : List Query) (registers : List ℤ) → run.registers_from queries [] registers ≡ registers
-no_registers [] registers = refl
-no_registers (first ∷ queries) registers = refl
-
-first_asked : (asked : Query) (value : ℤ) → written_constant asked ≡ Some value → run.sum_asked cleared_registers asked ≡ Some value
-first_asked (query.Write item expr) value e = ap (λ (v : ℤ). Some v) (first_sum expr value e)
-first_asked (query.Read item into) value e = absurd (cc)
-
--- the value of the first query
-first_value : (declared : Transaction) (asked : Query) (value : ℤ) → query_at declared 1 ≡ Some asked → written_constant asked ≡ Some value → run.asked_value declared [] 1 ≡ Some value
-first_value declared asked value e w =
-    ap (option_and_then (run.sum_asked (run.registers_after declared []))) e
-    ∙ (ap (λ (registers : List ℤ). run.sum_asked registers asked) (no_registers declared.queries cleared_registers) ∙ first_asked asked value w)
-
 -- a query of a coordinator's transaction
 own_query : (sc : Scenario) (c : Coordinator) (declared : Transaction) (number : ℕ) (asked : Query) → slice_get sc.txns c.txn.0 ≡ Some declared → query_of sc c number ≡ Some asked → query_at declared number ≡ Some asked
 own_query sc c declared number asked e f = sym (ap (λ (found : Option Transaction). option_and_then (λ (d : Transaction). query_at d number) found) e) ∙ f
@@ -152,20 +115,30 @@ query_here : (sc : Scenario) (declared : Transaction) (number : ℕ) (asked : Qu
 query_here sc declared number asked server e f =
     ap (λ (found : Option Query). option_map_or (is_at_server sc server.0) found false) e ∙ (sent_to_server sc asked server server.0 f ∙ number_itself server.0)
 
-none_kept : (s : Site) (p : Pair) (deeds : List Deed) (a : Asker) (kept : Option ℕ) → a.deeds ≡ deeds → deeds ≡ [] → Pairing s p a kept → kept ≡ None
-none_kept s p deeds a None same none h = refl
-none_kept s p deeds a (Some epoch) same none h = absurd (h.some (ap (λ (ds : List Deed). upto s (length ds)) (same ∙ none)))
+-- a coordinator that asks its next query
+query_requested : (sc : Scenario) (declared : Transaction) (p : Pair) (c : Coordinator) (number : ℕ) (server : ServerId) → slice_get sc.txns c.txn.0 ≡ Some declared → Fits (site_of sc server.0 declared) p
+    → p.asker ≡ Some (asker_of server.0 (coord.sends_query sc c number server).state) → number ≡ length c.deeds + 1 → IsHome sc c number server
+    → QueryFits (site_of sc server.0 declared) p (coord.query_request sc c server number)
+query_requested sc declared p c number server declared_is fits is number_is home =
+    let asked_is : query_at declared number ≡ Some home.asked = own_query sc c declared number home.asked declared_is home.asked_is in
+    asks (site_of sc server.0 declared) p (asker_of server.0 (coord.sends_query sc c number server).state) (coord.query_request sc c server number) is fits refl
+    (subst (λ (n : ℕ). here (site_of sc server.0 declared) n ≡ true) number_is (query_here sc declared number home.asked server asked_is home.server_is))
+    (record {
+      turn = refl;
+      number = number_is;
+      epoch = refl;
+      value = ap (option_and_then (λ (d : Transaction). asked_value d c.deeds number)) declared_is ∙ ap (λ (n : ℕ). asked_value declared c.deeds n) number_is;
+    })
 
-sends_first_asks : (sc : Scenario) (declared : Transaction) (P : ℕ → Pair) (c : Coordinator) (age : ℕ) (asked : Query) (server : ServerId) (value : ℤ) → CoordinatorPaired sc declared P c → c.phase ≡ phase.Idle
-    → IsFirstQuery sc c asked server value → RowAsks sc declared P (with_age (coord.sends_first c (Some server) (Some value)) age)
-sends_first_asks sc declared P c age asked server value h idle k =
-    let next = coord.coordinator_with_age (coord.sends_first c (Some server) (Some value)).state age in
+sent_asks : (sc : Scenario) (declared : Transaction) (P : ℕ → Pair) (c : Coordinator) (age : ℕ) (server : ServerId) → CoordinatorPaired sc declared P c → c.phase ≡ phase.Idle → IsHome sc c 1 server
+    → RowAsks sc declared P (with_age (coord.sends_query sc c 1 server) age)
+sent_asks sc declared P c age server h idle home =
+    let next = coord.coordinator_with_age (coord.sends_query sc c 1 server).state age in
     let undecided : is_undecided c.phase ≡ true = ap is_undecided idle in
-    let none : c.deeds ≡ [] = subst (λ (p : Phase). PhaseNumbered p c.deeds) idle h.numbered in
-    let short : length c.deeds ≡ 0 = ap length none in
+    let short : length c.deeds ≡ 0 = ap length (subst (λ (p : Phase). PhaseNumbered p c.deeds) idle h.numbered) in
+    let first : 1 ≡ length c.deeds + 1 = omega (arith, short) in
     let rises : next_turn c ≡ c.turn + 1 = turn_rises c h.low in
-    let asked_is : query_at declared 1 ≡ Some asked = own_query sc c declared 1 asked h.declared_is k.asked_is in
-    let within : 0 < length declared.queries = slice_get_within declared.queries 0 asked asked_is in
+    let within : 0 < length declared.queries = slice_get_within declared.queries 0 home.asked (own_query sc c declared 1 home.asked h.declared_is home.asked_is) in
     let event : (at : ℕ) → Next (site_of sc at declared) (P at) (with_asker (P at) (asker_up at next)) = λ at.
     moves (site_of sc at declared) (P at) (asker_of at c) Asks (next_turn c) (asker_there sc declared P c at h undecided) (h.fits at)
     (record {
@@ -175,22 +148,11 @@ sends_first_asks sc declared P c age asked server value h idle k =
       all = λ e. absurd (cc);
       stays = λ e. let rests = ap stand_of idle in absurd (cc);
     }) in
-    let site = site_of sc server.0 declared in
-    let q : QueryRequest = record { txn = c.txn; turn = next_turn c; query = 1; age = None; epoch = None; value = Some value; staple = None; pin = None } in
-    let a = asker_of server.0 next in
-    let first : length c.deeds + 1 ≡ 1 = omega (arith, short) in
-    let old : AskerFits site (P server.0) (asker_of server.0 c) = of_some (AskerFits site (P server.0)) (P server.0).asker (asker_of server.0 c) (asker_there sc declared P c server.0 h undecided) (h.fits server.0).asker in
-    let unkept : a.epoch ≡ None = none_kept site (P server.0) c.deeds (asker_of server.0 c) (asker_of server.0 c).epoch refl none old.pairing in
-    let here_now : here site (length c.deeds + 1) ≡ true = ap (here site) first ∙ query_here sc declared 1 asked server asked_is k.server_is in
-    let fits : QueryFits site (with_asker (P server.0) (asker_up server.0 next)) q =
-    asks site (with_asker (P server.0) (asker_up server.0 next)) a q refl (event server.0).fits refl here_now
-    (record {
-      turn = refl;
-      number = sym first;
-      epoch = sym unkept;
-      value = sym (ap (λ (n : ℕ). run.asked_value declared c.deeds n) first ∙ (ap (λ (deeds : List Deed). run.asked_value declared deeds 1) none ∙ first_value declared asked value asked_is k.written));
-    }) in
-    record { next = event; numbered = sym first; requests = ((refl, fits), tt) }
+    record {
+      next = event;
+      numbered = first;
+      requests = ((refl, query_requested sc declared (with_asker (P server.0) (asker_up server.0 next)) c 1 server h.declared_is (event server.0).fits refl first home), tt);
+    }
 
 -- a submission that sends nothing
 unsent_asks : (sc : Scenario) (declared : Transaction) (P : ℕ → Pair) (c : Coordinator) (age : ℕ) → CoordinatorPaired sc declared P c → RowAsks sc declared P (with_age (ignores c) age)
@@ -202,7 +164,7 @@ submit_row_asks sc declared P c age h new =
     submit_by sc c (λ (effect : Effect Coordinator). RowAsks sc declared P (with_age effect age))
     (record {
       ignored = unsent_asks sc declared P c age h;
-      sent = λ asked server value k. sends_first_asks sc declared P c age asked server value h (idle_is c.phase new) k;
+      sent = λ server home. sent_asks sc declared P c age server h (idle_is c.phase new) (home_is sc c 1 server home);
     })
 
 -- ---- Done
@@ -213,9 +175,7 @@ record IsAwaited (sc : Scenario) (declared : Transaction) (P : ℕ → Pair) (c 
   pub turn : done.turn ≡ c.turn
   pub asked_is : query_at declared done.query ≡ Some asked
   pub server_is : server_of sc asked ≡ Some server
-  pub writes : action_of asked ≡ action.Write
   pub ran : RanFits (site_of sc server.0 declared) (P server.0) done value
-  pub last : query_at declared (done.query + 1) ≡ None
   pub exists : server.0 < length sc.servers
 
 none_past : (queries : List Query) (n : ℕ) → slice_get queries n ≡ None → length queries ≤ n
@@ -232,86 +192,125 @@ ran_all declared (suc before) asked e f =
     let past = none_past declared.queries (suc before) (ap (query_at declared) (sym next) ∙ f) in
     omega (arith, within, past)
 
--- what all servers see of the answer: the coordinator has one deed more, and prepares
-moves_on : (s : Site) (p : Pair) (a : Asker) (b : Asker) (turn : ℕ) (value : ℤ) (epoch : Option ℕ) → b ≡ answered s a epoch value → a.turn ≤ turn → length a.deeds + 1 ≡ count s
-    → Next s p (with_asker p (Some b)) → Next s p (with_asker p (Some (moved b Prepares turn)))
-moves_on s p a b turn value epoch is past all n =
+-- what all servers see of the answer: the coordinator has one deed more, and goes on
+moves_on : (s : Site) (p : Pair) (a : Asker) (b : Asker) (stand : Stand) (turn : ℕ) (value : ℤ) (epoch : Option ℕ) → b ≡ answered s a epoch value → a.turn < turn → (stand ≡ Asks → length a.deeds + 1 < count s)
+    → (stand ≡ Prepares → length a.deeds + 1 ≡ count s) → Next s p (with_asker p (Some b)) → Next s p (with_asker p (Some (moved b stand turn)))
+moves_on s p a b stand turn value epoch is past left all n =
     let longer : length b.deeds ≡ length a.deeds + 1 = ap (λ (x : Asker). length x.deeds) is ∙ length_push a.deeds (next_deed s a value) in
     let rests : b.stand ≡ Rests = ap (λ (x : Asker). x.stand) is in
     let same_turn : b.turn ≡ a.turn = ap (λ (x : Asker). x.turn) is in
-    next_both s p (with_asker p (Some b)) (with_asker p (Some (moved b Prepares turn))) n
-    (moves s (with_asker p (Some b)) b Prepares turn refl n.fits
+    next_both s p (with_asker p (Some b)) (with_asker p (Some (moved b stand turn))) n
+    (moves s (with_asker p (Some b)) b stand turn refl n.fits
     (record {
-      answered = λ asks. absurd (cc);
+      answered = λ again. absurd (cc);
       turn_past = omega (arith, past, same_turn);
-      asks = λ e. absurd (cc);
-      all = λ e. omega (arith, longer, all);
-      stays = λ e. refl;
+      asks = λ e. let less = left e in (omega (arith, past, same_turn), omega (arith, longer, less));
+      all = λ e. let whole = all e in omega (arith, longer, whole);
+      stays = λ e. absurd (cc);
     }))
 
--- what the coordinator knows then, as the server of this number sees it
-ran_asker : (sc : Scenario) (declared : Transaction) (P : ℕ → Pair) (c : Coordinator) (done : DoneReply) (asked : Query) (server : ServerId) (value : ℤ) (at : ℕ) (epoch : Option ℕ)
-    → CoordinatorPaired sc declared P c → IsAwaited sc declared P c done asked server value → flattened (slice_get (slice_set c.epochs server.0 (Some done.epoch)) at) ≡ epoch
-    → asker_of at (coord.asks (coord.with_deed c server done asked value)).state ≡ moved (answered (site_of sc at declared) (asker_of at c) epoch value) Prepares (next_turn c)
-ran_asker sc declared P c done asked server value at epoch h k e =
-    let number : done.query ≡ length c.deeds + 1 = subst (λ (p : Phase). PhaseNumbered p c.deeds) k.awaits h.numbered in
-    let deed : coord.deed_of done.query asked value ≡ deed_at declared (length c.deeds + 1) value =
-    ap (λ (x : Action). record { query = done.query; item = item_of asked; action = x; value = value }) (sym k.writes)
-    ∙ (ap (λ (found : Option Query). run.deed_of done.query found value) (sym k.asked_is) ∙ ap (λ (n : ℕ). deed_at declared n value) number) in
-    ap (λ (x : Option ℕ). record { stand = Prepares; turn = next_turn c; epoch = x; deeds = c.deeds ++ coord.deed_of done.query asked value ∷ [] }) e
-    ∙ ap (λ (x : Deed). record { stand = Prepares; turn = next_turn c; epoch = epoch; deeds = c.deeds ++ x ∷ [] }) deed
+-- a coordinator that has the deed of the answer, in its next phase
+abbrev gone_on : Coordinator → ServerId → DoneReply → Query → ℤ → Phase → Coordinator
+gone_on c server done asked value now = record (coord.with_deed c server done asked value) { turn = next_turn c; phase = now }
 
--- the next turn, and that all queries have run
-ran_counts : (sc : Scenario) (declared : Transaction) (P : ℕ → Pair) (c : Coordinator) (done : DoneReply) (asked : Query) (server : ServerId) (value : ℤ) → CoordinatorPaired sc declared P c
-    → IsAwaited sc declared P c done asked server value → (c.turn ≤ next_turn c) × (length c.deeds + 1 ≡ length declared.queries)
-ran_counts sc declared P c done asked server value h k =
+-- what the coordinator knows then, as the server of this number sees it
+ran_asker : (sc : Scenario) (declared : Transaction) (P : ℕ → Pair) (c : Coordinator) (done : DoneReply) (asked : Query) (server : ServerId) (value : ℤ) (now : Phase) (at : ℕ) (epoch : Option ℕ)
+    → CoordinatorPaired sc declared P c → IsAwaited sc declared P c done asked server value → flattened (slice_get (slice_set c.epochs server.0 (Some done.epoch)) at) ≡ epoch
+    → asker_of at (gone_on c server done asked value now) ≡ moved (answered (site_of sc at declared) (asker_of at c) epoch value) (stand_of now) (next_turn c)
+ran_asker sc declared P c done asked server value now at epoch h k e =
     let number : done.query ≡ length c.deeds + 1 = subst (λ (p : Phase). PhaseNumbered p c.deeds) k.awaits h.numbered in
-    let rises : next_turn c ≡ c.turn + 1 = turn_rises c h.low in
-    (omega (arith, rises), sym number ∙ ran_all declared done.query asked k.asked_is k.last)
+    let deed : deed_of done.query asked value ≡ deed_at declared (length c.deeds + 1) value =
+    ap (λ (found : Option Query). deed_asked done.query found value) (sym k.asked_is) ∙ ap (λ (n : ℕ). deed_at declared n value) number in
+    ap (λ (x : Option ℕ). record { stand = stand_of now; turn = next_turn c; epoch = x; deeds = c.deeds ++ deed_of done.query asked value ∷ [] }) e
+    ∙ ap (λ (x : Deed). record { stand = stand_of now; turn = next_turn c; epoch = epoch; deeds = c.deeds ++ x ∷ [] }) deed
+
+-- the next phase: a query that is left is asked, or after all of them the servers are to prepare
+record GoesOn (declared : Transaction) (c : Coordinator) (now : Phase) : Type 0 where
+  pub asks : stand_of now ≡ Asks → length c.deeds + 1 < length declared.queries
+  pub all : stand_of now ≡ Prepares → length c.deeds + 1 ≡ length declared.queries
 
 -- at the server that was asked
-ran_here : (sc : Scenario) (declared : Transaction) (P : ℕ → Pair) (c : Coordinator) (done : DoneReply) (asked : Query) (server : ServerId) (value : ℤ) → CoordinatorPaired sc declared P c
-    → IsAwaited sc declared P c done asked server value
-    → Next (site_of sc server.0 declared) (P server.0) (with_asker (P server.0) (asker_up server.0 (coord.asks (coord.with_deed c server done asked value)).state))
-ran_here sc declared P c done asked server value h k =
+ran_here : (sc : Scenario) (declared : Transaction) (P : ℕ → Pair) (c : Coordinator) (done : DoneReply) (asked : Query) (server : ServerId) (value : ℤ) (now : Phase) → CoordinatorPaired sc declared P c
+    → IsAwaited sc declared P c done asked server value → GoesOn declared c now
+    → Next (site_of sc server.0 declared) (P server.0) (with_asker (P server.0) (Some (asker_of server.0 (gone_on c server done asked value now))))
+ran_here sc declared P c done asked server value now h k on =
     let s = site_of sc server.0 declared in
     let a = asker_of server.0 c in
     let is = asker_there sc declared P c server.0 h (ap is_undecided k.awaits) in
-    let counts = ran_counts sc declared P c done asked server value h k in
+    let rises : next_turn c ≡ c.turn + 1 = turn_rises c h.low in
     let kept : flattened (slice_get (slice_set c.epochs server.0 (Some done.epoch)) server.0) ≡ Some done.epoch = ap flattened (set_here c.epochs server.0 (Some done.epoch) (let exists = k.exists in let places = h.places in omega (arith, places, exists))) in
-    subst (λ (b : Asker). Next s (P server.0) (with_asker (P server.0) (Some b))) (sym (ran_asker sc declared P c done asked server value server.0 (Some done.epoch) h k kept))
-    (moves_on s (P server.0) a (answered s a (Some done.epoch) value) (next_turn c) value (Some done.epoch) refl counts.0 counts.1
+    subst (λ (b : Asker). Next s (P server.0) (with_asker (P server.0) (Some b))) (sym (ran_asker sc declared P c done asked server value now server.0 (Some done.epoch) h k kept))
+    (moves_on s (P server.0) a (answered s a (Some done.epoch) value) (stand_of now) (next_turn c) value (Some done.epoch) refl (omega (arith, rises)) on.asks on.all
     (takes s (P server.0) a done value is (h.fits server.0) (ap stand_of k.awaits) k.turn k.ran))
 
 -- and at every other
-ran_elsewhere : (sc : Scenario) (declared : Transaction) (P : ℕ → Pair) (c : Coordinator) (done : DoneReply) (asked : Query) (server : ServerId) (value : ℤ) (at : ℕ) → (server.0 == at) ≡ false → CoordinatorPaired sc declared P c
-    → IsAwaited sc declared P c done asked server value
-    → Next (site_of sc at declared) (P at) (with_asker (P at) (asker_up at (coord.asks (coord.with_deed c server done asked value)).state))
-ran_elsewhere sc declared P c done asked server value at apart h k =
+ran_elsewhere : (sc : Scenario) (declared : Transaction) (P : ℕ → Pair) (c : Coordinator) (done : DoneReply) (asked : Query) (server : ServerId) (value : ℤ) (now : Phase) (at : ℕ) → (server.0 == at) ≡ false
+    → CoordinatorPaired sc declared P c → IsAwaited sc declared P c done asked server value → GoesOn declared c now
+    → Next (site_of sc at declared) (P at) (with_asker (P at) (Some (asker_of at (gone_on c server done asked value now))))
+ran_elsewhere sc declared P c done asked server value now at apart h k on =
     let s0 = site_of sc server.0 declared in
     let t : Taken s0 (P server.0) (asker_of server.0 c) done value =
     taken s0 (P server.0) (asker_of server.0 c) done value (asker_there sc declared P c server.0 h (ap is_undecided k.awaits)) (ap stand_of k.awaits) k.turn k.ran in
     let s = site_of sc at declared in
     let a = asker_of at c in
     let is = asker_there sc declared P c at h (ap is_undecided k.awaits) in
-    let counts = ran_counts sc declared P c done asked server value h k in
+    let rises : next_turn c ≡ c.turn + 1 = turn_rises c h.low in
     let not_here : here s (length c.deeds + 1) ≡ false = one_home sc declared server.0 at (length c.deeds + 1) (λ same. let one = eq-eqb server.0 at same in cc) t.is_here in
     let kept : flattened (slice_get (slice_set c.epochs server.0 (Some done.epoch)) at) ≡ a.epoch = ap flattened (set_elsewhere c.epochs server.0 at (Some done.epoch) apart) in
-    subst (λ (b : Asker). Next s (P at) (with_asker (P at) (Some b))) (sym (ran_asker sc declared P c done asked server value at a.epoch h k kept))
-    (moves_on s (P at) a (answered s a a.epoch value) (next_turn c) value a.epoch refl counts.0 counts.1 (elsewhere s (P at) a value is (h.fits at) (ap stand_of k.awaits) not_here t.asked))
+    subst (λ (b : Asker). Next s (P at) (with_asker (P at) (Some b))) (sym (ran_asker sc declared P c done asked server value now at a.epoch h k kept))
+    (moves_on s (P at) a (answered s a a.epoch value) (stand_of now) (next_turn c) value a.epoch refl (omega (arith, rises)) on.asks on.all
+    (elsewhere s (P at) a value is (h.fits at) (ap stand_of k.awaits) not_here t.asked))
 
-ran_at : (sc : Scenario) (declared : Transaction) (P : ℕ → Pair) (c : Coordinator) (done : DoneReply) (asked : Query) (server : ServerId) (value : ℤ) (at : ℕ) (b : Bool) → (server.0 == at) ≡ b
-    → CoordinatorPaired sc declared P c → IsAwaited sc declared P c done asked server value
-    → Next (site_of sc at declared) (P at) (with_asker (P at) (asker_up at (coord.asks (coord.with_deed c server done asked value)).state))
-ran_at sc declared P c done asked server value at false e h k = ran_elsewhere sc declared P c done asked server value at e h k
-ran_at sc declared P c done asked server value at true e h k =
-    subst (λ (n : ℕ). Next (site_of sc n declared) (P n) (with_asker (P n) (asker_up n (coord.asks (coord.with_deed c server done asked value)).state))) (eqb-true server.0 at e)
-    (ran_here sc declared P c done asked server value h k)
+ran_by : (sc : Scenario) (declared : Transaction) (P : ℕ → Pair) (c : Coordinator) (done : DoneReply) (asked : Query) (server : ServerId) (value : ℤ) (now : Phase) (at : ℕ) (b : Bool) → (server.0 == at) ≡ b
+    → CoordinatorPaired sc declared P c → IsAwaited sc declared P c done asked server value → GoesOn declared c now
+    → Next (site_of sc at declared) (P at) (with_asker (P at) (Some (asker_of at (gone_on c server done asked value now))))
+ran_by sc declared P c done asked server value now at false e h k on = ran_elsewhere sc declared P c done asked server value now at e h k on
+ran_by sc declared P c done asked server value now at true e h k on =
+    subst (λ (n : ℕ). Next (site_of sc n declared) (P n) (with_asker (P n) (Some (asker_of n (gone_on c server done asked value now))))) (eqb-true server.0 at e)
+    (ran_here sc declared P c done asked server value now h k on)
 
-ran_asks : (sc : Scenario) (declared : Transaction) (P : ℕ → Pair) (c : Coordinator) (done : DoneReply) (asked : Query) (server : ServerId) (value : ℤ) → CoordinatorPaired sc declared P c
-    → IsAwaited sc declared P c done asked server value → RowAsks sc declared P (coord.asks (coord.with_deed c server done asked value))
-ran_asks sc declared P c done asked server value h k =
-    record { next = λ at. ran_at sc declared P c done asked server value at (server.0 == at) refl h k; numbered = tt; requests = (tt, tt) }
+ran_at : (sc : Scenario) (declared : Transaction) (P : ℕ → Pair) (c : Coordinator) (done : DoneReply) (asked : Query) (server : ServerId) (value : ℤ) (now : Phase) → CoordinatorPaired sc declared P c
+    → IsAwaited sc declared P c done asked server value → GoesOn declared c now → (at : ℕ)
+    → Next (site_of sc at declared) (P at) (with_asker (P at) (Some (asker_of at (gone_on c server done asked value now))))
+ran_at sc declared P c done asked server value now h k on at = ran_by sc declared P c done asked server value now at (server.0 == at) refl h k on
+
+-- the last query ran
+last_asks : (sc : Scenario) (declared : Transaction) (P : ℕ → Pair) (c : Coordinator) (done : DoneReply) (asked : Query) (server : ServerId) (value : ℤ) → CoordinatorPaired sc declared P c
+    → IsAwaited sc declared P c done asked server value → query_at declared (done.query + 1) ≡ None → RowAsks sc declared P (coord.asks (coord.with_deed c server done asked value))
+last_asks sc declared P c done asked server value h k none =
+    let number : done.query ≡ length c.deeds + 1 = subst (λ (p : Phase). PhaseNumbered p c.deeds) k.awaits h.numbered in
+    let all : done.query ≡ length declared.queries = ran_all declared done.query asked k.asked_is none in
+    record {
+      next = ran_at sc declared P c done asked server value (phase.Asking (coord.first_round (coord.with_deed c server done asked value))) h k (record { asks = λ e. absurd (cc); all = λ e. sym number ∙ all });
+      numbered = tt;
+      requests = (tt, tt);
+    }
+
+-- a further query is asked
+next_asks : (sc : Scenario) (declared : Transaction) (P : ℕ → Pair) (c : Coordinator) (done : DoneReply) (asked : Query) (server next : ServerId) (value : ℤ) → CoordinatorPaired sc declared P c
+    → IsAwaited sc declared P c done asked server value → next_number done.query ≡ done.query + 1 → IsHome sc c (next_number done.query) next
+    → RowAsks sc declared P (coord.sends_query sc (coord.with_deed c server done asked value) (next_number done.query) next)
+next_asks sc declared P c done asked server next value h k further home =
+    let now = coord.with_deed c server done asked value in
+    let number : done.query ≡ length c.deeds + 1 = subst (λ (p : Phase). PhaseNumbered p c.deeds) k.awaits h.numbered in
+    let longer : length now.deeds ≡ length c.deeds + 1 = length_push c.deeds (deed_of done.query asked value) in
+    let numbered : next_number done.query ≡ length now.deeds + 1 = omega (arith, number, longer, further) in
+    let place : next_number done.query ≡ suc (length c.deeds + 1) = omega (arith, number, further) in
+    let asked_is : query_at declared (next_number done.query) ≡ Some home.asked = own_query sc c declared (next_number done.query) home.asked h.declared_is home.asked_is in
+    let within : length c.deeds + 1 < length declared.queries = slice_get_within declared.queries (length c.deeds + 1) home.asked (subst (λ (n : ℕ). query_at declared n ≡ Some home.asked) place asked_is) in
+    let event = ran_at sc declared P c done asked server value (phase.Querying (next_number done.query) None) h k (record { asks = λ e. within; all = λ e. absurd (cc) }) in
+    record {
+      next = event;
+      numbered = numbered;
+      requests = (
+        (
+          refl,
+          query_requested sc declared (with_asker (P next.0) (Some (asker_of next.0 (coord.sends_query sc now (next_number done.query) next).state))) now (next_number done.query) next h.declared_is (event next.0).fits refl numbered
+              (record { asked = home.asked; asked_is = home.asked_is; server_is = home.server_is }),
+        ),
+        tt,
+      );
+    }
 
 -- ---- Tell
 
@@ -378,33 +377,24 @@ abbrev pub AnswerPairs : Scenario → Transaction → (ℕ → Pair) → Actor �
 AnswerPairs sc declared P (actor.Server at) (body.Done done) = DoneFits (site_of sc at.0 declared) (P at.0) done
 AnswerPairs sc declared P _ _ = Unit {0}
 
-written_writes : (asked : Query) → is_some (written_constant asked) ≡ true → action_of asked ≡ action.Write
-written_writes (query.Write item expr) e = refl
-written_writes (query.Read item into) e = absurd (cc)
-
--- the awaited answer to the last query
-last_awaited : (sc : Scenario) (declared : Transaction) (P : ℕ → Pair) (c : Coordinator) (mail : Mail) (done : DoneReply) (server : ServerId) (asked : Query) (value : ℤ) → CoordinatorPaired sc declared P c
-    → AnswerPairs sc declared P mail.letter.from mail.letter.body → server.0 < length sc.servers → IsLastAnswer sc c mail done server asked value → IsAwaited sc declared P c done asked server value
-last_awaited sc declared P c mail done server asked value h m exists k =
+answer_awaited : (sc : Scenario) (declared : Transaction) (P : ℕ → Pair) (c : Coordinator) (mail : Mail) (done : DoneReply) (server : ServerId) (asked : Query) (value : ℤ) → CoordinatorPaired sc declared P c
+    → AnswerPairs sc declared P mail.letter.from mail.letter.body → server.0 < length sc.servers → IsRanAnswer sc c mail done server asked value → IsAwaited sc declared P c done asked server value
+answer_awaited sc declared P c mail done server asked value h m exists k =
     let awaits : c.phase ≡ phase.Querying done.query None = awaits_is c c.phase done k.awaited k.plain in
     let present : awaits_query c (phase.Querying done.query None) done ≡ true = subst (λ (p : Phase). awaits_query c p done ≡ true) awaits k.awaited in
     let fits : DoneFits (site_of sc server.0 declared) (P server.0) done = subst (λ (from : Actor). AnswerPairs sc declared P from (body.Done done)) (from_server mail.letter.from server k.from_is) (subst (AnswerPairs sc declared P mail.letter.from) k.said_is m) in
-    let first = and_parts (is_some (written_constant asked) && nat_lt done.query (2 ^ 32 - 1)) (is_none (query_of sc c (done.query + 1))) k.last in
-    let writes = (and_parts (is_some (written_constant asked)) (nat_lt done.query (2 ^ 32 - 1)) first.0).0 in
     record {
       awaits = awaits;
       turn = eqb-true done.turn c.turn (and_parts (done.turn == c.turn) (done.query == done.query) present).0;
       asked_is = own_query sc c declared done.query asked h.declared_is k.asked_is;
       server_is = k.server_is;
-      writes = written_writes asked writes;
       ran = subst (AnswerFits (site_of sc server.0 declared) (P server.0) done) k.answer_is fits;
-      last = sym (ap (λ (found : Option Transaction). option_and_then (λ (d : Transaction). query_at d (done.query + 1)) found) h.declared_is) ∙ none_is (query_of sc c (done.query + 1)) first.1;
       exists = exists;
     }
-  where
-    none_is : (found : Option Query) → is_none found ≡ true → found ≡ None
-    none_is None e = refl
-    none_is (Some q) e = absurd (cc)
+
+-- a number that is no query of the transaction
+no_query : (sc : Scenario) (c : Coordinator) (declared : Transaction) (number : ℕ) → slice_get sc.txns c.txn.0 ≡ Some declared → query_of sc c number ≡ None → query_at declared number ≡ None
+no_query sc c declared number e f = sym (ap (λ (found : Option Transaction). option_and_then (λ (d : Transaction). query_at d number) found) e) ∙ f
 
 server_exists : (sc : Scenario) (asked : Query) (server : ServerId) → IsValid sc → server_of sc asked ≡ Some server → server.0 < length sc.servers
 server_exists sc asked server valid e = found (slice_get sc.items (item_of asked).0) refl e
@@ -414,13 +404,18 @@ server_exists sc asked server valid e = found (slice_get sc.items (item_of asked
     found (Some item) f g = subst (λ (at : ServerId). at.0 < length sc.servers) (same_Some item.server server g) (each_get (IsValidItem sc) sc.items (item_of asked).0 item valid.items f).server
 
 -- every row of a coordinator on receipt of a mail
-pub coordinator_row_asks : (sc : Scenario) (declared : Transaction) (P : ℕ → Pair) (c : Coordinator) (mail : Mail) → IsValid sc → CoordinatorPaired sc declared P c
+pub coordinator_row_asks : (sc : Scenario) (declared : Transaction) (P : ℕ → Pair) (c : Coordinator) (mail : Mail) → IsValid sc → HaveHomes sc → CoordinatorPaired sc declared P c
     → AnswerPairs sc declared P mail.letter.from mail.letter.body → RowAsks sc declared P (coord.coordinator_row sc c mail)
-coordinator_row_asks sc declared P c mail valid h m =
+coordinator_row_asks sc declared P c mail valid homes h m =
+    let awaited = λ (done : DoneReply) (server : ServerId) (asked : Query) (value : ℤ) (k : IsRanAnswer sc c mail done server asked value).
+    answer_awaited sc declared P c mail done server asked value h m (server_exists sc asked server valid k.server_is) k in
     coordinator_by sc c mail (RowAsks sc declared P)
     (record {
       ignored = ignores_asks sc declared P c h;
-      ran_last = λ done server asked value k. ran_asks sc declared P c done asked server value h (last_awaited sc declared P c mail done server asked value h m (server_exists sc asked server valid k.server_is) k);
+      ran_next = λ done server asked value next k home.
+          next_asks sc declared P c done asked server next value h (awaited done server asked value k) (next_is sc c done.query asked homes k.asked_is) (home_is sc c (next_number done.query) next home);
+      ran_last = λ done server asked value k none.
+          last_asks sc declared P c done asked server value h (awaited done server asked value k) (no_query sc c declared (done.query + 1) h.declared_is (last_is sc c done.query asked homes k.asked_is none));
       told_first = λ tell round k. prepares_asks sc declared P c round (coord.staple_of tell mail.sent) h k.asking;
       counted = λ reply round staple server verdicts other others y e. record {
         next = λ at. still_asks sc declared P c (record c { phase = phase.Checking (coord.with_reply round server verdicts) staple }) at h (counted_asker at c round (coord.with_reply round server verdicts) staple y.checking);
@@ -429,6 +424,7 @@ coordinator_row_asks sc declared P c mail valid h m =
       };
       committed = λ reply round staple server verdicts y e first agreed. ends_asks sc declared P c (coord.commits c round.number verdicts).state outcome.Commit c.servers h refl tt;
       denied = λ reply round staple server verdicts verdict y e f. ends_asks sc declared P c (coord.aborts c (cause.Denied (coord.denied_by verdict))).state outcome.Abort c.servers h refl tt;
+      refused = λ reply round staple server number value k. ends_asks sc declared P c (coord.aborts c (cause.No (coord.refused_by server number value))).state outcome.Abort c.servers h refl tt;
       acknowledged = λ ack ended awaited server a. record {
         next = λ at. still_asks sc declared P c (record c { phase = phase.Ending ended (coord.without awaited server) }) at h (sym (ap (λ (p : Phase). if is_undecided p then Some (asker_of at c) else None) a.ending));
         numbered = tt;

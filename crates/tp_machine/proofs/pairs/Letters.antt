@@ -1,7 +1,9 @@
 -- What is sent fits the state in which it is sent.
+use Rattle.tp_machine.specs.Sums.{asked_value}
 use Rattle.std.proofs.Common.{◌≡◌, ⊎_elim, ℕ, ◌+◌, List, [], length, take, true, Option, Some, None, IfSome, Contains, refl, sym, ap, subst, ◌∙◌, arith}
 use Rattle.std.proofs.lemmas.List.{take_all}
 use Rattle.tp_model.specs.Words.{Deed, DoneReply, PrepareRequest, QueryRequest}
+use Rattle.tp_machine.specs.Sums.{asked_value}
 use Rattle.tp_machine.specs.declared.server.Entry.{Entry}
 use Rattle.tp_machine.proofs.pairs.Fits.{AskerFits, Covers, DoneFits, EntryFits, Fits, Matches, OneMore, Pairing, PrepareFits, PrepareLive, QueryFits, QueryLive, Tells}
 use Rattle.tp_machine.proofs.pairs.Grows.{covers_more}
@@ -9,7 +11,6 @@ use Rattle.tp_machine.proofs.pairs.Lists.{answer_each, answer_in, of_some, to_so
 use Rattle.tp_machine.proofs.pairs.Loses.{tells_as}
 use Rattle.tp_machine.proofs.pairs.Pair.{Asker, Asks, Pair, Prepares, got}
 use Rattle.tp_machine.proofs.pairs.Site.{IsUpto, Site, here, here_within, in_upto, upto, upto_none}
-use Rattle.tp_machine.proofs.serial_data.Runs.{asked_value}
 
 -- ---- what the coordinator got
 

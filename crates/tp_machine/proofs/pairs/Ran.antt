@@ -1,14 +1,13 @@
 -- A query that waits runs: its deed is the next one at the server, in the epoch of the entry, and it is answered.
-use Rattle.std.proofs.Common.{◌≡◌, ◌⊎◌, inl, inr, ⊎_elim, ℕ, ◌+◌, ◌<◌, ◌≤◌, ℤ, List, [], ◌∷◌, ◌++◌, length, true, false, Option, Some, None, is_some, IfSome, Contains, option_map, refl, sym, ap, subst, ◌∙◌, arith}
+use Rattle.std.proofs.Common.{Contains, IfSome, List, None, Option, Some, [], ap, arith, false, inl, inr, is_some, length, option_map, refl, subst, sym, take, true, ℕ, ℤ, ⊎_elim, ◌++◌, ◌+◌, ◌<◌, ◌∙◌, ◌∷◌, ◌≡◌, ◌≤◌, ◌⊎◌}
 use Rattle.std.proofs.lemmas.Bool.{cases_lt, false_from_ne_true}
 use Rattle.std.proofs.lemmas.List.Elements.{Contains-push, Contains-push_cases}
 use Rattle.std.proofs.lemmas.Option.{same_Some}
-use Rattle.tp_model.specs.Words.{Deed, DoneReply, QueryRequest, Verdict}
 use Rattle.tp_model.specs.Words.answer
-use Rattle.tp_machine.specs.declared.server.Entry.{Entry}
+use Rattle.tp_model.specs.Words.{Deed, DoneReply, QueryRequest, Verdict}
 use Rattle.tp_machine.proofs.basics.Lists.{each_more}
 use Rattle.tp_machine.proofs.pairs.Entries.{down_none, settled_none, with_entry}
-use Rattle.tp_machine.proofs.pairs.Fits.{AnswerFits, AskerFits, Covers, DoneFits, EntryFits, Fits, IsFront, IsGone, IsThere, Live, Matches, Pairing, QueryLive, RanFits, RanLive, Tells, There, Waits}
+use Rattle.tp_machine.proofs.pairs.Fits.{AnswerFits, AskerFits, Covers, DoneFits, EntryFits, Fits, IsAsked, IsFront, IsGone, IsThere, Live, Matches, Pairing, QueryLive, RanFits, RanLive, Tells, There, Waits}
 use Rattle.tp_machine.proofs.pairs.Follows.{Follows, Next, answers_follow, onward_same}
 use Rattle.tp_machine.proofs.pairs.Grows.{Grows, HasMore}
 use Rattle.tp_machine.proofs.pairs.Lists.{answer_in, answer_more, answer_new, of_some, some_as}
@@ -16,6 +15,8 @@ use Rattle.tp_machine.proofs.pairs.Loses.{same_held}
 use Rattle.tp_machine.proofs.pairs.Pair.{Asker, Held, Pair, entry_held, got, held, held_up, if_voted, numbers, numbers_more, voted_held}
 use Rattle.tp_machine.proofs.pairs.Site.{Site, here, in_upto, upto, upto_here, upto_in, upto_none, upto_same}
 use Rattle.tp_machine.proofs.serial_data.Runs.{deed_at}
+use Rattle.tp_machine.specs.Sums.{asked_value}
+use Rattle.tp_machine.specs.declared.server.Entry.{Entry}
 
 -- ---- the numbers of an entry with a query that waits
 
@@ -132,14 +133,14 @@ run_grows p q epoch deeds deed same up settled old new =
           subst (λ (y : Held). HasMore q y ⊎ IsGone q y.epoch) same_x (inl (record { more = deed ∷ []; found = new }));
     }
 
--- the answer to the query that waited
-pub record IsAnswer (entry : Entry) (w : QueryRequest) (done : DoneReply) (value : ℤ) : Type 0 where
+-- the answer to the query that waited. A value that was asked for is the one that it has
+pub record IsAnswer (s : Site) (entry : Entry) (w : QueryRequest) (done : DoneReply) (value : ℤ) : Type 0 where
   pub turn : done.turn ≡ w.turn
   pub number : done.query ≡ w.query
   pub epoch : done.epoch ≡ entry.epoch
   pub verdict : Option Verdict
   pub answer : done.answer ≡ answer.Ran value verdict
-  pub asked : IfSome w.value (λ (asked : ℤ). value ≡ asked)
+  pub asked : (deeds : List Deed) → w.value ≡ asked_value s.txn deeds w.query → IsAsked s deeds w.query value
 
 -- the entry after the query ran
 abbrev pub ran : Entry → Deed → DoneReply → Entry
@@ -150,13 +151,13 @@ named_epoch : (s : Site) (a : Asker) (before epoch : ℕ) (named : Option ℕ) �
 named_epoch s a before epoch None first kept same = inl (first refl)
 named_epoch s a before epoch (Some e) first kept same = inr (kept ∙ ap Some same)
 
-answer_live : (s : Site) (entry : Entry) (w : QueryRequest) (done : DoneReply) (value : ℤ) (before : ℕ) (a : Asker) → IsAnswer entry w done value → (w.epoch ≡ None → upto s before ≡ []) → IfSome w.epoch (λ (e : ℕ). e ≡ entry.epoch)
+answer_live : (s : Site) (entry : Entry) (w : QueryRequest) (done : DoneReply) (value : ℤ) (before : ℕ) (a : Asker) → IsAnswer s entry w done value → w.query ≡ before + 1 → (w.epoch ≡ None → upto s before ≡ []) → IfSome w.epoch (λ (e : ℕ). e ≡ entry.epoch)
     → QueryLive s w before a → RanLive s done value before a
-answer_live s entry w done value before a is first same h =
+answer_live s entry w done value before a is number first same h =
     record {
       live = subst (λ (t : ℕ). Live t before a) (sym is.turn) h.live;
       epoch = subst (λ (e : ℕ). (upto s before ≡ []) ⊎ (a.epoch ≡ Some e)) (sym is.epoch) (named_epoch s a before entry.epoch w.epoch first h.epoch same);
-      asked = subst (λ (o : Option ℤ). IfSome o (λ (asked : ℤ). value ≡ asked)) h.value is.asked;
+      asked = subst (λ (n : ℕ). IsAsked s (take before a.deeds) n value) number (is.asked (take before a.deeds) (h.value ∙ ap (asked_value s.txn (take before a.deeds)) (sym number)));
     }
 
 -- nothing was voted on
@@ -164,7 +165,7 @@ unvoted_held : (entry : Entry) → entry.ballot ≡ None → voted_held (Some en
 unvoted_held entry unvoted = ap (λ b. if_voted b (entry_held entry)) unvoted
 
 -- the query that waits runs
-pub runs : (s : Site) (p : Pair) (entry : Entry) (w : QueryRequest) (done : DoneReply) (value : ℤ) → p.up ≡ true → p.entry ≡ Some entry → entry.waiting ≡ Some w → Fits s p → IsAnswer entry w done value
+pub runs : (s : Site) (p : Pair) (entry : Entry) (w : QueryRequest) (done : DoneReply) (value : ℤ) → p.up ≡ true → p.entry ≡ Some entry → entry.waiting ≡ Some w → Fits s p → IsAnswer s entry w done value
     → Next s p (with_entry p (ran entry (deed_at s.txn w.query value) done))
 runs s p entry w done value up is waiting h answered =
     let deed = deed_at s.txn w.query value in
@@ -195,7 +196,7 @@ runs s p entry w done value up is waiting h answered =
         found = subst (λ (e : ℕ). IsThere q e (entry.deeds ++ deed ∷ [])) (sym answered.epoch) now;
         says = subst (λ (n : ℕ). Contains (entry.deeds ++ deed ∷ []) (deed_at s.txn n value)) number (Contains-push entry.deeds deed);
       });
-      live = some_as (QueryLive s w before) (RanLive s done value before) p.asker (λ a there live. answer_live s entry w done value before a answered waits.fits.first waits.epoch_is live) waits.fits.live;
+      live = some_as (QueryLive s w before) (RanLive s done value before) p.asker (λ a there live. answer_live s entry w done value before a answered number waits.fits.first waits.epoch_is live) waits.fits.live;
     } in
     record {
       fits = record {

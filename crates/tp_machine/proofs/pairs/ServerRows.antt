@@ -1,20 +1,21 @@
 -- Deeds and epochs, the server's rows: each is an event at its own transaction, and nothing at the others.
-use Rattle.std.proofs.Common.{Bool, IfSome, List, None, Option, Some, [], ap, arith, false, if◌then◌else◌, is_none, is_some, length, map, option_and_then, refl, slice_get, slice_set, subst, sym, true, ℕ, ℤ, ◌&&◌, ◌<◌, ◌==◌, ◌∙◌, ◌∷◌, ◌≡◌}
-use Rattle.std.proofs.lemmas.Bool.{eqb-true}
+use Rattle.std.specs.Option.{option_map_or}
+use Rattle.std.proofs.Common.{Bool, IfSome, List, None, Option, Some, [], ap, arith, false, find, if◌then◌else◌, is_some, length, not, option_and_then, refl, slice_get, slice_set, subst, sym, true, ℕ, ℤ, ⊎_elim, ◌++◌, ◌<◌, ◌==◌, ◌∙◌, ◌∷◌, ◌≡◌, ◌⊎◌}
+use Rattle.std.proofs.lemmas.Bool.{eqb-true, not-false}
 use Rattle.std.proofs.lemmas.List.{length-set}
-use Rattle.std.proofs.lemmas.Option.{cond_some, same_Some}
+use Rattle.std.proofs.lemmas.Option.{same_Some}
 use Rattle.tp_types.proofs.ListLemmas.{number_itself}
 use Rattle.tp_types.specs.Effect.{Effect, ignores, sends}
 use Rattle.tp_types.specs.Table.{flattened}
 use Rattle.tp_model.specs.Facts.{first_of}
 use Rattle.tp_model.specs.Ids.{same_txn}
-use Rattle.tp_model.specs.Queries.{item_of, query_at}
-use Rattle.tp_model.specs.Words.action
+use Rattle.tp_model.specs.Queries.{query_at}
 use Rattle.tp_model.specs.Words.actor
 use Rattle.tp_model.specs.Words.body
 use Rattle.tp_model.specs.Words.log
+use Rattle.tp_model.specs.Words.no
 use Rattle.tp_model.specs.Words.query
-use Rattle.tp_model.specs.Words.{Action, Actor, Body, DecideRequest, Deed, DoneReply, ItemId, Letter, Mail, PrepareRequest, Prepared, Query, QueryRequest, Record, Scenario, ServerId, Settled, Transaction, TxnId}
+use Rattle.tp_model.specs.Words.{Body, DecideRequest, Deed, DoneReply, Letter, Mail, No, PrepareRequest, Prepared, Query, QueryRequest, Record, Scenario, ServerId, Settled, Transaction, TxnId}
 use Rattle.tp_machine.proofs.agreement.Server.{ServerAgrees, open_unsettled}
 use Rattle.tp_machine.proofs.agreement.Steps.{same_txn_from}
 use Rattle.tp_machine.proofs.basics.Ids.{same_txn_is}
@@ -34,16 +35,18 @@ use Rattle.tp_machine.proofs.pairs.Site.{Site}
 use Rattle.tp_machine.proofs.pairs.Votes as vote
 use Rattle.tp_machine.proofs.pairs.Votes.{IsVoteOn, forces, with_ballot}
 use Rattle.tp_machine.proofs.serial_data.Lists.{set_elsewhere}
-use Rattle.tp_machine.proofs.serial_data.Runs.{action_of, deed_at, deed_of}
-use Rattle.tp_machine.proofs.walks.ServerRows.{server_by}
+use Rattle.tp_machine.proofs.serial_data.Runs.{deed_asked, deed_at}
+use Rattle.tp_machine.proofs.walks.ServerRows.{IsFirstHere, IsFurther, server_by}
 use Rattle.tp_machine.specs.Logs.{epoch_in, preparation_in, prepared_in, settled_in, settlement_in, voted_in, while_unsettled}
 use Rattle.tp_machine.specs.Machine.{log_with}
+use Rattle.tp_machine.specs.Runs.{deed_of}
 use Rattle.tp_machine.specs.Sound.{Each, IsSoundBody, IsSoundDone, IsSoundQuery, IsSoundServer}
+use Rattle.tp_machine.specs.Sums.{clamped_sum, registers_after, sum_asked}
 use Rattle.tp_machine.specs.declared.server.Ballot.{Ballot}
 use Rattle.tp_machine.specs.declared.server.Entry.{Entry}
-use Rattle.tp_machine.specs.server.Row as server
-use Rattle.tp_machine.specs.server.Row.{ack_letter, age_of, answer_to, answers, asked_item, begins, casts, done_reply, entry_at, first_entry, plain_write, prepared_record, restarts, server_row, settled_as, settles, verdict_on, written_item}
+use Rattle.tp_machine.specs.server.Row.{ack_letter, age_of, answer_to, answers, asked_query, casts, completes, done_reply, ends, entry_after, entry_at, no_letter, prepared_record, refused_as, refuses, restarts, server_row, settled_as, settles, value_of_run}
 use Rattle.tp_machine.specs.server.State.{Server}
+use Rattle.tp_machine.specs.server.Verdicts.{verdicts_on}
 
 -- ---- an act
 
@@ -210,14 +213,18 @@ answers_pairs sc A s kept q entry given h there own found =
 
 -- ---- a query runs
 
+none_named : (epoch : Option ℕ) → is_some epoch ≡ false → epoch ≡ None
+none_named None e = refl
+none_named (Some n) e = absurd (cc)
+
 -- a query runs at an entry as soon as it comes
 pub runs_at_once : (s : Site) (p : Pair) (entry : Entry) (q : QueryRequest) (done : DoneReply) (value : ℤ) → p.up ≡ true → p.entry ≡ Some entry → Fits s p → QueryFits s p q
-    → IfSome q.epoch (λ (e : ℕ). e ≡ entry.epoch) → answer_in q.query entry.answers ≡ None → entry.ballot ≡ None → IsAnswer entry q done value
+    → IfSome q.epoch (λ (e : ℕ). e ≡ entry.epoch) → answer_in q.query entry.answers ≡ None → entry.ballot ≡ None → IsAnswer s entry q done value
     → Next s p (with_entry p (ran entry (deed_at s.txn q.query value) done))
 runs_at_once s p entry q done value up is h asked epoch fresh unvoted answered =
     let waiting = changed entry (Some q) entry.answers in
     let kept : Next s p (with_entry p waiting) = keeps s p entry q is h asked epoch fresh unvoted in
-    let gives : IsAnswer waiting q done value = record {
+    let gives : IsAnswer s waiting q done value = record {
       turn = answered.turn;
       number = answered.number;
       epoch = answered.epoch;
@@ -227,69 +234,141 @@ runs_at_once s p entry q done value up is h asked epoch fresh unvoted answered =
     } in
     next_both s p (with_entry p waiting) (with_entry p (ran entry (deed_at s.txn q.query value) done)) kept (runs s (with_entry p waiting) waiting q done value up refl refl kept.fits gives)
 
--- a query that writes an item is a write of it
-written_is : (asked : Query) (item : ItemId) → written_item asked ≡ Some item → (item_of asked ≡ item) × (action_of asked ≡ action.Write)
-written_is (query.Write other expr) item e = (same_Some other item e, refl)
-written_is (query.Read other into) item e = absurd (cc)
+-- the value of a query that runs is the one that it is asked with, where it is asked with one
+value_asked : (s : Server) (q : QueryRequest) (run : Query) (value : ℤ) (declared : Transaction) (deeds : List Deed) (found : Option Query) → query_at declared q.query ≡ found → found ≡ Some run
+    → value_of_run s q run ≡ Some value → q.value ≡ option_and_then (sum_asked (registers_after declared deeds)) found → IfSome (option_and_then (sum_asked (registers_after declared deeds)) found) (λ (asked : ℤ). value ≡ asked)
+value_asked s q run value declared deeds None e is gives asked = absurd (cc)
+value_asked s q run value declared deeds (Some (query.Read item into)) e is gives asked = tt
+value_asked s q run value declared deeds (Some (query.Write item expr)) e is gives asked =
+    let same : query.Write item expr ≡ run = same_Some (query.Write item expr) run is in
+    let write : q.value ≡ Some value = subst (λ (found : Query). value_of_run s q found ≡ Some value) (sym same) gives in
+    same_Some value (clamped_sum (registers_after declared deeds) expr) (sym write ∙ asked)
 
--- the deed of a first write is that of its query
-deed_is_own : (q : QueryRequest) (declared : Transaction) (asked : Query) (item : Option ItemId) (value : Option ℤ) (deed : Deed) → query_at declared q.query ≡ Some asked → item ≡ written_item asked
-    → plain_write q item value ≡ Some deed → (deed ≡ deed_at declared q.query deed.value) × IfSome value (λ (v : ℤ). deed.value ≡ v)
-deed_is_own q declared asked None value deed e i w = absurd (cc)
-deed_is_own q declared asked (Some item) None deed e i w = absurd (cc)
-deed_is_own q declared asked (Some item) (Some value) deed e i w =
-    let parts = cond_some (is_none q.staple && is_none q.pin) (record { query = q.query; item = item; action = action.Write; value = value }) deed w in
-    let is : deed ≡ record { query = q.query; item = item; action = action.Write; value = value } = sym parts.1 in
-    let value_is : deed.value ≡ value = ap (λ (d : Deed). d.value) is in
-    let writes = written_is asked item (sym i) in
-    let own : deed_of q.query (Some asked) value ≡ deed_at declared q.query value = ap (λ (found : Option Query). deed_of q.query found value) (sym e) in (
-      is
-          ∙ (ap (λ (x : ItemId). record { query = q.query; item = x; action = action.Write; value = value }) (sym writes.0)
-          ∙ (ap (λ (x : Action). record { query = q.query; item = item_of asked; action = x; value = value }) (sym writes.1)
-          ∙ (own ∙ ap (deed_at declared q.query) (sym value_is)))),
-      value_is,
-    )
+-- what is known of a query that runs, beside its entry
+record IsRunOf (sc : Scenario) (s : Server) (q : QueryRequest) (query : Query) (value : ℤ) : Type 0 where
+  pub exists : q.txn.0 < length sc.txns
+  pub asked_is : asked_query sc q ≡ Some query
+  pub value_is : value_of_run s q query ≡ Some value
 
--- a first write, whose entry is made
-begins_pairs : (sc : Scenario) (A : TxnId → Option Asker) (s : Server) (kept : List Record) (sent : ℕ) (q : QueryRequest) (deed : Deed) → ServerPaired sc A s kept → settled_in q.txn kept ≡ None → entry_at s q.txn ≡ None
-    → q.epoch ≡ None → q.txn.0 < length sc.txns
-    → ((declared : Transaction) → slice_get sc.txns q.txn.0 ≡ Some declared → (deed ≡ deed_at declared q.query deed.value) × IfSome q.value (λ (v : ℤ). deed.value ≡ v))
+answer_is : (sc : Scenario) (s : Server) (p : Site) (q : QueryRequest) (query : Query) (value : ℤ) (entry : Entry) → IsRunOf sc s q query value → query_at p.txn q.query ≡ Some query
+    → IsAnswer p entry q (done_reply q entry.epoch (deed_of q.query query value)) value
+answer_is sc s p q query value entry k found =
+    record {
+      turn = refl;
+      number = refl;
+      epoch = refl;
+      verdict = None;
+      answer = refl;
+      asked = λ deeds asked. value_asked s q query value p.txn deeds (query_at p.txn q.query) refl found k.value_is asked;
+    }
+
+pub same_answer : (number : ℕ) (answers : List DoneReply) → answer_in number answers ≡ find (λ (given : DoneReply). given.query == number) answers
+same_answer number [] = refl
+same_answer number (first ∷ answers) = ap (λ (rest : Option DoneReply). if first.query == number then Some first else rest) (same_answer number answers)
+
+same_epochs : (q : QueryRequest) (epoch : Option ℕ) (entry : Entry) → option_map_or (λ (e : ℕ). not (e == entry.epoch)) epoch false ≡ false → IfSome epoch (λ (e : ℕ). e ≡ entry.epoch)
+same_epochs q None entry e = tt
+same_epochs q (Some named) entry e = eqb-true named entry.epoch (not-false (named == entry.epoch) e)
+
+pub no_ballot : (ballot : Option Ballot) → is_some ballot ≡ false → ballot ≡ None
+no_ballot None e = refl
+no_ballot (Some ballot) e = absurd (cc)
+
+-- a query runs at an entry that is there
+runs_further : (sc : Scenario) (A : TxnId → Option Asker) (s : Server) (kept : List Record) (q : QueryRequest) (query : Query) (entry : Entry) (value : ℤ) (declared : Transaction) → ServerPaired sc A s kept
+    → IsRunOf sc s q query value → slice_get sc.txns q.txn.0 ≡ Some declared → query_at declared q.query ≡ Some query → QueryFits (site_of sc s.server.0 declared) (pair_up q.txn (A q.txn) s kept) q → IsFurther s q entry
+    → Next (site_of sc s.server.0 declared) (pair_up q.txn (A q.txn) s kept)
+    (with_entry (pair_up q.txn (A q.txn) s kept) (ran entry (deed_at declared q.query value) (done_reply q entry.epoch (deed_of q.query query value))))
+runs_further sc A s kept q query entry value declared h k exists found asked further =
+    let site = site_of sc s.server.0 declared in
+    let p = pair_up q.txn (A q.txn) s kept in
+    runs_at_once site p entry q (done_reply q entry.epoch (deed_of q.query query value)) value refl further.found (h.fits q.txn declared exists) asked (same_epochs q q.epoch entry further.same_epoch)
+    (same_answer q.query entry.answers ∙ further.unanswered) (no_ballot entry.ballot further.unvoted) (answer_is sc s site q query value entry k found)
+
+-- or at the one that is made for it
+runs_first : (sc : Scenario) (A : TxnId → Option Asker) (s : Server) (kept : List Record) (sent : ℕ) (q : QueryRequest) (query : Query) (entry : Entry) (value : ℤ) (declared : Transaction) → ServerPaired sc A s kept
+    → settled_in q.txn kept ≡ None → IsRunOf sc s q query value → slice_get sc.txns q.txn.0 ≡ Some declared → query_at declared q.query ≡ Some query
+    → QueryFits (site_of sc s.server.0 declared) (pair_up q.txn (A q.txn) s kept) q → IsFirstHere s sent q entry
+    → Next (site_of sc s.server.0 declared) (pair_up q.txn (A q.txn) s kept)
+    (with_entry (pair_up q.txn (A q.txn) s kept) (ran entry (deed_at declared q.query value) (done_reply q entry.epoch (deed_of q.query query value))))
+runs_first sc A s kept sent q query entry value declared h fresh k exists found asked first =
+    let site = site_of sc s.server.0 declared in
+    let p = pair_up q.txn (A q.txn) s kept in
+    let age = age_of q sent in
+    let unsettled : p.settled ≡ false = ap is_some fresh in
+    let made : Next site p (with_entry p (begun age p.epoch)) = makes site p age refl unsettled first.no_entry (h.fits q.txn declared exists) in
+    let p1 = with_entry p (begun age p.epoch) in
+    let named : IfSome q.epoch (λ (e : ℕ). e ≡ p.epoch) = subst (λ (o : Option ℕ). IfSome o (λ (e : ℕ). e ≡ p.epoch)) (sym (none_named q.epoch first.unnamed)) tt in
+    let done = done_reply q p.epoch (deed_of q.query query value) in
+    let ran_now : Next site p1 (with_entry p1 (ran (begun age p.epoch) (deed_at declared q.query value) done)) =
+    runs_at_once site p1 (begun age p.epoch) q done value refl refl made.fits (query_follows site p p1 q made.follows asked) named refl refl (answer_is sc s site q query value (begun age p.epoch) k found) in
+    let entry_is : begun age p.epoch ≡ entry = ap (begun age) (sym h.epoch_is) ∙ sym first.entry_is in
+    subst (λ (e : Entry). Next site p (with_entry p (ran e (deed_at declared q.query value) (done_reply q e.epoch (deed_of q.query query value))))) entry_is
+    (next_both site p p1 (with_entry p1 (ran (begun age p.epoch) (deed_at declared q.query value) done)) made ran_now)
+
+-- nothing waits at the entry
+idle_entry : (s : Server) (sent : ℕ) (q : QueryRequest) (entry : Entry) → IsFirstHere s sent q entry ⊎ IsFurther s q entry → entry.waiting ≡ None
+idle_entry s sent q entry place =
+    ⊎_elim (λ (first : IsFirstHere s sent q entry). ap (λ (e : Entry). e.waiting) first.entry_is) (λ (further : IsFurther s q entry). none_waits entry.waiting further.idle) place
+  where
+    none_waits : (waiting : Option QueryRequest) → is_some waiting ≡ false → waiting ≡ None
+    none_waits None e = refl
+    none_waits (Some w) e = absurd (cc)
+
+ran_is : (q : QueryRequest) (entry : Entry) (deed : Deed) → entry.waiting ≡ None → ran entry deed (done_reply q entry.epoch deed) ≡ entry_after q entry deed
+ran_is q entry deed idle =
+    ap (λ (waiting : Option QueryRequest).
+    record {
+      age = entry.age;
+      epoch = entry.epoch;
+      answers = entry.answers ++ done_reply q entry.epoch deed ∷ [];
+      waiting = waiting;
+      deeds = entry.deeds ++ deed ∷ [];
+      ballot = entry.ballot;
+    }) (sym idle)
+
+last_of : {B : Type 0} (P : B → Type 0) (xs : List B) (x : B) → Each P (xs ++ x ∷ []) → P x
+last_of P [] x h = h.0
+last_of P (first ∷ xs) x h = last_of P xs x h.1
+
+-- a query that runs
+runs_pairs : (sc : Scenario) (A : TxnId → Option Asker) (s : Server) (kept : List Record) (sent : ℕ) (q : QueryRequest) (query : Query) (entry : Entry) (value : ℤ) → ServerPaired sc A s kept → settled_in q.txn kept ≡ None
+    → IsRunOf sc s q query value → IsFirstHere s sent q entry ⊎ IsFurther s q entry
     → ((declared : Transaction) → slice_get sc.txns q.txn.0 ≡ Some declared → QueryFits (site_of sc s.server.0 declared) (pair_up q.txn (A q.txn) s kept) q)
-    → RowPairs sc A s kept (begins s sent q (Some deed))
-begins_pairs sc A s kept sent q deed h fresh none unnamed exists own asked =
+    → RowPairs sc A s kept (completes s q query entry (deed_of q.query query value))
+runs_pairs sc A s kept sent q query entry value h fresh k place asked =
     let P : TxnId → Pair = λ txn. pair_up txn (A txn) s kept in
-    let first = first_entry s sent q deed in
-    let now = server.with_entry s q.txn (Some first) in
+    let deed = deed_of q.query query value in
+    let new = entry_after q entry deed in
+    let now = (completes s q query entry deed).state in
     let Q : TxnId → Pair = λ txn. pair_up txn (A txn) now kept in
-    let done = done_reply q s.epoch deed in
-    let there : entry_at now q.txn ≡ Some first = ap flattened (set_here s.entries q.txn.0 (Some first) (omega (arith, exists, h.places))) in
+    let exists = k.exists in
+    let places = h.places in
+    let there : entry_at now q.txn ≡ Some new = ap flattened (set_here s.entries q.txn.0 (Some new) (omega (arith, exists, places))) in
     let event : (declared : Transaction) → slice_get sc.txns q.txn.0 ≡ Some declared → Next (site_of sc s.server.0 declared) (P q.txn) (Q q.txn) = λ declared found.
     let site = site_of sc s.server.0 declared in
     let p = P q.txn in
-    let age = age_of q sent in
-    let unsettled : p.settled ≡ false = ap is_some fresh in
-    let made : Next site p (with_entry p (begun age p.epoch)) = makes site p age refl unsettled none (h.fits q.txn declared found) in
-    let p1 = with_entry p (begun age p.epoch) in
-    let named : IfSome q.epoch (λ (e : ℕ). e ≡ p.epoch) = subst (λ (o : Option ℕ). IfSome o (λ (e : ℕ). e ≡ p.epoch)) (sym unnamed) tt in
-    let answered : IsAnswer (begun age p.epoch) q done deed.value = record { turn = refl; number = refl; epoch = h.epoch_is; verdict = None; answer = refl; asked = (own declared found).1 } in
-    let ran_now : Next site p1 (with_entry p1 (ran (begun age p.epoch) (deed_at declared q.query deed.value) done)) =
-    runs_at_once site p1 (begun age p.epoch) q done deed.value refl refl made.fits (query_follows site p p1 q made.follows (asked declared found)) named refl refl answered in
-    let entry : ran (begun age p.epoch) (deed_at declared q.query deed.value) done ≡ first =
-    ap (λ (d : Deed). ran (begun age p.epoch) d done) (sym (own declared found).0) ∙ ap (λ (n : ℕ). ran (begun age n) deed done) (sym h.epoch_is) in
-    let whole : with_entry p1 (ran (begun age p.epoch) (deed_at declared q.query deed.value) done) ≡ Q q.txn =
-    ap (λ (n : Option Entry). made_pair (A q.txn) (epoch_in kept) (settled_in q.txn kept) n (prepared_in q.txn kept)) (ap Some entry ∙ sym there) in
-    subst (Next site p) whole (next_both site p p1 (with_entry p1 (ran (begun age p.epoch) (deed_at declared q.query deed.value) done)) made ran_now)
+    let query_is : query_at declared q.query ≡ Some query = sym (ap (λ (x : Option Transaction). option_and_then (λ (d : Transaction). query_at d q.query) x) found) ∙ k.asked_is in
+    let done = done_reply q entry.epoch deed in
+    let run : Next site p (with_entry p (ran entry (deed_at declared q.query value) done)) =
+    ⊎_elim (λ (first : IsFirstHere s sent q entry). runs_first sc A s kept sent q query entry value declared h fresh k found query_is (asked declared found) first)
+    (λ (further : IsFurther s q entry). runs_further sc A s kept q query entry value declared h k found query_is (asked declared found) further) place in
+    let own : deed_at declared q.query value ≡ deed = ap (λ (x : Option Query). deed_asked q.query x value) query_is in
+    let whole : with_entry p (ran entry (deed_at declared q.query value) done) ≡ Q q.txn =
+    ap (λ (n : Option Entry). made_pair (A q.txn) (epoch_in kept) (settled_in q.txn kept) n (prepared_in q.txn kept))
+    (ap (λ (d : Deed). Some (ran entry d done)) own ∙ (ap Some (ran_is q entry deed (idle_entry s sent q entry place)) ∙ sym there)) in
+    subst (Next site p) whole run
     in
     record {
-      next = own_next sc s.server.0 P Q q.txn h.fits event (λ txn apart. other_pair (A txn) q.txn txn s now kept None apart (record { entry = Some first; entries = refl; own = tt }));
-      places = length-set s.entries q.txn.0 (Some first);
+      next = own_next sc s.server.0 P Q q.txn h.fits event (λ txn apart. other_pair (A txn) q.txn txn s now kept None apart (record { entry = Some new; entries = refl; own = tt }));
+      places = length-set s.entries q.txn.0 (Some new);
       replies = (
         record {
           from_is = refl;
           says = λ declared found.
               let site = site_of sc s.server.0 declared in
-              let fits : EntryFits site (Q q.txn) first = of_some (EntryFits site (Q q.txn)) (Q q.txn).entry first there (event declared found).fits.entry in
-              fits.answers.0;
+              let fits : EntryFits site (Q q.txn) new = of_some (EntryFits site (Q q.txn)) (Q q.txn).entry new there (event declared found).fits.entry in
+              last_of (DoneFits site (Q q.txn)) entry.answers (done_reply q entry.epoch deed) fits.answers;
         },
         tt,
       );
@@ -344,44 +423,60 @@ settled_now txn kept s own fresh =
     let new : settlement_in txn (log.Settled s) ≡ Some s = ap (λ (b : Bool). if b then Some s else None) (ap (λ (t : TxnId). same_txn t txn) own ∙ number_itself txn.0) in
     settled_with txn kept (Some (log.Settled s)) ∙ (ap (λ (x : Option Settled). first_of x (settlement_in txn (log.Settled s))) fresh ∙ new)
 
+-- the transaction is settled at the server
+ends_next : (sc : Scenario) (A : TxnId → Option Asker) (s : Server) (kept : List Record) (order : Settled) (letter : Letter) → ServerPaired sc A s kept → settled_in order.txn kept ≡ None → order.txn.0 < length sc.txns
+    → ((declared : Transaction) → slice_get sc.txns order.txn.0 ≡ Some declared → Next (site_of sc s.server.0 declared) (pair_up order.txn (A order.txn) s kept) (end.settled (pair_up order.txn (A order.txn) s kept)))
+    → AllNext sc s.server.0 (λ txn. pair_up txn (A txn) s kept) (λ txn. pair_up txn (A txn) (ends s order letter).state (log_with kept (Some (log.Settled order))))
+ends_next sc A s kept order letter h fresh exists may =
+    let P : TxnId → Pair = λ txn. pair_up txn (A txn) s kept in
+    let now = (ends s order letter).state in
+    let append = Some (log.Settled order) in
+    let Q : TxnId → Pair = λ txn. pair_up txn (A txn) now (log_with kept append) in
+    let act : IsOwnAct order.txn s now append = record { entry = None; entries = refl; own = refl } in
+    let none_there : entry_at now order.txn ≡ None = ap flattened (set_here s.entries order.txn.0 None (omega (arith, exists, h.places))) in
+    let ended : settled_in order.txn (log_with kept append) ≡ Some order = settled_now order.txn kept order refl fresh in
+    let nothing : prepared_in order.txn (log_with kept append) ≡ None = ap (λ (x : Option Settled). while_unsettled x (voted_in order.txn (log_with kept append))) ended in
+    let event : (declared : Transaction) → slice_get sc.txns order.txn.0 ≡ Some declared → Next (site_of sc s.server.0 declared) (P order.txn) (Q order.txn) = λ declared found.
+    let site = site_of sc s.server.0 declared in
+    let whole : end.settled (P order.txn) ≡ Q order.txn =
+    same_made (A order.txn) (epoch_in kept) (epoch_in (log_with kept append)) (Some order) (settled_in order.txn (log_with kept append)) None (entry_at now order.txn) None (prepared_in order.txn (log_with kept append))
+    (sym (same_epoch_in order.txn kept append refl)) (sym ended) (sym none_there) (sym nothing) in
+    subst (Next site (P order.txn)) whole (may declared found)
+    in
+    own_next sc s.server.0 P Q order.txn h.fits event (λ txn apart. other_pair (A txn) order.txn txn s now kept append apart act)
+
 settles_pairs : (sc : Scenario) (A : TxnId → Option Asker) (s : Server) (kept : List Record) (d : DecideRequest) → ServerPaired sc A s kept → settled_in d.txn kept ≡ None → d.txn.0 < length sc.txns → A d.txn ≡ None
     → RowPairs sc A s kept (settles s d)
 settles_pairs sc A s kept d h fresh exists decided =
-    let P : TxnId → Pair = λ txn. pair_up txn (A txn) s kept in
-    let effect = settles s d in
-    let now = effect.state in
-    let append = effect.reaction.append in
-    let Q : TxnId → Pair = λ txn. pair_up txn (A txn) now (log_with kept append) in
-    let act : IsOwnAct d.txn s now append = record { entry = None; entries = refl; own = refl } in
-    let none_there : entry_at now d.txn ≡ None = ap flattened (set_here s.entries d.txn.0 None (omega (arith, exists, h.places))) in
-    let ended : settled_in d.txn (log_with kept append) ≡ Some (settled_as d) = settled_now d.txn kept (settled_as d) refl fresh in
-    let nothing : prepared_in d.txn (log_with kept append) ≡ None = ap (λ (x : Option Settled). while_unsettled x (voted_in d.txn (log_with kept append))) ended in
-    let event : (declared : Transaction) → slice_get sc.txns d.txn.0 ≡ Some declared → Next (site_of sc s.server.0 declared) (P d.txn) (Q d.txn) = λ declared found.
-    let site = site_of sc s.server.0 declared in
-    let n : Next site (P d.txn) (end.settled (P d.txn)) = ordered site (P d.txn) refl decided (h.fits d.txn declared found) in
-    let whole : end.settled (P d.txn) ≡ Q d.txn =
-    same_made (A d.txn) (epoch_in kept) (epoch_in (log_with kept append)) (Some (settled_as d)) (settled_in d.txn (log_with kept append)) None (entry_at now d.txn) None (prepared_in d.txn (log_with kept append))
-    (sym (same_epoch_in d.txn kept append refl)) (sym ended) (sym none_there) (sym nothing) in
-    subst (Next site (P d.txn)) whole n
-    in
     record {
-      next = own_next sc s.server.0 P Q d.txn h.fits event (λ txn apart. other_pair (A txn) d.txn txn s now kept append apart act);
+      next = ends_next sc A s kept (settled_as d) (ack_letter s d.txn) h fresh exists
+          (λ declared found. ordered (site_of sc s.server.0 declared) (pair_up d.txn (A d.txn) s kept) refl decided (h.fits d.txn declared found));
       places = length-set s.entries d.txn.0 None;
       replies = (record { from_is = refl; says = tt }, tt);
     }
 
+unvoted_ballot : (ballot : Option Ballot) → is_some ballot ≡ false → ballot ≡ None
+unvoted_ballot None e = refl
+unvoted_ballot (Some ballot) e = absurd (cc)
+
+-- the server refuses what it has not voted on
+refuses_pairs : (sc : Scenario) (A : TxnId → Option Asker) (s : Server) (kept : List Record) (p : PrepareRequest) (entry : Entry) (why : No) → ServerPaired sc A s kept → settled_in p.txn kept ≡ None → p.txn.0 < length sc.txns
+    → entry_at s p.txn ≡ Some entry → is_some entry.ballot ≡ false → RequestPairs sc s.server A (λ txn. pair_up txn (A txn) s kept) (body.Prepare p) → RowPairs sc A s kept (refuses s p why)
+refuses_pairs sc A s kept p entry why h fresh exists found unvoted asked =
+    let none : entry.ballot ≡ None = unvoted_ballot entry.ballot unvoted in
+    record {
+      next = ends_next sc A s kept (refused_as p why) (no_letter s p why) h fresh exists
+          (λ declared there. end.refuses (site_of sc s.server.0 declared) (pair_up p.txn (A p.txn) s kept) p refl (h.fits p.txn declared there) (asked declared there)
+          (λ other is epoch. subst (λ (e : Entry). e.ballot ≡ None) (same_Some entry other (sym found ∙ is)) none));
+      places = length-set s.entries p.txn.0 None;
+      replies = (record { from_is = refl; says = tt }, tt);
+    }
+
+-- a vote NO again
+refused_again_pairs : (sc : Scenario) (A : TxnId → Option Asker) (s : Server) (kept : List Record) (p : PrepareRequest) (why : No) → ServerPaired sc A s kept → RowPairs sc A s kept (sends s (no_letter s p why ∷ []))
+refused_again_pairs sc A s kept p why h = let still = ignores_pairs sc A s kept h in record { next = still.next; places = still.places; replies = (record { from_is = refl; says = tt }, tt) }
+
 -- ---- all mails
-
-none_named : (epoch : Option ℕ) → is_none epoch ≡ true → epoch ≡ None
-none_named None e = refl
-none_named (Some n) e = absurd (cc)
-
--- the deed that a request asks for
-asked_deed : (sc : Scenario) (to : Actor) (q : QueryRequest) (declared : Transaction) (deed : Deed) → (sound : IsSoundQuery sc to q) → slice_get sc.txns q.txn.0 ≡ Some declared
-    → plain_write q (asked_item sc q) q.value ≡ Some deed → (deed ≡ deed_at declared q.query deed.value) × IfSome q.value (λ (v : ℤ). deed.value ≡ v)
-asked_deed sc to q declared deed sound found w =
-    let asked_is : query_at declared q.query ≡ Some sound.asked = sym (ap (λ (x : Option Transaction). option_and_then (λ (d : Transaction). query_at d q.query) x) found) ∙ sound.asked_is in
-    deed_is_own q declared sound.asked (asked_item sc q) q.value deed asked_is (ap (option_and_then written_item) sound.asked_is) w
 
 -- every row of a server on receipt of a mail
 pub server_row_pairs : (sc : Scenario) (A : TxnId → Option Asker) (s : Server) (kept : List Record) (mail : Mail) → ServerPaired sc A s kept → IsSoundServer sc s → IsSoundBody sc (actor.Server s.server) mail.letter.body
@@ -392,18 +487,21 @@ server_row_pairs sc A s kept mail h sound m asked =
     server_by sc s mail (RowPairs sc A s kept)
     (record {
       ignored = ignores_pairs sc A s kept h;
-      begun = λ q deed k.
-          let query : IsSoundQuery sc to q = subst (IsSoundBody sc to) k.said_is m in
-          begins_pairs sc A s kept mail.sent q deed h (open_unsettled s kept q.txn h.agrees k.unsettled) k.no_entry (none_named q.epoch k.unnamed) query.txn
-          (λ declared found. asked_deed sc to q declared deed query found k.writes)
+      ran = λ q query entry value k.
+          let request : IsSoundQuery sc to q = subst (IsSoundBody sc to) k.said_is m in
+          runs_pairs sc A s kept mail.sent q query entry value h (open_unsettled s kept q.txn h.agrees k.unsettled) (record { exists = request.txn; asked_is = k.asked_is; value_is = k.value_is }) k.place
           (subst (RequestPairs sc s.server A P) k.said_is asked);
       restarted = λ q k. restarts_pairs sc A s kept q h;
       answered = λ q entry given k.
           answers_pairs sc A s kept q entry given h k.found
           (same_txn_from q.txn given.txn (each_found (λ (d : DoneReply). IsSoundDone sc (actor.Coordinator q.txn) d) (λ (d : DoneReply). d.query == q.query) entry.answers given (sound.entries q.txn.0 entry k.found).answers k.given_is).goes_to) k.given_is;
-      voted = λ p entry staple k.
-          votes_pairs sc A s kept p entry (prepared_record s p entry (map (verdict_on sc s staple.place) entry.deeds)) h (open_unsettled s kept p.txn h.agrees k.unsettled) k.found (eqb-true entry.epoch p.epoch k.same_epoch)
+      voted = λ p entry staple txn k.
+          votes_pairs sc A s kept p entry (prepared_record s p entry (verdicts_on sc s txn staple entry.deeds)) h (open_unsettled s kept p.txn h.agrees k.unsettled) k.found (eqb-true entry.epoch p.epoch k.same_epoch)
           (subst (IsSoundBody sc to) k.said_is m).txn refl (record { epoch = refl; deeds = refl }) (subst (RequestPairs sc s.server A P) k.said_is asked);
+      refused = λ p entry number value k.
+          refuses_pairs sc A s kept p entry (no.Range number value) h (open_unsettled s kept p.txn h.agrees k.unsettled) (subst (IsSoundBody sc to) k.said_is m).txn k.found k.unvoted
+          (subst (RequestPairs sc s.server A P) k.said_is asked);
+      refused_again = λ p settled why k. refused_again_pairs sc A s kept p why h;
       settled = λ d k.
           settles_pairs sc A s kept d h (open_unsettled s kept d.txn h.agrees k.unsettled) (subst (IsSoundBody sc to) k.said_is m).txn (subst (RequestPairs sc s.server A P) k.said_is asked);
       acknowledged = λ d settled k. acknowledges_pairs sc A s kept d h;

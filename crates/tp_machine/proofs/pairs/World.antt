@@ -1,9 +1,9 @@
 -- Deeds and epochs over every list of steps: what servers hold of a transaction, what its coordinator got, and what mails say of it.
-use Rattle.std.proofs.Common.{⊎_elim, Bool, IfSome, List, None, Option, Some, [], ap, arith, false, if◌then◌else◌, inl, inr, is_some, length, option_and_then, option_map, refl, replicate, slice_get, slice_set, subst, suc, sym, true, zero, ℕ, ◌+◌, ◌<◌, ◌==◌, ◌∙◌, ◌∷◌, ◌≡◌, ◌≤◌, ◌⊎◌}
+use Rattle.std.specs.Option.{option_map_or}
+use Rattle.std.proofs.Common.{Bool, IfSome, List, None, Option, Some, [], ap, arith, false, if◌then◌else◌, inl, inr, is_some, length, option_and_then, option_map, refl, replicate, slice_get, slice_set, subst, suc, sym, true, zero, ℕ, ⊎_elim, ◌+◌, ◌<◌, ◌==◌, ◌∙◌, ◌∷◌, ◌≡◌, ◌≤◌, ◌⊎◌}
 use Rattle.std.proofs.lemmas.Bool.{eqb-true}
 use Rattle.std.proofs.lemmas.List.{length-replicate}
 use Rattle.std.proofs.lemmas.Option.{same_Some, slice_get_within}
-use Rattle.std.specs.Option.{option_map_or}
 use Rattle.tp_types.specs.Table.{flattened}
 use Rattle.tp_model.proofs.RuleLemmas as rules
 use Rattle.tp_model.specs.Built.{is_built}
@@ -16,6 +16,7 @@ use Rattle.tp_model.specs.Words.{Actor, Body, Fact, Letter, Mail, Record, Scenar
 use Rattle.tp_machine.proofs.agreement.Coordinator.{CoordinatorAgrees, PhaseAgrees}
 use Rattle.tp_machine.proofs.agreement.Steps.{begun_lawful, coordinator_lawful, mail_rests, mail_sound, own_txn, same_txn_from, server_agrees}
 use Rattle.tp_machine.proofs.agreement.World.{Agrees, BodyRests, CoordinatorUpAgrees}
+use Rattle.tp_machine.proofs.basics.Homes.{HaveHomes}
 use Rattle.tp_machine.proofs.basics.Ids.{same_txn_is}
 use Rattle.tp_machine.proofs.basics.Lists.{at_set, each_append, each_as, each_get, missing, set_here}
 use Rattle.tp_machine.proofs.basics.Phases.{is_undecided}
@@ -23,6 +24,7 @@ use Rattle.tp_machine.proofs.epochs.Asked.{asked_in}
 use Rattle.tp_machine.proofs.epochs.Kept.{CoordinatorKeeps}
 use Rattle.tp_machine.proofs.epochs.Server.{ServerMade}
 use Rattle.tp_machine.proofs.epochs.World.{Epochs, made_from_zero}
+use Rattle.tp_machine.proofs.ids.Queries.{homes_built}
 use Rattle.tp_machine.proofs.ids.Valid.{IsValid, valid_built}
 use Rattle.tp_machine.proofs.pairs.Actors.{BodyPairs, DoneFrom, LetterPairs, PrepareAt, QueryAt, asker_at, asker_by, asker_of, asker_up, body_stays, pair_at, pair_by, pair_up, site_of, stand_of}
 use Rattle.tp_machine.proofs.pairs.CoordinatorRows.{AnswerPairs, AskPairs, CoordinatorActsPairs, CoordinatorPaired, PhaseNumbered, PrepareTo, QueryTo, coordinator_row_asks, submit_row_asks}
@@ -44,6 +46,7 @@ use Rattle.tp_machine.specs.Machine.{Machine, Move, State, acts, acts_by, coordi
 use Rattle.tp_machine.specs.Parts.{Part}
 use Rattle.tp_machine.specs.Sound.{Each, EachAt, IsSound, IsSoundBody, IsSoundServerUp, IsStepOf, IsTxn}
 use Rattle.tp_machine.specs.coord.Opened as coord_opened
+use Rattle.tp_machine.specs.coord.Opened.{idle}
 use Rattle.tp_machine.specs.coord.Row.{coordinator_row, submit_row}
 use Rattle.tp_machine.specs.coord.State.{Coordinator}
 use Rattle.tp_machine.specs.declared.actors.Actors.{Actors}
@@ -116,7 +119,7 @@ still_pairs sc w happened letters actors h servers coordinators plain =
 -- ---- a server acts
 
 -- what a server that is up is to its transactions
-pair_of_up : (actors : Actors) (at : ServerId) (part : Part Server) (s : Server) (txn : TxnId) → slice_get actors.servers at.0 ≡ Some part → part.up ≡ Some s
+pub pair_of_up : (actors : Actors) (at : ServerId) (part : Part Server) (s : Server) (txn : TxnId) → slice_get actors.servers at.0 ≡ Some part → part.up ≡ Some s
     → pair_at actors txn at.0 ≡ pair_up txn (asker_at actors.coordinators txn.0 at.0) s part.log
 pair_of_up actors at part s txn found up =
     ap (pair_by txn (asker_at actors.coordinators txn.0 at.0)) found ∙ ap (λ (u : Option Server). pair_by txn (asker_at actors.coordinators txn.0 at.0) (Some (record { up = u; log = part.log }))) up
@@ -361,16 +364,16 @@ same_txn_row : (sc : Scenario) (w : State) → IsSound sc w → Agrees sc w → 
     → (coordinator_row sc c mail).state.txn ≡ txn
 same_txn_row sc w sound a n mail txn part c sent up = (coordinator_lawful sc w sound a n mail txn part c sent up).same_txn ∙ own_txn sc w txn part c sound up.found up.up
 
-receipt_by_coordinator : (sc : Scenario) (w : State) → IsValid sc → AreFew sc → IsSound sc w → Agrees sc w → Epochs sc w → Trusts sc w → Pairs sc w → (n : ℕ) (mail : Mail) (txn : TxnId) (part : Part Coordinator) (c : Coordinator)
+receipt_by_coordinator : (sc : Scenario) (w : State) → IsValid sc → HaveHomes sc → AreFew sc → IsSound sc w → Agrees sc w → Epochs sc w → Trusts sc w → Pairs sc w → (n : ℕ) (mail : Mail) (txn : TxnId) (part : Part Coordinator) (c : Coordinator)
     → WasSent w n mail (actor.Coordinator txn) → IsCoordinatorUp w txn part c → MovePairs sc w (coordinator_move w.actors txn (acts_by coordinator_fact [] part.log (coordinator_row sc c mail)))
-receipt_by_coordinator sc w valid few sound a epochs trusts h n mail txn part c sent up =
+receipt_by_coordinator sc w valid homes few sound a epochs trusts h n mail txn part c sent up =
     let effect = coordinator_row sc c mail in
     let exists : IsTxn sc txn = subst (λ (k : ℕ). txn.0 < k) a.coordinator_count (slice_get_within w.actors.coordinators txn.0 part up.found) in
     let d = declared_by sc txn exists in
     let said : BodyPairs sc (pair_at w.actors) mail.letter.from (actor.Coordinator txn) mail.letter.body =
     subst (λ (to : Actor). BodyPairs sc (pair_at w.actors) mail.letter.from to mail.letter.body) sent.goes_to (each_get (λ (m : Mail). LetterPairs sc (pair_at w.actors) m.letter) w.mails n mail h.mails sent.sent) in
     coordinator_acts_pairs sc w d.0 txn part c effect.state [] (log_with part.log effect.reaction.append) effect.reaction.letters h up d.1 (same_txn_row sc w sound a n mail txn part c sent up)
-    (coordinator_row_asks sc d.0 (pair_at w.actors txn) c mail valid (coordinator_paired sc w d.0 txn part c few sound epochs trusts h up d.1)
+    (coordinator_row_asks sc d.0 (pair_at w.actors txn) c mail valid homes (coordinator_paired sc w d.0 txn part c few sound epochs trusts h up d.1)
     (answer_pairs sc w d.0 txn mail.letter.from mail.letter.body d.1 (mail_sound sc w n mail (actor.Coordinator txn) sound sent) said))
 
 begun_pairs : (sc : Scenario) (w : State) → is_built sc ≡ true → AreFew sc → IsSound sc w → Agrees sc w → Epochs sc w → Trusts sc w → Pairs sc w → (txn : TxnId) (part : Part Coordinator) (c : Coordinator) → IsTxn sc txn
@@ -398,7 +401,7 @@ pairs_cases sc w built valid few sound a epochs trusts h =
     record {
       idle = λ taken happened e. still_pairs sc w happened [] w.actors h refl refl tt;
       server_received = λ n mail at part s sent up. receipt_by_server sc w sound a epochs h n mail at part s sent up;
-      coordinator_received = λ n mail txn part c sent up. receipt_by_coordinator sc w valid few sound a epochs trusts h n mail txn part c sent up;
+      coordinator_received = λ n mail txn part c sent up. receipt_by_coordinator sc w valid (homes_built sc built) few sound a epochs trusts h n mail txn part c sent up;
       authority_told = λ n mail sent. still_pairs sc w [] (office.authority_row w.actors.authority mail).reaction.letters w.actors h refl refl (tells_plain sc w.actors.authority mail.letter.body);
       master_told = λ n mail sent. still_pairs sc w [] (master.master_row w.actors.master mail).reaction.letters w.actors h refl refl (newest_plain sc w.actors.master mail.letter.body);
       ticked = λ by. still_pairs sc w (what.Ticked by ∷ []) [] (record w.actors { authority = office.after_tick by w.actors.authority }) h refl refl tt;

@@ -1,6 +1,6 @@
 -- What the proofs of serial data take from the form of scenarios that is built: one server, and one transaction that writes one
 -- constant. Here alone they lean on that form; each lemma says so by its name.
-use Rattle.std.proofs.Common.{Bool, List, None, Option, Some, [], ap, arith, length, map, option_and_then, option_map, refl, slice_get, subst, suc, sym, true, zero, ℕ, ℤ, ◌&&◌, ◌<◌, ◌==◌, ◌∙◌, ◌∷◌, ◌≡◌}
+use Rattle.std.proofs.Common.{Bool, List, None, Option, Some, [], ap, arith, map, refl, slice_get, subst, suc, sym, true, zero, ℕ, ℤ, ◌&&◌, ◌==◌, ◌∙◌, ◌∷◌, ◌≡◌}
 use Rattle.std.proofs.lemmas.Bool.{and_parts, eqb-true}
 use Rattle.std.proofs.lemmas.Option.{same_Some}
 use Rattle.tp_types.proofs.ListLemmas.{third_of_three}
@@ -9,16 +9,12 @@ use Rattle.tp_types.specs.declared.scenario.Query.TheVariants.{Read, Write}
 use Rattle.tp_model.proofs.FirstForm.{are_first_parts, form_built, is_first_admin, is_first_constant, is_first_item, is_first_query, is_first_term, is_first_txn}
 use Rattle.tp_model.specs.Built.{is_built}
 use Rattle.tp_model.specs.Limits.{is_between}
-use Rattle.tp_model.specs.Queries.{item_of, only, query_at, term_value, written_constant}
+use Rattle.tp_model.specs.Queries.{only, term_value}
 use Rattle.tp_model.specs.SerialRun.{are_in_range, opening_store}
 use Rattle.tp_model.specs.Stage.{is_deferred, is_empty, is_single, is_view}
 use Rattle.tp_model.specs.Valid.{has_valid_bounds, has_valid_range}
-use Rattle.tp_model.specs.Words.{Item, ItemId, Operand, Query, Scenario, ServerDecl, ServerId, Term, Transaction, TxnId}
-use Rattle.tp_machine.proofs.basics.Lists.{missing}
+use Rattle.tp_model.specs.Words.{Item, ItemId, Operand, Query, Scenario, ServerDecl, Term, Transaction}
 use Rattle.tp_machine.proofs.ids.Built.{IsOnly, only_is, single_is}
-use Rattle.tp_machine.specs.Sound.{IsTxn}
-use Rattle.tp_machine.specs.coord.Row.{begins, is_begun, sends_first, server_of, submit_row}
-use Rattle.tp_machine.specs.coord.State.{Coordinator}
 
 -- ---- the form that is built
 
@@ -126,45 +122,6 @@ form_of sc declared n built found =
       write = write;
     } in
     subst (IsFirstForm sc) same made
-
-constant_written : (item : Item) (asked : Query) (one : IsConstantWrite item asked) → written_constant asked ≡ Some (term_value one.term)
-constant_written item asked one = ap written_constant one.asked_is
-
--- ---- the first query
-
-asked_item : (sc : Scenario) (declared : Transaction) (here : IsFirstForm sc declared) → slice_get sc.items (item_of here.asked).0 ≡ Some here.item
-asked_item sc declared here =
-    ap (slice_get sc.items) (ap (λ (q : Query). (item_of q).0) here.write.asked_is ∙ here.write.first) ∙ ap (λ (items : List Item). slice_get items 0) here.items_are
-
--- the first query of a transaction writes a constant to an item of a server
-record IsFirstSent (sc : Scenario) (found : Option Transaction) : Type 0 where
-  pub asked : Query
-  pub asked_is : option_and_then (λ (declared : Transaction). query_at declared 1) found ≡ Some asked
-  pub at : ServerId
-  pub at_is : server_of sc asked ≡ Some at
-  pub value : ℤ
-  pub value_is : written_constant asked ≡ Some value
-
-first_sent : (sc : Scenario) (txn : TxnId) (found : Option Transaction) → is_built sc ≡ true → txn.0 < length sc.txns → slice_get sc.txns txn.0 ≡ found → IsFirstSent sc found
-first_sent sc txn None built exists e = absurd (missing sc.txns txn.0 exists e)
-first_sent sc txn (Some declared) built exists e =
-    let here = form_of sc declared txn.0 built e in
-    record {
-      asked = here.asked;
-      asked_is = ap (λ (queries : List Query). slice_get queries 0) here.queries_are;
-      at = here.item.server;
-      at_is = ap (option_map (λ (i : Item). i.server)) (asked_item sc declared here);
-      value = term_value here.write.term;
-      value_is = constant_written here.item here.asked here.write;
-    }
-
--- so its submission begins it
-pub first_row_begins : (sc : Scenario) (c : Coordinator) → is_built sc ≡ true → IsTxn sc c.txn → is_begun (submit_row sc c).state.phase ≡ true
-first_row_begins sc c built exists =
-    let first = first_sent sc c.txn (slice_get sc.txns c.txn.0) built exists refl in
-    ap (λ (asked : Option Query). is_begun (begins sc c asked).state.phase) first.asked_is
-    ∙ (ap (λ (at : Option ServerId). is_begun (sends_first c at (written_constant first.asked)).state.phase) first.at_is
-    ∙ ap (λ (value : Option ℤ). is_begun (sends_first c (Some first.at) value).state.phase) first.value_is)
 
 -- ---- ranges
 

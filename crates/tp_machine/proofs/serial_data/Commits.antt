@@ -1,11 +1,14 @@
 -- A commit is serial where its reads at each server are those of the server's values, and it is clear of what is not settled there.
-use Rattle.std.proofs.Common.{◌≡◌, ℕ, ◌==◌, List, [], ◌∷◌, length, slice_get, Bool, true, false, cond, Option, Some, None, if◌then◌else◌, ℤ, refl, sym, ap, subst, ◌∙◌}
+use Rattle.std.proofs.Common.{◌≡◌, ℕ, ◌==◌, ◌^◌, List, [], ◌∷◌, length, slice_get, Bool, true, false, cond, Option, Some, None, if◌then◌else◌, ℤ, refl, sym, ap, subst, ◌∙◌}
 use Rattle.std.proofs.lemmas.Bool.{eqb-true, eq-eqb}
 use Rattle.std.proofs.lemmas.Option.{same_Some}
+use Rattle.std.specs.List.{AllByRecursion}
 use Rattle.tp_model.specs.Words.{Action, Deed, Item, Scenario, Transaction}
 use Rattle.tp_model.specs.Words.action
 use Rattle.tp_model.specs.Facts.{first_of}
+use Rattle.tp_model.proofs.RunBounds.{IsWithin}
 use Rattle.tp_model.specs.SerialRun.{serial_run, stored_all}
+use Rattle.tp_model.specs.Valid.{is_valid_txn}
 use Rattle.tp_machine.specs.Sound.{Each}
 use Rattle.tp_machine.proofs.basics.Logs.{first_none}
 use Rattle.tp_machine.proofs.basics.Lists.{each_as}
@@ -73,10 +76,11 @@ clear_agrees sc P values store deed fits h =
 -- ---- a commit
 
 -- the deeds of a commit are those of its transaction run by itself on the store
-pub commit_serial : (sc : Scenario) (txn : Transaction) (P : ℕ → List Deed → Type 0) (values : ℕ → List ℤ) (store : List ℤ) (deeds : List Deed) → RunsSoFar txn deeds → length deeds ≡ length txn.queries
-    → ((at : ℕ) → ReadsFrom (values at) (share_at sc at deeds)) → ((at : ℕ) → StoreFits (IsItemAt sc at) (P at) (values at) store) → Each (IsClearAtHome sc P) deeds → deeds ≡ serial_run txn store
-commit_serial sc txn P values store deeds runs all reads fits clear =
-    run_is txn store deeds runs all
+pub commit_serial : (sc : Scenario) (txn : Transaction) (P : ℕ → List Deed → Type 0) (values : ℕ → List ℤ) (store : List ℤ) (deeds : List Deed) → is_valid_txn sc txn ≡ true → AllByRecursion (IsWithin (10 ^ 15)) store
+    → RunsSoFar txn deeds → length deeds ≡ length txn.queries → ((at : ℕ) → ReadsFrom (values at) (share_at sc at deeds)) → ((at : ℕ) → StoreFits (IsItemAt sc at) (P at) (values at) store) → Each (IsClearAtHome sc P) deeds
+    → deeds ≡ serial_run txn store
+commit_serial sc txn P values store deeds valid within runs all reads fits clear =
+    run_is sc txn store deeds valid within runs all
     (joined sc values store deeds (each_as (IsClearAtHome sc P) (AgreesAt sc values store) (λ deed h. clear_agrees sc P values store deed fits h) deeds clear) reads)
 
 clear_unwritten : (sc : Scenario) (P : ℕ → List Deed → Type 0) (at item : ℕ) (others : List Deed) (v : ℤ) (deed : Deed) → IsItemAt sc at item → P at others → last_write item others ≡ Some v → IsClearAtHome sc P deed → written item deed ≡ None

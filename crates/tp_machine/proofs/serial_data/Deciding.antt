@@ -1,12 +1,13 @@
 -- Serial data, an act of a coordinator: a commit has the deeds of its transaction run by itself on the store, and leaves it in range.
-use Rattle.std.proofs.lemmas.List.Sums.{fold-append}
 use Rattle.tp_machine.proofs.pairs.Pair.{Prepares}
 use Rattle.std.specs.Option.{option_map_or}
 use Rattle.std.proofs.Common.{Bool, IfSome, List, None, Option, Some, [], ap, false, fold, if◌then◌else◌, is_some, length, option_and_then, refl, slice_get, subst, sym, true, ℕ, ℤ, ⊎_elim, ◌++◌, ◌∙◌, ◌∷◌, ◌≡◌}
+use Rattle.std.proofs.lemmas.List.Sums.{fold-append}
 use Rattle.tp_types.specs.Effect.{Effect}
 use Rattle.tp_model.specs.Agreement.{has_item_at}
 use Rattle.tp_model.specs.Facts.{first_of}
 use Rattle.tp_model.specs.SerialRun.{are_in_range, is_serial_commit, overlaid, overlaid_what, serial_run, store_of, stored_all, stored_what}
+use Rattle.tp_model.specs.Valid.{is_valid_txn}
 use Rattle.tp_model.specs.Words.decision
 use Rattle.tp_model.specs.Words.log
 use Rattle.tp_model.specs.Words.what
@@ -16,7 +17,7 @@ use Rattle.tp_machine.proofs.agreement.CoordinatorActs.{coordinator_facts}
 use Rattle.tp_machine.proofs.agreement.Logs.{IsPrepared, prepared_open}
 use Rattle.tp_machine.proofs.agreement.Server.{ServerAgrees}
 use Rattle.tp_machine.proofs.agreement.World.{Agrees}
-use Rattle.tp_machine.proofs.basics.Lists.{each_append}
+use Rattle.tp_machine.proofs.basics.Lists.{each_append, each_get}
 use Rattle.tp_machine.proofs.basics.Logs.{appended, decided_with, gained}
 use Rattle.tp_machine.proofs.basics.Phases.{is_undecided}
 use Rattle.tp_machine.proofs.basics.Servers.{among_servers}
@@ -28,7 +29,8 @@ use Rattle.tp_machine.proofs.pairs.Outcomes.{prepared_for}
 use Rattle.tp_machine.proofs.pairs.World.{Pairs, declared_by}
 use Rattle.tp_machine.proofs.serial_data.Commits.{IsClearAtHome, IsItemAt, commit_elsewhere, commit_serial, commit_store}
 use Rattle.tp_machine.proofs.serial_data.Joined.{share_at}
-use Rattle.tp_machine.proofs.serial_data.Ranges.{AreTested, range_at, stored_in_range}
+use Rattle.tp_machine.proofs.serial_data.Lengths.{store_length}
+use Rattle.tp_machine.proofs.serial_data.Ranges.{AreTested, range_at, store_within, stored_in_range}
 use Rattle.tp_machine.proofs.serial_data.Reads.{ReadsFrom}
 use Rattle.tp_machine.proofs.serial_data.Runs.{RunsSoFar}
 use Rattle.tp_machine.proofs.serial_data.Settling.{IsPreparedEntry, IsQuiet, prepared_here, quiet_facts, quiet_store, quiet_values}
@@ -73,11 +75,13 @@ coordinator_row_own sc c mail =
     coordinator_by sc c mail (ForcesOwn c)
     (record {
       ignored = tt;
-      ran_last = λ done server asked value k. tt;
+      ran_next = λ done server asked value next k home. tt;
+      ran_last = λ done server asked value k none. tt;
       told_first = λ tell round k. tt;
       counted = λ reply round staple server verdicts other others y e. tt;
       committed = λ reply round staple server verdicts y e first agreed. record { deeds = refl; prepares = ap stand_of y.checking };
       denied = λ reply round staple server verdicts verdict y e f. tt;
+      refused = λ reply round staple server number value k. tt;
       acknowledged = λ ack ended awaited server a. tt;
     })
 
@@ -226,8 +230,8 @@ read_up : (sc : Scenario) (w : State) (txn : TxnId) (at : ℕ) (deeds : List Dee
 read_up sc w txn at deeds h None e there serial agrees share = absurd (cc)
 read_up sc w txn at deeds h (Some s) e there serial agrees share =
     let entry : IsPreparedEntry s txn h.p = prepared_here s h.part.log txn h.p agrees h.prepared_is in
-    let reads : ReadsFrom s.values (share_at sc at deeds) = subst (ReadsFrom s.values) (entry.deeds_are ∙ share) (serial.reads txn.0 entry.entry entry.found) in
-    share_reads sc at s.values (overlaid sc w.facts) deeds (λ n item found home. serial.values n item found (ap (λ (m : ℕ). record { 0 = m }) home)) reads
+    let reads : ReadsFrom s.store.values (share_at sc at deeds) = subst (ReadsFrom s.store.values) (entry.deeds_are ∙ share) (serial.reads.reads txn.0 entry.entry entry.found) in
+    share_reads sc at s.store.values (overlaid sc w.facts) deeds (λ n item found home. serial.values n item found (ap (λ (m : ℕ). record { 0 = m }) home)) reads
 
 read_here : (sc : Scenario) (w : State) (txn : TxnId) (declared : Transaction) (deeds : List Deed) (at : ℕ) (b : Bool) → has_item_at sc (record { 0 = at }) txn ≡ b → Agrees sc w → Serial sc w → IsReady sc w txn declared deeds
     → ReadsFrom (overlaid sc w.facts) (share_at sc at deeds)
@@ -263,12 +267,14 @@ commit_stands sc w txn part next declared committed at false item h k r clear =
     (λ n own. store_has sc (store_of sc w.facts) at n h.range own) (no_share sc at txn declared committed.deeds r.declared_is r.runs item)
     (decision_same sc w.actors txn part next (decision.Commit committed) at (overlaid sc w.facts) (store_of sc w.facts) k (λ other e. item) (h.store at))
 
-commit_leaves : (sc : Scenario) (w : State) (txn named : TxnId) (part next : Part Coordinator) (declared : Transaction) (committed : CommitRecord) → named ≡ txn → Agrees sc w → Serial sc w
+commit_leaves : (sc : Scenario) (w : State) (txn named : TxnId) (part next : Part Coordinator) (declared : Transaction) (committed : CommitRecord) → named ≡ txn → IsValid sc → Agrees sc w → Serial sc w
     → DecidesFirst w.actors txn part next (decision.Commit committed) → IsReady sc w txn declared committed.deeds → Each (IsClearAtHome sc (IsUnsettled sc w.actors)) committed.deeds
     → Leaves sc w txn next (what.Decided named (decision.Commit committed) ∷ [])
-commit_leaves sc w txn named part next declared committed own agrees h k r clear =
+commit_leaves sc w txn named part next declared committed own valid agrees h k r clear =
+    let valid_txn : is_valid_txn sc declared ≡ true = each_get (λ (t : Transaction). is_valid_txn sc t ≡ true) sc.txns txn.0 declared valid.txns r.declared_is in
     let runs : committed.deeds ≡ serial_run declared (store_of sc w.facts) =
-    commit_serial sc declared (IsUnsettled sc w.actors) (λ (n : ℕ). overlaid sc w.facts) (store_of sc w.facts) committed.deeds r.runs r.all
+    commit_serial sc declared (IsUnsettled sc w.actors) (λ (n : ℕ). overlaid sc w.facts) (store_of sc w.facts) committed.deeds valid_txn
+    (store_within sc (store_of sc w.facts) valid (store_length sc w.facts) h.range) r.runs r.all
     (λ at. read_here sc w txn declared committed.deeds at (has_item_at sc (record { 0 = at }) txn) refl agrees h r) h.store clear in
     let tested : AreTested sc committed.deeds = shares_tested sc txn declared committed.deeds r.declared_is r.runs (λ at item. tested_here sc w txn declared committed.deeds at item h r) in
     let range : are_in_range sc.items (stored_all (store_of sc w.facts) committed.deeds) ≡ true = stored_in_range sc (store_of sc w.facts) committed.deeds tested h.range in
@@ -318,7 +324,7 @@ coordinator_acts_serial sc w txn part c now own append letters valid agrees pair
     by_decision d (decision.Commit committed) e first forces rests =
         let there = declared_by sc txn k.exists in
         let r : IsReady sc w txn there.0 committed.deeds = subst (IsReady sc w txn there.0) (sym forces.deeds) (ready sc w txn part c there.0 valid pairs k.up forces.prepares there.1 rests) in
-        commit_leaves sc w txn d.txn part (next_part part now (Some (log.Decided d))) there.0 committed first.own agrees h
+        commit_leaves sc w txn d.txn part (next_part part now (Some (log.Decided d))) there.0 committed first.own valid agrees h
         (subst (DecidesFirst w.actors txn part (next_part part now (Some (log.Decided d)))) e (decides d first)) r
         (subst (Each (IsClearAtHome sc (IsUnsettled sc w.actors))) (sym forces.deeds) (clear first.undecided forces.prepares))
 

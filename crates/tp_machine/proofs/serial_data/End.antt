@@ -1,7 +1,6 @@
 -- Serial data, what it comes to: every commit is serial, each item has what settled commits leave, and once all transactions have
 -- ended everywhere that is what all commits leave.
 use Rattle.tp_machine.proofs.serial_data.Shares.{server_there}
-use Rattle.tp_machine.proofs.serial_data.Unsettled.{IsUnsettled}
 use Rattle.std.specs.List.{list_any}
 use Rattle.std.specs.Option.{option_map_or}
 use Rattle.std.proofs.Common.{Bool, IfSome, List, None, Option, Some, [], ap, arith, false, is_some, length, option_map, refl, slice_get, subst, suc, sym, true, unwrap_or, zero, ℕ, ℤ, ◌+◌, ◌<◌, ◌||◌, ◌∙◌, ◌∷◌, ◌≡◌}
@@ -23,6 +22,7 @@ use Rattle.tp_machine.proofs.basics.Logs.{listed}
 use Rattle.tp_machine.proofs.basics.Servers.{among_servers}
 use Rattle.tp_machine.proofs.ids.Valid.{IsValid, IsValidItem, valid_built}
 use Rattle.tp_machine.proofs.serial_data.Lengths.{overlaid_length, store_length}
+use Rattle.tp_machine.proofs.serial_data.Unsettled.{IsUnsettled}
 use Rattle.tp_machine.proofs.serial_data.World.{Serial, ServerUpSerial}
 use Rattle.tp_machine.specs.Logs.{settled_at}
 use Rattle.tp_machine.specs.Machine.{State, ending_of, item_value, item_values, value_up}
@@ -68,7 +68,7 @@ value_here sc w n item part None h found there e up = absurd (cc)
 value_here sc w n item part (Some s) h found there e up =
     let here : ServerUpSerial sc (overlaid sc w.facts) item.server s =
     subst (λ (u : Option Server). IfSome u (ServerUpSerial sc (overlaid sc w.facts) item.server)) e (h.servers item.server.0 part there).state in
-    let same : slice_get s.values n ≡ slice_get (overlaid sc w.facts) n = here.values n item found refl in
+    let same : slice_get s.store.values n ≡ slice_get (overlaid sc w.facts) n = here.values n item found refl in
     let within : n < length (overlaid sc w.facts) = omega (arith, slice_get_within sc.items n item found, overlaid_length sc w.facts) in
     unwrapped (slice_get (overlaid sc w.facts) n) item.value (missing (overlaid sc w.facts) n within)
     ∙ ap (λ (v : Option ℤ). Some (unwrap_or v item.value)) (sym same)

@@ -48,7 +48,7 @@ pub has_value : (sc : Scenario) (facts : List Fact) (n : ℕ) (item : Item) → 
 has_value sc facts n item found =
     some_found (slice_get (overlaid sc facts) n) (missing (overlaid sc facts) n (omega (arith, slice_get_within sc.items n item found, overlaid_length sc facts)))
 
-all_length : (count : ℕ) (deeds : List Deed) (store : List ℤ) → length store ≡ count → length (stored_all store deeds) ≡ count
+pub all_length : (count : ℕ) (deeds : List Deed) (store : List ℤ) → length store ≡ count → length (stored_all store deeds) ≡ count
 all_length count [] store e = e
 all_length count (deed ∷ deeds) store e = all_length count deeds (stored store deed) (deed_length count deed deed.action store e)
 

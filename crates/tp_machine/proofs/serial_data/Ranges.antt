@@ -1,15 +1,16 @@
--- Ranges of items: deeds that leave each item which they write in its range leave a store in range.
-use Rattle.std.specs.List.{list_all}
-use Rattle.std.proofs.Common.{Bool, List, None, Option, Some, [], ap, false, if◌then◌else◌, is_some, refl, slice_get, subst, suc, sym, true, zero, ℕ, ℤ, ◌==◌, ◌∙◌, ◌∷◌, ◌≡◌}
-use Rattle.std.proofs.lemmas.Bool.{and_from, and_parts, eqb-true}
+-- Ranges of items: deeds that leave each item which they write in its range leave a store in range, and what is in range is within 10^15.
+use Rattle.std.proofs.Common.{List, None, Option, Some, [], ap, arith, is_some, length, refl, slice_get, subst, suc, sym, true, zero, ℕ, ℤ, ◌^◌, ◌∷◌, ◌≡◌}
+use Rattle.std.proofs.lemmas.Bool.{and_from, and_parts}
 use Rattle.std.proofs.lemmas.Option.{same_Some}
+use Rattle.std.specs.List.{AllByRecursion}
+use Rattle.tp_model.proofs.RunBounds.{IsWithin, between_within, value_within}
 use Rattle.tp_model.specs.Facts.{first_of}
 use Rattle.tp_model.specs.Limits.{is_between}
 use Rattle.tp_model.specs.SerialRun.{are_in_range, stored_all}
-use Rattle.tp_model.specs.Words.action
-use Rattle.tp_model.specs.Words.{Action, Deed, Item, Scenario}
-use Rattle.tp_machine.proofs.serial_data.Stores.{last_write, stored_last, written, written_by}
-use Rattle.tp_machine.specs.server.Row.{is_in_range, is_in_range_of}
+use Rattle.tp_model.specs.Words.{Deed, Item, Scenario}
+use Rattle.tp_machine.proofs.ids.Valid.{IsValid, IsValidItem}
+use Rattle.tp_machine.proofs.serial_data.Stores.{last_write, stored_last}
+use Rattle.tp_machine.specs.Sound.{Each}
 
 -- what the deeds write last to each item is in the item's range
 abbrev pub AreTested : Scenario → List Deed → Type 0
@@ -57,28 +58,18 @@ stored_in_range sc store deeds tested range =
     subst (IsHeld item) (sym (stored_last store deeds n (ap is_some old.found_is)))
     (held_after item n deeds (slice_get store n) (last_write n deeds) refl (λ v last. tested n item v e last) old))
 
--- ---- the vote's test
+-- ---- limits
 
-write_tested : (sc : Scenario) (a : Action) (deed : Deed) (n : ℕ) (item : Item) (v : ℤ) (b : Bool) → (deed.item.0 == n) ≡ b → is_in_range sc deed ≡ true → slice_get sc.items n ≡ Some item → written_by a n deed ≡ Some v
-    → is_between item.min item.max v ≡ true
-write_tested sc action.Read deed n item v b e test found w = absurd (cc)
-write_tested sc action.Write deed n item v false e test found w =
-    let none : written_by action.Write n deed ≡ None = ap (λ (c : Bool). if c then Some deed.value else None) e in
-    absurd (cc)
-write_tested sc action.Write deed n item v true e test found w =
-    let some : written_by action.Write n deed ≡ Some deed.value = ap (λ (c : Bool). if c then Some deed.value else None) e in
-    let value : deed.value ≡ v = same_Some deed.value v (sym some ∙ w) in
-    let there : slice_get sc.items deed.item.0 ≡ Some item = ap (slice_get sc.items) (eqb-true deed.item.0 n e) ∙ found in
-    subst (λ (x : ℤ). is_between item.min item.max x ≡ true) value (sym (ap (λ (declared : Option Item). is_in_range_of declared deed.value) there) ∙ test)
+items_within : (sc : Scenario) (items : List Item) (store : List ℤ) → Each (IsValidItem sc) items → length store ≡ length items → are_in_range items store ≡ true → AllByRecursion (IsWithin (10 ^ 15)) store
+items_within sc [] [] valid e range = tt
+items_within sc [] (value ∷ store) valid e range = absurd (omega (arith, e))
+items_within sc (item ∷ items) [] valid e range = absurd (cc)
+items_within sc (item ∷ items) (value ∷ store) valid e range =
+    let parts = and_parts (is_between item.min item.max value) (are_in_range items store) range in (
+      between_within (10 ^ 15) item.min item.max value (value_within item.min valid.0.min) (value_within item.max valid.0.max) parts.0,
+      items_within sc items store valid.1 (omega (arith, e)) parts.1,
+    )
 
-last_tested : (sc : Scenario) (deed : Deed) (deeds : List Deed) (n : ℕ) (item : Item) (v : ℤ) (last : Option ℤ) → last_write n deeds ≡ last → is_in_range sc deed ≡ true
-    → ((w : ℤ) → last_write n deeds ≡ Some w → is_between item.min item.max w ≡ true) → slice_get sc.items n ≡ Some item → first_of last (written n deed) ≡ Some v → is_between item.min item.max v ≡ true
-last_tested sc deed deeds n item v None none test later found e = write_tested sc deed.action deed n item v (deed.item.0 == n) refl test found e
-last_tested sc deed deeds n item v (Some w) is test later found e = later v (is ∙ e)
-
--- deeds that each leave their item in its range are tested
-pub tested_each : (sc : Scenario) (deeds : List Deed) → list_all (is_in_range sc) deeds ≡ true → AreTested sc deeds
-tested_each sc [] e = λ n item v found last. absurd (cc)
-tested_each sc (deed ∷ deeds) e =
-    let parts = and_parts (is_in_range sc deed) (list_all (is_in_range sc) deeds) e in
-    λ n item v found last. last_tested sc deed deeds n item v (last_write n deeds) refl parts.0 (λ w is. tested_each sc deeds parts.1 n item w found is) found last
+-- each value of a store in range is within 10^15
+pub store_within : (sc : Scenario) (store : List ℤ) → IsValid sc → length store ≡ length sc.items → are_in_range sc.items store ≡ true → AllByRecursion (IsWithin (10 ^ 15)) store
+store_within sc store valid e range = items_within sc sc.items store valid.items e range

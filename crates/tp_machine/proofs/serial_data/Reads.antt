@@ -1,14 +1,22 @@
 -- Deeds whose reads have the values of a store, own writes among them. They stay so as deeds are applied that are clear of them.
-use Rattle.std.proofs.Common.{◌≡◌, ℕ, ◌+◌, List, [], ◌∷◌, ◌++◌, length, slice_get, slice_set, Option, Some, unwrap_or, ℤ, pos, refl, sym, ap, subst, ◌∙◌, arith}
-use Rattle.std.proofs.lemmas.Bool.{ne_eqb}
+use Rattle.std.proofs.Common.{List, Option, Some, [], ap, arith, length, not, pos, refl, slice_get, slice_set, subst, sym, true, unwrap_or, ℕ, ℤ, ◌&&◌, ◌++◌, ◌+◌, ◌^◌, ◌∙◌, ◌∷◌, ◌≡◌}
+use Rattle.std.proofs.lemmas.Bool.{and_parts, ne_eqb}
+use Rattle.std.proofs.lemmas.Int.{ints}
+use Rattle.std.proofs.lemmas.List.Elements.{All-replicate, recursion_from_All}
 use Rattle.std.proofs.lemmas.List.{set_comm}
-use Rattle.tp_model.specs.Words.{Action, Deed, Query, Transaction}
-use Rattle.tp_model.specs.Words.action
+use Rattle.std.specs.List.{AllByRecursion, list_all, list_any}
+use Rattle.tp_types.proofs.ListLemmas.{three_parts}
 use Rattle.tp_types.specs.declared.scenario.Query.TheVariants.{Read, Write}
-use Rattle.tp_model.specs.SerialRun.{cleared_registers, deeds_from, number_at, serial_run, stored, stored_all, stored_by}
-use Rattle.tp_machine.specs.Sound.{Each}
+use Rattle.tp_model.proofs.RunBounds.{IsWithin, bound_after, run_within_most, set_within}
+use Rattle.tp_model.specs.Limits.{has_count, is_from_to}
+use Rattle.tp_model.specs.SerialRun.{cleared_registers, deeds_from, number_at, serial_run, stored, stored_all, stored_by, sum_in}
+use Rattle.tp_model.specs.Valid.{has_valid_creds, is_item, is_name_of_server, is_valid_query, is_valid_sum, is_valid_txn}
+use Rattle.tp_model.specs.Words.action
+use Rattle.tp_model.specs.Words.{Action, Deed, Query, Scenario, Transaction}
+use Rattle.tp_machine.proofs.serial_data.Clamped.{clamped_is}
 use Rattle.tp_machine.proofs.serial_data.Lists.{set_elsewhere}
-use Rattle.tp_machine.proofs.serial_data.Runs.{RunsFrom, RunsSoFar, deed_of}
+use Rattle.tp_machine.proofs.serial_data.Runs.{RunsFrom, RunsSoFar, deed_asked}
+use Rattle.tp_machine.specs.Sound.{Each}
 
 -- ---- reads
 
@@ -98,26 +106,51 @@ reads_clear store deeds (one ∷ others) clear h = reads_clear (stored store one
 abbrev ReadsOn : List ℤ → List Deed → Deed → Type 0
 ReadsOn store deeds deed = IsReadFrom store deed × ReadsFrom (stored store deed) deeds
 
-run_from : (number : ℕ) (queries : List Query) (registers store : List ℤ) (deeds : List Deed) → RunsFrom number queries registers deeds → length deeds ≡ length queries → ReadsFrom store deeds
-    → deeds ≡ deeds_from number queries registers store
-run_from number [] registers store [] h all reads = refl
-run_from number [] registers store (deed ∷ deeds) h all reads = absurd h
-run_from number (query ∷ queries) registers store [] h all reads = absurd (omega (arith, all))
-run_from number (Read item into ∷ queries) registers store (deed ∷ deeds) h all reads =
-    let is = h.0.deed_is in
-    let here : ReadsOn store deeds (deed_of number (Some (Read item into)) deed.value) = subst (ReadsOn store deeds) is reads in
-    let later : deeds ≡ deeds_from (number + 1) queries (slice_set registers into deed.value) store = run_from (number + 1) queries (slice_set registers into deed.value) store deeds h.1 (omega (arith, all)) here.1 in
-    ap (λ (first : Deed). first ∷ deeds) is
-    ∙ (ap (λ (rest : List Deed). deed_of number (Some (Read item into)) deed.value ∷ rest) later
-    ∙ ap (λ (value : ℤ). deed_of number (Some (Read item into)) value ∷ deeds_from (number + 1) queries (slice_set registers into value) store) here.0)
-run_from number (Write item expr ∷ queries) registers store (deed ∷ deeds) h all reads =
-    let is = h.0.deed_is in
-    let here : ReadsOn store deeds (deed_of number (Some (Write item expr)) deed.value) = subst (ReadsOn store deeds) is reads in
-    let later : deeds ≡ deeds_from (number + 1) queries registers (slice_set store item.0 deed.value) = run_from (number + 1) queries registers (slice_set store item.0 deed.value) deeds h.1 (omega (arith, all)) here.1 in
-    ap (λ (first : Deed). first ∷ deeds) is
-    ∙ (ap (λ (rest : List Deed). deed_of number (Some (Write item expr)) deed.value ∷ rest) later
-    ∙ ap (λ (value : ℤ). deed_of number (Some (Write item expr)) value ∷ deeds_from (number + 1) queries registers (slice_set store item.0 value)) h.0.value_is)
+-- the value of a deed is within the bound of 16 queries
+abbrev DeedIsWithin : Deed → Type 0
+DeedIsWithin deed = IsWithin (bound_after 16) deed.value
 
--- deeds of all queries whose reads are those of a store are the transaction's run by itself on that store
-pub run_is : (txn : Transaction) (store : List ℤ) (deeds : List Deed) → RunsSoFar txn deeds → length deeds ≡ length txn.queries → ReadsFrom store deeds → deeds ≡ serial_run txn store
-run_is txn store deeds h all reads = run_from 1 txn.queries cleared_registers store deeds h all reads
+run_from : (sc : Scenario) (number : ℕ) (queries : List Query) (registers store : List ℤ) (deeds : List Deed) → list_all (is_valid_query sc) queries ≡ true
+    → AllByRecursion (IsWithin (bound_after 16)) registers → AllByRecursion DeedIsWithin (deeds_from number queries registers store)
+    → RunsFrom number queries registers deeds → length deeds ≡ length queries → ReadsFrom store deeds → deeds ≡ deeds_from number queries registers store
+run_from sc number [] registers store [] valid kept within h all reads = refl
+run_from sc number [] registers store (deed ∷ deeds) valid kept within h all reads = absurd h
+run_from sc number (query ∷ queries) registers store [] valid kept within h all reads = absurd (omega (arith, all))
+run_from sc number (Read item into ∷ queries) registers store (deed ∷ deeds) valid kept within h all reads =
+    let is = h.0.deed_is in
+    let value = number_at store item.0 in
+    let here : ReadsOn store deeds (deed_asked number (Some (Read item into)) deed.value) = subst (ReadsOn store deeds) is reads in
+    let parts = and_parts (is_valid_query sc (Read item into)) (list_all (is_valid_query sc) queries) valid in
+    let runs : RunsFrom (number + 1) queries (slice_set registers into value) deeds = subst (λ (v : ℤ). RunsFrom (number + 1) queries (slice_set registers into v) deeds) here.0 h.1 in
+    let later : deeds ≡ deeds_from (number + 1) queries (slice_set registers into value) store =
+    run_from sc (number + 1) queries (slice_set registers into value) store deeds parts.1 (set_within (bound_after 16) registers into value kept within.0) within.1 runs (omega (arith, all)) here.1 in
+    ap (λ (first : Deed). first ∷ deeds) is
+    ∙ (ap (λ (v : ℤ). deed_asked number (Some (Read item into)) v ∷ deeds) here.0 ∙ ap (λ (rest : List Deed). deed_asked number (Some (Read item into)) value ∷ rest) later)
+run_from sc number (Write item expr ∷ queries) registers store (deed ∷ deeds) valid kept within h all reads =
+    let is = h.0.deed_is in
+    let value = sum_in registers expr in
+    let here : ReadsOn store deeds (deed_asked number (Some (Write item expr)) deed.value) = subst (ReadsOn store deeds) is reads in
+    let parts = and_parts (is_valid_query sc (Write item expr)) (list_all (is_valid_query sc) queries) valid in
+    let sum = (and_parts (is_item sc item) (is_valid_sum expr) parts.0).1 in
+    let exact : deed.value ≡ value = h.0.value_is ∙ clamped_is (bound_after 16) registers expr (omega arith) (omega arith) sum kept in
+    let reads_on : ReadsFrom (slice_set store item.0 value) deeds = subst (λ (v : ℤ). ReadsFrom (slice_set store item.0 v) deeds) exact here.1 in
+    let later : deeds ≡ deeds_from (number + 1) queries registers (slice_set store item.0 value) =
+    run_from sc (number + 1) queries registers (slice_set store item.0 value) deeds parts.1 kept within.1 h.1 (omega (arith, all)) reads_on in
+    ap (λ (first : Deed). first ∷ deeds) is
+    ∙ (ap (λ (v : ℤ). deed_asked number (Some (Write item expr)) v ∷ deeds) exact ∙ ap (λ (rest : List Deed). deed_asked number (Some (Write item expr)) value ∷ rest) later)
+
+cleared_within : AllByRecursion (IsWithin (bound_after 16)) cleared_registers
+cleared_within =
+    let zero_within : IsWithin (bound_after 16) (pos 0) = record { low = omega (arith, ints); high = omega (arith, ints) } in
+    recursion_from_All (IsWithin (bound_after 16)) cleared_registers (All-replicate (IsWithin (bound_after 16)) 10 (pos 0) zero_within)
+
+pub valid_queries : (sc : Scenario) (txn : Transaction) → is_valid_txn sc txn ≡ true → list_all (is_valid_query sc) txn.queries ≡ true
+valid_queries sc txn valid =
+    let work = (and_parts (has_valid_creds sc txn && is_from_to 1 16 txn.rounds) _ valid).1 in
+    (three_parts (has_count 1 16 txn.queries) (list_all (is_valid_query sc) txn.queries) (not (list_any (is_name_of_server txn) sc.servers)) work).1
+
+-- deeds of all queries whose reads are those of a store of items' values are the transaction's run by itself on that store
+pub run_is : (sc : Scenario) (txn : Transaction) (store : List ℤ) (deeds : List Deed) → is_valid_txn sc txn ≡ true → AllByRecursion (IsWithin (10 ^ 15)) store
+    → RunsSoFar txn deeds → length deeds ≡ length txn.queries → ReadsFrom store deeds → deeds ≡ serial_run txn store
+run_is sc txn store deeds valid within h all reads =
+    run_from sc 1 txn.queries cleared_registers store deeds (valid_queries sc txn valid) cleared_within (run_within_most sc txn store valid within) h all reads

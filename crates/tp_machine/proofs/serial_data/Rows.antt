@@ -1,26 +1,43 @@
 -- Serial data, the server's rows: what an entry has read are the server's values, and a settled commit applies what its entry has done.
 use Rattle.std.specs.Option.{option_map_or}
-use Rattle.std.proofs.Common.{IfSome, List, None, Option, Some, [], ap, false, if◌then◌else◌, is_none, is_some, option_and_then, option_map, refl, slice_get, slice_set, subst, sym, true, ℕ, ℤ, ◌&&◌, ◌∙◌, ◌∷◌, ◌≡◌}
-use Rattle.std.proofs.lemmas.Option.{cond_some}
+use Rattle.std.proofs.Common.{Bool, IfSome, List, None, Option, Some, [], ap, arith, false, if◌then◌else◌, is_some, length, map, option_and_then, option_map, refl, slice_get, slice_set, subst, sym, true, unwrap_or, ℕ, ℤ, ⊎_elim, ◌++◌, ◌<◌, ◌∙◌, ◌∷◌, ◌≡◌}
+use Rattle.std.proofs.lemmas.Bool.{eqb-true}
+use Rattle.std.proofs.lemmas.List.{length-set}
+use Rattle.std.proofs.lemmas.Option.{same_Some}
 use Rattle.tp_types.specs.Effect.{Effect, sends}
 use Rattle.tp_types.specs.Table.{flattened}
-use Rattle.tp_model.specs.SerialRun.{stored_all, stored_by}
-use Rattle.tp_model.specs.Words.action
+use Rattle.tp_model.specs.Ids.{same_txn}
+use Rattle.tp_model.specs.Queries.{item_of}
+use Rattle.tp_model.specs.SerialRun.{stored_all}
 use Rattle.tp_model.specs.Words.body
 use Rattle.tp_model.specs.Words.log
+use Rattle.tp_model.specs.Words.no
 use Rattle.tp_model.specs.Words.outcome
-use Rattle.tp_model.specs.Words.{Action, Body, DecideRequest, Deed, ItemId, Letter, Mail, Outcome, PrepareRequest, Prepared, QueryRequest, Record, Scenario, Staple, TxnId}
-use Rattle.tp_machine.proofs.agreement.Server.{cast_in, vote_by}
-use Rattle.tp_machine.proofs.basics.Lists.{placed_emptied_others, placed_set}
+use Rattle.tp_model.specs.Words.query
+use Rattle.tp_model.specs.Words.{Body, Deed, Letter, Mail, Outcome, PrepareRequest, Prepared, Query, QueryRequest, Record, Scenario, Settled, Staple, Transaction, TxnId}
+use Rattle.tp_machine.proofs.agreement.Server.{cast_in, vote_by, written_over}
+use Rattle.tp_machine.proofs.basics.Ids.{same_txn_is}
+use Rattle.tp_machine.proofs.basics.Lists.{missing, placed_emptied_others, placed_set, set_here}
 use Rattle.tp_machine.proofs.basics.Logs.{Prepares}
-use Rattle.tp_machine.proofs.serial_data.Ranges.{AreTested, tested_each}
-use Rattle.tp_machine.proofs.serial_data.Reads.{AreClear, IsReadBy, ReadsFrom, reads_clear}
-use Rattle.tp_machine.proofs.walks.ServerRows.{IsVote, server_by}
+use Rattle.tp_machine.proofs.basics.Stores.{ended_bounds, kept_bounds, kept_values}
+use Rattle.tp_machine.proofs.serial_data.Lengths.{all_length}
+use Rattle.tp_machine.proofs.serial_data.Lists.{set_elsewhere}
+use Rattle.tp_machine.proofs.serial_data.Ranges.{AreTested}
+use Rattle.tp_machine.proofs.serial_data.Reads.{AreClear, IsReadFrom, ReadsFrom, reads_clear, reads_more}
+use Rattle.tp_machine.proofs.serial_data.Stores.{HasPlace}
+use Rattle.tp_machine.proofs.serial_data.Tentative.{AreLast, AreUpTo, inside_tested, none_last, own_read, read_last, write_last, write_of}
+use Rattle.tp_machine.proofs.walks.ServerRows.{IsFirstHere, IsFurther, IsGranted, IsVote, server_by}
+use Rattle.tp_machine.specs.Runs.{deed_of}
 use Rattle.tp_machine.specs.Sound.{EachPlaced}
 use Rattle.tp_machine.specs.declared.server.Ballot.{Ballot}
 use Rattle.tp_machine.specs.declared.server.Entry.{Entry}
-use Rattle.tp_machine.specs.server.Row.{ack_letter, applied, applied_deed, asked_item, begins, committed, entry_at, first_entry, is_open, is_write, plain_write, reply, restarted_reply, server_row, settles, votes}
+use Rattle.tp_machine.specs.server.Row.{ack_letter, answer_to, asked_query, completes, ended_store, ends, entry_after, entry_at, is_open, kept_by, no_letter, refused_as, reply, restarted_reply, server_row, settled_as, tentative_write, value_of_run, votes}
 use Rattle.tp_machine.specs.server.State.{Server}
+use Rattle.tp_machine.specs.server.Verdicts.{verdicts_on}
+use Rattle.tp_store.specs.Contents.{Contents}
+use Rattle.tp_store.specs.Rule.{bounds_of, read_in, writes_of}
+use Rattle.tp_store.specs.Writes.{with_write}
+use Rattle.tp_store.specs.declared.writes.TentativeWrite.{TentativeWrite}
 
 -- ---- what is kept
 
@@ -41,8 +58,18 @@ values_by values outcome.Abort deeds = values
 
 -- the values after a record: a settled commit applies what its transaction has done
 abbrev pub values_with : Server → Option Record → List ℤ
-values_with s (Some (log.Settled r)) = values_by s.values r.outcome (deeds_in (entry_at s r.txn))
-values_with s _ = s.values
+values_with s (Some (log.Settled r)) = values_by s.store.values r.outcome (deeds_in (entry_at s r.txn))
+values_with s _ = s.store.values
+
+-- a server has a place for each item and each transaction, the items' ranges, and of each transaction the last writes; what its entries have
+-- read are its values
+pub record ServerReads (sc : Scenario) (s : Server) : Type 0 where
+  pub reads : AllRead s.store.values s.entries
+  pub items_are : length s.store.values ≡ length sc.items
+  pub bounds_are : s.store.bounds ≡ map bounds_of sc.items
+  pub places : length s.store.tentative ≡ length sc.txns
+  pub entry_places : length s.entries ≡ length sc.txns
+  pub last : (txn : TxnId) → AreLast (writes_of s.store txn) (deeds_in (entry_at s txn))
 
 -- what is forced as a vote YES was tested against the ranges of items
 abbrev pub RecordTested : Scenario → Record → Type 0
@@ -60,43 +87,160 @@ RecordFresh M s _ = Unit {0}
 
 -- an act of a server
 pub record ServerKeeps (sc : Scenario) (M : TxnId → Type 0) (s : Server) (effect : Effect Server) : Type 0 where
-  pub reads : AllRead effect.state.values effect.state.entries
+  pub reads : ServerReads sc effect.state
   pub forces : IfSome effect.reaction.append (RecordTested sc)
   pub fresh : IfSome effect.reaction.append (RecordFresh M s)
-  pub values : effect.state.values ≡ values_with s effect.reaction.append
+  pub values : effect.state.store.values ≡ values_with s effect.reaction.append
 
 -- what one transaction has done is clear of what others have
 abbrev pub IsClearOfOthers : Server → TxnId → Type 0
 IsClearOfOthers s txn = (n : ℕ) (other : Entry) → flattened (slice_get s.entries n) ≡ Some other → (n ≡ txn.0 → ⊥) → AreClear (deeds_in (entry_at s txn)) other.deeds
 
--- an order to end a transaction comes where what it has done is clear of what others have, and a request to prepare was made
-abbrev pub RequestClear : (TxnId → Type 0) → Server → Body → Type 0
-RequestClear M s (body.Decide d) = IsClearOfOthers s d.txn
-RequestClear M s (body.Prepare p) = M p.txn
-RequestClear M s _ = Unit {0}
+-- a query comes after those that have run
+pub record QueryRises (sc : Scenario) (s : Server) (q : QueryRequest) : Type 0 where
+  pub exists : q.txn.0 < length sc.txns
+  pub on_item : (query : Query) → asked_query sc q ≡ Some query → (item_of query).0 < length sc.items
+  pub rises : (entry : Entry) → entry_at s q.txn ≡ Some entry → is_some entry.ballot ≡ false → answer_to entry q.query ≡ None → AreUpTo q.query entry.deeds
+
+-- an order to end is of a transaction that is clear of the others
+pub record OrderClear (sc : Scenario) (s : Server) (txn : TxnId) : Type 0 where
+  pub exists : txn.0 < length sc.txns
+  pub clear : IsClearOfOthers s txn
+
+-- a request to prepare was made, and may end its transaction
+pub record PrepareClear (sc : Scenario) (M : TxnId → Type 0) (s : Server) (txn : TxnId) : Type 0 where
+  pub made : M txn
+  pub ends : OrderClear sc s txn
+
+-- what is known of a mail to the server; M says which requests were made
+abbrev pub RequestClear : Scenario → (TxnId → Type 0) → Server → Body → Type 0
+RequestClear sc M s (body.Query q) = QueryRises sc s q
+RequestClear sc M s (body.Decide d) = OrderClear sc s d.txn
+RequestClear sc M s (body.Prepare p) = PrepareClear sc M s p.txn
+RequestClear sc M s _ = Unit {0}
 
 -- ---- rows
 
 -- an act that keeps all entries and forces nothing
-stays_keep : (sc : Scenario) (M : TxnId → Type 0) (s : Server) (letters : List Letter) → AllRead s.values s.entries → ServerKeeps sc M s (sends s letters)
+stays_keep : (sc : Scenario) (M : TxnId → Type 0) (s : Server) (letters : List Letter) → ServerReads sc s → ServerKeeps sc M s (sends s letters)
 stays_keep sc M s letters h = record { reads = h; forces = tt; fresh = tt; values = refl }
+
+-- ---- tables
+
+entry_set : (s : Server) (txn other : TxnId) (entry : Option Entry) (b : Bool) → same_txn txn other ≡ b → txn.0 < length s.entries → flattened (slice_get (slice_set s.entries txn.0 entry) other.0) ≡ (if b then entry else entry_at s other)
+entry_set s txn other entry true e within =
+    let is : txn.0 ≡ other.0 = eqb-true txn.0 other.0 e in
+    ap (λ (n : ℕ). flattened (slice_get (slice_set s.entries txn.0 entry) n)) (sym is) ∙ ap flattened (set_here s.entries txn.0 entry within)
+entry_set s txn other entry false e within = ap flattened (set_elsewhere s.entries txn.0 other.0 entry e)
+
+writes_set : (store : Contents) (txn other : TxnId) (writes : List TentativeWrite) (b : Bool) → same_txn txn other ≡ b → txn.0 < length store.tentative
+    → unwrap_or (slice_get (slice_set store.tentative txn.0 writes) other.0) [] ≡ (if b then writes else writes_of store other)
+writes_set store txn other writes true e within =
+    let is : txn.0 ≡ other.0 = eqb-true txn.0 other.0 e in
+    ap (λ (n : ℕ). unwrap_or (slice_get (slice_set store.tentative txn.0 writes) n) []) (sym is) ∙ ap (λ (x : Option (List TentativeWrite)). unwrap_or x []) (set_here store.tentative txn.0 writes within)
+writes_set store txn other writes false e within = ap (λ (x : Option (List TentativeWrite)). unwrap_or x []) (set_elsewhere store.tentative txn.0 other.0 writes e)
+
+-- one transaction's writes and entry change
+last_set : (s : Server) (txn other : TxnId) (writes : List TentativeWrite) (entry : Option Entry) (b : Bool) → same_txn txn other ≡ b → txn.0 < length s.store.tentative → txn.0 < length s.entries
+    → AreLast writes (deeds_in entry) → AreLast (writes_of s.store other) (deeds_in (entry_at s other))
+    → AreLast (unwrap_or (slice_get (slice_set s.store.tentative txn.0 writes) other.0) []) (deeds_in (flattened (slice_get (slice_set s.entries txn.0 entry) other.0)))
+last_set s txn other writes entry true e kept within new old =
+    subst (λ (found : Option Entry). AreLast (unwrap_or (slice_get (slice_set s.store.tentative txn.0 writes) other.0) []) (deeds_in found)) (sym (entry_set s txn other entry true e within))
+    (subst (λ (ws : List TentativeWrite). AreLast ws (deeds_in entry)) (sym (writes_set s.store txn other writes true e kept)) new)
+last_set s txn other writes entry false e kept within new old =
+    subst (λ (found : Option Entry). AreLast (unwrap_or (slice_get (slice_set s.store.tentative txn.0 writes) other.0) []) (deeds_in found)) (sym (entry_set s txn other entry false e within))
+    (subst (λ (ws : List TentativeWrite). AreLast ws (deeds_in (entry_at s other))) (sym (writes_set s.store txn other writes false e kept)) old)
 
 -- ---- Query
 
-plain_writes : (q : QueryRequest) (found : Option ItemId) (value : Option ℤ) (deed : Deed) → plain_write q found value ≡ Some deed → deed.action ≡ action.Write
-plain_writes q (Some item) (Some value) deed e =
-    ap (λ (d : Deed). d.action) (sym (cond_some (is_none q.staple && is_none q.pin) (record { query = q.query; item = item; action = action.Write; value = value }) deed e).1)
-plain_writes q (Some item) None deed e = absurd (cc)
-plain_writes q None value deed e = absurd (cc)
+-- what an entry at which a query runs has done so far
+record IsRunAt (sc : Scenario) (s : Server) (q : QueryRequest) (entry : Entry) : Type 0 where
+  pub reads : ReadsFrom s.store.values entry.deeds
+  pub last : AreLast (writes_of s.store q.txn) entry.deeds
+  pub upto : AreUpTo q.query entry.deeds
 
-begins_keep : (sc : Scenario) (M : TxnId → Type 0) (s : Server) (sent : ℕ) (q : QueryRequest) (deed : Deed) → AllRead s.values s.entries → deed.action ≡ action.Write → ServerKeeps sc M s (begins s sent q (Some deed))
-begins_keep sc M s sent q deed h writes =
+run_at : (sc : Scenario) (s : Server) (mail : Mail) (q : QueryRequest) (query : Query) (entry : Entry) (value : ℤ) → ServerReads sc s → QueryRises sc s q → IsGranted sc s mail q query entry value → IsRunAt sc s q entry
+run_at sc s mail q query entry value h m k =
+    ⊎_elim
+    (λ (first : IsFirstHere s mail.sent q entry).
+    let none : entry.deeds ≡ [] = ap (λ (e : Entry). e.deeds) first.entry_is in
     record {
-      reads = placed_set (λ (n : ℕ) (entry : Entry). ReadsFrom s.values entry.deeds) s.entries q.txn.0 (first_entry s sent q deed) h
-          (subst (λ (a : Action). IsReadBy a s.values deed) (sym writes) tt, tt);
+      reads = subst (ReadsFrom s.store.values) (sym none) tt;
+      last = subst (AreLast (writes_of s.store q.txn)) (ap deeds_in first.no_entry ∙ sym none) (h.last q.txn);
+      upto = subst (AreUpTo q.query) (sym none) tt;
+    })
+    (λ (further : IsFurther s q entry).
+    record {
+      reads = h.reads q.txn.0 entry further.found;
+      last = subst (λ (found : Option Entry). AreLast (writes_of s.store q.txn) (deeds_in found)) further.found (h.last q.txn);
+      upto = m.rises entry further.found further.unvoted further.unanswered;
+    }) k.place
+
+-- a read has the value that its item has by then
+run_reads : (sc : Scenario) (s : Server) (q : QueryRequest) (query : Query) (entry : Entry) (value : ℤ) → ServerReads sc s → IsRunAt sc s q entry → (item_of query).0 < length sc.items → value_of_run s q query ≡ Some value
+    → IsReadFrom (stored_all s.store.values entry.deeds) (deed_of q.query query value)
+run_reads sc s q (query.Write item expr) entry value h k on is = tt
+run_reads sc s q (query.Read item into) entry value h k on is =
+    let items = h.items_are in
+    let has : HasPlace s.store.values item.0 = some_place s.store.values item.0 (omega (arith, on, items)) in
+    sym (same_Some (read_in s.store q.txn item) value is) ∙ own_read s.store q.txn item entry.deeds has k.last
+  where
+    some_place : (values : List ℤ) (n : ℕ) → n < length values → HasPlace values n
+    some_place values n within = found (slice_get values n) refl
+      where
+        found : (v : Option ℤ) → slice_get values n ≡ v → is_some (slice_get values n) ≡ true
+        found None e = absurd (missing values n within e)
+        found (Some v) e = ap is_some e
+
+-- what the store keeps of it
+run_last : (sc : Scenario) (s : Server) (q : QueryRequest) (query : Query) (entry : Entry) (value : ℤ) (other : TxnId) → ServerReads sc s → q.txn.0 < length sc.txns → IsRunAt sc s q entry
+    → AreLast (writes_of (kept_by s.store q query value) other)
+    (deeds_in (flattened (slice_get (slice_set s.entries q.txn.0 (Some (entry_after q entry (deed_of q.query query value)))) other.0)))
+run_last sc s q (query.Write item expr) entry value other h exists k =
+    let deed = deed_of q.query (query.Write item expr) value in
+    let places = h.places in
+    let entry_places = h.entry_places in
+    last_set s q.txn other (with_write (writes_of s.store q.txn) (write_of deed)) (Some (entry_after q entry deed)) (same_txn q.txn other) refl (omega (arith, exists, places)) (omega (arith, exists, entry_places))
+    (write_last (writes_of s.store q.txn) entry.deeds deed refl k.upto k.last) (h.last other)
+run_last sc s q (query.Read item into) entry value other h exists k =
+    let deed = deed_of q.query (query.Read item into) value in
+    let entry_places = h.entry_places in
+    by_txn deed (same_txn q.txn other) refl (omega (arith, exists, entry_places)) (read_last (writes_of s.store q.txn) entry.deeds deed refl k.last)
+  where
+    by_txn : (deed : Deed) (b : Bool) → same_txn q.txn other ≡ b → q.txn.0 < length s.entries → AreLast (writes_of s.store q.txn) (entry.deeds ++ deed ∷ [])
+        → AreLast (writes_of s.store other) (deeds_in (flattened (slice_get (slice_set s.entries q.txn.0 (Some (entry_after q entry deed))) other.0)))
+    by_txn deed true e within new =
+        subst (λ (found : Option Entry). AreLast (writes_of s.store other) (deeds_in found)) (sym (entry_set s q.txn other (Some (entry_after q entry deed)) true e within))
+        (subst (λ (t : TxnId). AreLast (writes_of s.store t) (entry.deeds ++ deed ∷ [])) (same_txn_is q.txn other e) new)
+    by_txn deed false e within new =
+        subst (λ (found : Option Entry). AreLast (writes_of s.store other) (deeds_in found)) (sym (entry_set s q.txn other (Some (entry_after q entry deed)) false e within)) (h.last other)
+
+tentative_places : (store : Contents) (q : QueryRequest) (query : Query) (value : ℤ) → length (kept_by store q query value).tentative ≡ length store.tentative
+tentative_places store q (query.Read item into) value = refl
+tentative_places store q (query.Write item expr) value = length-set store.tentative q.txn.0 (with_write (writes_of store q.txn) (tentative_write q item value))
+
+runs_keep : (sc : Scenario) (M : TxnId → Type 0) (s : Server) (mail : Mail) (q : QueryRequest) (query : Query) (entry : Entry) (value : ℤ) → ServerReads sc s → QueryRises sc s q → IsGranted sc s mail q query entry value
+    → ServerKeeps sc M s (completes s q query entry (deed_of q.query query value))
+runs_keep sc M s mail q query entry value h m k =
+    let deed = deed_of q.query query value in
+    let new = entry_after q entry deed in
+    let at : IsRunAt sc s q entry = run_at sc s mail q query entry value h m k in
+    let same : (kept_by s.store q query value).values ≡ s.store.values = kept_values s.store q query value in
+    let reads : AllRead s.store.values (slice_set s.entries q.txn.0 (Some new)) =
+    placed_set (λ (n : ℕ) (found : Entry). ReadsFrom s.store.values found.deeds) s.entries q.txn.0 new h.reads
+    (reads_more s.store.values entry.deeds deed at.reads (run_reads sc s q query entry value h at (m.on_item query k.asked_is) k.value_is)) in
+    record {
+      reads = record {
+        reads = subst (λ (values : List ℤ). AllRead values (slice_set s.entries q.txn.0 (Some new))) (sym same) reads;
+        items_are = ap length same ∙ h.items_are;
+        bounds_are = kept_bounds s.store q query value ∙ h.bounds_are;
+        places = tentative_places s.store q query value ∙ h.places;
+        entry_places = length-set s.entries q.txn.0 (Some new) ∙ h.entry_places;
+        last = λ other. run_last sc s q query entry value other h m.exists at;
+      };
       forces = tt;
       fresh = tt;
-      values = refl;
+      values = same;
     }
 
 -- ---- Prepare
@@ -108,44 +252,78 @@ unvoted_casts found entry e unvoted = ap (option_and_then cast_in) e ∙ ap (opt
     none_is None f = refl
     none_is (Some ballot) f = absurd (cc)
 
-votes_keep : (sc : Scenario) (M : TxnId → Type 0) (s : Server) (mail : Mail) (p : PrepareRequest) (entry : Entry) (staple : Staple) → AllRead s.values s.entries → M p.txn → IsVote sc s mail p entry staple
-    → ServerKeeps sc M s (votes sc s p staple.place entry)
-votes_keep sc M s mail p entry staple h asked k =
+votes_keep : (sc : Scenario) (M : TxnId → Type 0) (s : Server) (mail : Mail) (p : PrepareRequest) (entry : Entry) (staple : Staple) (txn : Transaction) → ServerReads sc s → M p.txn → IsVote sc s mail p entry staple txn
+    → ServerKeeps sc M s (votes s p (verdicts_on sc s txn staple entry.deeds) entry)
+votes_keep sc M s mail p entry staple txn h asked k =
+    let here : AreLast (writes_of s.store p.txn) entry.deeds = subst (λ (found : Option Entry). AreLast (writes_of s.store p.txn) (deeds_in found)) k.found (h.last p.txn) in
+    let voted : Entry = record entry { ballot = Some (record { turn = p.turn; verdicts = verdicts_on sc s txn staple entry.deeds }) } in
     record {
-      reads = placed_set (λ (n : ℕ) (found : Entry). ReadsFrom s.values found.deeds) s.entries p.txn.0 _ h (h p.txn.0 entry k.found);
-      forces = tested_each sc entry.deeds k.in_range;
+      reads = record {
+        reads = placed_set (λ (n : ℕ) (found : Entry). ReadsFrom s.store.values found.deeds) s.entries p.txn.0 voted h.reads (h.reads p.txn.0 entry k.found);
+        items_are = h.items_are;
+        bounds_are = h.bounds_are;
+        places = h.places;
+        entry_places = length-set s.entries p.txn.0 (Some voted) ∙ h.entry_places;
+        last = λ other. voted_last s p.txn other entry voted (same_txn p.txn other) refl k.found here (h.last other);
+      };
+      forces = inside_tested sc s.store p.txn entry.deeds h.bounds_are here k.in_range;
       fresh = record { asked = asked; unsettled = k.unsettled; unvoted = unvoted_casts (entry_at s p.txn) entry k.found k.unvoted };
       values = refl;
     }
+  where
+    voted_last : (s : Server) (txn other : TxnId) (entry voted : Entry) (b : Bool) → same_txn txn other ≡ b → entry_at s txn ≡ Some entry → AreLast (writes_of s.store txn) voted.deeds
+        → AreLast (writes_of s.store other) (deeds_in (entry_at s other)) → AreLast (writes_of s.store other) (deeds_in (flattened (slice_get (slice_set s.entries txn.0 (Some voted)) other.0)))
+    voted_last s txn other entry voted true e found new old =
+        let is : txn.0 ≡ other.0 = eqb-true txn.0 other.0 e in
+        subst (λ (x : Option Entry). AreLast (writes_of s.store other) (deeds_in x))
+        (sym (ap (λ (n : ℕ). flattened (slice_get (slice_set s.entries txn.0 (Some voted)) n)) (sym is) ∙ written_over s.entries txn.0 entry (Some voted) found))
+        (subst (λ (t : TxnId). AreLast (writes_of s.store t) voted.deeds) (same_txn_is txn other e) new)
+    voted_last s txn other entry voted false e found new old =
+        subst (λ (x : Option Entry). AreLast (writes_of s.store other) (deeds_in x)) (sym (ap flattened (set_elsewhere s.entries txn.0 other.0 (Some voted) e))) old
 
 -- ---- Decide
 
-stored_so : (values : List ℤ) (deed : Deed) (kind : Action) → (if is_write kind then slice_set values deed.item.0 deed.value else values) ≡ stored_by kind values deed
-stored_so values deed action.Read = refl
-stored_so values deed action.Write = refl
+-- what a transaction's end leaves of the values
+ended_values : (store : Contents) (txn : TxnId) (ended : Outcome) (deeds : List Deed) → AreLast (writes_of store txn) deeds → (ended_store store txn ended).values ≡ values_by store.values ended deeds
+ended_values store txn outcome.Commit deeds h = h.applied store.values
+ended_values store txn outcome.Abort deeds h = refl
 
-applied_all : (values : List ℤ) (deeds : List Deed) → applied values deeds ≡ stored_all values deeds
-applied_all values [] = refl
-applied_all values (deed ∷ deeds) = applied_all (applied_deed values deed) deeds ∙ ap (λ (after : List ℤ). stored_all after deeds) (stored_so values deed deed.action)
+ended_tentative : (store : Contents) (txn : TxnId) (ended : Outcome) → (ended_store store txn ended).tentative ≡ slice_set store.tentative txn.0 []
+ended_tentative store txn outcome.Commit = refl
+ended_tentative store txn outcome.Abort = refl
 
-committed_is : (values : List ℤ) (ended : Outcome) (entry : Option Entry) → committed values ended entry ≡ values_by values ended (deeds_in entry)
-committed_is values outcome.Commit (Some entry) = applied_all values entry.deeds
-committed_is values outcome.Commit None = refl
-committed_is values outcome.Abort entry = refl
+values_length : (count : ℕ) (ended : Outcome) (values : List ℤ) (deeds : List Deed) → length values ≡ count → length (values_by values ended deeds) ≡ count
+values_length count outcome.Commit values deeds e = all_length count deeds values e
+values_length count outcome.Abort values deeds e = e
 
 -- the reads of others stay true
 others_read : (ended : Outcome) (values : List ℤ) (deeds others : List Deed) → AreClear deeds others → ReadsFrom values others → ReadsFrom (values_by values ended deeds) others
 others_read outcome.Commit values deeds others clear h = reads_clear values others deeds clear h
 others_read outcome.Abort values deeds others clear h = h
 
-settles_keep : (sc : Scenario) (M : TxnId → Type 0) (s : Server) (d : DecideRequest) → AllRead s.values s.entries → IsClearOfOthers s d.txn → ServerKeeps sc M s (settles s d)
-settles_keep sc M s d h clear =
-    let values : committed s.values d.outcome (entry_at s d.txn) ≡ values_by s.values d.outcome (deeds_in (entry_at s d.txn)) = committed_is s.values d.outcome (entry_at s d.txn) in
-    let others : AllRead (values_by s.values d.outcome (deeds_in (entry_at s d.txn))) (slice_set s.entries d.txn.0 None) =
-    placed_emptied_others (λ (n : ℕ) (entry : Entry). ReadsFrom (values_by s.values d.outcome (deeds_in (entry_at s d.txn))) entry.deeds) s.entries d.txn.0
-    (λ n other found apart. others_read d.outcome s.values (deeds_in (entry_at s d.txn)) other.deeds (clear n other found apart) (h n other found)) in
+ends_keep : (sc : Scenario) (M : TxnId → Type 0) (s : Server) (d : Settled) (letter : Letter) → ServerReads sc s → OrderClear sc s d.txn → ServerKeeps sc M s (ends s d letter)
+ends_keep sc M s d letter h m =
+    let deeds = deeds_in (entry_at s d.txn) in
+    let after = ended_store s.store d.txn d.outcome in
+    let values : after.values ≡ values_by s.store.values d.outcome deeds = ended_values s.store d.txn d.outcome deeds (h.last d.txn) in
+    let table : after.tentative ≡ slice_set s.store.tentative d.txn.0 [] = ended_tentative s.store d.txn d.outcome in
+    let others : AllRead (values_by s.store.values d.outcome deeds) (slice_set s.entries d.txn.0 None) =
+    placed_emptied_others (λ (n : ℕ) (entry : Entry). ReadsFrom (values_by s.store.values d.outcome deeds) entry.deeds) s.entries d.txn.0
+    (λ n other found apart. others_read d.outcome s.store.values deeds other.deeds (m.clear n other found apart) (h.reads n other found)) in
+    let exists = m.exists in
+    let places = h.places in
+    let entry_places = h.entry_places in
     record {
-      reads = subst (λ (after : List ℤ). AllRead after (slice_set s.entries d.txn.0 None)) (sym values) others;
+      reads = record {
+        reads = subst (λ (left : List ℤ). AllRead left (slice_set s.entries d.txn.0 None)) (sym values) others;
+        items_are = ap length values ∙ values_length (length sc.items) d.outcome s.store.values deeds h.items_are;
+        bounds_are = ended_bounds s.store d.txn d.outcome ∙ h.bounds_are;
+        places = ap length table ∙ (length-set s.store.tentative d.txn.0 [] ∙ h.places);
+        entry_places = length-set s.entries d.txn.0 None ∙ h.entry_places;
+        last = λ other.
+            subst (λ (lists : List (List TentativeWrite)). AreLast (unwrap_or (slice_get lists other.0) []) (deeds_in (flattened (slice_get (slice_set s.entries d.txn.0 None) other.0)))) (sym table)
+            (last_set s d.txn other [] None (same_txn d.txn other) refl (omega (arith, exists, places)) (omega (arith, exists, entry_places)) none_last (h.last other));
+      };
       forces = tt;
       fresh = tt;
       values = values;
@@ -154,15 +332,17 @@ settles_keep sc M s d h clear =
 -- ---- all mails
 
 -- every row of a server on receipt of a mail
-pub server_row_keeps : (sc : Scenario) (M : TxnId → Type 0) (s : Server) (mail : Mail) → AllRead s.values s.entries → RequestClear M s mail.letter.body → ServerKeeps sc M s (server_row sc s mail)
+pub server_row_keeps : (sc : Scenario) (M : TxnId → Type 0) (s : Server) (mail : Mail) → ServerReads sc s → RequestClear sc M s mail.letter.body → ServerKeeps sc M s (server_row sc s mail)
 server_row_keeps sc M s mail h clear =
     server_by sc s mail (ServerKeeps sc M s)
     (record {
       ignored = stays_keep sc M s [] h;
-      begun = λ q deed k. begins_keep sc M s mail.sent q deed h (plain_writes q (asked_item sc q) q.value deed k.writes);
+      ran = λ q query entry value k. runs_keep sc M s mail q query entry value h (subst (RequestClear sc M s) k.said_is clear) k;
       restarted = λ q k. stays_keep sc M s (reply s q.txn (body.Done (restarted_reply q s.epoch)) ∷ []) h;
       answered = λ q entry given k. stays_keep sc M s (reply s q.txn (body.Done given) ∷ []) h;
-      voted = λ p entry staple k. votes_keep sc M s mail p entry staple h (subst (RequestClear M s) k.said_is clear) k;
-      settled = λ d k. settles_keep sc M s d h (subst (RequestClear M s) k.said_is clear);
+      voted = λ p entry staple txn k. votes_keep sc M s mail p entry staple txn h (subst (RequestClear sc M s) k.said_is clear).made k;
+      refused = λ p entry number value k. ends_keep sc M s (refused_as p (no.Range number value)) (no_letter s p (no.Range number value)) h (subst (RequestClear sc M s) k.said_is clear).ends;
+      refused_again = λ p settled why k. stays_keep sc M s (no_letter s p why ∷ []) h;
+      settled = λ d k. ends_keep sc M s (settled_as d) (ack_letter s d.txn) h (subst (RequestClear sc M s) k.said_is clear);
       acknowledged = λ d settled k. stays_keep sc M s (ack_letter s d.txn ∷ []) h;
     })

@@ -1,45 +1,16 @@
 -- Deeds as a transaction's queries run one after the other: numbers, items, actions, and the sums that are written.
-use Rattle.std.proofs.Common.{◌≡◌, ℕ, zero, suc, ◌+◌, List, [], ◌∷◌, ◌++◌, length, take, slice_get, slice_set, Option, Some, None, IfSome, option_and_then, ℤ, refl, sym, ap, subst, ◌∙◌, arith}
 use Rattle.std.specs.Option.{option_map_or}
+use Rattle.std.proofs.Common.{IfSome, List, None, Option, Some, [], ap, arith, length, option_and_then, refl, slice_get, subst, suc, sym, take, zero, ℕ, ℤ, ◌++◌, ◌+◌, ◌∙◌, ◌∷◌, ◌≡◌}
 use Rattle.std.proofs.lemmas.Option.{same_Some}
-use Rattle.tp_model.specs.Words.{Action, Deed, ItemId, Query, Transaction}
-use Rattle.tp_model.specs.Words.action
-use Rattle.tp_types.specs.declared.scenario.Query.TheVariants.{Read, Write}
+use Rattle.tp_model.specs.Authorisation.{action_of}
 use Rattle.tp_model.specs.Queries.{item_of, query_at}
-use Rattle.tp_model.specs.SerialRun.{cleared_registers, sum_in}
+use Rattle.tp_model.specs.SerialRun.{cleared_registers}
+use Rattle.tp_model.specs.Words.action
+use Rattle.tp_model.specs.Words.{Action, Deed, ItemId, Query, Transaction}
 use Rattle.tp_machine.specs.Sound.{Each}
-
--- ---- registers
-
--- the registers after a query with this value: a read keeps it
-abbrev pub registers_with : Query → ℤ → List ℤ → List ℤ
-registers_with (Read item into) value registers = slice_set registers into value
-registers_with (Write item expr) value registers = registers
-
--- the registers after the deeds of queries
-abbrev pub registers_from : List Query → List Deed → List ℤ → List ℤ
-registers_from [] deeds registers = registers
-registers_from (query ∷ queries) [] registers = registers
-registers_from (query ∷ queries) (deed ∷ deeds) registers = registers_from queries deeds (registers_with query deed.value registers)
-
--- the registers after a transaction's first deeds
-abbrev pub registers_after : Transaction → List Deed → List ℤ
-registers_after txn deeds = registers_from txn.queries deeds cleared_registers
-
--- the value that a query asks for: a write's sum
-abbrev pub sum_asked : List ℤ → Query → Option ℤ
-sum_asked registers (Read item into) = None
-sum_asked registers (Write item expr) = Some (sum_in registers expr)
-
--- the value that a query is asked with after these deeds: the sum where it writes
-abbrev pub asked_value : Transaction → List Deed → ℕ → Option ℤ
-asked_value txn deeds number = option_and_then (sum_asked (registers_after txn deeds)) (query_at txn number)
+use Rattle.tp_machine.specs.Sums.{asked_value, registers_after, registers_from, registers_with, sum_asked}
 
 -- ---- deeds
-
-abbrev pub action_of : Query → Action
-action_of (Read item into) = action.Read
-action_of (Write item expr) = action.Write
 
 -- the item of a query that is there; item 0 where there is none
 abbrev pub item_asked : Option Query → ItemId
@@ -50,18 +21,18 @@ abbrev pub action_asked : Option Query → Action
 action_asked found = option_map_or action_of found action.Read
 
 -- what query number did, with this value
-abbrev pub deed_of : ℕ → Option Query → ℤ → Deed
-deed_of number found value = record { query = number; item = item_asked found; action = action_asked found; value = value }
+abbrev pub deed_asked : ℕ → Option Query → ℤ → Deed
+deed_asked number found value = record { query = number; item = item_asked found; action = action_asked found; value = value }
 
 -- what the transaction's query of this number did, with this value
 abbrev pub deed_at : Transaction → ℕ → ℤ → Deed
-deed_at txn number value = deed_of number (query_at txn number) value
+deed_at txn number value = deed_asked number (query_at txn number) value
 
 -- ---- runs
 
 -- the deed is the query's, and what it wrote is the sum
 pub record IsRun (number : ℕ) (query : Query) (registers : List ℤ) (deed : Deed) : Type 0 where
-  pub deed_is : deed ≡ deed_of number (Some query) deed.value
+  pub deed_is : deed ≡ deed_asked number (Some query) deed.value
   pub value_is : IfSome (sum_asked registers query) (λ (asked : ℤ). deed.value ≡ asked)
 
 -- the deeds are those of the first queries, counted from a number on
@@ -101,10 +72,10 @@ query_after txn before =
     subst (λ (n : ℕ). query_at txn n ≡ slice_get txn.queries before) next refl
 
 asked_run : (registers : List ℤ) (number : ℕ) (found : Option Query) (query : Query) (value : ℤ) → found ≡ Some query
-    → IfSome (option_and_then (sum_asked registers) found) (λ (asked : ℤ). value ≡ asked) → IsRun number query registers (deed_of number found value)
+    → IfSome (option_and_then (sum_asked registers) found) (λ (asked : ℤ). value ≡ asked) → IsRun number query registers (deed_asked number found value)
 asked_run registers number None query value e h = absurd (cc)
 asked_run registers number (Some found) query value e h =
-    subst (λ (other : Query). IsRun number other registers (deed_of number (Some found) value)) (same_Some found query e) (record { deed_is = refl; value_is = h })
+    subst (λ (other : Query). IsRun number other registers (deed_asked number (Some found) value)) (same_Some found query e) (record { deed_is = refl; value_is = h })
 
 -- the transaction's next query ran, with the value that it was asked with
 pub runs_next : (txn : Transaction) (deeds : List Deed) (query : Query) (value : ℤ) → RunsSoFar txn deeds → query_at txn (length deeds + 1) ≡ Some query

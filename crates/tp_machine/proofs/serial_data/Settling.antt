@@ -222,7 +222,7 @@ others_hold sc other values after part same h =
 
 -- what the act leaves, where these facts are told and these values are left
 pub record Leaves (sc : Scenario) (w : State) (at : ServerId) (part : Part Server) (effect : Effect Server) (happened : List What) : Type 0 where
-  pub here : HoldsValues sc at (overlaid_by sc w happened) effect.state.values
+  pub here : HoldsValues sc at (overlaid_by sc w happened) effect.state.store.values
   pub elsewhere : (n : ℕ) (item : Item) → slice_get sc.items n ≡ Some item → (at.0 == item.server.0) ≡ false → slice_get (overlaid_by sc w happened) n ≡ slice_get (overlaid sc w.facts) n
   pub store : StoreStands sc (with_server w.actors at (next_part part effect)) (overlaid_by sc w happened) (store_of sc w.facts)
   pub same_store : store_by sc w happened ≡ store_of sc w.facts
@@ -253,7 +253,7 @@ left_serial sc w at part s effect happened letters agrees h k l =
 -- ---- an act that settles nothing
 
 quiet_leaves : (sc : Scenario) (w : State) (at : ServerId) (part : Part Server) (s : Server) (effect : Effect Server) → Serial sc w → ServerActs sc w at part s effect
-    → effect.state.values ≡ s.values → ((txn : TxnId) → appended (settlement_in txn) effect.reaction.append ≡ None) → Leaves sc w at part effect []
+    → effect.state.store.values ≡ s.store.values → ((txn : TxnId) → appended (settlement_in txn) effect.reaction.append ≡ None) → Leaves sc w at part effect []
 quiet_leaves sc w at part s effect h k values none =
     let was : ServerUpSerial sc (overlaid sc w.facts) at s = server_serial sc w at part s h k.found k.up in
     let same : SameEnds w.actors (with_server w.actors at (next_part part effect)) = nothing_settled w.actors at part (next_part part effect) effect.reaction.append k.found refl none in
@@ -268,7 +268,7 @@ quiet_leaves sc w at part s effect h k values none =
 -- ---- an act that settles an abort
 
 abort_leaves : (sc : Scenario) (w : State) (at : ServerId) (part : Part Server) (s : Server) (effect : Effect Server) (r : Settled) → Serial sc w → ServerActs sc w at part s effect
-    → effect.reaction.append ≡ Some (log.Settled r) → settled_in r.txn part.log ≡ None → effect.state.values ≡ s.values → (DecidedAs w.actors.coordinators r.txn outcome.Commit → ⊥)
+    → effect.reaction.append ≡ Some (log.Settled r) → settled_in r.txn part.log ≡ None → effect.state.store.values ≡ s.store.values → (DecidedAs w.actors.coordinators r.txn outcome.Commit → ⊥)
     → Leaves sc w at part effect (what.Settled at r.txn outcome.Abort ∷ [])
 abort_leaves sc w at part s effect r h k is fresh values aborted =
     let was : ServerUpSerial sc (overlaid sc w.facts) at s = server_serial sc w at part s h k.found k.up in
@@ -330,7 +330,7 @@ open_share sc w at part s txn committed h found a d fresh served =
     (λ (c : option_map outcome_settled (settled_in txn part.log) ≡ Some outcome.Commit). let none = ap (option_map outcome_settled) fresh in absurd (cc)) served
 
 commit_leaves : (sc : Scenario) (w : State) (at : ServerId) (part : Part Server) (s : Server) (effect : Effect Server) (r : Settled) → Agrees sc w → Serial sc w → ServerActs sc w at part s effect
-    → effect.reaction.append ≡ Some (log.Settled r) → settled_in r.txn part.log ≡ None → effect.state.values ≡ stored_all s.values (deeds_in (entry_at s r.txn)) → has_item_at sc at r.txn ≡ true
+    → effect.reaction.append ≡ Some (log.Settled r) → settled_in r.txn part.log ≡ None → effect.state.store.values ≡ stored_all s.store.values (deeds_in (entry_at s r.txn)) → has_item_at sc at r.txn ≡ true
     → DecidedAs w.actors.coordinators r.txn outcome.Commit → Leaves sc w at part effect (what.Settled at r.txn outcome.Commit ∷ [])
 commit_leaves sc w at part s effect r agrees h k is fresh values item d =
     let was : ServerUpSerial sc (overlaid sc w.facts) at s = server_serial sc w at part s h k.found k.up in
@@ -341,11 +341,11 @@ commit_leaves sc w at part s effect r agrees h k is fresh values item d =
     let share : IsShare sc at s r.txn told.committed = open_share sc w at part s r.txn told.committed h k.found k.agrees told.decided fresh (served_here sc w at part r.txn agrees k.found item d) in
     let overlays : overlaid_by sc w (what.Settled at r.txn outcome.Commit ∷ []) ≡ fold (overlaid_at sc at) (overlaid sc w.facts) deeds = ap (overlaid_deeds sc at (overlaid sc w.facts)) told.told in
     let after : overlaid_by sc w (what.Settled at r.txn outcome.Commit ∷ []) ≡ stored_all (overlaid sc w.facts) (share_at sc at.0 deeds) = overlays ∙ overlaid_share sc at.0 (overlaid sc w.facts) deeds in
-    let applied : effect.state.values ≡ stored_all s.values (share_at sc at.0 deeds) = values ∙ ap (λ (found : Option Entry). stored_all s.values (deeds_in found)) share.found ∙ ap (stored_all s.values) share.deeds_are in
+    let applied : effect.state.store.values ≡ stored_all s.store.values (share_at sc at.0 deeds) = values ∙ ap (λ (found : Option Entry). stored_all s.store.values (deeds_in found)) share.found ∙ ap (stored_all s.store.values) share.deeds_are in
     let left : StoreStands sc (with_server w.actors at next) (stored_all (overlaid sc w.facts) (share_at sc at.0 deeds)) (store_of sc w.facts) = λ other. by_server other (at.0 == other) refl told.committed told.decided settles in
     record {
       here = λ n item found home. ap (λ (xs : List ℤ). slice_get xs n) applied
-          ∙ (same_fold n (share_at sc at.0 deeds) s.values (overlaid sc w.facts) (was.values n item found home) ∙ ap (λ (xs : List ℤ). slice_get xs n) (sym after));
+          ∙ (same_fold n (share_at sc at.0 deeds) s.store.values (overlaid sc w.facts) (was.values n item found home) ∙ ap (λ (xs : List ℤ). slice_get xs n) (sym after));
       elsewhere = λ n item found apart. ap (λ (xs : List ℤ). slice_get xs n) overlays ∙ overlaid_elsewhere sc at.0 n item deeds (overlaid sc w.facts) found apart;
       store = subst (λ (xs : List ℤ). StoreStands sc (with_server w.actors at next) xs (store_of sc w.facts)) (sym after) left;
       same_store = refl;
@@ -374,7 +374,7 @@ server_acts_serial sc w at part s effect agrees h k =
     subst (λ (happened : List What). MoveSerial sc w (record { actors = with_server w.actors at (next_part part effect); happened = happened; letters = effect.reaction.letters }))
     (sym (gained (server_fact at) part.log effect.reaction.append)) (by_record effect.reaction.append refl k.rests)
   where
-    quiet : (append : Option Record) → effect.reaction.append ≡ append → values_with s append ≡ s.values → ((txn : TxnId) → appended (settlement_in txn) append ≡ None)
+    quiet : (append : Option Record) → effect.reaction.append ≡ append → values_with s append ≡ s.store.values → ((txn : TxnId) → appended (settlement_in txn) append ≡ None)
         → MoveSerial sc w (record { actors = with_server w.actors at (next_part part effect); happened = []; letters = effect.reaction.letters })
     quiet append is same none =
         left_serial sc w at part s effect [] effect.reaction.letters agrees h k
@@ -385,12 +385,12 @@ server_acts_serial sc w at part s effect agrees h k =
     by_outcome r outcome.Commit e is rests =
         left_serial sc w at part s effect (what.Settled at r.txn outcome.Commit ∷ []) effect.reaction.letters agrees h k
         (commit_leaves sc w at part s effect r agrees h k is rests.fresh
-        (k.keeps.values ∙ (ap (values_with s) is ∙ ap (λ (ended : Outcome). values_by s.values ended (deeds_in (entry_at s r.txn))) e)) rests.asked.item
+        (k.keeps.values ∙ (ap (values_with s) is ∙ ap (λ (ended : Outcome). values_by s.store.values ended (deeds_in (entry_at s r.txn))) e)) rests.asked.item
         (ordered_commit (DecidedAs w.actors.coordinators) (IsAsked sc w.actors.coordinators at) part.log r r.why refl rests e).1)
     by_outcome r outcome.Abort e is rests =
         left_serial sc w at part s effect (what.Settled at r.txn outcome.Abort ∷ []) effect.reaction.letters agrees h k
         (abort_leaves sc w at part s effect r h k is rests.fresh
-        (k.keeps.values ∙ (ap (values_with s) is ∙ ap (λ (ended : Outcome). values_by s.values ended (deeds_in (entry_at s r.txn))) e))
+        (k.keeps.values ∙ (ap (values_with s) is ∙ ap (λ (ended : Outcome). values_by s.store.values ended (deeds_in (entry_at s r.txn))) e))
         (not_committed sc w at part r r.why agrees k.found refl rests e))
 
     by_record : (append : Option Record) → effect.reaction.append ≡ append → IfSome append (RecordRests (DecidedAs w.actors.coordinators) (IsAsked sc w.actors.coordinators at) part.log)

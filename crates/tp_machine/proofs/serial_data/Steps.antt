@@ -1,41 +1,52 @@
 -- Serial data, step by step: it holds before the first step, and each step keeps it.
-use Rattle.std.proofs.Common.{IfSome, List, None, Option, Some, [], arith, false, is_some, length, option_and_then, refl, slice_get, subst, sym, true, ℕ, ◌∷◌, ◌≡◌}
+use Rattle.std.proofs.Common.{IfSome, List, None, Option, Some, [], arith, false, is_some, length, option_and_then, refl, replicate, slice_get, subst, suc, sym, true, unwrap_or, zero, ℕ, ◌<◌, ◌∙◌, ◌∷◌, ◌≡◌}
+use Rattle.std.proofs.lemmas.List.{length-map, length-replicate}
+use Rattle.std.proofs.lemmas.Option.{same_Some, slice_get_within}
+use Rattle.tp_types.specs.Table.{flattened}
 use Rattle.tp_model.specs.Built.{is_built}
-use Rattle.tp_model.specs.SerialRun.{opening_store, overlaid}
+use Rattle.tp_model.specs.Queries.{item_of}
+use Rattle.tp_model.specs.SerialRun.{opening_store, opening_value, overlaid}
 use Rattle.tp_model.specs.Words.actor
 use Rattle.tp_model.specs.Words.body
 use Rattle.tp_model.specs.Words.step
 use Rattle.tp_model.specs.Words.what
-use Rattle.tp_model.specs.Words.{Actor, Body, Mail, Record, Scenario, ServerId, Step, TxnId, What}
+use Rattle.tp_model.specs.Words.{Actor, Body, Mail, Query, QueryRequest, Record, Scenario, ServerId, Step, TxnId, What}
 use Rattle.tp_machine.proofs.agreement.Coordinator.{IsFirst}
 use Rattle.tp_machine.proofs.agreement.Logs.{IsAsked, IsPrepared}
-use Rattle.tp_machine.proofs.agreement.Steps.{begun_lawful, coordinator_lawful, mail_rests, own_txn, server_agrees, server_lawful}
+use Rattle.tp_machine.proofs.agreement.Steps.{begun_lawful, coordinator_lawful, mail_rests, mail_sound, own_txn, server_agrees, server_lawful}
 use Rattle.tp_machine.proofs.agreement.World.{Agrees, BodyRests}
-use Rattle.tp_machine.proofs.basics.Lists.{at_made, placed_none}
+use Rattle.tp_machine.proofs.basics.Lists.{at_made, each_get, placed_none}
 use Rattle.tp_machine.proofs.ids.Valid.{valid_built}
-use Rattle.tp_machine.proofs.pairs.World.{HasPlaces, Pairs, declared_by}
+use Rattle.tp_machine.proofs.pairs.Actors.{BodyPairs, LetterPairs, QueryAt, asker_at, pair_at, pair_up, site_of}
+use Rattle.tp_machine.proofs.pairs.Fits.{Fits, QueryFits}
+use Rattle.tp_machine.proofs.pairs.Pair.{Pair}
+use Rattle.tp_machine.proofs.pairs.Rises.{rises}
+use Rattle.tp_machine.proofs.pairs.ServerRows.{no_ballot, same_answer}
+use Rattle.tp_machine.proofs.pairs.World.{Pairs, declared_by, pair_of_up}
 use Rattle.tp_machine.proofs.serial_data.Alone.{IsAlone, alone_built, clear_commit, clear_of_others}
 use Rattle.tp_machine.proofs.serial_data.Built.{opening_in_range}
 use Rattle.tp_machine.proofs.serial_data.Deciding.{RecordOwn, coordinator_acts_serial, coordinator_row_own}
 use Rattle.tp_machine.proofs.serial_data.Reads.{ReadsFrom}
-use Rattle.tp_machine.proofs.serial_data.Rows.{RequestClear, server_row_keeps}
+use Rattle.tp_machine.proofs.serial_data.Rows.{QueryRises, RequestClear, ServerReads, deeds_in, server_row_keeps}
 use Rattle.tp_machine.proofs.serial_data.Settling.{server_acts_serial, unmoved_serial}
+use Rattle.tp_machine.proofs.serial_data.Tentative.{AreLast, none_last}
 use Rattle.tp_machine.proofs.serial_data.World.{MoveSerial, Serial, ServerPartSerial, ServerUpSerial, state_after_serial}
 use Rattle.tp_machine.proofs.walks.Steps.{Cases, IsCoordinatorUp, IsServerUp, SaysIdle, WasSent, machine_after_by}
 use Rattle.tp_machine.specs.Logs.{decided_at, decided_by}
 use Rattle.tp_machine.specs.Machine.{Machine, State, acts_by, coordinator_fact, coordinator_move, idle_move, is_part_submitted, machine_after, opened_part, opening_state, refusal, server_fact, server_move, with_age}
 use Rattle.tp_machine.specs.Parts.{Part}
-use Rattle.tp_machine.specs.Sound.{IsSound, IsStepOf, IsTxn}
+use Rattle.tp_machine.specs.Sound.{IsSound, IsSoundBody, IsSoundQuery, IsStepOf, IsTxn}
 use Rattle.tp_machine.specs.coord.Opened as coord
 use Rattle.tp_machine.specs.coord.Opened.{idle}
 use Rattle.tp_machine.specs.coord.Row.{coordinator_row, submit_row}
 use Rattle.tp_machine.specs.coord.State.{Coordinator}
 use Rattle.tp_machine.specs.declared.server.Entry.{Entry}
 use Rattle.tp_machine.specs.server.Opened as server
-use Rattle.tp_machine.specs.server.Row.{server_row}
+use Rattle.tp_machine.specs.server.Row.{entry_at, server_row}
 use Rattle.tp_machine.specs.server.State.{Server}
 use Rattle.tp_offices.specs.Authority as office
 use Rattle.tp_offices.specs.Master as master
+use Rattle.tp_store.specs.declared.writes.TentativeWrite.{TentativeWrite}
 
 -- ---- receipts
 
@@ -45,25 +56,48 @@ idle_serial sc w h (step.Lose mail) happened e =
     subst (λ (hs : List What). MoveSerial sc w (idle_move w.actors hs)) (sym e) (unmoved_serial sc w w.actors (what.Lost mail ∷ []) [] h refl refl (tt, tt))
 idle_serial sc w h _ happened e = absurd e
 
--- an order to end comes to a transaction that is alone, and a request to prepare was made
-request_clear : (sc : Scenario) (w : State) (at : ServerId) (s : Server) (from : Actor) (said : Body) → IsAlone sc → length s.entries ≡ length sc.txns → BodyRests sc w.actors from (actor.Server at) said
-    → RequestClear (IsAsked sc w.actors.coordinators at) s said
-request_clear sc w at s from (body.Decide d) alone places rests = clear_of_others sc s at d.txn alone places rests.1.item
-request_clear sc w at s from (body.Prepare p) alone places rests = rests
-request_clear sc w at s from _ alone places rests = tt
+-- a query comes after those that have run
+query_rises : (sc : Scenario) (w : State) (at : ServerId) (part : Part Server) (s : Server) (q : QueryRequest) → IsServerUp w at part s → IsSoundQuery sc (actor.Server at) q → Pairs sc w
+    → QueryAt sc (pair_at w.actors) (actor.Server at) q → QueryRises sc s q
+query_rises sc w at part s q up sound pairs asked =
+    let there = declared_by sc q.txn sound.txn in
+    let same : pair_at w.actors q.txn at.0 ≡ pair_up q.txn (asker_at w.actors.coordinators q.txn.0 at.0) s part.log = pair_of_up w.actors at part s q.txn up.found up.up in
+    let site = site_of sc at.0 there.0 in
+    let p = pair_up q.txn (asker_at w.actors.coordinators q.txn.0 at.0) s part.log in
+    let fits : Fits site p = subst (Fits site) same (pairs.fits q.txn at.0 there.0 there.1) in
+    let query : QueryFits site p q = subst (λ (x : Pair). QueryFits site x q) same (asked there.0 there.1) in
+    record {
+      exists = sound.txn;
+      on_item = λ found is.
+          let one : found ≡ sound.asked = same_Some found sound.asked (sym is ∙ sound.asked_is) in
+          subst (λ (x : Query). (item_of x).0 < length sc.items) (sym one) (slice_get_within sc.items (item_of sound.asked).0 sound.kept.declared sound.kept.declared_is);
+      rises = λ entry found unvoted unanswered.
+          rises site p entry q refl found fits query (same_answer q.query entry.answers ∙ unanswered) (no_ballot entry.ballot unvoted);
+    }
 
-receipt_by_server : (sc : Scenario) (w : State) → is_built sc ≡ true → Agrees sc w → Pairs sc w → Serial sc w → (n : ℕ) (mail : Mail) (at : ServerId) (part : Part Server) (s : Server)
+-- what is known of a mail to a server: of a query, of a request to prepare, and of an order to end, whose transaction is alone
+request_clear : (sc : Scenario) (w : State) (at : ServerId) (part : Part Server) (s : Server) (from : Actor) (said : Body) → IsAlone sc → length s.entries ≡ length sc.txns → IsServerUp w at part s → Pairs sc w
+    → IsSoundBody sc (actor.Server at) said → BodyRests sc w.actors from (actor.Server at) said → BodyPairs sc (pair_at w.actors) from (actor.Server at) said
+    → RequestClear sc (IsAsked sc w.actors.coordinators at) s said
+request_clear sc w at part s from (body.Query q) alone places up pairs sound rests paired = query_rises sc w at part s q up sound pairs paired
+request_clear sc w at part s from (body.Decide d) alone places up pairs sound rests paired = record { exists = sound.txn; clear = clear_of_others sc s at d.txn alone places rests.1.item }
+request_clear sc w at part s from (body.Prepare p) alone places up pairs sound rests paired = record { made = rests; ends = record { exists = sound.txn; clear = clear_of_others sc s at p.txn alone places rests.item } }
+request_clear sc w at part s from _ alone places up pairs sound rests paired = tt
+
+receipt_by_server : (sc : Scenario) (w : State) → is_built sc ≡ true → IsSound sc w → Agrees sc w → Pairs sc w → Serial sc w → (n : ℕ) (mail : Mail) (at : ServerId) (part : Part Server) (s : Server)
     → WasSent w n mail (actor.Server at) → IsServerUp w at part s → MoveSerial sc w (server_move w.actors at (acts_by (server_fact at) [] part.log (server_row sc s mail)))
-receipt_by_server sc w built agrees pairs h n mail at part s sent up =
+receipt_by_server sc w built sound agrees pairs h n mail at part s sent up =
     let was : ServerUpSerial sc (overlaid sc w.facts) at s = subst (λ (u : Option Server). IfSome u (ServerUpSerial sc (overlaid sc w.facts) at)) up.up (h.servers at.0 part up.found).state in
-    let places : HasPlaces sc s = subst (λ (u : Option Server). IfSome u (HasPlaces sc)) up.up (pairs.places at.0 part up.found) in
+    let said : BodyPairs sc (pair_at w.actors) mail.letter.from (actor.Server at) mail.letter.body =
+    subst (λ (to : Actor). BodyPairs sc (pair_at w.actors) mail.letter.from to mail.letter.body) sent.goes_to (each_get (λ (m : Mail). LetterPairs sc (pair_at w.actors) m.letter) w.mails n mail pairs.mails sent.sent) in
     server_acts_serial sc w at part s (server_row sc s mail) agrees h
     (record {
       found = up.found;
       up = up.up;
       agrees = server_agrees sc w at part s agrees up;
       keeps = server_row_keeps sc (IsAsked sc w.actors.coordinators at) s mail was.reads
-          (request_clear sc w at s mail.letter.from mail.letter.body (alone_built sc built) places (mail_rests sc w n mail (actor.Server at) agrees sent));
+          (request_clear sc w at part s mail.letter.from mail.letter.body (alone_built sc built) was.reads.entry_places up pairs (mail_sound sc w n mail (actor.Server at) sound sent)
+          (mail_rests sc w n mail (actor.Server at) agrees sent) said);
       rests = (server_lawful sc w agrees n mail at part s sent up).rests;
     })
 
@@ -106,7 +140,7 @@ serial_cases : (sc : Scenario) (w : State) → is_built sc ≡ true → IsSound 
 serial_cases sc w built sound agrees pairs h =
     record {
       idle = idle_serial sc w h;
-      server_received = λ n mail at part s sent up. receipt_by_server sc w built agrees pairs h n mail at part s sent up;
+      server_received = λ n mail at part s sent up. receipt_by_server sc w built sound agrees pairs h n mail at part s sent up;
       coordinator_received = λ n mail txn part c sent up. receipt_by_coordinator sc w built sound agrees pairs h n mail txn part c sent up;
       authority_told = λ n mail sent. unmoved_serial sc w w.actors [] (office.authority_row w.actors.authority mail).reaction.letters h refl refl tt;
       master_told = λ n mail sent. unmoved_serial sc w w.actors [] (master.master_row w.actors.master mail).reaction.letters h refl refl tt;
@@ -124,10 +158,32 @@ serial_next sc m taken built exists allowed sound agrees pairs h =
 
 -- ---- before the first step
 
+opened_writes : {A : Type 0} (count n : ℕ) → unwrap_or (slice_get (replicate {A = List A} count []) n) [] ≡ []
+opened_writes zero n = refl
+opened_writes (suc count) zero = refl
+opened_writes (suc count) (suc n) = opened_writes count n
+
+opened_entry : {A : Type 0} (count n : ℕ) → flattened (slice_get (replicate {A = Option A} count None) n) ≡ None
+opened_entry zero n = refl
+opened_entry (suc count) zero = refl
+opened_entry (suc count) (suc n) = opened_entry count n
+
+opening_reads : (sc : Scenario) (at : ServerId) → ServerReads sc (server.opening sc at)
+opening_reads sc at =
+    record {
+      reads = placed_none (λ (n : ℕ) (entry : Entry). ReadsFrom (opening_store sc) entry.deeds) (length sc.txns);
+      items_are = length-map sc.items opening_value;
+      bounds_are = refl;
+      places = length-replicate (length sc.txns) [];
+      entry_places = length-replicate (length sc.txns) None;
+      last = λ txn. subst (λ (ws : List TentativeWrite). AreLast ws (deeds_in (entry_at (server.opening sc at) txn))) (sym (opened_writes (length sc.txns) txn.0))
+          (subst (λ (found : Option Entry). AreLast [] (deeds_in found)) (sym (opened_entry (length sc.txns) txn.0)) none_last);
+    }
+
 opening_serial : (sc : Scenario) (k : ℕ) → ServerPartSerial sc (overlaid sc []) (record { 0 = k }) (opened_part (server.opening sc (record { 0 = k })))
 opening_serial sc k =
     record {
-      state = record { reads = placed_none (λ (n : ℕ) (entry : Entry). ReadsFrom (opening_store sc) entry.deeds) (length sc.txns); values = λ n item found here. refl };
+      state = record { reads = opening_reads sc (record { 0 = k }); values = λ n item found here. refl };
       tested = λ txn p e. absurd (cc);
     }
 

@@ -1,6 +1,4 @@
 -- Serial data over every list of steps: each commit did what its transaction does by itself, and servers apply it.
-use Rattle.std.proofs.lemmas.List.Sums.{fold-append}
-use Rattle.tp_machine.proofs.serial_data.Unsettled.{IsUnsettled}
 use Rattle.std.specs.Cmp.Lexicographic.{pointwise}
 use Rattle.std.specs.List.{list_any}
 use Rattle.std.specs.Option.{option_map_or}
@@ -8,6 +6,7 @@ use Rattle.std.specs.Ordering.{int_eq}
 use Rattle.std.proofs.Common.{Bool, IfSome, List, None, Option, Some, [], ap, arith, false, fold, if◌then◌else◌, is_some, length, refl, slice_get, subst, sym, true, ℕ, ℤ, ◌&&◌, ◌++◌, ◌==◌, ◌||◌, ◌∙◌, ◌∷◌, ◌≡◌}
 use Rattle.std.proofs.lemmas.Bool.Decides.{Decides-int_eq}
 use Rattle.std.proofs.lemmas.Bool.{and_from}
+use Rattle.std.proofs.lemmas.List.Sums.{fold-append}
 use Rattle.tp_types.proofs.ListLemmas.{number_itself}
 use Rattle.tp_model.specs.Facts.{before, commit_in_what, commit_of, first_of, is_decided_as, is_decided_what, is_earlier}
 use Rattle.tp_model.specs.Ids.{same_item, same_txn}
@@ -26,8 +25,9 @@ use Rattle.tp_machine.proofs.serial_data.Commits.{IsItemAt}
 use Rattle.tp_machine.proofs.serial_data.Joined.{share_at}
 use Rattle.tp_machine.proofs.serial_data.Lists.{any_filtered, fold_as, pointwise_itself}
 use Rattle.tp_machine.proofs.serial_data.Ranges.{AreTested}
-use Rattle.tp_machine.proofs.serial_data.Rows.{AllRead}
+use Rattle.tp_machine.proofs.serial_data.Rows.{ServerReads}
 use Rattle.tp_machine.proofs.serial_data.Stores.{StoreFits}
+use Rattle.tp_machine.proofs.serial_data.Unsettled.{IsUnsettled}
 use Rattle.tp_machine.specs.Logs.{decided_at, prepared_at, prepared_in}
 use Rattle.tp_machine.specs.Machine.{Move, State, facts_of, state_after}
 use Rattle.tp_machine.specs.Parts.{Part}
@@ -43,8 +43,8 @@ HoldsValues sc at store values = (n : ℕ) (item : Item) → slice_get sc.items 
 
 -- the entries of a server that is up read its values, and its items have the values of the store
 pub record ServerUpSerial (sc : Scenario) (store : List ℤ) (at : ServerId) (s : Server) : Type 0 where
-  pub reads : AllRead s.values s.entries
-  pub values : HoldsValues sc at store s.values
+  pub reads : ServerReads sc s
+  pub values : HoldsValues sc at store s.store.values
 
 -- and what the server has prepared was tested against the ranges of items
 pub record ServerPartSerial (sc : Scenario) (store : List ℤ) (at : ServerId) (part : Part Server) : Type 0 where

@@ -1,78 +1,26 @@
--- What trust takes from the form that is built: the one policy text allows all by its first rule, a transaction has one query, and
--- a deferred commit reads no master. Here alone the proofs of trust lean on that form.
-use Rattle.std.proofs.lemmas.Bool.{and_from, and_parts, eqb-true}
-use Rattle.std.proofs.Common.{◌≡◌, ℕ, zero, suc, ◌<◌, ◌==◌, ◌&&◌, ◌||◌, List, [], ◌∷◌, length, not, Bool, true, false, slice_get, Option, Some, None, is_none, option_map, unwrap_or, refl, sym, ap, subst, ◌∙◌, arith}
+-- What trust takes from the form that is built: a deferred commit reads no master. Here alone the
+-- proofs of trust lean on that form.
+use Rattle.std.specs.Cmp.Lexicographic.{pointwise}
 use Rattle.std.specs.List.{list_any}
 use Rattle.std.specs.Option.{option_map_or}
-use Rattle.std.specs.Cmp.Lexicographic.{pointwise}
-use Rattle.tp_types.proofs.ListLemmas.{three_parts}
-use Rattle.tp_model.specs.Words.{Action, Admin, AdminId, Cond, Item, Level, Pattern, Policy, Query, Rule, Scenario, Scheme, ServerDecl, Transaction, Version}
-use Rattle.tp_model.specs.Words.scheme
-use Rattle.tp_types.specs.declared.policy.Cond.{out-Cond}
-use Rattle.tp_types.specs.declared.policy.Cond.TheFolds.{fold_out-Cond}
-use Rattle.tp_types.specs.declared.policy.Cond.TheOpen.{Cond-F, True, Atom, And, Or}
-use Rattle.tp_types.specs.declared.policy.Pattern.TheVariants.{All, Exact, Prefix}
-use Rattle.tp_types.specs.declared.scenario.Level.TheVariants.{View, Global}
-use Rattle.tp_model.specs.Authorisation.{rule_fits, rule_proves}
+use Rattle.std.proofs.Common.{Bool, List, None, Option, Some, [], ap, arith, false, length, not, option_map, refl, slice_get, subst, suc, sym, true, unwrap_or, zero, ℕ, ◌&&◌, ◌<◌, ◌==◌, ◌||◌, ◌∙◌, ◌∷◌, ◌≡◌}
+use Rattle.std.proofs.lemmas.Bool.{and_parts, eqb-true}
+use Rattle.tp_types.specs.declared.scenario.Level.TheVariants.{Global, View}
+use Rattle.tp_model.proofs.FirstForm.{is_first_query}
 use Rattle.tp_model.specs.Built.{is_built}
-use Rattle.tp_model.specs.Queries.{item_of}
-use Rattle.tp_model.specs.Stage.{allows_all, is_all, is_deferred, is_empty, is_open_policy, is_single, is_true_cond, is_true_shape, is_view}
-use Rattle.tp_model.proofs.FirstForm.{is_first_query, single_length}
-use Rattle.tp_model.specs.Credentials.{triples_in}
 use Rattle.tp_model.specs.Levels.{is_global, is_global_item, is_global_query, level_of, reads_master}
-use Rattle.tp_model.specs.Policies.{Triple, allows, holds, is_about_action, is_about_item, level, matches, rule_allows}
+use Rattle.tp_model.specs.Queries.{item_of}
+use Rattle.tp_model.specs.Stage.{is_deferred, is_empty, is_open_policy, is_single, is_view}
 use Rattle.tp_model.specs.Versions.{opening_of}
-use Rattle.tp_machine.specs.Sound.{Each, IsAdmin}
+use Rattle.tp_model.specs.Words.scheme
+use Rattle.tp_model.specs.Words.{Admin, AdminId, Item, Level, Query, Scenario, Scheme, ServerDecl, Transaction, Version}
 use Rattle.tp_machine.proofs.ids.Built.{HasForm, IsOnly, count_of, each_of_one, has_form, second_and_last, single_is}
-
--- ---- the one policy
-
-true_out : (held : List Triple) (condition : Cond) (shape : Cond-F Cond) → out-Cond condition ≡ shape → is_true_shape shape ≡ true → holds held condition ≡ true
-true_out held condition True e t = let opened = fold_out-Cond Bool (level held) condition in grind arith
-true_out held condition (Atom issuer attr op value) e t = absurd (cc)
-true_out held condition (And members) e t = absurd (cc)
-true_out held condition (Or members) e t = absurd (cc)
-
-about_any : (named : Option Action) (asked : Action) → is_none named ≡ true → is_about_action named asked ≡ true
-about_any None asked e = refl
-about_any (Some action) asked e = absurd (cc)
-
-about_all : (pattern : Pattern) (item : List ℕ) → is_all pattern ≡ true → is_about_item pattern item ≡ true
-about_all All item e = refl
-about_all (Exact name) item e = absurd (cc)
-about_all (Prefix name) item e = absurd (cc)
-
--- the rule is about every query, and true whatever is held
-open_rule : (rule : Rule) (asked : Action) (item : List ℕ) (held : List Triple) → allows_all rule ≡ true → rule_allows asked item held rule ≡ true
-open_rule rule asked item held e =
-    let parts = three_parts (is_none rule.action) (is_all rule.pattern) (is_true_cond rule.cond) e in
-    and_from (matches asked item rule) (holds held rule.cond)
-    (and_from _ _ (about_any rule.action asked parts.0) (about_all rule.pattern item parts.1))
-    (true_out held rule.cond (out-Cond rule.cond) refl parts.2)
-
-first_true : (a : Bool) → a ≡ true → (a || false) ≡ true
-first_true a e = grind arith
-
--- the one policy allows everything
-pub open_policy_allows : (policy : Policy) (asked : Action) (item : List ℕ) (held : List Triple) → is_open_policy policy ≡ true → allows policy asked item held ≡ true
-open_policy_allows policy asked item held e =
-    let one : IsOnly allows_all policy.rules = single_is allows_all policy.rules e in
-    ap (list_any (rule_allows asked item held)) one.is_list ∙ first_true (rule_allows asked item held one.member) (open_rule one.member asked item held one.passes)
-
--- its first rule proves everything, and uses no credential
-pub open_policy_proves : (sc : Scenario) (txn : Transaction) (policy : Policy) (asked : Action) (item : List ℕ) → is_open_policy policy ≡ true → rule_proves sc txn [] (Some 1) asked item policy ≡ true
-open_policy_proves sc txn policy asked item e =
-    let one : IsOnly allows_all policy.rules = single_is allows_all policy.rules e in
-    ap (λ (rules : List Rule). option_map_or (rule_fits sc txn [] asked item) (slice_get rules 0) false) one.is_list
-    ∙ open_rule one.member asked item (triples_in sc.creds txn.subject []) one.passes
+use Rattle.tp_machine.specs.Sound.{Each, IsAdmin}
 
 -- ---- the form
 
--- every policy is the one that allows all; a transaction has one query, is deferred and reads no master; and what servers know at
--- first is not newer than the opening versions
+-- a transaction is deferred and reads no master; and what servers know at first is not newer than the opening versions
 pub record IsFirstForm (sc : Scenario) : Type 0 where
-  pub policies : Each (λ (admin : Admin). Each (λ (policy : Policy). is_open_policy policy ≡ true) admin.library) sc.admins
-  pub one_query : Each (λ (txn : Transaction). length txn.queries ≡ 1) sc.txns
   pub deferred : Each (λ (txn : Transaction). txn.scheme ≡ scheme.Deferred) sc.txns
   pub levels : Each (λ (t : Transaction). (admin : AdminId) → is_global (level_of t admin) ≡ false) sc.txns
   pub view : Each (λ (txn : Transaction). reads_master sc txn ≡ false) sc.txns
@@ -136,9 +84,6 @@ first_form sc built =
     (is_single (is_first_query form.item) txn.queries) form.txn_fits in
     let server_parts = and_parts (is_single (λ (version : Version). version.0 == 1) form.server.knows) _ form.server_fits in
     record {
-      policies = each_of_one (λ (admin : Admin). Each (λ (policy : Policy). is_open_policy policy ≡ true) admin.library) sc.admins member form.admins.is_list
-          (each_one (λ (policy : Policy). is_open_policy policy ≡ true) is_open_policy member.library (λ policy e. e) admin_parts.0);
-      one_query = each_of_one (λ (t : Transaction). length t.queries ≡ 1) sc.txns txn form.txns_are (single_length (is_first_query form.item) txn.queries parts.1);
       deferred = each_of_one (λ (t : Transaction). t.scheme ≡ scheme.Deferred) sc.txns txn form.txns_are (deferred_is txn.scheme parts.0);
       levels = each_of_one (λ (t : Transaction). (admin : AdminId) → is_global (level_of t admin) ≡ false) sc.txns txn form.txns_are (λ admin. view_not_global txn.level view_is);
       view = each_of_one (λ (t : Transaction). reads_master sc t ≡ false) sc.txns txn form.txns_are (view_reads_none sc txn (view_not_global txn.level view_is));

@@ -1,27 +1,28 @@
 -- Trust, the coordinator's rows: it commits on one instance whose proofs are right, true and of one version.
 use Rattle.std.proofs.Common.{IfSome, List, None, Option, Some, [], ap, arith, false, map, refl, subst, sym, true, ℕ, ℤ, ◌++◌, ◌+◌, ◌∷◌, ◌≡◌, ◌≤◌}
 use Rattle.tp_types.specs.Effect.{Effect, ignores, sends}
-use Rattle.tp_model.specs.Words.{Body, Cause, CommitRecord, Decision, Denied, DoneReply, Fact, Instance, Letter, Mail, Outcome, Query, Record, Scenario, ServerId, Staple, TxnId, Verdict, VoteReply}
 use Rattle.tp_model.specs.Words.actor
 use Rattle.tp_model.specs.Words.body
 use Rattle.tp_model.specs.Words.cause
 use Rattle.tp_model.specs.Words.decision
 use Rattle.tp_model.specs.Words.log
 use Rattle.tp_model.specs.Words.outcome
+use Rattle.tp_model.specs.Words.{Body, Cause, CommitRecord, Decision, Denied, DoneReply, Fact, Instance, Letter, Mail, Outcome, Query, Record, Scenario, ServerId, Staple, TxnId, Verdict, VoteReply}
+use Rattle.tp_machine.proofs.agreement.Coordinator.{idle_is}
+use Rattle.tp_machine.proofs.basics.Homes.{HaveHomes, next_is}
+use Rattle.tp_machine.proofs.basics.Lists.{each_found, each_more, found_passes}
+use Rattle.tp_machine.proofs.basics.Phases.{awaits_is, is_undecided}
+use Rattle.tp_machine.proofs.trust.Fit.{BodyFits, IsSubmitted, PhaseFits, Right, StapleFits, VerdictsFit, VoteFits}
+use Rattle.tp_machine.proofs.trust.Turns.{AreFew, IsAbove, IsOfPast, Now, PrepareNow, Stamp, TurnFits, VoteNow, before_query, ceiling, ceiling_in, end_move, first_move, low_query, low_round, next_move, number_within, query_count, raised, round_move, stamp_of, turn_rises, until_round}
+use Rattle.tp_machine.proofs.walks.CoordinatorRows.{IsYes, coordinator_by, submit_by}
 use Rattle.tp_machine.specs.Machine.{with_age}
 use Rattle.tp_machine.specs.Sound.{Each, IsSoundBody, query_in}
-use Rattle.tp_machine.specs.coord.Row.{aborts, are_agreed, asks, commits, coordinator_row, coordinator_with_age, denied_by, first_false, is_begun, is_false_verdict, next_turn, prepare_letter, prepares, requests, sends_first, staple_of, submit_row, with_deed, with_reply, without}
+use Rattle.tp_machine.specs.coord.Row.{aborts, are_agreed, asks, commits, coordinator_row, coordinator_with_age, denied_by, first_false, is_begun, is_false_verdict, next_number, next_turn, prepare_letter, prepares, refused_by, requests, sends_query, staple_of, submit_row, with_deed, with_reply, without}
 use Rattle.tp_machine.specs.coord.State.{Coordinator}
 use Rattle.tp_machine.specs.declared.coord.Phase.TheVariants as phase
 use Rattle.tp_machine.specs.declared.coord.Phase.{Phase}
 use Rattle.tp_machine.specs.declared.coord.Reply.{Reply}
 use Rattle.tp_machine.specs.declared.coord.Round.{Round}
-use Rattle.tp_machine.proofs.agreement.Coordinator.{idle_is}
-use Rattle.tp_machine.proofs.walks.CoordinatorRows.{IsYes, coordinator_by, submit_by}
-use Rattle.tp_machine.proofs.basics.Phases.{awaits_is, is_undecided}
-use Rattle.tp_machine.proofs.basics.Lists.{each_found, each_more, found_passes}
-use Rattle.tp_machine.proofs.trust.Fit.{BodyFits, IsSubmitted, PhaseFits, Right, StapleFits, VerdictsFit, VoteFits}
-use Rattle.tp_machine.proofs.trust.Turns.{AreFew, IsAbove, IsOfPast, Now, PrepareNow, Stamp, TurnFits, VoteNow, ceiling, ceiling_in, end_move, first_move, low_query, low_round, number_within, query_count, raised, round_move, stamp_of, turn_rises, until_round}
 
 -- ---- what is kept
 
@@ -48,9 +49,10 @@ pub record DeniedFits (sc : Scenario) (facts : List Fact) (place : ℕ) (txn : T
   pub right : Right sc facts place txn verdict
   pub ruleless : is_false_verdict verdict ≡ true
 
--- no coordinator aborts for another cause yet
+-- what a server refused is shown elsewhere. No coordinator aborts for another cause yet
 abbrev pub CauseFits : Scenario → List Fact → ℕ → TxnId → Cause → Type 0
 CauseFits sc facts place txn (cause.Denied denied) = DeniedFits sc facts place txn denied
+CauseFits sc facts place txn (cause.No refused) = Unit {0}
 CauseFits sc facts place txn _ = ⊥
 
 abbrev pub DecisionFits : Scenario → List Fact → ℕ → TxnId → Decision → Type 0
@@ -113,6 +115,29 @@ ran_last_trusts sc facts place c done asked server value few h e q =
       says = λ sent. (submitted, tt);
       timely = λ sent. (record { own = refl; timely = λ unsure. record { past = omega arith; now = λ same. tt } }, tt);
       old = λ sent turn said t. raised sc c (asks (with_deed c server done asked value)).state sent turn said undecided rises t;
+    }
+
+ran_next_trusts : (sc : Scenario) (facts : List Fact) (place : ℕ) (c : Coordinator) (done : DoneReply) (asked : Query) (server next : ServerId) (value : ℤ) → AreFew sc → CoordinatorFits sc facts place c
+    → c.phase ≡ phase.Querying done.query None → query_in sc c.txn done.query ≡ Some asked → next_number done.query ≡ done.query + 1
+    → RowTrusts sc facts place c (sends_query sc (with_deed c server done asked value) (next_number done.query) next)
+ran_next_trusts sc facts place c done asked server next value few h e q further =
+    let count = query_count sc c.txn in
+    let submitted : IsSubmitted facts c.txn = (phase_fits sc facts place c (phase.Querying done.query None) h e).0 in
+    let low : c.turn ≤ ceiling_in count (phase.Querying done.query None) = turn_low sc facts place c (phase.Querying done.query None) h e in
+    let number = number_within sc c.txn done.query asked q in
+    let rises : next_turn c ≡ c.turn + 1 = turn_rises c (low_query count done.query c.turn (few c.txn) number.0 number.1 low) in
+    let undecided : is_undecided c.phase ≡ true = ap is_undecided e in
+    record {
+      fits = record {
+        awaits = (submitted, tt);
+        unclosed = λ unsure. h.unclosed undecided;
+        above = λ unsure. h.above undecided;
+        turn = subst (λ (n : ℕ). n ≤ before_query (next_number done.query) + 2) (sym rises) (next_move done.query (next_number done.query) c.turn number.0 further low);
+      };
+      decides = tt;
+      says = λ sent. (tt, tt);
+      timely = λ sent. (record { own = refl; timely = λ unsure. record { past = omega arith; now = λ same. tt } }, tt);
+      old = λ sent turn said t. raised sc c (sends_query sc (with_deed c server done asked value) (next_number done.query) next).state sent turn said undecided rises t;
     }
 
 -- ---- Tell
@@ -194,6 +219,26 @@ agreed_trusts sc facts place c round staple proofs h e v agreed =
     commits_trusts sc facts place c round.number proofs (h.unclosed (ap is_undecided e)) f.1.number
     (end_move (query_count sc c.txn) round.number 2 c.turn (omega (arith, f.1.number)) (omega arith) low) v agreed
 
+-- a vote NO ends the transaction
+refused_trusts : (sc : Scenario) (facts : List Fact) (place : ℕ) (c : Coordinator) (round : Round) (staple : Staple) (server : ServerId) (number : ℕ) (value : ℤ) → CoordinatorFits sc facts place c
+    → c.phase ≡ phase.Checking round staple → RowTrusts sc facts place c (aborts c (cause.No (refused_by server number value)))
+refused_trusts sc facts place c round staple server number value h e =
+    let f = phase_fits sc facts place c (phase.Checking round staple) h e in
+    let low : c.turn ≤ until_round (query_count sc c.txn) round.number 2 = turn_low sc facts place c (phase.Checking round staple) h e in
+    let now = aborts c (cause.No (refused_by server number value)) in
+    record {
+      fits = record {
+        awaits = tt;
+        unclosed = λ unsure. absurd (cc);
+        above = λ unsure. absurd (cc);
+        turn = end_move (query_count sc c.txn) round.number 2 c.turn (omega (arith, f.1.number)) (omega arith) low;
+      };
+      decides = tt;
+      says = λ sent. orders_fit sc facts place sent c outcome.Abort c.servers;
+      timely = λ sent. orders_timely sc c (Some now.state) sent outcome.Abort c.servers;
+      old = λ sent turn said t unsure. absurd (cc);
+    }
+
 -- a false verdict of the one reply denies
 denied_trusts : (sc : Scenario) (facts : List Fact) (place : ℕ) (c : Coordinator) (round : Round) (staple : Staple) (proofs : List Verdict) (verdict : Verdict) → CoordinatorFits sc facts place c
     → c.phase ≡ phase.Checking round staple → VerdictsFit sc facts place c.txn proofs → first_false proofs ≡ Some verdict → RowTrusts sc facts place c (aborts c (cause.Denied (denied_by verdict)))
@@ -270,13 +315,15 @@ acknowledged_trusts sc facts place c ended awaited server h e =
 -- ---- all mails
 
 -- every row of a coordinator on receipt of a mail
-pub coordinator_row_trusts : (sc : Scenario) (facts : List Fact) (place : ℕ) (c : Coordinator) (mail : Mail) → AreFew sc → CoordinatorFits sc facts place c
+pub coordinator_row_trusts : (sc : Scenario) (facts : List Fact) (place : ℕ) (c : Coordinator) (mail : Mail) → AreFew sc → HaveHomes sc → CoordinatorFits sc facts place c
     → IsSoundBody sc (actor.Coordinator c.txn) mail.letter.body → BodyFits sc facts place mail.sent mail.letter.body → RowTrusts sc facts place c (coordinator_row sc c mail)
-coordinator_row_trusts sc facts place c mail few h m f =
+coordinator_row_trusts sc facts place c mail few homes h m f =
     coordinator_by sc c mail (RowTrusts sc facts place c)
     (record {
       ignored = ignores_trusts sc facts place c h;
-      ran_last = λ done server asked value k. ran_last_trusts sc facts place c done asked server value few h (awaits_is c c.phase done k.awaited k.plain) k.asked_is;
+      ran_next = λ done server asked value next k home.
+          ran_next_trusts sc facts place c done asked server next value few h (awaits_is c c.phase done k.awaited k.plain) k.asked_is (next_is sc c done.query asked homes k.asked_is);
+      ran_last = λ done server asked value k none. ran_last_trusts sc facts place c done asked server value few h (awaits_is c c.phase done k.awaited k.plain) k.asked_is;
       told_first = λ tell round k.
           let same : c.txn ≡ tell.txn = same_coordinator c.txn tell.txn (subst (IsSoundBody sc (actor.Coordinator c.txn)) k.said_is m).goes_to in
           let fits : StapleFits sc facts place tell.txn (staple_of tell mail.sent) = subst (BodyFits sc facts place mail.sent) k.said_is f in
@@ -287,6 +334,7 @@ coordinator_row_trusts sc facts place c mail few h m f =
           agreed_trusts sc facts place c round staple proofs h y.checking (yes_fits sc facts place c mail reply round staple server proofs m f y) agreed;
       denied = λ reply round staple server proofs verdict y e found.
           denied_trusts sc facts place c round staple proofs verdict h y.checking (yes_fits sc facts place c mail reply round staple server proofs m f y) found;
+      refused = λ reply round staple server number value k. refused_trusts sc facts place c round staple server number value h k.checking;
       acknowledged = λ ack ended awaited server k. acknowledged_trusts sc facts place c ended awaited server h k.ending;
     })
 
@@ -308,9 +356,9 @@ unsent_trusts sc facts place age c h =
     now_placed sent (body.Vote reply) k = k
     now_placed sent _ k = tt
 
-sends_first_trusts : (sc : Scenario) (facts : List Fact) (place age : ℕ) (c : Coordinator) (server : ServerId) (value : ℤ) → CoordinatorFits sc facts place c → c.phase ≡ phase.Idle → IsSubmitted facts c.txn
-    → RowTrusts sc facts place c (with_age (sends_first c (Some server) (Some value)) age)
-sends_first_trusts sc facts place age c server value h e submitted =
+sent_trusts : (sc : Scenario) (facts : List Fact) (place age : ℕ) (c : Coordinator) (server : ServerId) → CoordinatorFits sc facts place c → c.phase ≡ phase.Idle → IsSubmitted facts c.txn
+    → RowTrusts sc facts place c (with_age (sends_query sc c 1 server) age)
+sent_trusts sc facts place age c server h e submitted =
     let low : c.turn ≤ 0 = turn_low sc facts place c phase.Idle h e in
     let rises : next_turn c ≡ c.turn + 1 = turn_rises c (omega (arith, low)) in
     let undecided : is_undecided c.phase ≡ true = ap is_undecided e in
@@ -324,7 +372,7 @@ sends_first_trusts sc facts place age c server value h e submitted =
       decides = tt;
       says = λ sent. (tt, tt);
       timely = λ sent. (record { own = refl; timely = λ unsure. record { past = omega arith; now = λ same. tt } }, tt);
-      old = λ sent turn said t. raised sc c (with_age (sends_first c (Some server) (Some value)) age).state sent turn said undecided rises t;
+      old = λ sent turn said t. raised sc c (with_age (sends_query sc c 1 server) age).state sent turn said undecided rises t;
     }
 
 -- the submission of a transaction, among facts that tell of it
@@ -332,4 +380,4 @@ pub submit_row_trusts : (sc : Scenario) (facts : List Fact) (place age : ℕ) (c
     → RowTrusts sc facts place c (with_age (submit_row sc c) age)
 submit_row_trusts sc facts place age c h b submitted =
     submit_by sc c (λ (effect : Effect Coordinator). RowTrusts sc facts place c (with_age effect age))
-    (record { ignored = unsent_trusts sc facts place age c h; sent = λ asked server value k. sends_first_trusts sc facts place age c server value h (idle_is c.phase b) submitted })
+    (record { ignored = unsent_trusts sc facts place age c h; sent = λ server home. sent_trusts sc facts place age c server h (idle_is c.phase b) submitted })

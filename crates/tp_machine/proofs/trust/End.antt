@@ -1,34 +1,36 @@
 -- Trust of the facts: where the invariant holds, every commit is trusted and every abort has its cause.
-use Rattle.std.proofs.lemmas.Bool.{and_from, and_parts, le-leb, lt-ltb}
-use Rattle.tp_model.specs.Words.cause
-use Rattle.std.proofs.Common.{Bool, List, None, Option, Some, [], ap, arith, false, if◌then◌else◌, is_none, is_some, length, nat_le, not, refl, slice_get, subst, true, ℕ, ◌&&◌, ◌==◌, ◌||◌, ◌∙◌, ◌∷◌, ◌≡◌}
 use Rattle.std.specs.Cmp.Lexicographic.{pointwise}
 use Rattle.std.specs.List.{list_all, range_with_len}
 use Rattle.std.specs.Option.{option_map_or}
-use Rattle.tp_model.specs.Words.{AdminId, Cause, CommitRecord, Denied, Fact, Scenario, Scheme, Transaction, TxnId, Verdict, What}
+use Rattle.std.proofs.Common.{Bool, List, None, Option, Some, [], ap, arith, false, if◌then◌else◌, is_none, is_some, length, nat_le, not, refl, slice_get, subst, true, ℕ, ◌&&◌, ◌==◌, ◌||◌, ◌∙◌, ◌∷◌, ◌≡◌}
+use Rattle.std.proofs.lemmas.Bool.{and_from, and_parts, le-leb, lt-ltb, or_right}
 use Rattle.tp_types.proofs.ListLemmas.{number_itself, three_from}
-use Rattle.tp_model.specs.Words.decision
-use Rattle.tp_model.specs.Words.scheme
-use Rattle.tp_model.specs.Words.what
 use Rattle.tp_model.specs.Authorisation.{is_allowed, is_certified, is_own_query, is_true_verdict, policy_at}
 use Rattle.tp_model.specs.Built.{is_built}
-use Rattle.tp_model.specs.Causes.{denies_at_newest, is_caused, is_denied, is_denied_version, is_shown, keeps_causes, keeps_causes_what}
+use Rattle.tp_model.specs.Causes.{denies_at_newest, is_caused, is_denied, is_denied_version, is_explained_at, is_refused, is_shown, keeps_causes, keeps_causes_what, lost_work}
 use Rattle.tp_model.specs.Demand.{is_deferred_demand, is_final_instance, is_over, is_round_count, meets_scheme, most_rounds}
+use Rattle.tp_model.specs.Facts.{before}
 use Rattle.tp_model.specs.Levels.{is_global, level_of, reads_master}
 use Rattle.tp_model.specs.Trust.{is_trusted, is_trusted_commit, is_trusted_instance, is_trusted_proof, is_within, keeps_trust, keeps_trust_what}
 use Rattle.tp_model.specs.Versions.{is_one_version, meets_readings, newest}
+use Rattle.tp_model.specs.Words.cause
+use Rattle.tp_model.specs.Words.decision
+use Rattle.tp_model.specs.Words.scheme
+use Rattle.tp_model.specs.Words.what
+use Rattle.tp_model.specs.Words.{AdminId, Cause, CommitRecord, Denied, Fact, OutOfRange, Scenario, Scheme, Transaction, TxnId, Verdict, What}
+use Rattle.tp_machine.proofs.agreement.End.{each_found}
+use Rattle.tp_machine.proofs.basics.Facts.{all_from_each}
+use Rattle.tp_machine.proofs.basics.Lists.{each_get, missing}
+use Rattle.tp_machine.proofs.refusals.World.{FactRefused, IsRefused, Refusals, WhatRefused}
+use Rattle.tp_machine.proofs.trust.Built.{IsFirstForm, first_form}
+use Rattle.tp_machine.proofs.trust.Coordinator.{CauseFits, CommitFits}
+use Rattle.tp_machine.proofs.trust.Fit.{IsRight, Right, VerdictsFit}
+use Rattle.tp_machine.proofs.trust.Server.{policy_there}
+use Rattle.tp_machine.proofs.trust.World.{FactFits, Trusts, WhatFits}
 use Rattle.tp_machine.specs.Machine.{State}
 use Rattle.tp_machine.specs.Sound.{Each, IsSound, IsSoundCause, IsSoundFact, IsSoundWhat, IsTxn, IsVersion}
 use Rattle.tp_machine.specs.coord.Row as row
 use Rattle.tp_machine.specs.coord.Row.{are_agreed}
-use Rattle.tp_machine.proofs.agreement.End.{each_found}
-use Rattle.tp_machine.proofs.basics.Facts.{all_from_each}
-use Rattle.tp_machine.proofs.basics.Lists.{each_get, missing}
-use Rattle.tp_machine.proofs.trust.Fit.{IsRight, Right, VerdictsFit}
-use Rattle.tp_machine.proofs.trust.Built.{IsFirstForm, first_form}
-use Rattle.tp_machine.proofs.trust.Coordinator.{CauseFits, CommitFits}
-use Rattle.tp_machine.proofs.trust.Server.{policy_there}
-use Rattle.tp_machine.proofs.trust.World.{FactFits, Trusts, WhatFits}
 
 -- ---- a proof
 
@@ -121,26 +123,32 @@ denial_shown sc txn declared place facts verdict view version h ruleless =
     (unbound (is_global (level_of declared verdict.admin)) (denies_at_newest declared.scheme) (nat_le (newest sc verdict.admin verdict.place facts) verdict.version.0) view))
     (h.fits ∙ no_rule verdict.rule ruleless)
 
+-- a refusal that facts show
+is_refused_shown : (sc : Scenario) (txn : TxnId) (place : ℕ) (facts : List Fact) (refused : OutOfRange) (declared : Transaction) → IsRefused sc facts (before place facts) place txn refused declared → is_refused sc txn place facts refused declared ≡ true
+is_refused_shown sc txn place facts refused declared h =
+    and_from _ _ (and_from _ _ h.write h.aborted)
+    (ap (λ (first : Option ℕ). option_map_or (is_explained_at sc txn facts refused declared) first false) h.first_is ∙ or_right (lost_work sc txn facts declared h.first) _ h.run)
+
 cause_shown : (sc : Scenario) (facts : List Fact) (place : ℕ) (txn : TxnId) (why : Cause) (declared : Transaction) → IsFirstForm sc → slice_get sc.txns txn.0 ≡ Some declared → IsSoundCause sc txn why
-    → CauseFits sc facts place txn why → is_shown sc txn place facts why declared ≡ true
-cause_shown sc facts place txn (cause.Denied denied) declared form e sound h =
+    → WhatRefused sc facts place (what.Decided txn (decision.Abort why)) → CauseFits sc facts place txn why → is_shown sc txn place facts why declared ≡ true
+cause_shown sc facts place txn (cause.Denied denied) declared form e sound r h =
     let version : IsVersion sc h.verdict.admin h.verdict.version = subst (λ (d : Denied). IsVersion sc d.admin d.version) h.denied_is sound.version in
     let view = each_get (λ (t : Transaction). (admin : AdminId) → is_global (level_of t admin) ≡ false) sc.txns txn.0 declared form.levels e in
     ap (λ (d : Denied). is_denied sc txn place facts d declared) h.denied_is
     ∙ denial_shown sc txn declared place facts h.verdict (view h.verdict.admin) version (h.right declared e) h.ruleless
-cause_shown sc facts place txn (cause.No left) declared form e sound h = absurd h
-cause_shown sc facts place txn (cause.Died died) declared form e sound h = absurd h
-cause_shown sc facts place txn (cause.Newer newer) declared form e sound h = absurd h
-cause_shown sc facts place txn (cause.Rounds mets) declared form e sound h = absurd h
-cause_shown sc facts place txn (cause.Restarted at) declared form e sound h = absurd h
-cause_shown sc facts place txn cause.Halted declared form e sound h = absurd h
+cause_shown sc facts place txn (cause.No refused) declared form e sound r h = is_refused_shown sc txn place facts refused declared (r declared e)
+cause_shown sc facts place txn (cause.Died died) declared form e sound r h = absurd h
+cause_shown sc facts place txn (cause.Newer newer) declared form e sound r h = absurd h
+cause_shown sc facts place txn (cause.Rounds mets) declared form e sound r h = absurd h
+cause_shown sc facts place txn (cause.Restarted at) declared form e sound r h = absurd h
+cause_shown sc facts place txn cause.Halted declared form e sound r h = absurd h
 
-what_caused : (sc : Scenario) (facts : List Fact) (place : ℕ) (w : What) → IsFirstForm sc → IsSoundWhat sc w → WhatFits sc facts place w → keeps_causes_what sc facts place w ≡ true
-what_caused sc facts place (what.Decided txn (decision.Commit committed)) form sound h = refl
-what_caused sc facts place (what.Decided txn (decision.Abort why)) form sound h =
+what_caused : (sc : Scenario) (facts : List Fact) (place : ℕ) (w : What) → IsFirstForm sc → IsSoundWhat sc w → WhatRefused sc facts place w → WhatFits sc facts place w → keeps_causes_what sc facts place w ≡ true
+what_caused sc facts place (what.Decided txn (decision.Commit committed)) form sound r h = refl
+what_caused sc facts place (what.Decided txn (decision.Abort why)) form sound r h =
     let found = exists_txn sc txn (slice_get sc.txns txn.0) refl sound.0 in
-    ap (λ (d : Option Transaction). option_map_or (is_shown sc txn place facts why) d false) found.1 ∙ cause_shown sc facts place txn why found.0 form found.1 sound.1 h
-what_caused sc facts place _ form sound h = refl
+    ap (λ (d : Option Transaction). option_map_or (is_shown sc txn place facts why) d false) found.1 ∙ cause_shown sc facts place txn why found.0 form found.1 sound.1 r h
+what_caused sc facts place _ form sound r h = refl
 
 -- the commits of a world are trusted
 pub facts_trusted : (sc : Scenario) (w : State) → is_built sc ≡ true → IsSound sc w → Trusts sc w → is_trusted sc w.facts ≡ true
@@ -151,9 +159,9 @@ facts_trusted sc w built sound h =
     (λ n fact e. what_trusted sc w.facts fact.place fact.what form (each_get (IsSoundFact sc) w.facts n fact sound.facts_are e) (each_get (FactFits sc w.facts) w.facts n fact h.facts_fit e)))
 
 -- and its aborts have causes
-pub facts_caused : (sc : Scenario) (w : State) → is_built sc ≡ true → IsSound sc w → Trusts sc w → is_caused sc w.facts ≡ true
-facts_caused sc w built sound h =
+pub facts_caused : (sc : Scenario) (w : State) → is_built sc ≡ true → IsSound sc w → Refusals sc w → Trusts sc w → is_caused sc w.facts ≡ true
+facts_caused sc w built sound r h =
     let form : IsFirstForm sc = first_form sc built in
     all_from_each (λ (fact : Fact). keeps_causes sc w.facts fact ≡ true) (keeps_causes sc w.facts) (λ fact k. k) w.facts
     (each_found (λ (fact : Fact). keeps_causes sc w.facts fact ≡ true) w.facts
-    (λ n fact e. what_caused sc w.facts fact.place fact.what form (each_get (IsSoundFact sc) w.facts n fact sound.facts_are e) (each_get (FactFits sc w.facts) w.facts n fact h.facts_fit e)))
+    (λ n fact e. what_caused sc w.facts fact.place fact.what form (each_get (IsSoundFact sc) w.facts n fact sound.facts_are e) (each_get (FactRefused sc w.facts) w.facts n fact r.facts e) (each_get (FactFits sc w.facts) w.facts n fact h.facts_fit e)))

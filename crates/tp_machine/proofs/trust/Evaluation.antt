@@ -9,7 +9,7 @@ use Rattle.tp_model.specs.Credentials.{is_presented}
 use Rattle.tp_model.specs.Policies.{allows}
 use Rattle.tp_model.specs.Queries.{item_of, query_at}
 use Rattle.tp_eval.specs.declared.policies.Certificate.{Certificate}
-use Rattle.tp_eval.specs.mirrors.Gathered.{rule_of}
+use Rattle.tp_eval.specs.mirrors.Gathered.{rule_of, uses_in}
 use Rattle.tp_eval.proofs.CertificateLemmas.{exists_where_allowed, passes_where, presented_where}
 use Rattle.tp_eval.proofs.SoundLemmas.{Asked}
 use Rattle.tp_check.specs.OfHistory.{IsAt, is_checked_of, is_verdict_checked}
@@ -72,6 +72,12 @@ passes_version : (sc : Scenario) (txn : Transaction) (staple : Staple) (found : 
     → (tests_version (tests_of sc txn staple found) sc txn number policy ≡ true) × (list_all (is_presented txn) found.uses ≡ true)
 passes_version sc txn staple found number None e = cc
 passes_version sc txn staple found number (Some policy) e = passes_query sc txn staple found (query_at txn number) policy e
+
+-- what a verdict uses is presented
+pub uses_presented : (sc : Scenario) (txn : Transaction) (staple : Staple) (number : ℕ) (policy : Option Policy) (answer : Option Certificate)
+    → certificate_of_version sc txn staple number policy ≡ answer → list_all (is_presented txn) (uses_in answer) ≡ true
+uses_presented sc txn staple number policy None e = refl
+uses_presented sc txn staple number policy (Some found) e = (passes_version sc txn staple found number policy e).1
 
 checked_where : (sc : Scenario) (txn : Transaction) (staple : Staple) (server : ServerId) (number : ℕ) (admin : AdminId) (version : Version) (answer : Option Certificate)
     → certificate_of_version sc txn staple number (policy_at sc admin version) ≡ answer → is_some (option_map rule_of answer) ≡ true

@@ -8,23 +8,22 @@ use Rattle.tp_model.specs.Credentials.{clock_at, is_among, is_presented, is_vali
 use Rattle.tp_model.specs.Facts.{before, is_earlier, is_submission, was_submitted}
 use Rattle.tp_model.specs.Policies.{allows}
 use Rattle.tp_model.specs.Versions.{is_publication, newest}
-use Rattle.tp_model.specs.Words.{Action, AdminId, Answer, Body, CredId, Deed, Fact, Mail, Policy, Scenario, Staple, Transaction, TxnId, Verdict, Version, Vote}
 use Rattle.tp_model.specs.Words.answer
 use Rattle.tp_model.specs.Words.body
 use Rattle.tp_model.specs.Words.vote
+use Rattle.tp_model.specs.Words.{Action, AdminId, Answer, Body, CredId, Deed, Fact, Mail, Policy, Scenario, Staple, Transaction, TxnId, Verdict, Version, Vote}
+use Rattle.tp_machine.proofs.basics.Facts.{Grows}
+use Rattle.tp_machine.proofs.basics.Lists.{each_as}
 use Rattle.tp_machine.specs.Sound.{Each, EachPlaced, IsAdmin}
 use Rattle.tp_machine.specs.coord.Row.{staple_of}
 use Rattle.tp_machine.specs.declared.coord.Phase.TheVariants as phase
 use Rattle.tp_machine.specs.declared.coord.Phase.{Phase}
 use Rattle.tp_machine.specs.declared.coord.Reply.{Reply}
 use Rattle.tp_machine.specs.declared.coord.Round.{Round}
-use Rattle.tp_machine.specs.declared.server.Entry.{Entry}
+use Rattle.tp_machine.specs.server.State.{Server}
+use Rattle.tp_machine.specs.server.Verdicts.{version_known}
 use Rattle.tp_offices.specs.Authority.{revocations}
 use Rattle.tp_offices.specs.declared.authority.Authority.{Authority}
-use Rattle.tp_machine.specs.server.Row.{version_known}
-use Rattle.tp_machine.specs.server.State.{Server}
-use Rattle.tp_machine.proofs.basics.Facts.{Grows}
-use Rattle.tp_machine.proofs.basics.Lists.{each_as}
 
 -- ---- what is said of the facts before a place
 
@@ -88,10 +87,9 @@ BodyFits sc facts place sent _ = Unit {0}
 abbrev pub MailFits : Scenario → List Fact → ℕ → Mail → Type 0
 MailFits sc facts place mail = BodyFits sc facts place mail.sent mail.letter.body
 
--- a server knows no version that is newer than the newest; an entry has the deeds of all queries (there is one)
+-- a server knows no version that is newer than the newest
 pub record ServerFits (sc : Scenario) (facts : List Fact) (place : ℕ) (s : Server) : Type 0 where
   pub known : (admin : AdminId) → IsAdmin sc admin → (version_known s admin).0 ≤ newest sc admin place facts
-  pub all : EachPlaced (λ (n : ℕ) (entry : Entry). AreAll sc (record { 0 = n }) (deed_numbers entry.deeds)) s.entries
 
 -- the authority's clock and revocations are those of the facts; each credential that was revoked stands at its own place
 pub record AuthorityFits (sc : Scenario) (facts : List Fact) (place : ℕ) (authority : Authority) : Type 0 where
@@ -227,7 +225,7 @@ body_stays sc old new low high sent (body.Vote reply) l h = vote_stays sc old ne
 body_stays sc old new low high sent _ l h = tt
 
 pub server_stays : (sc : Scenario) (old new : List Fact) (low high : ℕ) (s : Server) → Later old new low high → ServerFits sc old low s → ServerFits sc new high s
-server_stays sc old new low high s l h = record { known = λ admin within. omega (arith, h.known admin within, newest_rises sc admin old new low high l); all = h.all }
+server_stays sc old new low high s l h = record { known = λ admin within. omega (arith, h.known admin within, newest_rises sc admin old new low high l) }
 
 round_stays : (sc : Scenario) (old new : List Fact) (low high : ℕ) (txn : TxnId) (round : Round) → Later old new low high → RoundFits sc old low txn round → RoundFits sc new high txn round
 round_stays sc old new low high txn round l h =

@@ -1,34 +1,36 @@
 -- Trust, the server's rows: verdicts are right at the place of the staple, and there is one for each query.
-use Rattle.std.specs.List.{range_with_len}
 use Rattle.std.specs.Option.{option_map_or}
-use Rattle.std.proofs.Common.{Bool, IfSome, List, None, Option, Some, [], ap, arith, false, is_none, is_some, length, map, option_and_then, refl, slice_get, subst, suc, sym, true, zero, ℕ, ℤ, ◌&&◌, ◌<◌, ◌==◌, ◌∙◌, ◌∷◌, ◌≡◌, ◌≤◌}
-use Rattle.std.proofs.lemmas.Option.{cond_some, same_Some}
-use Rattle.std.proofs.lemmas.Bool.{and_from}
+use Rattle.std.proofs.Common.{IfSome, List, Option, Some, [], ap, arith, false, is_some, length, option_and_then, refl, slice_get, subst, suc, sym, true, unwrap_or, zero, ℕ, ℤ, ⊎_elim, ◌<◌, ◌==◌, ◌∙◌, ◌∷◌, ◌≡◌, ◌≤◌}
+use Rattle.std.proofs.lemmas.Bool.{and_from, eqb-true}
+use Rattle.std.proofs.lemmas.Option.{same_Some}
 use Rattle.tp_types.proofs.ListLemmas.{number_itself}
 use Rattle.tp_types.specs.Effect.{Effect, ignores}
-use Rattle.tp_model.specs.Authorisation.{action_of, allows_held, is_item_at, is_own_query, is_query_at, policy_at, rule_proves, tests_item, tests_query, tests_version, version_in, version_of}
-use Rattle.tp_model.specs.Credentials.{held}
+use Rattle.tp_model.specs.Authorisation.{is_item_at, is_own_query, is_query_at, policy_at, version_in, version_of}
 use Rattle.tp_model.specs.Queries.{query_at}
-use Rattle.tp_model.specs.Stage.{is_open_policy}
-use Rattle.tp_model.specs.Words.{Action, Admin, AdminId, Body, DecideRequest, Deed, DoneReply, Fact, Item, ItemId, Letter, Mail, Policy, PrepareRequest, Query, QueryRequest, Record, Scenario, ServerId, Staple, Transaction, TxnId, Verdict, Version}
-use Rattle.tp_model.specs.Words.action
-use Rattle.tp_model.specs.Words.actor
+use Rattle.tp_model.specs.Versions.{newest}
 use Rattle.tp_model.specs.Words.body
+use Rattle.tp_model.specs.Words.no
 use Rattle.tp_model.specs.Words.vote
-use Rattle.tp_machine.specs.Sound.{Each, IsQueryAt, IsSoundBody, IsSoundDeedAt, IsSoundEntry, IsSoundQuery, IsSoundServer, IsSoundVerdict, IsVersion, query_in}
+use Rattle.tp_model.specs.Words.{Admin, AdminId, Body, Deed, DoneReply, Fact, Item, Letter, Mail, No, Policy, PrepareRequest, Query, QueryRequest, Record, Scenario, ServerId, Settled, Staple, Transaction, TxnId, Verdict, Version}
+use Rattle.tp_machine.proofs.basics.Lists.{each_append, each_found, each_map, placed_emptied, placed_set}
+use Rattle.tp_machine.proofs.basics.Stores.{ended_known, kept_known}
+use Rattle.tp_machine.proofs.ids.Server.{verdict_sound}
+use Rattle.tp_machine.proofs.ids.Valid.{IsValid}
+use Rattle.tp_machine.proofs.trust.Evaluation.{evaluate_right}
+use Rattle.tp_machine.proofs.trust.Fit.{AreAll, BodyFits, IsRight, Right, ServerFits, StapleFits, VerdictsFit, deed_numbers, numbers_of}
+use Rattle.tp_machine.proofs.trust.Kept.{AreKept, IsKept, IsTrusted, RecordKept}
+use Rattle.tp_machine.proofs.trust.Turns.{Answers, IsClosed, PrepareNow, Stamp, VoteNow, stamp_of}
+use Rattle.tp_machine.proofs.trust.Whole.{WholeMail}
+use Rattle.tp_machine.proofs.walks.ServerRows.{IsFirstHere, IsFurther, IsGranted, server_by}
+use Rattle.tp_machine.specs.Evaluation.{IsRightVerdict}
+use Rattle.tp_machine.specs.Runs.{deed_of}
+use Rattle.tp_machine.specs.Sound.{Each, IsQueryAt, IsSoundDeedAt, IsSoundEntry, IsSoundServer, IsSoundVerdict, IsVersion, query_in}
 use Rattle.tp_machine.specs.declared.coord.Phase.TheVariants as phase
 use Rattle.tp_machine.specs.declared.coord.Phase.{Phase}
 use Rattle.tp_machine.specs.declared.server.Entry.{Entry}
-use Rattle.tp_machine.specs.server.Row.{answers, asked_item, begins, done_reply, entry_at, first_entry, plain_write, restarted_reply, server_row, settles, verdict_on, votes}
+use Rattle.tp_machine.specs.server.Row.{ack_letter, answers, completes, done_reply, ends, entry_after, entry_at, no_letter, refused_as, restarted_reply, server_row, settled_as, votes}
 use Rattle.tp_machine.specs.server.State.{Server}
-use Rattle.tp_machine.proofs.walks.ServerRows.{server_by}
-use Rattle.tp_machine.proofs.ids.Valid.{IsValid}
-use Rattle.tp_machine.proofs.basics.Lists.{each_found, each_get, each_map, placed_emptied, placed_set}
-use Rattle.tp_machine.proofs.ids.Server.{verdict_sound}
-use Rattle.tp_machine.proofs.trust.Built.{IsFirstForm, open_policy_allows, open_policy_proves}
-use Rattle.tp_machine.proofs.trust.Fit.{AreAll, BodyFits, Right, ServerFits, StapleFits, VerdictsFit, deed_numbers, numbers_of}
-use Rattle.tp_machine.proofs.trust.Kept.{AreKept, IsKept, IsTrusted, RecordKept}
-use Rattle.tp_machine.proofs.trust.Turns.{Answers, IsClosed, PrepareNow, Stamp, VoteNow, stamp_of}
+use Rattle.tp_machine.specs.server.Verdicts.{verdict_on, verdicts_on}
 
 -- an act of a server: what it is after it, if it is up, fits; what it keeps and forced, and its letters, fit too and T of them. T is closed
 -- under answers, and is so of the mail
@@ -77,55 +79,24 @@ policy_there sc admin version v =
     let found = library_has v.declared.library version.0 v.in_library.0 v.in_library.1 in
     ap is_some (ap (option_and_then (version_of version.0)) v.declared_is ∙ found.1)
 
--- a version that exists has a policy, which is the one that allows all
-record IsOpenAt (sc : Scenario) (admin : AdminId) (version : Version) : Type 0 where
-  pub policy : Policy
-  pub policy_is : policy_at sc admin version ≡ Some policy
-  pub open_is : is_open_policy policy ≡ true
-
-member_of : (library : List Policy) (version : ℕ) (policy : Policy) → version_in library version ≡ Some policy → Each (λ (p : Policy). is_open_policy p ≡ true) library → is_open_policy policy ≡ true
-member_of library zero policy e h = absurd (cc)
-member_of library (suc before) policy e h = each_get (λ (p : Policy). is_open_policy p ≡ true) library before policy h e
-
-open_at : (sc : Scenario) (admin : AdminId) (version : Version) → IsFirstForm sc → (v : IsVersion sc admin version) → IsOpenAt sc admin version
-open_at sc admin version form v =
-    let found = library_has v.declared.library version.0 v.in_library.0 v.in_library.1 in
-    let all : Each (λ (p : Policy). is_open_policy p ≡ true) v.declared.library =
-    each_get (λ (a : Admin). Each (λ (p : Policy). is_open_policy p ≡ true) a.library) sc.admins admin.0 v.declared form.policies v.declared_is in
-    record {
-      policy = found.0;
-      policy_is = ap (option_and_then (version_of version.0)) v.declared_is ∙ found.1;
-      open_is = member_of v.declared.library version.0 found.0 found.1 all;
-    }
-
--- a test of the one policy that passes on every query
-tested : (sc : Scenario) (txn : TxnId) (declared : Transaction) (number : ℕ) (at : ServerId) (admin : AdminId) (version : Version) (test : Action → List ℕ → Policy → Bool)
-    → slice_get sc.txns txn.0 ≡ Some declared → (q : IsQueryAt sc txn number at admin) → (o : IsOpenAt sc admin version) → ((asked : Action) (item : List ℕ) → test asked item o.policy ≡ true)
-    → tests_version test sc declared number (policy_at sc admin version) ≡ true
-tested sc txn declared number at admin version test e q o passes =
-    ap (tests_version test sc declared number) o.policy_is
-    ∙ (ap (λ (found : Option Query). tests_query test sc found o.policy) (found_query sc txn declared number q.asked e q.asked_is)
-    ∙ (ap (λ (found : Option Item). tests_item test (action_of q.asked) found o.policy) q.kept.declared_is ∙ passes (action_of q.asked) q.kept.declared.name))
-
--- what a server's evaluation gives is right: here the one policy text gives its first rule
-verdict_right : (sc : Scenario) (facts : List Fact) (place : ℕ) (s : Server) (txn : TxnId) (staple : Staple) (deed : Deed) → IsFirstForm sc → IsValid sc → IsSoundServer sc s → ServerFits sc facts place s
-    → StapleFits sc facts place txn staple → IsSoundDeedAt sc s.server txn deed → Right sc facts place txn (verdict_on sc s staple.place deed)
-verdict_right sc facts place s txn staple deed form valid sound h fits d declared e =
-    let v : IsSoundVerdict sc txn (verdict_on sc s staple.place deed) = verdict_sound sc s txn staple.place deed valid sound d in
-    let verdict = verdict_on sc s staple.place deed in
-    let o : IsOpenAt sc verdict.admin verdict.version = open_at sc verdict.admin verdict.version form v.version in
+-- what a server's evaluation gives is right: a staple has the clock and the revocations of its place
+verdict_right : (sc : Scenario) (facts : List Fact) (place : ℕ) (s : Server) (txn : TxnId) (presenting : Transaction) (staple : Staple) (deed : Deed) → IsValid sc → IsSoundServer sc s → ServerFits sc facts place s
+    → slice_get sc.txns txn.0 ≡ Some presenting → StapleFits sc facts place txn staple → IsSoundDeedAt sc s.server txn deed → Right sc facts place txn (verdict_on sc s presenting staple deed)
+verdict_right sc facts place s txn presenting staple deed valid sound h there fits d declared e =
+    let verdict = verdict_on sc s presenting staple deed in
+    let v : IsSoundVerdict sc txn verdict = verdict_sound sc s txn presenting staple deed valid sound there d in
     let within : verdict.admin.0 < length sc.admins = exists sc.admins verdict.admin.0 v.version.declared v.version.declared_is in
-    record {
-      own = own_query sc txn declared verdict.query verdict.server verdict.admin e v.query;
-      fits = tested sc txn declared verdict.query verdict.server verdict.admin verdict.version (allows_held sc verdict.place facts declared) e v.query o
-          (λ asked item. open_policy_allows o.policy asked item (held sc verdict.place facts declared) o.open_is);
-      proved = λ has_rule. and_from _ true
-          (tested sc txn declared verdict.query verdict.server verdict.admin verdict.version (rule_proves sc declared [] (Some 1)) e v.query o
-          (λ asked item. open_policy_proves sc declared o.policy asked item o.open_is)) refl;
+    let right : IsRightVerdict sc facts presenting verdict =
+    evaluate_right sc facts presenting staple s.server deed.query verdict.admin verdict.version (record { clock = fits.clock_is; revocations = fits.revoked_is }) in
+    subst (λ (t : Transaction). IsRight sc facts place txn t verdict) (same_Some presenting declared (sym there ∙ e))
+    (record {
+      own = own_query sc txn presenting verdict.query verdict.server verdict.admin there v.query;
+      fits = right.fits;
+      proved = right.proved;
       begun = fits.begun;
       past = fits.past;
       published = h.known verdict.admin within;
-    }
+    })
   where
     exists : (admins : List Admin) (n : ℕ) (found : Admin) → slice_get admins n ≡ Some found → n < length admins
     exists [] n found f = absurd (cc)
@@ -134,31 +105,10 @@ verdict_right sc facts place s txn staple deed form valid sound h fits d declare
 
 -- ---- Query
 
-only_number : (sc : Scenario) (txn : TxnId) (declared : Transaction) (number : ℕ) (asked : Query) → IsFirstForm sc → slice_get sc.txns txn.0 ≡ Some declared → query_at declared number ≡ Some asked → number ≡ 1
-only_number sc txn declared zero asked form e f = absurd (cc)
-only_number sc txn declared (suc before) asked form e f =
-    let one : length declared.queries ≡ 1 = each_get (λ (t : Transaction). length t.queries ≡ 1) sc.txns txn.0 declared form.one_query e in
-    let within : before < length declared.queries = exists declared.queries before asked f in
-    omega (arith, one, within)
-  where
-    exists : (queries : List Query) (n : ℕ) (found : Query) → slice_get queries n ≡ Some found → n < length queries
-    exists [] n found g = absurd (cc)
-    exists (q ∷ queries) zero found g = omega arith
-    exists (q ∷ queries) (suc n) found g = let later = exists queries n found g in omega (arith, later)
-
--- the one query is all of them
-all_of_one : (sc : Scenario) (txn : TxnId) (number : ℕ) (asked : Query) → IsFirstForm sc → query_in sc txn number ≡ Some asked → AreAll sc txn (number ∷ [])
-all_of_one sc txn number asked form f declared e =
-    let first : number ≡ 1 = only_number sc txn declared number asked form e (found_query sc txn declared number asked e f) in
-    let one : length declared.queries ≡ 1 = each_get (λ (t : Transaction). length t.queries ≡ 1) sc.txns txn.0 declared form.one_query e in
-    ap (λ (n : ℕ). n ∷ []) first ∙ sym (ap (range_with_len 1) one)
-
-deed_number : (q : QueryRequest) (item : Option ItemId) (value : Option ℤ) (deed : Deed) → plain_write q item value ≡ Some deed → deed.query ≡ q.query
-deed_number q (Some item) (Some value) deed e =
-    let parts = cond_some (is_none q.staple && is_none q.pin) (record { query = q.query; item = item; action = action.Write; value = value }) deed e in
-    sym (ap (λ (d : Deed). d.query) parts.1)
-deed_number q (Some item) None deed e = absurd (cc)
-deed_number q None value deed e = absurd (cc)
+-- what a server knows
+knows_as : (sc : Scenario) (facts : List Fact) (place : ℕ) (s now : Server) → now.store.known ≡ s.store.known → ServerFits sc facts place s → ServerFits sc facts place now
+knows_as sc facts place s now same h =
+    record { known = λ admin within. subst (λ (known : List Version). (unwrap_or (slice_get known admin.0) (record { 0 = 1 })).0 ≤ newest sc admin place facts) (sym same) (h.known admin within) }
 
 -- an answer of the turn of its query
 done_answers : (q : QueryRequest) (done : DoneReply) → done.txn ≡ q.txn → done.turn ≡ q.turn → Answers (body.Query q) (body.Done done) (record { txn = done.txn; turn = done.turn })
@@ -171,20 +121,30 @@ done_answers q done same turn =
       timely = λ sc c sent place t unsure. let was = (t unsure).past in record { past = omega (arith, was, turn); now = λ e. tt };
     }
 
-begins_trusts : (sc : Scenario) (facts : List Fact) (place : ℕ) (T : Body → Type 0) (s : Server) (sent : ℕ) (q : QueryRequest) (deed : Deed) → IsFirstForm sc → ServerTrusted sc facts place T s
-    → IsSoundQuery sc (actor.Server s.server) q → IsClosed T → T (body.Query q) → plain_write q (asked_item sc q) q.value ≡ Some deed → RowTrusts sc facts place T (begins s sent q (Some deed))
-begins_trusts sc facts place T s sent q deed form h m closed t e =
-    let number : deed.query ≡ q.query = deed_number q (asked_item sc q) q.value deed e in
-    let answer = done_reply q s.epoch deed in
+-- an entry at which a query runs is kept
+run_kept : (sc : Scenario) (facts : List Fact) (place : ℕ) (T : Body → Type 0) (s : Server) (mail : Mail) (q : QueryRequest) (query : Query) (entry : Entry) (value : ℤ) → ServerTrusted sc facts place T s
+    → IsGranted sc s mail q query entry value → IsKept (IsTrusted sc facts place T) q.txn entry
+run_kept sc facts place T s mail q query entry value h k =
+    ⊎_elim
+    (λ (first : IsFirstHere s mail.sent q entry). subst (IsKept (IsTrusted sc facts place T) q.txn) (sym first.entry_is) (record { answers = tt; waiting = tt; ballot = tt }))
+    (λ (further : IsFurther s q entry). h.keeps q.txn.0 entry further.found) k.place
+
+runs_trusts : (sc : Scenario) (facts : List Fact) (place : ℕ) (T : Body → Type 0) (s : Server) (mail : Mail) (q : QueryRequest) (query : Query) (entry : Entry) (value : ℤ) → ServerTrusted sc facts place T s
+    → IsClosed T → T (body.Query q) → IsGranted sc s mail q query entry value → RowTrusts sc facts place T (completes s q query entry (deed_of q.query query value))
+runs_trusts sc facts place T s mail q query entry value h closed t k =
+    let deed = deed_of q.query query value in
+    let answer = done_reply q entry.epoch deed in
     let timely : T (body.Done answer) = closed (body.Query q) (body.Done answer) (record { txn = q.txn; turn = q.turn }) (done_answers q answer refl refl) t in
+    let old : IsKept (IsTrusted sc facts place T) q.txn entry = run_kept sc facts place T s mail q query entry value h k in
+    let effect = completes s q query entry deed in
     record {
-      fits = record {
-        known = h.fits.known;
-        all = placed_set (λ (n : ℕ) (entry : Entry). AreAll sc (record { 0 = n }) (deed_numbers entry.deeds)) s.entries q.txn.0 (first_entry s sent q deed) h.fits.all
-            (subst (λ (n : ℕ). AreAll sc q.txn (n ∷ [])) (sym number) (all_of_one sc q.txn q.query m.asked form m.asked_is));
-      };
-      keeps = placed_set (λ (n : ℕ) (entry : Entry). IsKept (IsTrusted sc facts place T) (record { 0 = n }) entry) s.entries q.txn.0 (first_entry s sent q deed) h.keeps
-          (record { answers = (record { fits = λ k. tt; timely = timely }, tt); waiting = tt; ballot = tt });
+      fits = knows_as sc facts place s effect.state (kept_known s.store q query value) h.fits;
+      keeps = placed_set (λ (n : ℕ) (found : Entry). IsKept (IsTrusted sc facts place T) (record { 0 = n }) found) s.entries q.txn.0 (entry_after q entry deed) h.keeps
+          (record {
+            answers = each_append (λ (d : DoneReply). IsTrusted sc facts place T (body.Done d)) entry.answers (answer ∷ []) old.answers (record { fits = λ sent. tt; timely = timely }, tt);
+            waiting = old.waiting;
+            ballot = old.ballot;
+          });
       forces = tt;
       says = (tt, tt);
       timely = (timely, tt);
@@ -203,56 +163,55 @@ restarted_trusted sc facts place T s q closed t =
 
 -- ---- Prepare
 
-rights_of : (sc : Scenario) (facts : List Fact) (place : ℕ) (s : Server) (txn : TxnId) (staple : Staple) (deeds : List Deed) → IsFirstForm sc → IsValid sc → IsSoundServer sc s → ServerFits sc facts place s
-    → StapleFits sc facts place txn staple → Each (IsSoundDeedAt sc s.server txn) deeds → Each (Right sc facts place txn) (map (verdict_on sc s staple.place) deeds)
-rights_of sc facts place s txn staple deeds form valid sound h fits d =
-    each_map (IsSoundDeedAt sc s.server txn) (Right sc facts place txn) (verdict_on sc s staple.place) (λ deed k. verdict_right sc facts place s txn staple deed form valid sound h fits k) deeds d
+rights_of : (sc : Scenario) (facts : List Fact) (place : ℕ) (s : Server) (txn : TxnId) (presenting : Transaction) (staple : Staple) (deeds : List Deed) → IsValid sc → IsSoundServer sc s
+    → ServerFits sc facts place s → slice_get sc.txns txn.0 ≡ Some presenting → StapleFits sc facts place txn staple → Each (IsSoundDeedAt sc s.server txn) deeds
+    → Each (Right sc facts place txn) (verdicts_on sc s presenting staple deeds)
+rights_of sc facts place s txn presenting staple deeds valid sound h there fits d =
+    each_map (IsSoundDeedAt sc s.server txn) (Right sc facts place txn) (verdict_on sc s presenting staple)
+    (λ deed k. verdict_right sc facts place s txn presenting staple deed valid sound h there fits k) deeds d
 
-numbers_kept : (sc : Scenario) (s : Server) (place : ℕ) (deeds : List Deed) → numbers_of (map (verdict_on sc s place) deeds) ≡ deed_numbers deeds
-numbers_kept sc s place [] = refl
-numbers_kept sc s place (deed ∷ deeds) = ap (λ (ns : List ℕ). deed.query ∷ ns) (numbers_kept sc s place deeds)
+numbers_kept : (sc : Scenario) (s : Server) (txn : Transaction) (staple : Staple) (deeds : List Deed) → numbers_of (verdicts_on sc s txn staple deeds) ≡ deed_numbers deeds
+numbers_kept sc s txn staple [] = refl
+numbers_kept sc s txn staple (deed ∷ deeds) = ap (λ (ns : List ℕ). deed.query ∷ ns) (numbers_kept sc s txn staple deeds)
 
-placed_there : (sc : Scenario) (s : Server) (place other : ℕ) (deeds : List Deed) → place ≡ other → Each (λ (verdict : Verdict). verdict.place ≡ other) (map (verdict_on sc s place) deeds)
-placed_there sc s place other [] e = tt
-placed_there sc s place other (deed ∷ deeds) e = (e, placed_there sc s place other deeds e)
+placed_there : (sc : Scenario) (s : Server) (txn : Transaction) (staple : Staple) (other : ℕ) (deeds : List Deed) → staple.place ≡ other
+    → Each (λ (verdict : Verdict). verdict.place ≡ other) (verdicts_on sc s txn staple deeds)
+placed_there sc s txn staple other [] e = tt
+placed_there sc s txn staple other (deed ∷ deeds) e = (e, placed_there sc s txn staple other deeds e)
 
-vote_now : (sc : Scenario) (s : Server) (awaited : Phase) (p : PrepareRequest) (staple : Staple) (deeds : List Deed) → p.staple ≡ Some staple → PrepareNow awaited p
-    → VoteNow awaited (vote.Yes (map (verdict_on sc s staple.place) deeds))
-vote_now sc s (phase.Checking round st) p staple deeds e h = placed_there sc s staple.place st.place deeds (ap (λ (x : Staple). x.place) (same_Some staple st (sym e ∙ h)))
-vote_now sc s _ p staple deeds e h = tt
+vote_now : (sc : Scenario) (s : Server) (awaited : Phase) (p : PrepareRequest) (txn : Transaction) (staple : Staple) (deeds : List Deed) → p.staple ≡ Some staple → PrepareNow awaited p
+    → VoteNow awaited (vote.Yes (verdicts_on sc s txn staple deeds))
+vote_now sc s (phase.Checking round st) p txn staple deeds e h = placed_there sc s txn staple st.place deeds (ap (λ (x : Staple). x.place) (same_Some staple st (sym e ∙ h)))
+vote_now sc s _ p txn staple deeds e h = tt
 
 -- a vote of the turn of its request, at the place of its staple
-vote_answers : (sc : Scenario) (s : Server) (p : PrepareRequest) (staple : Staple) (deeds : List Deed) → p.staple ≡ Some staple
-    → Answers (body.Prepare p) (body.Vote (record { txn = p.txn; turn = p.turn; vote = vote.Yes (map (verdict_on sc s staple.place) deeds) })) (record { txn = p.txn; turn = p.turn })
-vote_answers sc s p staple deeds e =
+vote_answers : (sc : Scenario) (s : Server) (p : PrepareRequest) (txn : Transaction) (staple : Staple) (deeds : List Deed) → p.staple ≡ Some staple
+    → Answers (body.Prepare p) (body.Vote (record { txn = p.txn; turn = p.turn; vote = vote.Yes (verdicts_on sc s txn staple deeds) })) (record { txn = p.txn; turn = p.turn })
+vote_answers sc s p txn staple deeds e =
     record {
       asked = record { txn = p.txn; turn = p.turn };
       asked_is = refl;
       reply_is = refl;
       same_txn = refl;
-      timely = λ any c sent place t unsure. record { past = (t unsure).past; now = λ same. vote_now sc s c.phase p staple deeds e ((t unsure).now same) };
+      timely = λ any c sent place t unsure. record { past = (t unsure).past; now = λ same. vote_now sc s c.phase p txn staple deeds e ((t unsure).now same) };
     }
 
-votes_trusts : (sc : Scenario) (facts : List Fact) (place : ℕ) (T : Body → Type 0) (s : Server) (p : PrepareRequest) (staple : Staple) (entry : Entry) → IsFirstForm sc → IsValid sc → IsSoundServer sc s
-    → ServerTrusted sc facts place T s → IsClosed T → T (body.Prepare p) → p.staple ≡ Some staple → StapleFits sc facts place p.txn staple → entry_at s p.txn ≡ Some entry
-    → RowTrusts sc facts place T (votes sc s p staple.place entry)
-votes_trusts sc facts place T s p staple entry form valid sound h closed t e fits found =
+votes_trusts : (sc : Scenario) (facts : List Fact) (place : ℕ) (T : Body → Type 0) (s : Server) (p : PrepareRequest) (txn : Transaction) (staple : Staple) (entry : Entry) → IsValid sc → IsSoundServer sc s
+    → ServerTrusted sc facts place T s → IsClosed T → T (body.Prepare p) → p.staple ≡ Some staple → slice_get sc.txns p.txn.0 ≡ Some txn → StapleFits sc facts place p.txn staple
+    → entry_at s p.txn ≡ Some entry → AreAll sc p.txn (deed_numbers entry.deeds) → RowTrusts sc facts place T (votes s p (verdicts_on sc s txn staple entry.deeds) entry)
+votes_trusts sc facts place T s p txn staple entry valid sound h closed t e there fits found all =
     let k : IsSoundEntry sc s.server p.txn entry = sound.entries p.txn.0 entry found in
-    let all : AreAll sc p.txn (deed_numbers entry.deeds) = h.fits.all p.txn.0 entry found in
     let old : IsKept (IsTrusted sc facts place T) p.txn entry = h.keeps p.txn.0 entry found in
-    let verdicts = map (verdict_on sc s staple.place) entry.deeds in
+    let verdicts = verdicts_on sc s txn staple entry.deeds in
     let fit : VerdictsFit sc facts place p.txn verdicts = record {
-      right = rights_of sc facts place s p.txn staple entry.deeds form valid sound h.fits fits k.deeds;
-      all = λ declared f. numbers_kept sc s staple.place entry.deeds ∙ all declared f;
+      right = rights_of sc facts place s p.txn txn staple entry.deeds valid sound h.fits there fits k.deeds;
+      all = λ declared f. numbers_kept sc s txn staple entry.deeds ∙ all declared f;
     } in
     let said = body.Vote (record { txn = p.txn; turn = p.turn; vote = vote.Yes verdicts }) in
-    let timely : T said = closed (body.Prepare p) said (record { txn = p.txn; turn = p.turn }) (vote_answers sc s p staple entry.deeds e) t in
+    let timely : T said = closed (body.Prepare p) said (record { txn = p.txn; turn = p.turn }) (vote_answers sc s p txn staple entry.deeds e) t in
     let trusted : IsTrusted sc facts place T said = record { fits = λ sent. fit; timely = timely } in
     record {
-      fits = record {
-        known = h.fits.known;
-        all = placed_set (λ (n : ℕ) (other : Entry). AreAll sc (record { 0 = n }) (deed_numbers other.deeds)) s.entries p.txn.0 _ h.fits.all all;
-      };
+      fits = record { known = h.fits.known };
       keeps = placed_set (λ (n : ℕ) (other : Entry). IsKept (IsTrusted sc facts place T) (record { 0 = n }) other) s.entries p.txn.0 _ h.keeps
           (record { answers = old.answers; waiting = old.waiting; ballot = trusted });
       forces = trusted;
@@ -260,33 +219,66 @@ votes_trusts sc facts place T s p staple entry form valid sound h closed t e fit
       timely = (timely, tt);
     }
 
--- ---- Decide
+-- ---- the end of a transaction
 
-settles_trusts : (sc : Scenario) (facts : List Fact) (place : ℕ) (T : Body → Type 0) (s : Server) (d : DecideRequest) → ServerTrusted sc facts place T s → RowTrusts sc facts place T (settles s d)
-settles_trusts sc facts place T s d h =
+-- a letter that says nothing of authorisation fits, and is timely if it answers a request
+record LetterTrusts (sc : Scenario) (facts : List Fact) (place : ℕ) (T : Body → Type 0) (letter : Letter) : Type 0 where
+  says : BodyFits sc facts place place letter.body
+  timely : IfSome (stamp_of letter.body) (λ (stamped : Stamp). T letter.body)
+
+no_now : (awaited : Phase) (why : No) → VoteNow awaited (vote.No why)
+no_now (phase.Checking round staple) why = tt
+no_now phase.Idle why = tt
+no_now (phase.Querying number staple) why = tt
+no_now (phase.Asking round) why = tt
+no_now (phase.Ending ended awaited) why = tt
+
+-- a vote NO answers the request to prepare
+no_letter_trusts : (sc : Scenario) (facts : List Fact) (place : ℕ) (T : Body → Type 0) (s : Server) (p : PrepareRequest) (why : No) → IsClosed T → T (body.Prepare p) → LetterTrusts sc facts place T (no_letter s p why)
+no_letter_trusts sc facts place T s p why closed t =
     record {
-      fits = record { known = h.fits.known; all = placed_emptied (λ (n : ℕ) (entry : Entry). AreAll sc (record { 0 = n }) (deed_numbers entry.deeds)) s.entries d.txn.0 h.fits.all };
+      says = tt;
+      timely = closed (body.Prepare p) (no_letter s p why).body (record { txn = p.txn; turn = p.turn })
+          (record {
+            asked = record { txn = p.txn; turn = p.turn };
+            asked_is = refl;
+            reply_is = refl;
+            same_txn = refl;
+            timely = λ sc c sent place t unsure. record { past = (t unsure).past; now = λ e. no_now c.phase why };
+          }) t;
+    }
+
+ends_trusts : (sc : Scenario) (facts : List Fact) (place : ℕ) (T : Body → Type 0) (s : Server) (d : Settled) (letter : Letter) → ServerTrusted sc facts place T s → LetterTrusts sc facts place T letter → RowTrusts sc facts place T (ends s d letter)
+ends_trusts sc facts place T s d letter h l =
+    record {
+      fits = knows_as sc facts place s (ends s d letter).state (ended_known s.store d.txn d.outcome) h.fits;
       keeps = placed_emptied (λ (n : ℕ) (entry : Entry). IsKept (IsTrusted sc facts place T) (record { 0 = n }) entry) s.entries d.txn.0 h.keeps;
       forces = tt;
-      says = (tt, tt);
-      timely = (tt, tt);
+      says = (l.says, tt);
+      timely = (l.timely, tt);
     }
 
 -- every row of a server on receipt of a mail
-pub server_row_trusts : (sc : Scenario) (facts : List Fact) (place : ℕ) (T : Body → Type 0) (s : Server) (mail : Mail) → IsFirstForm sc → IsValid sc → IsSoundServer sc s → ServerTrusted sc facts place T s
-    → IsSoundBody sc (actor.Server s.server) mail.letter.body → BodyFits sc facts place mail.sent mail.letter.body → IsClosed T → T mail.letter.body → RowTrusts sc facts place T (server_row sc s mail)
-server_row_trusts sc facts place T s mail form valid sound h m f closed t =
+pub server_row_trusts : (sc : Scenario) (facts : List Fact) (place : ℕ) (T : Body → Type 0) (s : Server) (mail : Mail) → IsValid sc → IsSoundServer sc s → ServerTrusted sc facts place T s
+    → BodyFits sc facts place mail.sent mail.letter.body → WholeMail sc s mail.letter.body → IsClosed T → T mail.letter.body → RowTrusts sc facts place T (server_row sc s mail)
+server_row_trusts sc facts place T s mail valid sound h f whole closed t =
     server_by sc s mail (RowTrusts sc facts place T)
     (record {
       ignored = ignores_trusts sc facts place T s h;
-      begun = λ q deed k. begins_trusts sc facts place T s mail.sent q deed form h (subst (IsSoundBody sc (actor.Server s.server)) k.said_is m) closed (subst T k.said_is t) k.writes;
+      ran = λ q query entry value k. runs_trusts sc facts place T s mail q query entry value h closed (subst T k.said_is t) k;
       restarted = λ q k. answers_trusts sc facts place T s q (restarted_reply q s.epoch) h (restarted_trusted sc facts place T s q closed (subst T k.said_is t));
       answered = λ q entry given k.
           answers_trusts sc facts place T s q given h
           (each_found (λ (d : DoneReply). IsTrusted sc facts place T (body.Done d)) (λ (d : DoneReply). d.query == q.query) entry.answers given (h.keeps q.txn.0 entry k.found).answers k.given_is);
-      voted = λ p entry staple k.
+      voted = λ p entry staple txn k.
           let fits : IfSome p.staple (StapleFits sc facts place p.txn) = subst (BodyFits sc facts place mail.sent) k.said_is f in
-          votes_trusts sc facts place T s p staple entry form valid sound h closed (subst T k.said_is t) k.stapled (subst (λ (x : Option Staple). IfSome x (StapleFits sc facts place p.txn)) k.stapled fits) k.found;
-      settled = λ d k. settles_trusts sc facts place T s d h;
+          votes_trusts sc facts place T s p txn staple entry valid sound h closed (subst T k.said_is t) k.stapled k.declared (subst (λ (x : Option Staple). IfSome x (StapleFits sc facts place p.txn)) k.stapled fits) k.found
+          (subst (WholeMail sc s) k.said_is whole entry k.found (eqb-true entry.epoch p.epoch k.same_epoch));
+      refused = λ p entry number value k.
+          ends_trusts sc facts place T s (refused_as p (no.Range number value)) (no_letter s p (no.Range number value)) h (no_letter_trusts sc facts place T s p (no.Range number value) closed (subst T k.said_is t));
+      refused_again = λ p settled why k.
+          let l = no_letter_trusts sc facts place T s p why closed (subst T k.said_is t) in
+          record { fits = h.fits; keeps = h.keeps; forces = tt; says = (l.says, tt); timely = (l.timely, tt) };
+      settled = λ d k. ends_trusts sc facts place T s (settled_as d) (ack_letter s d.txn) h (record { says = tt; timely = tt });
       acknowledged = λ d settled k. record { fits = h.fits; keeps = h.keeps; forces = tt; says = (tt, tt); timely = (tt, tt) };
     })

@@ -1,47 +1,52 @@
 -- Trust, step by step: it holds before the first step, and each step keeps it.
 use Rattle.std.specs.Option.{option_map_or}
-use Rattle.std.proofs.lemmas.List.{length-replicate}
-use Rattle.std.proofs.Common.{IfSome, List, None, Option, Some, [], arith, false, length, refl, slice_get, subst, suc, sym, true, unwrap_or, zero, ℕ, ℤ, ◌+◌, ◌==◌, ◌∙◌, ◌∷◌, ◌≡◌}
+use Rattle.std.proofs.Common.{IfSome, List, None, Option, Some, [], arith, false, length, refl, slice_get, subst, suc, sym, true, unwrap_or, zero, ℕ, ◌+◌, ◌==◌, ◌∙◌, ◌∷◌, ◌≡◌}
 use Rattle.std.proofs.lemmas.Bool.{or_left, or_right}
 use Rattle.std.proofs.lemmas.List.Folds.{list_any-append}
+use Rattle.std.proofs.lemmas.List.{length-replicate}
 use Rattle.tp_types.proofs.ListLemmas.{number_itself}
+use Rattle.tp_model.proofs.RuleLemmas as rules
 use Rattle.tp_model.specs.Built.{is_built}
 use Rattle.tp_model.specs.Facts.{is_submission}
-use Rattle.tp_model.specs.Queries.{written_constant}
-use Rattle.tp_model.specs.Words.{Actor, AdminId, Body, CredId, Fact, Mail, Query, Scenario, ServerDecl, ServerId, Step, TxnId, Version, What}
 use Rattle.tp_model.specs.Words.actor
 use Rattle.tp_model.specs.Words.body
 use Rattle.tp_model.specs.Words.step
 use Rattle.tp_model.specs.Words.what
-use Rattle.tp_model.proofs.RuleLemmas as rules
-use Rattle.tp_machine.specs.Machine.{Machine, State, acts_by, coordinator_fact, coordinator_move, facts_of, idle_move, is_part_submitted, machine_after, opened_part, opening_state, refusal, server_fact, server_move, with_age}
-use Rattle.tp_machine.specs.Parts.{Part}
-use Rattle.tp_machine.specs.Sound.{Each, IsSound, IsSoundBody, IsSoundLetter, IsSoundMail, IsSoundServerUp, IsStepOf}
-use Rattle.tp_machine.specs.coord.Opened as coord
-use Rattle.tp_machine.specs.coord.Row.{begins, coordinator_row, is_begun, query_of, sends_first, server_of, submit_row}
-use Rattle.tp_machine.specs.coord.State.{Coordinator}
-use Rattle.tp_machine.specs.declared.server.Entry.{Entry}
-use Rattle.tp_offices.specs.Authority as office
-use Rattle.tp_offices.specs.Master as master
-use Rattle.tp_machine.specs.server.Opened as server
-use Rattle.tp_machine.specs.server.Row.{server_row}
-use Rattle.tp_machine.specs.server.State.{Server}
+use Rattle.tp_model.specs.Words.{Actor, AdminId, Body, CredId, Fact, Mail, Scenario, ServerDecl, ServerId, Step, TxnId, Version, What}
 use Rattle.tp_machine.proofs.agreement.CoordinatorActs.{coordinator_facts}
 use Rattle.tp_machine.proofs.agreement.Steps.{own_txn}
 use Rattle.tp_machine.proofs.agreement.World.{Agrees}
-use Rattle.tp_machine.proofs.walks.Steps.{Cases, IsCoordinatorUp, IsServerUp, SaysIdle, WasSent, machine_after_by}
 use Rattle.tp_machine.proofs.basics.Facts.{ArePast}
-use Rattle.tp_machine.proofs.ids.Valid.{IsValid, valid_built}
+use Rattle.tp_machine.proofs.basics.Homes.{HaveHomes}
 use Rattle.tp_machine.proofs.basics.Lists.{at_made, each_get, placed_none}
+use Rattle.tp_machine.proofs.ids.Queries.{homes_built}
+use Rattle.tp_machine.proofs.ids.Valid.{IsValid, valid_built}
+use Rattle.tp_machine.proofs.pairs.Actors.{BodyPairs, LetterPairs, pair_at}
+use Rattle.tp_machine.proofs.pairs.World.{Pairs}
 use Rattle.tp_machine.proofs.trust.Acts.{ActTrusts, act_trusts, coordinator_acts_trusts, server_acts_trusts, tells_fit, tells_timely, timely_closed, unmoved_trusts}
 use Rattle.tp_machine.proofs.trust.Built.{IsFirstForm, first_form}
 use Rattle.tp_machine.proofs.trust.Coordinator.{CoordinatorFits, CoordinatorTrusts, LetterOfTurn, RecordDecides, coordinator_row_trusts, submit_row_trusts}
-use Rattle.tp_machine.proofs.trust.Fit.{AreAll, BodyFits, IsSubmitted, Later, MailFits, ServerFits, deed_numbers, maybe_stays}
+use Rattle.tp_machine.proofs.trust.Fit.{BodyFits, IsSubmitted, Later, MailFits, ServerFits, maybe_stays}
 use Rattle.tp_machine.proofs.trust.Kept.{AreKept, IsKept, IsTrusted}
 use Rattle.tp_machine.proofs.trust.Offices.{newest_fits, newest_timely, none_revoked, revoked_trusts, ticked_trusts}
 use Rattle.tp_machine.proofs.trust.Server.{ServerTrusted, server_row_trusts}
 use Rattle.tp_machine.proofs.trust.Turns.{AreFew, IsNoTell, TurnFits, few_queries, stamp_of, timely_anywhere}
+use Rattle.tp_machine.proofs.trust.Whole.{whole_mail}
 use Rattle.tp_machine.proofs.trust.World.{BodyTimely, CoordinatorPartFits, MailTimely, MoveTrusts, ServerPartFits, StampFits, Timely, Trusts, coordinator_stays, facts_after, later_with_facts, state_after_trusts, up_at}
+use Rattle.tp_machine.proofs.walks.Steps.{Cases, IsCoordinatorUp, IsServerUp, SaysIdle, WasSent, machine_after_by}
+use Rattle.tp_machine.specs.Machine.{Machine, State, acts_by, coordinator_fact, coordinator_move, facts_of, idle_move, is_part_submitted, machine_after, opened_part, opening_state, refusal, server_fact, server_move, with_age}
+use Rattle.tp_machine.specs.Parts.{Part}
+use Rattle.tp_machine.specs.Sound.{Each, IsServer, IsSound, IsSoundBody, IsSoundLetter, IsSoundMail, IsSoundServerUp, IsStepOf}
+use Rattle.tp_machine.specs.coord.Opened as coord
+use Rattle.tp_machine.specs.coord.Opened.{idle}
+use Rattle.tp_machine.specs.coord.Row.{begins, coordinator_row, home_of, is_begun, submit_row}
+use Rattle.tp_machine.specs.coord.State.{Coordinator}
+use Rattle.tp_machine.specs.declared.server.Entry.{Entry}
+use Rattle.tp_machine.specs.server.Opened as server
+use Rattle.tp_machine.specs.server.Row.{server_row}
+use Rattle.tp_machine.specs.server.State.{Server}
+use Rattle.tp_offices.specs.Authority as office
+use Rattle.tp_offices.specs.Master as master
 
 -- ---- what is known of actors that are up
 
@@ -78,9 +83,9 @@ heard_anywhere sc coordinators sent said other h place =
     (λ stamped k. maybe_stays (TurnFits sc sent stamped.turn said) (TurnFits sc place stamped.turn said) (up_at coordinators stamped.txn.0)
     (λ c t. timely_anywhere sc c sent place stamped.turn said other t) k) h
 
-receipt_by_server : (sc : Scenario) (w : State) → IsFirstForm sc → IsValid sc → IsSound sc w → ArePast (length w.steps) w.facts → Trusts sc w → (n : ℕ) (mail : Mail) (at : ServerId) (part : Part Server) (s : Server)
+receipt_by_server : (sc : Scenario) (w : State) → is_built sc ≡ true → IsValid sc → IsSound sc w → ArePast (length w.steps) w.facts → Pairs sc w → Trusts sc w → (n : ℕ) (mail : Mail) (at : ServerId) (part : Part Server) (s : Server)
     → WasSent w n mail (actor.Server at) → IsServerUp w at part s → MoveTrusts sc w (server_move w.actors at (acts_by (server_fact at) [] part.log (server_row sc s mail)))
-receipt_by_server sc w form valid sound past h n mail at part s sent up =
+receipt_by_server sc w built valid sound past pairs h n mail at part s sent up =
     let place = length w.steps in
     let T = Timely sc w.actors.coordinators in
     let effect = server_row sc s mail in
@@ -91,16 +96,20 @@ receipt_by_server sc w form valid sound past h n mail at part s sent up =
       fits = subst (λ (u : Option Server). IfSome u (ServerFits sc w.facts place)) up.up fits.state;
       keeps = subst (λ (u : Option Server). IfSome u (AreKept (IsTrusted sc w.facts place T))) up.up fits.kept.state;
     } in
+    let exists : IsServer sc at = subst (IsServer sc) here.server_is here.sound.exists in
+    let said : BodyPairs sc (pair_at w.actors) mail.letter.from (actor.Server at) mail.letter.body =
+    subst (λ (to : Actor). BodyPairs sc (pair_at w.actors) mail.letter.from to mail.letter.body) sent.goes_to (each_get (λ (m : Mail). LetterPairs sc (pair_at w.actors) m.letter) w.mails n mail pairs.mails sent.sent) in
     server_acts_trusts sc w at part [] (Some effect.state) effect.reaction.append effect.reaction.letters past h up.found (record { still = tt; fit = λ facts. tt })
-    (server_row_trusts sc w.facts place T s mail form valid here.sound trusted (subst (λ (a : ServerId). IsSoundBody sc (actor.Server a) mail.letter.body) (sym here.server_is) m.says) m.fits
+    (server_row_trusts sc w.facts place T s mail valid here.sound trusted m.fits
+    (whole_mail sc w at part s mail.letter.from mail.letter.body valid built exists pairs up said)
     (timely_closed sc w.actors.coordinators) (heard_anywhere sc w.actors.coordinators mail.sent mail.letter.body (no_tell sc at mail.letter.body m.says) m.timely))
 
 coordinator_fits : (sc : Scenario) (w : State) (txn : TxnId) (part : Part Coordinator) (c : Coordinator) → Trusts sc w → IsCoordinatorUp w txn part c → CoordinatorFits sc w.facts (length w.steps) c
 coordinator_fits sc w txn part c h up = subst (λ (u : Option Coordinator). IfSome u (CoordinatorFits sc w.facts (length w.steps))) up.up (h.coordinators txn.0 part up.found)
 
-receipt_by_coordinator : (sc : Scenario) (w : State) → AreFew sc → IsSound sc w → ArePast (length w.steps) w.facts → Trusts sc w → (n : ℕ) (mail : Mail) (txn : TxnId) (part : Part Coordinator) (c : Coordinator)
+receipt_by_coordinator : (sc : Scenario) (w : State) → AreFew sc → HaveHomes sc → IsSound sc w → ArePast (length w.steps) w.facts → Trusts sc w → (n : ℕ) (mail : Mail) (txn : TxnId) (part : Part Coordinator) (c : Coordinator)
     → WasSent w n mail (actor.Coordinator txn) → IsCoordinatorUp w txn part c → MoveTrusts sc w (coordinator_move w.actors txn (acts_by coordinator_fact [] part.log (coordinator_row sc c mail)))
-receipt_by_coordinator sc w few sound past h n mail txn part c sent up =
+receipt_by_coordinator sc w few homes sound past h n mail txn part c sent up =
     let place = length w.steps in
     let effect = coordinator_row sc c mail in
     let append = effect.reaction.append in
@@ -108,7 +117,7 @@ receipt_by_coordinator sc w few sound past h n mail txn part c sent up =
     let m = mail_trusted sc w n mail (actor.Coordinator txn) sound h sent in
     let same : c.txn ≡ txn = own_txn sc w txn part c sound up.found up.up in
     let row : CoordinatorTrusts sc w.facts place c.txn (Some c) (Some effect.state) append letters =
-    coordinator_row_trusts sc w.facts place c mail few (coordinator_fits sc w txn part c h up) (subst (λ (t : TxnId). IsSoundBody sc (actor.Coordinator t) mail.letter.body) (sym same) m.says) m.fits in
+    coordinator_row_trusts sc w.facts place c mail few homes (coordinator_fits sc w txn part c h up) (subst (λ (t : TxnId). IsSoundBody sc (actor.Coordinator t) mail.letter.body) (sym same) m.says) m.fits in
     coordinator_acts_trusts sc w txn part [] (Some effect.state) append letters past h up.found
     (act_trusts sc w txn part.up (Some effect.state) [] append letters (record { still = tt; fit = λ facts. tt })
     (subst (λ (was : Option Coordinator). CoordinatorTrusts sc w.facts place txn was (Some effect.state) append letters) (sym up.up)
@@ -122,13 +131,9 @@ now_submitted w txn more =
     list_any-append (is_submission txn) w.facts (facts_of (length w.steps) (what.Submitted txn ∷ more)) ∙ or_right _ _ (or_left (txn.0 == txn.0) _ (number_itself txn.0))
 
 -- a submission decides nothing
-begins_nothing : (sc : Scenario) (w : State) (c : Coordinator) (asked : Option Query) → IfSome (begins sc c asked).reaction.append (RecordDecides sc w.facts (length w.steps))
+begins_nothing : (sc : Scenario) (w : State) (c : Coordinator) (home : Option ServerId) → IfSome (begins sc c home).reaction.append (RecordDecides sc w.facts (length w.steps))
 begins_nothing sc w c None = tt
-begins_nothing sc w c (Some asked) = first (server_of sc asked) (written_constant asked)
-  where
-    first : (at : Option ServerId) (value : Option ℤ) → IfSome (sends_first c at value).reaction.append (RecordDecides sc w.facts (length w.steps))
-    first (Some at) (Some value) = tt
-    first _ _ = tt
+begins_nothing sc w c (Some at) = tt
 
 submission_fits : (sc : Scenario) (w : State) (txn : TxnId) (c : Coordinator) → c.txn ≡ txn → CoordinatorFits sc w.facts (length w.steps) c → is_begun c.phase ≡ false
     → ActTrusts sc w txn (Some c) (Some (with_age (submit_row sc c) (length w.steps)).state) (what.Submitted txn ∷ []) (submit_row sc c).reaction.append (submit_row sc c).reaction.letters
@@ -144,7 +149,7 @@ submission_fits sc w txn c same fits begun =
     record {
       says = record { still = (tt, tt); fit = λ facts. (tt, tt) };
       fits = λ facts e. (row facts e).fits;
-      decides = begins_nothing sc w c (query_of sc c 1);
+      decides = begins_nothing sc w c (home_of sc c 1);
       letters = λ facts e. (row facts e).says place;
       timely = subst (λ (u : TxnId). Each (LetterOfTurn sc u (Some effect.state) place) effect.reaction.letters) same ((row after refl).timely place);
       old = (row after refl).old;
@@ -162,12 +167,12 @@ begun_trusts sc w sound past h txn part c up new =
 
 -- ---- steps
 
-trusts_cases : (sc : Scenario) (w : State) → IsFirstForm sc → IsValid sc → AreFew sc → IsSound sc w → Agrees sc w → Trusts sc w → Cases sc w (λ taken move. MoveTrusts sc w move)
-trusts_cases sc w form valid few sound a h =
+trusts_cases : (sc : Scenario) (w : State) → is_built sc ≡ true → IsValid sc → AreFew sc → IsSound sc w → Agrees sc w → Pairs sc w → Trusts sc w → Cases sc w (λ taken move. MoveTrusts sc w move)
+trusts_cases sc w built valid few sound a pairs h =
     record {
       idle = idle_trusts sc w a.past h;
-      server_received = λ n mail at part s sent up. receipt_by_server sc w form valid sound a.past h n mail at part s sent up;
-      coordinator_received = λ n mail txn part c sent up. receipt_by_coordinator sc w few sound a.past h n mail txn part c sent up;
+      server_received = λ n mail at part s sent up. receipt_by_server sc w built valid sound a.past pairs h n mail at part s sent up;
+      coordinator_received = λ n mail txn part c sent up. receipt_by_coordinator sc w few (homes_built sc built) sound a.past h n mail txn part c sent up;
       authority_told = λ n mail sent.
           let m = mail_trusted sc w n mail actor.Authority sound h sent in
           unmoved_trusts sc w [] (office.authority_row w.actors.authority mail).reaction.letters a.past h (record { still = tt; fit = λ facts. tt })
@@ -181,11 +186,11 @@ trusts_cases sc w form valid few sound a h =
     }
 
 -- a step that is not refused keeps what trust rests on
-pub trusts_next : (sc : Scenario) (m : Machine) (taken : Step) → is_built sc ≡ true → IsStepOf sc taken → refusal m.state taken ≡ None → IsSound sc m.state → Agrees sc m.state → Trusts sc m.state
+pub trusts_next : (sc : Scenario) (m : Machine) (taken : Step) → is_built sc ≡ true → IsStepOf sc taken → refusal m.state taken ≡ None → IsSound sc m.state → Agrees sc m.state → Pairs sc m.state → Trusts sc m.state
     → Trusts sc (machine_after sc m taken).state
-trusts_next sc m taken built exists allowed sound a h =
+trusts_next sc m taken built exists allowed sound a pairs h =
     machine_after_by sc m (λ taken move. MoveTrusts sc m.state move) (Trusts sc)
-    (trusts_cases sc m.state (first_form sc built) (valid_built sc built) (few_queries sc (rules.valid_built sc built)) sound a h) a.coordinator_count
+    (trusts_cases sc m.state built (valid_built sc built) (few_queries sc (rules.valid_built sc built)) sound a pairs h) a.coordinator_count
     (λ taken move t. state_after_trusts sc m.state taken move a h t) h taken exists allowed
 
 -- ---- before the first step
@@ -217,7 +222,6 @@ trusts_opening sc built =
             state = record {
               known = λ admin exists. let one = known_at sc k admin (slice_get sc.servers k) refl form.known in
                   omega (arith, one, form.opening admin exists);
-              all = placed_none (λ (m : ℕ) (entry : Entry). AreAll sc (record { 0 = m }) (deed_numbers entry.deeds)) (length sc.txns);
             };
             kept = record {
               state = placed_none (λ (m : ℕ) (entry : Entry). IsKept (IsTrusted sc [] 0 T) (record { 0 = m }) entry) (length sc.txns);

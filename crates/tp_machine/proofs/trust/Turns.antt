@@ -8,15 +8,15 @@ use Rattle.tp_model.proofs.RuleLemmas.{count_most}
 use Rattle.tp_model.specs.Limits.{has_count, is_from_to}
 use Rattle.tp_model.specs.Queries.{query_at}
 use Rattle.tp_model.specs.Valid.{IsValid, are_distinct, has_valid_creds, is_name_of_server, is_valid_query, is_valid_txn, same_txn_name}
-use Rattle.tp_model.specs.Words.{Body, Instance, PrepareRequest, Query, Scenario, Transaction, TxnId, Verdict, Vote}
 use Rattle.tp_model.specs.Words.body
 use Rattle.tp_model.specs.Words.vote
+use Rattle.tp_model.specs.Words.{Body, Instance, PrepareRequest, Query, Scenario, Transaction, TxnId, Verdict, Vote}
+use Rattle.tp_machine.proofs.basics.Phases.{is_undecided}
 use Rattle.tp_machine.specs.Sound.{Each, query_in}
 use Rattle.tp_machine.specs.coord.Row.{next_turn}
 use Rattle.tp_machine.specs.coord.State.{Coordinator}
 use Rattle.tp_machine.specs.declared.coord.Phase.TheVariants as phase
 use Rattle.tp_machine.specs.declared.coord.Phase.{Phase}
-use Rattle.tp_machine.proofs.basics.Phases.{is_undecided}
 
 -- ---- turns
 
@@ -182,6 +182,10 @@ turn_rises c le = omega (arith, le)
 -- a query is asked within its bound, if it is the first
 pub first_move : (turn : ℕ) → turn ≤ 0 → turn + 1 ≤ before_query 1 + 2
 first_move turn low = omega (arith, low)
+
+-- so is a further one
+pub next_move : (number next turn : ℕ) → 1 ≤ number → next ≡ number + 1 → turn ≤ before_query number + 2 → turn + 1 ≤ before_query next + 2
+next_move number next turn first one_more low = omega (arith, first, one_more, low)
 
 -- so is the first round, after any query
 pub round_move : (count number turn : ℕ) → 1 ≤ number → number ≤ count → turn ≤ before_query number + 2 → turn + 1 ≤ until_round count 1 1

@@ -1,28 +1,28 @@
 -- A coordinator's rows are walked once: what is shown of each of their outcomes holds of the rows. A new outcome is a field here, and of each
 -- theorem's cases.
-use Rattle.std.proofs.Common.{Bool, List, None, Option, Some, [], arith, false, is_none, is_some, refl, true, ℕ, ℤ, ◌&&◌, ◌==◌, ◌∷◌, ◌≡◌}
+use Rattle.std.specs.List.{list_all}
+use Rattle.std.proofs.Common.{Bool, List, None, Option, Some, [], ap, arith, false, is_none, is_some, refl, true, ℕ, ℤ, ◌&&◌, ◌==◌, ◌∷◌, ◌≡◌}
 use Rattle.std.proofs.lemmas.Bool.{and_from, and_parts}
 use Rattle.tp_types.specs.Effect.{Effect, ignores, sends}
-use Rattle.tp_model.specs.Queries.{written_constant}
 use Rattle.tp_model.specs.Stage.{is_empty}
-use Rattle.tp_model.specs.Words.{AckReply, Actor, Answer, Body, DoneReply, Mail, Outcome, Query, Scenario, ServerId, Staple, TellReply, Verdict, Vote, VoteReply}
 use Rattle.tp_model.specs.Words.actor
 use Rattle.tp_model.specs.Words.answer
 use Rattle.tp_model.specs.Words.body
 use Rattle.tp_model.specs.Words.cause
+use Rattle.tp_model.specs.Words.no
 use Rattle.tp_model.specs.Words.vote
-use Rattle.tp_machine.specs.coord.Row.{aborts, ack_from, are_agreed, asks, awaits_query, awaits_vote, begins, commits, coordinator_row, denied_by, first_false, have_one_version, is_awaited, is_false_verdict, is_from, is_last_write, is_plain, is_true_verdict, on_ack, on_answer, on_body, on_done_from, on_done_of_query, on_reply, on_staple, on_verdicts, on_vote, on_vote_of, prepares, query_of, sends_first, server_of, staple_of, submit_row, vote_at, with_deed, with_reply, without}
+use Rattle.tp_model.specs.Words.{AckReply, Actor, Answer, Body, DoneReply, Mail, No, Outcome, Query, Scenario, ServerId, Staple, TellReply, Verdict, Vote, VoteReply}
+use Rattle.tp_machine.proofs.basics.Lists.{by_cond}
+use Rattle.tp_machine.specs.coord.Row.{aborts, ack_from, are_agreed, asks, asks_next, awaits_query, awaits_vote, begins, commits, coordinator_row, denied_by, first_false, have_one_version, home_of, is_awaited, is_false_verdict, is_from, is_plain, is_true_verdict, next_number, on_ack, on_answer, on_body, on_done_from, on_done_of_query, on_no, on_reply, on_staple, on_verdicts, on_vote, on_vote_of, prepares, query_of, refused_by, sends_query, server_of, staple_of, submit_row, vote_at, with_deed, with_reply, without}
 use Rattle.tp_machine.specs.coord.State.{Coordinator}
 use Rattle.tp_machine.specs.declared.coord.Phase.TheVariants as phase
 use Rattle.tp_machine.specs.declared.coord.Phase.{Phase}
 use Rattle.tp_machine.specs.declared.coord.Round.{Round}
-use Rattle.tp_machine.proofs.basics.Lists.{by_cond}
-use Rattle.std.specs.List.{list_all}
 
 -- ---- outcomes of a receipt
 
--- the awaited answer to the last query, which ran
-pub record IsLastAnswer (sc : Scenario) (c : Coordinator) (mail : Mail) (done : DoneReply) (server : ServerId) (asked : Query) (value : ℤ) : Type 0 where
+-- the awaited answer to a query, which ran
+pub record IsRanAnswer (sc : Scenario) (c : Coordinator) (mail : Mail) (done : DoneReply) (server : ServerId) (asked : Query) (value : ℤ) : Type 0 where
   pub said_is : mail.letter.body ≡ body.Done done
   pub from_is : is_from mail.letter.from server ≡ true
   pub awaited : awaits_query c c.phase done ≡ true
@@ -30,7 +30,6 @@ pub record IsLastAnswer (sc : Scenario) (c : Coordinator) (mail : Mail) (done : 
   pub asked_is : query_of sc c done.query ≡ Some asked
   pub server_is : server_of sc asked ≡ Some server
   pub answer_is : done.answer ≡ answer.Ran value None
-  pub last : is_last_write sc c asked done.query ≡ true
 
 -- the awaited answer of the authority, before a first round
 pub record IsStaple (c : Coordinator) (mail : Mail) (tell : TellReply) (round : Round) : Type 0 where
@@ -48,6 +47,15 @@ pub record IsYes (c : Coordinator) (mail : Mail) (reply : VoteReply) (round : Ro
   pub awaited : is_awaited round.awaited server ≡ true
   pub vote_is : reply.vote ≡ vote.Yes verdicts
 
+-- an awaited vote NO, for a value outside its range
+pub record IsNo (c : Coordinator) (mail : Mail) (reply : VoteReply) (round : Round) (staple : Staple) (server : ServerId) (number : ℕ) (value : ℤ) : Type 0 where
+  pub said_is : mail.letter.body ≡ body.Vote reply
+  pub from_is : mail.letter.from ≡ actor.Server server
+  pub present : (reply.turn == c.turn) ≡ true
+  pub checking : c.phase ≡ phase.Checking round staple
+  pub awaited : is_awaited round.awaited server ≡ true
+  pub vote_is : reply.vote ≡ vote.No (no.Range number value)
+
 -- an acknowledgement of what was decided
 pub record IsAck (c : Coordinator) (mail : Mail) (ack : AckReply) (ended : Outcome) (awaited : List ServerId) (server : ServerId) : Type 0 where
   pub said_is : mail.letter.body ≡ body.Ack ack
@@ -57,7 +65,10 @@ pub record IsAck (c : Coordinator) (mail : Mail) (ack : AckReply) (ended : Outco
 -- what is to be shown of the outcomes of a receipt: P of the effect
 pub record CoordinatorCases (sc : Scenario) (c : Coordinator) (mail : Mail) (P : Effect Coordinator → Type 0) : Type 0 where
   pub ignored : P (ignores c)
-  pub ran_last : (done : DoneReply) (server : ServerId) (asked : Query) (value : ℤ) → IsLastAnswer sc c mail done server asked value → P (asks (with_deed c server done asked value))
+  pub ran_next : (done : DoneReply) (server : ServerId) (asked : Query) (value : ℤ) (next : ServerId) → IsRanAnswer sc c mail done server asked value → home_of sc c (next_number done.query) ≡ Some next
+      → P (sends_query sc (with_deed c server done asked value) (next_number done.query) next)
+  pub ran_last : (done : DoneReply) (server : ServerId) (asked : Query) (value : ℤ) → IsRanAnswer sc c mail done server asked value → home_of sc c (next_number done.query) ≡ None
+      → P (asks (with_deed c server done asked value))
   pub told_first : (tell : TellReply) (round : Round) → IsStaple c mail tell round → P (prepares c round (staple_of tell mail.sent))
   pub counted : (reply : VoteReply) (round : Round) (staple : Staple) (server : ServerId) (verdicts : List Verdict) (other : ServerId) (others : List ServerId) → IsYes c mail reply round staple server verdicts
       → without round.awaited server ≡ other ∷ others → P (sends (record c { phase = phase.Checking (with_reply round server verdicts) staple }) [])
@@ -65,16 +76,23 @@ pub record CoordinatorCases (sc : Scenario) (c : Coordinator) (mail : Mail) (P :
       → without round.awaited server ≡ [] → is_empty round.kept ≡ true → are_agreed verdicts ≡ true → P (commits c round.number verdicts)
   pub denied : (reply : VoteReply) (round : Round) (staple : Staple) (server : ServerId) (verdicts : List Verdict) (verdict : Verdict) → IsYes c mail reply round staple server verdicts
       → without round.awaited server ≡ [] → first_false verdicts ≡ Some verdict → P (aborts c (cause.Denied (denied_by verdict)))
+  pub refused : (reply : VoteReply) (round : Round) (staple : Staple) (server : ServerId) (number : ℕ) (value : ℤ) → IsNo c mail reply round staple server number value
+      → P (aborts c (cause.No (refused_by server number value)))
   pub acknowledged : (ack : AckReply) (ended : Outcome) (awaited : List ServerId) (server : ServerId) → IsAck c mail ack ended awaited server
       → P (sends (record c { phase = phase.Ending ended (without awaited server) }) [])
 
 -- ---- Done
 
+next_by : (sc : Scenario) (c : Coordinator) (mail : Mail) (P : Effect Coordinator → Type 0) → CoordinatorCases sc c mail P → (done : DoneReply) (server : ServerId) (asked : Query) (value : ℤ) (next : Option ServerId)
+    → IsRanAnswer sc c mail done server asked value → home_of sc c (next_number done.query) ≡ next → P (asks_next sc (with_deed c server done asked value) (next_number done.query) next)
+next_by sc c mail P cases done server asked value None k e = cases.ran_last done server asked value k e
+next_by sc c mail P cases done server asked value (Some next) k e = cases.ran_next done server asked value next k e
+
 on_answer_by : (sc : Scenario) (c : Coordinator) (mail : Mail) (P : Effect Coordinator → Type 0) → CoordinatorCases sc c mail P → (done : DoneReply) (server : ServerId) (asked : Query) (given : Answer)
-    → ((value : ℤ) → given ≡ answer.Ran value None → is_last_write sc c asked done.query ≡ true → IsLastAnswer sc c mail done server asked value) → P (on_answer sc c server done asked given)
-on_answer_by sc c mail P cases done server asked (answer.Ran value None) last =
-    by_cond P (is_last_write sc c asked done.query) (λ is_last. cases.ran_last done server asked value (last value refl is_last)) (λ further. cases.ignored)
-on_answer_by sc c mail P cases done server asked _ last = cases.ignored
+    → ((value : ℤ) → given ≡ answer.Ran value None → IsRanAnswer sc c mail done server asked value) → P (on_answer sc c server done asked given)
+on_answer_by sc c mail P cases done server asked (answer.Ran value None) ran =
+    next_by sc c mail P cases done server asked value (home_of sc c (next_number done.query)) (ran value refl) refl
+on_answer_by sc c mail P cases done server asked _ ran = cases.ignored
 
 on_done_from_by : (sc : Scenario) (c : Coordinator) (mail : Mail) (P : Effect Coordinator → Type 0) → CoordinatorCases sc c mail P → (done : DoneReply) (asked : Query) (server : Option ServerId)
     → mail.letter.body ≡ body.Done done → awaits_query c c.phase done ≡ true → is_plain c.phase ≡ true → query_of sc c done.query ≡ Some asked → server_of sc asked ≡ server
@@ -83,16 +101,7 @@ on_done_from_by sc c mail P cases done asked None e awaited plain asked_is serve
 on_done_from_by sc c mail P cases done asked (Some server) e awaited plain asked_is server_is =
     by_cond P (is_from mail.letter.from server)
     (λ from. on_answer_by sc c mail P cases done server asked done.answer
-    (λ value given last. record {
-      said_is = e;
-      from_is = from;
-      awaited = awaited;
-      plain = plain;
-      asked_is = asked_is;
-      server_is = server_is;
-      answer_is = given;
-      last = last;
-    }))
+    (λ value given. record { said_is = e; from_is = from; awaited = awaited; plain = plain; asked_is = asked_is; server_is = server_is; answer_is = given }))
     (λ other. cases.ignored)
 
 asked_by : (sc : Scenario) (c : Coordinator) (mail : Mail) (P : Effect Coordinator → Type 0) → CoordinatorCases sc c mail P → (done : DoneReply) (asked : Option Query)
@@ -143,10 +152,17 @@ on_reply_by sc c mail P cases reply round staple server verdicts [] y e =
     (λ other. cases.ignored)
 on_reply_by sc c mail P cases reply round staple server verdicts (other ∷ others) y e = cases.counted reply round staple server verdicts other others y e
 
+on_no_by : (sc : Scenario) (c : Coordinator) (mail : Mail) (P : Effect Coordinator → Type 0) → CoordinatorCases sc c mail P → (reply : VoteReply) (round : Round) (staple : Staple) (server : ServerId) (why : No)
+    → ((number : ℕ) (value : ℤ) → why ≡ no.Range number value → IsNo c mail reply round staple server number value) → P (on_no c server why)
+on_no_by sc c mail P cases reply round staple server (no.Range number value) n = cases.refused reply round staple server number value (n number value refl)
+on_no_by sc c mail P cases reply round staple server no.Restarted n = cases.ignored
+
 on_vote_of_by : (sc : Scenario) (c : Coordinator) (mail : Mail) (P : Effect Coordinator → Type 0) → CoordinatorCases sc c mail P → (reply : VoteReply) (round : Round) (staple : Staple) (server : ServerId) (said : Vote)
-    → ((verdicts : List Verdict) → said ≡ vote.Yes verdicts → IsYes c mail reply round staple server verdicts) → P (on_vote_of c round staple server said)
-on_vote_of_by sc c mail P cases reply round staple server (vote.Yes verdicts) y = on_reply_by sc c mail P cases reply round staple server verdicts (without round.awaited server) (y verdicts refl) refl
-on_vote_of_by sc c mail P cases reply round staple server (vote.No why) y = cases.ignored
+    → ((verdicts : List Verdict) → said ≡ vote.Yes verdicts → IsYes c mail reply round staple server verdicts)
+    → ((number : ℕ) (value : ℤ) → said ≡ vote.No (no.Range number value) → IsNo c mail reply round staple server number value) → P (on_vote_of c round staple server said)
+on_vote_of_by sc c mail P cases reply round staple server (vote.Yes verdicts) y n = on_reply_by sc c mail P cases reply round staple server verdicts (without round.awaited server) (y verdicts refl) refl
+on_vote_of_by sc c mail P cases reply round staple server (vote.No why) y n =
+    on_no_by sc c mail P cases reply round staple server why (λ number value e. n number value (ap (λ (w : No). vote.No w) e))
 
 vote_by_phase : (sc : Scenario) (c : Coordinator) (mail : Mail) (P : Effect Coordinator → Type 0) → CoordinatorCases sc c mail P → (reply : VoteReply) (awaited : Phase) (server : ServerId)
     → mail.letter.body ≡ body.Vote reply → mail.letter.from ≡ actor.Server server → (reply.turn == c.turn) ≡ true → c.phase ≡ awaited → awaits_vote awaited server ≡ true
@@ -154,6 +170,7 @@ vote_by_phase : (sc : Scenario) (c : Coordinator) (mail : Mail) (P : Effect Coor
 vote_by_phase sc c mail P cases reply (phase.Checking round staple) server e from present checking is_awaited_here =
     on_vote_of_by sc c mail P cases reply round staple server reply.vote
     (λ verdicts yes_is. record { said_is = e; from_is = from; present = present; checking = checking; awaited = is_awaited_here; vote_is = yes_is })
+    (λ number value no_is. record { said_is = e; from_is = from; present = present; checking = checking; awaited = is_awaited_here; vote_is = no_is })
 vote_by_phase sc c mail P cases reply _ server e from present checking is_awaited_here = cases.ignored
 
 vote_by_sender : (sc : Scenario) (c : Coordinator) (mail : Mail) (P : Effect Coordinator → Type 0) → CoordinatorCases sc c mail P → (reply : VoteReply) (from : Actor)
@@ -196,25 +213,14 @@ coordinator_by sc c mail P cases = said_by sc c mail P cases mail.letter.body re
 
 -- ---- submission
 
--- the first query is a write of a constant
-pub record IsFirstQuery (sc : Scenario) (c : Coordinator) (asked : Query) (server : ServerId) (value : ℤ) : Type 0 where
-  pub asked_is : query_of sc c 1 ≡ Some asked
-  pub server_is : server_of sc asked ≡ Some server
-  pub written : written_constant asked ≡ Some value
-
 -- what is to be shown of the outcomes of a submission
 pub record SubmitCases (sc : Scenario) (c : Coordinator) (P : Effect Coordinator → Type 0) : Type 0 where
   pub ignored : P (ignores c)
-  pub sent : (asked : Query) (server : ServerId) (value : ℤ) → IsFirstQuery sc c asked server value → P (sends_first c (Some server) (Some value))
+  pub sent : (server : ServerId) → home_of sc c 1 ≡ Some server → P (sends_query sc c 1 server)
 
-sent_by : (sc : Scenario) (c : Coordinator) (P : Effect Coordinator → Type 0) → SubmitCases sc c P → (asked : Query) (server : Option ServerId) (value : Option ℤ) → query_of sc c 1 ≡ Some asked
-    → server_of sc asked ≡ server → written_constant asked ≡ value → P (sends_first c server value)
-sent_by sc c P cases asked (Some server) (Some value) e f g = cases.sent asked server value (record { asked_is = e; server_is = f; written = g })
-sent_by sc c P cases asked _ _ e f g = cases.ignored
-
-begins_by : (sc : Scenario) (c : Coordinator) (P : Effect Coordinator → Type 0) → SubmitCases sc c P → (asked : Option Query) → query_of sc c 1 ≡ asked → P (begins sc c asked)
+begins_by : (sc : Scenario) (c : Coordinator) (P : Effect Coordinator → Type 0) → SubmitCases sc c P → (server : Option ServerId) → home_of sc c 1 ≡ server → P (begins sc c server)
 begins_by sc c P cases None e = cases.ignored
-begins_by sc c P cases (Some asked) e = sent_by sc c P cases asked (server_of sc asked) (written_constant asked) e refl refl
+begins_by sc c P cases (Some server) e = cases.sent server e
 
 pub submit_by : (sc : Scenario) (c : Coordinator) (P : Effect Coordinator → Type 0) → SubmitCases sc c P → P (submit_row sc c)
-submit_by sc c P cases = begins_by sc c P cases (query_of sc c 1) refl
+submit_by sc c P cases = begins_by sc c P cases (home_of sc c 1) refl

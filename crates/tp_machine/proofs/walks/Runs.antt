@@ -1,32 +1,35 @@
 -- All invariants together, after every list of steps that name what exists.
-use Rattle.std.proofs.Common.{◌≡◌, List, [], ◌∷◌, true, Option, Some, None, is_some, if◌then◌else◌, refl, sym, ap, subst, ◌∙◌}
-use Rattle.tp_model.specs.Words.{Fact, Scenario, Step}
+use Rattle.std.proofs.Common.{List, None, Option, Some, [], ap, if◌then◌else◌, is_some, refl, subst, sym, true, ◌∙◌, ◌∷◌, ◌≡◌}
 use Rattle.tp_model.specs.Agreement.{is_agreed}
 use Rattle.tp_model.specs.Built.{is_built}
 use Rattle.tp_model.specs.Causes.{is_caused}
-use Rattle.tp_model.specs.Outside.{IsOutside}
 use Rattle.tp_model.specs.Commits.{are_lone}
+use Rattle.tp_model.specs.Outside.{IsOutside}
 use Rattle.tp_model.specs.SerialRun.{is_serial}
 use Rattle.tp_model.specs.Trust.{is_trusted}
-use Rattle.tp_machine.specs.declared.error.StepError.{StepError}
-use Rattle.tp_machine.specs.Machine.{Machine, State, after, after_step, after_steps, machine_after, opening, opening_state, refusal}
-use Rattle.tp_machine.specs.Laws.{HasAllCommits, IsTrustedState}
-use Rattle.tp_machine.specs.Sound.{Each, IsSound, IsStepOf}
-use Rattle.tp_machine.proofs.agreement.World.{Agrees}
+use Rattle.tp_model.specs.Words.{Fact, Scenario, Step}
 use Rattle.tp_machine.proofs.ages.World.{Ages, ages_next, ages_opening}
 use Rattle.tp_machine.proofs.agreement.End.{facts_agreed}
 use Rattle.tp_machine.proofs.agreement.Steps.{agrees_next, agrees_opening}
+use Rattle.tp_machine.proofs.agreement.World.{Agrees}
 use Rattle.tp_machine.proofs.epochs.World.{Epochs, epochs_next, epochs_opening}
-use Rattle.tp_machine.proofs.serial_data.Lone.{AreLone, facts_lone, lone_next, lone_opening}
-use Rattle.tp_machine.proofs.pairs.World.{Pairs, pairs_next, pairs_opening}
-use Rattle.tp_machine.proofs.outside.Steps.{outside_next, outside_opening}
+use Rattle.tp_machine.proofs.ids.Queries.{homes_built}
 use Rattle.tp_machine.proofs.ids.Steps.{sound_next, sound_opening}
+use Rattle.tp_machine.proofs.outside.Steps.{outside_next, outside_opening}
+use Rattle.tp_machine.proofs.pairs.World.{Pairs, pairs_next, pairs_opening}
+use Rattle.tp_machine.proofs.refusals.Steps.{refusals_next, refusals_opening}
+use Rattle.tp_machine.proofs.refusals.World.{Refusals}
 use Rattle.tp_machine.proofs.serial_data.End.{serial_facts, serial_values, values_at_end}
+use Rattle.tp_machine.proofs.serial_data.Lone.{AreLone, facts_lone, lone_next, lone_opening}
 use Rattle.tp_machine.proofs.serial_data.Steps.{serial_next, serial_opening}
 use Rattle.tp_machine.proofs.serial_data.World.{Serial}
 use Rattle.tp_machine.proofs.trust.End.{facts_caused, facts_trusted}
 use Rattle.tp_machine.proofs.trust.Steps.{trusts_next, trusts_opening}
 use Rattle.tp_machine.proofs.trust.World.{Trusts}
+use Rattle.tp_machine.specs.Laws.{HasAllCommits, IsTrustedState}
+use Rattle.tp_machine.specs.Machine.{Machine, State, after, after_step, after_steps, machine_after, opening, opening_state, refusal}
+use Rattle.tp_machine.specs.Sound.{Each, IsSound, IsStepOf}
+use Rattle.tp_machine.specs.declared.error.StepError.{StepError}
 
 -- what holds of every world: its ids exist, its actors agree, what servers hold of a transaction is what its coordinator knows, its
 -- commits are trusted and serial, and what comes from outside is what its steps say
@@ -40,10 +43,11 @@ pub record Holds (sc : Scenario) (w : State) : Type 0 where
   pub trusts : Trusts sc w
   pub pairs : Pairs sc w
   pub serial : Serial sc w
+  pub refusals : Refusals sc w
 
 pub holds_opening : (sc : Scenario) → is_built sc ≡ true → Holds sc (opening_state sc)
 holds_opening sc built =
-    record { sound = sound_opening sc built; agrees = agrees_opening sc; epochs = epochs_opening sc; ages = ages_opening sc; lone = lone_opening; outside = outside_opening sc; trusts = trusts_opening sc built; pairs = pairs_opening sc; serial = serial_opening sc built }
+    record { sound = sound_opening sc built; agrees = agrees_opening sc; epochs = epochs_opening sc; ages = ages_opening sc; lone = lone_opening; outside = outside_opening sc; trusts = trusts_opening sc built; pairs = pairs_opening sc; serial = serial_opening sc built; refusals = refusals_opening sc }
 
 -- each invariant may lean on all the others before the step
 pub holds_next : (sc : Scenario) (m : Machine) (taken : Step) → is_built sc ≡ true → IsStepOf sc taken → refusal m.state taken ≡ None → Holds sc m.state → Holds sc (machine_after sc m taken).state
@@ -51,13 +55,14 @@ holds_next sc m taken built exists allowed h =
     record {
       sound = sound_next sc m taken built exists allowed h.agrees.coordinator_count h.sound;
       agrees = agrees_next sc m taken built exists allowed h.sound h.agrees;
-      epochs = epochs_next sc m taken exists allowed h.sound h.agrees h.epochs;
+      epochs = epochs_next sc m taken (homes_built sc built) exists allowed h.sound h.agrees h.epochs;
       ages = ages_next sc m taken exists allowed h.sound h.agrees h.ages;
       lone = lone_next sc m taken exists allowed h.agrees.coordinator_count h.agrees.past h.lone;
       outside = outside_next sc m taken exists allowed h.agrees.coordinator_count h.agrees.past h.outside;
-      trusts = trusts_next sc m taken built exists allowed h.sound h.agrees h.trusts;
+      trusts = trusts_next sc m taken built exists allowed h.sound h.agrees h.pairs h.trusts;
       pairs = pairs_next sc m taken built exists allowed h.sound h.agrees h.epochs h.trusts h.pairs;
       serial = serial_next sc m taken built exists allowed h.sound h.agrees h.pairs h.serial;
+      refusals = refusals_next sc m taken built exists allowed h.sound h.agrees h.pairs h.serial h.refusals;
     }
 
 step_holds : (sc : Scenario) (m : Machine) (taken : Step) (why : Option StepError) → refusal m.state taken ≡ why → is_built sc ≡ true → IsStepOf sc taken → Holds sc m.state
@@ -82,7 +87,7 @@ shows sc w built h =
       outside = h.outside;
       agreed = facts_agreed sc w h.agrees;
       trusted = facts_trusted sc w built h.sound h.trusts;
-      caused = facts_caused sc w built h.sound h.trusts;
+      caused = facts_caused sc w built h.sound h.refusals h.trusts;
       serial = serial_facts sc w h.serial;
       lone = facts_lone w.facts h.lone;
       values_are = serial_values sc w built h.sound h.agrees h.serial;

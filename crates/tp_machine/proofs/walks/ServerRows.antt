@@ -1,36 +1,71 @@
 -- A server's row is walked once: what is shown of each of its outcomes holds of the row. A new outcome is a field here, and of each theorem's cases.
 use Rattle.std.specs.Option.{option_map_or}
-use Rattle.std.proofs.Common.{None, Option, Some, [], false, is_none, is_some, not, refl, slice_get, true, ℕ, ◌==◌, ◌∷◌, ◌≡◌}
+use Rattle.std.proofs.Common.{None, Option, Some, [], false, inl, inr, is_none, is_some, not, refl, slice_get, true, ℕ, ℤ, ◌&&◌, ◌==◌, ◌∷◌, ◌≡◌, ◌⊎◌}
+use Rattle.std.proofs.lemmas.Bool.{not-false}
 use Rattle.tp_types.specs.Effect.{Effect, ignores, sends}
 use Rattle.tp_types.specs.Table.{flattened}
-use Rattle.std.proofs.lemmas.Bool.{not-false}
 use Rattle.tp_model.specs.Stage.{is_empty}
-use Rattle.tp_model.specs.Words.{Body, DecideRequest, Deed, DoneReply, Mail, PrepareRequest, QueryRequest, Scenario, Settled, Staple}
 use Rattle.tp_model.specs.Words.body
-use Rattle.tp_machine.specs.declared.server.Entry.{Entry}
-use Rattle.tp_machine.specs.server.Row.{ack_letter, answer_to, answers, are_in_range, asked_item, asked_to_vote, begins, entry_at, evaluates, is_open, names_another_epoch, on_body, on_open_query, on_settled_decide, on_unlost_query, plain_write, restarts, server_row, settles, votes}
-use Rattle.tp_machine.specs.server.State.{Server}
+use Rattle.tp_model.specs.Words.no
+use Rattle.tp_model.specs.Words.{Body, DecideRequest, DoneReply, Mail, No, PrepareRequest, Query, QueryRequest, Scenario, Settled, Staple, Transaction}
 use Rattle.tp_machine.proofs.basics.Lists.{by_cond}
+use Rattle.tp_machine.specs.Runs.{deed_of}
+use Rattle.tp_machine.specs.declared.server.Entry.{Entry}
+use Rattle.tp_machine.specs.server.Row.{ack_letter, age_of, answer_to, answers, asked_query, asked_to_vote, completes, entry_at, evaluates, is_open, names_another_epoch, new_entry, no_letter, on_body, on_granted, on_open_query, on_refused, on_settled_decide, on_settled_prepare, on_unlost_query, refuses, restarts, runs_query, runs_with, server_row, settles, value_of_run, votes, votes_in_range, votes_with}
+use Rattle.tp_machine.specs.server.State.{Server}
+use Rattle.tp_machine.specs.server.Verdicts.{verdicts_on}
+use Rattle.tp_store.specs.Rule.{first_outside_in}
 
 -- ---- outcomes
 
--- a first write of a transaction without an entry is delivered
-pub record IsFirstWrite (sc : Scenario) (s : Server) (mail : Mail) (q : QueryRequest) (deed : Deed) : Type 0 where
+-- the first query of a transaction, whose entry is made
+pub record IsFirstHere (s : Server) (sent : ℕ) (q : QueryRequest) (entry : Entry) : Type 0 where
+  pub no_entry : entry_at s q.txn ≡ None
+  pub unnamed : is_some q.epoch ≡ false
+  pub entry_is : entry ≡ new_entry s (age_of q sent)
+
+-- a further query, which was not answered
+pub record IsFurther (s : Server) (q : QueryRequest) (entry : Entry) : Type 0 where
+  pub found : entry_at s q.txn ≡ Some entry
+  pub unvoted : is_some entry.ballot ≡ false
+  pub same_epoch : names_another_epoch q entry ≡ false
+  pub unanswered : answer_to entry q.query ≡ None
+  pub idle : is_some entry.waiting ≡ false
+
+-- a query that runs as soon as it comes
+pub record IsGranted (sc : Scenario) (s : Server) (mail : Mail) (q : QueryRequest) (query : Query) (entry : Entry) (value : ℤ) : Type 0 where
   pub said_is : mail.letter.body ≡ body.Query q
   pub unsettled : is_open s q.txn ≡ true
-  pub no_entry : entry_at s q.txn ≡ None
-  pub unnamed : is_none q.epoch ≡ true
-  pub writes : plain_write q (asked_item sc q) q.value ≡ Some deed
+  pub place : IsFirstHere s mail.sent q entry ⊎ IsFurther s q entry
+  pub plain : (is_none q.staple && is_none q.pin) ≡ true
+  pub asked_is : asked_query sc q ≡ Some query
+  pub value_is : value_of_run s q query ≡ Some value
 
--- a request to prepare an entry that may be voted on
-pub record IsVote (sc : Scenario) (s : Server) (mail : Mail) (p : PrepareRequest) (entry : Entry) (staple : Staple) : Type 0 where
+-- a request to prepare an entry that may be voted on, of a transaction of the scenario
+pub record IsVote (sc : Scenario) (s : Server) (mail : Mail) (p : PrepareRequest) (entry : Entry) (staple : Staple) (txn : Transaction) : Type 0 where
   pub said_is : mail.letter.body ≡ body.Prepare p
   pub unsettled : is_open s p.txn ≡ true
   pub found : entry_at s p.txn ≡ Some entry
   pub same_epoch : (entry.epoch == p.epoch) ≡ true
   pub unvoted : is_some entry.ballot ≡ false
-  pub in_range : are_in_range sc entry.deeds ≡ true
+  pub in_range : first_outside_in s.store p.txn ≡ None
   pub stapled : p.staple ≡ Some staple
+  pub declared : slice_get sc.txns p.txn.0 ≡ Some txn
+
+-- a request to prepare an entry that wrote a value outside its item's range
+pub record IsRefusal (s : Server) (mail : Mail) (p : PrepareRequest) (entry : Entry) (number : ℕ) (value : ℤ) : Type 0 where
+  pub said_is : mail.letter.body ≡ body.Prepare p
+  pub unsettled : is_open s p.txn ≡ true
+  pub found : entry_at s p.txn ≡ Some entry
+  pub same_epoch : (entry.epoch == p.epoch) ≡ true
+  pub unvoted : is_some entry.ballot ≡ false
+  pub outside : first_outside_in s.store p.txn ≡ Some (number, value)
+
+-- a request to prepare a transaction that was settled by a vote NO
+pub record IsLateRequest (s : Server) (mail : Mail) (p : PrepareRequest) (settled : Settled) (why : No) : Type 0 where
+  pub said_is : mail.letter.body ≡ body.Prepare p
+  pub found : flattened (slice_get s.settled p.txn.0) ≡ Some settled
+  pub why_is : settled.why ≡ Some why
 
 -- an order to end a transaction that is not settled
 pub record IsOrder (s : Server) (mail : Mail) (d : DecideRequest) : Type 0 where
@@ -56,29 +91,40 @@ pub record IsLateOrder (s : Server) (mail : Mail) (d : DecideRequest) (settled :
 -- what is to be shown of the outcomes of a receipt: P of the effect
 pub record ServerCases (sc : Scenario) (s : Server) (mail : Mail) (P : Effect Server → Type 0) : Type 0 where
   pub ignored : P (ignores s)
-  pub begun : (q : QueryRequest) (deed : Deed) → IsFirstWrite sc s mail q deed → P (begins s mail.sent q (Some deed))
+  pub ran : (q : QueryRequest) (query : Query) (entry : Entry) (value : ℤ) → IsGranted sc s mail q query entry value → P (completes s q query entry (deed_of q.query query value))
   pub restarted : (q : QueryRequest) → IsLost mail q → P (restarts s q)
   pub answered : (q : QueryRequest) (entry : Entry) (given : DoneReply) → IsAnswered s mail q entry given → P (answers s q.txn given)
-  pub voted : (p : PrepareRequest) (entry : Entry) (staple : Staple) → IsVote sc s mail p entry staple → P (votes sc s p staple.place entry)
+  pub voted : (p : PrepareRequest) (entry : Entry) (staple : Staple) (txn : Transaction) → IsVote sc s mail p entry staple txn → P (votes s p (verdicts_on sc s txn staple entry.deeds) entry)
+  pub refused : (p : PrepareRequest) (entry : Entry) (number : ℕ) (value : ℤ) → IsRefusal s mail p entry number value → P (refuses s p (no.Range number value))
+  pub refused_again : (p : PrepareRequest) (settled : Settled) (why : No) → IsLateRequest s mail p settled why → P (sends s (no_letter s p why ∷ []))
   pub settled : (d : DecideRequest) → IsOrder s mail d → P (settles s d)
   pub acknowledged : (d : DecideRequest) (settled : Settled) → IsLateOrder s mail d settled → P (sends s (ack_letter s d.txn ∷ []))
 
 -- ---- Query
 
-none_of : {A : Type 0} (found : Option A) → is_some found ≡ false → is_none found ≡ true
-none_of None e = refl
-none_of (Some x) e = absurd (cc)
+valued_by : (sc : Scenario) (s : Server) (mail : Mail) (P : Effect Server → Type 0) → ServerCases sc s mail P → (q : QueryRequest) (query : Query) (entry : Entry) (value : Option ℤ) → mail.letter.body ≡ body.Query q
+    → is_open s q.txn ≡ true → IsFirstHere s mail.sent q entry ⊎ IsFurther s q entry → (is_none q.staple && is_none q.pin) ≡ true → asked_query sc q ≡ Some query → value_of_run s q query ≡ value
+    → P (runs_with s q query entry value)
+valued_by sc s mail P cases q query entry None e unsettled place plain asked v = cases.ignored
+valued_by sc s mail P cases q query entry (Some value) e unsettled place plain asked v =
+    cases.ran q query entry value (record { said_is = e; unsettled = unsettled; place = place; plain = plain; asked_is = asked; value_is = v })
 
-begun_by : (sc : Scenario) (s : Server) (mail : Mail) (P : Effect Server → Type 0) → ServerCases sc s mail P → (q : QueryRequest) (asked : Option Deed) → mail.letter.body ≡ body.Query q
-    → is_open s q.txn ≡ true → entry_at s q.txn ≡ None → is_some q.epoch ≡ false → plain_write q (asked_item sc q) q.value ≡ asked → P (begins s mail.sent q asked)
-begun_by sc s mail P cases q None e unsettled none unnamed w = cases.ignored
-begun_by sc s mail P cases q (Some deed) e unsettled none unnamed w =
-    cases.begun q deed (record { said_is = e; unsettled = unsettled; no_entry = none; unnamed = none_of q.epoch unnamed; writes = w })
+queried_by : (sc : Scenario) (s : Server) (mail : Mail) (P : Effect Server → Type 0) → ServerCases sc s mail P → (q : QueryRequest) (entry : Entry) (query : Option Query) → mail.letter.body ≡ body.Query q
+    → is_open s q.txn ≡ true → IsFirstHere s mail.sent q entry ⊎ IsFurther s q entry → (is_none q.staple && is_none q.pin) ≡ true → asked_query sc q ≡ query → P (runs_query s q entry query)
+queried_by sc s mail P cases q entry None e unsettled place plain asked = cases.ignored
+queried_by sc s mail P cases q entry (Some query) e unsettled place plain asked = valued_by sc s mail P cases q query entry (value_of_run s q query) e unsettled place plain asked refl
+
+granted_by : (sc : Scenario) (s : Server) (mail : Mail) (P : Effect Server → Type 0) → ServerCases sc s mail P → (q : QueryRequest) (entry : Entry) → mail.letter.body ≡ body.Query q
+    → is_open s q.txn ≡ true → IsFirstHere s mail.sent q entry ⊎ IsFurther s q entry → P (on_granted sc s q entry)
+granted_by sc s mail P cases q entry e unsettled place =
+    by_cond P (is_none q.staple && is_none q.pin) (λ plain. queried_by sc s mail P cases q entry (asked_query sc q) e unsettled place plain refl) (λ evaluated. cases.ignored)
 
 unlost_by : (sc : Scenario) (s : Server) (mail : Mail) (P : Effect Server → Type 0) → ServerCases sc s mail P → (q : QueryRequest) (entry : Entry) (given : Option DoneReply) → mail.letter.body ≡ body.Query q
-    → entry_at s q.txn ≡ Some entry → answer_to entry q.query ≡ given → P (on_unlost_query s q entry given)
-unlost_by sc s mail P cases q entry (Some given) e found given_is = cases.answered q entry given (record { said_is = e; found = found; given_is = given_is })
-unlost_by sc s mail P cases q entry None e found given_is = by_cond P (is_some entry.waiting) (λ waits. cases.ignored) (λ further. cases.ignored)
+    → is_open s q.txn ≡ true → entry_at s q.txn ≡ Some entry → is_some entry.ballot ≡ false → names_another_epoch q entry ≡ false → answer_to entry q.query ≡ given → P (on_unlost_query sc s q entry given)
+unlost_by sc s mail P cases q entry (Some given) e unsettled found unvoted same given_is = cases.answered q entry given (record { said_is = e; found = found; given_is = given_is })
+unlost_by sc s mail P cases q entry None e unsettled found unvoted same given_is =
+    by_cond P (is_some entry.waiting) (λ waits. cases.ignored)
+    (λ idle. granted_by sc s mail P cases q entry e unsettled (inr (record { found = found; unvoted = unvoted; same_epoch = same; unanswered = given_is; idle = idle })))
 
 another_named : (epoch : Option ℕ) (entry : Entry) → option_map_or (λ (named : ℕ). not (named == entry.epoch)) epoch false ≡ true → is_some epoch ≡ true
 another_named (Some epoch) entry e = refl
@@ -87,18 +133,34 @@ another_named None entry e = absurd (cc)
 on_open_query_by : (sc : Scenario) (s : Server) (mail : Mail) (P : Effect Server → Type 0) → ServerCases sc s mail P → (q : QueryRequest) (entry : Option Entry) → mail.letter.body ≡ body.Query q
     → is_open s q.txn ≡ true → entry_at s q.txn ≡ entry → P (on_open_query sc s mail.sent q entry)
 on_open_query_by sc s mail P cases q None e unsettled found =
-    by_cond P (is_some q.epoch) (λ named. cases.restarted q (record { said_is = e; named = named })) (λ unnamed. begun_by sc s mail P cases q (plain_write q (asked_item sc q) q.value) e unsettled found unnamed refl)
+    by_cond P (is_some q.epoch) (λ named. cases.restarted q (record { said_is = e; named = named }))
+    (λ unnamed. granted_by sc s mail P cases q (new_entry s (age_of q mail.sent)) e unsettled (inl (record { no_entry = found; unnamed = unnamed; entry_is = refl })))
 on_open_query_by sc s mail P cases q (Some entry) e unsettled found =
     by_cond P (is_some entry.ballot) (λ voted. cases.ignored)
     (λ unvoted. by_cond P (names_another_epoch q entry) (λ another. cases.restarted q (record { said_is = e; named = another_named q.epoch entry another }))
-    (λ same. unlost_by sc s mail P cases q entry (answer_to entry q.query) e found refl))
+    (λ same. unlost_by sc s mail P cases q entry (answer_to entry q.query) e unsettled found unvoted same refl))
 
 -- ---- Prepare
 
+votes_by : (sc : Scenario) (s : Server) (mail : Mail) (P : Effect Server → Type 0) → ServerCases sc s mail P → (p : PrepareRequest) (entry : Entry) (staple : Staple) (txn : Option Transaction)
+    → ((declared : Transaction) → txn ≡ Some declared → IsVote sc s mail p entry staple declared) → P (votes_with sc s p entry staple txn)
+votes_by sc s mail P cases p entry staple None vote_is = cases.ignored
+votes_by sc s mail P cases p entry staple (Some declared) vote_is = cases.voted p entry staple declared (vote_is declared refl)
+
 evaluates_by : (sc : Scenario) (s : Server) (mail : Mail) (P : Effect Server → Type 0) → ServerCases sc s mail P → (p : PrepareRequest) (entry : Entry) (staple : Option Staple)
-    → ((given : Staple) → staple ≡ Some given → IsVote sc s mail p entry given) → P (evaluates sc s p entry staple)
+    → ((given : Staple) (declared : Transaction) → staple ≡ Some given → slice_get sc.txns p.txn.0 ≡ Some declared → IsVote sc s mail p entry given declared) → P (evaluates sc s p entry staple)
 evaluates_by sc s mail P cases p entry None vote_is = cases.ignored
-evaluates_by sc s mail P cases p entry (Some staple) vote_is = by_cond P (is_empty p.want) (λ none_wanted. cases.voted p entry staple (vote_is staple refl)) (λ wanted. cases.ignored)
+evaluates_by sc s mail P cases p entry (Some staple) vote_is =
+    by_cond P (is_empty p.want) (λ none_wanted. votes_by sc s mail P cases p entry staple (slice_get sc.txns p.txn.0) (λ declared there. vote_is staple declared refl there)) (λ wanted. cases.ignored)
+
+in_range_by : (sc : Scenario) (s : Server) (mail : Mail) (P : Effect Server → Type 0) → ServerCases sc s mail P → (p : PrepareRequest) (entry : Entry) (outside : Option (ℕ × ℤ)) → mail.letter.body ≡ body.Prepare p
+    → is_open s p.txn ≡ true → entry_at s p.txn ≡ Some entry → (entry.epoch == p.epoch) ≡ true → is_some entry.ballot ≡ false → first_outside_in s.store p.txn ≡ outside → P (votes_in_range sc s p entry outside)
+in_range_by sc s mail P cases p entry None e unsettled found same unvoted in_range =
+    evaluates_by sc s mail P cases p entry p.staple
+    (λ staple txn given declared.
+    record { said_is = e; unsettled = unsettled; found = found; same_epoch = same; unvoted = unvoted; in_range = in_range; stapled = given; declared = declared })
+in_range_by sc s mail P cases p entry (Some outside) e unsettled found same unvoted first =
+    cases.refused p entry outside.0 outside.1 (record { said_is = e; unsettled = unsettled; found = found; same_epoch = same; unvoted = unvoted; outside = first })
 
 asked_to_vote_by : (sc : Scenario) (s : Server) (mail : Mail) (P : Effect Server → Type 0) → ServerCases sc s mail P → (p : PrepareRequest) (entry : Option Entry) → mail.letter.body ≡ body.Prepare p
     → is_open s p.txn ≡ true → entry_at s p.txn ≡ entry → P (asked_to_vote sc s p entry)
@@ -106,18 +168,17 @@ asked_to_vote_by sc s mail P cases p None e unsettled found = cases.ignored
 asked_to_vote_by sc s mail P cases p (Some entry) e unsettled found =
     by_cond P (not (entry.epoch == p.epoch)) (λ another. cases.ignored)
     (λ same. by_cond P (is_some entry.ballot) (λ voted. cases.ignored)
-    (λ unvoted. by_cond P (are_in_range sc entry.deeds)
-    (λ in_range. evaluates_by sc s mail P cases p entry p.staple
-    (λ staple given. record {
-      said_is = e;
-      unsettled = unsettled;
-      found = found;
-      same_epoch = not-false (entry.epoch == p.epoch) same;
-      unvoted = unvoted;
-      in_range = in_range;
-      stapled = given;
-    }))
-    (λ outside. cases.ignored)))
+    (λ unvoted. in_range_by sc s mail P cases p entry (first_outside_in s.store p.txn) e unsettled found (not-false (entry.epoch == p.epoch) same) unvoted refl))
+
+refused_by : (sc : Scenario) (s : Server) (mail : Mail) (P : Effect Server → Type 0) → ServerCases sc s mail P → (p : PrepareRequest) (settled : Settled) (why : Option No) → mail.letter.body ≡ body.Prepare p
+    → flattened (slice_get s.settled p.txn.0) ≡ Some settled → settled.why ≡ why → P (on_refused s p why)
+refused_by sc s mail P cases p settled None e found why_is = cases.ignored
+refused_by sc s mail P cases p settled (Some why) e found why_is = cases.refused_again p settled why (record { said_is = e; found = found; why_is = why_is })
+
+late_request_by : (sc : Scenario) (s : Server) (mail : Mail) (P : Effect Server → Type 0) → ServerCases sc s mail P → (p : PrepareRequest) (settled : Option Settled) → mail.letter.body ≡ body.Prepare p
+    → flattened (slice_get s.settled p.txn.0) ≡ settled → P (on_settled_prepare s p settled)
+late_request_by sc s mail P cases p None e found = cases.ignored
+late_request_by sc s mail P cases p (Some settled) e found = refused_by sc s mail P cases p settled settled.why e found refl
 
 -- ---- Decide
 
@@ -132,7 +193,8 @@ said_by : (sc : Scenario) (s : Server) (mail : Mail) (P : Effect Server → Type
 said_by sc s mail P cases (body.Query q) e =
     by_cond P (is_open s q.txn) (λ unsettled. on_open_query_by sc s mail P cases q (entry_at s q.txn) e unsettled refl) (λ settled. cases.ignored)
 said_by sc s mail P cases (body.Prepare p) e =
-    by_cond P (is_open s p.txn) (λ unsettled. asked_to_vote_by sc s mail P cases p (entry_at s p.txn) e unsettled refl) (λ settled. cases.ignored)
+    by_cond P (is_open s p.txn) (λ unsettled. asked_to_vote_by sc s mail P cases p (entry_at s p.txn) e unsettled refl)
+    (λ settled. late_request_by sc s mail P cases p (flattened (slice_get s.settled p.txn.0)) e refl)
 said_by sc s mail P cases (body.Decide d) e =
     by_cond P (is_open s d.txn) (λ unsettled. cases.settled d (record { said_is = e; unsettled = unsettled })) (λ settled. late_by sc s mail P cases d (flattened (slice_get s.settled d.txn.0)) e refl)
 said_by sc s mail P cases _ e = cases.ignored

@@ -1,21 +1,23 @@
 -- A coordinator's rows: what it does when its transaction is submitted, and on receipt of a mail. A reply is used only in
 -- the phase that awaits it, with the present turn, and once from each server; otherwise nothing happens.
 use Rattle.std.specs.List.{find, list_all, list_any}
-use Rattle.std.specs.Prelude.{Bool, List, None, Option, Some, [], false, filter, if◌then◌else◌, is_none, is_some, map, min, nat_lt, not, option_and_then, option_map, slice_get, slice_set, true, unwrap_or, ℕ, ℤ, ◌&&◌, ◌++◌, ◌+◌, ◌-◌, ◌==◌, ◌^◌, ◌∷◌}
+use Rattle.std.specs.Prelude.{Bool, List, None, Option, Some, [], false, filter, if◌then◌else◌, is_none, is_some, map, min, not, option_and_then, option_map, slice_get, slice_set, true, unwrap_or, ℕ, ℤ, ◌&&◌, ◌++◌, ◌+◌, ◌-◌, ◌==◌, ◌^◌, ◌∷◌}
 use Rattle.tp_types.specs.Effect.{Effect, ignores, logs, sends, unbuilt}
 use Rattle.tp_types.specs.Table.{flattened}
-use Rattle.tp_model.specs.Words.{Actor, Answer, Body, Cause, CommitRecord, Decision, Deed, Denied, DoneReply, Instance, Item, ItemId, Letter, Mail, Outcome, Query, Scenario, ServerId, Staple, TellReply, Transaction, Verdict, Vote, VoteReply}
-use Rattle.tp_model.specs.Words.action
+use Rattle.tp_types.specs.declared.records.Outcome.TheVariants.{Abort, Commit}
+use Rattle.tp_model.specs.Queries.{item_of, query_at}
+use Rattle.tp_model.specs.Stage.{is_empty}
 use Rattle.tp_model.specs.Words.actor
 use Rattle.tp_model.specs.Words.answer
 use Rattle.tp_model.specs.Words.body
+use Rattle.tp_model.specs.Words.cause
 use Rattle.tp_model.specs.Words.decision
 use Rattle.tp_model.specs.Words.log
+use Rattle.tp_model.specs.Words.no
 use Rattle.tp_model.specs.Words.vote
-use Rattle.tp_types.specs.declared.records.Outcome.TheVariants.{Abort, Commit}
-use Rattle.tp_model.specs.Words.cause
-use Rattle.tp_model.specs.Queries.{item_of, query_at, written_constant}
-use Rattle.tp_model.specs.Stage.{is_empty}
+use Rattle.tp_model.specs.Words.{Actor, Answer, Body, Cause, CommitRecord, Decision, Denied, DoneReply, Instance, Item, ItemId, Letter, Mail, No, OutOfRange, Outcome, Query, QueryRequest, Scenario, ServerId, Staple, TellReply, Transaction, Verdict, Vote, VoteReply}
+use Rattle.tp_machine.specs.Runs.{deed_of}
+use Rattle.tp_machine.specs.Sums.{asked_value}
 use Rattle.tp_machine.specs.coord.State.{Coordinator}
 use Rattle.tp_machine.specs.declared.coord.Phase.TheVariants as phase
 use Rattle.tp_machine.specs.declared.coord.Phase.{Phase}
@@ -49,32 +51,51 @@ server_at sc item = option_map (λ (i : Item). i.server) (slice_get sc.items ite
 abbrev pub server_of : Scenario → Query → Option ServerId
 server_of sc query = server_at sc (item_of query)
 
+-- ---- queries
+
+-- the epoch that a server has told the transaction, if it has told one
+abbrev pub epoch_told : Coordinator → ServerId → Option ℕ
+epoch_told c server = flattened (slice_get c.epochs server.0)
+
+-- the value that a query is asked with: a write's sum over what was read
+abbrev pub value_of : Scenario → Coordinator → ℕ → Option ℤ
+value_of sc c number =
+    option_and_then (λ (txn : Transaction). asked_value txn c.deeds number)
+    (slice_get sc.txns c.txn.0)
+
+-- the request for a query
+abbrev pub query_request : Scenario → Coordinator → ServerId → ℕ → QueryRequest
+query_request sc c server number = record {
+  txn = c.txn;
+  turn = next_turn c;
+  query = number;
+  age = c.age;
+  epoch = epoch_told c server;
+  value = value_of sc c number;
+  staple = None;
+  pin = None;
+}
+
+-- a query is sent to the server of its item
+abbrev pub sends_query : Scenario → Coordinator → ℕ → ServerId → Effect Coordinator
+sends_query sc c number server =
+    sends (record c { turn = next_turn c; phase = phase.Querying number None })
+    (request c server (body.Query (query_request sc c server number)) ∷ [])
+
+-- the server of the transaction's query of this number
+abbrev pub home_of : Scenario → Coordinator → ℕ → Option ServerId
+home_of sc c number = option_and_then (server_of sc) (query_of sc c number)
+
 -- ---- Submit
 
--- the first query, a write of a constant, is sent to its server. Its age is the place where it is sent. Other first queries are not built
-abbrev pub sends_first : Coordinator → Option ServerId → Option ℤ → Effect Coordinator
-sends_first c (Some server) (Some value) =
-    sends (record c { turn = next_turn c; phase = phase.Querying 1 None })
-    (request c server
-    (body.Query (record {
-      txn = c.txn;
-      turn = next_turn c;
-      query = 1;
-      age = None;
-      epoch = None;
-      value = Some value;
-      staple = None;
-      pin = None;
-    })) ∷ [])
-sends_first c _ _ = unbuilt c
-
-abbrev pub begins : Scenario → Coordinator → Option Query → Effect Coordinator
+-- the first query is sent. Its age is the place where it is sent
+abbrev pub begins : Scenario → Coordinator → Option ServerId → Effect Coordinator
 begins sc c None = ignores c
-begins sc c (Some query) = sends_first c (server_of sc query) (written_constant query)
+begins sc c (Some server) = sends_query sc c 1 server
 
 -- what the submission of the transaction does
 abbrev pub submit_row : Scenario → Coordinator → Effect Coordinator
-submit_row sc c = begins sc c (query_of sc c 1)
+submit_row sc c = begins sc c (home_of sc c 1)
 
 -- a coordinator that knows the place of its submission
 abbrev pub coordinator_with_age : Coordinator → ℕ → Coordinator
@@ -99,14 +120,6 @@ asks c =
       body = body.Ask (record { txn = c.txn; turn = next_turn c });
     } ∷ [])
 
-abbrev pub deed_of : ℕ → Query → ℤ → Deed
-deed_of number query value = record {
-  query = number;
-  item = item_of query;
-  action = action.Write;
-  value = value;
-}
-
 -- a coordinator with the deed of a query that ran, and the epoch of its server
 abbrev pub with_deed : Coordinator → ServerId → DoneReply → Query → ℤ → Coordinator
 with_deed c server done query value =
@@ -115,18 +128,24 @@ with_deed c server done query value =
       deeds = c.deeds ++ deed_of done.query query value ∷ [];
     }
 
--- the query is a write of a constant and the last one
-abbrev pub is_last_write : Scenario → Coordinator → Query → ℕ → Bool
-is_last_write sc c query number =
-    is_some (written_constant query) && nat_lt number (2 ^ 32 - 1)
-    && is_none (query_of sc c (number + 1))
+-- the number after a query's; at the greatest number it stays
+abbrev pub next_number : ℕ → ℕ
+next_number number = min (number + 1) (2 ^ 32 - 1)
 
--- by the answer. A read, a further query, and an answer that ends the transaction are not built
+-- the query of this number is asked, or where there is none the servers are to prepare
+abbrev pub asks_next : Scenario → Coordinator → ℕ → Option ServerId → Effect Coordinator
+asks_next sc c number None = asks c
+asks_next sc c number (Some server) = sends_query sc c number server
+
+-- the transaction goes on after the query of this number
+abbrev pub goes_on : Scenario → Coordinator → ℕ → Effect Coordinator
+goes_on sc c number = asks_next sc c (next_number number) (home_of sc c (next_number number))
+
+-- by the answer: what ran is kept, and the transaction goes on. An answer that ends the transaction is not built
 abbrev pub on_answer : Scenario → Coordinator → ServerId → DoneReply → Query → Answer
     → Effect Coordinator
 on_answer sc c server done query (answer.Ran value None) =
-    if is_last_write sc c query done.query then asks (with_deed c server done query value)
-    else unbuilt c
+    goes_on sc (with_deed c server done query value) done.query
 on_answer sc c server done query _ = unbuilt c
 
 -- the reply to a query, from the server that was asked
@@ -163,7 +182,7 @@ on_done sc c awaited from done =
 
 -- the epoch that a server told; 0, which is no epoch, where it told none
 abbrev pub epoch_of : Coordinator → ServerId → ℕ
-epoch_of c server = unwrap_or (flattened (slice_get c.epochs server.0)) 0
+epoch_of c server = unwrap_or (epoch_told c server) 0
 
 abbrev pub prepare_letter : Coordinator → Staple → ServerId → Letter
 prepare_letter c staple server =
@@ -288,11 +307,19 @@ on_reply c round staple server verdicts [] = judgement c round verdicts
 on_reply c round staple server verdicts (other ∷ others) =
     sends (record c { phase = phase.Checking (with_reply round server verdicts) staple }) []
 
--- a NO ends the transaction, which is not built
+-- what a server's vote NO refuses
+abbrev pub refused_by : ServerId → ℕ → ℤ → OutOfRange
+refused_by server number value = record { query = number; server = server; value = value }
+
+-- a NO ends the transaction at once. One of a server that has restarted is not built
+abbrev pub on_no : Coordinator → ServerId → No → Effect Coordinator
+on_no c server (no.Range number value) = aborts c (cause.No (refused_by server number value))
+on_no c server no.Restarted = unbuilt c
+
 abbrev pub on_vote_of : Coordinator → Round → Staple → ServerId → Vote → Effect Coordinator
 on_vote_of c round staple server (vote.Yes verdicts) =
     on_reply c round staple server verdicts (without round.awaited server)
-on_vote_of c round staple server (vote.No why) = unbuilt c
+on_vote_of c round staple server (vote.No why) = on_no c server why
 
 -- the vote of this server is awaited
 abbrev pub awaits_vote : Phase → ServerId → Bool

@@ -1,24 +1,28 @@
 -- A server's row: what it does on receipt of a mail. The first case that fits is done.
-use Rattle.std.specs.List.{find, list_all}
+use Rattle.std.specs.List.{find}
 use Rattle.std.specs.Option.{option_map_or}
-use Rattle.std.specs.Prelude.{Bool, List, None, Option, Some, [], false, if◌then◌else◌, is_none, map, option_and_then, option_map, slice_get, slice_set, true, unwrap_or, ℕ, ℤ, ◌&&◌, ◌==◌, ◌∷◌}
+use Rattle.std.specs.Prelude.{Bool, List, None, Option, Some, [], false, if◌then◌else◌, is_none, option_and_then, slice_get, slice_set, unwrap_or, ℕ, ℤ, ◌&&◌, ◌++◌, ◌==◌, ◌∷◌}
 use Rattle.std.proofs.Common.{is_some, not}
 use Rattle.tp_types.specs.Effect.{Effect, ignores, logs, sends, unbuilt}
 use Rattle.tp_types.specs.Table.{flattened, is_unset}
-use Rattle.tp_model.specs.Words.{Action, AdminId, Body, DecideRequest, Deed, DoneReply, Item, ItemId, Letter, Mail, Outcome, PrepareRequest, Prepared, Query, QueryRequest, Scenario, Settled, Staple, Transaction, TxnId, Verdict, Version}
-use Rattle.tp_model.specs.Words.action
+use Rattle.tp_types.specs.declared.records.Outcome.TheVariants.{Abort, Commit}
+use Rattle.tp_types.specs.declared.scenario.Query.TheVariants.{Read, Write}
+use Rattle.tp_model.specs.Queries.{query_at}
+use Rattle.tp_model.specs.Stage.{is_empty}
 use Rattle.tp_model.specs.Words.actor
 use Rattle.tp_model.specs.Words.answer
 use Rattle.tp_model.specs.Words.body
 use Rattle.tp_model.specs.Words.log
+use Rattle.tp_model.specs.Words.no
 use Rattle.tp_model.specs.Words.vote
-use Rattle.tp_types.specs.declared.records.Outcome.TheVariants.{Commit}
-use Rattle.tp_model.specs.Limits.{is_between}
-use Rattle.tp_types.specs.declared.scenario.Query.TheVariants.{Read, Write}
-use Rattle.tp_model.specs.Queries.{query_at}
-use Rattle.tp_model.specs.Stage.{is_empty}
+use Rattle.tp_model.specs.Words.{Body, DecideRequest, Deed, DoneReply, ItemId, Letter, Mail, No, Outcome, PrepareRequest, Prepared, Query, QueryRequest, Scenario, Settled, Staple, Transaction, TxnId, Verdict}
+use Rattle.tp_machine.specs.Runs.{deed_of}
 use Rattle.tp_machine.specs.declared.server.Entry.{Entry}
 use Rattle.tp_machine.specs.server.State.{Server}
+use Rattle.tp_machine.specs.server.Verdicts.{verdicts_on}
+use Rattle.tp_store.specs.Contents.{Contents}
+use Rattle.tp_store.specs.Rule.{after_apply, after_forget, after_write, first_outside_in, read_in}
+use Rattle.tp_store.specs.declared.writes.TentativeWrite.{TentativeWrite}
 
 -- a transaction of the scenario that the server has not settled
 abbrev pub is_open : Server → TxnId → Bool
@@ -37,30 +41,42 @@ reply s txn said = record { from = actor.Server s.server; to = actor.Coordinator
 
 -- ---- Query
 
--- the item that a query writes, if it writes
-abbrev pub written_item : Query → Option ItemId
-written_item (Write item expr) = Some item
-written_item (Read item into) = None
-
--- the item that a request is to write
-abbrev pub asked_item : Scenario → QueryRequest → Option ItemId
-asked_item sc q =
-    option_and_then written_item
-    (option_and_then (λ (txn : Transaction). query_at txn q.query) (slice_get sc.txns q.txn.0))
-
--- the write that a request asks for, where it asks for one without evaluation and without a pin
-abbrev pub plain_write : QueryRequest → Option ItemId → Option ℤ → Option Deed
-plain_write q (Some item) (Some value) =
-    if is_none q.staple && is_none q.pin
-    then Some (record { query = q.query; item = item; action = action.Write; value = value })
-    else None
-plain_write q _ _ = None
+-- the query that a request asks for
+abbrev pub asked_query : Scenario → QueryRequest → Option Query
+asked_query sc q =
+    option_and_then (λ (txn : Transaction). query_at txn q.query) (slice_get sc.txns q.txn.0)
 
 -- the place of the transaction's submission, as a request tells it
 abbrev pub age_of : QueryRequest → ℕ → ℕ
 age_of q sent = unwrap_or q.age sent
 
--- the answer to a write that ran
+-- the entry of a transaction that has done nothing here yet
+abbrev pub new_entry : Server → ℕ → Entry
+new_entry s age = record {
+  age = age;
+  epoch = s.epoch;
+  answers = [];
+  waiting = None;
+  deeds = [];
+  ballot = None;
+}
+
+-- ---- a query runs
+
+-- the value of a query that runs: what is read, its own writes among it, or what is asked to be written
+abbrev pub value_of_run : Server → QueryRequest → Query → Option ℤ
+value_of_run s q (Read item into) = Some (read_in s.store q.txn item)
+value_of_run s q (Write item expr) = q.value
+
+abbrev pub tentative_write : QueryRequest → ItemId → ℤ → TentativeWrite
+tentative_write q item value = record { query = q.query; item = item; value = value }
+
+-- a write is kept until its transaction is settled
+abbrev pub kept_by : Contents → QueryRequest → Query → ℤ → Contents
+kept_by store q (Read item into) value = store
+kept_by store q (Write item expr) value = after_write store q.txn (tentative_write q item value)
+
+-- the answer to a query that ran
 abbrev pub done_reply : QueryRequest → ℕ → Deed → DoneReply
 done_reply q epoch deed =
     record {
@@ -71,17 +87,40 @@ done_reply q epoch deed =
       answer = answer.Ran deed.value None;
     }
 
--- the entry that a first write makes
-abbrev pub first_entry : Server → ℕ → QueryRequest → Deed → Entry
-first_entry s sent q deed =
-    record { age = age_of q sent; epoch = s.epoch; answers = done_reply q s.epoch deed ∷ []; waiting = None; deeds = deed ∷ []; ballot = None }
+-- the entry once its query ran
+abbrev pub entry_after : QueryRequest → Entry → Deed → Entry
+entry_after q entry deed =
+    record entry {
+      answers = entry.answers ++ done_reply q entry.epoch deed ∷ [];
+      deeds = entry.deeds ++ deed ∷ [];
+    }
 
--- a first write makes the entry and is answered; a read, and what is asked with a staple or a pin, is not built
-abbrev pub begins : Server → ℕ → QueryRequest → Option Deed → Effect Server
-begins s sent q None = unbuilt s
-begins s sent q (Some deed) =
-    sends (with_entry s q.txn (Some (first_entry s sent q deed)))
-    (reply s q.txn (body.Done (done_reply q s.epoch deed)) ∷ [])
+-- what was done is kept and answered
+abbrev pub completes : Server → QueryRequest → Query → Entry → Deed → Effect Server
+completes s q query entry deed =
+    sends (record s {
+      store = kept_by s.store q query deed.value;
+      entries = slice_set s.entries q.txn.0 (Some (entry_after q entry deed));
+    })
+    (reply s q.txn (body.Done (done_reply q entry.epoch deed)) ∷ [])
+
+-- a query has a value; a write without one is asked by nobody
+abbrev pub runs_with : Server → QueryRequest → Query → Entry → Option ℤ → Effect Server
+runs_with s q query entry None = ignores s
+runs_with s q query entry (Some value) = completes s q query entry (deed_of q.query query value)
+
+-- there is such a query; one that is not there is asked by nobody
+abbrev pub runs_query : Server → QueryRequest → Entry → Option Query → Effect Server
+runs_query s q entry None = ignores s
+runs_query s q entry (Some query) = runs_with s q query entry (value_of_run s q query)
+
+-- a query that may run. What is asked with a staple or a pin is to be evaluated first
+abbrev pub on_granted : Scenario → Server → QueryRequest → Entry → Effect Server
+on_granted sc s q entry =
+    if is_none q.staple && is_none q.pin then runs_query s q entry (asked_query sc q)
+    else unbuilt s
+
+-- ---- which query may run
 
 -- the request names an epoch, and the entry was made in another
 abbrev pub names_another_epoch : QueryRequest → Entry → Bool
@@ -109,60 +148,31 @@ restarts s q = answers s q.txn (restarted_reply q s.epoch)
 abbrev pub answer_to : Entry → ℕ → Option DoneReply
 answer_to entry number = find (λ (given : DoneReply). given.query == number) entry.answers
 
--- an answered query is given the same answer again; one that comes while another waits is ignored, and a further one is not built
-abbrev pub on_unlost_query : Server → QueryRequest → Entry → Option DoneReply → Effect Server
-on_unlost_query s q entry (Some given) = answers s q.txn given
-on_unlost_query s q entry None = if is_some entry.waiting then ignores s else unbuilt s
+-- an answered query is given the same answer again, one that comes while another waits is ignored, and a further one may run
+abbrev pub on_unlost_query : Scenario → Server → QueryRequest → Entry → Option DoneReply
+    → Effect Server
+on_unlost_query sc s q entry (Some given) = answers s q.txn given
+on_unlost_query sc s q entry None =
+    if is_some entry.waiting then ignores s else on_granted sc s q entry
 
 -- a query of a transaction that has an entry
-abbrev pub on_query_again : Server → QueryRequest → Entry → Effect Server
-on_query_again s q entry =
+abbrev pub on_query_again : Scenario → Server → QueryRequest → Entry → Effect Server
+on_query_again sc s q entry =
     if is_some entry.ballot then ignores s
     else if names_another_epoch q entry then restarts s q
-    else on_unlost_query s q entry (answer_to entry q.query)
+    else on_unlost_query sc s q entry (answer_to entry q.query)
 
 -- a query of a transaction that is not settled. With an epoch that no entry has it is told that the server restarted
 abbrev pub on_open_query : Scenario → Server → ℕ → QueryRequest → Option Entry → Effect Server
 on_open_query sc s sent q None =
-    if is_some q.epoch then restarts s q
-    else begins s sent q (plain_write q (asked_item sc q) q.value)
-on_open_query sc s sent q (Some entry) = on_query_again s q entry
+    if is_some q.epoch then restarts s q else on_granted sc s q (new_entry s (age_of q sent))
+on_open_query sc s sent q (Some entry) = on_query_again sc s q entry
 
 abbrev pub on_query : Scenario → Server → ℕ → QueryRequest → Effect Server
 on_query sc s sent q =
     if is_open s q.txn then on_open_query sc s sent q (entry_at s q.txn) else ignores s
 
 -- ---- Prepare
-
--- the administrator of an item; that of the first where there is no such item
-abbrev pub admin_of : Scenario → ItemId → AdminId
-admin_of sc item =
-    unwrap_or (option_map (λ (i : Item). i.admin) (slice_get sc.items item.0)) (record { 0 = 0 })
-
--- the version that the server knows of an administrator; the first where there is no such administrator
-abbrev pub version_known : Server → AdminId → Version
-version_known s admin = unwrap_or (slice_get s.known admin.0) (record { 0 = 1 })
-
--- the verdict on a deed. The one policy that is built allows all by its first rule, and uses no credential
-abbrev pub verdict_on : Scenario → Server → ℕ → Deed → Verdict
-verdict_on sc s place deed =
-    record {
-      query = deed.query;
-      server = s.server;
-      admin = admin_of sc deed.item;
-      version = version_known s (admin_of sc deed.item);
-      place = place;
-      rule = Some 1;
-      uses = [];
-    }
-
-abbrev pub is_in_range_of : Option Item → ℤ → Bool
-is_in_range_of None value = true
-is_in_range_of (Some item) value = is_between item.min item.max value
-
--- a deed leaves its item in its range
-abbrev pub is_in_range : Scenario → Deed → Bool
-is_in_range sc deed = is_in_range_of (slice_get sc.items deed.item.0) deed.value
 
 abbrev pub prepared_record : Server → PrepareRequest → Entry → List Verdict → Prepared
 prepared_record s p entry verdicts =
@@ -173,7 +183,7 @@ prepared_record s p entry verdicts =
       turn = p.turn;
       deeds = entry.deeds;
       verdicts = verdicts;
-      told = s.known;
+      told = s.store.known;
     }
 
 -- the vote YES, which is forced before it is sent
@@ -189,53 +199,88 @@ casts s forced entry =
       vote = vote.Yes forced.verdicts;
     })) ∷ [])
 
--- the vote after an evaluation with a staple of that place
-abbrev pub votes : Scenario → Server → PrepareRequest → ℕ → Entry → Effect Server
-votes sc s p place entry =
-    casts s (prepared_record s p entry (map (verdict_on sc s place) entry.deeds)) entry
+-- the vote YES with these verdicts
+abbrev pub votes : Server → PrepareRequest → List Verdict → Entry → Effect Server
+votes s p verdicts entry = casts s (prepared_record s p entry verdicts) entry
 
--- each deed leaves its item in its range
-abbrev pub are_in_range : Scenario → List Deed → Bool
-are_in_range sc deeds = list_all (is_in_range sc) deeds
+-- the vote on what a transaction of the scenario did here: each deed is evaluated with the staple
+abbrev pub votes_with : Scenario → Server → PrepareRequest → Entry → Staple → Option Transaction
+    → Effect Server
+votes_with sc s p entry staple None = ignores s
+votes_with sc s p entry staple (Some txn) =
+    votes s p (verdicts_on sc s txn staple entry.deeds) entry
 
 -- with a staple each deed is evaluated and voted on; without one there are no verdicts, and wanted versions are to be learnt
 abbrev pub evaluates : Scenario → Server → PrepareRequest → Entry → Option Staple → Effect Server
 evaluates sc s p entry (Some staple) =
-    if is_empty p.want then votes sc s p staple.place entry else unbuilt s
+    if is_empty p.want then votes_with sc s p entry staple (slice_get sc.txns p.txn.0)
+    else unbuilt s
 evaluates sc s p entry None = unbuilt s
 
--- a request to prepare a transaction that is not settled. Without an entry of that epoch it is to be refused, and so where a write is out of
--- range; one that is prepared is to vote again
+-- ---- the end of a transaction
+
+-- the store once a transaction has ended: a commit's writes are applied, and an abort's are dropped
+abbrev pub ended_store : Contents → TxnId → Outcome → Contents
+ended_store store txn Commit = after_apply store txn
+ended_store store txn Abort = after_forget store txn
+
+-- the outcome is forced before the letter is sent, and the entry ends
+abbrev pub ends : Server → Settled → Letter → Effect Server
+ends s settled letter =
+    logs (record s {
+      store = ended_store s.store settled.txn settled.outcome;
+      settled = slice_set s.settled settled.txn.0 (Some settled);
+      entries = slice_set s.entries settled.txn.0 None;
+    })
+    (log.Settled settled)
+    (letter ∷ [])
+
+-- ---- a vote NO
+
+abbrev pub no_letter : Server → PrepareRequest → No → Letter
+no_letter s p why =
+    reply s p.txn (body.Vote (record { txn = p.txn; turn = p.turn; vote = vote.No why }))
+
+abbrev pub refused_as : PrepareRequest → No → Settled
+refused_as p why = record { txn = p.txn; outcome = Abort; why = Some why }
+
+-- the server aborts the transaction by itself, and votes NO
+abbrev pub refuses : Server → PrepareRequest → No → Effect Server
+refuses s p why = ends s (refused_as p why) (no_letter s p why)
+
+-- ---- the vote
+
+-- the vote where no write is outside its range. Where one is, the first such write by query is the reason of a vote NO
+abbrev pub votes_in_range : Scenario → Server → PrepareRequest → Entry → Option (ℕ × ℤ)
+    → Effect Server
+votes_in_range sc s p entry None = evaluates sc s p entry p.staple
+votes_in_range sc s p entry (Some outside) = refuses s p (no.Range outside.0 outside.1)
+
+-- a request to prepare a transaction that is not settled. Without an entry of that epoch it is to be refused; one that is prepared is to
+-- vote again
 abbrev pub asked_to_vote : Scenario → Server → PrepareRequest → Option Entry → Effect Server
 asked_to_vote sc s p None = unbuilt s
 asked_to_vote sc s p (Some entry) =
     if not (entry.epoch == p.epoch) then unbuilt s
     else if is_some entry.ballot then unbuilt s
-    else if are_in_range sc entry.deeds then evaluates sc s p entry p.staple
-    else unbuilt s
+    else votes_in_range sc s p entry (first_outside_in s.store p.txn)
 
--- of one that is settled a vote NO is to be given again
+-- a vote NO is given again with its reason
+abbrev pub on_refused : Server → PrepareRequest → Option No → Effect Server
+on_refused s p None = ignores s
+on_refused s p (Some why) = sends s (no_letter s p why ∷ [])
+
+-- of one that was settled by a vote NO the same vote is given again
+abbrev pub on_settled_prepare : Server → PrepareRequest → Option Settled → Effect Server
+on_settled_prepare s p None = ignores s
+on_settled_prepare s p (Some settled) = on_refused s p settled.why
+
 abbrev pub on_prepare : Scenario → Server → PrepareRequest → Effect Server
-on_prepare sc s p = if is_open s p.txn then asked_to_vote sc s p (entry_at s p.txn) else unbuilt s
+on_prepare sc s p =
+    if is_open s p.txn then asked_to_vote sc s p (entry_at s p.txn)
+    else on_settled_prepare s p (flattened (slice_get s.settled p.txn.0))
 
 -- ---- Decide
-
-abbrev pub is_write : Action → Bool
-is_write action.Read = false
-is_write action.Write = true
-
-abbrev pub applied_deed : List ℤ → Deed → List ℤ
-applied_deed values deed =
-    if is_write deed.action then slice_set values deed.item.0 deed.value else values
-
--- the items after these deeds
-abbrev pub applied : List ℤ → List Deed → List ℤ
-applied values [] = values
-applied values (deed ∷ deeds) = applied (applied_deed values deed) deeds
-
-abbrev pub committed : List ℤ → Outcome → Option Entry → List ℤ
-committed values Commit (Some entry) = applied values entry.deeds
-committed values _ _ = values
 
 abbrev pub settled_as : DecideRequest → Settled
 settled_as d = record { txn = d.txn; outcome = d.outcome; why = None }
@@ -244,16 +289,9 @@ settled_as d = record { txn = d.txn; outcome = d.outcome; why = None }
 abbrev pub ack_letter : Server → TxnId → Letter
 ack_letter s txn = reply s txn (body.Ack (record { txn = txn }))
 
--- the outcome is forced, a commit's writes are applied, and the entry ends
+-- the outcome that is ordered is forced, and acknowledged
 abbrev pub settles : Server → DecideRequest → Effect Server
-settles s d =
-    logs (record s {
-      values = committed s.values d.outcome (entry_at s d.txn);
-      settled = slice_set s.settled d.txn.0 (Some (settled_as d));
-      entries = slice_set s.entries d.txn.0 None;
-    })
-    (log.Settled (settled_as d))
-    (ack_letter s d.txn ∷ [])
+settles s d = ends s (settled_as d) (ack_letter s d.txn)
 
 -- of one that is settled the Ack is given again
 abbrev pub on_settled_decide : Server → DecideRequest → Option Settled → Effect Server

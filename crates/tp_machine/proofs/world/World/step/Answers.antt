@@ -3,6 +3,7 @@ use Rattle.tp_machine.specs.Machine.{Machine, after}
 use Rattle.tp_machine.specs.Seen.{Seen, machine_of}
 use Rattle.tp_machine.specs.Sound.{Each, IsStepOf}
 use Rattle.tp_machine.proofs.basics.Machine.{reached_next, steps_next}
+use Rattle.tp_machine.proofs.ids.Valid.{few_rules}
 use Rattle.tp_machine.proofs.walks.Runs.{sound_after}
 use Rattle.tp_machine.proofs.basics.Lists.{each_more}
 use Rattle.tp_machine.proofs.world.World.step.Goals as goal
@@ -24,3 +25,6 @@ invariant_of-self c =
       reached = λ up. reached;
       sound = λ up. sound_after sc new.state.steps new c.self.invariant.built named reached;
     }
+
+pub act-requires-clause-few : goal.act-requires-clause-few
+act-requires-clause-few c = few_rules c.self.inside.scenario c.self.invariant.built

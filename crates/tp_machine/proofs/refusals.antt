@@ -1,0 +1,4 @@
+-- A value that a server refused is that of its transaction's run by itself, on the store where the transaction first aborted.
+pub mod Refusing
+pub mod Steps
+pub mod World
