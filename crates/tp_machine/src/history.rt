@@ -62,6 +62,13 @@ impl History {
         }
     }
 
+    /// How many mails are pending.
+    pub fn pending_count(&self) -> u64
+        ensures { result ≡ length (marked 0 self.now.pending) }
+    {
+        count_set(self.pending.as_slice())
+    }
+
     /// Adds a step with what happened in it and its letters, which become mails. Where memory is refused nothing is added.
     pub fn note(
         &mut self,
@@ -170,6 +177,19 @@ fn post(
         pending.push(true)?;
     }
     Ok(())
+}
+
+/// How many flags are set.
+fn count_set(pending: &[bool]) -> u64
+    ensures { result ≡ length (marked 0 pending.now) }
+{
+    let mut count = 0;
+    for at in 0..pending.len() {
+        if pending[at] {
+            count += 1;
+        }
+    }
+    count
 }
 
 /// The first place from here on whose flag is set, or the length.

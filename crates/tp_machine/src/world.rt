@@ -145,6 +145,13 @@ impl World {
         self.history.is_pending(mail as usize)
     }
 
+    /// How many mails are undelivered. It takes a time in the number of all mails.
+    pub fn undelivered_count(&self) -> u64
+        ensures { result ≡ length self.now.machine.undelivered }
+    {
+        self.history.pending_count()
+    }
+
     /// The least number of an undelivered mail, or None exactly where there is none.
     pub fn oldest(&self) -> Option<u64>
         ensures value { result ≡ slice_get self.now.machine.undelivered 0 }

@@ -1,49 +1,35 @@
--- What the built form gives of a scenario's lengths.
-use Rattle.std.proofs.Common.{◌≡◌, Bool, true, false, ◌&&◌, List, [], ◌∷◌, length, Option, Some, None, refl}
-use Rattle.tp_types.specs.declared.scenario.Item.{Item}
-use Rattle.tp_types.specs.declared.scenario.Scenario.{Scenario}
-use Rattle.tp_types.specs.declared.scenario.ServerDecl.{ServerDecl}
-use Rattle.tp_types.specs.declared.scenario.Transaction.{Transaction}
-use Rattle.tp_model.specs.Queries.{only}
+-- What the present stage gives of a scenario: one server, and at most one transaction, which is plain.
+use Rattle.std.proofs.Common.{◌≡◌, ◌≤◌, true, List, [], ◌∷◌, length, Some, refl, slice_get, subst, zero, suc, ℕ, arith}
+use Rattle.std.proofs.lemmas.Option.{same_Some}
+use Rattle.tp_model.specs.Words.{Admin, Scenario, ServerDecl, Transaction}
 use Rattle.tp_model.specs.Built.{is_built}
-use Rattle.tp_model.specs.Stage.{is_empty, is_single}
-use Rattle.tp_model.proofs.FirstForm.{are_first_parts, form_built, is_first_admin}
+use Rattle.tp_model.specs.Stage.{has_one_server, has_plain_txns, is_plain_txn}
+use Rattle.tp_model.proofs.RuleLemmas.{stage_built}
 
-pub left_true : (a b : Bool) → (a && b) ≡ true → a ≡ true
-left_true true b h = refl
-left_true false b h = h
+one_server : (admins : List Admin) (servers : List ServerDecl) → has_one_server admins servers ≡ true → length servers ≡ 1
+one_server admins [] h = absurd (cc)
+one_server admins (server ∷ []) h = refl
+one_server admins (server ∷ other ∷ others) h = absurd (cc)
 
-pub right_true : (a b : Bool) → (a && b) ≡ true → b ≡ true
-right_true true b h = h
-right_true false b h = absurd (cc)
+few_plain : (txns : List Transaction) → has_plain_txns txns ≡ true → length txns ≤ 1
+few_plain [] h = omega arith
+few_plain (txn ∷ []) h = omega arith
+few_plain (txn ∷ other ∷ others) h = absurd (cc)
 
-one_server : (servers : List ServerDecl) (item : Option Item) (txn : Option Transaction) → are_first_parts (only servers) item txn ≡ true → length servers ≡ 1
-one_server [] item txn h = absurd (cc)
-one_server (server ∷ []) item txn h = refl
-one_server (server ∷ other ∷ others) item txn h = absurd (cc)
+plain_at : (txns : List Transaction) (n : ℕ) (txn : Transaction) → has_plain_txns txns ≡ true → slice_get txns n ≡ Some txn → is_plain_txn txn ≡ true
+plain_at [] n txn h e = absurd (cc)
+plain_at (first ∷ []) zero txn h e = subst (λ (t : Transaction). is_plain_txn t ≡ true) (same_Some first txn e) h
+plain_at (first ∷ []) (suc n) txn h e = absurd (cc)
+plain_at (first ∷ other ∷ others) n txn h e = absurd (cc)
 
-one_txn : (server : Option ServerDecl) (item : Option Item) (txns : List Transaction) → are_first_parts server item (only txns) ≡ true → length txns ≡ 1
-one_txn None item txns h = absurd (cc)
-one_txn (Some server) None txns h = absurd (cc)
-one_txn (Some server) (Some item) [] h = absurd (cc)
-one_txn (Some server) (Some item) (txn ∷ []) h = refl
-one_txn (Some server) (Some item) (txn ∷ other ∷ others) h = absurd (cc)
-
-pub parts_built : (sc : Scenario) → is_built sc ≡ true → are_first_parts (only sc.servers) (only sc.items) (only sc.txns) ≡ true
-parts_built sc h = right_true (is_single is_first_admin sc.admins) _ (left_true _ _ (form_built sc h))
-
--- a built scenario has one server
+-- there is one server
 pub length-servers_built : (sc : Scenario) → is_built sc ≡ true → length sc.servers ≡ 1
-length-servers_built sc h = one_server sc.servers (only sc.items) (only sc.txns) (parts_built sc h)
+length-servers_built sc h = one_server sc.admins sc.servers (stage_built sc h).servers
 
--- a built scenario has one transaction
-pub length-txns_built : (sc : Scenario) → is_built sc ≡ true → length sc.txns ≡ 1
-length-txns_built sc h = one_txn (only sc.servers) (only sc.items) sc.txns (parts_built sc h)
+-- there is at most one transaction
+pub length-txns_built : (sc : Scenario) → is_built sc ≡ true → length sc.txns ≤ 1
+length-txns_built sc h = few_plain sc.txns (stage_built sc h).txns
 
-pub empty_is : {A : Type 0} → (steps : List A) → is_empty steps ≡ true → steps ≡ []
-empty_is [] h = refl
-empty_is (first ∷ others) h = absurd (cc)
-
--- a built scenario lists no steps
-pub steps_built : (sc : Scenario) → is_built sc ≡ true → sc.steps ≡ []
-steps_built sc h = empty_is sc.steps (left_true _ _ (left_true _ _ (left_true _ _ (right_true _ _ (right_true _ _ (form_built sc h))))))
+-- each transaction is deferred, under view
+pub plain_built : (sc : Scenario) (n : ℕ) (txn : Transaction) → is_built sc ≡ true → slice_get sc.txns n ≡ Some txn → is_plain_txn txn ≡ true
+plain_built sc n txn h e = plain_at sc.txns n txn (stage_built sc h).txns e

@@ -1,10 +1,8 @@
 pub mod BuiltLemmas
 pub mod ConditionLemmas
-pub mod FirstForm
 pub mod HistoryLemmas
 pub mod RuleLemmas
 pub mod RunBounds
 pub mod ServersLemmas
 pub mod StoreBounds
 pub mod ValidLemmas
-pub mod WorkLemmas

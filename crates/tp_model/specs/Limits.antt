@@ -1,5 +1,5 @@
 -- The limits of a scenario, and of the numbers in it.
-use Rattle.std.specs.Prelude.{ℕ, ◌^◌, ◌-◌, ◌&&◌, nat_le, List, length, Bool, ℤ, pos, neg_ℤ, not}
+use Rattle.std.specs.Prelude.{ℕ, ◌^◌, ◌-◌, ◌&&◌, nat_le, List, [], ◌∷◌, length, Bool, true, false, ℤ, pos, neg_ℤ, not}
 use Rattle.std.specs.Ordering.{int_cmp, is_gt}
 
 -- x is at most y
@@ -29,3 +29,8 @@ is_from_to low high n = nat_le low n && nat_le n high
 -- the list has at least and at most so many members
 abbrev pub has_count : {A : Type 0} → ℕ → ℕ → List A → Bool
 has_count least most xs = is_from_to least most (length xs)
+
+-- the list has no member
+abbrev pub is_empty : {A : Type 0} → List A → Bool
+is_empty [] = true
+is_empty (x ∷ xs) = false

@@ -1,5 +1,5 @@
 -- What a transaction's queries are about.
-use Rattle.std.specs.Prelude.{ℕ, ◌+◌, ◌==◌, List, [], ◌∷◌, length, slice_get, Bool, true, false, Option, Some, None, option_map, ℤ, pos, neg_ℤ, if◌then◌else◌, zero, suc}
+use Rattle.std.specs.Prelude.{ℕ, ◌+◌, ◌==◌, List, [], ◌∷◌, length, slice_get, Bool, true, false, Option, Some, None, ℤ, neg_ℤ, if◌then◌else◌, zero, suc}
 use Rattle.std.specs.List.{list_any}
 use Rattle.std.specs.Option.{option_map_or}
 use Rattle.tp_types.specs.declared.ids.ItemId.{ItemId}
@@ -9,9 +9,6 @@ use Rattle.tp_types.specs.declared.scenario.Item.{Item}
 use Rattle.tp_types.specs.declared.scenario.Transaction.{Transaction}
 use Rattle.tp_types.specs.declared.scenario.Query.{Query}
 use Rattle.tp_types.specs.declared.scenario.Query.TheVariants.{Read, Write}
-use Rattle.tp_types.specs.declared.scenario.Term.{Term}
-use Rattle.tp_types.specs.declared.scenario.Operand.{Operand}
-use Rattle.tp_types.specs.declared.scenario.Operand.TheVariants.{Constant, Register}
 
 -- the member of a list that has exactly one
 abbrev pub only : {A : Type 0} → List A → Option A
@@ -32,24 +29,6 @@ query_at txn (suc before) = slice_get txn.queries before
 abbrev pub signed : Bool → ℤ → ℤ
 signed false x = x
 signed true x = neg_ℤ x
-
--- the value of an operand that is a constant; a register holds 0 until reads are built
-abbrev pub operand_value : Operand → ℤ
-operand_value (Constant c) = c
-operand_value (Register r) = pos 0
-
--- what a term adds
-abbrev pub term_value : Term → ℤ
-term_value term = signed term.minus (operand_value term.operand)
-
--- the value of a sum of one term; longer sums are not built yet
-abbrev pub only_value : List Term → Option ℤ
-only_value expr = option_map term_value (only expr)
-
--- the value of a write of one term; reads are not built yet
-abbrev pub written_constant : Query → Option ℤ
-written_constant (Read item into) = None
-written_constant (Write item expr) = only_value expr
 
 -- the query is on an item of this server
 abbrev pub is_at_server : Scenario → ℕ → Query → Bool

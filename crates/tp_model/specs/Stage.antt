@@ -1,99 +1,71 @@
--- What of a valid scenario is built so far: one administrator with one version of its policy, which allows all; one server with one
--- item; and one deferred transaction under view consistency that writes a constant within the item's range. It widens as more is built,
--- and then is no condition any more.
-use Rattle.std.specs.Prelude.{◌&&◌, ◌==◌, List, [], ◌∷◌, Bool, true, false, Option, Some, is_none}
-use Rattle.std.specs.Option.{option_map_or}
-use Rattle.tp_types.specs.declared.policy.Cond.{Cond, out-Cond}
-use Rattle.tp_types.specs.declared.policy.Cond.TheOpen.{Cond-F, True}
-use Rattle.tp_types.specs.declared.policy.Pattern.{Pattern}
-use Rattle.tp_types.specs.declared.policy.Pattern.TheVariants.{All}
-use Rattle.tp_types.specs.declared.policy.Rule.{Rule}
-use Rattle.tp_types.specs.declared.policy.Policy.{Policy}
-use Rattle.tp_types.specs.declared.scenario.Scenario.{Scenario}
-use Rattle.tp_types.specs.declared.scenario.Admin.{Admin}
-use Rattle.tp_types.specs.declared.scenario.Item.{Item}
-use Rattle.tp_types.specs.declared.scenario.ServerDecl.{ServerDecl}
-use Rattle.tp_types.specs.declared.scenario.Transaction.{Transaction}
-use Rattle.tp_types.specs.declared.scenario.Query.{Query}
-use Rattle.tp_types.specs.declared.scenario.Query.TheVariants.{Write}
-use Rattle.tp_types.specs.declared.scenario.Term.{Term}
-use Rattle.tp_types.specs.declared.scenario.Scheme.{Scheme}
-use Rattle.tp_types.specs.declared.scenario.Scheme.TheVariants.{Deferred}
-use Rattle.tp_types.specs.declared.scenario.Level.{Level}
-use Rattle.tp_types.specs.declared.scenario.Level.TheVariants.{View}
-use Rattle.tp_model.specs.Limits.{is_between}
-use Rattle.tp_model.specs.Queries.{only, term_value}
-use Rattle.tp_model.specs.Valid.{has_constant}
+-- What of a valid scenario is built so far: one server that knows the opening versions; at most one transaction, deferred under view; and
+-- steps that submit, tick, revoke, or deliver a mail for the first time. It widens as more is built, and then is no condition any more.
+use Rattle.std.specs.Prelude.{◌&&◌, ◌==◌, ◌++◌, ℕ, List, [], ◌∷◌, Bool, true, false, not, nat_le}
+use Rattle.std.specs.List.{list_any}
+use Rattle.tp_model.specs.Words.{Admin, Level, Scenario, Scheme, ServerDecl, Step, Transaction, Version}
+use Rattle.tp_model.specs.Words.level
+use Rattle.tp_model.specs.Words.scheme
+use Rattle.tp_model.specs.Words.step
 
--- the list has exactly one member, which passes the test
-abbrev pub is_single : {A : Type 0} → (A → Bool) → List A → Bool
-is_single test xs = option_map_or test (only xs) false
+-- ---- servers
 
-abbrev pub is_empty : {A : Type 0} → List A → Bool
-is_empty [] = true
-is_empty (x ∷ xs) = false
+-- of no administrator is less than the opening version known
+abbrev pub knows_openings : List Admin → List Version → Bool
+knows_openings [] versions = true
+knows_openings (admin ∷ admins) [] = true
+knows_openings (admin ∷ admins) (version ∷ versions) =
+    nat_le admin.opening.0 version.0 && knows_openings admins versions
 
-abbrev pub is_true_shape : Cond-F Cond → Bool
-is_true_shape True = true
-is_true_shape _ = false
+-- there is one server, and it knows the opening versions
+abbrev pub has_one_server : List Admin → List ServerDecl → Bool
+has_one_server admins (server ∷ []) = knows_openings admins server.knows
+has_one_server admins _ = false
 
--- the condition is the word true
-abbrev pub is_true_cond : Cond → Bool
-is_true_cond cond = is_true_shape (out-Cond cond)
-
-abbrev pub is_all : Pattern → Bool
-is_all All = true
-is_all _ = false
-
--- the rule is: allow any on * if true
-abbrev pub allows_all : Rule → Bool
-allows_all rule = is_none rule.action && is_all rule.pattern && is_true_cond rule.cond
-
--- the policy has that one rule
-abbrev pub is_open_policy : Policy → Bool
-is_open_policy policy = is_single allows_all policy.rules
-
--- the administrator has one version of its policy, which is open
-abbrev pub is_open_admin : Admin → Bool
-is_open_admin admin = is_single is_open_policy admin.library
+-- ---- transactions
 
 abbrev pub is_deferred : Scheme → Bool
-is_deferred Deferred = true
+is_deferred scheme.Deferred = true
 is_deferred _ = false
 
 abbrev pub is_view : Level → Bool
-is_view View = true
+is_view level.View = true
 is_view _ = false
 
--- the term is a constant, and with its sign it is within the item's range
-abbrev pub is_plain_term : Item → Term → Bool
-is_plain_term item term = has_constant term && is_between item.min item.max (term_value term)
+-- the transaction is deferred, under view consistency
+abbrev pub is_plain_txn : Transaction → Bool
+is_plain_txn txn = is_deferred txn.scheme && is_view txn.level
 
--- the query writes a constant to the item, within its range
-abbrev pub is_plain_query : Item → Query → Bool
-is_plain_query item (Write id expr) = is_single (is_plain_term item) expr
-is_plain_query item _ = false
+-- there is at most one transaction, and it is plain
+abbrev pub has_plain_txns : List Transaction → Bool
+has_plain_txns [] = true
+has_plain_txns (txn ∷ []) = is_plain_txn txn
+has_plain_txns _ = false
 
--- the transaction is deferred under view consistency, with all else by default, and has one query
-abbrev pub is_plain_txn : Item → Transaction → Bool
-is_plain_txn item txn =
-    is_deferred txn.scheme && is_view txn.level
-    && ((txn.rounds == 8) && is_empty txn.creds && is_single (is_plain_query item) txn.queries)
+-- ---- steps
 
--- of one server, one item and one transaction
-abbrev pub are_plain_parts : Option ServerDecl → Option Item → Option Transaction → Bool
-are_plain_parts (Some server) (Some item) (Some txn) = is_plain_txn item txn
-are_plain_parts _ _ _ = false
+-- after the deliveries of these mails: a submission, a tick, a revocation, or the first delivery of a mail
+abbrev pub is_plain_step : List ℕ → Step → Bool
+is_plain_step delivered (step.Submit txn) = true
+is_plain_step delivered (step.Tick by) = true
+is_plain_step delivered (step.Revoke cred) = true
+is_plain_step delivered (step.Deliver mail) = not (list_any (λ other. mail == other) delivered)
+is_plain_step delivered _ = false
 
--- no step is listed, and no race is scripted
-abbrev pub is_unscripted : Scenario → Bool
-is_unscripted scenario =
-    is_empty scenario.steps && is_empty scenario.clients && is_empty scenario.publishers
-    && is_empty scenario.officers
+-- the mails that are delivered after a step
+abbrev pub delivered_after : List ℕ → Step → List ℕ
+delivered_after delivered (step.Deliver mail) = delivered ++ mail ∷ []
+delivered_after delivered _ = delivered
+
+-- each of the steps is plain after those before it
+abbrev pub are_plain_steps : List ℕ → List Step → Bool
+are_plain_steps delivered [] = true
+are_plain_steps delivered (taken ∷ steps) =
+    is_plain_step delivered taken && are_plain_steps (delivered_after delivered taken) steps
+
+-- ---- the whole
 
 -- the scenario has no form that is not built
 abbrev pub is_stage : Scenario → Bool
 is_stage scenario =
-    is_single is_open_admin scenario.admins
-    && are_plain_parts (only scenario.servers) (only scenario.items) (only scenario.txns)
-    && ((scenario.clock == 0) && is_empty scenario.creds && is_unscripted scenario)
+    has_one_server scenario.admins scenario.servers && has_plain_txns scenario.txns
+    && are_plain_steps [] scenario.steps

@@ -57,11 +57,10 @@ have_ended sc facts first [] = true
 have_ended sc facts first (declared ∷ others) =
     has_ended sc facts (record { 0 = first }) declared && have_ended sc facts (first + 1) others
 
--- a run of these steps came to a quiet end with this history: it is trusted as at any moment, every transaction has ended at all its
--- servers, and each item has the value that all commits leave
+-- a run of these steps came to a quiet end with this history: it is trusted as at any moment; where every transaction has ended at all its
+-- servers, each item has the value that all commits leave; and the steps are counted
 pub record TrustedHistory (sc : Scenario) (steps : List Step) (facts : List Fact) (ending : Ending)
     : Type 0 where
   pub so_far : TrustedSoFar sc steps facts ending.values
-  pub ended : have_ended sc facts 0 sc.txns ≡ true
-  pub values_are : ending.values ≡ store_of sc facts
+  pub whole : have_ended sc facts 0 sc.txns ≡ true → ending.values ≡ store_of sc facts
   pub steps_are : ending.steps ≡ length steps

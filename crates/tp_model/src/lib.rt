@@ -1,18 +1,14 @@
 //! The definitions that every layer is judged by, and the plain helpers that compute them.
 #![tactic(auto)]
 
-mod built;
 mod level;
 mod policy;
 mod query;
-mod stage;
 mod valid;
 mod versions;
 
-pub use built::is_built;
 pub use level::{is_global, level_of, reads_master};
 pub use policy::{matches, meets, policy_at, rule_in};
-pub use query::{action_of, has_query_at, item_of, only, query_at, servers_of, written_constant};
-pub use stage::is_stage;
+pub use query::{action_of, has_query_at, item_of, only, query_at, servers_of};
 pub use valid::is_valid;
 pub use versions::{newest_at, publications};

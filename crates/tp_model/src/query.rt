@@ -6,9 +6,7 @@ ghost use Rattle.tp_model.specs.Authorisation as authorisation;
 ghost use Rattle.tp_model.specs.Queries as queries;
 
 use std::alloc::Global;
-use tp_types::{
-    Action, ItemId, List, NoMemory, Operand, Query, Scenario, ServerId, Term, Transaction,
-};
+use tp_types::{Action, ItemId, List, NoMemory, Query, Scenario, ServerId, Transaction};
 
 /// The item that a query reads or writes.
 pub fn item_of(query: &Query) -> ItemId
@@ -40,17 +38,6 @@ pub fn query_at(txn: &Transaction, number: u32) -> Option<&Query>
     txn.queries.get(number as usize - 1)
 }
 
-/// What a term adds, if it is a constant; a register counts as 0 until reads are built.
-pub fn term_value(term: &Term) -> i128
-    ensures { result ≡ queries.term_value term.now }
-{
-    let value = match term.operand {
-        Operand::Constant(constant) => i128::from(constant),
-        Operand::Register(_) => 0,
-    };
-    if term.minus { -value } else { value }
-}
-
 /// The member of a slice that has exactly one.
 pub fn only<T>(items: &[T]) -> Option<&T>
     ensures { option_copied result ≡ queries.only items.now }
@@ -58,25 +45,6 @@ pub fn only<T>(items: &[T]) -> Option<&T>
     match items.split_first() {
         None => None,
         Some((first, others)) => { if others.is_empty() { Some(first) } else { None } }
-    }
-}
-
-fn only_value(expr: &[Term]) -> Option<i128>
-    ensures { result ≡ queries.only_value expr.now }
-{
-    match only(expr) {
-        None => None,
-        Some(term) => Some(term_value(term)),
-    }
-}
-
-/// The value of a write of one constant; None for every other query, which is not built yet.
-pub fn written_constant(query: &Query) -> Option<i128>
-    ensures { result ≡ queries.written_constant query.now }
-{
-    match query {
-        Query::Read { item: _, into: _ } => None,
-        Query::Write { item: _, expr } => only_value(expr.as_slice()),
     }
 }
 

@@ -1,4 +1,5 @@
 pub mod FewRules
+pub mod FormLemmas
 pub mod GrowingLists
 pub mod Inverses
 pub mod KeptPolicies

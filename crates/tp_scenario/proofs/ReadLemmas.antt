@@ -1,21 +1,19 @@
 -- Bytes have at most one answer.
-use Rattle.std.proofs.Common.{◌≡◌, ◌⊎◌, inl, inr, ℕ, List, [], Bool, true, false, if◌then◌else◌, Option, Some, None, option_map, Result, Ok, Err, refl, sym, ap, subst, ◌∙◌, arith}
+use Rattle.std.proofs.Common.{◌≡◌, ◌⊎◌, inl, inr, ℕ, List, true, Option, Some, None, Result, Ok, Err, refl, sym, ap, subst, ◌∙◌, arith}
 use Rattle.std.specs.Prelude.{IfOk}
 use Rattle.std.proofs.lemmas.Bool.{and_from}
 use Rattle.serde_json.specs.Data.{Data}
 use Rattle.serde_json.specs.Read.{read}
 use Rattle.tp_types.specs.declared.scenario.Scenario.{Scenario}
 use Rattle.tp_model.specs.Built.{is_built}
-use Rattle.tp_model.specs.Stage.{is_stage}
 use Rattle.tp_model.specs.Valid.{is_valid}
 use Rattle.tp_scenario.specs.declared.fault.Fault.{Fault}
 use Rattle.tp_scenario.specs.declared.from_bytes.ScenarioError.{ScenarioError}
-use Rattle.tp_scenario.specs.declared.path.Path.TheVariants.{Whole}
 use Rattle.tp_scenario.specs.declared.path.Site.{Site}
-use Rattle.tp_scenario.specs.declared.path.Site.TheVariants.{At}
-use Rattle.tp_scenario.specs.Forms.{data_form, first_form, or_else, rest_form, scripted_form, servers_form, step_site, steps_form, txns_form}
+use Rattle.tp_scenario.specs.Forms.{first_form}
 use Rattle.tp_scenario.specs.Reads.{Says, SaysNoJson, SaysValue, IsOutOfMemory, IsText, answer_by, answer_to, built_or}
 use Rattle.tp_scenario.specs.Walk.{walk_of}
+use Rattle.tp_scenario.proofs.FormLemmas.{stage_of_none}
 use Rattle.tp_scenario.proofs.KeptRules.{walked_valid}
 
 same_value : (bytes : List ℕ) (one other : Data) → read bytes ≡ Some one → read bytes ≡ Some other → one ≡ other
@@ -51,23 +49,6 @@ text_of_one bytes one other s t =
     cc
 
 -- ---- what an answer tells
-
-or_else_none : (one other : Option Site) → or_else one other ≡ None → other ≡ None
-or_else_none None other e = e
-or_else_none (Some site) other e = cc
-
-none_built : (answer : Bool) → (if answer then None else Some (At Whole)) ≡ None → answer ≡ true
-none_built true e = refl
-none_built false e = cc
-
--- a scenario without a form that is not built is of the present stage
-stage_of_none : (sc : Scenario) → first_form sc ≡ None → is_stage sc ≡ true
-unfolding first_form
-stage_of_none sc e =
-    none_built (is_stage sc)
-    (or_else_none (option_map step_site (steps_form [] 0 sc.steps)) (rest_form sc)
-    (or_else_none (txns_form sc.txns) (scripted_form sc)
-    (or_else_none (servers_form sc.admins sc.servers) (data_form sc) e)))
 
 pub record IsReadAs (walk : Result Scenario Fault) (sc : Scenario) : Type 0 where
   pub form : walk ≡ Ok sc

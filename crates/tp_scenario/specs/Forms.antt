@@ -1,7 +1,6 @@
 -- Forms of a scenario that are not built yet, in the order in which the scenario is read. This list shrinks as more is built, and ends
 -- with it.
-use Rattle.std.specs.Prelude.{ℕ, ◌+◌, ◌==◌, nat_lt, List, [], ◌∷◌, ◌++◌, Bool, true, false, if◌then◌else◌, Option, Some, None, option_map}
-use Rattle.std.specs.List.{list_any}
+use Rattle.std.specs.Prelude.{ℕ, ◌+◌, nat_lt, List, [], ◌∷◌, Bool, not, if◌then◌else◌, Option, Some, None, option_map}
 use Rattle.std.specs.Ordering.{nat_cmp, is_lt}
 use Rattle.std.specs.Cmp.Lexicographic.{slice_cmp}
 use Rattle.tp_types.specs.declared.ids.Version.{Version}
@@ -9,11 +8,10 @@ use Rattle.tp_types.specs.declared.scenario.Admin.{Admin}
 use Rattle.tp_types.specs.declared.scenario.Scenario.{Scenario}
 use Rattle.tp_types.specs.declared.scenario.ServerDecl.{ServerDecl}
 use Rattle.tp_types.specs.declared.scenario.Step.{Step}
-use Rattle.tp_types.specs.declared.scenario.Step.TheVariants as step
 use Rattle.tp_types.specs.declared.scenario.Transaction.{Transaction}
-use Rattle.tp_model.specs.Stage.{is_deferred, is_stage, is_view}
+use Rattle.tp_model.specs.Stage.{delivered_after, is_deferred, is_plain_step, is_view}
 use Rattle.tp_scenario.specs.declared.path.Key.TheVariants.{Servers, Transactions, Scheme, Level, Steps}
-use Rattle.tp_scenario.specs.declared.path.Path.TheVariants.{Whole, Top, Member, Field}
+use Rattle.tp_scenario.specs.declared.path.Path.TheVariants.{Top, Member, Field}
 use Rattle.tp_scenario.specs.declared.path.Site.{Site}
 use Rattle.tp_scenario.specs.declared.path.Site.TheVariants.{At, Known}
 
@@ -63,15 +61,7 @@ txns_form (txn ∷ other ∷ txns) = Some (At (Top Transactions))
 
 -- after the deliveries of these mails: another step than to submit, to tick, to revoke, or to deliver a mail for the first time
 abbrev pub is_step_form : List ℕ → Step → Bool
-is_step_form delivered (step.Submit txn) = false
-is_step_form delivered (step.Tick by) = false
-is_step_form delivered (step.Revoke cred) = false
-is_step_form delivered (step.Deliver mail) = list_any (λ other. mail == other) delivered
-is_step_form delivered _ = true
-
-abbrev pub delivered_after : List ℕ → Step → List ℕ
-delivered_after delivered (step.Deliver mail) = delivered ++ mail ∷ []
-delivered_after delivered _ = delivered
+is_step_form delivered step = not (is_plain_step delivered step)
 
 -- the number of the first such step, where the first has this number
 abbrev pub steps_form : List ℕ → ℕ → List Step → Option ℕ
@@ -90,15 +80,12 @@ abbrev pub or_else : Option Site → Option Site → Option Site
 or_else (Some site) later = Some site
 or_else None later = later
 
--- what is left is built only as far as the scenario is of the first form
-abbrev pub rest_form : Scenario → Option Site
-rest_form sc = if is_stage sc then None else Some (At Whole)
-
-abbrev pub scripted_form : Scenario → Option Site
-scripted_form sc = or_else (option_map step_site (steps_form [] 0 sc.steps)) (rest_form sc)
+-- a listed step that is not built
+abbrev pub listed_form : Scenario → Option Site
+listed_form sc = option_map step_site (steps_form [] 0 sc.steps)
 
 abbrev pub data_form : Scenario → Option Site
-data_form sc = or_else (txns_form sc.txns) (scripted_form sc)
+data_form sc = or_else (txns_form sc.txns) (listed_form sc)
 
 -- the first place at which a form stands that is not built
 unfoldable pub first_form : Scenario → Option Site

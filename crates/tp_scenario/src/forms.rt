@@ -8,7 +8,6 @@ ghost use Rattle.tp_scenario.specs.Forms as forms;
 use crate::path::{Key, Path, Site};
 use indexmap::IndexSet;
 use std::alloc::Global;
-use tp_model::is_stage;
 use tp_types::{
     Admin, Level, List, Name, NoMemory, Scenario, Scheme, ServerDecl, Step, Transaction, TryClone,
     Version,
@@ -149,7 +148,7 @@ fn is_step_form(delivered: &IndexSet<u64>, step: Step) -> bool
 /// Notes a delivery.
 fn note(delivered: &mut IndexSet<u64>, step: Step) -> Result<(), NoMemory>
     requires { forms.is_step_form delivered.old.keys step ≡ false }
-    ensures { OnOk result (delivered.new.keys ≡ forms.delivered_after delivered.old.keys step) }
+    ensures { OnOk result (delivered.new.keys ≡ stage.delivered_after delivered.old.keys step) }
 {
     match step {
         Step::Deliver { mail } => {
@@ -183,31 +182,12 @@ fn steps_site(alloc: Global, steps: &[Step]) -> Result<Option<Site>, NoMemory>
     }
 }
 
-fn rest_form(scenario: &Scenario) -> Option<Site>
-    ensures { result ≡ forms.rest_form scenario.now }
-{
-    if is_stage(scenario) {
-        None
-    } else {
-        Some(Site::At(Path::Whole))
-    }
-}
-
-fn scripted_form(alloc: Global, scenario: &Scenario) -> Result<Option<Site>, NoMemory>
-    ensures { IfOk result (λ found. found ≡ forms.scripted_form scenario.now) }
-{
-    match steps_site(alloc, scenario.steps.as_slice())? {
-        Some(site) => Ok(Some(site)),
-        None => Ok(rest_form(scenario)),
-    }
-}
-
 fn data_form(alloc: Global, scenario: &Scenario) -> Result<Option<Site>, NoMemory>
     ensures { IfOk result (λ found. found ≡ forms.data_form scenario.now) }
 {
     match txns_form(scenario.txns.as_slice()) {
         Some(site) => Ok(Some(site)),
-        None => scripted_form(alloc, scenario),
+        None => steps_site(alloc, scenario.steps.as_slice()),
     }
 }
 

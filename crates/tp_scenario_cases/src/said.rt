@@ -1,4 +1,4 @@
-//! What a scenario of the form that is built says, as one line.
+//! What a scenario says of its first parts, as one line.
 use std::alloc::Global;
 use std::str;
 use tp_types::{Name, NoMemory, Operand, Query, Scenario, Term};

@@ -5,9 +5,16 @@ use std::test::Fail;
 use tp_machine::{StepError, World};
 use tp_scenario::read;
 use tp_top::auto::{Drained, bound, drain, next};
-use tp_types::{Step, TxnId};
+use tp_types::{CredId, Fact, Step, TxnId, What};
 
 const T1: TxnId = TxnId(0);
+
+/// The first scenario with a credential, which nobody presents.
+const WITH_CREDENTIAL: &str =
+    r#"{"admins":[{"name":"hr","policies":["allow any on * if true;"]}],"credentials":[{"name":"c1","issuer":"h","subject":"ann","attr":"role","value":"nurse"}],"servers":[{"name":"s0","items":[{"name":"x","admin":"hr","min":0,"max":100,"value":5}]}],"transactions":[{"name":"t1","subject":"ann","queries":["write x := 7"]}]}"#;
+
+/// The last moment of the clock.
+const LAST: u64 = (1 << 63) - 1;
 
 /// The bound of the first scenario: one transaction of one query, one server, at most eight rounds.
 const BOUND: u64 = (2 * 27 + 3 + 1) * 16 * 2 * 2 + 1 + 1 + 2;
@@ -28,6 +35,51 @@ fn submit(alloc: Global, world: &mut World) -> Result<(), StepError> {
 
 fn deliver(alloc: Global, world: &mut World, mail: u64) -> Result<(), StepError> {
     world.step(alloc, &Step::Deliver { mail })
+}
+
+fn tick(alloc: Global, world: &mut World, by: u64) -> Result<(), StepError> {
+    world.step(alloc, &Step::Tick { by })
+}
+
+fn revoke(alloc: Global, world: &mut World) -> Result<(), StepError> {
+    if world.scenario().creds.is_empty() {
+        return Err(StepError::NoMemory);
+    }
+    world.step(alloc, &Step::Revoke { cred: CredId(0) })
+}
+
+/// The moment at which the clock is left where a tick is refused as too late.
+fn late(alloc: Global, world: &mut World, by: u64) -> Option<u64> {
+    match tick(alloc, world, by) {
+        Err(StepError::TooLate { clock }) => Some(clock),
+        _ => None,
+    }
+}
+
+/// The place of a fact that is a tick, and how far the clock moved.
+fn ticked(world: &World, number: usize) -> Option<(u64, u64)> {
+    match world.facts().get(number) {
+        Some(
+            Fact {
+                place,
+                what: What::Ticked(by),
+            },
+        ) => Some((*place, *by)),
+        _ => None,
+    }
+}
+
+/// The place of a fact that is a revocation, and the number of the credential.
+fn revoked(world: &World, number: usize) -> Option<(u64, u32)> {
+    match world.facts().get(number) {
+        Some(
+            Fact {
+                place,
+                what: What::Revoked(cred),
+            },
+        ) => Some((*place, cred.0)),
+        _ => None,
+    }
 }
 
 fn settle(alloc: Global, world: &mut World, budget: u64) -> Drained {
@@ -94,6 +146,30 @@ fn refuses_what_no_step_may_do(rt: HostRuntime) -> Result<(), Fail> {
     assert!(rt; matches!(again, Some(StepError::AlreadySubmitted { txn: TxnId(0) })));
     let beyond = beyond(alloc, FIRST.as_bytes())?;
     assert!(rt; matches!(beyond, Some(StepError::NoSuchMail { mail: 1, mails: 1 })));
+    Ok(())
+}
+
+#[test]
+fn lets_time_pass_up_to_the_last_moment(rt: HostRuntime) -> Result<(), Fail> {
+    let mut world = start(rt.alloc(), FIRST.as_bytes())?;
+    assert!(rt; tick(rt.alloc(), &mut world, 5).is_ok());
+    assert!(rt; tick(rt.alloc(), &mut world, LAST - 5).is_ok());
+    assert_eq!(rt; late(rt.alloc(), &mut world, 1), Some(LAST));
+    assert_eq!(rt; ticked(&world, 0), Some((0, 5)));
+    assert_eq!(rt; ticked(&world, 1), Some((1, LAST - 5)));
+    assert_eq!(rt; world.facts().len(), 2);
+    Ok(())
+}
+
+#[test]
+fn notes_revocations(rt: HostRuntime) -> Result<(), Fail> {
+    let mut world = start(rt.alloc(), WITH_CREDENTIAL.as_bytes())?;
+    assert!(rt; revoke(rt.alloc(), &mut world).is_ok());
+    assert_eq!(rt; revoked(&world, 0), Some((0, 0)));
+    assert_eq!(rt; world.facts().len(), 1);
+    assert_eq!(rt; world.undelivered_count(), 0);
+    assert!(rt; submit(rt.alloc(), &mut world).is_ok());
+    assert_eq!(rt; world.undelivered_count(), 1);
     Ok(())
 }
 

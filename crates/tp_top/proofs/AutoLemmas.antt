@@ -14,7 +14,7 @@ use Rattle.tp_top.specs.Auto.{Drains, IsSpent, Stops, automatic_from, next_of, s
 
 -- ---- lists
 
-take_more : {A : Type 0} (k : ℕ) (xs : List A) (y : A) (ys : List A) → drop k xs ≡ y ∷ ys → take (k + 1) xs ≡ take k xs ++ y ∷ []
+pub take_more : {A : Type 0} (k : ℕ) (xs : List A) (y : A) (ys : List A) → drop k xs ≡ y ∷ ys → take (k + 1) xs ≡ take k xs ++ y ∷ []
 take_more k xs y ys e = take-add k 1 xs ∙ ap (λ d. take k xs ++ take 1 d) e
 
 drop_more : {A : Type 0} (k : ℕ) (xs : List A) (y : A) (ys : List A) → drop k xs ≡ y ∷ ys → drop (k + 1) xs ≡ ys

@@ -1,8 +1,6 @@
 pub mod AutoLemmas
 pub mod BoundLemmas
-pub mod FirstForm
-pub mod FirstRun
-pub mod OpenPolicy
+pub mod ListedRun
 pub mod RunLemmas
 pub mod TopLemmas
 pub mod TrustedRun

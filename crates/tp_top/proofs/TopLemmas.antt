@@ -11,8 +11,10 @@ use Rattle.tp_scenario.specs.declared.from_bytes.ScenarioError.TheVariants as er
 use Rattle.tp_top.specs.declared.status.Status.{Status}
 use Rattle.tp_top.specs.declared.status.Status.TheVariants.{Done, Refused, NoMemory, Budget}
 use Rattle.tp_top.specs.Auto.{is_quiet}
-use Rattle.tp_top.specs.Refusals.{refusal_line}
-use Rattle.tp_top.specs.Run.{IsRefusedFor, IsRefusedWith, Reads, RunsOut, RunsTo, TakesAll, TakesRefused, final}
+use Rattle.tp_top.specs.Refusals.{refusal_line, step_line}
+use Rattle.tp_top.specs.Run.{IsRefusedBy, IsRefusedFor, IsRefusedWith, Reads, RefusesStep, RunsOut, RunsTo, TakesAll, TakesRefused, final, first_refused}
+use Rattle.tp_top.specs.declared.listed.StepRefusal.{StepRefusal}
+use Rattle.std.proofs.lemmas.Option.{same_Some}
 use Rattle.tp_top.specs.Top.{EndsRightly}
 
 nothing_consumed : (left : Option (List ℕ)) → Consumes left left []
@@ -60,6 +62,12 @@ refused_or_read bytes why sc r s =
 long_refused : (bytes : List ℕ) → input_max < length bytes → IsRefusedWith bytes error.TooLong
 long_refused bytes long = inl (record { long = long; answer_is = refl })
 
+same_refused : (bytes : List ℕ) (one other : Scenario) (refused also : Option StepRefusal) → Reads bytes one → Reads bytes other → first_refused one ≡ refused → first_refused other ≡ also → refused ≡ also
+same_refused bytes one other refused also r s e f = sym e ∙ (ap first_refused (same_scenario bytes one other r s) ∙ f)
+
+refused_or_lawful : (bytes : List ℕ) (one other : Scenario) (refused : StepRefusal) → Reads bytes one → Reads bytes other → first_refused one ≡ Some refused → first_refused other ≡ None → ⊥
+refused_or_lawful bytes one other refused r s e f = let same : Some refused ≡ None = same_refused bytes one other (Some refused) None r s e f in cc
+
 quiet_or_restless : (bytes : List ℕ) (one other : Scenario) → Reads bytes one → Reads bytes other
     → is_quiet one (final one) ≡ true → is_quiet other (final other) ≡ false → ⊥
 quiet_or_restless bytes one other r s quiet restless =
@@ -75,8 +83,9 @@ memory_rightly input notes notes' =
     record {
       too_long = λ _. inr refl;
       refused = λ _ _. inr refl;
-      at_rest = λ _ _ _. inr refl;
-      restless = λ _ _ _. inr refl;
+      stopped = λ _ _ _ _. inr refl;
+      at_rest = λ _ _ _ _. inr refl;
+      restless = λ _ _ _ _. inr refl;
     }
 
 -- a report comes of a scenario whose run comes to rest
@@ -87,8 +96,9 @@ report_rightly input left' text notes notes' r =
     record {
       too_long = λ long. absurd (refused_or_read input error.TooLong r.scenario (long_refused input long) reads);
       refused = λ why s. absurd (refused_or_read input why r.scenario s reads);
-      at_rest = λ _ _ _. inl refl;
-      restless = λ sc other restless. absurd (quiet_or_restless input r.scenario sc reads other r.quiet restless);
+      stopped = λ sc refused other e. absurd (refused_or_lawful input sc r.scenario refused other reads e r.lawful);
+      at_rest = λ _ _ _ _. inl refl;
+      restless = λ sc other _ restless. absurd (quiet_or_restless input r.scenario sc reads other r.quiet restless);
     }
 
 -- the bound is met by a scenario whose run does not come to rest
@@ -98,8 +108,9 @@ budget_rightly input left' notes notes' r =
     record {
       too_long = λ long. absurd (refused_or_read input error.TooLong r.scenario (long_refused input long) reads);
       refused = λ why s. absurd (refused_or_read input why r.scenario s reads);
-      at_rest = λ sc other quiet. absurd (quiet_or_restless input sc r.scenario other reads quiet r.restless);
-      restless = λ _ _ _. inl refl;
+      stopped = λ sc refused other e. absurd (refused_or_lawful input sc r.scenario refused other reads e r.lawful);
+      at_rest = λ sc other _ quiet. absurd (quiet_or_restless input sc r.scenario other reads quiet r.restless);
+      restless = λ _ _ _ _. inl refl;
     }
 
 -- a refusal has its line
@@ -111,8 +122,9 @@ refused_rightly input notes notes' why r written =
     record {
       too_long = λ long. inl (refl, line error.TooLong (long_refused input long));
       refused = λ other s. inl (refl, line other s);
-      at_rest = λ sc s _. absurd (refused_or_read input why sc r s);
-      restless = λ sc s _. absurd (refused_or_read input why sc r s);
+      stopped = λ sc _ s _. absurd (refused_or_read input why sc r s);
+      at_rest = λ sc s _ _. absurd (refused_or_read input why sc r s);
+      restless = λ sc s _ _. absurd (refused_or_read input why sc r s);
     }
 
 taken_rightly : (input : List ℕ) (left' notes notes' : Option (List ℕ)) (why : ScenarioError) → TakesRefused (Some input) left' why
@@ -133,6 +145,33 @@ refusal_rightly input left' notes notes' (error.Policy path fault) t written = t
 refusal_rightly input left' notes notes' (error.NotYet path) t written = taken_rightly input left' notes notes' (error.NotYet path) t written
 refusal_rightly input left' notes notes' error.NoMemory t written = absurd t
 
+-- the line of a listed step that is refused
+step_rightly : (input : List ℕ) (left' notes notes' : Option (List ℕ)) (line : List ℕ) → RefusesStep (Some input) left' line
+    → Appends notes notes' line → EndsRightly input Refused notes notes'
+step_rightly input left' notes notes' line r written =
+    let reads : Reads input r.scenario = subst (λ (bs : List ℕ). Reads bs r.scenario) (whole_input input left' r.bytes r.taken) r.reads in
+    record {
+      too_long = λ long. absurd (refused_or_read input error.TooLong r.scenario (long_refused input long) reads);
+      refused = λ why s. absurd (refused_or_read input why r.scenario s reads);
+      stopped = λ sc refused other e. inl (refl, subst (Appends notes notes') (r.line_is ∙ same_step sc refused other e) written);
+      at_rest = λ sc other lawful _. absurd (refused_or_lawful input r.scenario sc r.refused reads other r.first lawful);
+      restless = λ sc other lawful _. absurd (refused_or_lawful input r.scenario sc r.refused reads other r.first lawful);
+    }
+  where
+    own : Reads input r.scenario
+    own = subst (λ (bs : List ℕ). Reads bs r.scenario) (whole_input input left' r.bytes r.taken) r.reads
+
+    same_step : (sc : Scenario) (refused : StepRefusal) → Reads input sc → first_refused sc ≡ Some refused → step_line r.scenario r.refused.at r.refused.why ≡ step_line sc refused.at refused.why
+    same_step sc refused other e =
+        let same : r.refused ≡ refused = same_Some r.refused refused (same_refused input r.scenario sc (Some r.refused) (Some refused) own other r.first e) in
+        ap (λ (x : Scenario). step_line x r.refused.at r.refused.why) (same_scenario input r.scenario sc own other)
+        ∙ ap (λ (x : StepRefusal). step_line sc x.at x.why) same
+
+-- the line of a refusal
+line_rightly : (input : List ℕ) (left' notes notes' : Option (List ℕ)) (line : List ℕ) → IsRefusedBy (Some input) left' line → Appends notes notes' line → EndsRightly input Refused notes notes'
+line_rightly input left' notes notes' line (inl r) written = refusal_rightly input left' notes notes' r.why r.cause (subst (Appends notes notes') r.line_is written)
+line_rightly input left' notes notes' line (inr r) written = step_rightly input left' notes notes' line r written
+
 -- ---- the same, of an input that may be told
 
 abbrev pub Complete : Option (List ℕ) → Status → Option (List ℕ) → Option (List ℕ) → Type 0
@@ -150,7 +189,6 @@ pub budget_complete : (left left' notes notes' : Option (List ℕ)) → RunsOut 
 budget_complete None left' notes notes' r = tt
 budget_complete (Some input) left' notes notes' r = budget_rightly input left' notes notes' r
 
-pub refusal_complete : (left left' notes notes' : Option (List ℕ)) (why : ScenarioError) → IsRefusedFor left left' why
-    → Appends notes notes' (refusal_line why) → Complete left Refused notes notes'
-refusal_complete None left' notes notes' why t written = tt
-refusal_complete (Some input) left' notes notes' why t written = refusal_rightly input left' notes notes' why t written
+pub refusal_complete : (left left' notes notes' : Option (List ℕ)) (line : List ℕ) → IsRefusedBy left left' line → Appends notes notes' line → Complete left Refused notes notes'
+refusal_complete None left' notes notes' line r written = tt
+refusal_complete (Some input) left' notes notes' line r written = line_rightly input left' notes notes' line r written

@@ -2,14 +2,13 @@
 use Rattle.std.proofs.Common.{◌≡◌, ℕ, zero, suc, ◌+◌, ◌-◌, ◌<◌, ◌≤◌, ◌==◌, List, [], ◌∷◌, ◌++◌, length, find, cond, nat_lt, slice_get, Bool, true, false, not, Option, Some, None, option_map, if◌then◌else◌, refl, sym, ap, subst, ◌∙◌, arith}
 use Rattle.std.specs.List.{range_with_len}
 use Rattle.std.proofs.lemmas.Bool.Decides.{nat_tests}
-use Rattle.std.proofs.lemmas.List.{append-nil, length-append}
+use Rattle.std.proofs.lemmas.List.{append_assoc, append-nil, length-append}
 use Rattle.std.proofs.lemmas.Option.{same_Some}
 use Rattle.tp_model.specs.Words.{Scenario, Step, TxnId}
 use Rattle.tp_model.specs.Words.step
 use Rattle.tp_model.specs.Words.what
 use Rattle.tp_model.specs.Built.{is_built}
-use Rattle.tp_model.specs.TrustedHistory.{TrustedHistory, TrustedSoFar, have_ended}
-use Rattle.tp_model.proofs.BuiltLemmas.{steps_built}
+use Rattle.tp_model.specs.TrustedHistory.{TrustedHistory, TrustedSoFar}
 use Rattle.tp_machine.specs.declared.error.StepError.{StepError}
 use Rattle.tp_machine.specs.declared.error.StepError.TheVariants as error
 use Rattle.tp_machine.specs.Laws.{HasAllCommits, IsTrustedState}
@@ -19,9 +18,10 @@ use Rattle.tp_machine.specs.Sound.{Each, IsStepOf, IsTxn}
 use Rattle.tp_machine.proofs.basics.Machine.{steps_next}
 use Rattle.tp_machine.proofs.basics.Lists.{each_append, each_as, each_filter, each_map}
 use Rattle.tp_top.specs.Auto.{automatic_from, lowest_unsubmitted, next_by, next_of, txns_of}
-use Rattle.tp_top.specs.Run.{all_steps, automatic, automatic_bound, final, listed}
+use Rattle.tp_top.specs.Listed.{refused_from}
+use Rattle.tp_top.specs.Run.{all_steps, automatic, automatic_bound, final, first_refused, listed}
 use Rattle.tp_top.proofs.AutoLemmas.{after_allowed, automatic-none, automatic-some}
-use Rattle.tp_top.proofs.FirstRun.{first_run_ends}
+use Rattle.tp_top.proofs.ListedRun.{listed_exist, listed_kinds, none_refused}
 
 -- ---- the undelivered mails were sent
 
@@ -108,7 +108,7 @@ next_done sc m (Some mail) taken h e f =
     subst (IsDone sc m) (same_Some (step.Deliver mail) taken f)
     (record { exists = tt; kind = tt; allowed = mail_allowed (length m.state.mails) mail (nat_lt mail (length m.state.mails)) (error.NoSuchMail mail (length m.state.mails)) low refl })
 
--- ---- all automatic steps are done
+-- ---- steps that are done
 
 -- they name what exists, and are the steps that the machine then has
 record AreDone (sc : Scenario) (m : Machine) (steps : List Step) : Type 0 where
@@ -119,22 +119,22 @@ append_one : {A : Type 0} (xs : List A) (x : A) (ys : List A) → (xs ++ x ∷ [
 append_one [] x ys = refl
 append_one (first ∷ xs) x ys = ap (λ zs. first ∷ zs) (append_one xs x ys)
 
-one_more : (sc : Scenario) (left : ℕ) (m : Machine) (taken : Step) → next_of sc m 0 ≡ Some taken → IsDone sc m taken → AreDone sc (machine_after sc m taken) (automatic_from sc left 0 (machine_after sc m taken))
-    → AreDone sc m (automatic_from sc (suc left) 0 m)
-one_more sc left m taken e d rest =
-    let others = automatic_from sc left 0 (machine_after sc m taken) in
-    subst (AreDone sc m) (sym (automatic-some sc left m taken e d.allowed))
-    (record {
+-- one step and the rest
+done_first : (sc : Scenario) (m : Machine) (taken : Step) (others : List Step) → IsDone sc m taken → AreDone sc (machine_after sc m taken) others → AreDone sc m (taken ∷ others)
+done_first sc m taken others d rest =
+    record {
       exist = (d.exists, rest.exist);
       steps_are = ap (λ (k : Machine). (after_steps sc k others).state.steps) (after_allowed sc m taken d.allowed)
           ∙ (rest.steps_are ∙ (ap (λ (steps : List Step). steps ++ others) (steps_next sc m taken d.kind) ∙ append_one m.state.steps taken others));
-    })
+    }
 
 by_next : (sc : Scenario) (left : ℕ) (m : Machine) (next : Option Step) → next_of sc m 0 ≡ next → AreSent m → ((k : Machine) → AreSent k → AreDone sc k (automatic_from sc left 0 k))
     → AreDone sc m (automatic_from sc (suc left) 0 m)
 by_next sc left m None e h rest = subst (AreDone sc m) (sym (automatic-none sc (suc left) m e)) (record { exist = tt; steps_are = sym (append-nil m.state.steps) })
 by_next sc left m (Some taken) e h rest =
-    one_more sc left m taken e (next_done sc m (slice_get m.undelivered 0) taken h refl e) (rest (machine_after sc m taken) (sent_next sc m taken h))
+    subst (AreDone sc m) (sym (automatic-some sc left m taken e (next_done sc m (slice_get m.undelivered 0) taken h refl e).allowed))
+    (done_first sc m taken (automatic_from sc left 0 (machine_after sc m taken)) (next_done sc m (slice_get m.undelivered 0) taken h refl e)
+    (rest (machine_after sc m taken) (sent_next sc m taken h)))
 
 automatic_done : (sc : Scenario) (count : ℕ) (m : Machine) → AreSent m → AreDone sc m (automatic_from sc count 0 m)
 automatic_done sc zero m h = record { exist = tt; steps_are = sym (append-nil m.state.steps) }
@@ -150,29 +150,48 @@ append_steps sc m (taken ∷ first) more = append_steps sc (after_step sc m take
 pub final_after : (sc : Scenario) → final sc ≡ after sc (all_steps sc)
 final_after sc = append_steps sc (opening sc) sc.steps (automatic sc)
 
-pub listed_built : (sc : Scenario) → is_built sc ≡ true → listed sc ≡ opening sc
-listed_built sc built = ap (after sc) (steps_built sc built)
+-- steps that are done one after another are done together
+done_after : (sc : Scenario) (m : Machine) (first more : List Step) → AreDone sc m first → AreDone sc (after_steps sc m first) more → AreDone sc m (first ++ more)
+done_after sc m first more f g =
+    record {
+      exist = each_append (IsStepOf sc) first more f.exist g.exist;
+      steps_are = ap (λ (k : Machine). k.state.steps) (sym (append_steps sc m first more))
+          ∙ (g.steps_are ∙ (ap (λ (steps : List Step). steps ++ more) f.steps_are ∙ append_assoc m.state.steps first more));
+    }
+
+-- listed steps of which none is refused are done
+listed_done : (sc : Scenario) (m : Machine) (at : ℕ) (steps : List Step) → Each (IsStepOf sc) steps → Each IsBuiltStep steps → refused_from sc m at steps ≡ None → AreDone sc m steps
+listed_done sc m at [] exist kinds none = record { exist = tt; steps_are = sym (append-nil m.state.steps) }
+listed_done sc m at (taken ∷ steps) exist kinds none =
+    let n = none_refused sc m at taken steps none in
+    done_first sc m taken steps (record { exists = exist.0; kind = kinds.0; allowed = n.allowed })
+    (listed_done sc (machine_after sc m taken) (at + 1) steps exist.1 kinds.1 n.rest)
+
+-- and the undelivered mails after them were sent
+listed_sent : (sc : Scenario) (m : Machine) (at : ℕ) (steps : List Step) → refused_from sc m at steps ≡ None → AreSent m → AreSent (after_steps sc m steps)
+listed_sent sc m at [] none h = h
+listed_sent sc m at (taken ∷ steps) none h =
+    let n = none_refused sc m at taken steps none in
+    subst (λ (k : Machine). AreSent (after_steps sc k steps)) (sym (after_allowed sc m taken n.allowed))
+    (listed_sent sc (machine_after sc m taken) (at + 1) steps n.rest (sent_next sc m taken h))
 
 -- all steps name what exists, and are the steps of the last machine
-all_done : (sc : Scenario) → is_built sc ≡ true → AreDone sc (opening sc) (all_steps sc)
-all_done sc built =
-    let own : AreDone sc (opening sc) (automatic_from sc (automatic_bound sc) 0 (opening sc)) = automatic_done sc (automatic_bound sc) (opening sc) tt in
-    let same : all_steps sc ≡ automatic_from sc (automatic_bound sc) 0 (opening sc) =
-    ap (λ (steps : List Step). steps ++ automatic sc) (steps_built sc built) ∙ ap (λ (m : Machine). automatic_from sc (automatic_bound sc) 0 m) (listed_built sc built) in
-    subst (AreDone sc (opening sc)) (sym same) own
+all_done : (sc : Scenario) → is_built sc ≡ true → first_refused sc ≡ None → AreDone sc (opening sc) (all_steps sc)
+all_done sc built lawful =
+    done_after sc (opening sc) sc.steps (automatic sc)
+    (listed_done sc (opening sc) 0 sc.steps (listed_exist sc built) (listed_kinds sc built) lawful)
+    (automatic_done sc (automatic_bound sc) (listed sc) (listed_sent sc (opening sc) 0 sc.steps lawful tt))
 
-steps_of : (sc : Scenario) → is_built sc ≡ true → (final sc).state.steps ≡ all_steps sc
-steps_of sc built = ap (λ (m : Machine). m.state.steps) (final_after sc) ∙ (all_done sc built).steps_are
+steps_of : (sc : Scenario) → is_built sc ≡ true → first_refused sc ≡ None → (final sc).state.steps ≡ all_steps sc
+steps_of sc built lawful = ap (λ (m : Machine). m.state.steps) (final_after sc) ∙ (all_done sc built lawful).steps_are
 
 -- the run of a built scenario leaves a trusted history, where its last state is trusted
-pub trusted_run : (sc : Scenario) → is_built sc ≡ true → IsTrustedState sc (final sc).state → HasAllCommits sc (final sc).state
+pub trusted_run : (sc : Scenario) → is_built sc ≡ true → first_refused sc ≡ None → IsTrustedState sc (final sc).state → HasAllCommits sc (final sc).state
     → TrustedHistory sc (all_steps sc) (final sc).state.facts (ending_of sc (final sc).state)
-trusted_run sc built so_far whole =
+trusted_run sc built lawful so_far whole =
     let w = (final sc).state in
-    let ended : have_ended sc w.facts 0 sc.txns ≡ true = first_run_ends sc built in
     record {
-      so_far = subst (λ (steps : List Step). TrustedSoFar sc steps w.facts (ending_of sc w).values) (steps_of sc built) so_far;
-      ended = ended;
-      values_are = whole ended;
-      steps_are = ap length (steps_of sc built);
+      so_far = subst (λ (steps : List Step). TrustedSoFar sc steps w.facts (ending_of sc w).values) (steps_of sc built lawful) so_far;
+      whole = whole;
+      steps_are = ap length (steps_of sc built lawful);
     }

@@ -1,9 +1,13 @@
 -- The lines of refusals.
 use Rattle.std.specs.Prelude.{ℕ, List, [], ◌++◌, codes, decimal}
+use Rattle.tp_model.specs.Words.{Scenario}
+use Rattle.tp_machine.specs.declared.error.StepError.{StepError}
+use Rattle.tp_machine.specs.declared.error.StepError.TheVariants as step
 use Rattle.tp_policy_text.specs.declared.parsing.ParseError.{ParseError}
 use Rattle.tp_policy_text.specs.declared.parsing.ParseError.TheVariants as fault
 use Rattle.tp_scenario.specs.declared.from_bytes.ScenarioError.{ScenarioError}
 use Rattle.tp_scenario.specs.declared.from_bytes.ScenarioError.TheVariants.{TooLong, BadJson, Shape, Range, Unknown, Policy, NotYet, NoMemory}
+use Rattle.tp_top.specs.ReportText.{txn_name}
 
 -- what is wrong with a policy's text, and at which byte of it
 abbrev pub fault_text : ParseError → List ℕ
@@ -23,6 +27,19 @@ refusal_line (Policy path fault) =
     codes "refused policy " ++ path.0 ++ fault_text fault ++ codes "\n"
 refusal_line (NotYet path) = codes "refused notyet " ++ path.0 ++ codes "\n"
 refusal_line NoMemory = []
+
+-- why a listed step was refused; want of memory is no refusal
+abbrev pub step_fault_text : Scenario → StepError → List ℕ
+step_fault_text sc (step.NoSuchMail mail mails) =
+    codes " nomail " ++ decimal mail ++ codes " " ++ decimal mails
+step_fault_text sc (step.AlreadySubmitted txn) = codes " submitted " ++ txn_name sc txn
+step_fault_text sc (step.TooLate clock) = codes " toolate " ++ decimal clock
+step_fault_text sc step.NoMemory = []
+
+-- the line that says which listed step was refused, by its number, and why
+abbrev pub step_line : Scenario → ℕ → StepError → List ℕ
+step_line sc at why =
+    codes "refused step " ++ decimal at ++ step_fault_text sc why ++ codes "\n"
 
 -- the line that says how the program is called
 abbrev pub usage_line : List ℕ

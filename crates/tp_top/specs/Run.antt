@@ -1,27 +1,37 @@
 -- What a run is: from bytes to the world after all steps, and its report.
-use Rattle.std.specs.Prelude.{◌≡◌, ℕ, ◌+◌, ◌≤◌, List, [], ◌∷◌, ◌++◌, length, true, false, Option, Some, None, Ok, Err, codes}
+use Rattle.std.specs.Prelude.{◌≡◌, ◌⊎◌, ℕ, ◌+◌, ◌≤◌, List, [], ◌∷◌, ◌++◌, length, true, false, Option, Some, None, Ok, Err, codes}
 use Rattle.std.specs.Io.KnownBytes.{Consumes, IsAtEnd}
 use Rattle.tp_model.specs.Words.{Scenario, Step, Text}
 use Rattle.tp_types.specs.Faults.{Rose}
 use Rattle.tp_io.specs.Whole.{TakesAtMost, TakesExactly, input_max}
 use Rattle.tp_model.specs.TrustedHistory.{TrustedHistory}
-use Rattle.tp_machine.specs.Laws.{HasAllCommits, IsTrustedState}
-use Rattle.tp_machine.specs.Machine.{Machine, after, after_steps, ending_of}
+use Rattle.tp_machine.specs.Machine.{Machine, after, after_steps, ending_of, opening}
 use Rattle.tp_top.specs.declared.answer.Answer.{Answer}
 use Rattle.tp_top.specs.declared.answer.Answer.TheVariants as answer
 use Rattle.tp_scenario.specs.declared.from_bytes.ScenarioError.{ScenarioError}
 use Rattle.tp_scenario.specs.declared.from_bytes.ScenarioError.TheVariants.{TooLong, BadJson, Shape, Range, Unknown, Policy, NotYet, NoMemory}
 use Rattle.tp_scenario.specs.Reads.{Says}
 use Rattle.tp_top.specs.Auto.{automatic_steps, bound, is_quiet}
+use Rattle.tp_top.specs.declared.listed.StepRefusal.{StepRefusal}
+use Rattle.tp_top.specs.Listed.{refused_from}
+use Rattle.tp_top.specs.Refusals.{refusal_line, step_line}
 use Rattle.tp_top.specs.ReportText.{report_text}
 
 -- the words are the one word run
 abbrev pub IsRun : List Text → Type 0
 IsRun words = words ≡ record { 0 = codes "run" } ∷ []
 
--- the world after the listed steps
+-- ---- the listed steps
+
+-- the first listed step that the machine refuses
+abbrev pub first_refused : Scenario → Option StepRefusal
+first_refused sc = refused_from sc (opening sc) 0 sc.steps
+
+-- the world after the listed steps, where none is refused
 abbrev pub listed : Scenario → Machine
 listed sc = after sc sc.steps
+
+-- ---- the automatic steps
 
 -- the bound on the automatic steps after them
 abbrev pub automatic_bound : Scenario → ℕ
@@ -43,6 +53,8 @@ final sc = after_steps sc (listed sc) (automatic sc)
 abbrev pub report_of : Scenario → List ℕ
 report_of sc = report_text sc (final sc).state.facts (ending_of sc (final sc).state)
 
+-- ---- what is read
+
 -- the bytes are read as this scenario
 abbrev pub Reads : List ℕ → Scenario → Type 0
 Reads bytes scenario = Says bytes (Ok scenario)
@@ -56,24 +68,29 @@ pub record TakesAll (old new : Option (List ℕ)) (bytes : List ℕ) : Type 0 wh
   pub consumed : Consumes old new bytes
   pub at_end : IsAtEnd new
 
--- the input was read whole as a scenario, whose run comes to rest with a trusted history, and the text is its report
+-- ---- what comes of an input
+
+-- the input was read whole as a scenario whose listed steps are all done and whose run comes to rest with a trusted history, and the text
+-- is its report
 pub record RunsTo (old new : Option (List ℕ)) (text : List ℕ) : Type 0 where
   pub bytes : List ℕ
   pub scenario : Scenario
   pub taken : TakesAll old new bytes
   pub reads : Reads bytes scenario
+  pub lawful : first_refused scenario ≡ None
   pub quiet : is_quiet scenario (final scenario) ≡ true
   pub within : length (automatic scenario) ≤ automatic_bound scenario
   pub trusted : TrustedHistory scenario (all_steps scenario) (final scenario).state.facts
       (ending_of scenario (final scenario).state)
   pub text_is : text ≡ report_of scenario
 
--- the input was read whole as a scenario, and as many automatic steps as the bound were done without an end
+-- the input was read whole as a scenario whose listed steps are all done, and as many automatic steps as the bound were done without an end
 pub record RunsOut (old new : Option (List ℕ)) : Type 0 where
   pub bytes : List ℕ
   pub scenario : Scenario
   pub taken : TakesAll old new bytes
   pub reads : Reads bytes scenario
+  pub lawful : first_refused scenario ≡ None
   pub restless : is_quiet scenario (final scenario) ≡ false
   pub used_up : length (automatic scenario) ≡ automatic_bound scenario
 
@@ -83,7 +100,7 @@ pub record TakesRefused (old new : Option (List ℕ)) (why : ScenarioError) : Ty
   pub taken : TakesAll old new bytes
   pub refused : IsRefusedWith bytes why
 
--- why the scenario was refused
+-- why the input was refused
 abbrev pub IsRefusedFor : Option (List ℕ) → Option (List ℕ) → ScenarioError → Type 0
 IsRefusedFor old new TooLong = TakesExactly (input_max + 1) old new
 IsRefusedFor old new BadJson = TakesRefused old new BadJson
@@ -94,30 +111,31 @@ IsRefusedFor old new (Policy path fault) = TakesRefused old new (Policy path fau
 IsRefusedFor old new (NotYet path) = TakesRefused old new (NotYet path)
 IsRefusedFor old new NoMemory = ⊥
 
+-- the input is no scenario that can be run, and the line says why
+pub record RefusesInput (old new : Option (List ℕ)) (line : List ℕ) : Type 0 where
+  pub why : ScenarioError
+  pub cause : IsRefusedFor old new why
+  pub line_is : line ≡ refusal_line why
+
+-- the input was read whole as a scenario of which a listed step is refused, and the line says which is the first, and why
+pub record RefusesStep (old new : Option (List ℕ)) (line : List ℕ) : Type 0 where
+  pub bytes : List ℕ
+  pub scenario : Scenario
+  pub taken : TakesAll old new bytes
+  pub reads : Reads bytes scenario
+  pub refused : StepRefusal
+  pub first : first_refused scenario ≡ Some refused
+  pub line_is : line ≡ step_line scenario refused.at refused.why
+
+-- the input is refused with this line
+abbrev pub IsRefusedBy : Option (List ℕ) → Option (List ℕ) → List ℕ → Type 0
+IsRefusedBy old new line = RefusesInput old new line ⊎ RefusesStep old new line
+
 -- the answer to the word run, with its cause; want of memory has none
 abbrev pub Answers : Option (List ℕ) → Option (List ℕ) → ℕ → ℕ → Answer → Type 0
 Answers old new faults faults' (answer.Report text) = RunsTo old new text.0
-Answers old new faults faults' (answer.Refused why) = IsRefusedFor old new why
+Answers old new faults faults' (answer.Refused line) = IsRefusedBy old new line.0
 Answers old new faults faults' answer.ReadFault =
     Rose faults faults' × TakesAtMost (input_max + 1) old new
 Answers old new faults faults' answer.Budget = RunsOut old new
 Answers old new faults faults' answer.NoMemory = Unit {0}
-
--- what comes of a scenario's run: its report, with what holds of its history, or no end within the bound
-pub record IsRunTo (sc : Scenario) (text : List ℕ) : Type 0 where
-  pub quiet : is_quiet sc (final sc) ≡ true
-  pub so_far : IsTrustedState sc (final sc).state
-  pub whole : HasAllCommits sc (final sc).state
-  pub text_is : text ≡ report_of sc
-
-abbrev pub IsRunOf : Scenario → Option Text → Type 0
-IsRunOf sc (Some text) = IsRunTo sc text.0
-IsRunOf sc None = (is_quiet sc (final sc) ≡ false) × (length (automatic sc) ≡ automatic_bound sc)
-
--- the same, as an answer
-abbrev pub IsReported : Scenario → Answer → Type 0
-IsReported sc (answer.Report text) = IsRunOf sc (Some text)
-IsReported sc answer.Budget = IsRunOf sc None
-IsReported sc answer.NoMemory = Unit {0}
-IsReported sc (answer.Refused why) = ⊥
-IsReported sc answer.ReadFault = ⊥

@@ -1,5 +1,5 @@
 -- What the top call promises at each status: what was read, what was written, and why.
-use Rattle.std.specs.Prelude.{◌≡◌, ◌⊎◌, ◌<◌, ℕ, ◌+◌, List, [], length, true, false, Option}
+use Rattle.std.specs.Prelude.{◌≡◌, ◌⊎◌, ◌<◌, ℕ, ◌+◌, List, [], length, true, false, Option, Some, None}
 use Rattle.std.specs.Io.KnownBytes.{Appends}
 use Rattle.tp_model.specs.Words.{Scenario, Text}
 use Rattle.tp_types.specs.Faults.{Rose}
@@ -8,9 +8,10 @@ use Rattle.tp_scenario.specs.declared.from_bytes.ScenarioError.{ScenarioError}
 use Rattle.tp_scenario.specs.declared.from_bytes.ScenarioError.TheVariants as error
 use Rattle.tp_top.specs.declared.status.Status.{Status}
 use Rattle.tp_top.specs.declared.status.Status.TheVariants.{Done, Refused, Usage, ReadFault, WriteFault, NoMemory, Budget}
+use Rattle.tp_top.specs.declared.listed.StepRefusal.{StepRefusal}
 use Rattle.tp_top.specs.Auto.{is_quiet}
-use Rattle.tp_top.specs.Refusals.{refusal_line, usage_line}
-use Rattle.tp_top.specs.Run.{IsRun, IsRefusedFor, IsRefusedWith, Reads, RunsOut, RunsTo, final}
+use Rattle.tp_top.specs.Refusals.{refusal_line, step_line, usage_line}
+use Rattle.tp_top.specs.Run.{IsRun, IsRefusedBy, IsRefusedWith, Reads, RunsOut, RunsTo, final, first_refused}
 
 -- what a call saw of a stream: what it tells before the call and after it, and its counts of faults
 pub record Stream : Type 0 where
@@ -40,11 +41,11 @@ pub record WritesReport (input out : Stream) : Type 0 where
   pub runs : RunsTo input.old input.new text
   pub written : Appends out.old out.new text
 
--- the input was refused, and exactly the line that says why was written
+-- the input, or a listed step of it, was refused, and exactly the line that says why was written
 pub record WritesRefusal (input notes : Stream) : Type 0 where
-  pub why : ScenarioError
-  pub cause : IsRefusedFor input.old input.new why
-  pub written : Appends notes.old notes.new (refusal_line why)
+  pub line : List ℕ
+  pub cause : IsRefusedBy input.old input.new line
+  pub written : Appends notes.old notes.new line
 
 -- the report was to be written, and the sink failed after a part of it
 pub record FailsInReport (input out : Stream) : Type 0 where
@@ -55,9 +56,9 @@ pub record FailsInReport (input out : Stream) : Type 0 where
 
 -- the line of a refusal was to be written, and the sink failed after a part of it
 pub record FailsInRefusal (input notes : Stream) : Type 0 where
-  pub why : ScenarioError
-  pub cause : IsRefusedFor input.old input.new why
-  pub front : AppendsFront notes.old notes.new (refusal_line why)
+  pub line : List ℕ
+  pub cause : IsRefusedBy input.old input.new line
+  pub front : AppendsFront notes.old notes.new line
   pub rose : Failed notes
 
 -- the line on usage was to be written, and the sink failed after a part of it
@@ -136,9 +137,9 @@ EndsWith Budget call = IsBudget call
 -- ---- which status comes, where the input is told and no count rose
 
 -- the refusal with this line, or want of memory
-abbrev pub Says : Status → Option (List ℕ) → Option (List ℕ) → ScenarioError → Type 0
-Says status notes notes' why =
-    ((status ≡ Refused) × Appends notes notes' (refusal_line why)) ⊎ (status ≡ NoMemory)
+abbrev pub Says : Status → Option (List ℕ) → Option (List ℕ) → List ℕ → Type 0
+Says status notes notes' line =
+    ((status ≡ Refused) × Appends notes notes' line) ⊎ (status ≡ NoMemory)
 
 -- this status, or want of memory
 abbrev pub Ends : Status → Status → Type 0
@@ -147,8 +148,13 @@ Ends status wanted = (status ≡ wanted) ⊎ (status ≡ NoMemory)
 -- each cause in the input has its status, and its line where it is a refusal
 pub record EndsRightly (input : List ℕ) (status : Status) (notes notes' : Option (List ℕ))
     : Type 0 where
-  pub too_long : input_max < length input → Says status notes notes' error.TooLong
-  pub refused : (why : ScenarioError) → IsRefusedWith input why → Says status notes notes' why
-  pub at_rest : (sc : Scenario) → Reads input sc → is_quiet sc (final sc) ≡ true → Ends status Done
-  pub restless : (sc : Scenario) → Reads input sc → is_quiet sc (final sc) ≡ false
-      → Ends status Budget
+  pub too_long : input_max < length input → Says status notes notes' (refusal_line error.TooLong)
+  pub refused : (why : ScenarioError) → IsRefusedWith input why
+      → Says status notes notes' (refusal_line why)
+  pub stopped : (sc : Scenario) (refused : StepRefusal) → Reads input sc
+      → first_refused sc ≡ Some refused
+      → Says status notes notes' (step_line sc refused.at refused.why)
+  pub at_rest : (sc : Scenario) → Reads input sc → first_refused sc ≡ None
+      → is_quiet sc (final sc) ≡ true → Ends status Done
+  pub restless : (sc : Scenario) → Reads input sc → first_refused sc ≡ None
+      → is_quiet sc (final sc) ≡ false → Ends status Budget

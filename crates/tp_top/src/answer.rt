@@ -1,5 +1,5 @@
 //! The answer to the word `run`, made whole before anything is written.
-ghost use Rattle.std.specs.Prelude.{◌≡◌, ◌+◌, ◌++◌, true, false, IfOk, OnOk, codes, decimal};
+ghost use Rattle.std.specs.Prelude.{◌≡◌, ◌+◌, ◌<◌, ◌^◌, true, false, length, IfOk, OnOk};
 ghost use Rattle.tp_model.specs.Agreement.{is_agreed};
 ghost use Rattle.tp_model.specs.Built as built;
 ghost use Rattle.tp_model.specs.Causes.{is_caused};
@@ -9,21 +9,20 @@ ghost use Rattle.tp_model.specs.Trust.{is_trusted};
 ghost use Rattle.tp_io.specs.Whole.{TakesAtMost, input_max};
 ghost use Rattle.tp_machine.specs.Laws.{HasAllCommits, IsTrustedState};
 ghost use Rattle.tp_machine.specs.Machine.{ending_of};
-ghost use Rattle.tp_top.specs.Refusals as refusals;
 ghost use Rattle.tp_top.specs.ReportText.{report_text};
-ghost use Rattle.tp_top.specs.Run.{Answers, IsReported, IsRunOf};
+ghost use Rattle.tp_top.specs.Run.{Answers};
+ghost use Rattle.tp_top.specs.mirrors.Answers.{IsListed, IsRefusal, IsReported};
 
 use crate::auto::{Drained, bound, drain};
-use crate::report::piece::put;
+use crate::listed::follow;
+use crate::refusals::{refusal_line, step_line};
 use crate::report::print;
-use itoa::Buffer;
 use std::alloc::Global;
 use tp_io::{ReadError, Source, read_to_end};
 use tp_machine::World;
 use tp_machine::agree::agreed;
 use tp_machine::serial::serial;
 use tp_machine::views::trusted;
-use tp_policy_text::ParseError;
 use tp_scenario::{ScenarioError, read};
 use tp_types::{Fact, List, NoMemory, Scenario, Text};
 
@@ -32,8 +31,8 @@ use tp_types::{Fact, List, NoMemory, Scenario, Text};
 pub enum Answer {
     /// The report of its run.
     Report(Text),
-    /// It is not a scenario that can be run.
-    Refused(ScenarioError),
+    /// It is not a scenario that can be run, or one of its listed steps is refused: the line that says so.
+    Refused(Text),
     /// The input failed.
     ReadFault,
     /// The automatic steps came to their bound without an end.
@@ -49,14 +48,24 @@ pub fn answer_to<I: Source>(alloc: Global, input: &mut I) -> Answer
     ensures taken { TakesAtMost (input_max + 1) (I.left input.old) (I.left input.new) }
 {
     match read_to_end(alloc, input) {
-        Err(ReadError::TooLong) => Answer::Refused(ScenarioError::TooLong),
+        Err(ReadError::TooLong) => refused(alloc, &ScenarioError::TooLong),
         Err(ReadError::Fault) => Answer::ReadFault,
         Err(ReadError::NoMemory) => Answer::NoMemory,
         Ok(bytes) => match read(alloc, bytes.as_slice()) {
             Err(ScenarioError::NoMemory) => Answer::NoMemory,
-            Err(why) => Answer::Refused(why),
+            Err(why) => refused(alloc, &why),
             Ok(scenario) => reported(alloc, &scenario),
         },
+    }
+}
+
+/// The answer to an input that is refused so.
+fn refused(alloc: Global, why: &ScenarioError) -> Answer
+    ensures { IsRefusal why.now result }
+{
+    match refusal_line(alloc, why) {
+        Err(NoMemory) => Answer::NoMemory,
+        Ok(line) => Answer::Refused(line),
     }
 }
 
@@ -67,22 +76,45 @@ fn reported(alloc: Global, scenario: &Scenario) -> Answer
 {
     match run(alloc, scenario) {
         Err(NoMemory) => Answer::NoMemory,
-        Ok(None) => Answer::Budget,
-        Ok(Some(text)) => Answer::Report(text),
+        Ok(answer) => answer,
     }
 }
 
-/// The report of a run, or None where the automatic steps came to their bound. The form that is built lists no steps.
-fn run(alloc: Global, scenario: &Scenario) -> Result<Option<Text>, NoMemory>
+/// Does the listed steps and then the automatic ones, and prints the report, or the line of the first step that is refused.
+fn run(alloc: Global, scenario: &Scenario) -> Result<Answer, NoMemory>
     requires { built.is_built scenario.now ≡ true }
-    ensures { IfOk result (IsRunOf scenario.now) }
+    ensures { IfOk result (IsReported scenario.now) }
 {
     let mut world = World::start(alloc, scenario)?;
-    let budget = bound(scenario, 0);
+    match follow(&mut world, alloc, scenario.steps.as_slice())? {
+        Some(refused) => Ok(Answer::Refused(step_line(alloc, scenario, refused)?)),
+        None => finish(alloc, world),
+    }
+}
+
+/// Does the automatic steps of a world after all of its listed ones, and prints the report.
+fn finish(alloc: Global, mut world: World) -> Result<Answer, NoMemory>
+    requires here { IsListed world }
+    ensures { IfOk result (IsReported world.scenario) }
+{
+    let budget = bound(world.scenario(), pending(&world)?);
     match drain(&mut world, alloc, budget) {
         Drained::NoMemory => Err(NoMemory),
-        Drained::Budget => Ok(None),
-        Drained::Quiet => Ok(Some(text_of(alloc, &world)?)),
+        Drained::Budget => Ok(Answer::Budget),
+        Drained::Quiet => Ok(Answer::Report(text_of(alloc, &world)?)),
+    }
+}
+
+/// How many mails of a world are undelivered. A world with 2^32 of them is given up for want of memory.
+fn pending(world: &World) -> Result<u64, NoMemory>
+    ensures value { IfOk result (λ count. count ≡ length world.now.machine.undelivered) }
+    ensures few { IfOk result (λ count. count < 2 ^ 32) }
+{
+    let count = world.undelivered_count();
+    if count < 1 << 32 {
+        Ok(count)
+    } else {
+        Err(NoMemory)
     }
 }
 
@@ -113,68 +145,4 @@ fn text_of(alloc: Global, world: &World) -> Result<Text, NoMemory>
 {
     let ending = world.ending(alloc)?;
     print(alloc, world.scenario(), proved_facts(world), &ending)
-}
-
-/// The line that says why a scenario was refused.
-pub fn refusal_line(alloc: Global, why: &ScenarioError) -> Result<Text, NoMemory>
-    ensures { IfOk result (λ line. line.0 ≡ refusals.refusal_line why.now) }
-{
-    match why {
-        ScenarioError::TooLong => line_of(alloc, b"refused toolong\n"),
-        ScenarioError::BadJson => line_of(alloc, b"refused badjson\n"),
-        ScenarioError::Shape { path } => line_at(alloc, b"refused shape ", path),
-        ScenarioError::Range { path } => line_at(alloc, b"refused range ", path),
-        ScenarioError::Unknown { path } => line_at(alloc, b"refused unknown ", path),
-        ScenarioError::Policy { path, fault } => policy_line(alloc, path, *fault),
-        ScenarioError::NotYet { path } => line_at(alloc, b"refused notyet ", path),
-        ScenarioError::NoMemory => line_of(alloc, b""),
-    }
-}
-
-/// A line that ends with a path.
-fn line_at(alloc: Global, front: &[u8], path: &Text) -> Result<Text, NoMemory>
-    ensures { IfOk result (λ line. line.0 ≡ front.now ++ path.now.0 ++ codes "\n") }
-{
-    let mut line = Vec::from_slice(alloc, front)?;
-    line.extend_from_slice(path.0.as_slice())?;
-    line.extend_from_slice(b"\n")?;
-    Ok(Text(List::from_vec(line)))
-}
-
-fn put_place(line: &mut Vec<u8>, word: &[u8], place: usize) -> Result<(), NoMemory>
-    ensures { OnOk result (line.new.items ≡ line.old.items ++ (word.now ++ decimal place)) }
-{
-    line.extend_from_slice(word)?;
-    line.extend_from_slice(Buffer::new().format(place).as_bytes())?;
-    Ok(())
-}
-
-/// What is wrong with a policy's text, and at which byte of it.
-fn put_fault(line: &mut Vec<u8>, fault: ParseError) -> Result<(), NoMemory>
-    ensures { OnOk result (line.new.items ≡ line.old.items ++ refusals.fault_text fault) }
-{
-    match fault {
-        ParseError::Syntax { place } => put_place(line, b" syntax ", place),
-        ParseError::TooDeep { place } => put_place(line, b" toodeep ", place),
-        ParseError::TooLong => put(line, b" toolong 4096"),
-        ParseError::NoMemory => put(line, b""),
-    }
-}
-
-/// The line of a text that is no policy.
-fn policy_line(alloc: Global, path: &Text, fault: ParseError) -> Result<Text, NoMemory>
-    ensures { IfOk result (λ line.
-        line.0 ≡ refusals.refusal_line (ScenarioError.Policy path.now fault)) }
-{
-    let mut line = Vec::from_slice(alloc, b"refused policy ")?;
-    put(&mut line, path.0.as_slice())?;
-    put_fault(&mut line, fault)?;
-    put(&mut line, b"\n")?;
-    Ok(Text(List::from_vec(line)))
-}
-
-fn line_of(alloc: Global, bytes: &[u8]) -> Result<Text, NoMemory>
-    ensures { IfOk result (λ line. line.0 ≡ bytes.now) }
-{
-    Ok(Text(List::from_vec(Vec::from_slice(alloc, bytes)?)))
 }

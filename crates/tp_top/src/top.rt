@@ -5,10 +5,10 @@ ghost use Rattle.tp_types.specs.Faults.{Rose};
 ghost use Rattle.tp_io.specs.Whole.{TakesAtMost, input_max};
 ghost use Rattle.tp_top.specs.declared.status.Status.TheVariants as Status;
 ghost use Rattle.tp_top.specs.Refusals.{usage_line};
-ghost use Rattle.tp_top.specs.Run.{IsRun, IsRefusedFor, RunsTo};
+ghost use Rattle.tp_top.specs.Run.{IsRun, IsRefusedBy, RunsTo};
 ghost use Rattle.tp_top.specs.Top.{EndsWith, EndsRightly};
 
-use crate::answer::{Answer, answer_to, refusal_line};
+use crate::answer::{Answer, answer_to};
 use crate::status::Status;
 use std::alloc::Global;
 use tp_io::{Sink, Source, write_all};
@@ -69,12 +69,9 @@ pub fn tpvc<I: Source, O: Sink, N: Sink>(
             Ok(()) => Status::Done,
             Err(_) => Status::WriteFault,
         },
-        Answer::Refused(why) => match refusal_line(alloc, &why) {
-            Err(_) => Status::NoMemory,
-            Ok(line) => match write_all(notes, line.0.as_slice()) {
-                Ok(()) => Status::Refused,
-                Err(_) => Status::WriteFault,
-            },
+        Answer::Refused(line) => match write_all(notes, line.0.as_slice()) {
+            Ok(()) => Status::Refused,
+            Err(_) => Status::WriteFault,
         },
         Answer::ReadFault => Status::ReadFault,
         Answer::Budget => Status::Budget,

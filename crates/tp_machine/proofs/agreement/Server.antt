@@ -12,7 +12,6 @@ use Rattle.tp_model.specs.Ids.{same_txn}
 use Rattle.tp_model.specs.Words.actor
 use Rattle.tp_model.specs.Words.body
 use Rattle.tp_model.specs.Words.log
-use Rattle.tp_model.specs.Words.no
 use Rattle.tp_model.specs.Words.outcome
 use Rattle.tp_model.specs.Words.vote
 use Rattle.tp_model.specs.Words.{Body, DecideRequest, Deed, DoneReply, Letter, Mail, No, Outcome, PrepareRequest, Prepared, Query, QueryRequest, Record, Scenario, ServerId, Settled, TxnId, Verdict, Vote}
@@ -409,7 +408,7 @@ server_row_lawful V M sc s kept mail h aborts m =
       answered = λ q entry given k. answers_lawful V M s kept q given h;
       voted = λ p entry staple txn k. votes_lawful V M s kept p (verdicts_on sc s txn staple entry.deeds) entry h (open_unsettled s kept p.txn h k.unsettled) k.found;
       refused = λ p entry number value k.
-          refuses_lawful V M s kept p entry (no.Range number value) h k.unsettled k.found k.unvoted (subst (RequestRests V M) k.said_is m);
+          refuses_lawful V M s kept p entry _ h k.unsettled k.found k.unvoted (subst (RequestRests V M) k.said_is m);
       refused_again = λ p settled why k. refused_again_lawful V M s kept p settled why h aborts k.found k.why_is;
       settled = λ d k. let rests = subst (RequestRests V M) k.said_is m in settles_lawful V M s kept d h k.unsettled rests.0 rests.1;
       acknowledged = λ d settled k. acknowledges_lawful V M s kept d settled h k.found;

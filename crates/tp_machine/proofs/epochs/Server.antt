@@ -9,7 +9,6 @@ use Rattle.tp_model.specs.Words.actor
 use Rattle.tp_model.specs.Words.answer
 use Rattle.tp_model.specs.Words.body
 use Rattle.tp_model.specs.Words.log
-use Rattle.tp_model.specs.Words.no
 use Rattle.tp_model.specs.Words.{Actor, Answer, Body, Deed, DoneReply, Letter, Mail, PrepareRequest, Prepared, Query, QueryRequest, Record, Scenario, ServerId, Settled, TxnId, Verdict}
 use Rattle.tp_machine.proofs.basics.Lists.{each_append, each_as, each_found, placed_emptied, placed_set}
 use Rattle.tp_machine.proofs.basics.Phases.{is_first_at}
@@ -288,7 +287,7 @@ server_row_made sc A s kept mail h first m =
       voted = λ p entry staple txn k.
           let asked : A p.txn s.server ≡ Some p.epoch = subst (λ (said : Body). IfSome (naming_of said) (IsAsked A (actor.Server s.server))) k.said_is m in
           votes_made sc A s kept p (verdicts_on sc s txn staple entry.deeds) entry h k.found (eqb-true entry.epoch p.epoch k.same_epoch) asked;
-      refused = λ p entry number value k. ends_made sc A s kept (server.refused_as p (no.Range number value)) (server.no_letter s p (no.Range number value)) h tt;
+      refused = λ p entry number value k. ends_made sc A s kept (server.refused_as p _) (server.no_letter s p _) h tt;
       refused_again = λ p settled why k. record { made = h; forces = tt; replies = (tt, tt) };
       settled = λ d k. ends_made sc A s kept (server.settled_as d) (server.ack_letter s d.txn) h tt;
       acknowledged = λ d settled k. record { made = h; forces = tt; replies = (tt, tt) };

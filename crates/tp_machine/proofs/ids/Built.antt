@@ -1,104 +1,48 @@
--- What the form of scenarios that is built says, one by one. Where it widens these go.
+-- What ids take from the present stage: no query is proved as it runs.
+use Rattle.std.proofs.Common.{◌≡◌, ℕ, List, [], ◌∷◌, true, false, Some, refl, slice_get, zero, suc}
 use Rattle.std.proofs.lemmas.Bool.{and_parts}
-use Rattle.std.proofs.Common.{◌≡◌, List, [], ◌∷◌, length, Bool, true, false, not, ◌&&◌, ◌==◌, Option, Some, None, refl, sym, subst, ap, arith}
-use Rattle.std.specs.Cmp.Lexicographic.{pointwise}
-use Rattle.tp_model.specs.Words.{Item, Scenario, Scheme, ServerDecl, Transaction}
-use Rattle.tp_model.specs.Words.scheme
+use Rattle.tp_model.proofs.BuiltLemmas.{plain_built}
 use Rattle.tp_model.specs.Built.{is_built}
-use Rattle.tp_model.specs.Stage.{is_deferred, is_empty, is_single, is_view}
-use Rattle.tp_model.proofs.FirstForm.{are_first_parts, form_built, is_first_admin, is_first_item, is_first_query, is_first_server, is_first_txn}
-use Rattle.tp_model.specs.Queries.{only}
+use Rattle.tp_model.specs.Levels.{is_global}
+use Rattle.tp_model.specs.Stage.{is_deferred, is_view}
+use Rattle.tp_model.specs.Words.{Level, Scenario, Scheme, Transaction}
+use Rattle.tp_model.specs.Words.level
+use Rattle.tp_model.specs.Words.scheme
 use Rattle.tp_machine.specs.Sound.{Each, proves_each}
 
--- ---- tests
+-- a transaction is deferred, and not under global consistency
+pub record IsPlain (txn : Transaction) : Type 0 where
+  pub deferred : txn.scheme ≡ scheme.Deferred
+  pub view : is_global txn.level ≡ false
 
--- ---- lists of one member
+deferred_is : (s : Scheme) → is_deferred s ≡ true → s ≡ scheme.Deferred
+deferred_is scheme.Deferred e = refl
+deferred_is scheme.Continuous e = absurd (cc)
+deferred_is scheme.Punctual e = absurd (cc)
+deferred_is scheme.Incremental e = absurd (cc)
 
--- a list of one member that passes a test
-pub record IsOnly {A : Type 0} (test : A → Bool) (xs : List A) : Type 0 where
-  pub member : A
-  pub is_list : xs ≡ member ∷ []
-  pub passes : test member ≡ true
+not_global : (l : Level) → is_view l ≡ true → is_global l ≡ false
+not_global level.View e = refl
+not_global level.Global e = absurd (cc)
 
-pub only_is : {A : Type 0} (xs : List A) (x : A) → only xs ≡ Some x → xs ≡ x ∷ []
-only_is [] x e = absurd (cc)
-only_is (y ∷ []) x e = ap (λ z. z ∷ []) (grind arith)
-only_is (y ∷ z ∷ rest) x e = absurd (cc)
+-- each transaction is so
+pub plain_txn : (sc : Scenario) (n : ℕ) (txn : Transaction) → is_built sc ≡ true → slice_get sc.txns n ≡ Some txn → IsPlain txn
+plain_txn sc n txn built e =
+    let parts = and_parts (is_deferred txn.scheme) (is_view txn.level) (plain_built sc n txn built e) in
+    record { deferred = deferred_is txn.scheme parts.0; view = not_global txn.level parts.1 }
 
-pub single_is : {A : Type 0} (test : A → Bool) (xs : List A) → is_single test xs ≡ true → IsOnly test xs
-single_is test [] e = absurd (cc)
-single_is test (x ∷ []) e = record { member = x; is_list = refl; passes = e }
-single_is test (x ∷ y ∷ rest) e = absurd (cc)
-
-pub count_of : {A : Type 0} (xs : List A) (x : A) → xs ≡ x ∷ [] → length xs ≡ 1
-count_of xs x e = ap length e
-
--- ---- the form that is built
-
--- one administrator, one server, one item and one transaction, each of its form
-pub record HasForm (sc : Scenario) : Type 0 where
-  pub admins : IsOnly is_first_admin sc.admins
-  pub server : ServerDecl
-  pub servers_are : sc.servers ≡ server ∷ []
-  pub item : Item
-  pub items_are : sc.items ≡ item ∷ []
-  pub txn : Transaction
-  pub txns_are : sc.txns ≡ txn ∷ []
-  pub server_fits : is_first_server server ≡ true
-  pub item_fits : is_first_item item ≡ true
-  pub txn_fits : is_first_txn server item txn ≡ true
-
-form_of : (sc : Scenario) (servers : Option ServerDecl) (items : Option Item) (txns : Option Transaction) → only sc.servers ≡ servers → only sc.items ≡ items → only sc.txns ≡ txns
-    → IsOnly is_first_admin sc.admins → are_first_parts servers items txns ≡ true → HasForm sc
-form_of sc (Some server) (Some item) (Some txn) a b c admins e =
-    record {
-      admins = admins;
-      server = server;
-      servers_are = only_is sc.servers server a;
-      item = item;
-      items_are = only_is sc.items item b;
-      txn = txn;
-      txns_are = only_is sc.txns txn c;
-      server_fits = (and_parts _ _ (and_parts _ _ e).0).0;
-      item_fits = (and_parts _ _ (and_parts _ _ e).0).1;
-      txn_fits = (and_parts _ _ e).1;
-    }
-form_of sc (Some server) (Some item) None a b c admins e = absurd (cc)
-form_of sc (Some server) None txns a b c admins e = absurd (cc)
-form_of sc None items txns a b c admins e = absurd (cc)
-
-pub has_form : (sc : Scenario) → is_built sc ≡ true → HasForm sc
-has_form sc e =
-    let front = (and_parts (is_single is_first_admin sc.admins && are_first_parts (only sc.servers) (only sc.items) (only sc.txns)) _ (form_built sc e)).0 in
-    let parts = and_parts (is_single is_first_admin sc.admins) (are_first_parts (only sc.servers) (only sc.items) (only sc.txns)) front in
-    form_of sc (only sc.servers) (only sc.items) (only sc.txns) refl refl refl (single_is is_first_admin sc.admins parts.0) parts.1
-
--- ---- its scheme
-
-deferred_proves : (s : Scheme) → is_deferred s ≡ true → proves_each s ≡ false
+deferred_proves : (s : Scheme) → s ≡ scheme.Deferred → proves_each s ≡ false
 deferred_proves scheme.Deferred e = refl
-deferred_proves scheme.Continuous e = refl
+deferred_proves scheme.Continuous e = absurd (cc)
 deferred_proves scheme.Punctual e = absurd (cc)
 deferred_proves scheme.Incremental e = absurd (cc)
 
--- what holds of the only member holds of each
-pub each_of_one : {A : Type 0} (P : A → Type 0) (xs : List A) (x : A) → xs ≡ x ∷ [] → P x → Each P xs
-each_of_one P xs x e h = let made : Each P (x ∷ []) = (h, tt) in subst (Each P) (sym e) made
+-- what holds of each member by its place holds of each
+pub each_placed : {A : Type 0} (P : A → Type 0) (xs : List A) → ((n : ℕ) (x : A) → slice_get xs n ≡ Some x → P x) → Each P xs
+each_placed P [] h = tt
+each_placed P (x ∷ xs) h = (h zero x refl, each_placed P xs (λ n found e. h (suc n) found e))
 
--- of six tests that all pass, the second and the last
-pub second_and_last : (a b c d e f : Bool) → (a && b && c && (d && e && f)) ≡ true → (b ≡ true) × (f ≡ true)
-second_and_last a b c d e f all = grind arith
-
--- the transaction is deferred, and has one query of the form
-pub txn_parts : (server : ServerDecl) (item : Item) (txn : Transaction) → is_first_txn server item txn ≡ true
-    → (is_deferred txn.scheme ≡ true) × (is_single (is_first_query item) txn.queries ≡ true)
-txn_parts server item txn e =
-    second_and_last (not (pointwise ◌==◌ txn.name server.name)) (is_deferred txn.scheme) (is_view txn.level) (txn.rounds == 8) (is_empty txn.creds)
-    (is_single (is_first_query item) txn.queries) e
-
--- in the form that is built no query is proved as it runs
 pub deferred_built : (sc : Scenario) → is_built sc ≡ true → Each (λ (declared : Transaction). proves_each declared.scheme ≡ false) sc.txns
 deferred_built sc built =
-    let form = has_form sc built in
-    let parts = txn_parts form.server form.item form.txn form.txn_fits in
-    each_of_one (λ (declared : Transaction). proves_each declared.scheme ≡ false) sc.txns form.txn form.txns_are (deferred_proves form.txn.scheme parts.0)
+    each_placed (λ (declared : Transaction). proves_each declared.scheme ≡ false) sc.txns
+    (λ n txn e. deferred_proves txn.scheme (plain_txn sc n txn built e).deferred)

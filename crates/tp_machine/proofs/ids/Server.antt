@@ -241,7 +241,7 @@ server_row_sound sc s mail valid h m =
       refused = λ p entry number value k.
           let exists = (said k.said_is).txn in
           let query : IsQueryOf sc p.txn number s.server = refused_query sc s p.txn number value h k.outside in
-          ends_sound sc s (refused_as p (no.Range number value)) (no_letter s p (no.Range number value)) h (record { txn = exists; why = query }) (no_letter_sound sc s p (no.Range number value) h exists query);
+          ends_sound sc s (refused_as p _) (no_letter s p _) h (record { txn = exists; why = query }) (no_letter_sound sc s p _ h exists query);
       refused_again = λ p settled why k.
           let exists = (said k.said_is).txn in
           let reason : IsReasonOf sc s.server p.txn why = settled_reason sc s p.txn settled why h k.found k.why_is in

@@ -13,7 +13,6 @@ use Rattle.tp_model.specs.Queries.{query_at}
 use Rattle.tp_model.specs.Words.actor
 use Rattle.tp_model.specs.Words.body
 use Rattle.tp_model.specs.Words.log
-use Rattle.tp_model.specs.Words.no
 use Rattle.tp_model.specs.Words.query
 use Rattle.tp_model.specs.Words.{Body, DecideRequest, Deed, DoneReply, Letter, Mail, No, PrepareRequest, Prepared, Query, QueryRequest, Record, Scenario, ServerId, Settled, Transaction, TxnId}
 use Rattle.tp_machine.proofs.agreement.Server.{ServerAgrees, open_unsettled}
@@ -499,7 +498,7 @@ server_row_pairs sc A s kept mail h sound m asked =
           votes_pairs sc A s kept p entry (prepared_record s p entry (verdicts_on sc s txn staple entry.deeds)) h (open_unsettled s kept p.txn h.agrees k.unsettled) k.found (eqb-true entry.epoch p.epoch k.same_epoch)
           (subst (IsSoundBody sc to) k.said_is m).txn refl (record { epoch = refl; deeds = refl }) (subst (RequestPairs sc s.server A P) k.said_is asked);
       refused = λ p entry number value k.
-          refuses_pairs sc A s kept p entry (no.Range number value) h (open_unsettled s kept p.txn h.agrees k.unsettled) (subst (IsSoundBody sc to) k.said_is m).txn k.found k.unvoted
+          refuses_pairs sc A s kept p entry _ h (open_unsettled s kept p.txn h.agrees k.unsettled) (subst (IsSoundBody sc to) k.said_is m).txn k.found k.unvoted
           (subst (RequestPairs sc s.server A P) k.said_is asked);
       refused_again = λ p settled why k. refused_again_pairs sc A s kept p why h;
       settled = λ d k.

@@ -33,7 +33,7 @@ abbrev pub IsAlone : Scenario → Type 0
 IsAlone sc = length sc.txns ≤ 1
 
 pub alone_built : (sc : Scenario) → is_built sc ≡ true → IsAlone sc
-alone_built sc built = let one = length-txns_built sc built in omega (arith, one)
+alone_built sc built = length-txns_built sc built
 
 -- ---- at a server
 

@@ -11,7 +11,6 @@ use Rattle.tp_model.specs.Queries.{item_of}
 use Rattle.tp_model.specs.SerialRun.{stored_all}
 use Rattle.tp_model.specs.Words.body
 use Rattle.tp_model.specs.Words.log
-use Rattle.tp_model.specs.Words.no
 use Rattle.tp_model.specs.Words.outcome
 use Rattle.tp_model.specs.Words.query
 use Rattle.tp_model.specs.Words.{Body, Deed, Letter, Mail, Outcome, PrepareRequest, Prepared, Query, QueryRequest, Record, Scenario, Settled, Staple, Transaction, TxnId}
@@ -341,7 +340,7 @@ server_row_keeps sc M s mail h clear =
       restarted = λ q k. stays_keep sc M s (reply s q.txn (body.Done (restarted_reply q s.epoch)) ∷ []) h;
       answered = λ q entry given k. stays_keep sc M s (reply s q.txn (body.Done given) ∷ []) h;
       voted = λ p entry staple txn k. votes_keep sc M s mail p entry staple txn h (subst (RequestClear sc M s) k.said_is clear).made k;
-      refused = λ p entry number value k. ends_keep sc M s (refused_as p (no.Range number value)) (no_letter s p (no.Range number value)) h (subst (RequestClear sc M s) k.said_is clear).ends;
+      refused = λ p entry number value k. ends_keep sc M s (refused_as p _) (no_letter s p _) h (subst (RequestClear sc M s) k.said_is clear).ends;
       refused_again = λ p settled why k. stays_keep sc M s (no_letter s p why ∷ []) h;
       settled = λ d k. ends_keep sc M s (settled_as d) (ack_letter s d.txn) h (subst (RequestClear sc M s) k.said_is clear);
       acknowledged = λ d settled k. stays_keep sc M s (ack_letter s d.txn ∷ []) h;

@@ -22,7 +22,7 @@ use Rattle.tp_machine.proofs.agreement.End.{each_found}
 use Rattle.tp_machine.proofs.basics.Facts.{all_from_each}
 use Rattle.tp_machine.proofs.basics.Lists.{each_get, missing}
 use Rattle.tp_machine.proofs.refusals.World.{FactRefused, IsRefused, Refusals, WhatRefused}
-use Rattle.tp_machine.proofs.trust.Built.{IsFirstForm, first_form}
+use Rattle.tp_machine.proofs.trust.Built.{ArePlain, are_plain}
 use Rattle.tp_machine.proofs.trust.Coordinator.{CauseFits, CommitFits}
 use Rattle.tp_machine.proofs.trust.Fit.{IsRight, Right, VerdictsFit}
 use Rattle.tp_machine.proofs.trust.Server.{policy_there}
@@ -73,7 +73,7 @@ round_count : (sc : Scenario) (declared : Transaction) (rounds : ℕ) → reads_
 round_count sc declared rounds view one =
     ap (λ (n : ℕ). nat_le 1 n && nat_le n (most_rounds sc declared)) one ∙ ap (λ (b : Bool). nat_le 1 1 && nat_le 1 (if b then declared.rounds else 2)) view
 
-trusted_commit : (sc : Scenario) (txn : TxnId) (place : ℕ) (facts : List Fact) (committed : CommitRecord) (declared : Transaction) → IsFirstForm sc → slice_get sc.txns txn.0 ≡ Some declared
+trusted_commit : (sc : Scenario) (txn : TxnId) (place : ℕ) (facts : List Fact) (committed : CommitRecord) (declared : Transaction) → ArePlain sc → slice_get sc.txns txn.0 ≡ Some declared
     → CommitFits sc facts place txn committed → is_trusted_commit sc txn place facts committed declared ≡ true
 trusted_commit sc txn place facts committed declared form e h =
     let deferred : declared.scheme ≡ scheme.Deferred = each_get (λ (t : Transaction). t.scheme ≡ scheme.Deferred) sc.txns txn.0 declared form.deferred e in
@@ -90,7 +90,7 @@ exists_txn sc txn (Some declared) e within = (declared, e)
 
 -- ---- every fact
 
-what_trusted : (sc : Scenario) (facts : List Fact) (place : ℕ) (w : What) → IsFirstForm sc → IsSoundWhat sc w → WhatFits sc facts place w → keeps_trust_what sc facts place w ≡ true
+what_trusted : (sc : Scenario) (facts : List Fact) (place : ℕ) (w : What) → ArePlain sc → IsSoundWhat sc w → WhatFits sc facts place w → keeps_trust_what sc facts place w ≡ true
 what_trusted sc facts place (what.Decided txn (decision.Commit committed)) form sound h =
     let found = exists_txn sc txn (slice_get sc.txns txn.0) refl sound.0 in
     ap (λ (d : Option Transaction). option_map_or (is_trusted_commit sc txn place facts committed) d false) found.1 ∙ trusted_commit sc txn place facts committed found.0 form found.1 h
@@ -129,7 +129,7 @@ is_refused_shown sc txn place facts refused declared h =
     and_from _ _ (and_from _ _ h.write h.aborted)
     (ap (λ (first : Option ℕ). option_map_or (is_explained_at sc txn facts refused declared) first false) h.first_is ∙ or_right (lost_work sc txn facts declared h.first) _ h.run)
 
-cause_shown : (sc : Scenario) (facts : List Fact) (place : ℕ) (txn : TxnId) (why : Cause) (declared : Transaction) → IsFirstForm sc → slice_get sc.txns txn.0 ≡ Some declared → IsSoundCause sc txn why
+cause_shown : (sc : Scenario) (facts : List Fact) (place : ℕ) (txn : TxnId) (why : Cause) (declared : Transaction) → ArePlain sc → slice_get sc.txns txn.0 ≡ Some declared → IsSoundCause sc txn why
     → WhatRefused sc facts place (what.Decided txn (decision.Abort why)) → CauseFits sc facts place txn why → is_shown sc txn place facts why declared ≡ true
 cause_shown sc facts place txn (cause.Denied denied) declared form e sound r h =
     let version : IsVersion sc h.verdict.admin h.verdict.version = subst (λ (d : Denied). IsVersion sc d.admin d.version) h.denied_is sound.version in
@@ -143,7 +143,7 @@ cause_shown sc facts place txn (cause.Rounds mets) declared form e sound r h = a
 cause_shown sc facts place txn (cause.Restarted at) declared form e sound r h = absurd h
 cause_shown sc facts place txn cause.Halted declared form e sound r h = absurd h
 
-what_caused : (sc : Scenario) (facts : List Fact) (place : ℕ) (w : What) → IsFirstForm sc → IsSoundWhat sc w → WhatRefused sc facts place w → WhatFits sc facts place w → keeps_causes_what sc facts place w ≡ true
+what_caused : (sc : Scenario) (facts : List Fact) (place : ℕ) (w : What) → ArePlain sc → IsSoundWhat sc w → WhatRefused sc facts place w → WhatFits sc facts place w → keeps_causes_what sc facts place w ≡ true
 what_caused sc facts place (what.Decided txn (decision.Commit committed)) form sound r h = refl
 what_caused sc facts place (what.Decided txn (decision.Abort why)) form sound r h =
     let found = exists_txn sc txn (slice_get sc.txns txn.0) refl sound.0 in
@@ -153,7 +153,7 @@ what_caused sc facts place _ form sound r h = refl
 -- the commits of a world are trusted
 pub facts_trusted : (sc : Scenario) (w : State) → is_built sc ≡ true → IsSound sc w → Trusts sc w → is_trusted sc w.facts ≡ true
 facts_trusted sc w built sound h =
-    let form : IsFirstForm sc = first_form sc built in
+    let form : ArePlain sc = are_plain sc built in
     all_from_each (λ (fact : Fact). keeps_trust sc w.facts fact ≡ true) (keeps_trust sc w.facts) (λ fact k. k) w.facts
     (each_found (λ (fact : Fact). keeps_trust sc w.facts fact ≡ true) w.facts
     (λ n fact e. what_trusted sc w.facts fact.place fact.what form (each_get (IsSoundFact sc) w.facts n fact sound.facts_are e) (each_get (FactFits sc w.facts) w.facts n fact h.facts_fit e)))
@@ -161,7 +161,7 @@ facts_trusted sc w built sound h =
 -- and its aborts have causes
 pub facts_caused : (sc : Scenario) (w : State) → is_built sc ≡ true → IsSound sc w → Refusals sc w → Trusts sc w → is_caused sc w.facts ≡ true
 facts_caused sc w built sound r h =
-    let form : IsFirstForm sc = first_form sc built in
+    let form : ArePlain sc = are_plain sc built in
     all_from_each (λ (fact : Fact). keeps_causes sc w.facts fact ≡ true) (keeps_causes sc w.facts) (λ fact k. k) w.facts
     (each_found (λ (fact : Fact). keeps_causes sc w.facts fact ≡ true) w.facts
     (λ n fact e. what_caused sc w.facts fact.place fact.what form (each_get (IsSoundFact sc) w.facts n fact sound.facts_are e) (each_get (FactRefused sc w.facts) w.facts n fact r.facts e) (each_get (FactFits sc w.facts) w.facts n fact h.facts_fit e)))

@@ -9,7 +9,6 @@ use Rattle.tp_model.specs.Authorisation.{is_item_at, is_own_query, is_query_at, 
 use Rattle.tp_model.specs.Queries.{query_at}
 use Rattle.tp_model.specs.Versions.{newest}
 use Rattle.tp_model.specs.Words.body
-use Rattle.tp_model.specs.Words.no
 use Rattle.tp_model.specs.Words.vote
 use Rattle.tp_model.specs.Words.{Admin, AdminId, Body, Deed, DoneReply, Fact, Item, Letter, Mail, No, Policy, PrepareRequest, Query, QueryRequest, Record, Scenario, ServerId, Settled, Staple, Transaction, TxnId, Verdict, Version}
 use Rattle.tp_machine.proofs.basics.Lists.{each_append, each_found, each_map, placed_emptied, placed_set}
@@ -275,7 +274,7 @@ server_row_trusts sc facts place T s mail valid sound h f whole closed t =
           votes_trusts sc facts place T s p txn staple entry valid sound h closed (subst T k.said_is t) k.stapled k.declared (subst (λ (x : Option Staple). IfSome x (StapleFits sc facts place p.txn)) k.stapled fits) k.found
           (subst (WholeMail sc s) k.said_is whole entry k.found (eqb-true entry.epoch p.epoch k.same_epoch));
       refused = λ p entry number value k.
-          ends_trusts sc facts place T s (refused_as p (no.Range number value)) (no_letter s p (no.Range number value)) h (no_letter_trusts sc facts place T s p (no.Range number value) closed (subst T k.said_is t));
+          ends_trusts sc facts place T s (refused_as p _) (no_letter s p _) h (no_letter_trusts sc facts place T s p _ closed (subst T k.said_is t));
       refused_again = λ p settled why k.
           let l = no_letter_trusts sc facts place T s p why closed (subst T k.said_is t) in
           record { fits = h.fits; keeps = h.keeps; forces = tt; says = (l.says, tt); timely = (l.timely, tt) };

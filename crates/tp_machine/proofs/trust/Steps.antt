@@ -1,6 +1,5 @@
 -- Trust, step by step: it holds before the first step, and each step keeps it.
-use Rattle.std.specs.Option.{option_map_or}
-use Rattle.std.proofs.Common.{IfSome, List, None, Option, Some, [], arith, false, length, refl, slice_get, subst, suc, sym, true, unwrap_or, zero, ℕ, ◌+◌, ◌==◌, ◌∙◌, ◌∷◌, ◌≡◌}
+use Rattle.std.proofs.Common.{IfSome, List, None, Option, Some, [], arith, false, length, refl, subst, sym, true, ℕ, ◌+◌, ◌==◌, ◌∙◌, ◌∷◌, ◌≡◌}
 use Rattle.std.proofs.lemmas.Bool.{or_left, or_right}
 use Rattle.std.proofs.lemmas.List.Folds.{list_any-append}
 use Rattle.std.proofs.lemmas.List.{length-replicate}
@@ -12,7 +11,7 @@ use Rattle.tp_model.specs.Words.actor
 use Rattle.tp_model.specs.Words.body
 use Rattle.tp_model.specs.Words.step
 use Rattle.tp_model.specs.Words.what
-use Rattle.tp_model.specs.Words.{Actor, AdminId, Body, CredId, Fact, Mail, Scenario, ServerDecl, ServerId, Step, TxnId, Version, What}
+use Rattle.tp_model.specs.Words.{Actor, Body, CredId, Fact, Mail, Scenario, ServerId, Step, TxnId, What}
 use Rattle.tp_machine.proofs.agreement.CoordinatorActs.{coordinator_facts}
 use Rattle.tp_machine.proofs.agreement.Steps.{own_txn}
 use Rattle.tp_machine.proofs.agreement.World.{Agrees}
@@ -24,7 +23,7 @@ use Rattle.tp_machine.proofs.ids.Valid.{IsValid, valid_built}
 use Rattle.tp_machine.proofs.pairs.Actors.{BodyPairs, LetterPairs, pair_at}
 use Rattle.tp_machine.proofs.pairs.World.{Pairs}
 use Rattle.tp_machine.proofs.trust.Acts.{ActTrusts, act_trusts, coordinator_acts_trusts, server_acts_trusts, tells_fit, tells_timely, timely_closed, unmoved_trusts}
-use Rattle.tp_machine.proofs.trust.Built.{IsFirstForm, first_form}
+use Rattle.tp_machine.proofs.trust.Built.{known_at_first}
 use Rattle.tp_machine.proofs.trust.Coordinator.{CoordinatorFits, CoordinatorTrusts, LetterOfTurn, RecordDecides, coordinator_row_trusts, submit_row_trusts}
 use Rattle.tp_machine.proofs.trust.Fit.{BodyFits, IsSubmitted, Later, MailFits, ServerFits, maybe_stays}
 use Rattle.tp_machine.proofs.trust.Kept.{AreKept, IsKept, IsTrusted}
@@ -195,20 +194,9 @@ trusts_next sc m taken built exists allowed sound a pairs h =
 
 -- ---- before the first step
 
-one_known : (knows : List Version) (n : ℕ) → Each (λ (version : Version). version.0 ≡ 1) knows → (unwrap_or (slice_get knows n) (record { 0 = 1 })).0 ≡ 1
-one_known [] n h = refl
-one_known (version ∷ knows) zero h = h.0
-one_known (version ∷ knows) (suc n) h = one_known knows n h.1
-
-known_at : (sc : Scenario) (n : ℕ) (admin : AdminId) (found : Option ServerDecl) → slice_get sc.servers n ≡ found → Each (λ (declared : ServerDecl). Each (λ (version : Version). version.0 ≡ 1) declared.knows) sc.servers
-    → (unwrap_or (slice_get (option_map_or (λ (declared : ServerDecl). declared.knows) found []) admin.0) (record { 0 = 1 })).0 ≡ 1
-known_at sc n admin None e h = refl
-known_at sc n admin (Some declared) e h = one_known declared.knows admin.0 (each_get (λ (d : ServerDecl). Each (λ (version : Version). version.0 ≡ 1) d.knows) sc.servers n declared h e)
-
 -- the world before the first step
 pub trusts_opening : (sc : Scenario) → is_built sc ≡ true → Trusts sc (opening_state sc)
 trusts_opening sc built =
-    let form : IsFirstForm sc = first_form sc built in
     let T = Timely sc (opening_state sc).actors.coordinators in
     record {
       authority = record {
@@ -220,8 +208,7 @@ trusts_opening sc built =
       servers = λ n part e. at_made (λ (k : ℕ) (found : Part Server). ServerPartFits sc [] 0 T found) (λ (k : ℕ). opened_part (server.opening sc (record { 0 = k }))) 0 (length sc.servers)
           (λ k within. record {
             state = record {
-              known = λ admin exists. let one = known_at sc k admin (slice_get sc.servers k) refl form.known in
-                  omega (arith, one, form.opening admin exists);
+              known = λ admin exists. let low = known_at_first sc k admin built exists in omega (arith, low);
             };
             kept = record {
               state = placed_none (λ (m : ℕ) (entry : Entry). IsKept (IsTrusted sc [] 0 T) (record { 0 = m }) entry) (length sc.txns);

@@ -4,7 +4,7 @@ use Rattle.std.proofs.Common.{None, Option, Some, [], false, inl, inr, is_none, 
 use Rattle.std.proofs.lemmas.Bool.{not-false}
 use Rattle.tp_types.specs.Effect.{Effect, ignores, sends}
 use Rattle.tp_types.specs.Table.{flattened}
-use Rattle.tp_model.specs.Stage.{is_empty}
+use Rattle.tp_model.specs.Limits.{is_empty}
 use Rattle.tp_model.specs.Words.body
 use Rattle.tp_model.specs.Words.no
 use Rattle.tp_model.specs.Words.{Body, DecideRequest, DoneReply, Mail, No, PrepareRequest, Query, QueryRequest, Scenario, Settled, Staple, Transaction}

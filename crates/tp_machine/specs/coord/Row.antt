@@ -6,7 +6,7 @@ use Rattle.tp_types.specs.Effect.{Effect, ignores, logs, sends, unbuilt}
 use Rattle.tp_types.specs.Table.{flattened}
 use Rattle.tp_types.specs.declared.records.Outcome.TheVariants.{Abort, Commit}
 use Rattle.tp_model.specs.Queries.{item_of, query_at}
-use Rattle.tp_model.specs.Stage.{is_empty}
+use Rattle.tp_model.specs.Limits.{is_empty}
 use Rattle.tp_model.specs.Words.actor
 use Rattle.tp_model.specs.Words.answer
 use Rattle.tp_model.specs.Words.body

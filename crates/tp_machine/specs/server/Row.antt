@@ -8,7 +8,7 @@ use Rattle.tp_types.specs.Table.{flattened, is_unset}
 use Rattle.tp_types.specs.declared.records.Outcome.TheVariants.{Abort, Commit}
 use Rattle.tp_types.specs.declared.scenario.Query.TheVariants.{Read, Write}
 use Rattle.tp_model.specs.Queries.{query_at}
-use Rattle.tp_model.specs.Stage.{is_empty}
+use Rattle.tp_model.specs.Limits.{is_empty}
 use Rattle.tp_model.specs.Words.actor
 use Rattle.tp_model.specs.Words.answer
 use Rattle.tp_model.specs.Words.body

@@ -1,17 +1,16 @@
-use Rattle.std.proofs.Common.{rules, inl, inr, ◌∙◌}
+use Rattle.std.proofs.Common.{rules, inl, inr}
 use Rattle.std.proofs.KnownBytes.{Appends-nil}
 use Rattle.tp_top.proofs.TopLemmas.{refusal_complete, report_complete, budget_complete}
 use Rattle.tp_top.proofs.top.tpvc.Goals as goal
 
 pub returns-in-Refused-clause-ended : goal.returns-in-Refused-clause-ended
 returns-in-Refused-clause-ended g c =
-    let line = c.as_slice-in-Ok-refusal_line.ensures ∙ c.in-Ok-refusal_line.ensures in
     inr (inl (record {
       words_are = search rules;
       refusal = record {
-        why = c.in-Refused.why;
+        line = c.in-Refused.line.0;
         cause = c.in-Refused.ensures.cause;
-        front = rw line at c.in-Err-write_all-2.ensures.front;
+        front = rw c.as_slice-in-Refused.ensures at c.in-Err-write_all-2.ensures.front;
         rose = c.in-Err-write_all-2.ensures.cause;
       };
       out_kept = Appends-nil _;
@@ -19,8 +18,7 @@ returns-in-Refused-clause-ended g c =
 
 pub returns-in-Ok-write_all-2-clause-complete : goal.returns-in-Ok-write_all-2-clause-complete
 returns-in-Ok-write_all-2-clause-complete g c =
-    let line = c.as_slice-in-Ok-refusal_line.ensures ∙ c.in-Ok-refusal_line.ensures in
-    λ _ _ _ _. refusal_complete _ _ _ _ c.in-Refused.why c.in-Refused.ensures.cause (rw line at c.in-Ok-write_all-2.ensures.whole)
+    λ _ _ _ _. refusal_complete _ _ _ _ c.in-Refused.line.0 c.in-Refused.ensures.cause (rw c.as_slice-in-Refused.ensures at c.in-Ok-write_all-2.ensures.whole)
 
 pub returns-in-Ok-write_all-clause-complete : goal.returns-in-Ok-write_all-clause-complete
 returns-in-Ok-write_all-clause-complete g c = λ _ _ _ _. report_complete _ _ _ _ _ c.in-Report.ensures.cause

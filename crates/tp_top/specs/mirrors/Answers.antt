@@ -1,0 +1,63 @@
+-- What the helpers of the answer to an input promise to one another.
+use Rattle.std.specs.Prelude.{◌≡◌, List, ℕ, length, true, false, Option, Some, None}
+use Rattle.tp_model.specs.Words.{Scenario, Step}
+use Rattle.tp_machine.specs.Laws.{HasAllCommits, IsTrustedState}
+use Rattle.tp_machine.specs.Seen.{Seen}
+use Rattle.tp_scenario.specs.declared.from_bytes.ScenarioError.{ScenarioError}
+use Rattle.tp_top.specs.declared.answer.Answer.{Answer}
+use Rattle.tp_top.specs.declared.answer.Answer.TheVariants as answer
+use Rattle.tp_top.specs.declared.listed.StepRefusal.{StepRefusal}
+use Rattle.tp_top.specs.Auto.{is_quiet, stepped}
+use Rattle.tp_top.specs.Listed.{refused_from}
+use Rattle.tp_top.specs.Refusals.{refusal_line, step_line}
+use Rattle.tp_top.specs.Run.{automatic, automatic_bound, final, first_refused, listed, report_of}
+
+-- ---- listed steps
+
+-- the first of the steps that the old world refuses is told; where there is none, the new world is the one after all of them
+pub record Follows (old new : Seen) (steps : List Step) (refused : Option StepRefusal)
+    : Type 0 where
+  pub first : refused ≡ refused_from old.scenario old.machine 0 steps
+  pub done : refused ≡ None → new ≡ stepped old steps
+
+-- a world that is not given up, after all listed steps of its scenario, of which none is refused
+pub record IsListed (world : Seen) : Type 0 where
+  pub up : world.given_up ≡ false
+  pub lawful : first_refused world.scenario ≡ None
+  pub now : world.machine ≡ listed world.scenario
+
+-- ---- what comes of a scenario that was read
+
+-- its listed steps are done, its run comes to rest, and the text is its report
+pub record IsRunTo (sc : Scenario) (text : List ℕ) : Type 0 where
+  pub lawful : first_refused sc ≡ None
+  pub quiet : is_quiet sc (final sc) ≡ true
+  pub so_far : IsTrustedState sc (final sc).state
+  pub whole : HasAllCommits sc (final sc).state
+  pub text_is : text ≡ report_of sc
+
+-- its listed steps are done, and its run does not end within the bound
+pub record IsRunOut (sc : Scenario) : Type 0 where
+  pub lawful : first_refused sc ≡ None
+  pub restless : is_quiet sc (final sc) ≡ false
+  pub used_up : length (automatic sc) ≡ automatic_bound sc
+
+-- a listed step is refused, and the line says which is the first, and why
+pub record IsStopped (sc : Scenario) (line : List ℕ) : Type 0 where
+  pub refused : StepRefusal
+  pub first : first_refused sc ≡ Some refused
+  pub line_is : line ≡ step_line sc refused.at refused.why
+
+-- the same, as an answer
+abbrev pub IsReported : Scenario → Answer → Type 0
+IsReported sc (answer.Report text) = IsRunTo sc text.0
+IsReported sc (answer.Refused line) = IsStopped sc line.0
+IsReported sc answer.Budget = IsRunOut sc
+IsReported sc answer.NoMemory = Unit {0}
+IsReported sc answer.ReadFault = ⊥
+
+-- of an input that is refused so: its line
+abbrev pub IsRefusal : ScenarioError → Answer → Type 0
+IsRefusal why (answer.Refused line) = line.0 ≡ refusal_line why
+IsRefusal why answer.NoMemory = Unit {0}
+IsRefusal why _ = ⊥

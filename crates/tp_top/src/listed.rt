@@ -1,0 +1,39 @@
+//! The listed steps: they are done in order, until one is refused.
+ghost use Rattle.std.specs.Prelude.{◌≡◌, false, IfOk};
+ghost use Rattle.tp_machine.specs.Seen.{IsBuiltStep};
+ghost use Rattle.tp_machine.specs.Sound.{Each, IsStepOf};
+ghost use Rattle.tp_top.specs.mirrors.Answers.{Follows};
+
+use std::alloc::Global;
+use tp_machine::{StepError, World};
+use tp_types::{NoMemory, Step};
+
+/// A listed step that is refused.
+#[derive(Clone, Copy)]
+pub struct StepRefusal {
+    /// Its number in the list, counted from 0.
+    pub at: usize,
+    /// Why it is refused.
+    pub why: StepError,
+}
+
+/// Does the steps in order, until one is refused, and answers which and why; None exactly where all were done.
+pub fn follow(
+    world: &mut World,
+    alloc: Global,
+    steps: &[Step],
+) -> Result<Option<StepRefusal>, NoMemory>
+    requires kinds { Each IsBuiltStep steps.now }
+    requires ids { Each (IsStepOf world.old.scenario) steps.now }
+    requires up { world.old.given_up ≡ false }
+    ensures { IfOk result (Follows world.old world.new steps.now) }
+{
+    for (at, taken) in steps.iter().enumerate() {
+        match world.step(alloc, taken) {
+            Ok(()) => {}
+            Err(StepError::NoMemory) => return Err(NoMemory),
+            Err(why) => return Ok(Some(StepRefusal { at, why })),
+        }
+    }
+    Ok(None)
+}
