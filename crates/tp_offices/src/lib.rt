@@ -5,4 +5,4 @@ mod authority;
 mod master;
 
 pub use authority::Authority;
-pub use master::Master;
+pub use master::{Master, NoMore};

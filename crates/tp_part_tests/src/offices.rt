@@ -3,7 +3,10 @@ use crate::small_scenario::{cred, small};
 use std::process::Abort;
 use std::test::Fail;
 use tp_offices::{Authority, Master};
-use tp_types::{Actor, AskRequest, Body, Letter, Mail, ProbeRequest, Reaction, TxnId, Version};
+use tp_types::{
+    Actor, AdminId, AskRequest, Body, Letter, Mail, ProbeRequest, PushNotice, Reaction, ServerId,
+    TxnId, Version,
+};
 
 /// A mail from the coordinator of the second transaction.
 fn mail(to: Actor, body: Body) -> Mail {
@@ -142,5 +145,44 @@ fn tells_the_opening_versions(rt: HostRuntime) -> Result<(), Fail> {
     assert_eq!(rt; told.newest.as_slice(), [Version(3), Version(1)].as_slice());
     let other = master.receive(rt.alloc(), &asked())?;
     assert!(rt; other.letters.is_empty() && other.append.is_none());
+    Ok(())
+}
+
+#[test]
+fn publishes_up_to_the_last_version(rt: HostRuntime) -> Result<(), Fail> {
+    let scenario = small(&rt)?;
+    let mut master = Master::opened(rt.alloc(), &scenario)?;
+    assert!(rt; matches!(master.publish(AdminId(0)), Ok(Version(4))));
+    assert!(rt; matches!(master.publish(AdminId(0)), Ok(Version(5))));
+    assert!(rt; master.publish(AdminId(0)).is_err());
+    assert!(rt; master.publish(AdminId(1)).is_err());
+    assert!(rt; master.publish(AdminId(2)).is_err());
+    assert_eq!(rt;
+        master.newest.as_slice(),
+        [Version(5), Version(1)].as_slice()
+    );
+    Ok(())
+}
+
+#[test]
+fn pushes_the_newest_version(rt: HostRuntime) -> Result<(), Fail> {
+    let scenario = small(&rt)?;
+    let mut master = Master::opened(rt.alloc(), &scenario)?;
+    assert!(rt; master.publish(AdminId(0)).is_ok());
+    let reaction = master.push(rt.alloc(), AdminId(0), ServerId(1))?;
+    assert!(rt; reaction.append.is_none());
+    assert!(rt;
+        matches!(
+            reaction.letters.as_slice(),
+            [Letter {
+                from: Actor::Master,
+                to: Actor::Server(ServerId(1)),
+                body: Body::Push(PushNotice {
+                    admin: AdminId(0),
+                    version: Version(4)
+                }),
+            }]
+        )
+    );
     Ok(())
 }

@@ -1,8 +1,8 @@
 //! A small scenario, for stores and offices.
 use std::process::Abort;
 use tp_types::{
-    Admin, AdminId, CredId, Credential, Item, ItemId, Level, List, Name, NoMemory, Scenario,
-    Scheme, ServerDecl, ServerId, Transaction, Value, Version,
+    Admin, AdminId, CredId, Credential, Item, ItemId, Level, List, Name, NoMemory, Policy,
+    Scenario, Scheme, ServerDecl, ServerId, Transaction, Value, Version,
 };
 
 /// A name of the scenario. All have one, since nothing goes by it.
@@ -36,18 +36,29 @@ fn items(rt: &(impl Abort + AllocGlobal)) -> Result<List<Item>, NoMemory> {
     Ok(made)
 }
 
-fn admin(rt: &(impl Abort + AllocGlobal), opening: u32) -> Admin {
-    Admin {
-        name: name(rt),
-        library: List::new(rt.alloc()),
-        opening: Version(opening),
+/// An administrator with so many versions, none of which allows anything.
+fn admin(
+    rt: &(impl Abort + AllocGlobal),
+    opening: u32,
+    versions: usize,
+) -> Result<Admin, NoMemory> {
+    let mut library = List::new(rt.alloc());
+    for _ in 0..versions {
+        library.push(Policy {
+            rules: List::new(rt.alloc()),
+        })?;
     }
+    Ok(Admin {
+        name: name(rt),
+        library,
+        opening: Version(opening),
+    })
 }
 
 fn admins(rt: &(impl Abort + AllocGlobal)) -> Result<List<Admin>, NoMemory> {
     let mut made = List::new(rt.alloc());
-    made.push(admin(rt, 3))?;
-    made.push(admin(rt, 1))?;
+    made.push(admin(rt, 3, 5)?)?;
+    made.push(admin(rt, 1, 1)?)?;
     Ok(made)
 }
 
