@@ -1,6 +1,7 @@
 pub mod ages
 pub mod agreement
 pub mod basics
+pub mod bounds
 pub mod epochs
 pub mod ids
 pub mod outside

@@ -1,3 +1,4 @@
+pub mod Bounded
 pub mod Evaluation
 pub mod Laws
 pub mod Logs

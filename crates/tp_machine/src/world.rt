@@ -7,6 +7,7 @@ ghost use Rattle.tp_model.specs.TrustedHistory.{have_ended};
 ghost use Rattle.tp_machine.specs.declared.error.StepError.{StepError};
 ghost use Rattle.tp_machine.specs.Seen.{start, IsReached, IsBuiltStep, HasItsFacts, IsTrustedSoFar, Does, Refuses, GivesUp};
 ghost use Rattle.tp_machine.specs.Machine as machine;
+ghost use Rattle.tp_machine.specs.Bounded.{AreBounded};
 ghost use Rattle.tp_machine.specs.Sound.{Each, IsSound, IsStepOf};
 
 use crate::actors::Actors;
@@ -98,6 +99,8 @@ impl World {
         ensures so_far { self.now.given_up ≡ false → IsTrustedSoFar self.now }
         ensures sound { self.now.given_up ≡ false
             → IsSound self.now.scenario self.now.machine.state }
+        ensures bounded { self.now.given_up ≡ false
+            → AreBounded self.now.scenario self.now.machine.state }
     {
         &self.history.facts
     }

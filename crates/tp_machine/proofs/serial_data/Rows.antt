@@ -153,12 +153,12 @@ last_set s txn other writes entry false e kept within new old =
 -- ---- Query
 
 -- what an entry at which a query runs has done so far
-record IsRunAt (sc : Scenario) (s : Server) (q : QueryRequest) (entry : Entry) : Type 0 where
+pub record IsRunAt (sc : Scenario) (s : Server) (q : QueryRequest) (entry : Entry) : Type 0 where
   pub reads : ReadsFrom s.store.values entry.deeds
   pub last : AreLast (writes_of s.store q.txn) entry.deeds
   pub upto : AreUpTo q.query entry.deeds
 
-run_at : (sc : Scenario) (s : Server) (mail : Mail) (q : QueryRequest) (query : Query) (entry : Entry) (value : ℤ) → ServerReads sc s → QueryRises sc s q → IsGranted sc s mail q query entry value → IsRunAt sc s q entry
+pub run_at : (sc : Scenario) (s : Server) (mail : Mail) (q : QueryRequest) (query : Query) (entry : Entry) (value : ℤ) → ServerReads sc s → QueryRises sc s q → IsGranted sc s mail q query entry value → IsRunAt sc s q entry
 run_at sc s mail q query entry value h m k =
     ⊎_elim
     (λ (first : IsFirstHere s mail.sent q entry).

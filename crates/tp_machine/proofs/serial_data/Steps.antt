@@ -84,20 +84,26 @@ request_clear sc w at part s from (body.Decide d) alone places up pairs sound re
 request_clear sc w at part s from (body.Prepare p) alone places up pairs sound rests paired = record { made = rests; ends = record { exists = sound.txn; clear = clear_of_others sc s at p.txn alone places rests.item } }
 request_clear sc w at part s from _ alone places up pairs sound rests paired = tt
 
+-- so it is known of a mail that was sent
+pub received_clear : (sc : Scenario) (w : State) → is_built sc ≡ true → IsSound sc w → Agrees sc w → Pairs sc w → (n : ℕ) (mail : Mail) (at : ServerId) (part : Part Server) (s : Server)
+    → WasSent w n mail (actor.Server at) → IsServerUp w at part s → length s.entries ≡ length sc.txns → RequestClear sc (IsAsked sc w.actors.coordinators at) s mail.letter.body
+received_clear sc w built sound agrees pairs n mail at part s sent up places =
+    let said : BodyPairs sc (pair_at w.actors) mail.letter.from (actor.Server at) mail.letter.body =
+    subst (λ (to : Actor). BodyPairs sc (pair_at w.actors) mail.letter.from to mail.letter.body) sent.goes_to (each_get (λ (m : Mail). LetterPairs sc (pair_at w.actors) m.letter) w.mails n mail pairs.mails sent.sent) in
+    request_clear sc w at part s mail.letter.from mail.letter.body (alone_built sc built) places up pairs (mail_sound sc w n mail (actor.Server at) sound sent)
+    (mail_rests sc w n mail (actor.Server at) agrees sent) said
+
 receipt_by_server : (sc : Scenario) (w : State) → is_built sc ≡ true → IsSound sc w → Agrees sc w → Pairs sc w → Serial sc w → (n : ℕ) (mail : Mail) (at : ServerId) (part : Part Server) (s : Server)
     → WasSent w n mail (actor.Server at) → IsServerUp w at part s → MoveSerial sc w (server_move w.actors at (acts_by (server_fact at) [] part.log (server_row sc s mail)))
 receipt_by_server sc w built sound agrees pairs h n mail at part s sent up =
     let was : ServerUpSerial sc (overlaid sc w.facts) at s = subst (λ (u : Option Server). IfSome u (ServerUpSerial sc (overlaid sc w.facts) at)) up.up (h.servers at.0 part up.found).state in
-    let said : BodyPairs sc (pair_at w.actors) mail.letter.from (actor.Server at) mail.letter.body =
-    subst (λ (to : Actor). BodyPairs sc (pair_at w.actors) mail.letter.from to mail.letter.body) sent.goes_to (each_get (λ (m : Mail). LetterPairs sc (pair_at w.actors) m.letter) w.mails n mail pairs.mails sent.sent) in
     server_acts_serial sc w at part s (server_row sc s mail) agrees h
     (record {
       found = up.found;
       up = up.up;
       agrees = server_agrees sc w at part s agrees up;
       keeps = server_row_keeps sc (IsAsked sc w.actors.coordinators at) s mail was.reads
-          (request_clear sc w at part s mail.letter.from mail.letter.body (alone_built sc built) was.reads.entry_places up pairs (mail_sound sc w n mail (actor.Server at) sound sent)
-          (mail_rests sc w n mail (actor.Server at) agrees sent) said);
+          (received_clear sc w built sound agrees pairs n mail at part s sent up was.reads.entry_places);
       rests = (server_lawful sc w agrees n mail at part s sent up).rests;
     })
 

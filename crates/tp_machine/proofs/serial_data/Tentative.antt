@@ -87,7 +87,7 @@ first_upto None one number w later here e = here w e
 first_upto (Some x) one number w later here e = later w e
 
 -- and so is the last write
-last_upto : (item : ItemId) (deeds : List Deed) (number : ℕ) (w : TentativeWrite) → AreUpTo number deeds → last_kept item deeds ≡ Some w → w.query ≤ number
+pub last_upto : (item : ItemId) (deeds : List Deed) (number : ℕ) (w : TentativeWrite) → AreUpTo number deeds → last_kept item deeds ≡ Some w → w.query ≤ number
 last_upto item [] number w h e = absurd (cc)
 last_upto item (deed ∷ deeds) number w h e =
     first_upto (last_kept item deeds) (kept_one item deed) number w (λ x f. last_upto item deeds number x h.1 f) (λ x f. kept_upto deed.action item deed number x h.0 f) e

@@ -9,6 +9,7 @@ use Rattle.tp_model.specs.SerialRun.{is_serial}
 use Rattle.tp_model.specs.Trust.{is_trusted}
 use Rattle.tp_model.specs.Words.{Fact, Scenario, Step}
 use Rattle.tp_machine.proofs.ages.World.{Ages, ages_next, ages_opening}
+use Rattle.tp_machine.proofs.bounds.World.{Bounds, all_bounded, bounds_next, bounds_opening}
 use Rattle.tp_machine.proofs.agreement.End.{facts_agreed}
 use Rattle.tp_machine.proofs.agreement.Steps.{agrees_next, agrees_opening}
 use Rattle.tp_machine.proofs.agreement.World.{Agrees}
@@ -26,13 +27,14 @@ use Rattle.tp_machine.proofs.serial_data.World.{Serial}
 use Rattle.tp_machine.proofs.trust.End.{facts_caused, facts_trusted}
 use Rattle.tp_machine.proofs.trust.Steps.{trusts_next, trusts_opening}
 use Rattle.tp_machine.proofs.trust.World.{Trusts}
+use Rattle.tp_machine.specs.Bounded.{AreBounded}
 use Rattle.tp_machine.specs.Laws.{HasAllCommits, IsTrustedState}
 use Rattle.tp_machine.specs.Machine.{Machine, State, after, after_step, after_steps, machine_after, opening, opening_state, refusal}
 use Rattle.tp_machine.specs.Sound.{Each, IsSound, IsStepOf}
 use Rattle.tp_machine.specs.declared.error.StepError.{StepError}
 
 -- what holds of every world: its ids exist, its actors agree, what servers hold of a transaction is what its coordinator knows, its
--- commits are trusted and serial, and what comes from outside is what its steps say
+-- commits are trusted and serial, what comes from outside is what its steps say, and its values are bounded
 pub record Holds (sc : Scenario) (w : State) : Type 0 where
   pub sound : IsSound sc w
   pub agrees : Agrees sc w
@@ -44,10 +46,11 @@ pub record Holds (sc : Scenario) (w : State) : Type 0 where
   pub pairs : Pairs sc w
   pub serial : Serial sc w
   pub refusals : Refusals sc w
+  pub bounds : Bounds sc w
 
 pub holds_opening : (sc : Scenario) → is_built sc ≡ true → Holds sc (opening_state sc)
 holds_opening sc built =
-    record { sound = sound_opening sc built; agrees = agrees_opening sc; epochs = epochs_opening sc; ages = ages_opening sc; lone = lone_opening; outside = outside_opening sc; trusts = trusts_opening sc built; pairs = pairs_opening sc; serial = serial_opening sc built; refusals = refusals_opening sc }
+    record { sound = sound_opening sc built; agrees = agrees_opening sc; epochs = epochs_opening sc; ages = ages_opening sc; lone = lone_opening; outside = outside_opening sc; trusts = trusts_opening sc built; pairs = pairs_opening sc; serial = serial_opening sc built; refusals = refusals_opening sc; bounds = bounds_opening sc built }
 
 -- each invariant may lean on all the others before the step
 pub holds_next : (sc : Scenario) (m : Machine) (taken : Step) → is_built sc ≡ true → IsStepOf sc taken → refusal m.state taken ≡ None → Holds sc m.state → Holds sc (machine_after sc m taken).state
@@ -63,6 +66,7 @@ holds_next sc m taken built exists allowed h =
       pairs = pairs_next sc m taken built exists allowed h.sound h.agrees h.epochs h.trusts h.pairs;
       serial = serial_next sc m taken built exists allowed h.sound h.agrees h.pairs h.serial;
       refusals = refusals_next sc m taken built exists allowed h.sound h.agrees h.pairs h.serial h.refusals;
+      bounds = bounds_next sc m taken built exists allowed h.sound h.agrees h.pairs h.serial h.bounds;
     }
 
 step_holds : (sc : Scenario) (m : Machine) (taken : Step) (why : Option StepError) → refusal m.state taken ≡ why → is_built sc ≡ true → IsStepOf sc taken → Holds sc m.state
@@ -108,6 +112,11 @@ has_all_commits sc steps built exist ended =
 
 pub sound_after : (sc : Scenario) (steps : List Step) (m : Machine) → is_built sc ≡ true → Each (IsStepOf sc) steps → m ≡ after sc steps → IsSound sc m.state
 sound_after sc steps m built exist e = subst (λ (k : Machine). IsSound sc k.state) (sym e) (holds_after sc steps built exist).sound
+
+pub bounded_after : (sc : Scenario) (steps : List Step) (w : State) → is_built sc ≡ true → Each (IsStepOf sc) steps → w ≡ (after sc steps).state → AreBounded sc w
+bounded_after sc steps w built exist e =
+    let h = holds_after sc steps built exist in
+    subst (AreBounded sc) (sym e) (all_bounded sc (after sc steps).state built h.sound h.bounds)
 
 pub so_far_after : (sc : Scenario) (steps : List Step) (w : State) → is_built sc ≡ true → Each (IsStepOf sc) steps → w ≡ (after sc steps).state → IsTrustedState sc w
 so_far_after sc steps w built exist e = subst (IsTrustedState sc) (sym e) (always_trusted sc steps built exist)
