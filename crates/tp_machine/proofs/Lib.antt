@@ -4,6 +4,7 @@ pub mod basics
 pub mod bounds
 pub mod epochs
 pub mod ids
+pub mod mails
 pub mod outside
 pub mod pairs
 pub mod refusals

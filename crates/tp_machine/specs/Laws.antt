@@ -1,5 +1,5 @@
 -- What holds of every run of the machine.
-use Rattle.std.specs.Prelude.{◌≡◌, List, true}
+use Rattle.std.specs.Prelude.{◌≡◌, ◌*◌, ◌≤◌, List, length, true}
 use Rattle.tp_model.specs.Words.{Scenario, Step}
 use Rattle.tp_model.specs.Built.{is_built}
 use Rattle.tp_model.specs.SerialRun.{store_of}
@@ -27,3 +27,10 @@ abbrev pub HasAlwaysAllCommits : Type 0
 HasAlwaysAllCommits =
     (sc : Scenario) (steps : List Step) → is_built sc ≡ true → Each (IsStepOf sc) steps
     → HasAllCommits sc (after sc steps).state
+
+-- of every scenario that is run a list of steps that name what exists sends few mails: each step at most one to each server, of which
+-- there are at most 16
+abbrev pub SendsFewMails : Type 0
+SendsFewMails =
+    (sc : Scenario) (steps : List Step) → is_built sc ≡ true → Each (IsStepOf sc) steps
+    → length (after sc steps).state.mails ≤ 16 * length steps

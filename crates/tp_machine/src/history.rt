@@ -63,8 +63,10 @@ impl History {
     }
 
     /// How many mails are pending.
+    #[tactic(auto, using(crate::proofs::basics::Flags::marked_few))]
     pub fn pending_count(&self) -> u64
-        ensures { result ≡ length (marked 0 self.now.pending) }
+        ensures value { result ≡ length (marked 0 self.now.pending) }
+        ensures few { result ≤ length self.now.mails }
     {
         count_set(self.pending.as_slice())
     }

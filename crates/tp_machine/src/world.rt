@@ -1,5 +1,5 @@
 //! The world: the machine of a scenario and the steps that were done.
-ghost use Rattle.std.specs.Prelude.{◌≡◌, ◌≢◌, ℕ, ◌==◌, ◌<◌, length, true, false, Some, None, IfOk, IfErr, IfSome, OnOk, OnErr, IsErrOf, IsErr, slice_get};
+ghost use Rattle.std.specs.Prelude.{◌≡◌, ◌≢◌, ℕ, ◌==◌, ◌<◌, ◌≤◌, ◌*◌, length, true, false, Some, None, IfOk, IfErr, IfSome, OnOk, OnErr, IsErrOf, IsErr, slice_get};
 ghost use Rattle.std.specs.List.{list_any};
 ghost use Rattle.tp_model.specs.Built as built;
 ghost use Rattle.tp_model.specs.SerialRun.{overlaid, store_of};
@@ -112,9 +112,11 @@ impl World {
         &self.history.steps
     }
 
-    /// The number of mails sent so far.
+    /// The number of mails sent so far. A step sends at most 16.
     pub fn mails(&self) -> u64
-        ensures { result ≡ length self.now.machine.state.mails }
+        ensures value { result ≡ length self.now.machine.state.mails }
+        ensures few { self.now.given_up ≡ false
+            → result ≤ 16 * length self.now.machine.state.steps }
     {
         self.history.mails.len() as u64
     }
@@ -150,7 +152,9 @@ impl World {
 
     /// How many mails are undelivered. It takes a time in the number of all mails.
     pub fn undelivered_count(&self) -> u64
-        ensures { result ≡ length self.now.machine.undelivered }
+        ensures value { result ≡ length self.now.machine.undelivered }
+        ensures few { self.now.given_up ≡ false
+            → result ≤ 16 * length self.now.machine.state.steps }
     {
         self.history.pending_count()
     }

@@ -1,15 +1,19 @@
 -- What the numbers of the bound are at most.
-use Rattle.std.proofs.Common.{◌≡◌, ℕ, ◌+◌, ◌*◌, ◌≤◌, max, fold, List, [], ◌∷◌, length, not, true, arith}
+use Rattle.std.proofs.Common.{◌≡◌, ℕ, ◌+◌, ◌*◌, ◌≤◌, ◌<◌, ◌^◌, max, fold, List, [], ◌∷◌, length, not, false, true, ap, ◌∙◌, arith}
 use Rattle.std.specs.List.{list_all, list_any}
 use Rattle.std.proofs.lemmas.Bool.{and_parts}
 use Rattle.std.proofs.lemmas.Nat.{mul-le}
 use Rattle.tp_types.proofs.ListLemmas.{three_parts}
 use Rattle.tp_model.specs.Words.{Scenario, Transaction}
 use Rattle.tp_model.specs.Limits.{has_count, is_from_to}
-use Rattle.tp_model.specs.Valid.{are_distinct, has_valid_creds, is_name_of_server, is_valid_query, is_valid_txn, same_txn_name}
+use Rattle.tp_model.specs.Valid.{are_distinct, has_valid_creds, is_name_of_server, is_valid_query, is_valid_step, is_valid_txn, same_txn_name}
 use Rattle.tp_model.specs.Built.{is_built}
 use Rattle.tp_model.proofs.RuleLemmas.{count_most, few_servers, few_txns, valid_built}
+use Rattle.tp_machine.specs.Machine.{Machine}
+use Rattle.tp_machine.specs.Seen.{Seen}
 use Rattle.tp_top.specs.Auto.{most_queries, most_rounds}
+use Rattle.tp_top.specs.Run.{IsListed}
+use Rattle.tp_top.proofs.TrustedRun.{listed_steps}
 
 -- a built scenario has few transactions and few servers
 pub few_txns_built : (sc : Scenario) → is_built sc ≡ true → length sc.txns ≤ 128
@@ -64,3 +68,15 @@ work_is_small txns queries rounds servers t q r s =
     let of_txns = mul-le txns ((queries + 1) * (3 * rounds + 3) + servers + 2) 128 885 t (omega arith) in
     let mails = mul-le (16 * (txns + 1)) (servers + 1) 2064 17 (omega arith) (omega arith) in
     mul-le (txns * ((queries + 1) * (3 * rounds + 3) + servers + 2) + 1) (16 * (txns + 1) * (servers + 1)) 113281 35088 (omega arith) (omega arith)
+
+-- ---- the undelivered mails after the listed steps
+
+few_steps : (sc : Scenario) → is_built sc ≡ true → length sc.steps ≤ 100000
+few_steps sc h = count_most 0 100000 (length sc.steps) (and_parts (has_count 0 100000 sc.steps) (list_all (is_valid_step sc) sc.steps) (valid_built sc h).steps).0
+
+-- a world after its listed steps has few of them, as each sends at most 16 mails
+pub few_undelivered : (world : Seen) (undelivered : ℕ) → is_built world.scenario ≡ true → IsListed world → (world.given_up ≡ false → undelivered ≤ 16 * length world.machine.state.steps) → undelivered < 2 ^ 32
+few_undelivered world undelivered h listed_is few =
+    let done : length world.machine.state.steps ≡ length world.scenario.steps =
+    ap (λ (m : Machine). length m.state.steps) listed_is.now ∙ ap length (listed_steps world.scenario h listed_is.lawful) in
+    omega (arith, few listed_is.up, done, few_steps world.scenario h)

@@ -167,6 +167,10 @@ listed_done sc m at (taken ∷ steps) exist kinds none =
     done_first sc m taken steps (record { exists = exist.0; kind = kinds.0; allowed = n.allowed })
     (listed_done sc (machine_after sc m taken) (at + 1) steps exist.1 kinds.1 n.rest)
 
+-- the machine then has exactly these steps
+pub listed_steps : (sc : Scenario) → is_built sc ≡ true → first_refused sc ≡ None → (listed sc).state.steps ≡ sc.steps
+listed_steps sc built lawful = (listed_done sc (opening sc) 0 sc.steps (listed_exist sc built) (listed_kinds sc built) lawful).steps_are
+
 -- and the undelivered mails after them were sent
 listed_sent : (sc : Scenario) (m : Machine) (at : ℕ) (steps : List Step) → refused_from sc m at steps ≡ None → AreSent m → AreSent (after_steps sc m steps)
 listed_sent sc m at [] none h = h

@@ -1,5 +1,5 @@
 //! The answer to the word `run`, made whole before anything is written.
-ghost use Rattle.std.specs.Prelude.{◌≡◌, ◌+◌, ◌<◌, ◌^◌, true, false, length, IfOk, OnOk};
+ghost use Rattle.std.specs.Prelude.{◌≡◌, ◌+◌, true, false, IfOk, OnOk};
 ghost use Rattle.tp_model.specs.Agreement.{is_agreed};
 ghost use Rattle.tp_model.specs.Built as built;
 ghost use Rattle.tp_model.specs.Causes.{is_caused};
@@ -10,7 +10,7 @@ ghost use Rattle.tp_io.specs.Whole.{TakesAtMost, input_max};
 ghost use Rattle.tp_machine.specs.Laws.{HasAllCommits, IsTrustedState};
 ghost use Rattle.tp_machine.specs.Machine.{ending_of};
 ghost use Rattle.tp_top.specs.ReportText.{report_text};
-ghost use Rattle.tp_top.specs.Run.{Answers};
+ghost use Rattle.tp_top.specs.Run.{Answers, automatic_bound};
 ghost use Rattle.tp_top.specs.mirrors.Answers.{IsListed, IsRefusal, IsReported};
 
 use crate::auto::{Drained, bound, drain};
@@ -97,7 +97,7 @@ fn finish(alloc: Global, mut world: World) -> Result<Answer, NoMemory>
     requires here { IsListed world }
     ensures { IfOk result (IsReported world.scenario) }
 {
-    let budget = bound(world.scenario(), pending(&world)?);
+    let budget = budget_of(&world);
     match drain(&mut world, alloc, budget) {
         Drained::NoMemory => Err(NoMemory),
         Drained::Budget => Ok(Answer::Budget),
@@ -105,17 +105,13 @@ fn finish(alloc: Global, mut world: World) -> Result<Answer, NoMemory>
     }
 }
 
-/// How many mails of a world are undelivered. A world with 2^32 of them is given up for want of memory.
-fn pending(world: &World) -> Result<u64, NoMemory>
-    ensures value { IfOk result (λ count. count ≡ length world.now.machine.undelivered) }
-    ensures few { IfOk result (λ count. count < 2 ^ 32) }
+/// How many automatic steps a world is allowed after all of its listed ones. Its undelivered mails are few: at most 100,000 steps are
+/// listed, and each sends at most 16.
+fn budget_of(world: &World) -> u64
+    requires here { IsListed world.now }
+    ensures { result ≡ automatic_bound world.now.scenario }
 {
-    let count = world.undelivered_count();
-    if count < 1 << 32 {
-        Ok(count)
-    } else {
-        Err(NoMemory)
-    }
+    bound(world.scenario(), world.undelivered_count())
 }
 
 /// The facts of a world, with what is promised of each: they agree, commits are trusted, serial and apart, and aborts have causes.

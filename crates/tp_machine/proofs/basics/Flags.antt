@@ -13,6 +13,12 @@ pub length_mails_of : (place number : ℕ) (letters : List Letter) → length (m
 length_mails_of place number [] = refl
 length_mails_of place number (letter ∷ letters) = ap suc (length_mails_of place (number + 1) letters)
 
+-- no more flags are set than there are
+pub marked_few : (first : ℕ) (flags : List Bool) → length (marked first flags) ≤ length flags
+marked_few first [] = omega arith
+marked_few first (true ∷ flags) = omega (arith, marked_few (first + 1) flags)
+marked_few first (false ∷ flags) = omega (arith, marked_few (first + 1) flags)
+
 -- the first flag that is set is within the flags, or past them
 pub first_marked-le : (flags : List Bool) → first_marked flags ≤ length flags
 first_marked-le [] = omega arith

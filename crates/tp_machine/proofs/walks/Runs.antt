@@ -1,5 +1,5 @@
 -- All invariants together, after every list of steps that name what exists.
-use Rattle.std.proofs.Common.{List, None, Option, Some, [], ap, if◌then◌else◌, is_some, refl, subst, sym, true, ◌∙◌, ◌∷◌, ◌≡◌}
+use Rattle.std.proofs.Common.{List, None, Option, Some, [], ap, arith, if◌then◌else◌, is_some, length, refl, subst, sym, true, ◌*◌, ◌∙◌, ◌∷◌, ◌≡◌, ◌≤◌}
 use Rattle.tp_model.specs.Agreement.{is_agreed}
 use Rattle.tp_model.specs.Built.{is_built}
 use Rattle.tp_model.specs.Causes.{is_caused}
@@ -16,6 +16,7 @@ use Rattle.tp_machine.proofs.agreement.World.{Agrees}
 use Rattle.tp_machine.proofs.epochs.World.{Epochs, epochs_next, epochs_opening}
 use Rattle.tp_machine.proofs.ids.Queries.{homes_built}
 use Rattle.tp_machine.proofs.ids.Steps.{sound_next, sound_opening}
+use Rattle.tp_machine.proofs.mails.World.{FewMails, HasFewMails, few_next, few_opening, steps_counted}
 use Rattle.tp_machine.proofs.outside.Steps.{outside_next, outside_opening}
 use Rattle.tp_machine.proofs.pairs.World.{Pairs, pairs_next, pairs_opening}
 use Rattle.tp_machine.proofs.refusals.Steps.{refusals_next, refusals_opening}
@@ -47,10 +48,11 @@ pub record Holds (sc : Scenario) (w : State) : Type 0 where
   pub serial : Serial sc w
   pub refusals : Refusals sc w
   pub bounds : Bounds sc w
+  pub few : FewMails w
 
 pub holds_opening : (sc : Scenario) → is_built sc ≡ true → Holds sc (opening_state sc)
 holds_opening sc built =
-    record { sound = sound_opening sc built; agrees = agrees_opening sc; epochs = epochs_opening sc; ages = ages_opening sc; lone = lone_opening; outside = outside_opening sc; trusts = trusts_opening sc built; pairs = pairs_opening sc; serial = serial_opening sc built; refusals = refusals_opening sc; bounds = bounds_opening sc built }
+    record { sound = sound_opening sc built; agrees = agrees_opening sc; epochs = epochs_opening sc; ages = ages_opening sc; lone = lone_opening; outside = outside_opening sc; trusts = trusts_opening sc built; pairs = pairs_opening sc; serial = serial_opening sc built; refusals = refusals_opening sc; bounds = bounds_opening sc built; few = few_opening sc }
 
 -- each invariant may lean on all the others before the step
 pub holds_next : (sc : Scenario) (m : Machine) (taken : Step) → is_built sc ≡ true → IsStepOf sc taken → refusal m.state taken ≡ None → Holds sc m.state → Holds sc (machine_after sc m taken).state
@@ -67,6 +69,7 @@ holds_next sc m taken built exists allowed h =
       serial = serial_next sc m taken built exists allowed h.sound h.agrees h.pairs h.serial;
       refusals = refusals_next sc m taken built exists allowed h.sound h.agrees h.pairs h.serial h.refusals;
       bounds = bounds_next sc m taken built exists allowed h.sound h.agrees h.pairs h.serial h.bounds;
+      few = few_next sc m taken built exists allowed h.agrees h.few;
     }
 
 step_holds : (sc : Scenario) (m : Machine) (taken : Step) (why : Option StepError) → refusal m.state taken ≡ why → is_built sc ≡ true → IsStepOf sc taken → Holds sc m.state
@@ -108,6 +111,10 @@ has_all_commits sc steps built exist ended =
     let h = holds_after sc steps built exist in
     serial_values sc w built h.sound h.agrees h.serial ∙ values_at_end sc w built h.agrees h.serial ended
 
+-- and few mails were sent
+pub sends_few : (sc : Scenario) (steps : List Step) → is_built sc ≡ true → Each (IsStepOf sc) steps → length (after sc steps).state.mails ≤ 16 * length steps
+sends_few sc steps built exist = omega (arith, (holds_after sc steps built exist).few.mails, steps_counted sc (opening sc) steps)
+
 -- ---- the same of a world that the steps give
 
 pub sound_after : (sc : Scenario) (steps : List Step) (m : Machine) → is_built sc ≡ true → Each (IsStepOf sc) steps → m ≡ after sc steps → IsSound sc m.state
@@ -123,6 +130,9 @@ so_far_after sc steps w built exist e = subst (IsTrustedState sc) (sym e) (alway
 
 pub whole_after : (sc : Scenario) (steps : List Step) (w : State) → is_built sc ≡ true → Each (IsStepOf sc) steps → w ≡ (after sc steps).state → HasAllCommits sc w
 whole_after sc steps w built exist e = subst (HasAllCommits sc) (sym e) (has_all_commits sc steps built exist)
+
+pub few_after : (sc : Scenario) (steps : List Step) (w : State) → is_built sc ≡ true → Each (IsStepOf sc) steps → w ≡ (after sc steps).state → HasFewMails w
+few_after sc steps w built exist e = subst HasFewMails (sym e) (holds_after sc steps built exist).few.mails
 
 -- of facts, which stand when a world is given up
 

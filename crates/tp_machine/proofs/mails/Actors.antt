@@ -1,0 +1,93 @@
+-- How many letters an act sends, the rows: a server sends one, and a coordinator one, or one to each of its servers or of those that it awaits.
+use Rattle.std.proofs.Common.{Bool, List, [], arith, filter, length, map, not, subst, ℕ, ◌==◌, ◌≡◌, ◌≤◌, ◌∷◌}
+use Rattle.std.proofs.lemmas.List.{length-map}
+use Rattle.tp_types.specs.Effect.{Effect}
+use Rattle.tp_model.specs.Words.body
+use Rattle.tp_model.specs.Words.outcome
+use Rattle.tp_model.specs.Words.{Mail, Outcome, Scenario, ServerId}
+use Rattle.tp_machine.proofs.agreement.Coordinator.{awaited_in}
+use Rattle.tp_machine.proofs.basics.Lists.{by_cond}
+use Rattle.tp_machine.proofs.walks.CoordinatorRows.{coordinator_by, submit_by}
+use Rattle.tp_machine.proofs.walks.ServerRows.{server_by}
+use Rattle.tp_machine.specs.Machine.{with_age}
+use Rattle.tp_machine.specs.coord.Row as coord
+use Rattle.tp_machine.specs.coord.State.{Coordinator}
+use Rattle.tp_machine.specs.declared.coord.Phase.{Phase}
+use Rattle.tp_machine.specs.server.Row as server
+use Rattle.tp_machine.specs.server.State.{Server}
+
+-- ---- a server's rows
+
+-- a server answers with one letter, or not at all
+pub server_row_sends : (sc : Scenario) (s : Server) (mail : Mail) → length (server.server_row sc s mail).reaction.letters ≤ 1
+server_row_sends sc s mail =
+    server_by sc s mail (λ (effect : Effect Server). length effect.reaction.letters ≤ 1)
+    (record {
+      ignored = omega arith;
+      ran = λ q query entry value k. omega arith;
+      restarted = λ q k. omega arith;
+      answered = λ q entry given k. omega arith;
+      voted = λ p entry staple txn k. omega arith;
+      refused = λ p entry number value k. omega arith;
+      refused_again = λ p settled why k. omega arith;
+      settled = λ d k. omega arith;
+      acknowledged = λ d settled k. omega arith;
+    })
+
+-- ---- a coordinator's rows
+
+-- a coordinator that awaits at most so many servers
+abbrev pub AwaitsFew : ℕ → Coordinator → Type 0
+AwaitsFew most c = length (awaited_in c.phase) ≤ most
+
+-- an act of a coordinator: it awaits few servers still, and sends few letters
+pub record SendsFew (most : ℕ) (effect : Effect Coordinator) : Type 0 where
+  pub awaits : AwaitsFew most effect.state
+  pub letters : length effect.reaction.letters ≤ most
+
+fewer_left : {A : Type 0} (test : A → Bool) (xs : List A) → length (filter test xs) ≤ length xs
+fewer_left test [] = omega arith
+fewer_left {A = A} test (x ∷ xs) =
+    let later = fewer_left test xs in
+    by_cond (λ (ys : List A). length ys ≤ length (x ∷ xs)) (test x) (λ y. omega (arith, later)) (λ n. omega (arith, later))
+
+-- fewer are awaited than before
+without_few : (most : ℕ) (awaited : List ServerId) (at : ServerId) → length awaited ≤ most → length (coord.without awaited at) ≤ most
+without_few most awaited at h = omega (arith, h, fewer_left (λ (other : ServerId). not (other.0 == at.0)) awaited)
+
+-- what a phase awaits
+awaits_in : (most : ℕ) (c : Coordinator) (present : Phase) → AwaitsFew most c → c.phase ≡ present → length (awaited_in present) ≤ most
+awaits_in most c present h e = subst (λ (p : Phase). length (awaited_in p) ≤ most) e h
+
+-- a decision is sent to all of the transaction's servers
+decides_few : (most : ℕ) (c : Coordinator) (servers : List ServerId) (ended : Outcome) → length servers ≤ most
+    → length (map (λ (at : ServerId). coord.request c at (body.Decide (record { txn = c.txn; outcome = ended }))) servers) ≤ most
+decides_few most c servers ended h =
+    omega (arith, h, length-map servers (λ (at : ServerId). coord.request c at (body.Decide (record { txn = c.txn; outcome = ended }))))
+
+-- every row of a coordinator on receipt of a mail
+pub coordinator_row_sends : (most : ℕ) (sc : Scenario) (c : Coordinator) (mail : Mail) → 1 ≤ most → length c.servers ≤ most → AwaitsFew most c → SendsFew most (coord.coordinator_row sc c mail)
+coordinator_row_sends most sc c mail one servers h =
+    coordinator_by sc c mail (SendsFew most)
+    (record {
+      ignored = record { awaits = h; letters = omega arith };
+      ran_next = λ done server asked value next k home. record { awaits = omega arith; letters = one };
+      ran_last = λ done server asked value k none. record { awaits = servers; letters = one };
+      told_first = λ tell round k.
+          let few = awaits_in most c _ h k.asking in
+          record { awaits = few; letters = omega (arith, few, length-map round.awaited (coord.prepare_letter c (coord.staple_of tell mail.sent))) };
+      counted = λ reply round staple server verdicts other others y e. record { awaits = without_few most round.awaited server (awaits_in most c _ h y.checking); letters = omega arith };
+      committed = λ reply round staple server verdicts y e first agreed. record { awaits = servers; letters = decides_few most c c.servers outcome.Commit servers };
+      denied = λ reply round staple server verdicts verdict y e f. record { awaits = servers; letters = decides_few most c c.servers outcome.Abort servers };
+      refused = λ reply round staple server number value k. record { awaits = servers; letters = decides_few most c c.servers outcome.Abort servers };
+      acknowledged = λ ack ended awaited server a. record { awaits = without_few most awaited server (awaits_in most c _ h a.ending); letters = omega arith };
+    })
+
+-- the submission of a transaction
+pub submit_row_sends : (most place : ℕ) (sc : Scenario) (c : Coordinator) → 1 ≤ most → AwaitsFew most c → SendsFew most (with_age (coord.submit_row sc c) place)
+submit_row_sends most place sc c one h =
+    submit_by sc c (λ (effect : Effect Coordinator). SendsFew most (with_age effect place))
+    (record {
+      ignored = record { awaits = h; letters = omega arith };
+      sent = λ server home. record { awaits = omega arith; letters = one };
+    })
