@@ -12,7 +12,7 @@ use Rattle.tp_model.proofs.RuleLemmas.{count_most, few_servers, few_txns, valid_
 use Rattle.tp_machine.specs.Machine.{Machine}
 use Rattle.tp_machine.specs.Seen.{Seen}
 use Rattle.tp_top.specs.Auto.{most_queries, most_rounds}
-use Rattle.tp_top.specs.Run.{IsListed}
+use Rattle.tp_top.specs.mirrors.Answers.{IsListed}
 use Rattle.tp_top.proofs.TrustedRun.{listed_steps}
 
 -- a built scenario has few transactions and few servers

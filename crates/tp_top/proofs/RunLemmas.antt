@@ -11,7 +11,7 @@ use Rattle.tp_top.specs.declared.answer.Answer.TheVariants as answer
 use Rattle.tp_top.specs.Auto.{automatic_from, next_of}
 use Rattle.tp_top.specs.mirrors.Answers.{IsRefusal, IsReported}
 use Rattle.tp_scenario.specs.Reads.{IsOutOfMemory}
-use Rattle.tp_top.specs.Run.{Answers, IsRefusedFor, Reads, TakesAll, automatic_bound, listed}
+use Rattle.tp_top.specs.Run.{Answers, IsInputRefused, Reads, TakesAll, automatic_bound, listed}
 
 length-next : (sc : Scenario) (left cursor : ℕ) (m : Machine) (next : Option Step)
     → ((taken : Step) → length (automatic_from sc left cursor (after_step sc m taken)) ≤ left)
@@ -48,7 +48,7 @@ answers_reported old new faults faults' bytes sc (answer.Refused line) taken bui
 answers_reported old new faults faults' bytes sc answer.ReadFault taken built reads h = absurd h
 
 -- the line of a refusal is the answer to an input that is refused so
-pub answers_refused : (old new : Option (List ℕ)) (faults faults' : ℕ) (why : ScenarioError) (answer : Answer) → IsRefusedFor old new why → IsRefusal why answer → Answers old new faults faults' answer
+pub answers_refused : (old new : Option (List ℕ)) (faults faults' : ℕ) (why : ScenarioError) (answer : Answer) → IsInputRefused old new why → IsRefusal why answer → Answers old new faults faults' answer
 answers_refused old new faults faults' why (answer.Refused line) cause h = inl (record { why = why; cause = cause; line_is = h })
 answers_refused old new faults faults' why answer.NoMemory cause h = tt
 answers_refused old new faults faults' why (answer.Report text) cause h = absurd h

@@ -12,7 +12,7 @@ use Rattle.tp_top.specs.declared.status.Status.{Status}
 use Rattle.tp_top.specs.declared.status.Status.TheVariants.{Done, Refused, NoMemory, Budget}
 use Rattle.tp_top.specs.Auto.{is_quiet}
 use Rattle.tp_top.specs.Refusals.{refusal_line, step_line}
-use Rattle.tp_top.specs.Run.{IsRefusedBy, IsRefusedFor, IsRefusedWith, Reads, RefusesStep, RunsOut, RunsTo, TakesAll, TakesRefused, final, first_refused}
+use Rattle.tp_top.specs.Run.{HasRefusal, IsInputRefused, AreRefused, Reads, RefusesStep, RunsOut, RunsTo, TakesAll, TakesRefused, final, first_refused}
 use Rattle.tp_top.specs.declared.listed.StepRefusal.{StepRefusal}
 use Rattle.std.proofs.lemmas.Option.{same_Some}
 use Rattle.tp_top.specs.Top.{EndsRightly}
@@ -48,18 +48,18 @@ same_scenario bytes one other r s =
     let same : read_as one ≡ read_as other = says_one bytes (Ok one) (Ok other) r s in
     cc
 
-same_refusal : (bytes : List ℕ) (one other : ScenarioError) → IsRefusedWith bytes one → IsRefusedWith bytes other → one ≡ other
+same_refusal : (bytes : List ℕ) (one other : ScenarioError) → AreRefused bytes one → AreRefused bytes other → one ≡ other
 same_refusal bytes one other r s =
     let same : refused_as one ≡ refused_as other = says_one bytes (Err one) (Err other) r s in
     cc
 
-refused_or_read : (bytes : List ℕ) (why : ScenarioError) (sc : Scenario) → IsRefusedWith bytes why → Reads bytes sc → ⊥
+refused_or_read : (bytes : List ℕ) (why : ScenarioError) (sc : Scenario) → AreRefused bytes why → Reads bytes sc → ⊥
 refused_or_read bytes why sc r s =
     let same : refused_as why ≡ read_as sc = says_one bytes (Err why) (Ok sc) r s in
     cc
 
 -- too many bytes are refused as such
-long_refused : (bytes : List ℕ) → input_max < length bytes → IsRefusedWith bytes error.TooLong
+long_refused : (bytes : List ℕ) → input_max < length bytes → AreRefused bytes error.TooLong
 long_refused bytes long = inl (record { long = long; answer_is = refl })
 
 same_refused : (bytes : List ℕ) (one other : Scenario) (refused also : Option StepRefusal) → Reads bytes one → Reads bytes other → first_refused one ≡ refused → first_refused other ≡ also → refused ≡ also
@@ -114,10 +114,10 @@ budget_rightly input left' notes notes' r =
     }
 
 -- a refusal has its line
-refused_rightly : (input : List ℕ) (notes notes' : Option (List ℕ)) (why : ScenarioError) → IsRefusedWith input why
+refused_rightly : (input : List ℕ) (notes notes' : Option (List ℕ)) (why : ScenarioError) → AreRefused input why
     → Appends notes notes' (refusal_line why) → EndsRightly input Refused notes notes'
 refused_rightly input notes notes' why r written =
-    let line : (other : ScenarioError) → IsRefusedWith input other → Appends notes notes' (refusal_line other) =
+    let line : (other : ScenarioError) → AreRefused input other → Appends notes notes' (refusal_line other) =
     λ other s. subst (λ (e : ScenarioError). Appends notes notes' (refusal_line e)) (same_refusal input why other r s) written in
     record {
       too_long = λ long. inl (refl, line error.TooLong (long_refused input long));
@@ -131,9 +131,9 @@ taken_rightly : (input : List ℕ) (left' notes notes' : Option (List ℕ)) (why
     → Appends notes notes' (refusal_line why) → EndsRightly input Refused notes notes'
 taken_rightly input left' notes notes' why t written =
     refused_rightly input notes notes' why
-    (subst (λ (bs : List ℕ). IsRefusedWith bs why) (whole_input input left' t.bytes t.taken) t.refused) written
+    (subst (λ (bs : List ℕ). AreRefused bs why) (whole_input input left' t.bytes t.taken) t.refused) written
 
-refusal_rightly : (input : List ℕ) (left' notes notes' : Option (List ℕ)) (why : ScenarioError) → IsRefusedFor (Some input) left' why
+refusal_rightly : (input : List ℕ) (left' notes notes' : Option (List ℕ)) (why : ScenarioError) → IsInputRefused (Some input) left' why
     → Appends notes notes' (refusal_line why) → EndsRightly input Refused notes notes'
 refusal_rightly input left' notes notes' error.TooLong t written =
     refused_rightly input notes notes' error.TooLong (long_refused input (long_input input left' t)) written
@@ -168,7 +168,7 @@ step_rightly input left' notes notes' line r written =
         ∙ ap (λ (x : StepRefusal). step_line sc x.at x.why) same
 
 -- the line of a refusal
-line_rightly : (input : List ℕ) (left' notes notes' : Option (List ℕ)) (line : List ℕ) → IsRefusedBy (Some input) left' line → Appends notes notes' line → EndsRightly input Refused notes notes'
+line_rightly : (input : List ℕ) (left' notes notes' : Option (List ℕ)) (line : List ℕ) → HasRefusal (Some input) left' line → Appends notes notes' line → EndsRightly input Refused notes notes'
 line_rightly input left' notes notes' line (inl r) written = refusal_rightly input left' notes notes' r.why r.cause (subst (Appends notes notes') r.line_is written)
 line_rightly input left' notes notes' line (inr r) written = step_rightly input left' notes notes' line r written
 
@@ -189,6 +189,6 @@ pub budget_complete : (left left' notes notes' : Option (List ℕ)) → RunsOut 
 budget_complete None left' notes notes' r = tt
 budget_complete (Some input) left' notes notes' r = budget_rightly input left' notes notes' r
 
-pub refusal_complete : (left left' notes notes' : Option (List ℕ)) (line : List ℕ) → IsRefusedBy left left' line → Appends notes notes' line → Complete left Refused notes notes'
+pub refusal_complete : (left left' notes notes' : Option (List ℕ)) (line : List ℕ) → HasRefusal left left' line → Appends notes notes' line → Complete left Refused notes notes'
 refusal_complete None left' notes notes' line r written = tt
 refusal_complete (Some input) left' notes notes' line r written = line_rightly input left' notes notes' line r written

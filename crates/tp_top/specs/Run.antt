@@ -60,8 +60,8 @@ abbrev pub Reads : List ℕ → Scenario → Type 0
 Reads bytes scenario = Says bytes (Ok scenario)
 
 -- the bytes are refused so
-abbrev pub IsRefusedWith : List ℕ → ScenarioError → Type 0
-IsRefusedWith bytes why = Says bytes (Err why)
+abbrev pub AreRefused : List ℕ → ScenarioError → Type 0
+AreRefused bytes why = Says bytes (Err why)
 
 -- exactly these bytes were consumed, and the input is at its end
 pub record TakesAll (old new : Option (List ℕ)) (bytes : List ℕ) : Type 0 where
@@ -98,23 +98,23 @@ pub record RunsOut (old new : Option (List ℕ)) : Type 0 where
 pub record TakesRefused (old new : Option (List ℕ)) (why : ScenarioError) : Type 0 where
   pub bytes : List ℕ
   pub taken : TakesAll old new bytes
-  pub refused : IsRefusedWith bytes why
+  pub refused : AreRefused bytes why
 
 -- why the input was refused
-abbrev pub IsRefusedFor : Option (List ℕ) → Option (List ℕ) → ScenarioError → Type 0
-IsRefusedFor old new TooLong = TakesExactly (input_max + 1) old new
-IsRefusedFor old new BadJson = TakesRefused old new BadJson
-IsRefusedFor old new (Shape path) = TakesRefused old new (Shape path)
-IsRefusedFor old new (Range path) = TakesRefused old new (Range path)
-IsRefusedFor old new (Unknown path) = TakesRefused old new (Unknown path)
-IsRefusedFor old new (Policy path fault) = TakesRefused old new (Policy path fault)
-IsRefusedFor old new (NotYet path) = TakesRefused old new (NotYet path)
-IsRefusedFor old new NoMemory = ⊥
+abbrev pub IsInputRefused : Option (List ℕ) → Option (List ℕ) → ScenarioError → Type 0
+IsInputRefused old new TooLong = TakesExactly (input_max + 1) old new
+IsInputRefused old new BadJson = TakesRefused old new BadJson
+IsInputRefused old new (Shape path) = TakesRefused old new (Shape path)
+IsInputRefused old new (Range path) = TakesRefused old new (Range path)
+IsInputRefused old new (Unknown path) = TakesRefused old new (Unknown path)
+IsInputRefused old new (Policy path fault) = TakesRefused old new (Policy path fault)
+IsInputRefused old new (NotYet path) = TakesRefused old new (NotYet path)
+IsInputRefused old new NoMemory = ⊥
 
 -- the input is no scenario that can be run, and the line says why
 pub record RefusesInput (old new : Option (List ℕ)) (line : List ℕ) : Type 0 where
   pub why : ScenarioError
-  pub cause : IsRefusedFor old new why
+  pub cause : IsInputRefused old new why
   pub line_is : line ≡ refusal_line why
 
 -- the input was read whole as a scenario of which a listed step is refused, and the line says which is the first, and why
@@ -128,13 +128,13 @@ pub record RefusesStep (old new : Option (List ℕ)) (line : List ℕ) : Type 0 
   pub line_is : line ≡ step_line scenario refused.at refused.why
 
 -- the input is refused with this line
-abbrev pub IsRefusedBy : Option (List ℕ) → Option (List ℕ) → List ℕ → Type 0
-IsRefusedBy old new line = RefusesInput old new line ⊎ RefusesStep old new line
+abbrev pub HasRefusal : Option (List ℕ) → Option (List ℕ) → List ℕ → Type 0
+HasRefusal old new line = RefusesInput old new line ⊎ RefusesStep old new line
 
 -- the answer to the word run, with its cause; want of memory has none
 abbrev pub Answers : Option (List ℕ) → Option (List ℕ) → ℕ → ℕ → Answer → Type 0
 Answers old new faults faults' (answer.Report text) = RunsTo old new text.0
-Answers old new faults faults' (answer.Refused line) = IsRefusedBy old new line.0
+Answers old new faults faults' (answer.Refused line) = HasRefusal old new line.0
 Answers old new faults faults' answer.ReadFault =
     Rose faults faults' × TakesAtMost (input_max + 1) old new
 Answers old new faults faults' answer.Budget = RunsOut old new

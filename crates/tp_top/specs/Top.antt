@@ -11,7 +11,7 @@ use Rattle.tp_top.specs.declared.status.Status.TheVariants.{Done, Refused, Usage
 use Rattle.tp_top.specs.declared.listed.StepRefusal.{StepRefusal}
 use Rattle.tp_top.specs.Auto.{is_quiet}
 use Rattle.tp_top.specs.Refusals.{refusal_line, step_line, usage_line}
-use Rattle.tp_top.specs.Run.{IsRun, IsRefusedBy, IsRefusedWith, Reads, RunsOut, RunsTo, final, first_refused}
+use Rattle.tp_top.specs.Run.{IsRun, HasRefusal, AreRefused, Reads, RunsOut, RunsTo, final, first_refused}
 
 -- what a call saw of a stream: what it tells before the call and after it, and its counts of faults
 pub record Stream : Type 0 where
@@ -44,7 +44,7 @@ pub record WritesReport (input out : Stream) : Type 0 where
 -- the input, or a listed step of it, was refused, and exactly the line that says why was written
 pub record WritesRefusal (input notes : Stream) : Type 0 where
   pub line : List ℕ
-  pub cause : IsRefusedBy input.old input.new line
+  pub cause : HasRefusal input.old input.new line
   pub written : Appends notes.old notes.new line
 
 -- the report was to be written, and the sink failed after a part of it
@@ -57,7 +57,7 @@ pub record FailsInReport (input out : Stream) : Type 0 where
 -- the line of a refusal was to be written, and the sink failed after a part of it
 pub record FailsInRefusal (input notes : Stream) : Type 0 where
   pub line : List ℕ
-  pub cause : IsRefusedBy input.old input.new line
+  pub cause : HasRefusal input.old input.new line
   pub front : AppendsFront notes.old notes.new line
   pub rose : Failed notes
 
@@ -137,8 +137,8 @@ EndsWith Budget call = IsBudget call
 -- ---- which status comes, where the input is told and no count rose
 
 -- the refusal with this line, or want of memory
-abbrev pub Says : Status → Option (List ℕ) → Option (List ℕ) → List ℕ → Type 0
-Says status notes notes' line =
+abbrev pub EndsRefused : Status → Option (List ℕ) → Option (List ℕ) → List ℕ → Type 0
+EndsRefused status notes notes' line =
     ((status ≡ Refused) × Appends notes notes' line) ⊎ (status ≡ NoMemory)
 
 -- this status, or want of memory
@@ -148,12 +148,12 @@ Ends status wanted = (status ≡ wanted) ⊎ (status ≡ NoMemory)
 -- each cause in the input has its status, and its line where it is a refusal
 pub record EndsRightly (input : List ℕ) (status : Status) (notes notes' : Option (List ℕ))
     : Type 0 where
-  pub too_long : input_max < length input → Says status notes notes' (refusal_line error.TooLong)
-  pub refused : (why : ScenarioError) → IsRefusedWith input why
-      → Says status notes notes' (refusal_line why)
+  pub too_long : input_max < length input → EndsRefused status notes notes' (refusal_line error.TooLong)
+  pub refused : (why : ScenarioError) → AreRefused input why
+      → EndsRefused status notes notes' (refusal_line why)
   pub stopped : (sc : Scenario) (refused : StepRefusal) → Reads input sc
       → first_refused sc ≡ Some refused
-      → Says status notes notes' (step_line sc refused.at refused.why)
+      → EndsRefused status notes notes' (step_line sc refused.at refused.why)
   pub at_rest : (sc : Scenario) → Reads input sc → first_refused sc ≡ None
       → is_quiet sc (final sc) ≡ true → Ends status Done
   pub restless : (sc : Scenario) → Reads input sc → first_refused sc ≡ None

@@ -5,7 +5,7 @@ ghost use Rattle.tp_types.specs.Faults.{Rose};
 ghost use Rattle.tp_io.specs.Whole.{TakesAtMost, input_max};
 ghost use Rattle.tp_top.specs.declared.status.Status.TheVariants as Status;
 ghost use Rattle.tp_top.specs.Refusals.{usage_line};
-ghost use Rattle.tp_top.specs.Run.{IsRun, IsRefusedBy, RunsTo};
+ghost use Rattle.tp_top.specs.Run.{IsRun, HasRefusal, RunsTo};
 ghost use Rattle.tp_top.specs.Top.{EndsWith, EndsRightly};
 
 use crate::answer::{Answer, answer_to};
