@@ -11,4 +11,5 @@ pub mod Phases
 pub mod Servers
 pub mod Stores
 pub mod Tables
+pub mod Versions
 pub mod World

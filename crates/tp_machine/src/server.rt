@@ -18,8 +18,8 @@ use tp_model::query_at;
 use tp_store::Store;
 use tp_types::{
     AckReply, Actor, Answer, Body, DecideRequest, Deed, DoneReply, Letter, List, Mail, No,
-    NoMemory, Outcome, Place, PrepareRequest, Prepared, Query, QueryRequest, Reaction, Record,
-    Scenario, ServerId, Settled, TryClone, TxnId, Verdict, Vote, VoteReply, forced_and_sent,
+    NoMemory, Outcome, Place, PrepareRequest, Prepared, PushNotice, Query, QueryRequest, Reaction, Record,
+    Scenario, ServerId, Settled, Told, TryClone, TxnId, Verdict, Vote, VoteReply, forced_and_sent,
     ignored, none_for_each, sent_alone, taken, unbuilt,
 };
 
@@ -103,7 +103,8 @@ impl Server {
             Body::Query(request) => self.on_query(alloc, scenario, mail.sent, request),
             Body::Prepare(request) => self.on_prepare(alloc, scenario, request),
             Body::Decide(request) => self.on_decide(alloc, *request),
-            Body::Validate(_) | Body::Push(_) => Ok(unbuilt(alloc)),
+            Body::Push(push) => Ok(self.on_push(alloc, *push)),
+            Body::Validate(_) => Ok(unbuilt(alloc)),
             _ => Ok(ignored(alloc)),
         }
     }
@@ -513,6 +514,24 @@ impl Server {
         ensures { result ≡ row.ack_letter self.now txn }
     {
         self.reply(txn, Body::Ack(AckReply { txn }))
+    }
+
+    /// Learns a version that is newer than the one known.
+    fn on_push(&mut self, alloc: Global, push: PushNotice) -> Reaction
+        ensures { Gives (row.on_push self.old push) self.new result }
+    {
+        if self.store.newest(push.admin).0 >= push.version.0 {
+            return ignored(alloc);
+        }
+        self.store.told(push.admin, push.version);
+        let told = Told {
+            admin: push.admin,
+            version: push.version,
+        };
+        Reaction {
+            append: Some(Record::Told(told)),
+            letters: List::new(alloc),
+        }
     }
 
     /// Applies what a commit has written, or drops what an abort has.

@@ -92,6 +92,7 @@ server_row_ages A place sc s mail h m =
       refused_again = λ p settled why k. record { entries = h; forces = tt; letters = (tt, tt) };
       settled = λ d k. record { entries = placed_emptied (EntryAged A) s.entries d.txn.0 h; forces = tt; letters = (tt, tt) };
       acknowledged = λ d settled k. record { entries = h; forces = tt; letters = (tt, tt) };
+      pushed = λ push k. record { entries = h; forces = tt; letters = tt };
     })
 
 -- ---- a coordinator's rows

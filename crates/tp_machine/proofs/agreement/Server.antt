@@ -14,11 +14,11 @@ use Rattle.tp_model.specs.Words.body
 use Rattle.tp_model.specs.Words.log
 use Rattle.tp_model.specs.Words.outcome
 use Rattle.tp_model.specs.Words.vote
-use Rattle.tp_model.specs.Words.{Body, DecideRequest, Deed, DoneReply, Letter, Mail, No, Outcome, PrepareRequest, Prepared, Query, QueryRequest, Record, Scenario, ServerId, Settled, TxnId, Verdict, Vote}
+use Rattle.tp_model.specs.Words.{Body, DecideRequest, Deed, DoneReply, Letter, Mail, No, Outcome, PrepareRequest, Prepared, PushNotice, Query, QueryRequest, Record, Scenario, ServerId, Settled, TxnId, Verdict, Vote}
 use Rattle.tp_machine.proofs.agreement.Logs.{LogPrepared}
 use Rattle.tp_machine.proofs.basics.Ids.{same_txn_is}
 use Rattle.tp_machine.proofs.basics.Lists.{placed_emptied, placed_set}
-use Rattle.tp_machine.proofs.basics.Logs.{first_none, get_set, prepared_with, settled_with}
+use Rattle.tp_machine.proofs.basics.Logs.{first_none, get_set, prepared_still, prepared_with, settled_still, settled_with}
 use Rattle.tp_machine.proofs.serial_data.Lists.{set_elsewhere}
 use Rattle.tp_machine.proofs.walks.ServerRows.{IsFirstHere, IsFurther, IsGranted, server_by}
 use Rattle.tp_machine.specs.Logs.{prepared_in, settled_in, voted_in, while_unsettled}
@@ -27,7 +27,7 @@ use Rattle.tp_machine.specs.Runs.{deed_of}
 use Rattle.tp_machine.specs.Sound.{Each, EachPlaced}
 use Rattle.tp_machine.specs.declared.server.Ballot.{Ballot}
 use Rattle.tp_machine.specs.declared.server.Entry.{Entry}
-use Rattle.tp_machine.specs.server.Row.{ack_letter, answers, completes, ends, entry_after, entry_at, is_open, no_letter, prepared_record, refused_as, refuses, restarted_reply, server_row, settled_as, settles, votes}
+use Rattle.tp_machine.specs.server.Row.{ack_letter, answers, completes, ends, entry_after, entry_at, is_open, learns, no_letter, prepared_record, refused_as, refuses, restarted_reply, server_row, settled_as, settles, votes}
 use Rattle.tp_machine.specs.server.State.{Server}
 use Rattle.tp_machine.specs.server.Verdicts.{verdicts_on}
 
@@ -395,6 +395,20 @@ refused_again_lawful V M s kept p settled why h aborts found why_is =
       );
     }
 
+-- a version that is learnt settles and prepares nothing
+learns_lawful : (V : TxnId → Outcome → Type 0) (M : TxnId → Type 0) (s : Server) (kept : List Record) (push : PushNotice) → ServerAgrees s kept → ServerLawful V M s kept (learns s push)
+learns_lawful V M s kept push h =
+    let forced = (learns s push).reaction.append in
+    record {
+      agrees = record {
+        settled = λ txn. h.settled txn ∙ sym (settled_still txn kept forced refl);
+        unsettled = λ n found e. settled_still (record { 0 = n }) kept forced refl ∙ h.unsettled n found e;
+        prepared = λ txn. ap (option_map vote_of) (prepared_still txn kept forced refl refl) ∙ h.prepared txn;
+      };
+      rests = tt;
+      replies = tt;
+    }
+
 -- every row of a server on receipt of a mail
 pub server_row_lawful : (V : TxnId → Outcome → Type 0) (M : TxnId → Type 0) (sc : Scenario) (s : Server) (kept : List Record) (mail : Mail) → ServerAgrees s kept → RefusalsAbort kept
     → RequestRests V M mail.letter.body → ServerLawful V M s kept (server_row sc s mail)
@@ -412,4 +426,5 @@ server_row_lawful V M sc s kept mail h aborts m =
       refused_again = λ p settled why k. refused_again_lawful V M s kept p settled why h aborts k.found k.why_is;
       settled = λ d k. let rests = subst (RequestRests V M) k.said_is m in settles_lawful V M s kept d h k.unsettled rests.0 rests.1;
       acknowledged = λ d settled k. acknowledges_lawful V M s kept d settled h k.found;
+      pushed = λ push k. learns_lawful V M s kept push h;
     })

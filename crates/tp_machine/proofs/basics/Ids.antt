@@ -1,7 +1,7 @@
 -- Ids and their numbers.
 use Rattle.std.proofs.Common.{ap, true, ℕ, ◌==◌, ◌≡◌}
 use Rattle.std.proofs.lemmas.Bool.{eqb-true}
-use Rattle.tp_model.specs.Words.{ServerId, TxnId}
+use Rattle.tp_model.specs.Words.{AdminId, ServerId, TxnId}
 use Rattle.tp_model.specs.Ids.{same_txn}
 
 abbrev pub txn_number : ℕ → TxnId
@@ -9,6 +9,9 @@ txn_number n = record { 0 = n }
 
 pub same_txn_is : (one other : TxnId) → same_txn one other ≡ true → one ≡ other
 same_txn_is one other e = ap txn_number (eqb-true one.0 other.0 e)
+
+abbrev pub admin_number : ℕ → AdminId
+admin_number n = record { 0 = n }
 
 abbrev pub server_number : ℕ → ServerId
 server_number n = record { 0 = n }

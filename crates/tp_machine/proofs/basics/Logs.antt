@@ -97,6 +97,18 @@ prepared_with txn kept append =
     ap (λ (s : Option Settled). while_unsettled s (voted_in txn (log_with kept append))) (settled_with txn kept append)
     ∙ ap (while_unsettled (first_of (settled_in txn kept) (appended (settlement_in txn) append))) (voted_with txn kept append)
 
+-- a record that neither settles nor prepares the transaction leaves what the log says of it
+pub settled_still : (txn : TxnId) (kept : List Record) (append : Option Record) → appended (settlement_in txn) append ≡ None → settled_in txn (log_with kept append) ≡ settled_in txn kept
+settled_still txn kept append none = settled_with txn kept append ∙ (ap (first_of (settled_in txn kept)) none ∙ first_none (settled_in txn kept))
+
+pub prepared_still : (txn : TxnId) (kept : List Record) (append : Option Record) → appended (settlement_in txn) append ≡ None → appended (preparation_in txn) append ≡ None
+    → prepared_in txn (log_with kept append) ≡ prepared_in txn kept
+prepared_still txn kept append none unvoted =
+    prepared_with txn kept append
+    ∙ (ap (λ (s : Option Settled). while_unsettled (first_of (settled_in txn kept) s) (first_of (appended (preparation_in txn) append) (voted_in txn kept))) none
+    ∙ (ap (λ (s : Option Settled). while_unsettled s (first_of (appended (preparation_in txn) append) (voted_in txn kept))) (first_none (settled_in txn kept))
+    ∙ ap (λ (p : Option Prepared). while_unsettled (settled_in txn kept) (first_of p (voted_in txn kept))) unvoted))
+
 -- a record that prepares a transaction does it so that P holds
 abbrev pub Prepares : (TxnId → Prepared → Type 0) → Record → Type 0
 Prepares P (log.Prepared p) = P p.txn p

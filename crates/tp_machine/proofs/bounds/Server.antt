@@ -166,4 +166,5 @@ server_row_bounds sc M s mail h said reads clear =
       refused_again = λ p settled why k. stays_bounded s _ h (of_some IsBoundedNo settled.why why k.why_is (h.kept.settled p.txn.0 settled k.found), tt);
       settled = λ d k. ends_bounded s _ _ h tt tt;
       acknowledged = λ d settled k. stays_bounded s _ h (tt, tt);
+      pushed = λ push k. record { kept = record { writes = h.kept.writes; settled = h.kept.settled; entries = h.kept.entries }; forces = tt; letters = tt };
     })

@@ -9,7 +9,7 @@ use Rattle.tp_model.specs.Words.actor
 use Rattle.tp_model.specs.Words.answer
 use Rattle.tp_model.specs.Words.body
 use Rattle.tp_model.specs.Words.log
-use Rattle.tp_model.specs.Words.{Actor, Answer, Body, Deed, DoneReply, Letter, Mail, PrepareRequest, Prepared, Query, QueryRequest, Record, Scenario, ServerId, Settled, TxnId, Verdict}
+use Rattle.tp_model.specs.Words.{Actor, Answer, Body, Deed, DoneReply, Letter, Mail, PrepareRequest, Prepared, PushNotice, Query, QueryRequest, Record, Scenario, ServerId, Settled, TxnId, Verdict}
 use Rattle.tp_machine.proofs.basics.Lists.{each_append, each_as, each_found, placed_emptied, placed_set}
 use Rattle.tp_machine.proofs.basics.Phases.{is_first_at}
 use Rattle.tp_machine.proofs.epochs.Asked.{Asking, IsAsked, IsOwnNaming, LetterNamed, NamesNone, NamesOwn, naming, naming_of}
@@ -269,6 +269,10 @@ ends_made sc A s kept order letter h reply =
       replies = (reply, tt);
     }
 
+learns_made : (sc : Scenario) (A : Asking) (s : Server) (kept : List Record) (push : PushNotice) → ServerMade sc A s.server s kept → RowEpochs sc A s kept (server.learns s push)
+learns_made sc A s kept push h =
+    record { made = record { epoch_is = omega (arith, h.epoch_is, boots_push kept (log.Told (server.told_of push))); entries = h.entries }; forces = tt; replies = tt }
+
 -- every row of a server on receipt of a mail
 pub server_row_made : (sc : Scenario) (A : Asking) (s : Server) (kept : List Record) (mail : Mail) → ServerMade sc A s.server s kept → QueryFirst sc (actor.Server s.server) mail.letter.body
     → IfSome (naming_of mail.letter.body) (IsAsked A (actor.Server s.server)) → RowEpochs sc A s kept (server.server_row sc s mail)
@@ -291,4 +295,5 @@ server_row_made sc A s kept mail h first m =
       refused_again = λ p settled why k. record { made = h; forces = tt; replies = (tt, tt) };
       settled = λ d k. ends_made sc A s kept (server.settled_as d) (server.ack_letter s d.txn) h tt;
       acknowledged = λ d settled k. record { made = h; forces = tt; replies = (tt, tt) };
+      pushed = λ push k. learns_made sc A s kept push h;
     })

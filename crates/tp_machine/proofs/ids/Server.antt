@@ -1,8 +1,8 @@
 -- The server's row keeps its state sound, forces a sound record, and sends sound letters.
 use Rattle.std.specs.List.{list_all, list_any}
-use Rattle.std.proofs.Common.{Bool, IfSome, List, MatchOption, None, Option, Some, [], ap, arith, false, is_none, is_some, length, option_map, refl, slice_get, subst, suc, sym, true, unwrap_or, zero, ℕ, ℤ, ⊎_elim, ◌&&◌, ◌<◌, ◌==◌, ◌||◌, ◌∙◌, ◌∷◌, ◌≡◌}
+use Rattle.std.proofs.Common.{Bool, IfSome, List, MatchOption, None, Option, Some, [], ap, arith, false, is_none, is_some, length, option_map, refl, slice_get, slice_set, subst, suc, sym, true, unwrap_or, zero, ℕ, ℤ, ⊎_elim, ◌&&◌, ◌<◌, ◌==◌, ◌||◌, ◌∙◌, ◌∷◌, ◌≡◌}
 use Rattle.std.proofs.lemmas.Bool.{and_parts, eqb-true}
-use Rattle.std.proofs.lemmas.Option.{same_Some}
+use Rattle.std.proofs.lemmas.Option.{same_Some, slice_get_within}
 use Rattle.tp_types.specs.Effect.{Effect, ignores}
 use Rattle.tp_types.specs.Table.{flattened}
 use Rattle.tp_model.specs.Authorisation.{policy_at}
@@ -12,7 +12,7 @@ use Rattle.tp_model.specs.Queries.{item_of}
 use Rattle.tp_model.specs.Words.actor
 use Rattle.tp_model.specs.Words.body
 use Rattle.tp_model.specs.Words.no
-use Rattle.tp_model.specs.Words.{Admin, AdminId, Body, CredId, DecideRequest, Deed, DoneReply, Item, ItemId, Letter, Mail, No, PrepareRequest, Query, QueryRequest, Scenario, ServerId, Settled, Staple, Transaction, TxnId, Version}
+use Rattle.tp_model.specs.Words.{Admin, AdminId, Body, CredId, DecideRequest, Deed, DoneReply, Item, ItemId, Letter, Mail, No, PrepareRequest, PushNotice, Query, QueryRequest, Scenario, ServerId, Settled, Staple, Transaction, TxnId, Version}
 use Rattle.tp_machine.proofs.basics.Lists.{each_append, each_found, each_get, each_map, placed_emptied, placed_set}
 use Rattle.tp_machine.proofs.basics.Stores.{ended_each, ended_known, kept_each, kept_known}
 use Rattle.tp_machine.proofs.ids.Valid.{IsValid, IsValidItem}
@@ -21,12 +21,13 @@ use Rattle.tp_machine.proofs.walks.ServerRows.{IsFirstHere, IsFurther, IsGranted
 use Rattle.tp_machine.specs.Runs.{deed_of}
 use Rattle.tp_machine.specs.Sound.{AreCreds, AreSoundVerdicts, AreVersions, AreVersionsOf, Each, IsAdmin, IsCred, IsItemOf, IsQueryOf, IsReasonOf, IsSettledOf, IsSoundBody, IsSoundDeedAt, IsSoundDone, IsSoundEntry, IsSoundLetter, IsSoundNo, IsSoundQuery, IsSoundRefusal, IsSoundServer, IsSoundServerRecord, IsSoundSettled, IsSoundVerdict, IsTxn, IsVersion, IsVersionOf, IsWriteOf}
 use Rattle.tp_machine.specs.declared.server.Entry.{Entry}
-use Rattle.tp_machine.specs.server.Row.{ack_letter, answers, completes, done_reply, ends, entry_after, no_letter, refused_as, refuses, reply, restarted_reply, server_row, settled_as, settles, votes}
+use Rattle.tp_machine.specs.server.Row.{ack_letter, answers, completes, done_reply, ends, entry_after, learns, no_letter, refused_as, refuses, reply, restarted_reply, server_row, settled_as, settles, votes}
 use Rattle.tp_machine.specs.server.State.{Server}
 use Rattle.tp_machine.specs.server.Verdicts.{admin_of, verdict_on, verdicts_on, version_known}
 use Rattle.tp_store.proofs.OutsideLemmas.{first_is_least}
+use Rattle.tp_store.specs.Contents.{Contents}
 use Rattle.tp_store.specs.Laws.{IsLeastOutside}
-use Rattle.tp_store.specs.Rule.{first_outside_in, writes_of}
+use Rattle.tp_store.specs.Rule.{first_outside_in, greater, newest_in, with_version, writes_of}
 use Rattle.tp_store.specs.Writes.{is_outside}
 
 -- what a server's act leaves is sound: its state, still of the same server, what it forces and what it sends
@@ -120,6 +121,27 @@ pub known_version : (sc : Scenario) (s : Server) (admin : AdminId) → IsSoundSe
 known_version sc s admin h within =
     let found = version_of sc.admins s.store.known admin.0 (record { 0 = 1 }) h.known within in
     record { declared = found.0; declared_is = found.1; in_library = found.2 }
+
+greater_of : (declared : Admin) (one other : Version) → IsVersionOf declared one → IsVersionOf declared other → IsVersionOf declared (greater one other)
+greater_of declared one other h k = (omega (arith, h.0), omega (arith, h.1, k.1))
+
+versions_set : (admins : List Admin) (versions : List Version) (n : ℕ) (new : Version) → AreVersionsOf admins versions → ((declared : Admin) → slice_get admins n ≡ Some declared → IsVersionOf declared new)
+    → AreVersionsOf admins (slice_set versions n new)
+versions_set [] [] n new h of = tt
+versions_set [] (version ∷ versions) n new h of = absurd h
+versions_set (admin ∷ admins) [] n new h of = absurd h
+versions_set (admin ∷ admins) (version ∷ versions) zero new h of = (of admin refl, h.1)
+versions_set (admin ∷ admins) (version ∷ versions) (suc n) new h of = (h.0, versions_set admins versions n new h.1 of)
+
+-- what is known stays sound as a version is learnt that exists
+known_more : (sc : Scenario) (store : Contents) (admin : AdminId) (version : Version) → AreVersions sc store.known → IsVersion sc admin version → AreVersions sc (with_version store admin version).known
+known_more sc store admin version h v =
+    let old = version_of sc.admins store.known admin.0 (record { 0 = 1 }) h (slice_get_within sc.admins admin.0 v.declared v.declared_is) in
+    versions_set sc.admins store.known admin.0 (greater (newest_in store admin) version) h
+    (λ declared e.
+    let one : old.0 ≡ declared = same_Some old.0 declared (sym old.1 ∙ e) in
+    let other : v.declared ≡ declared = same_Some v.declared declared (sym v.declared_is ∙ e) in
+    greater_of declared (newest_in store admin) version (subst (λ (d : Admin). IsVersionOf d (newest_in store admin)) one old.2) (subst (λ (d : Admin). IsVersionOf d version) other v.in_library))
 
 -- what is among credentials that exist exists
 among_exists : (sc : Scenario) (creds : List CredId) (cred : CredId) → AreCreds sc creds → is_among creds cred ≡ true → IsCred sc cred
@@ -224,6 +246,17 @@ settled_reason sc s txn settled why h found why_is =
 no_letter_sound : (sc : Scenario) (s : Server) (p : PrepareRequest) (why : No) → IsSoundServer sc s → IsTxn sc p.txn → IsReasonOf sc s.server p.txn why → IsSoundLetter sc (no_letter s p why)
 no_letter_sound sc s p why h exists reason = reply_sound sc s p.txn _ h exists (record { txn = exists; goes_to = refl; ballot = named_reason sc s.server p.txn why reason }) reason
 
+-- ---- Push
+
+learns_sound : (sc : Scenario) (s : Server) (push : PushNotice) → IsSoundServer sc s → IsVersion sc push.admin push.version → IsSoundServerEffect sc s (learns s push)
+learns_sound sc s push h v =
+    record {
+      same_server = refl;
+      state_is = record { exists = h.exists; known = known_more sc s.store push.admin push.version h.known v; writes = h.writes; settled = h.settled; entries = h.entries };
+      forces = v;
+      sends_only = tt;
+    }
+
 -- ---- all mails
 
 pub server_row_sound : (sc : Scenario) (s : Server) (mail : Mail) → IsValid sc → IsSoundServer sc s → IsSoundBody sc (actor.Server s.server) mail.letter.body
@@ -254,6 +287,7 @@ server_row_sound sc s mail valid h m =
             forces = tt;
             sends_only = (reply_sound sc s d.txn _ h (said k.said_is).txn (record { txn = (said k.said_is).txn; goes_to = refl }) tt, tt);
           };
+      pushed = λ push k. learns_sound sc s push h (said k.said_is).version;
     })
   where
     said : {body : Body} → mail.letter.body ≡ body → IsSoundBody sc (actor.Server s.server) body

@@ -32,6 +32,7 @@ server_row_sends sc s mail =
       refused_again = λ p settled why k. omega arith;
       settled = λ d k. omega arith;
       acknowledged = λ d settled k. omega arith;
+      pushed = λ push k. omega arith;
     })
 
 -- ---- a coordinator's rows

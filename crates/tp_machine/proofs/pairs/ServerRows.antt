@@ -14,12 +14,12 @@ use Rattle.tp_model.specs.Words.actor
 use Rattle.tp_model.specs.Words.body
 use Rattle.tp_model.specs.Words.log
 use Rattle.tp_model.specs.Words.query
-use Rattle.tp_model.specs.Words.{Body, DecideRequest, Deed, DoneReply, Letter, Mail, No, PrepareRequest, Prepared, Query, QueryRequest, Record, Scenario, ServerId, Settled, Transaction, TxnId}
+use Rattle.tp_model.specs.Words.{Body, DecideRequest, Deed, DoneReply, Letter, Mail, No, PrepareRequest, Prepared, PushNotice, Query, QueryRequest, Record, Scenario, ServerId, Settled, Transaction, TxnId}
 use Rattle.tp_machine.proofs.agreement.Server.{ServerAgrees, open_unsettled}
 use Rattle.tp_machine.proofs.agreement.Steps.{same_txn_from}
 use Rattle.tp_machine.proofs.basics.Ids.{same_txn_is}
 use Rattle.tp_machine.proofs.basics.Lists.{each_found, set_here}
-use Rattle.tp_machine.proofs.basics.Logs.{appended, first_none, prepared_with, settled_with}
+use Rattle.tp_machine.proofs.basics.Logs.{appended, first_none, prepared_still, prepared_with, settled_still, settled_with}
 use Rattle.tp_machine.proofs.epochs.Server.{boots_push}
 use Rattle.tp_machine.proofs.pairs.Actors.{AllFit, AllNext, pair_up, site_of}
 use Rattle.tp_machine.proofs.pairs.Ends as end
@@ -43,7 +43,7 @@ use Rattle.tp_machine.specs.Sound.{Each, IsSoundBody, IsSoundDone, IsSoundQuery,
 use Rattle.tp_machine.specs.Sums.{clamped_sum, registers_after, sum_asked}
 use Rattle.tp_machine.specs.declared.server.Ballot.{Ballot}
 use Rattle.tp_machine.specs.declared.server.Entry.{Entry}
-use Rattle.tp_machine.specs.server.Row.{ack_letter, age_of, answer_to, answers, asked_query, casts, completes, done_reply, ends, entry_after, entry_at, no_letter, prepared_record, refused_as, refuses, restarts, server_row, settled_as, settles, value_of_run}
+use Rattle.tp_machine.specs.server.Row.{ack_letter, age_of, answer_to, answers, asked_query, casts, completes, done_reply, ends, entry_after, entry_at, learns, no_letter, prepared_record, refused_as, refuses, restarts, server_row, settled_as, settles, told_of, value_of_run}
 use Rattle.tp_machine.specs.server.State.{Server}
 use Rattle.tp_machine.specs.server.Verdicts.{verdicts_on}
 
@@ -145,20 +145,19 @@ pub record IsOwnAct (owner : TxnId) (s now : Server) (append : Option Record) : 
   pub entries : now.entries ≡ slice_set s.entries owner.0 entry
   pub own : IfSome append (IsOwnRecord owner)
 
+-- the pair stays where the entry does, and what is forced is of another transaction, or of none
+still_pair : (a : Option Asker) (txn : TxnId) (s now : Server) (kept : List Record) (append : Option Record) → entry_at now txn ≡ entry_at s txn → epoch_in (log_with kept append) ≡ epoch_in kept
+    → appended (settlement_in txn) append ≡ None → appended (preparation_in txn) append ≡ None → pair_up txn a now (log_with kept append) ≡ pair_up txn a s kept
+still_pair a txn s now kept append entry epoch none unvoted =
+    same_made a (epoch_in (log_with kept append)) (epoch_in kept) (settled_in txn (log_with kept append)) (settled_in txn kept) (entry_at now txn) (entry_at s txn) (prepared_in txn (log_with kept append)) (prepared_in txn kept)
+    epoch (settled_still txn kept append none) entry (prepared_still txn kept append none unvoted)
+
 -- the pair of another transaction stays
 pub other_pair : (a : Option Asker) (owner txn : TxnId) (s now : Server) (kept : List Record) (append : Option Record) → same_txn owner txn ≡ false → IsOwnAct owner s now append
     → pair_up txn a now (log_with kept append) ≡ pair_up txn a s kept
 other_pair a owner txn s now kept append apart act =
-    let none : appended (settlement_in txn) append ≡ None = settled_apart txn owner append apart act.own in
-    let same : settled_in txn (log_with kept append) ≡ settled_in txn kept = settled_with txn kept append ∙ (ap (first_of (settled_in txn kept)) none ∙ first_none (settled_in txn kept)) in
-    let entry : entry_at now txn ≡ entry_at s txn = ap (λ (table : List (Option Entry)). flattened (slice_get table txn.0)) act.entries ∙ ap flattened (set_elsewhere s.entries owner.0 txn.0 act.entry apart) in
-    let prepared : prepared_in txn (log_with kept append) ≡ prepared_in txn kept =
-    prepared_with txn kept append
-    ∙ (ap (λ (x : Option Settled). while_unsettled (first_of (settled_in txn kept) x) (first_of (appended (preparation_in txn) append) (voted_in txn kept))) none
-    ∙ (ap (λ (x : Option Settled). while_unsettled x (first_of (appended (preparation_in txn) append) (voted_in txn kept))) (first_none (settled_in txn kept))
-    ∙ ap (λ (x : Option Prepared). while_unsettled (settled_in txn kept) (first_of x (voted_in txn kept))) (prepared_apart txn owner append apart act.own))) in
-    same_made a (epoch_in (log_with kept append)) (epoch_in kept) (settled_in txn (log_with kept append)) (settled_in txn kept) (entry_at now txn) (entry_at s txn) (prepared_in txn (log_with kept append)) (prepared_in txn kept)
-    (same_epoch_in owner kept append act.own) same entry prepared
+    still_pair a txn s now kept append (ap (λ (table : List (Option Entry)). flattened (slice_get table txn.0)) act.entries ∙ ap flattened (set_elsewhere s.entries owner.0 txn.0 act.entry apart))
+    (same_epoch_in owner kept append act.own) (settled_apart txn owner append apart act.own) (prepared_apart txn owner append apart act.own)
 
 next_by : (sc : Scenario) (at : ℕ) (P Q : TxnId → Pair) (owner txn : TxnId) (declared : Transaction) (b : Bool) → same_txn owner txn ≡ b → Fits (site_of sc at declared) (P txn)
     → (b ≡ true → Next (site_of sc at declared) (P txn) (Q txn)) → (b ≡ false → Q txn ≡ P txn) → Next (site_of sc at declared) (P txn) (Q txn)
@@ -475,6 +474,20 @@ refuses_pairs sc A s kept p entry why h fresh exists found unvoted asked =
 refused_again_pairs : (sc : Scenario) (A : TxnId → Option Asker) (s : Server) (kept : List Record) (p : PrepareRequest) (why : No) → ServerPaired sc A s kept → RowPairs sc A s kept (sends s (no_letter s p why ∷ []))
 refused_again_pairs sc A s kept p why h = let still = ignores_pairs sc A s kept h in record { next = still.next; places = still.places; replies = (record { from_is = refl; says = tt }, tt) }
 
+-- ---- Push
+
+learns_pairs : (sc : Scenario) (A : TxnId → Option Asker) (s : Server) (kept : List Record) (push : PushNotice) → ServerPaired sc A s kept → RowPairs sc A s kept (learns s push)
+learns_pairs sc A s kept push h =
+    let forced = log.Told (told_of push) in
+    record {
+      next = λ txn declared found.
+          let p = pair_up txn (A txn) s kept in
+          subst (Next (site_of sc s.server.0 declared) p) (sym (still_pair (A txn) txn s (learns s push).state kept (Some forced) refl (omega (arith, boots_push kept forced)) refl refl))
+          (next_same (site_of sc s.server.0 declared) p (h.fits txn declared found));
+      places = refl;
+      replies = tt;
+    }
+
 -- ---- all mails
 
 -- every row of a server on receipt of a mail
@@ -504,4 +517,5 @@ server_row_pairs sc A s kept mail h sound m asked =
       settled = λ d k.
           settles_pairs sc A s kept d h (open_unsettled s kept d.txn h.agrees k.unsettled) (subst (IsSoundBody sc to) k.said_is m).txn (subst (RequestPairs sc s.server A P) k.said_is asked);
       acknowledged = λ d settled k. acknowledges_pairs sc A s kept d h;
+      pushed = λ push k. learns_pairs sc A s kept push h;
     })

@@ -191,6 +191,7 @@ server_row_shown sc w n mail at part s built sound a pairs serial sent up =
       refused_again = λ p settled why k. tt;
       settled = λ d k awaiting. tt;
       acknowledged = λ d settled k. tt;
+      pushed = λ push k. tt;
     })
 
 -- what is settled after the act was settled before it, or by it

@@ -13,7 +13,7 @@ use Rattle.tp_model.specs.Words.body
 use Rattle.tp_model.specs.Words.log
 use Rattle.tp_model.specs.Words.outcome
 use Rattle.tp_model.specs.Words.query
-use Rattle.tp_model.specs.Words.{Body, Deed, Letter, Mail, Outcome, PrepareRequest, Prepared, Query, QueryRequest, Record, Scenario, Settled, Staple, Transaction, TxnId}
+use Rattle.tp_model.specs.Words.{Body, Deed, Letter, Mail, Outcome, PrepareRequest, Prepared, PushNotice, Query, QueryRequest, Record, Scenario, Settled, Staple, Transaction, TxnId}
 use Rattle.tp_machine.proofs.agreement.Server.{cast_in, vote_by, written_over}
 use Rattle.tp_machine.proofs.basics.Ids.{same_txn_is}
 use Rattle.tp_machine.proofs.basics.Lists.{missing, placed_emptied_others, placed_set, set_here}
@@ -30,7 +30,7 @@ use Rattle.tp_machine.specs.Runs.{deed_of}
 use Rattle.tp_machine.specs.Sound.{EachPlaced}
 use Rattle.tp_machine.specs.declared.server.Ballot.{Ballot}
 use Rattle.tp_machine.specs.declared.server.Entry.{Entry}
-use Rattle.tp_machine.specs.server.Row.{ack_letter, answer_to, asked_query, completes, ended_store, ends, entry_after, entry_at, is_open, kept_by, no_letter, refused_as, reply, restarted_reply, server_row, settled_as, tentative_write, value_of_run, votes}
+use Rattle.tp_machine.specs.server.Row.{ack_letter, answer_to, asked_query, completes, ended_store, ends, entry_after, entry_at, is_open, kept_by, learns, no_letter, refused_as, reply, restarted_reply, server_row, settled_as, tentative_write, value_of_run, votes}
 use Rattle.tp_machine.specs.server.State.{Server}
 use Rattle.tp_machine.specs.server.Verdicts.{verdicts_on}
 use Rattle.tp_store.specs.Contents.{Contents}
@@ -328,6 +328,17 @@ ends_keep sc M s d letter h m =
       values = values;
     }
 
+-- ---- Push
+
+learns_keep : (sc : Scenario) (M : TxnId → Type 0) (s : Server) (push : PushNotice) → ServerReads sc s → ServerKeeps sc M s (learns s push)
+learns_keep sc M s push h =
+    record {
+      reads = record { reads = h.reads; items_are = h.items_are; bounds_are = h.bounds_are; places = h.places; entry_places = h.entry_places; last = h.last };
+      forces = tt;
+      fresh = tt;
+      values = refl;
+    }
+
 -- ---- all mails
 
 -- every row of a server on receipt of a mail
@@ -344,4 +355,5 @@ server_row_keeps sc M s mail h clear =
       refused_again = λ p settled why k. stays_keep sc M s (no_letter s p why ∷ []) h;
       settled = λ d k. ends_keep sc M s (settled_as d) (ack_letter s d.txn) h (subst (RequestClear sc M s) k.said_is clear);
       acknowledged = λ d settled k. stays_keep sc M s (ack_letter s d.txn ∷ []) h;
+      pushed = λ push k. learns_keep sc M s push h;
     })

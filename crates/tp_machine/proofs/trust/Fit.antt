@@ -74,6 +74,10 @@ AnswerFits sc facts place txn (answer.Ran value verdict) = IfSome verdict (Right
 AnswerFits sc facts place txn (answer.Denied verdict) = Right sc facts place txn verdict
 AnswerFits sc facts place txn _ = Unit {0}
 
+-- a version of an administrator is none above the newest
+abbrev pub IsPublished : Scenario → List Fact → ℕ → AdminId → Version → Type 0
+IsPublished sc facts place admin version = version.0 ≤ newest sc admin place facts
+
 -- what a mail that was sent at a place says of itself
 abbrev pub BodyFits : Scenario → List Fact → ℕ → ℕ → Body → Type 0
 BodyFits sc facts place sent (body.Query q) = IfSome q.staple (StapleFits sc facts place q.txn)
@@ -82,6 +86,7 @@ BodyFits sc facts place sent (body.Ask ask) = IsSubmitted facts ask.txn
 BodyFits sc facts place sent (body.Tell tell) = StapleFits sc facts place tell.txn (staple_of tell sent)
 BodyFits sc facts place sent (body.Prepare p) = IfSome p.staple (StapleFits sc facts place p.txn)
 BodyFits sc facts place sent (body.Vote reply) = VoteFits sc facts place reply.txn reply.vote
+BodyFits sc facts place sent (body.Push push) = IsPublished sc facts place push.admin push.version
 BodyFits sc facts place sent _ = Unit {0}
 
 abbrev pub MailFits : Scenario → List Fact → ℕ → Mail → Type 0
@@ -222,6 +227,7 @@ body_stays sc old new low high sent (body.Tell tell) l h = staple_stays sc old n
 body_stays sc old new low high sent (body.Prepare p) l h =
     maybe_stays (StapleFits sc old low p.txn) (StapleFits sc new high p.txn) p.staple (λ s f. staple_stays sc old new low high p.txn s l f) h
 body_stays sc old new low high sent (body.Vote reply) l h = vote_stays sc old new low high reply.txn reply.vote l h
+body_stays sc old new low high sent (body.Push push) l h = omega (arith, h, newest_rises sc push.admin old new low high l)
 body_stays sc old new low high sent _ l h = tt
 
 pub server_stays : (sc : Scenario) (old new : List Fact) (low high : ℕ) (s : Server) → Later old new low high → ServerFits sc old low s → ServerFits sc new high s

@@ -10,13 +10,15 @@ use Rattle.tp_model.specs.Queries.{query_at}
 use Rattle.tp_model.specs.Versions.{newest}
 use Rattle.tp_model.specs.Words.body
 use Rattle.tp_model.specs.Words.vote
-use Rattle.tp_model.specs.Words.{Admin, AdminId, Body, Deed, DoneReply, Fact, Item, Letter, Mail, No, Policy, PrepareRequest, Query, QueryRequest, Record, Scenario, ServerId, Settled, Staple, Transaction, TxnId, Verdict, Version}
+use Rattle.tp_model.specs.Words.{Admin, AdminId, Body, Deed, DoneReply, Fact, Item, Letter, Mail, No, Policy, PrepareRequest, PushNotice, Query, QueryRequest, Record, Scenario, ServerId, Settled, Staple, Transaction, TxnId, Verdict, Version}
 use Rattle.tp_machine.proofs.basics.Lists.{each_append, each_found, each_map, placed_emptied, placed_set}
+use Rattle.tp_machine.proofs.basics.Ids.{admin_number}
 use Rattle.tp_machine.proofs.basics.Stores.{ended_known, kept_known}
+use Rattle.tp_machine.proofs.basics.Versions.{known_most}
 use Rattle.tp_machine.proofs.ids.Server.{verdict_sound}
 use Rattle.tp_machine.proofs.ids.Valid.{IsValid}
 use Rattle.tp_machine.proofs.trust.Evaluation.{evaluate_right}
-use Rattle.tp_machine.proofs.trust.Fit.{AreAll, BodyFits, IsRight, Right, ServerFits, StapleFits, VerdictsFit, deed_numbers, numbers_of}
+use Rattle.tp_machine.proofs.trust.Fit.{AreAll, BodyFits, IsPublished, IsRight, Right, ServerFits, StapleFits, VerdictsFit, deed_numbers, numbers_of}
 use Rattle.tp_machine.proofs.trust.Kept.{AreKept, IsKept, IsTrusted, RecordKept}
 use Rattle.tp_machine.proofs.trust.Turns.{Answers, IsClosed, PrepareNow, Stamp, VoteNow, stamp_of}
 use Rattle.tp_machine.proofs.trust.Whole.{WholeMail}
@@ -27,7 +29,7 @@ use Rattle.tp_machine.specs.Sound.{Each, IsQueryAt, IsSoundDeedAt, IsSoundEntry,
 use Rattle.tp_machine.specs.declared.coord.Phase.TheVariants as phase
 use Rattle.tp_machine.specs.declared.coord.Phase.{Phase}
 use Rattle.tp_machine.specs.declared.server.Entry.{Entry}
-use Rattle.tp_machine.specs.server.Row.{ack_letter, answers, completes, done_reply, ends, entry_after, entry_at, no_letter, refused_as, restarted_reply, server_row, settled_as, votes}
+use Rattle.tp_machine.specs.server.Row.{ack_letter, answers, completes, done_reply, ends, entry_after, entry_at, learns, no_letter, refused_as, restarted_reply, server_row, settled_as, votes}
 use Rattle.tp_machine.specs.server.State.{Server}
 use Rattle.tp_machine.specs.server.Verdicts.{verdict_on, verdicts_on}
 
@@ -257,6 +259,23 @@ ends_trusts sc facts place T s d letter h l =
       timely = (l.timely, tt);
     }
 
+-- ---- Push
+
+learns_trusts : (sc : Scenario) (facts : List Fact) (place : ℕ) (T : Body → Type 0) (s : Server) (push : PushNotice) → ServerTrusted sc facts place T s → IsPublished sc facts place push.admin push.version
+    → RowTrusts sc facts place T (learns s push)
+learns_trusts sc facts place T s push h new =
+    record {
+      fits = record {
+        known = λ admin within.
+            known_most s.store push.admin admin push.version (newest sc admin place facts) (h.fits.known admin within)
+            (λ same. subst (λ (a : AdminId). push.version.0 ≤ newest sc a place facts) (ap admin_number same) new);
+      };
+      keeps = h.keeps;
+      forces = tt;
+      says = tt;
+      timely = tt;
+    }
+
 -- every row of a server on receipt of a mail
 pub server_row_trusts : (sc : Scenario) (facts : List Fact) (place : ℕ) (T : Body → Type 0) (s : Server) (mail : Mail) → IsValid sc → IsSoundServer sc s → ServerTrusted sc facts place T s
     → BodyFits sc facts place mail.sent mail.letter.body → WholeMail sc s mail.letter.body → IsClosed T → T mail.letter.body → RowTrusts sc facts place T (server_row sc s mail)
@@ -280,4 +299,5 @@ server_row_trusts sc facts place T s mail valid sound h f whole closed t =
           record { fits = h.fits; keeps = h.keeps; forces = tt; says = (l.says, tt); timely = (l.timely, tt) };
       settled = λ d k. ends_trusts sc facts place T s (settled_as d) (ack_letter s d.txn) h (record { says = tt; timely = tt });
       acknowledged = λ d settled k. record { fits = h.fits; keeps = h.keeps; forces = tt; says = (tt, tt); timely = (tt, tt) };
+      pushed = λ push k. learns_trusts sc facts place T s push h (subst (BodyFits sc facts place mail.sent) k.said_is f);
     })

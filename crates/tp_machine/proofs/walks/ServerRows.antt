@@ -1,19 +1,19 @@
 -- A server's row is walked once: what is shown of each of its outcomes holds of the row. A new outcome is a field here, and of each theorem's cases.
 use Rattle.std.specs.Option.{option_map_or}
-use Rattle.std.proofs.Common.{None, Option, Some, [], false, inl, inr, is_none, is_some, not, refl, slice_get, true, ℕ, ℤ, ◌&&◌, ◌==◌, ◌∷◌, ◌≡◌, ◌⊎◌}
+use Rattle.std.proofs.Common.{None, Option, Some, [], false, inl, inr, is_none, is_some, nat_lt, not, refl, slice_get, true, ℕ, ℤ, ◌&&◌, ◌==◌, ◌∷◌, ◌≡◌, ◌⊎◌}
 use Rattle.std.proofs.lemmas.Bool.{not-false}
 use Rattle.tp_types.specs.Effect.{Effect, ignores, sends}
 use Rattle.tp_types.specs.Table.{flattened}
 use Rattle.tp_model.specs.Limits.{is_empty}
 use Rattle.tp_model.specs.Words.body
 use Rattle.tp_model.specs.Words.no
-use Rattle.tp_model.specs.Words.{Body, DecideRequest, DoneReply, Mail, No, PrepareRequest, Query, QueryRequest, Scenario, Settled, Staple, Transaction}
+use Rattle.tp_model.specs.Words.{Body, DecideRequest, DoneReply, Mail, No, PrepareRequest, PushNotice, Query, QueryRequest, Scenario, Settled, Staple, Transaction}
 use Rattle.tp_machine.proofs.basics.Lists.{by_cond}
 use Rattle.tp_machine.specs.Runs.{deed_of}
 use Rattle.tp_machine.specs.declared.server.Entry.{Entry}
-use Rattle.tp_machine.specs.server.Row.{ack_letter, age_of, answer_to, answers, asked_query, asked_to_vote, completes, entry_at, evaluates, is_open, names_another_epoch, new_entry, no_letter, on_body, on_granted, on_open_query, on_refused, on_settled_decide, on_settled_prepare, on_unlost_query, refuses, restarts, runs_query, runs_with, server_row, settles, value_of_run, votes, votes_in_range, votes_with}
+use Rattle.tp_machine.specs.server.Row.{ack_letter, age_of, answer_to, answers, asked_query, asked_to_vote, completes, entry_at, evaluates, is_open, learns, names_another_epoch, new_entry, no_letter, on_body, on_granted, on_open_query, on_refused, on_settled_decide, on_settled_prepare, on_unlost_query, refuses, restarts, runs_query, runs_with, server_row, settles, value_of_run, votes, votes_in_range, votes_with}
 use Rattle.tp_machine.specs.server.State.{Server}
-use Rattle.tp_machine.specs.server.Verdicts.{verdicts_on}
+use Rattle.tp_machine.specs.server.Verdicts.{verdicts_on, version_known}
 use Rattle.tp_store.specs.Rule.{first_outside_in}
 
 -- ---- outcomes
@@ -88,6 +88,11 @@ pub record IsLateOrder (s : Server) (mail : Mail) (d : DecideRequest) (settled :
   pub said_is : mail.letter.body ≡ body.Decide d
   pub found : flattened (slice_get s.settled d.txn.0) ≡ Some settled
 
+-- a version that is newer than the one known is pushed
+pub record IsNews (s : Server) (mail : Mail) (push : PushNotice) : Type 0 where
+  pub said_is : mail.letter.body ≡ body.Push push
+  pub newer : nat_lt (version_known s push.admin).0 push.version.0 ≡ true
+
 -- what is to be shown of the outcomes of a receipt: P of the effect
 pub record ServerCases (sc : Scenario) (s : Server) (mail : Mail) (P : Effect Server → Type 0) : Type 0 where
   pub ignored : P (ignores s)
@@ -99,6 +104,7 @@ pub record ServerCases (sc : Scenario) (s : Server) (mail : Mail) (P : Effect Se
   pub refused_again : (p : PrepareRequest) (settled : Settled) (why : No) → IsLateRequest s mail p settled why → P (sends s (no_letter s p why ∷ []))
   pub settled : (d : DecideRequest) → IsOrder s mail d → P (settles s d)
   pub acknowledged : (d : DecideRequest) (settled : Settled) → IsLateOrder s mail d settled → P (sends s (ack_letter s d.txn ∷ []))
+  pub pushed : (push : PushNotice) → IsNews s mail push → P (learns s push)
 
 -- ---- Query
 
@@ -197,6 +203,7 @@ said_by sc s mail P cases (body.Prepare p) e =
     (λ settled. late_request_by sc s mail P cases p (flattened (slice_get s.settled p.txn.0)) e refl)
 said_by sc s mail P cases (body.Decide d) e =
     by_cond P (is_open s d.txn) (λ unsettled. cases.settled d (record { said_is = e; unsettled = unsettled })) (λ settled. late_by sc s mail P cases d (flattened (slice_get s.settled d.txn.0)) e refl)
+said_by sc s mail P cases (body.Push push) e = by_cond P (nat_lt (version_known s push.admin).0 push.version.0) (λ newer. cases.pushed push (record { said_is = e; newer = newer })) (λ known. cases.ignored)
 said_by sc s mail P cases _ e = cases.ignored
 
 -- what is shown of each outcome holds of the row

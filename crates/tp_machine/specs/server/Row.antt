@@ -1,7 +1,7 @@
 -- A server's row: what it does on receipt of a mail. The first case that fits is done.
 use Rattle.std.specs.List.{find}
 use Rattle.std.specs.Option.{option_map_or}
-use Rattle.std.specs.Prelude.{Bool, List, None, Option, Some, [], false, if◌then◌else◌, is_none, option_and_then, slice_get, slice_set, unwrap_or, ℕ, ℤ, ◌&&◌, ◌++◌, ◌==◌, ◌∷◌}
+use Rattle.std.specs.Prelude.{Bool, List, None, Option, Some, [], false, if◌then◌else◌, is_none, nat_lt, option_and_then, slice_get, slice_set, unwrap_or, ℕ, ℤ, ◌&&◌, ◌++◌, ◌==◌, ◌∷◌}
 use Rattle.std.proofs.Common.{is_some, not}
 use Rattle.tp_types.specs.Effect.{Effect, ignores, logs, sends, unbuilt}
 use Rattle.tp_types.specs.Table.{flattened, is_unset}
@@ -15,13 +15,13 @@ use Rattle.tp_model.specs.Words.body
 use Rattle.tp_model.specs.Words.log
 use Rattle.tp_model.specs.Words.no
 use Rattle.tp_model.specs.Words.vote
-use Rattle.tp_model.specs.Words.{Body, DecideRequest, Deed, DoneReply, ItemId, Letter, Mail, No, Outcome, PrepareRequest, Prepared, Query, QueryRequest, Scenario, Settled, Staple, Transaction, TxnId, Verdict}
+use Rattle.tp_model.specs.Words.{Body, DecideRequest, Deed, DoneReply, ItemId, Letter, Mail, No, Outcome, PrepareRequest, Prepared, PushNotice, Query, QueryRequest, Scenario, Settled, Staple, Told, Transaction, TxnId, Verdict}
 use Rattle.tp_machine.specs.Runs.{deed_of}
 use Rattle.tp_machine.specs.declared.server.Entry.{Entry}
 use Rattle.tp_machine.specs.server.State.{Server}
-use Rattle.tp_machine.specs.server.Verdicts.{verdicts_on}
+use Rattle.tp_machine.specs.server.Verdicts.{verdicts_on, version_known}
 use Rattle.tp_store.specs.Contents.{Contents}
-use Rattle.tp_store.specs.Rule.{after_apply, after_forget, after_write, first_outside_in, read_in}
+use Rattle.tp_store.specs.Rule.{after_apply, after_forget, after_write, first_outside_in, read_in, with_version}
 use Rattle.tp_store.specs.declared.writes.TentativeWrite.{TentativeWrite}
 
 -- a transaction of the scenario that the server has not settled
@@ -303,6 +303,23 @@ on_decide s d =
     if is_open s d.txn then settles s d
     else on_settled_decide s d (flattened (slice_get s.settled d.txn.0))
 
+-- ---- Push
+
+abbrev pub told_of : PushNotice → Told
+told_of push = record { admin = push.admin; version = push.version }
+
+-- the version that is pushed is known from now on, and forced
+abbrev pub learns : Server → PushNotice → Effect Server
+learns s push =
+    logs (record s { store = with_version s.store push.admin push.version })
+    (log.Told (told_of push))
+    []
+
+-- a version that is not newer than the one known changes nothing
+abbrev pub on_push : Server → PushNotice → Effect Server
+on_push s push =
+    if nat_lt (version_known s push.admin).0 push.version.0 then learns s push else ignores s
+
 -- ---- all mails
 
 abbrev pub on_body : Scenario → Server → ℕ → Body → Effect Server
@@ -310,7 +327,7 @@ on_body sc s sent (body.Query q) = on_query sc s sent q
 on_body sc s sent (body.Prepare p) = on_prepare sc s p
 on_body sc s sent (body.Decide d) = on_decide s d
 on_body sc s sent (body.Validate v) = unbuilt s
-on_body sc s sent (body.Push push) = unbuilt s
+on_body sc s sent (body.Push push) = on_push s push
 on_body sc s sent _ = ignores s
 
 abbrev pub server_row : Scenario → Server → Mail → Effect Server
