@@ -6,6 +6,7 @@ ghost use Rattle.tp_types.specs.Effect.{Gives};
 ghost use Rattle.tp_types.specs.Table.{flattened};
 ghost use Rattle.tp_machine.specs.server.Row as row;
 ghost use Rattle.tp_machine.specs.server.Opened as opened;
+ghost use Rattle.tp_machine.specs.server.Verdicts as verdicts;
 ghost use Rattle.tp_machine.specs.server.Verdicts.{HasFewRules};
 ghost use Rattle.tp_machine.specs.mirrors.Entries.{entry_of, IsNoted};
 ghost use Rattle.tp_machine.specs.Runs as ran;
@@ -17,10 +18,10 @@ use std::marker::Model;
 use tp_model::query_at;
 use tp_store::Store;
 use tp_types::{
-    AckReply, Actor, Answer, Body, DecideRequest, Deed, DoneReply, Letter, List, Mail, No,
-    NoMemory, Outcome, Place, PrepareRequest, Prepared, PushNotice, Query, QueryRequest, Reaction, Record,
-    Scenario, ServerId, Settled, Told, TryClone, TxnId, Verdict, Vote, VoteReply, forced_and_sent,
-    ignored, none_for_each, sent_alone, taken, unbuilt,
+    AckReply, Actor, AdminId, Answer, Body, DecideRequest, Deed, DoneReply, Letter, List, Mail, No,
+    NoMemory, Outcome, Place, PrepareRequest, Prepared, PushNotice, Query, QueryRequest, Reaction,
+    Record, Scenario, ServerId, Settled, Told, TryClone, TxnId, Verdict, Version, Vote, VoteReply,
+    forced_and_sent, ignored, none_for_each, sent_alone, taken, unbuilt,
 };
 
 /// What a server voted YES on: the turn of the request, and its verdicts.
@@ -347,24 +348,64 @@ impl Server {
         let Some(entry) = self.entry_at(request.txn) else {
             return Ok(unbuilt(alloc));
         };
-        if entry.epoch != request.epoch || entry.ballot.is_some() {
+        if entry.epoch != request.epoch {
             return Ok(unbuilt(alloc));
         }
-        if let Some((query, value)) = outside {
+        if let Some(cast) = &entry.ballot {
+            if cast.turn == request.turn {
+                return self.votes_again(alloc, request.txn, cast);
+            }
+            if request.turn < cast.turn {
+                return Ok(ignored(alloc));
+            }
+        } else if let Some((query, value)) = outside {
             return self.refuses(alloc, request, No::Range { query, value });
         }
+        self.evaluates(alloc, scenario, request)
+    }
+
+    /// Learns the versions that are wanted, evaluates what the transaction did here, and votes YES.
+    fn evaluates(
+        &mut self,
+        alloc: Global,
+        scenario: &Scenario,
+        request: &PrepareRequest,
+    ) -> Result<Reaction, NoMemory>
+        requires { HasFewRules scenario.now }
+        ensures { IfOk result (λ reaction. (entry : Entry) → row.entry_at self.old request.now.txn ≡ Some entry
+            → Gives
+            (row.evaluates scenario.now self.old request.now entry request.now.staple)
+            self.new reaction) }
+    {
+        let Some(staple) = &request.staple else {
+            return Ok(unbuilt(alloc));
+        };
         let Some(txn) = scenario.txns.get(request.txn.0 as usize) else {
             return Ok(ignored(alloc));
         };
-        match &request.staple {
-            Some(staple) if request.want.is_empty() => {
-                let deeds = entry.deeds.as_slice();
-                let verdicts = verdicts_on(alloc, scenario, self, txn, staple, deeds)?;
-                let forced = self.prepared(alloc, request, entry, verdicts)?;
-                self.votes(alloc, forced)
-            }
-            _ => Ok(unbuilt(alloc)),
-        }
+        let want = request.want.as_slice();
+        learn(&mut self.store, want);
+        let Some(entry) = self.entry_at(request.txn) else {
+            return Ok(ignored(alloc));
+        };
+        let deeds = entry.deeds.as_slice();
+        let verdicts = verdicts_on(alloc, scenario, self, txn, staple, want, deeds)?;
+        let forced = self.prepared(alloc, request, entry, verdicts)?;
+        self.votes(alloc, forced)
+    }
+
+    /// The vote YES of a ballot.
+    fn votes_again(&self, alloc: Global, txn: TxnId, cast: &Ballot) -> Result<Reaction, NoMemory>
+        ensures { IfOk result (λ reaction.
+            reaction ≡ record { append = None; letters = row.yes_letter self.now txn cast.now ∷ [] }) }
+    {
+        let vote = VoteReply {
+            txn,
+            turn: cast.turn,
+            vote: Vote::Yes(cast.verdicts.try_clone(alloc)?),
+        };
+        let letter = self.reply(txn, Body::Vote(vote));
+        sent_alone(alloc, letter)
     }
 
     /// A request to prepare what is settled already: a vote NO is given again with its reason.
@@ -565,6 +606,15 @@ fn answer_to(entry: &Entry, number: u32) -> Option<&DoneReply>
         .as_slice()
         .iter()
         .find(|given| given.query == number)
+}
+
+/// Learns each of these versions.
+fn learn(store: &mut Store, want: &[(AdminId, Version)])
+    ensures { store.new ≡ verdicts.with_versions store.old want.now }
+{
+    for wanted in want {
+        store.told(wanted.0, wanted.1);
+    }
 }
 
 /// Casts a vote at the entry that stands there.

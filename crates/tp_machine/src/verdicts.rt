@@ -1,7 +1,8 @@
 //! A server's verdicts at Prepare.
-ghost use Rattle.std.specs.Prelude.{◌≡◌, ◌<◌, ◌^◌, filter, length, Some, IfOk};
+ghost use Rattle.std.specs.Prelude.{◌≡◌, ◌<◌, ◌^◌, filter, find, length, Some, IfOk};
 ghost use Rattle.tp_model.specs.Authorisation as authorisation;
 ghost use Rattle.tp_model.specs.Credentials as credentials;
+ghost use Rattle.tp_round.specs.Laws as laws;
 ghost use Rattle.tp_machine.specs.Evaluation as evaluation;
 ghost use Rattle.tp_machine.specs.server.Verdicts as verdicts;
 ghost use Rattle.tp_machine.specs.server.Verdicts.{HasFewRules};
@@ -21,6 +22,8 @@ struct Case<'a> {
     scenario: &'a Scenario,
     txn: &'a Transaction,
     staple: &'a Staple,
+    /// The versions wanted, which are used instead of those known.
+    want: &'a [(AdminId, Version)],
     /// Those of the credentials that it presents that are valid, found once.
     valid: &'a [CredId],
     ghost filtered: { valid.now
@@ -36,11 +39,13 @@ pub fn verdicts_on(
     server: &Server,
     txn: &Transaction,
     staple: &Staple,
+    want: &[(AdminId, Version)],
     deeds: &[Deed],
 ) -> Result<List<Verdict>, NoMemory>
     requires { HasFewRules scenario.now }
     ensures { IfOk result (λ made.
-        made ≡ verdicts.verdicts_on scenario.now server.now txn.now staple.now deeds.now) }
+        made ≡ verdicts.verdicts_on scenario.now server.now txn.now staple.now want.now
+        deeds.now) }
 {
     let valid = valid_of(
         alloc,
@@ -53,6 +58,7 @@ pub fn verdicts_on(
         scenario,
         txn,
         staple,
+        want,
         valid: valid.as_slice(),
     };
     let mut made = List::new(alloc);
@@ -71,10 +77,10 @@ fn verdict_on(
     requires { HasFewRules case.now.scenario.now }
     ensures { IfOk result (λ made.
         made ≡ verdicts.verdict_on case.now.scenario.now server.now case.now.txn.now
-        case.now.staple.now deed) }
+        case.now.staple.now case.now.want.now deed) }
 {
     let admin = admin_of(case.scenario, deed.item);
-    let version = server.store.newest(admin);
+    let version = version_used(server, case.want, admin);
     let found = certificate_of(alloc, case, deed.query, admin, version)?;
     Ok(verdict_of(
         alloc,
@@ -85,6 +91,22 @@ fn verdict_on(
         case.staple.place,
         found,
     ))
+}
+
+/// The version that is wanted of an administrator, or else the one that the server knows.
+fn version_used(server: &Server, want: &[(AdminId, Version)], admin: AdminId) -> Version
+    ensures { result ≡ verdicts.version_used server.now want.now admin }
+{
+    match wanted_for(want, admin) {
+        None => server.store.newest(admin),
+        Some((_, version)) => version,
+    }
+}
+
+fn wanted_for(want: &[(AdminId, Version)], admin: AdminId) -> Option<(AdminId, Version)>
+    ensures { result ≡ find (laws.is_for admin) want.now }
+{
+    want.iter().copied().find(|wanted| wanted.0 == admin)
 }
 
 /// A verdict by a certificate; without one it is false.

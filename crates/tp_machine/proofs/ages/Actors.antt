@@ -88,6 +88,7 @@ server_row_ages A place sc s mail h m =
       voted = λ p entry staple txn k.
           let old : A p.txn entry.age = h p.txn.0 entry k.found in
           record { entries = placed_set (EntryAged A) s.entries p.txn.0 _ h old; forces = old; letters = (tt, tt) };
+      voted_again = λ p entry cast k. record { entries = h; forces = tt; letters = (tt, tt) };
       refused = λ p entry number value k. record { entries = placed_emptied (EntryAged A) s.entries p.txn.0 h; forces = tt; letters = (tt, tt) };
       refused_again = λ p settled why k. record { entries = h; forces = tt; letters = (tt, tt) };
       settled = λ d k. record { entries = placed_emptied (EntryAged A) s.entries d.txn.0 h; forces = tt; letters = (tt, tt) };

@@ -27,9 +27,9 @@ use Rattle.tp_machine.specs.Runs.{deed_of}
 use Rattle.tp_machine.specs.Sound.{Each, EachPlaced}
 use Rattle.tp_machine.specs.declared.server.Ballot.{Ballot}
 use Rattle.tp_machine.specs.declared.server.Entry.{Entry}
-use Rattle.tp_machine.specs.server.Row.{ack_letter, answers, completes, ends, entry_after, entry_at, is_open, learns, no_letter, prepared_record, refused_as, refuses, restarted_reply, server_row, settled_as, settles, votes}
+use Rattle.tp_machine.specs.server.Row.{ack_letter, answers, ballot_of, completes, ends, entry_after, entry_at, is_open, learns, no_letter, prepared_record, refused_as, refuses, restarted_reply, server_row, settled_as, settles, votes, yes_letter}
 use Rattle.tp_machine.specs.server.State.{Server}
-use Rattle.tp_machine.specs.server.Verdicts.{verdicts_on}
+use Rattle.tp_machine.specs.server.Verdicts.{learnt, verdicts_on}
 
 abbrev pub IsUnsettled : List Record → ℕ → Entry → Type 0
 IsUnsettled kept n entry = settled_in (record { 0 = n }) kept ≡ None
@@ -242,11 +242,11 @@ votes_cast s kept txn other forced entry now h new own e cast false apart =
 
 -- a vote YES settles nothing, and is prepared
 votes_lawful : (V : TxnId → Outcome → Type 0) (M : TxnId → Type 0) (s : Server) (kept : List Record) (p : PrepareRequest) (verdicts : List Verdict) (entry : Entry) → ServerAgrees s kept
-    → settled_in p.txn kept ≡ None → entry_at s p.txn ≡ Some entry → ServerLawful V M s kept (votes s p verdicts entry)
+    → settled_in p.txn kept ≡ None → entry_at s p.txn ≡ Some entry → ServerLawful V M s kept (votes (learnt s p.want) p verdicts entry)
 votes_lawful V M s kept p verdicts entry h new e =
-    let voting = prepared_record s p entry verdicts in
-    let forced = (votes s p verdicts entry).reaction.append in
-    let now : Entry = record entry { ballot = Some (record { turn = voting.turn; verdicts = voting.verdicts }) } in
+    let voting = prepared_record (learnt s p.want) p entry verdicts in
+    let forced = (votes (learnt s p.want) p verdicts entry).reaction.append in
+    let now : Entry = record entry { ballot = Some (ballot_of voting) } in
     let same : (txn : TxnId) → settled_in txn (log_with kept forced) ≡ settled_in txn kept = λ txn. settled_with txn kept forced ∙ first_none (settled_in txn kept) in
     record {
       agrees = record {
@@ -257,6 +257,26 @@ votes_lawful V M s kept p verdicts entry h new e =
       };
       rests = tt;
       replies = (record { from_is = refl; says = ap is_some (prepared_now p.txn kept voting refl new) }, tt);
+    }
+
+cast_prepared : (entry : Entry) (cast : Ballot) (old : Option Prepared) → option_map vote_of old ≡ Some (vote_by entry cast) → is_some old ≡ true
+cast_prepared entry cast None h = absurd (cc)
+cast_prepared entry cast (Some p) h = refl
+
+-- a vote YES that is given again is prepared
+votes_again_lawful : (V : TxnId → Outcome → Type 0) (M : TxnId → Type 0) (s : Server) (kept : List Record) (p : PrepareRequest) (entry : Entry) (cast : Ballot) → ServerAgrees s kept → entry_at s p.txn ≡ Some entry
+    → entry.ballot ≡ Some cast → ServerLawful V M s kept (sends s (yes_letter s p.txn cast ∷ []))
+votes_again_lawful V M s kept p entry cast h found ballot_is =
+    record {
+      agrees = h;
+      rests = tt;
+      replies = (
+        record {
+          from_is = refl;
+          says = cast_prepared entry cast (prepared_in p.txn kept) (h.prepared p.txn ∙ (ap (option_and_then cast_in) found ∙ ap (option_map (vote_by entry)) ballot_is));
+        },
+        tt,
+      );
     }
 
 -- ---- Decide
@@ -349,15 +369,15 @@ settles_lawful V M s kept d h unsettled decided asked =
     (record { fresh = open_unsettled s kept d.txn h unsettled; asked = asked; ordered = λ none. decided; refused = λ some. absurd (cc) }) refl
     (λ settled. ap is_some settled)
 
-none_voted : (entry : Option Entry) (found : Entry) (old : Option Prepared) → entry ≡ Some found → is_some found.ballot ≡ false → option_map vote_of old ≡ option_and_then cast_in entry → old ≡ None
+none_voted : (entry : Option Entry) (found : Entry) (old : Option Prepared) → entry ≡ Some found → found.ballot ≡ None → option_map vote_of old ≡ option_and_then cast_in entry → old ≡ None
 none_voted entry found None e unvoted h = refl
 none_voted entry found (Some p) e unvoted h =
-    let none : option_and_then cast_in entry ≡ None = ap (option_and_then cast_in) e ∙ ap (option_map (vote_by found)) (no_ballot found.ballot unvoted) in
+    let none : option_and_then cast_in entry ≡ None = ap (option_and_then cast_in) e ∙ ap (option_map (vote_by found)) unvoted in
     absurd (cc)
 
 -- the server aborts what it has not prepared
 refuses_lawful : (V : TxnId → Outcome → Type 0) (M : TxnId → Type 0) (s : Server) (kept : List Record) (p : PrepareRequest) (entry : Entry) (why : No) → ServerAgrees s kept → is_open s p.txn ≡ true
-    → entry_at s p.txn ≡ Some entry → is_some entry.ballot ≡ false → M p.txn → ServerLawful V M s kept (refuses s p why)
+    → entry_at s p.txn ≡ Some entry → entry.ballot ≡ None → M p.txn → ServerLawful V M s kept (refuses s p why)
 refuses_lawful V M s kept p entry why h unsettled found unvoted asked =
     ends_lawful V M s kept (refused_as p why) (no_letter s p why) h unsettled
     (record {
@@ -420,7 +440,8 @@ server_row_lawful V M sc s kept mail h aborts m =
           runs_lawful V M s kept q query entry (deed_of q.query query value) h (open_unsettled s kept q.txn h k.unsettled) (unvoted_run sc s mail q query entry value k);
       restarted = λ q k. answers_lawful V M s kept q (restarted_reply q s.epoch) h;
       answered = λ q entry given k. answers_lawful V M s kept q given h;
-      voted = λ p entry staple txn k. votes_lawful V M s kept p (verdicts_on sc s txn staple entry.deeds) entry h (open_unsettled s kept p.txn h k.unsettled) k.found;
+      voted = λ p entry staple txn k. votes_lawful V M s kept p (verdicts_on sc (learnt s p.want) txn staple p.want entry.deeds) entry h (open_unsettled s kept p.txn h k.unsettled) k.found;
+      voted_again = λ p entry cast k. votes_again_lawful V M s kept p entry cast h k.found k.ballot_is;
       refused = λ p entry number value k.
           refuses_lawful V M s kept p entry _ h k.unsettled k.found k.unvoted (subst (RequestRests V M) k.said_is m);
       refused_again = λ p settled why k. refused_again_lawful V M s kept p settled why h aborts k.found k.why_is;

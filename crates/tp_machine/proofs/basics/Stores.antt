@@ -3,11 +3,12 @@ use Rattle.std.proofs.Common.{Bool, List, [], false, if◌then◌else◌, nat_le
 use Rattle.tp_model.specs.Queries.{item_of}
 use Rattle.tp_model.specs.Words.outcome
 use Rattle.tp_model.specs.Words.query
-use Rattle.tp_model.specs.Words.{Outcome, Query, QueryRequest, TxnId}
+use Rattle.tp_model.specs.Words.{AdminId, Outcome, Query, QueryRequest, TxnId, Version}
 use Rattle.tp_machine.specs.Sound.{Each}
 use Rattle.tp_machine.specs.server.Row.{ended_store, kept_by}
+use Rattle.tp_machine.specs.server.Verdicts.{with_versions}
 use Rattle.tp_store.specs.Contents.{Contents}
-use Rattle.tp_store.specs.Rule.{with_writes, writes_of}
+use Rattle.tp_store.specs.Rule.{with_version, with_writes, writes_of}
 use Rattle.tp_store.specs.Writes.{is_on, values_after, with_write}
 use Rattle.tp_store.specs.declared.writes.TentativeWrite.{TentativeWrite}
 
@@ -32,6 +33,11 @@ ended_bounds store txn outcome.Abort = refl
 pub ended_known : (store : Contents) (txn : TxnId) (ended : Outcome) → (ended_store store txn ended).known ≡ store.known
 ended_known store txn outcome.Commit = refl
 ended_known store txn outcome.Abort = refl
+
+-- versions that are learnt change what is known alone
+pub learnt_is : (store : Contents) (want : List (AdminId × Version)) → with_versions store want ≡ record store { known = (with_versions store want).known }
+learnt_is store [] = refl
+learnt_is store (wanted ∷ want) = learnt_is (with_version store wanted.0 wanted.1) want
 
 -- ---- what each of the writes that are kept is
 
@@ -72,6 +78,11 @@ kept_each P store q (query.Write item expr) value h new =
 pub ended_each : (P : TxnId → TentativeWrite → Type 0) (store : Contents) (txn : TxnId) (ended : Outcome) → EachWrite P store → EachWrite P (ended_store store txn ended)
 ended_each P store txn outcome.Commit h = writes_set P (record store { values = values_after store.values (writes_of store txn) }) txn [] h tt
 ended_each P store txn outcome.Abort h = writes_set P store txn [] h tt
+
+-- and when versions are learnt
+pub learnt_each : (P : TxnId → TentativeWrite → Type 0) (store : Contents) (want : List (AdminId × Version)) → EachWrite P store → EachWrite P (with_versions store want)
+learnt_each P store [] h = h
+learnt_each P store (wanted ∷ want) h = learnt_each P (with_version store wanted.0 wanted.1) want h
 
 none_written : (P : TentativeWrite → Type 0) (count n : ℕ) → Each P (unwrap_or (slice_get (replicate {A = List TentativeWrite} count []) n) [])
 none_written P zero n = tt

@@ -9,7 +9,7 @@ use Rattle.tp_model.specs.SerialRun.{number_at}
 use Rattle.tp_model.specs.Words.query
 use Rattle.tp_model.specs.Words.{DoneReply, ItemId, Letter, Mail, Query, QueryRequest, Scenario, Settled, TxnId}
 use Rattle.tp_machine.proofs.basics.Lists.{each_found, each_get, each_more, placed_emptied, placed_set}
-use Rattle.tp_machine.proofs.basics.Stores.{EachWrite, ended_each, kept_each}
+use Rattle.tp_machine.proofs.basics.Stores.{EachWrite, ended_each, kept_each, learnt_each}
 use Rattle.tp_machine.proofs.bounds.Numbers.{bounded_item, bounded_later}
 use Rattle.tp_machine.proofs.pairs.Lists.{of_some}
 use Rattle.tp_machine.proofs.serial_data.Rows.{IsRunAt, QueryRises, RequestClear, ServerReads, run_at}
@@ -153,13 +153,14 @@ server_row_bounds sc M s mail h said reads clear =
           let old : IsBoundedEntry entry = h.kept.entries p.txn.0 entry k.found in
           record {
             kept = record {
-              writes = h.kept.writes;
+              writes = learnt_each (λ (txn : TxnId) (write : TentativeWrite). IsBoundedWrite write) s.store p.want h.kept.writes;
               settled = h.kept.settled;
               entries = placed_set (λ (n : ℕ) (found : Entry). IsBoundedEntry found) s.entries p.txn.0 _ h.kept.entries (record { answers = old.answers; waiting = old.waiting; deeds = old.deeds });
             };
             forces = old.deeds;
             letters = (tt, tt);
           };
+      voted_again = λ p entry cast k. stays_bounded s _ h (tt, tt);
       refused = λ p entry number value k.
           let why : IsBounded number value = refused_bounded s p.txn number value h k.outside in
           ends_bounded s _ _ h why why;

@@ -3,7 +3,7 @@ use Rattle.std.specs.List.{list_all, list_any}
 use Rattle.std.proofs.Common.{Bool, IfSome, List, MatchOption, None, Option, Some, [], ap, arith, false, is_none, is_some, length, option_map, refl, slice_get, slice_set, subst, suc, sym, true, unwrap_or, zero, ℕ, ℤ, ⊎_elim, ◌&&◌, ◌<◌, ◌==◌, ◌||◌, ◌∙◌, ◌∷◌, ◌≡◌}
 use Rattle.std.proofs.lemmas.Bool.{and_parts, eqb-true}
 use Rattle.std.proofs.lemmas.Option.{same_Some, slice_get_within}
-use Rattle.tp_types.specs.Effect.{Effect, ignores}
+use Rattle.tp_types.specs.Effect.{Effect, ignores, sends}
 use Rattle.tp_types.specs.Table.{flattened}
 use Rattle.tp_model.specs.Authorisation.{policy_at}
 use Rattle.tp_model.specs.Credentials.{is_among, is_presented}
@@ -14,16 +14,18 @@ use Rattle.tp_model.specs.Words.body
 use Rattle.tp_model.specs.Words.no
 use Rattle.tp_model.specs.Words.{Admin, AdminId, Body, CredId, DecideRequest, Deed, DoneReply, Item, ItemId, Letter, Mail, No, PrepareRequest, PushNotice, Query, QueryRequest, Scenario, ServerId, Settled, Staple, Transaction, TxnId, Version}
 use Rattle.tp_machine.proofs.basics.Lists.{each_append, each_found, each_get, each_map, placed_emptied, placed_set}
-use Rattle.tp_machine.proofs.basics.Stores.{ended_each, ended_known, kept_each, kept_known}
+use Rattle.tp_machine.proofs.basics.Stores.{ended_each, ended_known, kept_each, kept_known, learnt_each}
+use Rattle.tp_machine.proofs.basics.Versions.{used_by}
 use Rattle.tp_machine.proofs.ids.Valid.{IsValid, IsValidItem}
 use Rattle.tp_machine.proofs.trust.Evaluation.{uses_presented}
 use Rattle.tp_machine.proofs.walks.ServerRows.{IsFirstHere, IsFurther, IsGranted, server_by}
 use Rattle.tp_machine.specs.Runs.{deed_of}
-use Rattle.tp_machine.specs.Sound.{AreCreds, AreSoundVerdicts, AreVersions, AreVersionsOf, Each, IsAdmin, IsCred, IsItemOf, IsQueryOf, IsReasonOf, IsSettledOf, IsSoundBody, IsSoundDeedAt, IsSoundDone, IsSoundEntry, IsSoundLetter, IsSoundNo, IsSoundQuery, IsSoundRefusal, IsSoundServer, IsSoundServerRecord, IsSoundSettled, IsSoundVerdict, IsTxn, IsVersion, IsVersionOf, IsWriteOf}
+use Rattle.tp_machine.specs.Sound.{AreCreds, AreSoundVerdicts, AreVersions, AreVersionsOf, AreWanted, Each, IsAdmin, IsCred, IsItemOf, IsQueryOf, IsReasonOf, IsSettledOf, IsSoundBody, IsSoundDeedAt, IsSoundDone, IsSoundEntry, IsSoundLetter, IsSoundNo, IsSoundQuery, IsSoundRefusal, IsSoundServer, IsSoundServerRecord, IsSoundSettled, IsSoundVerdict, IsTxn, IsVersion, IsVersionOf, IsWriteOf}
+use Rattle.tp_machine.specs.declared.server.Ballot.{Ballot}
 use Rattle.tp_machine.specs.declared.server.Entry.{Entry}
-use Rattle.tp_machine.specs.server.Row.{ack_letter, answers, completes, done_reply, ends, entry_after, learns, no_letter, refused_as, refuses, reply, restarted_reply, server_row, settled_as, settles, votes}
+use Rattle.tp_machine.specs.server.Row.{ack_letter, answers, completes, done_reply, ends, entry_after, learns, no_letter, refused_as, refuses, reply, restarted_reply, server_row, settled_as, settles, votes_on, yes_letter}
 use Rattle.tp_machine.specs.server.State.{Server}
-use Rattle.tp_machine.specs.server.Verdicts.{admin_of, verdict_on, verdicts_on, version_known}
+use Rattle.tp_machine.specs.server.Verdicts.{admin_of, learnt, verdict_on, verdicts_on, version_known, version_used, with_versions}
 use Rattle.tp_store.proofs.OutsideLemmas.{first_is_least}
 use Rattle.tp_store.specs.Contents.{Contents}
 use Rattle.tp_store.specs.Laws.{IsLeastOutside}
@@ -158,9 +160,18 @@ presented_exist sc txn (cred ∷ uses) h e =
     let parts = and_parts (is_presented txn cred) (list_all (is_presented txn) uses) e in
     (among_exists sc txn.creds cred h parts.0, presented_exist sc txn uses h parts.1)
 
-pub verdict_sound : (sc : Scenario) (s : Server) (txn : TxnId) (presenting : Transaction) (staple : Staple) (deed : Deed) → IsValid sc → IsSoundServer sc s → slice_get sc.txns txn.0 ≡ Some presenting
-    → IsSoundDeedAt sc s.server txn deed → IsSoundVerdict sc txn (verdict_on sc s presenting staple deed)
-verdict_sound sc s txn presenting staple deed valid h there d =
+-- what is known stays sound as versions are learnt that exist
+learnt_known : (sc : Scenario) (store : Contents) (want : List (AdminId × Version)) → AreVersions sc store.known → AreWanted sc want → AreVersions sc (with_versions store want).known
+learnt_known sc store [] h w = h
+learnt_known sc store (wanted ∷ want) h w = learnt_known sc (with_version store wanted.0 wanted.1) want (known_more sc store wanted.0 wanted.1 h w.0) w.1
+
+pub learnt_sound : (sc : Scenario) (s : Server) (want : List (AdminId × Version)) → IsSoundServer sc s → AreWanted sc want → IsSoundServer sc (learnt s want)
+learnt_sound sc s want h w =
+    record { exists = h.exists; known = learnt_known sc s.store want h.known w; writes = learnt_each (IsWriteOf sc s.server) s.store want h.writes; settled = h.settled; entries = h.entries }
+
+pub verdict_sound : (sc : Scenario) (s : Server) (txn : TxnId) (presenting : Transaction) (staple : Staple) (want : List (AdminId × Version)) (deed : Deed) → IsValid sc → IsSoundServer sc s → AreWanted sc want
+    → slice_get sc.txns txn.0 ≡ Some presenting → IsSoundDeedAt sc s.server txn deed → IsSoundVerdict sc txn (verdict_on sc s presenting staple want deed)
+verdict_sound sc s txn presenting staple want deed valid h w there d =
     let item_is : IsValidItem sc d.kept.declared = each_get (IsValidItem sc) sc.items deed.item.0 d.kept.declared valid.items d.kept.declared_is in
     let admin_is : d.kept.declared.admin ≡ admin_of sc deed.item =
     sym (ap (λ (found : Option Item). unwrap_or (option_map (λ (i : Item). i.admin) found) (record { 0 = 0 })) d.kept.declared_is) in
@@ -175,29 +186,39 @@ verdict_sound sc s txn presenting staple deed valid h there d =
         };
         admin_is = admin_is;
       };
-      version = subst (λ (admin : AdminId). IsVersion sc admin (version_known s admin)) admin_is (known_version sc s d.kept.declared.admin h item_is.admin);
+      version = subst (λ (admin : AdminId). IsVersion sc admin (version_used s want admin)) admin_is
+          (used_by (IsVersion sc) s want d.kept.declared.admin w (known_version sc s d.kept.declared.admin h item_is.admin));
       uses = presented_exist sc presenting _ (each_get (λ (t : Transaction). AreCreds sc t.creds) sc.txns txn.0 presenting valid.creds there)
-          (uses_presented sc presenting staple deed.query (policy_at sc (admin_of sc deed.item) (version_known s (admin_of sc deed.item))) _ refl);
+          (uses_presented sc presenting staple deed.query (policy_at sc (admin_of sc deed.item) (version_used s want (admin_of sc deed.item))) _ refl);
     }
 
-casts_sound : (sc : Scenario) (s : Server) (p : PrepareRequest) (txn : Transaction) (staple : Staple) (entry : Entry) → IsValid sc → IsSoundServer sc s → IsTxn sc p.txn
-    → slice_get sc.txns p.txn.0 ≡ Some txn → IsSoundEntry sc s.server p.txn entry → IsSoundServerEffect sc s (votes s p (verdicts_on sc s txn staple entry.deeds) entry)
-casts_sound sc s p txn staple entry valid h exists there k =
-    let verdicts : AreSoundVerdicts sc p.txn (verdicts_on sc s txn staple entry.deeds) =
-    each_map (IsSoundDeedAt sc s.server p.txn) (IsSoundVerdict sc p.txn) (verdict_on sc s txn staple) (λ deed d. verdict_sound sc s p.txn txn staple deed valid h there d) entry.deeds k.deeds in
+casts_sound : (sc : Scenario) (s : Server) (p : PrepareRequest) (txn : Transaction) (staple : Staple) (entry : Entry) → IsValid sc → IsSoundServer sc s → IsTxn sc p.txn → AreWanted sc p.want
+    → slice_get sc.txns p.txn.0 ≡ Some txn → IsSoundEntry sc s.server p.txn entry → IsSoundServerEffect sc s (votes_on sc (learnt s p.want) p entry staple txn)
+casts_sound sc s p txn staple entry valid h exists w there k =
+    let now = learnt s p.want in
+    let after : IsSoundServer sc now = learnt_sound sc s p.want h w in
+    let verdicts : AreSoundVerdicts sc p.txn (verdicts_on sc now txn staple p.want entry.deeds) =
+    each_map (IsSoundDeedAt sc s.server p.txn) (IsSoundVerdict sc p.txn) (verdict_on sc now txn staple p.want) (λ deed d. verdict_sound sc now p.txn txn staple p.want deed valid after w there d) entry.deeds k.deeds in
     record {
       same_server = refl;
       state_is = record {
         exists = h.exists;
-        known = h.known;
-        writes = h.writes;
+        known = after.known;
+        writes = after.writes;
         settled = h.settled;
         entries = placed_set (λ (n : ℕ) (found : Entry). IsSoundEntry sc s.server (record { 0 = n }) found) s.entries p.txn.0 _ h.entries
             (record { answers = k.answers; waiting = k.waiting; deeds = k.deeds; ballot = verdicts });
       };
-      forces = record { txn = exists; deeds = k.deeds; verdicts = verdicts; told = h.known };
+      forces = record { txn = exists; deeds = k.deeds; verdicts = verdicts; told = after.known };
       sends_only = (reply_sound sc s p.txn _ h exists (record { txn = exists; goes_to = refl; ballot = verdicts }) tt, tt);
     }
+
+-- a vote that is given again
+votes_again_sound : (sc : Scenario) (s : Server) (p : PrepareRequest) (entry : Entry) (cast : Ballot) → IsSoundServer sc s → IsTxn sc p.txn → IsSoundEntry sc s.server p.txn entry → entry.ballot ≡ Some cast
+    → IsSoundServerEffect sc s (sends s (yes_letter s p.txn cast ∷ []))
+votes_again_sound sc s p entry cast h exists k ballot_is =
+    let verdicts : AreSoundVerdicts sc p.txn cast.verdicts = subst (λ (ballot : Option Ballot). IfSome ballot (λ (b : Ballot). AreSoundVerdicts sc p.txn b.verdicts)) ballot_is k.ballot in
+    record { same_server = refl; state_is = h; forces = tt; sends_only = (reply_sound sc s p.txn _ h exists (record { txn = exists; goes_to = refl; ballot = verdicts }) tt, tt) }
 
 -- ---- Decide
 
@@ -270,7 +291,8 @@ server_row_sound sc s mail valid h m =
       answered = λ q entry given k.
           answers_sound sc s q given h (said k.said_is).txn
           (each_found (IsSoundDone sc (actor.Coordinator q.txn)) (λ (d : DoneReply). d.query == q.query) entry.answers given (h.entries q.txn.0 entry k.found).answers k.given_is);
-      voted = λ p entry staple txn k. casts_sound sc s p txn staple entry valid h (said k.said_is).txn k.declared (h.entries p.txn.0 entry k.found);
+      voted = λ p entry staple txn k. casts_sound sc s p txn staple entry valid h (said k.said_is).txn (said k.said_is).want k.declared (h.entries p.txn.0 entry k.found);
+      voted_again = λ p entry cast k. votes_again_sound sc s p entry cast h (said k.said_is).txn (h.entries p.txn.0 entry k.found) k.ballot_is;
       refused = λ p entry number value k.
           let exists = (said k.said_is).txn in
           let query : IsQueryOf sc p.txn number s.server = refused_query sc s p.txn number value h k.outside in

@@ -28,6 +28,7 @@ server_row_sends sc s mail =
       restarted = λ q k. omega arith;
       answered = λ q entry given k. omega arith;
       voted = λ p entry staple txn k. omega arith;
+      voted_again = λ p entry cast k. omega arith;
       refused = λ p entry number value k. omega arith;
       refused_again = λ p settled why k. omega arith;
       settled = λ d k. omega arith;

@@ -43,9 +43,9 @@ use Rattle.tp_machine.specs.Sound.{Each, IsSoundBody, IsSoundDone, IsSoundQuery,
 use Rattle.tp_machine.specs.Sums.{clamped_sum, registers_after, sum_asked}
 use Rattle.tp_machine.specs.declared.server.Ballot.{Ballot}
 use Rattle.tp_machine.specs.declared.server.Entry.{Entry}
-use Rattle.tp_machine.specs.server.Row.{ack_letter, age_of, answer_to, answers, asked_query, casts, completes, done_reply, ends, entry_after, entry_at, learns, no_letter, prepared_record, refused_as, refuses, restarts, server_row, settled_as, settles, told_of, value_of_run}
+use Rattle.tp_machine.specs.server.Row.{ack_letter, age_of, answer_to, answers, asked_query, ballot_of, casts, completes, done_reply, ends, entry_after, entry_at, learns, no_letter, prepared_record, refused_as, refuses, restarts, server_row, settled_as, settles, told_of, value_of_run, yes_letter}
 use Rattle.tp_machine.specs.server.State.{Server}
-use Rattle.tp_machine.specs.server.Verdicts.{verdicts_on}
+use Rattle.tp_machine.specs.server.Verdicts.{learnt, verdicts_on}
 
 -- ---- an act
 
@@ -385,13 +385,13 @@ prepared_now txn kept p own fresh =
 votes_pairs : (sc : Scenario) (A : TxnId → Option Asker) (s : Server) (kept : List Record) (r : PrepareRequest) (entry : Entry) (forced : Prepared) → ServerPaired sc A s kept → settled_in r.txn kept ≡ None
     → entry_at s r.txn ≡ Some entry → entry.epoch ≡ r.epoch → r.txn.0 < length sc.txns → forced.txn ≡ r.txn → IsVoteOn entry forced
     → ((declared : Transaction) → slice_get sc.txns r.txn.0 ≡ Some declared → PrepareFits (site_of sc s.server.0 declared) (pair_up r.txn (A r.txn) s kept) r)
-    → RowPairs sc A s kept (casts s forced entry)
+    → RowPairs sc A s kept (casts (learnt s r.want) forced entry)
 votes_pairs sc A s kept r entry forced h fresh there same exists own on asked =
     let P : TxnId → Pair = λ txn. pair_up txn (A txn) s kept in
-    let effect = casts s forced entry in
+    let effect = casts (learnt s r.want) forced entry in
     let now = effect.state in
     let append = effect.reaction.append in
-    let ballot : Ballot = record { turn = forced.turn; verdicts = forced.verdicts } in
+    let ballot : Ballot = ballot_of forced in
     let new = with_ballot entry ballot in
     let Q : TxnId → Pair = λ txn. pair_up txn (A txn) now (log_with kept append) in
     let is : same_txn forced.txn r.txn ≡ true = ap (λ (t : TxnId). same_txn t r.txn) own ∙ number_itself r.txn.0 in
@@ -413,6 +413,10 @@ votes_pairs sc A s kept r entry forced h fresh there same exists own on asked =
       places = ap length entries ∙ length-set s.entries r.txn.0 (Some new);
       replies = (record { from_is = refl; says = tt }, tt);
     }
+
+-- a vote that is given again
+votes_again_pairs : (sc : Scenario) (A : TxnId → Option Asker) (s : Server) (kept : List Record) (r : PrepareRequest) (cast : Ballot) → ServerPaired sc A s kept → RowPairs sc A s kept (sends s (yes_letter s r.txn cast ∷ []))
+votes_again_pairs sc A s kept r cast h = record { next = still_next sc A s kept h; places = refl; replies = (record { from_is = refl; says = tt }, tt) }
 
 -- ---- Decide
 
@@ -453,19 +457,14 @@ settles_pairs sc A s kept d h fresh exists decided =
       replies = (record { from_is = refl; says = tt }, tt);
     }
 
-unvoted_ballot : (ballot : Option Ballot) → is_some ballot ≡ false → ballot ≡ None
-unvoted_ballot None e = refl
-unvoted_ballot (Some ballot) e = absurd (cc)
-
 -- the server refuses what it has not voted on
 refuses_pairs : (sc : Scenario) (A : TxnId → Option Asker) (s : Server) (kept : List Record) (p : PrepareRequest) (entry : Entry) (why : No) → ServerPaired sc A s kept → settled_in p.txn kept ≡ None → p.txn.0 < length sc.txns
-    → entry_at s p.txn ≡ Some entry → is_some entry.ballot ≡ false → RequestPairs sc s.server A (λ txn. pair_up txn (A txn) s kept) (body.Prepare p) → RowPairs sc A s kept (refuses s p why)
+    → entry_at s p.txn ≡ Some entry → entry.ballot ≡ None → RequestPairs sc s.server A (λ txn. pair_up txn (A txn) s kept) (body.Prepare p) → RowPairs sc A s kept (refuses s p why)
 refuses_pairs sc A s kept p entry why h fresh exists found unvoted asked =
-    let none : entry.ballot ≡ None = unvoted_ballot entry.ballot unvoted in
     record {
       next = ends_next sc A s kept (refused_as p why) (no_letter s p why) h fresh exists
           (λ declared there. end.refuses (site_of sc s.server.0 declared) (pair_up p.txn (A p.txn) s kept) p refl (h.fits p.txn declared there) (asked declared there)
-          (λ other is epoch. subst (λ (e : Entry). e.ballot ≡ None) (same_Some entry other (sym found ∙ is)) none));
+          (λ other is epoch. subst (λ (e : Entry). e.ballot ≡ None) (same_Some entry other (sym found ∙ is)) unvoted));
       places = length-set s.entries p.txn.0 None;
       replies = (record { from_is = refl; says = tt }, tt);
     }
@@ -508,8 +507,9 @@ server_row_pairs sc A s kept mail h sound m asked =
           answers_pairs sc A s kept q entry given h k.found
           (same_txn_from q.txn given.txn (each_found (λ (d : DoneReply). IsSoundDone sc (actor.Coordinator q.txn) d) (λ (d : DoneReply). d.query == q.query) entry.answers given (sound.entries q.txn.0 entry k.found).answers k.given_is).goes_to) k.given_is;
       voted = λ p entry staple txn k.
-          votes_pairs sc A s kept p entry (prepared_record s p entry (verdicts_on sc s txn staple entry.deeds)) h (open_unsettled s kept p.txn h.agrees k.unsettled) k.found (eqb-true entry.epoch p.epoch k.same_epoch)
+          votes_pairs sc A s kept p entry (prepared_record (learnt s p.want) p entry (verdicts_on sc (learnt s p.want) txn staple p.want entry.deeds)) h (open_unsettled s kept p.txn h.agrees k.unsettled) k.found (eqb-true entry.epoch p.epoch k.same_epoch)
           (subst (IsSoundBody sc to) k.said_is m).txn refl (record { epoch = refl; deeds = refl }) (subst (RequestPairs sc s.server A P) k.said_is asked);
+      voted_again = λ p entry cast k. votes_again_pairs sc A s kept p cast h;
       refused = λ p entry number value k.
           refuses_pairs sc A s kept p entry _ h (open_unsettled s kept p.txn h.agrees k.unsettled) (subst (IsSoundBody sc to) k.said_is m).txn k.found k.unvoted
           (subst (RequestPairs sc s.server A P) k.said_is asked);

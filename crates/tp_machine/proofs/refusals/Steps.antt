@@ -187,6 +187,7 @@ server_row_shown sc w n mail at part s built sound a pairs serial sent up =
       restarted = λ q k. tt;
       answered = λ q entry given k. tt;
       voted = λ p entry staple txn k. tt;
+      voted_again = λ p entry cast k. tt;
       refused = λ p entry number value k awaiting. refusal_shown sc w n mail at part s p entry number value built sound a pairs serial sent up k awaiting;
       refused_again = λ p settled why k. tt;
       settled = λ d k awaiting. tt;

@@ -1,6 +1,6 @@
 -- Serial data, the server's rows: what an entry has read are the server's values, and a settled commit applies what its entry has done.
 use Rattle.std.specs.Option.{option_map_or}
-use Rattle.std.proofs.Common.{Bool, IfSome, List, None, Option, Some, [], ap, arith, false, if◌then◌else◌, is_some, length, map, option_and_then, option_map, refl, slice_get, slice_set, subst, sym, true, unwrap_or, ℕ, ℤ, ⊎_elim, ◌++◌, ◌<◌, ◌∙◌, ◌∷◌, ◌≡◌}
+use Rattle.std.proofs.Common.{Bool, IfSome, List, None, Option, Some, [], ap, arith, false, if◌then◌else◌, is_some, length, map, refl, slice_get, slice_set, subst, sym, true, unwrap_or, ℕ, ℤ, ⊎_elim, ◌++◌, ◌<◌, ◌∙◌, ◌∷◌, ◌≡◌, ◌⊎◌}
 use Rattle.std.proofs.lemmas.Bool.{eqb-true}
 use Rattle.std.proofs.lemmas.List.{length-set}
 use Rattle.std.proofs.lemmas.Option.{same_Some}
@@ -13,26 +13,26 @@ use Rattle.tp_model.specs.Words.body
 use Rattle.tp_model.specs.Words.log
 use Rattle.tp_model.specs.Words.outcome
 use Rattle.tp_model.specs.Words.query
-use Rattle.tp_model.specs.Words.{Body, Deed, Letter, Mail, Outcome, PrepareRequest, Prepared, PushNotice, Query, QueryRequest, Record, Scenario, Settled, Staple, Transaction, TxnId}
-use Rattle.tp_machine.proofs.agreement.Server.{cast_in, vote_by, written_over}
+use Rattle.tp_model.specs.Words.{AdminId, Body, Deed, Letter, Mail, Outcome, PrepareRequest, Prepared, PushNotice, Query, QueryRequest, Record, Scenario, Settled, Staple, Transaction, TxnId, Version}
+use Rattle.tp_machine.proofs.agreement.Server.{written_over}
 use Rattle.tp_machine.proofs.basics.Ids.{same_txn_is}
 use Rattle.tp_machine.proofs.basics.Lists.{missing, placed_emptied_others, placed_set, set_here}
 use Rattle.tp_machine.proofs.basics.Logs.{Prepares}
-use Rattle.tp_machine.proofs.basics.Stores.{ended_bounds, kept_bounds, kept_values}
+use Rattle.tp_machine.proofs.basics.Stores.{ended_bounds, kept_bounds, kept_values, learnt_is}
 use Rattle.tp_machine.proofs.serial_data.Lengths.{all_length}
 use Rattle.tp_machine.proofs.serial_data.Lists.{set_elsewhere}
 use Rattle.tp_machine.proofs.serial_data.Ranges.{AreTested}
 use Rattle.tp_machine.proofs.serial_data.Reads.{AreClear, IsReadFrom, ReadsFrom, reads_clear, reads_more}
 use Rattle.tp_machine.proofs.serial_data.Stores.{HasPlace}
 use Rattle.tp_machine.proofs.serial_data.Tentative.{AreLast, AreUpTo, inside_tested, none_last, own_read, read_last, write_last, write_of}
-use Rattle.tp_machine.proofs.walks.ServerRows.{IsFirstHere, IsFurther, IsGranted, IsVote, server_by}
+use Rattle.tp_machine.proofs.walks.ServerRows.{IsFirstHere, IsFirstVote, IsFurther, IsGranted, IsLaterVote, IsVote, server_by}
 use Rattle.tp_machine.specs.Runs.{deed_of}
 use Rattle.tp_machine.specs.Sound.{EachPlaced}
 use Rattle.tp_machine.specs.declared.server.Ballot.{Ballot}
 use Rattle.tp_machine.specs.declared.server.Entry.{Entry}
-use Rattle.tp_machine.specs.server.Row.{ack_letter, answer_to, asked_query, completes, ended_store, ends, entry_after, entry_at, is_open, kept_by, learns, no_letter, refused_as, reply, restarted_reply, server_row, settled_as, tentative_write, value_of_run, votes}
+use Rattle.tp_machine.specs.server.Row.{ack_letter, answer_to, asked_query, completes, ended_store, ends, entry_after, entry_at, is_open, kept_by, learns, no_letter, refused_as, reply, restarted_reply, server_row, settled_as, tentative_write, value_of_run, votes_on, yes_letter}
 use Rattle.tp_machine.specs.server.State.{Server}
-use Rattle.tp_machine.specs.server.Verdicts.{verdicts_on}
+use Rattle.tp_machine.specs.server.Verdicts.{learnt, verdicts_on, with_versions}
 use Rattle.tp_store.specs.Contents.{Contents}
 use Rattle.tp_store.specs.Rule.{bounds_of, read_in, writes_of}
 use Rattle.tp_store.specs.Writes.{with_write}
@@ -74,21 +74,23 @@ pub record ServerReads (sc : Scenario) (s : Server) : Type 0 where
 abbrev pub RecordTested : Scenario → Record → Type 0
 RecordTested sc kept = Prepares (λ (txn : TxnId) (p : Prepared). AreTested sc p.deeds) kept
 
--- a vote YES is of a transaction that was asked to prepare, is not settled, and was not voted on; M says what was asked
-pub record IsFreshVote (M : TxnId → Type 0) (s : Server) (p : Prepared) : Type 0 where
+-- a vote YES is of a transaction that was asked to prepare and is not settled, on what its entry has done; M says what was asked
+pub record IsVoteHere (M : TxnId → Type 0) (s : Server) (p : Prepared) : Type 0 where
   pub asked : M p.txn
   pub unsettled : is_open s p.txn ≡ true
-  pub unvoted : option_and_then cast_in (entry_at s p.txn) ≡ None
+  pub entry : Entry
+  pub found : entry_at s p.txn ≡ Some entry
+  pub deeds_are : p.deeds ≡ entry.deeds
 
-abbrev pub RecordFresh : (TxnId → Type 0) → Server → Record → Type 0
-RecordFresh M s (log.Prepared p) = IsFreshVote M s p
-RecordFresh M s _ = Unit {0}
+abbrev pub RecordHere : (TxnId → Type 0) → Server → Record → Type 0
+RecordHere M s (log.Prepared p) = IsVoteHere M s p
+RecordHere M s _ = Unit {0}
 
 -- an act of a server
 pub record ServerKeeps (sc : Scenario) (M : TxnId → Type 0) (s : Server) (effect : Effect Server) : Type 0 where
   pub reads : ServerReads sc effect.state
   pub forces : IfSome effect.reaction.append (RecordTested sc)
-  pub fresh : IfSome effect.reaction.append (RecordFresh M s)
+  pub votes : IfSome effect.reaction.append (RecordHere M s)
   pub values : effect.state.store.values ≡ values_with s effect.reaction.append
 
 -- what one transaction has done is clear of what others have
@@ -106,9 +108,10 @@ pub record OrderClear (sc : Scenario) (s : Server) (txn : TxnId) : Type 0 where
   pub exists : txn.0 < length sc.txns
   pub clear : IsClearOfOthers s txn
 
--- a request to prepare was made, and may end its transaction
+-- a request to prepare was made, and may end its transaction; what was voted on was tested against the ranges of items
 pub record PrepareClear (sc : Scenario) (M : TxnId → Type 0) (s : Server) (txn : TxnId) : Type 0 where
   pub made : M txn
+  pub tested : (entry : Entry) (cast : Ballot) → entry_at s txn ≡ Some entry → entry.ballot ≡ Some cast → AreTested sc entry.deeds
   pub ends : OrderClear sc s txn
 
 -- what is known of a mail to the server; M says which requests were made
@@ -122,7 +125,7 @@ RequestClear sc M s _ = Unit {0}
 
 -- an act that keeps all entries and forces nothing
 stays_keep : (sc : Scenario) (M : TxnId → Type 0) (s : Server) (letters : List Letter) → ServerReads sc s → ServerKeeps sc M s (sends s letters)
-stays_keep sc M s letters h = record { reads = h; forces = tt; fresh = tt; values = refl }
+stays_keep sc M s letters h = record { reads = h; forces = tt; votes = tt; values = refl }
 
 -- ---- tables
 
@@ -238,36 +241,49 @@ runs_keep sc M s mail q query entry value h m k =
         last = λ other. run_last sc s q query entry value other h m.exists at;
       };
       forces = tt;
-      fresh = tt;
+      votes = tt;
       values = same;
     }
 
 -- ---- Prepare
 
-unvoted_casts : (found : Option Entry) (entry : Entry) → found ≡ Some entry → is_some entry.ballot ≡ false → option_and_then cast_in found ≡ None
-unvoted_casts found entry e unvoted = ap (option_and_then cast_in) e ∙ ap (option_map (vote_by entry)) (none_is entry.ballot unvoted)
+-- versions that are learnt are none of what is read
+learnt_reads : (sc : Scenario) (s : Server) (want : List (AdminId × Version)) → ServerReads sc s → ServerReads sc (learnt s want)
+learnt_reads sc s want h =
+    let known = (with_versions s.store want).known in
+    subst (λ (store : Contents). ServerReads sc (record s { store = store })) (sym (learnt_is s.store want)) (now_known known)
   where
-    none_is : (ballot : Option Ballot) → is_some ballot ≡ false → ballot ≡ None
-    none_is None f = refl
-    none_is (Some ballot) f = absurd (cc)
+    now_known : (known : List Version) → ServerReads sc (record s { store = record s.store { known = known } })
+    now_known known = record { reads = h.reads; items_are = h.items_are; bounds_are = h.bounds_are; places = h.places; entry_places = h.entry_places; last = h.last }
 
-votes_keep : (sc : Scenario) (M : TxnId → Type 0) (s : Server) (mail : Mail) (p : PrepareRequest) (entry : Entry) (staple : Staple) (txn : Transaction) → ServerReads sc s → M p.txn → IsVote sc s mail p entry staple txn
-    → ServerKeeps sc M s (votes s p (verdicts_on sc s txn staple entry.deeds) entry)
-votes_keep sc M s mail p entry staple txn h asked k =
-    let here : AreLast (writes_of s.store p.txn) entry.deeds = subst (λ (found : Option Entry). AreLast (writes_of s.store p.txn) (deeds_in found)) k.found (h.last p.txn) in
-    let voted : Entry = record entry { ballot = Some (record { turn = p.turn; verdicts = verdicts_on sc s txn staple entry.deeds }) } in
+-- what was voted on was tested before, and what is voted on first is in range
+vote_tested : (sc : Scenario) (M : TxnId → Type 0) (s : Server) (p : PrepareRequest) (entry : Entry) → ServerReads sc s → PrepareClear sc M s p.txn → entry_at s p.txn ≡ Some entry
+    → IsFirstVote s p entry ⊎ IsLaterVote p entry → AreTested sc entry.deeds
+vote_tested sc M s p entry h clear found place =
+    ⊎_elim
+    (λ (first : IsFirstVote s p entry).
+    inside_tested sc s.store p.txn entry.deeds h.bounds_are (subst (λ (x : Option Entry). AreLast (writes_of s.store p.txn) (deeds_in x)) found (h.last p.txn)) first.in_range)
+    (λ (further : IsLaterVote p entry). clear.tested entry further.cast found further.ballot_is) place
+
+votes_keep : (sc : Scenario) (M : TxnId → Type 0) (s : Server) (mail : Mail) (p : PrepareRequest) (entry : Entry) (staple : Staple) (txn : Transaction) → ServerReads sc s → PrepareClear sc M s p.txn
+    → IsVote sc s mail p entry staple txn → ServerKeeps sc M s (votes_on sc (learnt s p.want) p entry staple txn)
+votes_keep sc M s mail p entry staple txn h clear k =
+    let now = learnt s p.want in
+    let after : ServerReads sc now = learnt_reads sc s p.want h in
+    let here : AreLast (writes_of now.store p.txn) entry.deeds = subst (λ (found : Option Entry). AreLast (writes_of now.store p.txn) (deeds_in found)) k.found (after.last p.txn) in
+    let voted : Entry = record entry { ballot = Some (record { turn = p.turn; verdicts = verdicts_on sc now txn staple p.want entry.deeds }) } in
     record {
       reads = record {
-        reads = placed_set (λ (n : ℕ) (found : Entry). ReadsFrom s.store.values found.deeds) s.entries p.txn.0 voted h.reads (h.reads p.txn.0 entry k.found);
-        items_are = h.items_are;
-        bounds_are = h.bounds_are;
-        places = h.places;
+        reads = placed_set (λ (n : ℕ) (found : Entry). ReadsFrom now.store.values found.deeds) s.entries p.txn.0 voted after.reads (after.reads p.txn.0 entry k.found);
+        items_are = after.items_are;
+        bounds_are = after.bounds_are;
+        places = after.places;
         entry_places = length-set s.entries p.txn.0 (Some voted) ∙ h.entry_places;
-        last = λ other. voted_last s p.txn other entry voted (same_txn p.txn other) refl k.found here (h.last other);
+        last = λ other. voted_last now p.txn other entry voted (same_txn p.txn other) refl k.found here (after.last other);
       };
-      forces = inside_tested sc s.store p.txn entry.deeds h.bounds_are here k.in_range;
-      fresh = record { asked = asked; unsettled = k.unsettled; unvoted = unvoted_casts (entry_at s p.txn) entry k.found k.unvoted };
-      values = refl;
+      forces = vote_tested sc M s p entry h clear k.found k.place;
+      votes = record { asked = clear.made; unsettled = k.unsettled; entry = entry; found = k.found; deeds_are = refl };
+      values = ap (λ (store : Contents). store.values) (learnt_is s.store p.want);
     }
   where
     voted_last : (s : Server) (txn other : TxnId) (entry voted : Entry) (b : Bool) → same_txn txn other ≡ b → entry_at s txn ≡ Some entry → AreLast (writes_of s.store txn) voted.deeds
@@ -324,7 +340,7 @@ ends_keep sc M s d letter h m =
             (last_set s d.txn other [] None (same_txn d.txn other) refl (omega (arith, exists, places)) (omega (arith, exists, entry_places)) none_last (h.last other));
       };
       forces = tt;
-      fresh = tt;
+      votes = tt;
       values = values;
     }
 
@@ -335,7 +351,7 @@ learns_keep sc M s push h =
     record {
       reads = record { reads = h.reads; items_are = h.items_are; bounds_are = h.bounds_are; places = h.places; entry_places = h.entry_places; last = h.last };
       forces = tt;
-      fresh = tt;
+      votes = tt;
       values = refl;
     }
 
@@ -350,7 +366,8 @@ server_row_keeps sc M s mail h clear =
       ran = λ q query entry value k. runs_keep sc M s mail q query entry value h (subst (RequestClear sc M s) k.said_is clear) k;
       restarted = λ q k. stays_keep sc M s (reply s q.txn (body.Done (restarted_reply q s.epoch)) ∷ []) h;
       answered = λ q entry given k. stays_keep sc M s (reply s q.txn (body.Done given) ∷ []) h;
-      voted = λ p entry staple txn k. votes_keep sc M s mail p entry staple txn h (subst (RequestClear sc M s) k.said_is clear).made k;
+      voted = λ p entry staple txn k. votes_keep sc M s mail p entry staple txn h (subst (RequestClear sc M s) k.said_is clear) k;
+      voted_again = λ p entry cast k. stays_keep sc M s (yes_letter s p.txn cast ∷ []) h;
       refused = λ p entry number value k. ends_keep sc M s (refused_as p _) (no_letter s p _) h (subst (RequestClear sc M s) k.said_is clear).ends;
       refused_again = λ p settled why k. stays_keep sc M s (no_letter s p why ∷ []) h;
       settled = λ d k. ends_keep sc M s (settled_as d) (ack_letter s d.txn) h (subst (RequestClear sc M s) k.said_is clear);

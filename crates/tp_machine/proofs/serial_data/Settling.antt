@@ -1,7 +1,7 @@
 -- Serial data, an act of a server: its values change by what it settles, and the store stands to them as before.
 use Rattle.std.proofs.Common.{Bool, IfSome, List, None, Option, Some, [], ap, cond, false, fold, if◌then◌else◌, is_some, option_and_then, option_map, refl, slice_get, slice_set, subst, sym, true, ℕ, ℤ, ⊎_elim, ◌==◌, ◌∙◌, ◌∷◌, ◌≡◌}
 use Rattle.std.proofs.lemmas.Bool.{eq-eqb, eqb-true}
-use Rattle.std.proofs.lemmas.Option.{IfSome_then, same_Some, slice_get_within}
+use Rattle.std.proofs.lemmas.Option.{IfSome_then, cond_some, same_Some, slice_get_within}
 use Rattle.tp_types.specs.Effect.{Effect}
 use Rattle.tp_model.specs.Agreement.{has_item_at}
 use Rattle.tp_model.specs.Facts.{commit_of, outcome_of}
@@ -25,7 +25,7 @@ use Rattle.tp_machine.proofs.serial_data.Joined.{at_home, is_at, other_stored, s
 use Rattle.tp_machine.proofs.serial_data.Lengths.{has_value}
 use Rattle.tp_machine.proofs.serial_data.Lists.{at_changed, set_elsewhere}
 use Rattle.tp_machine.proofs.serial_data.Ranges.{AreTested}
-use Rattle.tp_machine.proofs.serial_data.Rows.{IsFreshVote, RecordFresh, ServerKeeps, deeds_in, values_by, values_with}
+use Rattle.tp_machine.proofs.serial_data.Rows.{IsVoteHere, RecordHere, ServerKeeps, deeds_in, values_by, values_with}
 use Rattle.tp_machine.proofs.serial_data.Stores.{StoreFits, values_as}
 use Rattle.tp_machine.proofs.serial_data.Unsettled.{IsUnsettled, SameEnds, SettlesAt, abort_same, elsewhere_same, fits_same, nothing_settled, settle_drops, with_server}
 use Rattle.tp_machine.proofs.serial_data.World.{AreShares, HoldsValues, MoveSerial, Serial, ServerPartSerial, ServerUpSerial, ServersSerial, ServersUp, StoreStands, WhatSerial, overlaid_by, store_by}
@@ -37,7 +37,7 @@ use Rattle.tp_machine.specs.coord.State.{Coordinator}
 use Rattle.tp_machine.specs.declared.actors.Actors.{Actors}
 use Rattle.tp_machine.specs.declared.server.Ballot.{Ballot}
 use Rattle.tp_machine.specs.declared.server.Entry.{Entry}
-use Rattle.tp_machine.specs.server.Row.{entry_at, is_open}
+use Rattle.tp_machine.specs.server.Row.{entry_at}
 use Rattle.tp_machine.specs.server.State.{Server}
 
 -- ---- facts that tell of no end
@@ -145,15 +145,24 @@ cast_is s txn p (Some entry) e h = by_ballot entry.ballot h
 pub prepared_here : (s : Server) (kept : List Record) (txn : TxnId) (p : Prepared) → ServerAgrees s kept → prepared_in txn kept ≡ Some p → IsPreparedEntry s txn p
 prepared_here s kept txn p a e = cast_is s txn p (entry_at s txn) refl (sym (ap (option_map vote_of) e) ∙ a.prepared txn)
 
--- what is not voted on and not settled serves no commit
-not_served : (s : Server) (kept : List Record) (txn : TxnId) → ServerAgrees s kept → is_open s txn ≡ true → option_and_then cast_in (entry_at s txn) ≡ None → LogServed txn kept → ⊥
-not_served s kept txn a unsettled unvoted served =
-    ⊎_elim (λ (p : LogPrepared txn kept). unprepared (prepared_in txn kept) (a.prepared txn ∙ unvoted) p)
-    (λ (c : option_map outcome_settled (settled_in txn kept) ≡ Some outcome.Commit). let none = ap (option_map outcome_settled) (open_unsettled s kept txn a unsettled) in cc) served
-  where
-    unprepared : (p : Option Prepared) → option_map vote_of p ≡ None → is_some p ≡ true → ⊥
-    unprepared None e f = cc
-    unprepared (Some p) e f = cc
+-- what a server has prepared of a commit, and its entry
+pub record IsShare (sc : Scenario) (at : ServerId) (s : Server) (txn : TxnId) (committed : CommitRecord) : Type 0 where
+  pub entry : Entry
+  pub found : entry_at s txn ≡ Some entry
+  pub deeds_are : entry.deeds ≡ share_at sc at.0 committed.deeds
+
+share_here : (sc : Scenario) (w : State) (at : ServerId) (part : Part Server) (s : Server) (txn : TxnId) (committed : CommitRecord) (prepared : Option Prepared) → Serial sc w → slice_get w.actors.servers at.0 ≡ Some part
+    → ServerAgrees s part.log → decided_at w.actors.coordinators txn.0 ≡ Some (decision.Commit committed) → prepared_in txn part.log ≡ prepared → is_some prepared ≡ true → IsShare sc at s txn committed
+share_here sc w at part s txn committed None h found a d e is = absurd (cc)
+share_here sc w at part s txn committed (Some p) h found a d e is =
+    let there : IsPreparedEntry s txn p = prepared_here s part.log txn p a e in
+    record { entry = there.entry; found = there.found; deeds_are = there.deeds_are ∙ h.shares txn at.0 committed p d (ap (option_and_then (prepared_by txn)) found ∙ e) }
+
+open_share : (sc : Scenario) (w : State) (at : ServerId) (part : Part Server) (s : Server) (txn : TxnId) (committed : CommitRecord) → Serial sc w → slice_get w.actors.servers at.0 ≡ Some part → ServerAgrees s part.log
+    → decided_at w.actors.coordinators txn.0 ≡ Some (decision.Commit committed) → settled_in txn part.log ≡ None → LogServed txn part.log → IsShare sc at s txn committed
+open_share sc w at part s txn committed h found a d fresh served =
+    ⊎_elim (λ (p : LogPrepared txn part.log). share_here sc w at part s txn committed (prepared_in txn part.log) h found a d refl p)
+    (λ (c : option_map outcome_settled (settled_in txn part.log) ≡ Some outcome.Commit). let none = ap (option_map outcome_settled) fresh in absurd (cc)) served
 
 -- ---- a server acts
 
@@ -171,26 +180,26 @@ next_part part effect = record { up = Some effect.state; log = log_with part.log
 server_serial : (sc : Scenario) (w : State) (at : ServerId) (part : Part Server) (s : Server) → Serial sc w → slice_get w.actors.servers at.0 ≡ Some part → part.up ≡ Some s → ServerUpSerial sc (overlaid sc w.facts) at s
 server_serial sc w at part s h found up = subst (λ (u : Option Server). IfSome u (ServerUpSerial sc (overlaid sc w.facts) at)) up (h.servers at.0 part found).state
 
--- a new vote YES is of no commit
-vote_undecided : (sc : Scenario) (w : State) (at : ServerId) (part : Part Server) (s : Server) (p : Prepared) → Agrees sc w → slice_get w.actors.servers at.0 ≡ Some part → ServerAgrees s part.log
-    → IsFreshVote (IsAsked sc w.actors.coordinators at) s p → DecidedAs w.actors.coordinators p.txn outcome.Commit → ⊥
-vote_undecided sc w at part s p agrees found a fresh d = not_served s part.log p.txn a fresh.unsettled fresh.unvoted (served_here sc w at part p.txn agrees found fresh.asked.item d)
+-- a vote YES on a commit is on its share
+vote_share : (sc : Scenario) (w : State) (at : ServerId) (part : Part Server) (s : Server) (p : Prepared) (committed : CommitRecord) → Agrees sc w → Serial sc w → slice_get w.actors.servers at.0 ≡ Some part → ServerAgrees s part.log
+    → IsVoteHere (IsAsked sc w.actors.coordinators at) s p → decided_at w.actors.coordinators p.txn.0 ≡ Some (decision.Commit committed) → p.deeds ≡ share_at sc at.0 committed.deeds
+vote_share sc w at part s p committed agrees h found a here d =
+    let served : LogServed p.txn part.log = served_here sc w at part p.txn agrees found here.asked.item (ap (option_map outcome_of) d) in
+    let share : IsShare sc at s p.txn committed = open_share sc w at part s p.txn committed h found a d (open_unsettled s part.log p.txn a here.unsettled) served in
+    here.deeds_are ∙ (ap (λ (entry : Entry). entry.deeds) (same_Some here.entry share.entry (sym here.found ∙ share.found)) ∙ share.deeds_are)
 
-new_share : (sc : Scenario) (w : State) (at : ServerId) (part : Part Server) (s : Server) (append : Option Record) (txn : TxnId) (committed : CommitRecord) (p : Prepared) → Agrees sc w
-    → slice_get w.actors.servers at.0 ≡ Some part → ServerAgrees s part.log → IfSome append (RecordFresh (IsAsked sc w.actors.coordinators at) s)
-    → decided_at w.actors.coordinators txn.0 ≡ Some (decision.Commit committed) → appended (preparation_in txn) append ≡ Some p → ⊥
-new_share sc w at part s None txn committed p agrees found a fresh d e = cc
-new_share sc w at part s (Some (log.Prepared q)) txn committed p agrees found a fresh d e = this (same_txn q.txn txn) refl e
-  where
-    this : (b : Bool) → same_txn q.txn txn ≡ b → (if b then Some q else None) ≡ Some p → ⊥
-    this false f g = cc
-    this true f g =
-        vote_undecided sc w at part s q agrees found a fresh
-        (ap (λ (t : TxnId). option_map outcome_of (decided_at w.actors.coordinators t.0)) (same_txn_is q.txn txn f) ∙ ap (option_map outcome_of) d)
-new_share sc w at part s (Some (log.Settled q)) txn committed p agrees found a fresh d e = cc
-new_share sc w at part s (Some (log.Decided q)) txn committed p agrees found a fresh d e = cc
-new_share sc w at part s (Some (log.Told q)) txn committed p agrees found a fresh d e = cc
-new_share sc w at part s (Some log.Boot) txn committed p agrees found a fresh d e = cc
+new_share : (sc : Scenario) (w : State) (at : ServerId) (part : Part Server) (s : Server) (append : Option Record) (txn : TxnId) (committed : CommitRecord) (p : Prepared) → Agrees sc w → Serial sc w
+    → slice_get w.actors.servers at.0 ≡ Some part → ServerAgrees s part.log → IfSome append (RecordHere (IsAsked sc w.actors.coordinators at) s)
+    → decided_at w.actors.coordinators txn.0 ≡ Some (decision.Commit committed) → appended (preparation_in txn) append ≡ Some p → p.deeds ≡ share_at sc at.0 committed.deeds
+new_share sc w at part s None txn committed p agrees h found a votes d e = absurd (cc)
+new_share sc w at part s (Some (log.Prepared q)) txn committed p agrees h found a votes d e =
+    let parts = cond_some (same_txn q.txn txn) q p e in
+    subst (λ (r : Prepared). r.deeds ≡ share_at sc at.0 committed.deeds) parts.1
+    (vote_share sc w at part s q committed agrees h found a votes (ap (λ (t : TxnId). decided_at w.actors.coordinators t.0) (same_txn_is q.txn txn parts.0) ∙ d))
+new_share sc w at part s (Some (log.Settled q)) txn committed p agrees h found a votes d e = absurd (cc)
+new_share sc w at part s (Some (log.Decided q)) txn committed p agrees h found a votes d e = absurd (cc)
+new_share sc w at part s (Some (log.Told q)) txn committed p agrees h found a votes d e = absurd (cc)
+new_share sc w at part s (Some log.Boot) txn committed p agrees h found a votes d e = absurd (cc)
 
 -- servers prepare their shares after it
 acts_shares : (sc : Scenario) (w : State) (at : ServerId) (part : Part Server) (s : Server) (effect : Effect Server) → Agrees sc w → Serial sc w → ServerActs sc w at part s effect
@@ -209,7 +218,7 @@ acts_shares sc w at part s effect agrees h k txn other committed p d e =
         sym (ap (option_and_then (prepared_by txn)) (ap (slice_get (slice_set w.actors.servers at.0 next)) (sym is) ∙ set_here w.actors.servers at.0 next (slice_get_within w.actors.servers at.0 part k.found))) ∙ f in
         prepared_either txn part.log effect.reaction.append (λ (q : Prepared). q.deeds ≡ share_at sc other committed.deeds)
         (λ q was. h.shares txn other committed q d (ap (option_and_then (prepared_by txn)) (ap (slice_get w.actors.servers) (sym is) ∙ k.found) ∙ was))
-        (λ q new. absurd (new_share sc w at part s effect.reaction.append txn committed q agrees k.found k.agrees k.keeps.fresh d new)) p now
+        (λ q new. subst (λ (n : ℕ). q.deeds ≡ share_at sc n committed.deeds) is (new_share sc w at part s effect.reaction.append txn committed q agrees h k.found k.agrees k.keeps.votes d new)) p now
 
 -- another server's items keep their values
 others_hold : (sc : Scenario) (other : ServerId) (values after : List ℤ) (part : Part Server) → ((n : ℕ) (item : Item) → slice_get sc.items n ≡ Some item → item.server ≡ other → slice_get after n ≡ slice_get values n)
@@ -309,25 +318,6 @@ told_commit sc w txn (Some (decision.Commit committed)) agrees e d =
 
 pub commit_told : (sc : Scenario) (w : State) (txn : TxnId) → Agrees sc w → DecidedAs w.actors.coordinators txn outcome.Commit → IsToldCommit w txn
 commit_told sc w txn agrees d = told_commit sc w txn (decided_at w.actors.coordinators txn.0) agrees refl d
-
--- what a server has prepared of a commit, and its entry
-pub record IsShare (sc : Scenario) (at : ServerId) (s : Server) (txn : TxnId) (committed : CommitRecord) : Type 0 where
-  pub entry : Entry
-  pub found : entry_at s txn ≡ Some entry
-  pub deeds_are : entry.deeds ≡ share_at sc at.0 committed.deeds
-
-share_here : (sc : Scenario) (w : State) (at : ServerId) (part : Part Server) (s : Server) (txn : TxnId) (committed : CommitRecord) (prepared : Option Prepared) → Serial sc w → slice_get w.actors.servers at.0 ≡ Some part
-    → ServerAgrees s part.log → decided_at w.actors.coordinators txn.0 ≡ Some (decision.Commit committed) → prepared_in txn part.log ≡ prepared → is_some prepared ≡ true → IsShare sc at s txn committed
-share_here sc w at part s txn committed None h found a d e is = absurd (cc)
-share_here sc w at part s txn committed (Some p) h found a d e is =
-    let there : IsPreparedEntry s txn p = prepared_here s part.log txn p a e in
-    record { entry = there.entry; found = there.found; deeds_are = there.deeds_are ∙ h.shares txn at.0 committed p d (ap (option_and_then (prepared_by txn)) found ∙ e) }
-
-open_share : (sc : Scenario) (w : State) (at : ServerId) (part : Part Server) (s : Server) (txn : TxnId) (committed : CommitRecord) → Serial sc w → slice_get w.actors.servers at.0 ≡ Some part → ServerAgrees s part.log
-    → decided_at w.actors.coordinators txn.0 ≡ Some (decision.Commit committed) → settled_in txn part.log ≡ None → LogServed txn part.log → IsShare sc at s txn committed
-open_share sc w at part s txn committed h found a d fresh served =
-    ⊎_elim (λ (p : LogPrepared txn part.log). share_here sc w at part s txn committed (prepared_in txn part.log) h found a d refl p)
-    (λ (c : option_map outcome_settled (settled_in txn part.log) ≡ Some outcome.Commit). let none = ap (option_map outcome_settled) fresh in absurd (cc)) served
 
 commit_leaves : (sc : Scenario) (w : State) (at : ServerId) (part : Part Server) (s : Server) (effect : Effect Server) (r : Settled) → Agrees sc w → Serial sc w → ServerActs sc w at part s effect
     → effect.reaction.append ≡ Some (log.Settled r) → settled_in r.txn part.log ≡ None → effect.state.store.values ≡ stored_all s.store.values (deeds_in (entry_at s r.txn)) → has_item_at sc at r.txn ≡ true

@@ -1,5 +1,5 @@
 -- Serial data, step by step: it holds before the first step, and each step keeps it.
-use Rattle.std.proofs.Common.{IfSome, List, None, Option, Some, [], arith, false, is_some, length, option_and_then, refl, replicate, slice_get, subst, suc, sym, true, unwrap_or, zero, ℕ, ◌<◌, ◌∙◌, ◌∷◌, ◌≡◌}
+use Rattle.std.proofs.Common.{IfSome, List, None, Option, Some, [], ap, arith, false, is_some, length, option_and_then, option_map, refl, replicate, slice_get, subst, suc, sym, true, unwrap_or, zero, ℕ, ◌<◌, ◌∙◌, ◌∷◌, ◌≡◌}
 use Rattle.std.proofs.lemmas.List.{length-map, length-replicate}
 use Rattle.std.proofs.lemmas.Option.{same_Some, slice_get_within}
 use Rattle.tp_types.specs.Table.{flattened}
@@ -10,9 +10,10 @@ use Rattle.tp_model.specs.Words.actor
 use Rattle.tp_model.specs.Words.body
 use Rattle.tp_model.specs.Words.step
 use Rattle.tp_model.specs.Words.what
-use Rattle.tp_model.specs.Words.{Actor, Body, Mail, Query, QueryRequest, Record, Scenario, ServerId, Step, TxnId, What}
+use Rattle.tp_model.specs.Words.{Actor, Body, Mail, Prepared, Query, QueryRequest, Record, Scenario, ServerId, Step, TxnId, What}
 use Rattle.tp_machine.proofs.agreement.Coordinator.{IsFirst}
 use Rattle.tp_machine.proofs.agreement.Logs.{IsAsked, IsPrepared}
+use Rattle.tp_machine.proofs.agreement.Server.{CastVote, ServerAgrees, cast_in, vote_by, vote_of}
 use Rattle.tp_machine.proofs.agreement.Steps.{begun_lawful, coordinator_lawful, mail_rests, mail_sound, own_txn, server_agrees, server_lawful}
 use Rattle.tp_machine.proofs.agreement.World.{Agrees, BodyRests}
 use Rattle.tp_machine.proofs.basics.Lists.{at_made, each_get, placed_none}
@@ -26,13 +27,14 @@ use Rattle.tp_machine.proofs.pairs.World.{Pairs, declared_by, pair_of_up}
 use Rattle.tp_machine.proofs.serial_data.Alone.{IsAlone, alone_built, clear_commit, clear_of_others}
 use Rattle.tp_machine.proofs.serial_data.Built.{opening_in_range}
 use Rattle.tp_machine.proofs.serial_data.Deciding.{RecordOwn, coordinator_acts_serial, coordinator_row_own}
+use Rattle.tp_machine.proofs.serial_data.Ranges.{AreTested}
 use Rattle.tp_machine.proofs.serial_data.Reads.{ReadsFrom}
 use Rattle.tp_machine.proofs.serial_data.Rows.{QueryRises, RequestClear, ServerReads, deeds_in, server_row_keeps}
 use Rattle.tp_machine.proofs.serial_data.Settling.{server_acts_serial, unmoved_serial}
 use Rattle.tp_machine.proofs.serial_data.Tentative.{AreLast, none_last}
 use Rattle.tp_machine.proofs.serial_data.World.{MoveSerial, Serial, ServerPartSerial, ServerUpSerial, state_after_serial}
 use Rattle.tp_machine.proofs.walks.Steps.{Cases, IsCoordinatorUp, IsServerUp, SaysIdle, WasSent, machine_after_by}
-use Rattle.tp_machine.specs.Logs.{decided_at, decided_by}
+use Rattle.tp_machine.specs.Logs.{decided_at, decided_by, prepared_in}
 use Rattle.tp_machine.specs.Machine.{Machine, State, acts_by, coordinator_fact, coordinator_move, idle_move, is_part_submitted, machine_after, opened_part, opening_state, refusal, server_fact, server_move, with_age}
 use Rattle.tp_machine.specs.Parts.{Part}
 use Rattle.tp_machine.specs.Sound.{IsSound, IsSoundBody, IsSoundQuery, IsStepOf, IsTxn}
@@ -40,6 +42,7 @@ use Rattle.tp_machine.specs.coord.Opened as coord
 use Rattle.tp_machine.specs.coord.Opened.{idle}
 use Rattle.tp_machine.specs.coord.Row.{coordinator_row, submit_row}
 use Rattle.tp_machine.specs.coord.State.{Coordinator}
+use Rattle.tp_machine.specs.declared.server.Ballot.{Ballot}
 use Rattle.tp_machine.specs.declared.server.Entry.{Entry}
 use Rattle.tp_machine.specs.server.Opened as server
 use Rattle.tp_machine.specs.server.Row.{entry_at, server_row}
@@ -75,22 +78,32 @@ query_rises sc w at part s q up sound pairs asked =
           rises site p entry q refl found fits query (same_answer q.query entry.answers ∙ unanswered) (no_ballot entry.ballot unvoted);
     }
 
+-- what was voted on at a server is what is prepared there, which was tested
+voted_tested : (sc : Scenario) (s : Server) (kept : List Record) (txn : TxnId) → ServerAgrees s kept → ((p : Prepared) → prepared_in txn kept ≡ Some p → AreTested sc p.deeds)
+    → (entry : Entry) (cast : Ballot) → entry_at s txn ≡ Some entry → entry.ballot ≡ Some cast → AreTested sc entry.deeds
+voted_tested sc s kept txn a tested entry cast found ballot_is =
+    by_log (prepared_in txn kept) refl (a.prepared txn ∙ (ap (option_and_then cast_in) found ∙ ap (option_map (vote_by entry)) ballot_is))
+  where
+    by_log : (old : Option Prepared) → prepared_in txn kept ≡ old → option_map vote_of old ≡ Some (vote_by entry cast) → AreTested sc entry.deeds
+    by_log None e f = absurd (cc)
+    by_log (Some p) e f = subst (AreTested sc) (ap (λ (v : CastVote). v.deeds) (same_Some (vote_of p) (vote_by entry cast) f)) (tested p e)
+
 -- what is known of a mail to a server: of a query, of a request to prepare, and of an order to end, whose transaction is alone
 request_clear : (sc : Scenario) (w : State) (at : ServerId) (part : Part Server) (s : Server) (from : Actor) (said : Body) → IsAlone sc → length s.entries ≡ length sc.txns → IsServerUp w at part s → Pairs sc w
-    → IsSoundBody sc (actor.Server at) said → BodyRests sc w.actors from (actor.Server at) said → BodyPairs sc (pair_at w.actors) from (actor.Server at) said
+    → Agrees sc w → Serial sc w → IsSoundBody sc (actor.Server at) said → BodyRests sc w.actors from (actor.Server at) said → BodyPairs sc (pair_at w.actors) from (actor.Server at) said
     → RequestClear sc (IsAsked sc w.actors.coordinators at) s said
-request_clear sc w at part s from (body.Query q) alone places up pairs sound rests paired = query_rises sc w at part s q up sound pairs paired
-request_clear sc w at part s from (body.Decide d) alone places up pairs sound rests paired = record { exists = sound.txn; clear = clear_of_others sc s at d.txn alone places rests.1.item }
-request_clear sc w at part s from (body.Prepare p) alone places up pairs sound rests paired = record { made = rests; ends = record { exists = sound.txn; clear = clear_of_others sc s at p.txn alone places rests.item } }
-request_clear sc w at part s from _ alone places up pairs sound rests paired = tt
+request_clear sc w at part s from (body.Query q) alone places up pairs agrees serial sound rests paired = query_rises sc w at part s q up sound pairs paired
+request_clear sc w at part s from (body.Decide d) alone places up pairs agrees serial sound rests paired = record { exists = sound.txn; clear = clear_of_others sc s at d.txn alone places rests.1.item }
+request_clear sc w at part s from (body.Prepare p) alone places up pairs agrees serial sound rests paired = record { made = rests; tested = voted_tested sc s part.log p.txn (server_agrees sc w at part s agrees up) ((serial.servers at.0 part up.found).tested p.txn); ends = record { exists = sound.txn; clear = clear_of_others sc s at p.txn alone places rests.item } }
+request_clear sc w at part s from _ alone places up pairs agrees serial sound rests paired = tt
 
 -- so it is known of a mail that was sent
-pub received_clear : (sc : Scenario) (w : State) → is_built sc ≡ true → IsSound sc w → Agrees sc w → Pairs sc w → (n : ℕ) (mail : Mail) (at : ServerId) (part : Part Server) (s : Server)
+pub received_clear : (sc : Scenario) (w : State) → is_built sc ≡ true → IsSound sc w → Agrees sc w → Pairs sc w → Serial sc w → (n : ℕ) (mail : Mail) (at : ServerId) (part : Part Server) (s : Server)
     → WasSent w n mail (actor.Server at) → IsServerUp w at part s → length s.entries ≡ length sc.txns → RequestClear sc (IsAsked sc w.actors.coordinators at) s mail.letter.body
-received_clear sc w built sound agrees pairs n mail at part s sent up places =
+received_clear sc w built sound agrees pairs serial n mail at part s sent up places =
     let said : BodyPairs sc (pair_at w.actors) mail.letter.from (actor.Server at) mail.letter.body =
     subst (λ (to : Actor). BodyPairs sc (pair_at w.actors) mail.letter.from to mail.letter.body) sent.goes_to (each_get (λ (m : Mail). LetterPairs sc (pair_at w.actors) m.letter) w.mails n mail pairs.mails sent.sent) in
-    request_clear sc w at part s mail.letter.from mail.letter.body (alone_built sc built) places up pairs (mail_sound sc w n mail (actor.Server at) sound sent)
+    request_clear sc w at part s mail.letter.from mail.letter.body (alone_built sc built) places up pairs agrees serial (mail_sound sc w n mail (actor.Server at) sound sent)
     (mail_rests sc w n mail (actor.Server at) agrees sent) said
 
 receipt_by_server : (sc : Scenario) (w : State) → is_built sc ≡ true → IsSound sc w → Agrees sc w → Pairs sc w → Serial sc w → (n : ℕ) (mail : Mail) (at : ServerId) (part : Part Server) (s : Server)
@@ -103,7 +116,7 @@ receipt_by_server sc w built sound agrees pairs h n mail at part s sent up =
       up = up.up;
       agrees = server_agrees sc w at part s agrees up;
       keeps = server_row_keeps sc (IsAsked sc w.actors.coordinators at) s mail was.reads
-          (received_clear sc w built sound agrees pairs n mail at part s sent up was.reads.entry_places);
+          (received_clear sc w built sound agrees pairs h n mail at part s sent up was.reads.entry_places);
       rests = (server_lawful sc w agrees n mail at part s sent up).rests;
     })
 

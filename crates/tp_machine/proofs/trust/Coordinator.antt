@@ -145,7 +145,7 @@ ran_next_trusts sc facts place c done asked server next value few h e q further 
 prepare_letters_fit : (sc : Scenario) (facts : List Fact) (place sent : ℕ) (c : Coordinator) (staple : Staple) (servers : List ServerId) → StapleFits sc facts place c.txn staple
     → Each (λ (letter : Letter). BodyFits sc facts place sent letter.body) (map (prepare_letter c staple) servers)
 prepare_letters_fit sc facts place sent c staple [] h = tt
-prepare_letters_fit sc facts place sent c staple (at ∷ servers) h = (h, prepare_letters_fit sc facts place sent c staple servers h)
+prepare_letters_fit sc facts place sent c staple (at ∷ servers) h = ((h, tt), prepare_letters_fit sc facts place sent c staple servers h)
 
 prepare_letters_timely : (sc : Scenario) (c : Coordinator) (round : Round) (staple : Staple) (sent : ℕ) (servers : List ServerId)
     → Each (LetterOfTurn sc c.txn (Some (record c { turn = next_turn c; phase = phase.Checking round staple })) sent) (map (prepare_letter c staple) servers)

@@ -74,9 +74,9 @@ AnswerFits sc facts place txn (answer.Ran value verdict) = IfSome verdict (Right
 AnswerFits sc facts place txn (answer.Denied verdict) = Right sc facts place txn verdict
 AnswerFits sc facts place txn _ = Unit {0}
 
--- a version of an administrator is none above the newest
-abbrev pub IsPublished : Scenario → List Fact → ℕ → AdminId → Version → Type 0
-IsPublished sc facts place admin version = version.0 ≤ newest sc admin place facts
+-- a version of an administrator, wanted or pushed, is none above the newest
+abbrev pub IsPublished : Scenario → List Fact → ℕ → AdminId × Version → Type 0
+IsPublished sc facts place wanted = wanted.1.0 ≤ newest sc wanted.0 place facts
 
 -- what a mail that was sent at a place says of itself
 abbrev pub BodyFits : Scenario → List Fact → ℕ → ℕ → Body → Type 0
@@ -84,9 +84,9 @@ BodyFits sc facts place sent (body.Query q) = IfSome q.staple (StapleFits sc fac
 BodyFits sc facts place sent (body.Done done) = AnswerFits sc facts place done.txn done.answer
 BodyFits sc facts place sent (body.Ask ask) = IsSubmitted facts ask.txn
 BodyFits sc facts place sent (body.Tell tell) = StapleFits sc facts place tell.txn (staple_of tell sent)
-BodyFits sc facts place sent (body.Prepare p) = IfSome p.staple (StapleFits sc facts place p.txn)
+BodyFits sc facts place sent (body.Prepare p) = IfSome p.staple (StapleFits sc facts place p.txn) × Each (IsPublished sc facts place) p.want
 BodyFits sc facts place sent (body.Vote reply) = VoteFits sc facts place reply.txn reply.vote
-BodyFits sc facts place sent (body.Push push) = IsPublished sc facts place push.admin push.version
+BodyFits sc facts place sent (body.Push push) = IsPublished sc facts place (push.admin, push.version)
 BodyFits sc facts place sent _ = Unit {0}
 
 abbrev pub MailFits : Scenario → List Fact → ℕ → Mail → Type 0
@@ -218,6 +218,10 @@ answer_stays sc old new low high txn (answer.Ran value verdict) l h =
 answer_stays sc old new low high txn (answer.Denied verdict) l h = right_stays sc old new low high txn verdict l h
 answer_stays sc old new low high txn _ l h = tt
 
+wants_stay : (sc : Scenario) (old new : List Fact) (low high : ℕ) (want : List (AdminId × Version)) → Later old new low high → Each (IsPublished sc old low) want → Each (IsPublished sc new high) want
+wants_stay sc old new low high want l h =
+    each_as (IsPublished sc old low) (IsPublished sc new high) (λ wanted below. omega (arith, below, newest_rises sc wanted.0 old new low high l)) want h
+
 pub body_stays : (sc : Scenario) (old new : List Fact) (low high sent : ℕ) (said : Body) → Later old new low high → BodyFits sc old low sent said → BodyFits sc new high sent said
 body_stays sc old new low high sent (body.Query q) l h =
     maybe_stays (StapleFits sc old low q.txn) (StapleFits sc new high q.txn) q.staple (λ s f. staple_stays sc old new low high q.txn s l f) h
@@ -225,7 +229,7 @@ body_stays sc old new low high sent (body.Done done) l h = answer_stays sc old n
 body_stays sc old new low high sent (body.Ask ask) l h = l.more ask.txn h
 body_stays sc old new low high sent (body.Tell tell) l h = staple_stays sc old new low high tell.txn (staple_of tell sent) l h
 body_stays sc old new low high sent (body.Prepare p) l h =
-    maybe_stays (StapleFits sc old low p.txn) (StapleFits sc new high p.txn) p.staple (λ s f. staple_stays sc old new low high p.txn s l f) h
+    (maybe_stays (StapleFits sc old low p.txn) (StapleFits sc new high p.txn) p.staple (λ s f. staple_stays sc old new low high p.txn s l f) h.0, wants_stay sc old new low high p.want l h.1)
 body_stays sc old new low high sent (body.Vote reply) l h = vote_stays sc old new low high reply.txn reply.vote l h
 body_stays sc old new low high sent (body.Push push) l h = omega (arith, h, newest_rises sc push.admin old new low high l)
 body_stays sc old new low high sent _ l h = tt

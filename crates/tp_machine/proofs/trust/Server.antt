@@ -4,34 +4,36 @@ use Rattle.std.proofs.Common.{IfSome, List, Option, Some, [], ap, arith, false, 
 use Rattle.std.proofs.lemmas.Bool.{and_from, eqb-true}
 use Rattle.std.proofs.lemmas.Option.{same_Some}
 use Rattle.tp_types.proofs.ListLemmas.{number_itself}
-use Rattle.tp_types.specs.Effect.{Effect, ignores}
+use Rattle.tp_types.specs.Effect.{Effect, ignores, sends}
 use Rattle.tp_model.specs.Authorisation.{is_item_at, is_own_query, is_query_at, policy_at, version_in, version_of}
 use Rattle.tp_model.specs.Queries.{query_at}
 use Rattle.tp_model.specs.Versions.{newest}
+use Rattle.tp_model.specs.Words.actor
 use Rattle.tp_model.specs.Words.body
 use Rattle.tp_model.specs.Words.vote
 use Rattle.tp_model.specs.Words.{Admin, AdminId, Body, Deed, DoneReply, Fact, Item, Letter, Mail, No, Policy, PrepareRequest, PushNotice, Query, QueryRequest, Record, Scenario, ServerId, Settled, Staple, Transaction, TxnId, Verdict, Version}
-use Rattle.tp_machine.proofs.basics.Lists.{each_append, each_found, each_map, placed_emptied, placed_set}
+use Rattle.tp_machine.proofs.basics.Lists.{each_append, each_as, each_found, each_map, placed_emptied, placed_set}
 use Rattle.tp_machine.proofs.basics.Ids.{admin_number}
 use Rattle.tp_machine.proofs.basics.Stores.{ended_known, kept_known}
-use Rattle.tp_machine.proofs.basics.Versions.{known_most}
-use Rattle.tp_machine.proofs.ids.Server.{verdict_sound}
+use Rattle.tp_machine.proofs.basics.Versions.{known_most, learnt_most, used_by}
+use Rattle.tp_machine.proofs.ids.Server.{learnt_sound, verdict_sound}
 use Rattle.tp_machine.proofs.ids.Valid.{IsValid}
 use Rattle.tp_machine.proofs.trust.Evaluation.{evaluate_right}
 use Rattle.tp_machine.proofs.trust.Fit.{AreAll, BodyFits, IsPublished, IsRight, Right, ServerFits, StapleFits, VerdictsFit, deed_numbers, numbers_of}
-use Rattle.tp_machine.proofs.trust.Kept.{AreKept, IsKept, IsTrusted, RecordKept}
+use Rattle.tp_machine.proofs.trust.Kept.{AreKept, IsKept, IsTrusted, RecordKept, vote_cast}
 use Rattle.tp_machine.proofs.trust.Turns.{Answers, IsClosed, PrepareNow, Stamp, VoteNow, stamp_of}
 use Rattle.tp_machine.proofs.trust.Whole.{WholeMail}
 use Rattle.tp_machine.proofs.walks.ServerRows.{IsFirstHere, IsFurther, IsGranted, server_by}
 use Rattle.tp_machine.specs.Evaluation.{IsRightVerdict}
 use Rattle.tp_machine.specs.Runs.{deed_of}
-use Rattle.tp_machine.specs.Sound.{Each, IsQueryAt, IsSoundDeedAt, IsSoundEntry, IsSoundServer, IsSoundVerdict, IsVersion, query_in}
+use Rattle.tp_machine.specs.Sound.{AreWanted, Each, IsAdmin, IsQueryAt, IsSoundBody, IsSoundDeedAt, IsSoundEntry, IsSoundServer, IsSoundVerdict, IsVersion, query_in}
 use Rattle.tp_machine.specs.declared.coord.Phase.TheVariants as phase
 use Rattle.tp_machine.specs.declared.coord.Phase.{Phase}
+use Rattle.tp_machine.specs.declared.server.Ballot.{Ballot}
 use Rattle.tp_machine.specs.declared.server.Entry.{Entry}
-use Rattle.tp_machine.specs.server.Row.{ack_letter, answers, completes, done_reply, ends, entry_after, entry_at, learns, no_letter, refused_as, restarted_reply, server_row, settled_as, votes}
+use Rattle.tp_machine.specs.server.Row.{ack_letter, answers, completes, done_reply, ends, entry_after, entry_at, learns, no_letter, refused_as, restarted_reply, server_row, settled_as, votes_on, yes_letter}
 use Rattle.tp_machine.specs.server.State.{Server}
-use Rattle.tp_machine.specs.server.Verdicts.{verdict_on, verdicts_on}
+use Rattle.tp_machine.specs.server.Verdicts.{learnt, verdict_on, verdicts_on, version_used}
 
 -- an act of a server: what it is after it, if it is up, fits; what it keeps and forced, and its letters, fit too and T of them. T is closed
 -- under answers, and is so of the mail
@@ -80,12 +82,18 @@ policy_there sc admin version v =
     let found = library_has v.declared.library version.0 v.in_library.0 v.in_library.1 in
     ap is_some (ap (option_and_then (version_of version.0)) v.declared_is ∙ found.1)
 
+-- a server evaluates no version above the newest
+used_published : (sc : Scenario) (facts : List Fact) (place : ℕ) (s : Server) (want : List (AdminId × Version)) (admin : AdminId) → ServerFits sc facts place s → Each (IsPublished sc facts place) want → IsAdmin sc admin
+    → (version_used s want admin).0 ≤ newest sc admin place facts
+used_published sc facts place s want admin h w within = used_by (λ (a : AdminId) (version : Version). version.0 ≤ newest sc a place facts) s want admin w (h.known admin within)
+
 -- what a server's evaluation gives is right: a staple has the clock and the revocations of its place
-verdict_right : (sc : Scenario) (facts : List Fact) (place : ℕ) (s : Server) (txn : TxnId) (presenting : Transaction) (staple : Staple) (deed : Deed) → IsValid sc → IsSoundServer sc s → ServerFits sc facts place s
-    → slice_get sc.txns txn.0 ≡ Some presenting → StapleFits sc facts place txn staple → IsSoundDeedAt sc s.server txn deed → Right sc facts place txn (verdict_on sc s presenting staple deed)
-verdict_right sc facts place s txn presenting staple deed valid sound h there fits d declared e =
-    let verdict = verdict_on sc s presenting staple deed in
-    let v : IsSoundVerdict sc txn verdict = verdict_sound sc s txn presenting staple deed valid sound there d in
+verdict_right : (sc : Scenario) (facts : List Fact) (place : ℕ) (s : Server) (txn : TxnId) (presenting : Transaction) (staple : Staple) (want : List (AdminId × Version)) (deed : Deed) → IsValid sc → IsSoundServer sc s
+    → AreWanted sc want → ServerFits sc facts place s → Each (IsPublished sc facts place) want → slice_get sc.txns txn.0 ≡ Some presenting → StapleFits sc facts place txn staple → IsSoundDeedAt sc s.server txn deed
+    → Right sc facts place txn (verdict_on sc s presenting staple want deed)
+verdict_right sc facts place s txn presenting staple want deed valid sound wanted h published there fits d declared e =
+    let verdict = verdict_on sc s presenting staple want deed in
+    let v : IsSoundVerdict sc txn verdict = verdict_sound sc s txn presenting staple want deed valid sound wanted there d in
     let within : verdict.admin.0 < length sc.admins = exists sc.admins verdict.admin.0 v.version.declared v.version.declared_is in
     let right : IsRightVerdict sc facts presenting verdict =
     evaluate_right sc facts presenting staple s.server deed.query verdict.admin verdict.version (record { clock = fits.clock_is; revocations = fits.revoked_is }) in
@@ -96,7 +104,7 @@ verdict_right sc facts place s txn presenting staple deed valid sound h there fi
       proved = right.proved;
       begun = fits.begun;
       past = fits.past;
-      published = h.known verdict.admin within;
+      published = used_published sc facts place s want verdict.admin h published within;
     })
   where
     exists : (admins : List Admin) (n : ℕ) (found : Admin) → slice_get admins n ≡ Some found → n < length admins
@@ -164,30 +172,40 @@ restarted_trusted sc facts place T s q closed t =
 
 -- ---- Prepare
 
-rights_of : (sc : Scenario) (facts : List Fact) (place : ℕ) (s : Server) (txn : TxnId) (presenting : Transaction) (staple : Staple) (deeds : List Deed) → IsValid sc → IsSoundServer sc s
-    → ServerFits sc facts place s → slice_get sc.txns txn.0 ≡ Some presenting → StapleFits sc facts place txn staple → Each (IsSoundDeedAt sc s.server txn) deeds
-    → Each (Right sc facts place txn) (verdicts_on sc s presenting staple deeds)
-rights_of sc facts place s txn presenting staple deeds valid sound h there fits d =
-    each_map (IsSoundDeedAt sc s.server txn) (Right sc facts place txn) (verdict_on sc s presenting staple)
-    (λ deed k. verdict_right sc facts place s txn presenting staple deed valid sound h there fits k) deeds d
+rights_of : (sc : Scenario) (facts : List Fact) (place : ℕ) (s : Server) (txn : TxnId) (presenting : Transaction) (staple : Staple) (want : List (AdminId × Version)) (deeds : List Deed) → IsValid sc → IsSoundServer sc s
+    → AreWanted sc want → ServerFits sc facts place s → Each (IsPublished sc facts place) want → slice_get sc.txns txn.0 ≡ Some presenting → StapleFits sc facts place txn staple → Each (IsSoundDeedAt sc s.server txn) deeds
+    → Each (Right sc facts place txn) (verdicts_on sc s presenting staple want deeds)
+rights_of sc facts place s txn presenting staple want deeds valid sound wanted h published there fits d =
+    each_map (IsSoundDeedAt sc s.server txn) (Right sc facts place txn) (verdict_on sc s presenting staple want)
+    (λ deed k. verdict_right sc facts place s txn presenting staple want deed valid sound wanted h published there fits k) deeds d
 
-numbers_kept : (sc : Scenario) (s : Server) (txn : Transaction) (staple : Staple) (deeds : List Deed) → numbers_of (verdicts_on sc s txn staple deeds) ≡ deed_numbers deeds
-numbers_kept sc s txn staple [] = refl
-numbers_kept sc s txn staple (deed ∷ deeds) = ap (λ (ns : List ℕ). deed.query ∷ ns) (numbers_kept sc s txn staple deeds)
+-- what is known once the wanted versions are learnt is none above the newest
+learnt_fits : (sc : Scenario) (facts : List Fact) (place : ℕ) (s : Server) (want : List (AdminId × Version)) → ServerFits sc facts place s → Each (IsPublished sc facts place) want → ServerFits sc facts place (learnt s want)
+learnt_fits sc facts place s want h w =
+    record {
+      known = λ admin within.
+          learnt_most s.store want admin (newest sc admin place facts) (h.known admin within)
+          (each_as (IsPublished sc facts place) (λ (wanted : AdminId × Version). wanted.0.0 ≡ admin.0 → wanted.1.0 ≤ newest sc admin place facts)
+          (λ wanted below same. subst (λ (a : AdminId). wanted.1.0 ≤ newest sc a place facts) (ap admin_number same) below) want w);
+    }
 
-placed_there : (sc : Scenario) (s : Server) (txn : Transaction) (staple : Staple) (other : ℕ) (deeds : List Deed) → staple.place ≡ other
-    → Each (λ (verdict : Verdict). verdict.place ≡ other) (verdicts_on sc s txn staple deeds)
-placed_there sc s txn staple other [] e = tt
-placed_there sc s txn staple other (deed ∷ deeds) e = (e, placed_there sc s txn staple other deeds e)
+numbers_kept : (sc : Scenario) (s : Server) (txn : Transaction) (staple : Staple) (want : List (AdminId × Version)) (deeds : List Deed) → numbers_of (verdicts_on sc s txn staple want deeds) ≡ deed_numbers deeds
+numbers_kept sc s txn staple want [] = refl
+numbers_kept sc s txn staple want (deed ∷ deeds) = ap (λ (ns : List ℕ). deed.query ∷ ns) (numbers_kept sc s txn staple want deeds)
+
+placed_there : (sc : Scenario) (s : Server) (txn : Transaction) (staple : Staple) (want : List (AdminId × Version)) (other : ℕ) (deeds : List Deed) → staple.place ≡ other
+    → Each (λ (verdict : Verdict). verdict.place ≡ other) (verdicts_on sc s txn staple want deeds)
+placed_there sc s txn staple want other [] e = tt
+placed_there sc s txn staple want other (deed ∷ deeds) e = (e, placed_there sc s txn staple want other deeds e)
 
 vote_now : (sc : Scenario) (s : Server) (awaited : Phase) (p : PrepareRequest) (txn : Transaction) (staple : Staple) (deeds : List Deed) → p.staple ≡ Some staple → PrepareNow awaited p
-    → VoteNow awaited (vote.Yes (verdicts_on sc s txn staple deeds))
-vote_now sc s (phase.Checking round st) p txn staple deeds e h = placed_there sc s txn staple st.place deeds (ap (λ (x : Staple). x.place) (same_Some staple st (sym e ∙ h)))
+    → VoteNow awaited (vote.Yes (verdicts_on sc s txn staple p.want deeds))
+vote_now sc s (phase.Checking round st) p txn staple deeds e h = placed_there sc s txn staple p.want st.place deeds (ap (λ (x : Staple). x.place) (same_Some staple st (sym e ∙ h)))
 vote_now sc s _ p txn staple deeds e h = tt
 
 -- a vote of the turn of its request, at the place of its staple
 vote_answers : (sc : Scenario) (s : Server) (p : PrepareRequest) (txn : Transaction) (staple : Staple) (deeds : List Deed) → p.staple ≡ Some staple
-    → Answers (body.Prepare p) (body.Vote (record { txn = p.txn; turn = p.turn; vote = vote.Yes (verdicts_on sc s txn staple deeds) })) (record { txn = p.txn; turn = p.turn })
+    → Answers (body.Prepare p) (body.Vote (record { txn = p.txn; turn = p.turn; vote = vote.Yes (verdicts_on sc s txn staple p.want deeds) })) (record { txn = p.txn; turn = p.turn })
 vote_answers sc s p txn staple deeds e =
     record {
       asked = record { txn = p.txn; turn = p.turn };
@@ -198,27 +216,37 @@ vote_answers sc s p txn staple deeds e =
     }
 
 votes_trusts : (sc : Scenario) (facts : List Fact) (place : ℕ) (T : Body → Type 0) (s : Server) (p : PrepareRequest) (txn : Transaction) (staple : Staple) (entry : Entry) → IsValid sc → IsSoundServer sc s
-    → ServerTrusted sc facts place T s → IsClosed T → T (body.Prepare p) → p.staple ≡ Some staple → slice_get sc.txns p.txn.0 ≡ Some txn → StapleFits sc facts place p.txn staple
-    → entry_at s p.txn ≡ Some entry → AreAll sc p.txn (deed_numbers entry.deeds) → RowTrusts sc facts place T (votes s p (verdicts_on sc s txn staple entry.deeds) entry)
-votes_trusts sc facts place T s p txn staple entry valid sound h closed t e there fits found all =
+    → AreWanted sc p.want → ServerTrusted sc facts place T s → IsClosed T → T (body.Prepare p) → p.staple ≡ Some staple → slice_get sc.txns p.txn.0 ≡ Some txn → StapleFits sc facts place p.txn staple
+    → Each (IsPublished sc facts place) p.want → entry_at s p.txn ≡ Some entry → AreAll sc p.txn (deed_numbers entry.deeds) → RowTrusts sc facts place T (votes_on sc (learnt s p.want) p entry staple txn)
+votes_trusts sc facts place T s p txn staple entry valid sound wanted h closed t e there fits published found all =
+    let now = learnt s p.want in
+    let after : ServerFits sc facts place now = learnt_fits sc facts place s p.want h.fits published in
     let k : IsSoundEntry sc s.server p.txn entry = sound.entries p.txn.0 entry found in
     let old : IsKept (IsTrusted sc facts place T) p.txn entry = h.keeps p.txn.0 entry found in
-    let verdicts = verdicts_on sc s txn staple entry.deeds in
+    let verdicts = verdicts_on sc now txn staple p.want entry.deeds in
     let fit : VerdictsFit sc facts place p.txn verdicts = record {
-      right = rights_of sc facts place s p.txn txn staple entry.deeds valid sound h.fits there fits k.deeds;
-      all = λ declared f. numbers_kept sc s txn staple entry.deeds ∙ all declared f;
+      right = rights_of sc facts place now p.txn txn staple p.want entry.deeds valid (learnt_sound sc s p.want sound wanted) wanted after published there fits k.deeds;
+      all = λ declared f. numbers_kept sc now txn staple p.want entry.deeds ∙ all declared f;
     } in
     let said = body.Vote (record { txn = p.txn; turn = p.turn; vote = vote.Yes verdicts }) in
-    let timely : T said = closed (body.Prepare p) said (record { txn = p.txn; turn = p.turn }) (vote_answers sc s p txn staple entry.deeds e) t in
+    let timely : T said = closed (body.Prepare p) said (record { txn = p.txn; turn = p.turn }) (vote_answers sc now p txn staple entry.deeds e) t in
     let trusted : IsTrusted sc facts place T said = record { fits = λ sent. fit; timely = timely } in
     record {
-      fits = record { known = h.fits.known };
+      fits = record { known = after.known };
       keeps = placed_set (λ (n : ℕ) (other : Entry). IsKept (IsTrusted sc facts place T) (record { 0 = n }) other) s.entries p.txn.0 _ h.keeps
           (record { answers = old.answers; waiting = old.waiting; ballot = trusted });
       forces = trusted;
       says = (fit, tt);
       timely = (timely, tt);
     }
+
+-- a vote that is given again fits as it did
+votes_again_trusts : (sc : Scenario) (facts : List Fact) (place : ℕ) (T : Body → Type 0) (s : Server) (p : PrepareRequest) (entry : Entry) (cast : Ballot) → ServerTrusted sc facts place T s → entry_at s p.txn ≡ Some entry
+    → entry.ballot ≡ Some cast → RowTrusts sc facts place T (sends s (yes_letter s p.txn cast ∷ []))
+votes_again_trusts sc facts place T s p entry cast h found ballot_is =
+    let old : IsTrusted sc facts place T (vote_cast p.txn cast) =
+    subst (λ (ballot : Option Ballot). IfSome ballot (λ (b : Ballot). IsTrusted sc facts place T (vote_cast p.txn b))) ballot_is (h.keeps p.txn.0 entry found).ballot in
+    record { fits = h.fits; keeps = h.keeps; forces = tt; says = (old.fits place, tt); timely = (old.timely, tt) }
 
 -- ---- the end of a transaction
 
@@ -261,7 +289,7 @@ ends_trusts sc facts place T s d letter h l =
 
 -- ---- Push
 
-learns_trusts : (sc : Scenario) (facts : List Fact) (place : ℕ) (T : Body → Type 0) (s : Server) (push : PushNotice) → ServerTrusted sc facts place T s → IsPublished sc facts place push.admin push.version
+learns_trusts : (sc : Scenario) (facts : List Fact) (place : ℕ) (T : Body → Type 0) (s : Server) (push : PushNotice) → ServerTrusted sc facts place T s → IsPublished sc facts place (push.admin, push.version)
     → RowTrusts sc facts place T (learns s push)
 learns_trusts sc facts place T s push h new =
     record {
@@ -277,9 +305,9 @@ learns_trusts sc facts place T s push h new =
     }
 
 -- every row of a server on receipt of a mail
-pub server_row_trusts : (sc : Scenario) (facts : List Fact) (place : ℕ) (T : Body → Type 0) (s : Server) (mail : Mail) → IsValid sc → IsSoundServer sc s → ServerTrusted sc facts place T s
+pub server_row_trusts : (sc : Scenario) (facts : List Fact) (place : ℕ) (T : Body → Type 0) (s : Server) (mail : Mail) → IsValid sc → IsSoundServer sc s → IsSoundBody sc (actor.Server s.server) mail.letter.body → ServerTrusted sc facts place T s
     → BodyFits sc facts place mail.sent mail.letter.body → WholeMail sc s mail.letter.body → IsClosed T → T mail.letter.body → RowTrusts sc facts place T (server_row sc s mail)
-server_row_trusts sc facts place T s mail valid sound h f whole closed t =
+server_row_trusts sc facts place T s mail valid sound m h f whole closed t =
     server_by sc s mail (RowTrusts sc facts place T)
     (record {
       ignored = ignores_trusts sc facts place T s h;
@@ -289,9 +317,11 @@ server_row_trusts sc facts place T s mail valid sound h f whole closed t =
           answers_trusts sc facts place T s q given h
           (each_found (λ (d : DoneReply). IsTrusted sc facts place T (body.Done d)) (λ (d : DoneReply). d.query == q.query) entry.answers given (h.keeps q.txn.0 entry k.found).answers k.given_is);
       voted = λ p entry staple txn k.
-          let fits : IfSome p.staple (StapleFits sc facts place p.txn) = subst (BodyFits sc facts place mail.sent) k.said_is f in
-          votes_trusts sc facts place T s p txn staple entry valid sound h closed (subst T k.said_is t) k.stapled k.declared (subst (λ (x : Option Staple). IfSome x (StapleFits sc facts place p.txn)) k.stapled fits) k.found
+          let asked : BodyFits sc facts place mail.sent (body.Prepare p) = subst (BodyFits sc facts place mail.sent) k.said_is f in
+          votes_trusts sc facts place T s p txn staple entry valid sound (subst (IsSoundBody sc (actor.Server s.server)) k.said_is m).want h closed (subst T k.said_is t) k.stapled k.declared
+          (subst (λ (x : Option Staple). IfSome x (StapleFits sc facts place p.txn)) k.stapled asked.0) asked.1 k.found
           (subst (WholeMail sc s) k.said_is whole entry k.found (eqb-true entry.epoch p.epoch k.same_epoch));
+      voted_again = λ p entry cast k. votes_again_trusts sc facts place T s p entry cast h k.found k.ballot_is;
       refused = λ p entry number value k.
           ends_trusts sc facts place T s (refused_as p _) (no_letter s p _) h (no_letter_trusts sc facts place T s p _ closed (subst T k.said_is t));
       refused_again = λ p settled why k.

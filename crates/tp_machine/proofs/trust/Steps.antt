@@ -99,7 +99,7 @@ receipt_by_server sc w built valid sound past pairs h n mail at part s sent up =
     let said : BodyPairs sc (pair_at w.actors) mail.letter.from (actor.Server at) mail.letter.body =
     subst (λ (to : Actor). BodyPairs sc (pair_at w.actors) mail.letter.from to mail.letter.body) sent.goes_to (each_get (λ (m : Mail). LetterPairs sc (pair_at w.actors) m.letter) w.mails n mail pairs.mails sent.sent) in
     server_acts_trusts sc w at part [] (Some effect.state) effect.reaction.append effect.reaction.letters past h up.found (record { still = tt; fit = λ facts. tt })
-    (server_row_trusts sc w.facts place T s mail valid here.sound trusted m.fits
+    (server_row_trusts sc w.facts place T s mail valid here.sound (subst (λ (a : ServerId). IsSoundBody sc (actor.Server a) mail.letter.body) (sym here.server_is) m.says) trusted m.fits
     (whole_mail sc w at part s mail.letter.from mail.letter.body valid built exists pairs up said)
     (timely_closed sc w.actors.coordinators) (heard_anywhere sc w.actors.coordinators mail.sent mail.letter.body (no_tell sc at mail.letter.body m.says) m.timely))
 

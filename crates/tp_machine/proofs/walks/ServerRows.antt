@@ -1,19 +1,20 @@
 -- A server's row is walked once: what is shown of each of its outcomes holds of the row. A new outcome is a field here, and of each theorem's cases.
 use Rattle.std.specs.Option.{option_map_or}
-use Rattle.std.proofs.Common.{None, Option, Some, [], false, inl, inr, is_none, is_some, nat_lt, not, refl, slice_get, true, ℕ, ℤ, ◌&&◌, ◌==◌, ◌∷◌, ◌≡◌, ◌⊎◌}
+use Rattle.std.proofs.Common.{None, Option, Some, [], false, inl, inr, is_none, is_some, arith, nat_lt, not, refl, slice_get, true, ℕ, ℤ, ◌&&◌, ◌<◌, ◌==◌, ◌∷◌, ◌≡◌, ◌⊎◌}
 use Rattle.std.proofs.lemmas.Bool.{not-false}
+use Rattle.std.proofs.lemmas.Bool.Decides.{nat_tests}
 use Rattle.tp_types.specs.Effect.{Effect, ignores, sends}
 use Rattle.tp_types.specs.Table.{flattened}
-use Rattle.tp_model.specs.Limits.{is_empty}
 use Rattle.tp_model.specs.Words.body
 use Rattle.tp_model.specs.Words.no
 use Rattle.tp_model.specs.Words.{Body, DecideRequest, DoneReply, Mail, No, PrepareRequest, PushNotice, Query, QueryRequest, Scenario, Settled, Staple, Transaction}
 use Rattle.tp_machine.proofs.basics.Lists.{by_cond}
 use Rattle.tp_machine.specs.Runs.{deed_of}
+use Rattle.tp_machine.specs.declared.server.Ballot.{Ballot}
 use Rattle.tp_machine.specs.declared.server.Entry.{Entry}
-use Rattle.tp_machine.specs.server.Row.{ack_letter, age_of, answer_to, answers, asked_query, asked_to_vote, completes, entry_at, evaluates, is_open, learns, names_another_epoch, new_entry, no_letter, on_body, on_granted, on_open_query, on_refused, on_settled_decide, on_settled_prepare, on_unlost_query, refuses, restarts, runs_query, runs_with, server_row, settles, value_of_run, votes, votes_in_range, votes_with}
+use Rattle.tp_machine.specs.server.Row.{ack_letter, age_of, answer_to, answers, asked_query, asked_to_vote, completes, entry_at, evaluates, is_open, learns, names_another_epoch, new_entry, no_letter, on_body, on_granted, on_open_query, on_refused, on_settled_decide, on_settled_prepare, on_unlost_query, refuses, restarts, runs_query, runs_with, server_row, settles, value_of_run, votes_at, votes_in_range, votes_on, votes_with, yes_letter}
 use Rattle.tp_machine.specs.server.State.{Server}
-use Rattle.tp_machine.specs.server.Verdicts.{verdicts_on, version_known}
+use Rattle.tp_machine.specs.server.Verdicts.{learnt, version_known}
 use Rattle.tp_store.specs.Rule.{first_outside_in}
 
 -- ---- outcomes
@@ -41,16 +42,35 @@ pub record IsGranted (sc : Scenario) (s : Server) (mail : Mail) (q : QueryReques
   pub asked_is : asked_query sc q ≡ Some query
   pub value_is : value_of_run s q query ≡ Some value
 
+-- the first vote on an entry, which wrote no value outside its item's range
+pub record IsFirstVote (s : Server) (p : PrepareRequest) (entry : Entry) : Type 0 where
+  pub unvoted : entry.ballot ≡ None
+  pub in_range : first_outside_in s.store p.txn ≡ None
+
+-- a further vote, in a later turn
+pub record IsLaterVote (p : PrepareRequest) (entry : Entry) : Type 0 where
+  pub cast : Ballot
+  pub ballot_is : entry.ballot ≡ Some cast
+  pub later : cast.turn < p.turn
+
 -- a request to prepare an entry that may be voted on, of a transaction of the scenario
 pub record IsVote (sc : Scenario) (s : Server) (mail : Mail) (p : PrepareRequest) (entry : Entry) (staple : Staple) (txn : Transaction) : Type 0 where
   pub said_is : mail.letter.body ≡ body.Prepare p
   pub unsettled : is_open s p.txn ≡ true
   pub found : entry_at s p.txn ≡ Some entry
   pub same_epoch : (entry.epoch == p.epoch) ≡ true
-  pub unvoted : is_some entry.ballot ≡ false
-  pub in_range : first_outside_in s.store p.txn ≡ None
+  pub place : IsFirstVote s p entry ⊎ IsLaterVote p entry
   pub stapled : p.staple ≡ Some staple
   pub declared : slice_get sc.txns p.txn.0 ≡ Some txn
+
+-- a request to prepare that was voted on
+pub record IsVoteAgain (s : Server) (mail : Mail) (p : PrepareRequest) (entry : Entry) (cast : Ballot) : Type 0 where
+  pub said_is : mail.letter.body ≡ body.Prepare p
+  pub unsettled : is_open s p.txn ≡ true
+  pub found : entry_at s p.txn ≡ Some entry
+  pub same_epoch : (entry.epoch == p.epoch) ≡ true
+  pub ballot_is : entry.ballot ≡ Some cast
+  pub same_turn : (cast.turn == p.turn) ≡ true
 
 -- a request to prepare an entry that wrote a value outside its item's range
 pub record IsRefusal (s : Server) (mail : Mail) (p : PrepareRequest) (entry : Entry) (number : ℕ) (value : ℤ) : Type 0 where
@@ -58,7 +78,7 @@ pub record IsRefusal (s : Server) (mail : Mail) (p : PrepareRequest) (entry : En
   pub unsettled : is_open s p.txn ≡ true
   pub found : entry_at s p.txn ≡ Some entry
   pub same_epoch : (entry.epoch == p.epoch) ≡ true
-  pub unvoted : is_some entry.ballot ≡ false
+  pub unvoted : entry.ballot ≡ None
   pub outside : first_outside_in s.store p.txn ≡ Some (number, value)
 
 -- a request to prepare a transaction that was settled by a vote NO
@@ -99,7 +119,8 @@ pub record ServerCases (sc : Scenario) (s : Server) (mail : Mail) (P : Effect Se
   pub ran : (q : QueryRequest) (query : Query) (entry : Entry) (value : ℤ) → IsGranted sc s mail q query entry value → P (completes s q query entry (deed_of q.query query value))
   pub restarted : (q : QueryRequest) → IsLost mail q → P (restarts s q)
   pub answered : (q : QueryRequest) (entry : Entry) (given : DoneReply) → IsAnswered s mail q entry given → P (answers s q.txn given)
-  pub voted : (p : PrepareRequest) (entry : Entry) (staple : Staple) (txn : Transaction) → IsVote sc s mail p entry staple txn → P (votes s p (verdicts_on sc s txn staple entry.deeds) entry)
+  pub voted : (p : PrepareRequest) (entry : Entry) (staple : Staple) (txn : Transaction) → IsVote sc s mail p entry staple txn → P (votes_on sc (learnt s p.want) p entry staple txn)
+  pub voted_again : (p : PrepareRequest) (entry : Entry) (cast : Ballot) → IsVoteAgain s mail p entry cast → P (sends s (yes_letter s p.txn cast ∷ []))
   pub refused : (p : PrepareRequest) (entry : Entry) (number : ℕ) (value : ℤ) → IsRefusal s mail p entry number value → P (refuses s p (no.Range number value))
   pub refused_again : (p : PrepareRequest) (settled : Settled) (why : No) → IsLateRequest s mail p settled why → P (sends s (no_letter s p why ∷ []))
   pub settled : (d : DecideRequest) → IsOrder s mail d → P (settles s d)
@@ -156,25 +177,40 @@ votes_by sc s mail P cases p entry staple (Some declared) vote_is = cases.voted 
 evaluates_by : (sc : Scenario) (s : Server) (mail : Mail) (P : Effect Server → Type 0) → ServerCases sc s mail P → (p : PrepareRequest) (entry : Entry) (staple : Option Staple)
     → ((given : Staple) (declared : Transaction) → staple ≡ Some given → slice_get sc.txns p.txn.0 ≡ Some declared → IsVote sc s mail p entry given declared) → P (evaluates sc s p entry staple)
 evaluates_by sc s mail P cases p entry None vote_is = cases.ignored
-evaluates_by sc s mail P cases p entry (Some staple) vote_is =
-    by_cond P (is_empty p.want) (λ none_wanted. votes_by sc s mail P cases p entry staple (slice_get sc.txns p.txn.0) (λ declared there. vote_is staple declared refl there)) (λ wanted. cases.ignored)
+evaluates_by sc s mail P cases p entry (Some staple) vote_is = votes_by sc s mail P cases p entry staple (slice_get sc.txns p.txn.0) (λ declared there. vote_is staple declared refl there)
+
+-- what is evaluated is voted on
+evaluated_by : (sc : Scenario) (s : Server) (mail : Mail) (P : Effect Server → Type 0) → ServerCases sc s mail P → (p : PrepareRequest) (entry : Entry) → mail.letter.body ≡ body.Prepare p
+    → is_open s p.txn ≡ true → entry_at s p.txn ≡ Some entry → (entry.epoch == p.epoch) ≡ true → IsFirstVote s p entry ⊎ IsLaterVote p entry → P (evaluates sc s p entry p.staple)
+evaluated_by sc s mail P cases p entry e unsettled found same place =
+    evaluates_by sc s mail P cases p entry p.staple
+    (λ staple txn given declared. record { said_is = e; unsettled = unsettled; found = found; same_epoch = same; place = place; stapled = given; declared = declared })
 
 in_range_by : (sc : Scenario) (s : Server) (mail : Mail) (P : Effect Server → Type 0) → ServerCases sc s mail P → (p : PrepareRequest) (entry : Entry) (outside : Option (ℕ × ℤ)) → mail.letter.body ≡ body.Prepare p
-    → is_open s p.txn ≡ true → entry_at s p.txn ≡ Some entry → (entry.epoch == p.epoch) ≡ true → is_some entry.ballot ≡ false → first_outside_in s.store p.txn ≡ outside → P (votes_in_range sc s p entry outside)
+    → is_open s p.txn ≡ true → entry_at s p.txn ≡ Some entry → (entry.epoch == p.epoch) ≡ true → entry.ballot ≡ None → first_outside_in s.store p.txn ≡ outside → P (votes_in_range sc s p entry outside)
 in_range_by sc s mail P cases p entry None e unsettled found same unvoted in_range =
-    evaluates_by sc s mail P cases p entry p.staple
-    (λ staple txn given declared.
-    record { said_is = e; unsettled = unsettled; found = found; same_epoch = same; unvoted = unvoted; in_range = in_range; stapled = given; declared = declared })
+    evaluated_by sc s mail P cases p entry e unsettled found same (inl (record { unvoted = unvoted; in_range = in_range }))
 in_range_by sc s mail P cases p entry (Some outside) e unsettled found same unvoted first =
     cases.refused p entry outside.0 outside.1 (record { said_is = e; unsettled = unsettled; found = found; same_epoch = same; unvoted = unvoted; outside = first })
+
+later_turn : (p : PrepareRequest) (cast : Ballot) → (cast.turn == p.turn) ≡ false → nat_lt p.turn cast.turn ≡ false → cast.turn < p.turn
+later_turn p cast other not_earlier = grind (arith, nat_tests)
+
+votes_at_by : (sc : Scenario) (s : Server) (mail : Mail) (P : Effect Server → Type 0) → ServerCases sc s mail P → (p : PrepareRequest) (entry : Entry) (ballot : Option Ballot) → mail.letter.body ≡ body.Prepare p
+    → is_open s p.txn ≡ true → entry_at s p.txn ≡ Some entry → (entry.epoch == p.epoch) ≡ true → entry.ballot ≡ ballot → P (votes_at sc s p entry ballot)
+votes_at_by sc s mail P cases p entry None e unsettled found same unvoted = in_range_by sc s mail P cases p entry (first_outside_in s.store p.txn) e unsettled found same unvoted refl
+votes_at_by sc s mail P cases p entry (Some cast) e unsettled found same ballot_is =
+    by_cond P (cast.turn == p.turn)
+    (λ again. cases.voted_again p entry cast (record { said_is = e; unsettled = unsettled; found = found; same_epoch = same; ballot_is = ballot_is; same_turn = again }))
+    (λ other. by_cond P (nat_lt p.turn cast.turn) (λ earlier. cases.ignored)
+    (λ not_earlier. evaluated_by sc s mail P cases p entry e unsettled found same (inr (record { cast = cast; ballot_is = ballot_is; later = later_turn p cast other not_earlier }))))
 
 asked_to_vote_by : (sc : Scenario) (s : Server) (mail : Mail) (P : Effect Server → Type 0) → ServerCases sc s mail P → (p : PrepareRequest) (entry : Option Entry) → mail.letter.body ≡ body.Prepare p
     → is_open s p.txn ≡ true → entry_at s p.txn ≡ entry → P (asked_to_vote sc s p entry)
 asked_to_vote_by sc s mail P cases p None e unsettled found = cases.ignored
 asked_to_vote_by sc s mail P cases p (Some entry) e unsettled found =
     by_cond P (not (entry.epoch == p.epoch)) (λ another. cases.ignored)
-    (λ same. by_cond P (is_some entry.ballot) (λ voted. cases.ignored)
-    (λ unvoted. in_range_by sc s mail P cases p entry (first_outside_in s.store p.txn) e unsettled found (not-false (entry.epoch == p.epoch) same) unvoted refl))
+    (λ same. votes_at_by sc s mail P cases p entry entry.ballot e unsettled found (not-false (entry.epoch == p.epoch) same) refl)
 
 refused_by : (sc : Scenario) (s : Server) (mail : Mail) (P : Effect Server → Type 0) → ServerCases sc s mail P → (p : PrepareRequest) (settled : Settled) (why : Option No) → mail.letter.body ≡ body.Prepare p
     → flattened (slice_get s.settled p.txn.0) ≡ Some settled → settled.why ≡ why → P (on_refused s p why)

@@ -8,7 +8,6 @@ use Rattle.tp_types.specs.Table.{flattened, is_unset}
 use Rattle.tp_types.specs.declared.records.Outcome.TheVariants.{Abort, Commit}
 use Rattle.tp_types.specs.declared.scenario.Query.TheVariants.{Read, Write}
 use Rattle.tp_model.specs.Queries.{query_at}
-use Rattle.tp_model.specs.Limits.{is_empty}
 use Rattle.tp_model.specs.Words.actor
 use Rattle.tp_model.specs.Words.answer
 use Rattle.tp_model.specs.Words.body
@@ -17,9 +16,10 @@ use Rattle.tp_model.specs.Words.no
 use Rattle.tp_model.specs.Words.vote
 use Rattle.tp_model.specs.Words.{Body, DecideRequest, Deed, DoneReply, ItemId, Letter, Mail, No, Outcome, PrepareRequest, Prepared, PushNotice, Query, QueryRequest, Scenario, Settled, Staple, Told, Transaction, TxnId, Verdict}
 use Rattle.tp_machine.specs.Runs.{deed_of}
+use Rattle.tp_machine.specs.declared.server.Ballot.{Ballot}
 use Rattle.tp_machine.specs.declared.server.Entry.{Entry}
 use Rattle.tp_machine.specs.server.State.{Server}
-use Rattle.tp_machine.specs.server.Verdicts.{verdicts_on, version_known}
+use Rattle.tp_machine.specs.server.Verdicts.{learnt, verdicts_on, version_known}
 use Rattle.tp_store.specs.Contents.{Contents}
 use Rattle.tp_store.specs.Rule.{after_apply, after_forget, after_write, first_outside_in, read_in, with_version}
 use Rattle.tp_store.specs.declared.writes.TentativeWrite.{TentativeWrite}
@@ -186,35 +186,41 @@ prepared_record s p entry verdicts =
       told = s.store.known;
     }
 
+abbrev pub ballot_of : Prepared → Ballot
+ballot_of forced = record { turn = forced.turn; verdicts = forced.verdicts }
+
+-- the vote YES of a ballot
+abbrev pub yes_letter : Server → TxnId → Ballot → Letter
+yes_letter s txn cast =
+    reply s txn (body.Vote (record { txn = txn; turn = cast.turn; vote = vote.Yes cast.verdicts }))
+
 -- the vote YES, which is forced before it is sent
 abbrev pub casts : Server → Prepared → Entry → Effect Server
 casts s forced entry =
-    logs (with_entry s forced.txn (Some (record entry {
-      ballot = Some (record { turn = forced.turn; verdicts = forced.verdicts });
-    })))
+    logs (with_entry s forced.txn (Some (record entry { ballot = Some (ballot_of forced) })))
     (log.Prepared forced)
-    (reply s forced.txn (body.Vote (record {
-      txn = forced.txn;
-      turn = forced.turn;
-      vote = vote.Yes forced.verdicts;
-    })) ∷ [])
+    (yes_letter s forced.txn (ballot_of forced) ∷ [])
 
 -- the vote YES with these verdicts
 abbrev pub votes : Server → PrepareRequest → List Verdict → Entry → Effect Server
 votes s p verdicts entry = casts s (prepared_record s p entry verdicts) entry
 
--- the vote on what a transaction of the scenario did here: each deed is evaluated with the staple
+-- the vote on what a transaction did here: each deed is evaluated with the staple
+abbrev pub votes_on : Scenario → Server → PrepareRequest → Entry → Staple → Transaction
+    → Effect Server
+votes_on sc s p entry staple txn =
+    votes s p (verdicts_on sc s txn staple p.want entry.deeds) entry
+
+-- the wanted versions are learnt before a transaction of the scenario is voted on
 abbrev pub votes_with : Scenario → Server → PrepareRequest → Entry → Staple → Option Transaction
     → Effect Server
 votes_with sc s p entry staple None = ignores s
-votes_with sc s p entry staple (Some txn) =
-    votes s p (verdicts_on sc s txn staple entry.deeds) entry
+votes_with sc s p entry staple (Some txn) = votes_on sc (learnt s p.want) p entry staple txn
 
--- with a staple each deed is evaluated and voted on; without one there are no verdicts, and wanted versions are to be learnt
+-- with a staple each deed is evaluated and voted on; without one there are to be no verdicts
 abbrev pub evaluates : Scenario → Server → PrepareRequest → Entry → Option Staple → Effect Server
 evaluates sc s p entry (Some staple) =
-    if is_empty p.want then votes_with sc s p entry staple (slice_get sc.txns p.txn.0)
-    else unbuilt s
+    votes_with sc s p entry staple (slice_get sc.txns p.txn.0)
 evaluates sc s p entry None = unbuilt s
 
 -- ---- the end of a transaction
@@ -256,14 +262,22 @@ abbrev pub votes_in_range : Scenario → Server → PrepareRequest → Entry →
 votes_in_range sc s p entry None = evaluates sc s p entry p.staple
 votes_in_range sc s p entry (Some outside) = refuses s p (no.Range outside.0 outside.1)
 
--- a request to prepare a transaction that is not settled. Without an entry of that epoch it is to be refused; one that is prepared is to
--- vote again
+-- the vote on what is prepared: in the turn of its ballot the same vote is given again, in an earlier turn none, and in a later one anew
+abbrev pub on_prepared : Scenario → Server → PrepareRequest → Entry → Ballot → Effect Server
+on_prepared sc s p entry cast =
+    if cast.turn == p.turn then sends s (yes_letter s p.txn cast ∷ [])
+    else if nat_lt p.turn cast.turn then ignores s
+    else evaluates sc s p entry p.staple
+
+abbrev pub votes_at : Scenario → Server → PrepareRequest → Entry → Option Ballot → Effect Server
+votes_at sc s p entry (Some cast) = on_prepared sc s p entry cast
+votes_at sc s p entry None = votes_in_range sc s p entry (first_outside_in s.store p.txn)
+
+-- a request to prepare a transaction that is not settled. Without an entry of that epoch it is to be refused
 abbrev pub asked_to_vote : Scenario → Server → PrepareRequest → Option Entry → Effect Server
 asked_to_vote sc s p None = unbuilt s
 asked_to_vote sc s p (Some entry) =
-    if not (entry.epoch == p.epoch) then unbuilt s
-    else if is_some entry.ballot then unbuilt s
-    else votes_in_range sc s p entry (first_outside_in s.store p.txn)
+    if not (entry.epoch == p.epoch) then unbuilt s else votes_at sc s p entry entry.ballot
 
 -- a vote NO is given again with its reason
 abbrev pub on_refused : Server → PrepareRequest → Option No → Effect Server
