@@ -11,5 +11,6 @@ pub mod Phases
 pub mod Servers
 pub mod Stores
 pub mod Tables
+pub mod Verdicts
 pub mod Versions
 pub mod World

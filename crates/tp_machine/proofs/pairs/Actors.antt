@@ -4,9 +4,9 @@ use Rattle.std.specs.Option.{option_map_or}
 use Rattle.tp_types.specs.Table.{flattened}
 use Rattle.tp_model.specs.Words.actor
 use Rattle.tp_model.specs.Words.body
-use Rattle.tp_model.specs.Words.{Actor, Body, DoneReply, Letter, PrepareRequest, QueryRequest, Record, Scenario, Transaction, TxnId}
+use Rattle.tp_model.specs.Words.{Actor, Body, DoneReply, Letter, PrepareRequest, QueryRequest, Record, Scenario, Transaction, TxnId, VoteReply}
 use Rattle.tp_machine.proofs.basics.Phases.{is_undecided}
-use Rattle.tp_machine.proofs.pairs.Fits.{DoneFits, Fits, PrepareFits, QueryFits}
+use Rattle.tp_machine.proofs.pairs.Fits.{DoneFits, Fits, PrepareFits, QueryFits, VoteFits}
 use Rattle.tp_machine.proofs.pairs.Follows.{Follows, Next, done_follows, prepare_follows, query_follows}
 use Rattle.tp_machine.proofs.pairs.Pair.{Asker, Asks, Pair, Prepares, Rests, Stand}
 use Rattle.tp_machine.proofs.pairs.Site.{Site}
@@ -105,11 +105,17 @@ abbrev pub DoneFrom : Scenario → (TxnId → ℕ → Pair) → Actor → DoneRe
 DoneFrom sc P (actor.Server at) done = (declared : Transaction) → slice_get sc.txns done.txn.0 ≡ Some declared → DoneFits (site_of sc at.0 declared) (P done.txn at.0) done
 DoneFrom sc P _ done = Unit {0}
 
+-- a vote YES has a verdict on each query at its server, whatever the pair
+abbrev pub VoteFrom : Scenario → Actor → VoteReply → Type 0
+VoteFrom sc (actor.Server at) reply = (declared : Transaction) → slice_get sc.txns reply.txn.0 ≡ Some declared → VoteFits (site_of sc at.0 declared) reply.vote
+VoteFrom sc _ reply = Unit {0}
+
 -- what a mail says of its transaction at the server
 abbrev pub BodyPairs : Scenario → (TxnId → ℕ → Pair) → Actor → Actor → Body → Type 0
 BodyPairs sc P from to (body.Query q) = QueryAt sc P to q
 BodyPairs sc P from to (body.Prepare r) = PrepareAt sc P to r
 BodyPairs sc P from to (body.Done done) = DoneFrom sc P from done
+BodyPairs sc P from to (body.Vote reply) = VoteFrom sc from reply
 BodyPairs sc P from to _ = Unit {0}
 
 abbrev pub LetterPairs : Scenario → (TxnId → ℕ → Pair) → Letter → Type 0
@@ -136,4 +142,5 @@ pub body_stays : (sc : Scenario) (P Q : TxnId → ℕ → Pair) (from to : Actor
 body_stays sc P Q from to (body.Query q) f h = query_stays sc P Q to q f h
 body_stays sc P Q from to (body.Prepare r) f h = prepare_stays sc P Q to r f h
 body_stays sc P Q from to (body.Done done) f h = done_stays sc P Q from done f h
+body_stays sc P Q from to (body.Vote reply) f h = h
 body_stays sc P Q from to _ f h = tt

@@ -65,6 +65,7 @@ abbrev pub AskPairs : Scenario → Transaction → TxnId → (ℕ → Pair) → 
 AskPairs sc declared txn Q to (body.Query q) = QueryTo sc declared txn Q to q
 AskPairs sc declared txn Q to (body.Prepare r) = PrepareTo sc declared txn Q to r
 AskPairs sc declared txn Q to (body.Done done) = ⊥
+AskPairs sc declared txn Q to (body.Vote reply) = ⊥
 AskPairs sc declared txn Q to _ = Unit {0}
 
 -- an act of a coordinator that is up before and after it: its transaction goes on by events at each server, and requests say so

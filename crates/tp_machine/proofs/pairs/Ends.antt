@@ -5,7 +5,7 @@ use Rattle.std.proofs.lemmas.Option.{same_Some}
 use Rattle.tp_model.specs.Words.{PrepareRequest, Prepared}
 use Rattle.tp_machine.specs.declared.server.Ballot.{Ballot}
 use Rattle.tp_machine.specs.declared.server.Entry.{Entry}
-use Rattle.tp_machine.proofs.pairs.Fits.{AskerFits, EntryFits, Fits, PrepareFits, PrepareLive, ServerFits}
+use Rattle.tp_machine.proofs.pairs.Fits.{AreOnAll, AskerFits, EntryFits, Fits, PrepareFits, PrepareLive, ServerFits}
 use Rattle.tp_machine.proofs.pairs.Follows.{Next, follows_lost, onward_same}
 use Rattle.tp_machine.proofs.pairs.Lists.{of_some, some_as}
 use Rattle.tp_machine.proofs.pairs.Loses.{Loses, asker_lost, loses_all, loses_held}
@@ -58,6 +58,7 @@ settles s p up h unbound =
           past = λ x found. absurd (cc);
           front = λ x found. absurd (cc);
           voted = λ voted there. absurd (unbound voted there);
+          verdicts = λ prepared e. absurd (cc);
         };
         asker = some_as (AskerFits s p) (AskerFits s q) p.asker (λ a there old. asker_lost s p q a loses (λ prepared e. absurd (cc)) old) h.asker;
         entry = tt;
@@ -115,6 +116,7 @@ crashes s p up h =
           past = λ x found. h.server.past x (loses.fewer x found);
           front = λ x found. h.server.front x (loses.fewer x found);
           voted = h.server.voted;
+          verdicts = h.server.verdicts;
         };
         asker = some_as (AskerFits s p) (AskerFits s q) p.asker (λ a there old. asker_lost s p q a loses old.made old) h.asker;
         entry = tt;
@@ -147,9 +149,9 @@ restored_votes : (prepared : Option Prepared) → option_map prepared_held prepa
 restored_votes None = refl
 restored_votes (Some prepared) = refl
 
-restored_fits : (s : Site) (q : Pair) (prepared : Option Prepared) → IfSome (option_map restored prepared) (EntryFits s q)
-restored_fits s q None = tt
-restored_fits s q (Some prepared) = record { waiting = tt; answers = tt; answered = λ unvoted. absurd (cc); present = λ unvoted. absurd (cc) }
+restored_fits : (s : Site) (q : Pair) (prepared : Option Prepared) → ((p : Prepared) → prepared ≡ Some p → AreOnAll s p.verdicts) → IfSome (option_map restored prepared) (EntryFits s q)
+restored_fits s q None verdicts = tt
+restored_fits s q (Some prepared) verdicts = record { waiting = tt; answers = tt; answered = λ unvoted. absurd (cc); present = λ unvoted. absurd (cc); ballot = verdicts prepared refl }
 
 -- the server comes up in its next epoch, with an entry of what it prepared
 pub boots : (s : Site) (p : Pair) → p.up ≡ false → Fits s p → Next s p (booted p)
@@ -166,9 +168,10 @@ boots s p down h =
           past = λ x found. let past = h.server.past x (loses.fewer x found) in omega (arith, past);
           front = λ x found. h.server.front x (loses.fewer x found);
           voted = h.server.voted;
+          verdicts = h.server.verdicts;
         };
         asker = some_as (AskerFits s p) (AskerFits s q) p.asker (λ a there old. asker_lost s p q a loses old.made old) h.asker;
-        entry = restored_fits s q p.prepared;
+        entry = restored_fits s q p.prepared h.server.verdicts;
       };
       follows = follows_lost p q loses (onward_same p.asker);
     }

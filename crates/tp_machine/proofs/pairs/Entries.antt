@@ -47,6 +47,7 @@ with_entry_fits s p entry waiting answers is h fits =
           past = λ x found. h.server.past x (sym same ∙ found);
           front = λ x found. h.server.front x (sym same ∙ found);
           voted = h.server.voted;
+          verdicts = h.server.verdicts;
         };
         asker = some_as (AskerFits s p) (AskerFits s q) p.asker (λ a there old. asker_lost s p q a loses old.made old) h.asker;
         entry = fits f;
@@ -65,6 +66,7 @@ keeps s p entry r is h asked epoch fresh unvoted =
       answers = answers_follow s p q entry.answers f old.answers;
       answered = old.answered;
       present = old.present;
+      ballot = old.ballot;
     })
 
 -- a query that did not run is answered, and none waits any more
@@ -77,6 +79,7 @@ denies s p entry done is h fits =
       answers = each_more (DoneFits s q) entry.answers done (answers_follow s p q entry.answers f old.answers) (done_follows s p q done f fits);
       answered = λ unvoted number has. answer_more number entry.answers done (old.answered unvoted number has);
       present = old.present;
+      ballot = old.ballot;
     })
 
 -- ---- a new entry
@@ -134,6 +137,7 @@ makes s p age up unsettled none h =
           past = λ x found. let same : p.epoch ≡ x.epoch = grind arith in omega (arith, same);
           front = λ x found. let same : [] ≡ x.deeds = grind arith in subst (IsFront s) same (record { last = 0; numbers_are = refl });
           voted = h.server.voted;
+          verdicts = h.server.verdicts;
         };
         asker = some_as (AskerFits s p) (AskerFits s q) p.asker (λ a there old. record {
           numbers_are = old.numbers_are;
@@ -144,7 +148,7 @@ makes s p age up unsettled none h =
           most = old.most;
           all = old.all;
         }) h.asker;
-        entry = record { waiting = tt; answers = tt; answered = λ unvoted number has. absurd (contains_none number has); present = λ unvoted. refl };
+        entry = record { waiting = tt; answers = tt; answered = λ unvoted number has. absurd (contains_none number has); present = λ unvoted. refl; ballot = tt };
       };
       follows = record { grows = made_grows p age up unsettled none; onward = onward_same p.asker };
     }

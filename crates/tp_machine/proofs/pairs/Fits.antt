@@ -1,8 +1,11 @@
 -- What holds of a transaction's deeds and epochs at a server in every state, and what each of its mails says of them.
+use Rattle.tp_machine.proofs.basics.Verdicts.{numbers_of}
 use Rattle.tp_machine.specs.Sums.{asked_value}
 use Rattle.std.proofs.Common.{◌≡◌, ◌⊎◌, ℕ, ◌+◌, ◌<◌, ◌≤◌, List, [], ◌∷◌, ◌++◌, length, take, true, false, Option, Some, None, is_some, IfSome, Contains, option_map, ℤ}
-use Rattle.tp_model.specs.Words.{Answer, Deed, DoneReply, PrepareRequest, Prepared, QueryRequest}
+use Rattle.tp_model.specs.Words.{Answer, Deed, DoneReply, PrepareRequest, Prepared, QueryRequest, Verdict, Vote}
 use Rattle.tp_model.specs.Words.answer
+use Rattle.tp_model.specs.Words.vote
+use Rattle.tp_machine.specs.declared.server.Ballot.{Ballot}
 use Rattle.tp_machine.specs.declared.server.Entry.{Entry}
 use Rattle.tp_machine.specs.Sound.{Each}
 use Rattle.tp_machine.specs.Sums.{asked_value}
@@ -149,6 +152,17 @@ pub record PrepareFits (s : Site) (p : Pair) (r : PrepareRequest) : Type 0 where
   pub covers : Tells p r.epoch (Covers s (count s))
   pub live : IfSome p.asker (PrepareLive r)
 
+-- ---- votes
+
+-- verdicts on just the transaction's queries at the server, in order
+abbrev pub AreOnAll : Site → List Verdict → Type 0
+AreOnAll s verdicts = numbers_of verdicts ≡ upto s (count s)
+
+-- a vote YES has them, whatever became of the coordinator that asked for it
+abbrev pub VoteFits : Site → Vote → Type 0
+VoteFits s (vote.Yes verdicts) = AreOnAll s verdicts
+VoteFits s _ = Unit {0}
+
 -- ---- the server
 
 -- a query that waits: it may run in the entry's epoch, was not answered, and nothing was voted yet
@@ -158,14 +172,15 @@ pub record Waits (s : Site) (p : Pair) (entry : Entry) (q : QueryRequest) : Type
   pub fresh : answer_in q.query entry.answers ≡ None
   pub unvoted : entry.ballot ≡ None
 
--- an entry. Until it is voted on its deeds are answered, and it is of the server's epoch
+-- an entry. Until it is voted on its deeds are answered, and it is of the server's epoch; then its vote has all verdicts
 pub record EntryFits (s : Site) (p : Pair) (entry : Entry) : Type 0 where
   pub waiting : IfSome entry.waiting (Waits s p entry)
   pub answers : Each (DoneFits s p) entry.answers
   pub answered : entry.ballot ≡ None → (number : ℕ) → Contains (numbers entry.deeds) number → is_some (answer_in number entry.answers) ≡ true
   pub present : entry.ballot ≡ None → entry.epoch ≡ p.epoch
+  pub ballot : IfSome entry.ballot (λ (cast : Ballot). AreOnAll s cast.verdicts)
 
--- the server: what it voted on is what it prepared, and what it holds are the first deeds in an epoch of its own
+-- the server: what it voted on is what it prepared, with all verdicts, and what it holds are the first deeds in an epoch of its own
 pub record ServerFits (s : Site) (p : Pair) : Type 0 where
   pub down : p.up ≡ false → p.entry ≡ None
   pub settled : p.settled ≡ true → (p.entry ≡ None) × (p.prepared ≡ None)
@@ -173,6 +188,7 @@ pub record ServerFits (s : Site) (p : Pair) : Type 0 where
   pub past : (h : Held) → held p ≡ Some h → h.epoch ≤ p.epoch
   pub front : (h : Held) → held p ≡ Some h → IsFront s h.deeds
   pub voted : p.voted ≡ true → is_some p.asker ≡ true → is_some p.prepared ≡ true
+  pub verdicts : (prepared : Prepared) → p.prepared ≡ Some prepared → AreOnAll s prepared.verdicts
 
 -- what holds in every state
 pub record Fits (s : Site) (p : Pair) : Type 0 where

@@ -174,4 +174,5 @@ entry_follows s p q entry f same h =
       answers = answers_follow s p q entry.answers f h.answers;
       answered = h.answered;
       present = λ unvoted. h.present unvoted ∙ sym same;
+      ballot = h.ballot;
     }

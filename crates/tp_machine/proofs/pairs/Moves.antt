@@ -32,6 +32,7 @@ with_asker_fits s p a b is h later fits =
           votes = h.server.votes;
           past = h.server.past;
           front = h.server.front;
+          verdicts = h.server.verdicts;
           voted = λ voted there. h.server.voted voted (ap is_some is);
         };
         asker = fits;
@@ -104,6 +105,7 @@ ends s p h =
           votes = h.server.votes;
           past = h.server.past;
           front = h.server.front;
+          verdicts = h.server.verdicts;
           voted = λ voted there. absurd (cc);
         };
         asker = tt;

@@ -1,7 +1,7 @@
 -- What follows at a vote YES, and once a request to prepare was sent.
-use Rattle.std.proofs.Common.{◌≡◌, inr, ⊎_elim, ℕ, ◌==◌, ◌<◌, ◌≤◌, List, [], ◌∷◌, filter, length, slice_get, Bool, true, false, cond, Option, Some, None, is_some, option_map, refl, sym, ap, ◌∙◌, arith}
+use Rattle.std.proofs.Common.{◌≡◌, inr, ℕ, ◌==◌, List, [], ◌∷◌, filter, length, slice_get, Bool, true, false, cond, Option, Some, None, is_some, option_map, refl, sym, ap, ◌∙◌, arith}
 use Rattle.std.specs.Option.{option_map_or}
-use Rattle.std.proofs.lemmas.Bool.{cases_lt, true_from_ne_false}
+use Rattle.std.proofs.lemmas.Bool.{true_from_ne_false}
 use Rattle.tp_model.specs.Words.{Deed, Item, PrepareRequest, Prepared, Query, QueryRequest}
 use Rattle.tp_machine.specs.declared.server.Entry.{Entry}
 use Rattle.tp_machine.specs.Sound.{Each}
@@ -9,13 +9,12 @@ use Rattle.tp_model.specs.Queries.{is_at_server}
 use Rattle.tp_machine.proofs.pairs.Answered.{there_matches}
 use Rattle.tp_machine.proofs.pairs.Ends.{prepared_there}
 use Rattle.tp_machine.proofs.pairs.Entries.{down_none}
-use Rattle.tp_machine.proofs.pairs.Fits.{AskerFits, Covers, EntryFits, Fits, IsFront, IsThere, PrepareFits, Waits}
+use Rattle.tp_machine.proofs.pairs.Fits.{AskerFits, EntryFits, Fits, IsThere, PrepareFits, Waits}
 use Rattle.tp_machine.proofs.pairs.Lists.{of_some}
 use Rattle.tp_machine.proofs.pairs.Moves.{matched}
 use Rattle.tp_machine.proofs.pairs.Pair.{Asker, Held, Pair, Rests, entry_held, got, held, held_up, is_here, numbers}
-use Rattle.tp_machine.proofs.pairs.Ran.{front_covered}
-use Rattle.tp_machine.proofs.pairs.Site.{Site, count, past_last, upto, upto_same}
-use Rattle.tp_machine.proofs.pairs.Votes.{full_covers, none_waits}
+use Rattle.tp_machine.proofs.pairs.Site.{Site, count, upto}
+use Rattle.tp_machine.proofs.pairs.Votes.{front_full, full_covers, none_waits}
 use Rattle.tp_machine.proofs.serial_data.Joined.{is_at, share_at}
 use Rattle.tp_machine.proofs.serial_data.Runs.{IsDeedOf, RunsSoFar, runs_each}
 
@@ -44,6 +43,7 @@ opening_fits s epoch turn =
         past = λ x found. absurd (cc);
         front = λ x found. absurd (cc);
         voted = λ voted there. absurd (cc);
+        verdicts = λ prepared e. absurd (cc);
       };
       asker = record {
         numbers_are = refl;
@@ -109,12 +109,6 @@ pub voted_yes : (s : Site) (p : Pair) (a : Asker) → p.voted ≡ true → p.ask
 voted_yes s p a voted there h = some_prepared s p a p.prepared refl (h.server.voted voted (ap is_some there)) there h
 
 -- ---- a request to prepare
-
-front_full : (s : Site) (deeds : List Deed) → IsFront s deeds → Covers s (count s) deeds → numbers deeds ≡ upto s (count s)
-front_full s deeds front covers =
-    ⊎_elim (λ (less : count s < front.last). front.numbers_are ∙ upto_same s (count s) front.last (omega (arith, less)) (λ number above below. past_last s number above))
-    (λ (most : front.last ≤ count s). front_covered s deeds (count s) front covers most)
-    (cases_lt (count s) front.last)
 
 -- what the server holds of the epoch that is named has just the numbers of the transaction's queries there, and nothing waits
 pub record IsFull (s : Site) (p : Pair) (r : PrepareRequest) : Type 0 where

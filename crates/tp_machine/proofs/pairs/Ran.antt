@@ -207,6 +207,7 @@ runs s p entry w done value up is waiting h answered =
           past = λ x there. let same : entry.epoch ≡ x.epoch = let both = sym now ∙ there in grind arith in let past = h.server.past (entry_held entry) found in omega (arith, past, same);
           front = λ x there. subst (IsFront s) (same_held q entry.epoch x.epoch (entry.deeds ++ deed ∷ []) x.deeds now there) (record { last = before + 1; numbers_are = numbers_are });
           voted = h.server.voted;
+          verdicts = h.server.verdicts;
         };
         asker = some_as (AskerFits s p) (AskerFits s q) p.asker (λ a there fits. record {
           numbers_are = fits.numbers_are;
@@ -225,6 +226,7 @@ runs s p entry w done value up is waiting h answered =
               (λ (same : w.query ≡ n). answer_new n entry.answers done (answered.number ∙ same))
               (Contains-push_cases (numbers entry.deeds) w.query n (subst (λ (all : List ℕ). Contains all n) (numbers_more entry.deeds deed) has));
           present = old.present;
+          ballot = old.ballot;
         };
       };
       follows = f;

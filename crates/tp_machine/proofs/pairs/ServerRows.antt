@@ -20,12 +20,13 @@ use Rattle.tp_machine.proofs.agreement.Steps.{same_txn_from}
 use Rattle.tp_machine.proofs.basics.Ids.{same_txn_is}
 use Rattle.tp_machine.proofs.basics.Lists.{each_found, set_here}
 use Rattle.tp_machine.proofs.basics.Logs.{appended, first_none, prepared_still, prepared_with, settled_still, settled_with}
+use Rattle.tp_machine.proofs.basics.Verdicts.{numbers_kept}
 use Rattle.tp_machine.proofs.epochs.Server.{boots_push}
 use Rattle.tp_machine.proofs.pairs.Actors.{AllFit, AllNext, pair_up, site_of}
 use Rattle.tp_machine.proofs.pairs.Ends as end
 use Rattle.tp_machine.proofs.pairs.Ends.{ordered}
 use Rattle.tp_machine.proofs.pairs.Entries.{begun, changed, keeps, makes, with_entry}
-use Rattle.tp_machine.proofs.pairs.Fits.{DoneFits, EntryFits, Fits, PrepareFits, QueryFits}
+use Rattle.tp_machine.proofs.pairs.Fits.{AreOnAll, DoneFits, EntryFits, Fits, PrepareFits, QueryFits, VoteFits}
 use Rattle.tp_machine.proofs.pairs.Follows.{Next, next_both, next_same, query_follows}
 use Rattle.tp_machine.proofs.pairs.Lists.{answer_in, of_some}
 use Rattle.tp_machine.proofs.pairs.Pair.{Asker, Pair}
@@ -52,6 +53,7 @@ use Rattle.tp_machine.specs.server.Verdicts.{learnt, verdicts_on}
 -- what a server says of its transactions; it requests nothing
 abbrev pub ReplyPairs : Scenario → ServerId → (TxnId → Pair) → Body → Type 0
 ReplyPairs sc at Q (body.Done done) = (declared : Transaction) → slice_get sc.txns done.txn.0 ≡ Some declared → DoneFits (site_of sc at.0 declared) (Q done.txn) done
+ReplyPairs sc at Q (body.Vote reply) = (declared : Transaction) → slice_get sc.txns reply.txn.0 ≡ Some declared → VoteFits (site_of sc at.0 declared) reply.vote
 ReplyPairs sc at Q (body.Query q) = ⊥
 ReplyPairs sc at Q (body.Prepare r) = ⊥
 ReplyPairs sc at Q _ = Unit {0}
@@ -391,8 +393,7 @@ votes_pairs sc A s kept r entry forced h fresh there same exists own on asked =
     let effect = casts (learnt s r.want) forced entry in
     let now = effect.state in
     let append = effect.reaction.append in
-    let ballot : Ballot = ballot_of forced in
-    let new = with_ballot entry ballot in
+    let new = with_ballot entry (ballot_of forced) in
     let Q : TxnId → Pair = λ txn. pair_up txn (A txn) now (log_with kept append) in
     let is : same_txn forced.txn r.txn ≡ true = ap (λ (t : TxnId). same_txn t r.txn) own ∙ number_itself r.txn.0 in
     let entries : now.entries ≡ slice_set s.entries r.txn.0 (Some new) = ap (λ (t : TxnId). slice_set s.entries t.0 (Some new)) own in
@@ -401,9 +402,9 @@ votes_pairs sc A s kept r entry forced h fresh there same exists own on asked =
     let event : (declared : Transaction) → slice_get sc.txns r.txn.0 ≡ Some declared → Next (site_of sc s.server.0 declared) (P r.txn) (Q r.txn) = λ declared found.
     let site = site_of sc s.server.0 declared in
     let p = P r.txn in
-    let n : Next site p (vote.forced p entry ballot forced) = forces site p entry r ballot forced refl there (h.fits r.txn declared found) (asked declared found) same on in
+    let n : Next site p (vote.forced p entry forced) = forces site p entry r forced refl there (h.fits r.txn declared found) (asked declared found) same on in
     let still : settled_in r.txn (log_with kept append) ≡ settled_in r.txn kept = settled_with r.txn kept append ∙ first_none (settled_in r.txn kept) in
-    let whole : vote.forced p entry ballot forced ≡ Q r.txn =
+    let whole : vote.forced p entry forced ≡ Q r.txn =
     same_made (A r.txn) (epoch_in kept) (epoch_in (log_with kept append)) (settled_in r.txn kept) (settled_in r.txn (log_with kept append)) (Some new) (entry_at now r.txn) (Some forced) (prepared_in r.txn (log_with kept append))
     (sym (same_epoch_in r.txn kept append own)) (sym still) (sym found_new) (sym (prepared_now r.txn kept forced own fresh)) in
     subst (Next site p) whole n
@@ -411,12 +412,35 @@ votes_pairs sc A s kept r entry forced h fresh there same exists own on asked =
     record {
       next = own_next sc s.server.0 P Q r.txn h.fits event (λ txn apart. other_pair (A txn) r.txn txn s now kept append apart act);
       places = ap length entries ∙ length-set s.entries r.txn.0 (Some new);
-      replies = (record { from_is = refl; says = tt }, tt);
+      replies = (
+        record {
+          from_is = refl;
+          says = λ declared found.
+              (event declared (ap (λ (t : TxnId). slice_get sc.txns t.0) (sym own) ∙ found)).fits.server.verdicts forced (prepared_now r.txn kept forced own fresh);
+        },
+        tt,
+      );
     }
 
 -- a vote that is given again
-votes_again_pairs : (sc : Scenario) (A : TxnId → Option Asker) (s : Server) (kept : List Record) (r : PrepareRequest) (cast : Ballot) → ServerPaired sc A s kept → RowPairs sc A s kept (sends s (yes_letter s r.txn cast ∷ []))
-votes_again_pairs sc A s kept r cast h = record { next = still_next sc A s kept h; places = refl; replies = (record { from_is = refl; says = tt }, tt) }
+votes_again_pairs : (sc : Scenario) (A : TxnId → Option Asker) (s : Server) (kept : List Record) (r : PrepareRequest) (entry : Entry) (cast : Ballot) → ServerPaired sc A s kept → entry_at s r.txn ≡ Some entry
+    → entry.ballot ≡ Some cast → RowPairs sc A s kept (sends s (yes_letter s r.txn cast ∷ []))
+votes_again_pairs sc A s kept r entry cast h there ballot_is =
+    record {
+      next = still_next sc A s kept h;
+      places = refl;
+      replies = (
+        record {
+          from_is = refl;
+          says = λ declared found.
+              let p = pair_up r.txn (A r.txn) s kept in
+              let site = site_of sc s.server.0 declared in
+              let kept_is : EntryFits site p entry = of_some (EntryFits site p) p.entry entry there (h.fits r.txn declared found).entry in
+              of_some (λ (b : Ballot). AreOnAll site b.verdicts) entry.ballot cast ballot_is kept_is.ballot;
+        },
+        tt,
+      );
+    }
 
 -- ---- Decide
 
@@ -466,12 +490,12 @@ refuses_pairs sc A s kept p entry why h fresh exists found unvoted asked =
           (λ declared there. end.refuses (site_of sc s.server.0 declared) (pair_up p.txn (A p.txn) s kept) p refl (h.fits p.txn declared there) (asked declared there)
           (λ other is epoch. subst (λ (e : Entry). e.ballot ≡ None) (same_Some entry other (sym found ∙ is)) unvoted));
       places = length-set s.entries p.txn.0 None;
-      replies = (record { from_is = refl; says = tt }, tt);
+      replies = (record { from_is = refl; says = λ declared there. tt }, tt);
     }
 
 -- a vote NO again
 refused_again_pairs : (sc : Scenario) (A : TxnId → Option Asker) (s : Server) (kept : List Record) (p : PrepareRequest) (why : No) → ServerPaired sc A s kept → RowPairs sc A s kept (sends s (no_letter s p why ∷ []))
-refused_again_pairs sc A s kept p why h = let still = ignores_pairs sc A s kept h in record { next = still.next; places = still.places; replies = (record { from_is = refl; says = tt }, tt) }
+refused_again_pairs sc A s kept p why h = let still = ignores_pairs sc A s kept h in record { next = still.next; places = still.places; replies = (record { from_is = refl; says = λ declared found. tt }, tt) }
 
 -- ---- Push
 
@@ -508,8 +532,8 @@ server_row_pairs sc A s kept mail h sound m asked =
           (same_txn_from q.txn given.txn (each_found (λ (d : DoneReply). IsSoundDone sc (actor.Coordinator q.txn) d) (λ (d : DoneReply). d.query == q.query) entry.answers given (sound.entries q.txn.0 entry k.found).answers k.given_is).goes_to) k.given_is;
       voted = λ p entry staple txn k.
           votes_pairs sc A s kept p entry (prepared_record (learnt s p.want) p entry (verdicts_on sc (learnt s p.want) txn staple p.want entry.deeds)) h (open_unsettled s kept p.txn h.agrees k.unsettled) k.found (eqb-true entry.epoch p.epoch k.same_epoch)
-          (subst (IsSoundBody sc to) k.said_is m).txn refl (record { epoch = refl; deeds = refl }) (subst (RequestPairs sc s.server A P) k.said_is asked);
-      voted_again = λ p entry cast k. votes_again_pairs sc A s kept p cast h;
+          (subst (IsSoundBody sc to) k.said_is m).txn refl (record { epoch = refl; deeds = refl; verdicts = numbers_kept sc (learnt s p.want) txn staple p.want entry.deeds }) (subst (RequestPairs sc s.server A P) k.said_is asked);
+      voted_again = λ p entry cast k. votes_again_pairs sc A s kept p entry cast h k.found k.ballot_is;
       refused = λ p entry number value k.
           refuses_pairs sc A s kept p entry _ h (open_unsettled s kept p.txn h.agrees k.unsettled) (subst (IsSoundBody sc to) k.said_is m).txn k.found k.unvoted
           (subst (RequestPairs sc s.server A P) k.said_is asked);

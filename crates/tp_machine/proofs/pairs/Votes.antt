@@ -1,18 +1,21 @@
 -- The server votes: it forces what its entry has, and its vote YES is sent.
-use Rattle.std.proofs.Common.{◌≡◌, ⊎_elim, ℕ, ◌+◌, List, true, Some, is_some, Contains, option_map, refl, sym, ap, subst, ◌∙◌}
+use Rattle.std.proofs.Common.{Contains, List, Some, ap, arith, is_some, option_map, refl, subst, sym, true, ℕ, ⊎_elim, ◌+◌, ◌<◌, ◌∙◌, ◌≡◌, ◌≤◌}
 use Rattle.std.proofs.lemmas.Option.{same_Some}
 use Rattle.tp_model.specs.Words.{Deed, PrepareRequest, Prepared, QueryRequest}
+use Rattle.std.proofs.lemmas.Bool.{cases_lt}
+use Rattle.tp_machine.proofs.basics.Verdicts.{numbers_of}
 use Rattle.tp_machine.specs.declared.server.Ballot.{Ballot}
 use Rattle.tp_machine.specs.declared.server.Entry.{Entry}
 use Rattle.tp_machine.proofs.pairs.Entries.{down_none, settled_none}
-use Rattle.tp_machine.proofs.pairs.Fits.{AskerFits, Covers, EntryFits, Fits, IsGone, IsThere, Made, PrepareFits, PrepareLive, There, Waits}
+use Rattle.tp_machine.proofs.pairs.Fits.{AreOnAll, AskerFits, Covers, EntryFits, Fits, IsFront, IsGone, IsThere, Made, PrepareFits, PrepareLive, There, Waits}
 use Rattle.tp_machine.proofs.pairs.Follows.{Follows, Next, answers_follow, follows_lost, onward_same}
 use Rattle.tp_machine.proofs.pairs.Lists.{of_some, some_as}
 use Rattle.tp_machine.proofs.pairs.Loses.{Loses, asker_lost, loses_same, same_held}
 use Rattle.tp_machine.proofs.pairs.Moves.{same_entry}
 use Rattle.tp_machine.proofs.pairs.Pair.{Asker, Pair, entry_held, held, held_up, numbers, prepared_held}
-use Rattle.tp_machine.proofs.pairs.Ran.{unanswered}
-use Rattle.tp_machine.proofs.pairs.Site.{Site, count, here_within}
+use Rattle.tp_machine.proofs.pairs.Ran.{front_covered, unanswered}
+use Rattle.tp_machine.proofs.pairs.Site.{Site, count, here_within, past_last, upto, upto_same}
+use Rattle.tp_machine.specs.server.Row.{ballot_of}
 
 -- ---- a request to prepare
 
@@ -22,6 +25,13 @@ full_covers s p r epoch deeds h same found =
     ⊎_elim (λ (t : There p r.epoch (Covers s (count s))). subst (Covers s (count s)) (same_held p r.epoch epoch t.deeds deeds t.found found) t.says)
     (λ (g : IsGone p r.epoch). absurd (g.none deeds (subst (λ (n : ℕ). IsThere p n deeds) same found)))
     h.covers
+
+-- the first deeds at the server that cover all numbers have just these
+pub front_full : (s : Site) (deeds : List Deed) → IsFront s deeds → Covers s (count s) deeds → numbers deeds ≡ upto s (count s)
+front_full s deeds front covers =
+    ⊎_elim (λ (less : count s < front.last). front.numbers_are ∙ upto_same s (count s) front.last (omega (arith, less)) (λ number above below. past_last s number above))
+    (λ (most : front.last ≤ count s). front_covered s deeds (count s) front covers most)
+    (cases_lt (count s) front.last)
 
 -- no query waits at an entry of that epoch
 pub none_waits : (s : Site) (p : Pair) (entry : Entry) (r : PrepareRequest) (w : QueryRequest) → EntryFits s p entry → PrepareFits s p r → entry.epoch ≡ r.epoch → IsThere p entry.epoch entry.deeds → Waits s p entry w → ⊥
@@ -33,16 +43,17 @@ none_waits s p entry r w h full same found waits =
 
 -- ---- the vote is forced
 
--- what is forced is what the entry has
+-- what is forced is what the entry has, with a verdict on each of its deeds
 pub record IsVoteOn (entry : Entry) (prepared : Prepared) : Type 0 where
   pub epoch : prepared.epoch ≡ entry.epoch
   pub deeds : prepared.deeds ≡ entry.deeds
+  pub verdicts : numbers_of prepared.verdicts ≡ numbers entry.deeds
 
 abbrev pub with_ballot : Entry → Ballot → Entry
 with_ballot entry ballot = record entry { ballot = Some ballot }
 
-abbrev pub forced : Pair → Entry → Ballot → Prepared → Pair
-forced p entry ballot prepared = record p { entry = Some (with_ballot entry ballot); prepared = Some prepared }
+abbrev pub forced : Pair → Entry → Prepared → Pair
+forced p entry prepared = record p { entry = Some (with_ballot entry (ballot_of prepared)); prepared = Some prepared }
 
 vote_held : (entry : Entry) (prepared : Prepared) → IsVoteOn entry prepared → prepared_held prepared ≡ entry_held entry
 vote_held entry prepared is =
@@ -51,13 +62,14 @@ vote_held entry prepared is =
     first ∙ second
 
 -- the first vote YES, or a later one in a greater turn
-pub forces : (s : Site) (p : Pair) (entry : Entry) (r : PrepareRequest) (ballot : Ballot) (prepared : Prepared) → p.up ≡ true → p.entry ≡ Some entry → Fits s p → PrepareFits s p r → entry.epoch ≡ r.epoch → IsVoteOn entry prepared
-    → Next s p (forced p entry ballot prepared)
-forces s p entry r ballot prepared up is h asked epoch on =
-    let new = with_ballot entry ballot in
-    let q = forced p entry ballot prepared in
+pub forces : (s : Site) (p : Pair) (entry : Entry) (r : PrepareRequest) (prepared : Prepared) → p.up ≡ true → p.entry ≡ Some entry → Fits s p → PrepareFits s p r → entry.epoch ≡ r.epoch → IsVoteOn entry prepared
+    → Next s p (forced p entry prepared)
+forces s p entry r prepared up is h asked epoch on =
+    let new = with_ballot entry (ballot_of prepared) in
+    let q = forced p entry prepared in
     let old : EntryFits s p entry = of_some (EntryFits s p) p.entry entry is h.entry in
     let found : IsThere p entry.epoch entry.deeds = held_up p.up p.entry p.prepared up ∙ ap (option_map entry_held) is in
+    let all : AreOnAll s prepared.verdicts = on.verdicts ∙ front_full s entry.deeds (h.server.front (entry_held entry) found) (full_covers s p r entry.epoch entry.deeds asked epoch found) in
     let now : IsThere q entry.epoch entry.deeds = held_up p.up (Some new) (Some prepared) up in
     let same : held q ≡ held p = now ∙ sym found in
     let loses : Loses p q = loses_same p q same refl refl refl in
@@ -74,6 +86,7 @@ forces s p entry r ballot prepared up is h asked epoch on =
           past = λ x there. h.server.past x (sym same ∙ there);
           front = λ x there. h.server.front x (sym same ∙ there);
           voted = λ voted there. refl;
+          verdicts = λ other e. subst (λ (made : Prepared). AreOnAll s made.verdicts) (same_Some prepared other e) all;
         };
         asker = some_as (AskerFits s p) (AskerFits s q) p.asker (λ a there fits. asker_lost s p q a loses (made a there) fits) h.asker;
         entry = record {
@@ -81,6 +94,7 @@ forces s p entry r ballot prepared up is h asked epoch on =
           answers = answers_follow s p q entry.answers f old.answers;
           answered = λ unvoted. absurd (cc);
           present = λ unvoted. absurd (cc);
+          ballot = all;
         };
       };
       follows = f;
@@ -106,6 +120,7 @@ votes s p prepared h =
           past = h.server.past;
           front = h.server.front;
           voted = λ voted there. prepared;
+          verdicts = h.server.verdicts;
         };
         asker = some_as (AskerFits s p) (AskerFits s q) p.asker (λ a there fits. asker_lost s p q a loses fits.made fits) h.asker;
         entry = same_entry s p q f refl h.entry;

@@ -26,7 +26,7 @@ use Rattle.tp_machine.proofs.epochs.Server.{ServerMade}
 use Rattle.tp_machine.proofs.epochs.World.{Epochs, made_from_zero}
 use Rattle.tp_machine.proofs.ids.Queries.{homes_built}
 use Rattle.tp_machine.proofs.ids.Valid.{IsValid, valid_built}
-use Rattle.tp_machine.proofs.pairs.Actors.{BodyPairs, DoneFrom, LetterPairs, PrepareAt, QueryAt, asker_at, asker_by, asker_of, asker_up, body_stays, pair_at, pair_by, pair_up, site_of, stand_of}
+use Rattle.tp_machine.proofs.pairs.Actors.{BodyPairs, DoneFrom, LetterPairs, PrepareAt, QueryAt, VoteFrom, asker_at, asker_by, asker_of, asker_up, body_stays, pair_at, pair_by, pair_up, site_of, stand_of}
 use Rattle.tp_machine.proofs.pairs.CoordinatorRows.{AnswerPairs, AskPairs, CoordinatorActsPairs, CoordinatorPaired, PhaseNumbered, PrepareTo, QueryTo, coordinator_row_asks, submit_row_asks}
 use Rattle.tp_machine.proofs.pairs.Fits.{AskerFits, DoneFits, Fits, PrepareFits, QueryFits}
 use Rattle.tp_machine.proofs.pairs.Follows.{Next, next_same}
@@ -144,6 +144,7 @@ server_next sc w at part s now append txn other declared true e h found up exist
 reply_pairs : (sc : Scenario) (at : ServerId) (P : TxnId → ℕ → Pair) (Q : TxnId → Pair) (from to : Actor) (said : Body) → from ≡ actor.Server at → ((txn : TxnId) → P txn at.0 ≡ Q txn) → ReplyPairs sc at Q said → BodyPairs sc P from to said
 reply_pairs sc at P Q from to (body.Done done) is same h =
     subst (λ (f : Actor). DoneFrom sc P f done) (sym is) (λ declared e. subst (λ (p : Pair). DoneFits (site_of sc at.0 declared) p done) (sym (same done.txn)) (h declared e))
+reply_pairs sc at P Q from to (body.Vote reply) is same h = subst (λ (f : Actor). VoteFrom sc f reply) (sym is) h
 reply_pairs sc at P Q from to (body.Query q) is same h = absurd h
 reply_pairs sc at P Q from to (body.Prepare r) is same h = absurd h
 reply_pairs sc at P Q from to _ is same h = tt
@@ -268,6 +269,7 @@ ask_pairs sc declared txn P Q from to (body.Prepare r) exists same h = prepare_t
         (subst (λ (t : TxnId). PrepareFits (site_of sc at.0 declared) (P t at.0) r) (sym k.0) (subst (λ (p : Pair). PrepareFits (site_of sc at.0 declared) p r) (sym (same at.0)) k.1))
     prepare_to _ k = tt
 ask_pairs sc declared txn P Q from to (body.Done done) exists same h = absurd h
+ask_pairs sc declared txn P Q from to (body.Vote reply) exists same h = absurd h
 ask_pairs sc declared txn P Q from to _ exists same h = tt
 
 coordinator_acts_pairs : (sc : Scenario) (w : State) (declared : Transaction) (txn : TxnId) (part : Part Coordinator) (c now : Coordinator) (own : List What) (kept : List Record) (letters : List Letter) → Pairs sc w
@@ -442,6 +444,7 @@ bare_fits s epoch up asker fresh =
         past = λ x found. absurd (cc);
         front = λ x found. absurd (cc);
         voted = λ voted there. absurd (cc);
+        verdicts = λ prepared e. absurd (cc);
       };
       asker = ⊎_elim (λ (e : asker ≡ None). subst (λ (o : Option Asker). IfSome o (AskerFits s p)) (sym e) tt)
           (λ (e : asker ≡ Some fresh_asker). subst (λ (o : Option Asker). IfSome o (AskerFits s p)) (sym e) (record {

@@ -1,6 +1,6 @@
 -- Trust: what staples, verdicts, records, mails and actors rest on, and that it stays as facts are added.
 use Rattle.std.specs.List.{count_by, filter_map, list_all, list_any, range_with_len, sum_by}
-use Rattle.std.proofs.Common.{Bool, IfSome, List, None, Option, Some, [], ap, arith, cond, false, filter, is_some, length, map, refl, slice_get, sym, true, ℕ, ◌&&◌, ◌+◌, ◌<◌, ◌∙◌, ◌∷◌, ◌≡◌, ◌≤◌}
+use Rattle.std.proofs.Common.{Bool, IfSome, List, None, Option, Some, [], ap, arith, cond, false, filter, is_some, length, refl, slice_get, sym, true, ℕ, ◌&&◌, ◌+◌, ◌<◌, ◌∙◌, ◌∷◌, ◌≡◌, ◌≤◌}
 use Rattle.std.proofs.lemmas.Bool.Decides.{nat_tests}
 use Rattle.std.proofs.lemmas.List.Sums.{sum_by-cons}
 use Rattle.tp_model.specs.Authorisation.{is_allowed, is_certified, is_own_query, policy_at, rule_proves, tests_version}
@@ -11,9 +11,10 @@ use Rattle.tp_model.specs.Versions.{is_publication, newest}
 use Rattle.tp_model.specs.Words.answer
 use Rattle.tp_model.specs.Words.body
 use Rattle.tp_model.specs.Words.vote
-use Rattle.tp_model.specs.Words.{Action, AdminId, Answer, Body, CredId, Deed, Fact, Mail, Policy, Scenario, Staple, Transaction, TxnId, Verdict, Version, Vote}
+use Rattle.tp_model.specs.Words.{Action, AdminId, Answer, Body, CredId, Fact, Mail, Policy, Scenario, Staple, Transaction, TxnId, Verdict, Version, Vote}
 use Rattle.tp_machine.proofs.basics.Facts.{Grows}
 use Rattle.tp_machine.proofs.basics.Lists.{each_as}
+use Rattle.tp_machine.proofs.basics.Verdicts.{numbers_of}
 use Rattle.tp_machine.specs.Sound.{Each, EachPlaced, IsAdmin}
 use Rattle.tp_machine.specs.coord.Row.{staple_of}
 use Rattle.tp_machine.specs.declared.coord.Phase.TheVariants as phase
@@ -53,12 +54,6 @@ IsSubmitted facts txn = list_any (is_submission txn) facts ≡ true
 -- these are the numbers of all the transaction's queries, in order (one server has them all)
 abbrev pub AreAll : Scenario → TxnId → List ℕ → Type 0
 AreAll sc txn numbers = (declared : Transaction) → slice_get sc.txns txn.0 ≡ Some declared → numbers ≡ range_with_len 1 (length declared.queries)
-
-abbrev pub numbers_of : List Verdict → List ℕ
-numbers_of verdicts = map (λ (verdict : Verdict). verdict.query) verdicts
-
-abbrev pub deed_numbers : List Deed → List ℕ
-deed_numbers deeds = map (λ (deed : Deed). deed.query) deeds
 
 -- a vote's verdicts are right, and there is one for each query
 pub record VerdictsFit (sc : Scenario) (facts : List Fact) (place : ℕ) (txn : TxnId) (verdicts : List Verdict) : Type 0 where

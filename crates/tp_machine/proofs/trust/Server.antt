@@ -15,11 +15,12 @@ use Rattle.tp_model.specs.Words.{Admin, AdminId, Body, Deed, DoneReply, Fact, It
 use Rattle.tp_machine.proofs.basics.Lists.{each_append, each_as, each_found, each_map, placed_emptied, placed_set}
 use Rattle.tp_machine.proofs.basics.Ids.{admin_number}
 use Rattle.tp_machine.proofs.basics.Stores.{ended_known, kept_known}
+use Rattle.tp_machine.proofs.basics.Verdicts.{deed_numbers, numbers_kept}
 use Rattle.tp_machine.proofs.basics.Versions.{known_most, learnt_most, used_by}
 use Rattle.tp_machine.proofs.ids.Server.{learnt_sound, verdict_sound}
 use Rattle.tp_machine.proofs.ids.Valid.{IsValid}
 use Rattle.tp_machine.proofs.trust.Evaluation.{evaluate_right}
-use Rattle.tp_machine.proofs.trust.Fit.{AreAll, BodyFits, IsPublished, IsRight, Right, ServerFits, StapleFits, VerdictsFit, deed_numbers, numbers_of}
+use Rattle.tp_machine.proofs.trust.Fit.{AreAll, BodyFits, IsPublished, IsRight, Right, ServerFits, StapleFits, VerdictsFit}
 use Rattle.tp_machine.proofs.trust.Kept.{AreKept, IsKept, IsTrusted, RecordKept, vote_cast}
 use Rattle.tp_machine.proofs.trust.Turns.{Answers, IsClosed, PrepareNow, Stamp, VoteNow, stamp_of}
 use Rattle.tp_machine.proofs.trust.Whole.{WholeMail}
@@ -188,10 +189,6 @@ learnt_fits sc facts place s want h w =
           (each_as (IsPublished sc facts place) (λ (wanted : AdminId × Version). wanted.0.0 ≡ admin.0 → wanted.1.0 ≤ newest sc admin place facts)
           (λ wanted below same. subst (λ (a : AdminId). wanted.1.0 ≤ newest sc a place facts) (ap admin_number same) below) want w);
     }
-
-numbers_kept : (sc : Scenario) (s : Server) (txn : Transaction) (staple : Staple) (want : List (AdminId × Version)) (deeds : List Deed) → numbers_of (verdicts_on sc s txn staple want deeds) ≡ deed_numbers deeds
-numbers_kept sc s txn staple want [] = refl
-numbers_kept sc s txn staple want (deed ∷ deeds) = ap (λ (ns : List ℕ). deed.query ∷ ns) (numbers_kept sc s txn staple want deeds)
 
 placed_there : (sc : Scenario) (s : Server) (txn : Transaction) (staple : Staple) (want : List (AdminId × Version)) (other : ℕ) (deeds : List Deed) → staple.place ≡ other
     → Each (λ (verdict : Verdict). verdict.place ≡ other) (verdicts_on sc s txn staple want deeds)

@@ -11,6 +11,7 @@ use Rattle.tp_model.specs.Words.actor
 use Rattle.tp_model.specs.Words.body
 use Rattle.tp_model.specs.Words.{Actor, Body, Item, PrepareRequest, Query, Scenario, ServerId, Transaction}
 use Rattle.tp_machine.proofs.basics.Lists.{each_get, missing}
+use Rattle.tp_machine.proofs.basics.Verdicts.{deed_numbers}
 use Rattle.tp_machine.proofs.ids.Queries.{AreOnItems, queries_on_items}
 use Rattle.tp_machine.proofs.ids.Valid.{IsValid, IsValidItem}
 use Rattle.tp_machine.proofs.pairs.Actors.{BodyPairs, PrepareAt, asker_at, pair_at, pair_up, site_of}
@@ -19,7 +20,7 @@ use Rattle.tp_machine.proofs.pairs.Outcomes.{full}
 use Rattle.tp_machine.proofs.pairs.Pair.{Pair, entry_held, numbers}
 use Rattle.tp_machine.proofs.pairs.Site.{Site, here, query_there, upto, upto_here}
 use Rattle.tp_machine.proofs.pairs.World.{Pairs, pair_of_up}
-use Rattle.tp_machine.proofs.trust.Fit.{AreAll, deed_numbers}
+use Rattle.tp_machine.proofs.trust.Fit.{AreAll}
 use Rattle.tp_machine.proofs.walks.Steps.{IsServerUp}
 use Rattle.tp_machine.specs.Machine.{State}
 use Rattle.tp_machine.specs.Parts.{Part}
