@@ -6,9 +6,12 @@ pub mod End
 pub mod Evaluation
 pub mod Fit
 pub mod Kept
+pub mod RoundAims
+pub mod RoundProofs
+pub mod Phases
+pub mod Rounds
 pub mod Server
 pub mod Steps
 pub mod Turns
-pub mod Whole
 pub mod World
 pub mod Offices

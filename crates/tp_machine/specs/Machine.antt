@@ -2,7 +2,7 @@
 use Rattle.std.specs.Prelude.{ℕ, ◌+◌, ◌-◌, ◌^◌, ◌==◌, List, [], ◌∷◌, ◌++◌, length, map, filter, drop, slice_get, slice_set, Bool, true, false, not, Option, Some, None, is_some, is_none, nat_lt, unwrap_or, ℤ, if◌then◌else◌}
 use Rattle.std.specs.List.{flat_map, range_with_len}
 use Rattle.std.specs.Option.{option_map_or}
-use Rattle.tp_model.specs.Words.{Actor, CredId, Ending, Fact, Item, Letter, Mail, Record, Scenario, ServerId, Step, TxnId, What}
+use Rattle.tp_model.specs.Words.{Actor, AdminId, CredId, Ending, Fact, Item, Letter, Mail, Record, Scenario, ServerId, Step, TxnId, What}
 use Rattle.tp_model.specs.Words.actor
 use Rattle.tp_model.specs.Words.log
 use Rattle.tp_model.specs.Words.step
@@ -18,6 +18,7 @@ use Rattle.tp_machine.specs.coord.Opened as coord
 use Rattle.tp_machine.specs.coord.Row.{coordinator_row, is_begun, submit_row, coordinator_with_age}
 use Rattle.tp_offices.specs.Authority as office
 use Rattle.tp_offices.specs.Master as master
+use Rattle.tp_offices.specs.declared.master.Master.{Master}
 use Rattle.tp_machine.specs.server.Opened as server
 use Rattle.tp_machine.specs.server.Row.{server_row}
 
@@ -230,6 +231,24 @@ revokes actors cred =
       letters = [];
     }
 
+-- the master publishes the next version of an administrator
+abbrev pub publishes : Actors → AdminId → Move
+publishes actors admin =
+    record {
+      actors = record actors { master = master.published admin actors.master };
+      happened = what.Published admin (master.next_of actors.master admin) ∷ [];
+      letters = [];
+    }
+
+-- the master pushes the newest version of an administrator to a server
+abbrev pub pushes : Actors → AdminId → ServerId → Move
+pushes actors admin server =
+    record {
+      actors = actors;
+      happened = [];
+      letters = (master.pushes actors.master admin server).reaction.letters;
+    }
+
 -- the numbers but this one
 abbrev pub without_number : List ℕ → ℕ → List ℕ
 without_number numbers number = filter (λ (other : ℕ). not (other == number)) numbers
@@ -260,6 +279,10 @@ machine_after sc m (step.Lose mail) =
     with_new m.state
     (state_after m.state (step.Lose mail) (idle_move m.state.actors (what.Lost mail ∷ [])))
     (without_number m.undelivered mail)
+machine_after sc m (step.Publish admin) =
+    does m (step.Publish admin) (publishes m.state.actors admin)
+machine_after sc m (step.Push admin server) =
+    does m (step.Push admin server) (pushes m.state.actors admin server)
 machine_after sc m (step.Tick by) = does m (step.Tick by) (ticks m.state.actors by)
 machine_after sc m (step.Revoke cred) = does m (step.Revoke cred) (revokes m.state.actors cred)
 machine_after sc m _ = m
@@ -279,6 +302,10 @@ abbrev pub missing_mail : List Mail → ℕ → Option StepError
 missing_mail mails mail =
     if nat_lt mail (length mails) then None else Some (error.NoSuchMail mail (length mails))
 
+-- a library without a version after the newest
+abbrev pub none_left : Master → AdminId → Option StepError
+none_left held admin = if master.has_more held admin then None else Some (error.NoMore admin)
+
 -- a clock that would reach 2^63
 abbrev pub too_late : ℕ → ℕ → Option StepError
 too_late clock by = if nat_lt (clock + by) (2 ^ 63) then None else Some (error.TooLate clock)
@@ -289,6 +316,7 @@ refusal w (step.Submit txn) =
     if is_submitted w.actors txn then Some (error.AlreadySubmitted txn) else None
 refusal w (step.Deliver mail) = missing_mail w.mails mail
 refusal w (step.Lose mail) = missing_mail w.mails mail
+refusal w (step.Publish admin) = none_left w.actors.master admin
 refusal w (step.Tick by) = too_late w.actors.authority.clock by
 refusal w _ = None
 

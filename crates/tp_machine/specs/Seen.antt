@@ -60,10 +60,12 @@ pub record IsWorld (world : Seen) : Type 0 where
 abbrev pub IsTrustedSoFar : Seen → Type 0
 IsTrustedSoFar world = IsTrustedState world.scenario world.machine.state
 
--- a step of a kind that is built: a submission, the delivery of a mail, or what the authority is told
+-- a step of a kind that is built: a submission, the delivery of a mail, or what the master and the authority are told
 abbrev pub IsBuiltStep : Step → Type 0
 IsBuiltStep (step.Submit txn) = Unit {0}
 IsBuiltStep (step.Deliver mail) = Unit {0}
+IsBuiltStep (step.Publish admin) = Unit {0}
+IsBuiltStep (step.Push admin server) = Unit {0}
 IsBuiltStep (step.Tick by) = Unit {0}
 IsBuiltStep (step.Revoke cred) = Unit {0}
 IsBuiltStep _ = ⊥

@@ -21,8 +21,9 @@ use Rattle.tp_machine.specs.coord.State.{Coordinator}
 use Rattle.tp_machine.specs.declared.actors.Actors.{Actors}
 use Rattle.tp_machine.specs.declared.coord.Phase.TheVariants as phase
 use Rattle.tp_machine.specs.declared.coord.Phase.{Phase}
-use Rattle.tp_machine.specs.declared.coord.Reply.{Reply}
-use Rattle.tp_machine.specs.declared.coord.Round.{Round}
+use Rattle.tp_round.specs.declared.round.Round.{Round}
+use Rattle.tp_round.specs.declared.round.Target.{Target}
+use Rattle.tp_round.specs.declared.round.Wanted.{Wanted}
 use Rattle.tp_machine.specs.declared.server.Ballot.{Ballot}
 use Rattle.tp_machine.specs.declared.server.Entry.{Entry}
 use Rattle.tp_machine.specs.server.State.{Server}
@@ -481,16 +482,22 @@ pub record IsSoundServerPart (sc : Scenario) (at : ServerId) (part : Part Server
   pub state : IfSome part.up (IsSoundServerUp sc at)
   pub records : Each (IsSoundServerRecord sc at) part.log
 
--- the reply's server exists, and its verdicts are sound
-pub record IsSoundReply (sc : Scenario) (txn : TxnId) (reply : Reply) : Type 0 where
-  pub server : IsServer sc reply.server
-  pub verdicts : AreSoundVerdicts sc txn reply.verdicts
+-- the server of a round exists, and the verdicts that it replied are sound
+pub record IsSoundTarget (sc : Scenario) (txn : TxnId) (target : Target) : Type 0 where
+  pub server : IsServer sc target.server
+  pub reply : IfSome target.reply (AreSoundVerdicts sc txn)
 
--- what a round aims at, keeps, awaits and met is sound
+-- the named server exists, and the versions that are wanted of it
+pub record IsSoundWanted (sc : Scenario) (named : Wanted) : Type 0 where
+  pub server : IsServer sc named.server
+  pub want : AreWanted sc named.want
+
+-- a round under view consistency: what it aims at, names and met is sound, and so is each of its servers
 pub record IsSoundRound (sc : Scenario) (txn : TxnId) (round : Round) : Type 0 where
-  pub aim : IfSome round.aim (AreVersions sc)
-  pub kept : Each (IsSoundReply sc txn) round.kept
-  pub awaited : Each (IsServer sc) round.awaited
+  pub view : round.levels ≡ []
+  pub targets : Each (IsSoundTarget sc txn) round.targets
+  pub aim : AreWanted sc round.aim
+  pub named : Each (IsSoundWanted sc) round.named
   pub mets : Each (IsSoundMet sc) round.mets
 
 -- what a coordinator awaits is sound
@@ -529,9 +536,10 @@ abbrev pub IsSoundAuthority : Scenario → Authority → Type 0
 IsSoundAuthority sc authority =
     Each (λ (place : Option CredId). IfSome place (IsCred sc)) authority.revoked
 
--- the master knows a version of each administrator
-abbrev pub IsSoundMaster : Scenario → Master → Type 0
-IsSoundMaster sc master = AreVersions sc master.newest
+-- the newest version that the master knows of each administrator exists, and the last one
+pub record IsSoundMaster (sc : Scenario) (master : Master) : Type 0 where
+  pub newest : AreVersions sc master.newest
+  pub last : AreVersions sc master.last
 
 -- ---- the world
 

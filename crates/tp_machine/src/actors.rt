@@ -1,16 +1,18 @@
 //! All the actors of a world, and what a step does to them.
-ghost use Rattle.std.specs.Prelude.{◌≡◌, ◌+◌, ◌<◌, ◌^◌, ◌∷◌, [], length, map, slice_get, IfOk};
+ghost use Rattle.std.specs.Prelude.{◌≡◌, ◌+◌, ◌<◌, ◌^◌, ◌∷◌, [], length, map, slice_get, true, IfOk};
 ghost use Rattle.std.specs.Option.{option_copied};
 ghost use Rattle.tp_machine.specs.Machine as machine;
 ghost use Rattle.tp_machine.specs.server.Verdicts.{HasFewRules};
+ghost use Rattle.tp_offices.specs.Master as office;
 
 use crate::coord::Coordinator;
 use crate::part::{Act, Part, coordinator_submits, coordinator_takes, no_act, server_takes};
 use crate::server::Server;
 use std::alloc::Global;
-use tp_offices::{Authority, Master};
+use tp_offices::{Authority, Master, NoMore};
 use tp_types::{
-    Actor, CredId, Item, List, Mail, NoMemory, Place, Reaction, Scenario, ServerId, TxnId, What,
+    Actor, AdminId, CredId, Item, List, Mail, NoMemory, Place, Reaction, Scenario, ServerId, TxnId,
+    What,
 };
 
 /// The servers, the coordinators, each with its log, and the offices.
@@ -140,6 +142,33 @@ impl Actors {
         ensures { IfOk result (λ act. Moves (machine.to_master self.now mail.now) self.now act) }
     {
         let Reaction { append: _, letters } = self.master.receive(alloc, mail)?;
+        Ok(Act {
+            happened: List::new(alloc),
+            letters,
+        })
+    }
+
+    /// The master publishes the next version of an administrator's policy.
+    pub fn publish(&mut self, alloc: Global, admin: AdminId) -> Result<Act, NoMemory>
+        requires { office.has_more self.old.master admin ≡ true }
+        ensures ok { IfOk result (λ act. Moves (machine.publishes self.old admin) self.new act) }
+        ensures up { SameUp self.old self.new }
+    {
+        match self.master.publish(admin) {
+            Err(NoMore) => unreachable!(),
+            Ok(version) => Ok(Act {
+                happened: List::of_one(alloc, What::Published(admin, version))?,
+                letters: List::new(alloc),
+            }),
+        }
+    }
+
+    /// The master pushes the newest version of an administrator's policy to a server.
+    pub fn push(&self, alloc: Global, admin: AdminId, server: ServerId) -> Result<Act, NoMemory>
+        ensures { IfOk result (λ act.
+            Moves (machine.pushes self.now admin server) self.now act) }
+    {
+        let Reaction { append: _, letters } = self.master.push(alloc, admin, server)?;
         Ok(Act {
             happened: List::new(alloc),
             letters,

@@ -1,5 +1,5 @@
 //! What a step does to the actors and the history.
-ghost use Rattle.std.specs.Prelude.{◌≡◌, ◌+◌, ◌<◌, ◌^◌, length, Some, None, slice_get, IfOk, OnOk, OnErr};
+ghost use Rattle.std.specs.Prelude.{◌≡◌, ◌+◌, ◌<◌, ◌^◌, length, true, Some, None, slice_get, IfOk, OnOk, OnErr};
 ghost use Rattle.std.specs.Option.{option_copied};
 ghost use Rattle.tp_model.specs.Words.step;
 ghost use Rattle.tp_machine.specs.mirrors.Acts.{Moves, SameUp};
@@ -7,6 +7,7 @@ ghost use Rattle.tp_machine.specs.mirrors.History.{SameHistory};
 ghost use Rattle.tp_machine.specs.Machine as machine;
 ghost use Rattle.tp_machine.specs.Seen.{IsBuiltStep, machine_of, state_of};
 ghost use Rattle.tp_machine.specs.server.Verdicts.{HasFewRules};
+ghost use Rattle.tp_offices.specs.Master as office;
 
 use crate::actors::Actors;
 use crate::coord::Coordinator;
@@ -14,7 +15,8 @@ use crate::error::StepError;
 use crate::history::History;
 use crate::part::{Act, no_act};
 use std::alloc::Global;
-use tp_types::{CredId, Mail, NoMemory, Scenario, Step, TxnId};
+use tp_offices::Master;
+use tp_types::{AdminId, CredId, Mail, NoMemory, Scenario, ServerId, Step, TxnId};
 
 /// Whether a transaction was submitted.
 pub fn is_submitted(actors: &Actors, txn: TxnId) -> bool
@@ -49,6 +51,7 @@ pub fn refusal(actors: &Actors, history: &History, taken: &Step) -> Option<StepE
         }
         Step::Deliver { mail } => missing_mail(history.mails.as_slice(), mail),
         Step::Lose { mail } => missing_mail(history.mails.as_slice(), mail),
+        Step::Publish { admin } => none_left(&actors.master, admin),
         Step::Tick { by } => too_late(actors.authority.clock, by),
         _ => None,
     }
@@ -62,6 +65,16 @@ fn missing_mail(mails: &[Mail], mail: u64) -> Option<StepError>
         None
     } else {
         Some(StepError::NoSuchMail { mail, mails })
+    }
+}
+
+fn none_left(master: &Master, admin: AdminId) -> Option<StepError>
+    ensures { result ≡ machine.none_left master.now admin }
+{
+    if master.has_more(admin) {
+        None
+    } else {
+        Some(StepError::NoMore { admin })
     }
 }
 
@@ -94,6 +107,8 @@ pub fn act(
     match *taken {
         Step::Submit { txn } => submit(actors, history, alloc, scenario, txn),
         Step::Deliver { mail } => deliver(actors, history, alloc, scenario, mail),
+        Step::Publish { admin } => publish(actors, history, alloc, admin),
+        Step::Push { admin, server } => push(actors, history, alloc, admin, server),
         Step::Tick { by } => tick(actors, history, alloc, by),
         Step::Revoke { cred } => revoke(actors, history, alloc, cred),
         _ => Ok(()),
@@ -138,6 +153,41 @@ fn deliver(
     history.note(Step::Deliver { mail }, act.happened, act.letters)?;
     history.mark(mail as usize);
     Ok(())
+}
+
+fn publish(
+    actors: &mut Actors,
+    history: &mut History,
+    alloc: Global,
+    admin: AdminId,
+) -> Result<(), NoMemory>
+    requires { office.has_more actors.old.master admin ≡ true }
+    ensures ok { OnOk result
+        (machine_of actors.new history.new
+        ≡ machine.does (machine_of actors.old history.old) (step.Publish admin)
+        (machine.publishes actors.old admin)) }
+    ensures same_history { OnErr result (SameHistory history.old history.new) }
+    ensures up { SameUp actors.old actors.new }
+{
+    let act = actors.publish(alloc, admin)?;
+    history.note(Step::Publish { admin }, act.happened, act.letters)
+}
+
+fn push(
+    actors: &Actors,
+    history: &mut History,
+    alloc: Global,
+    admin: AdminId,
+    server: ServerId,
+) -> Result<(), NoMemory>
+    ensures ok { OnOk result
+        (machine_of actors.now history.new
+        ≡ machine.does (machine_of actors.now history.old) (step.Push admin server)
+        (machine.pushes actors.now admin server)) }
+    ensures same_history { OnErr result (SameHistory history.old history.new) }
+{
+    let act = actors.push(alloc, admin, server)?;
+    history.note(Step::Push { admin, server }, act.happened, act.letters)
 }
 
 fn tick(actors: &mut Actors, history: &mut History, alloc: Global, by: u64) -> Result<(), NoMemory>

@@ -9,40 +9,20 @@ ghost use Rattle.tp_types.specs.Effect.{Gives};
 ghost use Rattle.tp_machine.specs.coord.Opened as opened;
 ghost use Rattle.tp_machine.specs.coord.Row as row;
 
+mod decisions;
+mod rounds;
+
 use crate::runs::deed_of;
 use crate::sums::asked_value;
 use std::alloc::Global;
 use std::marker::Model;
-use std::mem;
 use tp_model::{item_of, query_at, servers_of};
+use tp_round::Round;
 use tp_types::{
-    Actor, Answer, AskRequest, Body, Cause, CommitRecord, DecideRequest, Decided, Decision, Deed,
-    Denied, DoneReply, Instance, ItemId, Letter, List, Mail, Met, No, NoMemory, OutOfRange,
-    Outcome, Place, PrepareRequest, Query, QueryRequest, Reaction, Record, Scenario, ServerId,
-    Staple, TellReply, TryClone, TxnId, Verdict, Version, Vote, VoteReply, ignored, none_for_each,
-    nothing, sent_alone, unbuilt,
+    Actor, Answer, Body, Deed, DoneReply, Instance, Letter, List, Mail, NoMemory, Outcome, Place,
+    Query, QueryRequest, Reaction, Scenario, ServerId, Staple, TxnId, Verdict, ignored,
+    none_for_each, sent_alone, unbuilt,
 };
-
-/// A server's reply in a round.
-#[derive(Drop)]
-pub struct Reply {
-    pub server: ServerId,
-    pub verdicts: List<Verdict>,
-}
-
-/// A round of evaluation: servers are asked, and their verdicts are brought to one version of each administrator.
-#[derive(Drop)]
-pub struct Round {
-    /// Counted from 1.
-    pub number: u32,
-    /// The version of each administrator that the servers were last brought to; None in the first round.
-    pub aim: Option<List<Version>>,
-    pub kept: List<Reply>,
-    /// The servers whose replies are awaited.
-    pub awaited: List<ServerId>,
-    /// The newer versions that earlier rounds met at the master.
-    pub mets: List<Met>,
-}
 
 /// What a coordinator awaits: its whole outstanding request.
 #[derive(Drop)]
@@ -269,7 +249,7 @@ impl Coordinator {
         sent_alone(alloc, letter)
     }
 
-    /// After the query of this number the next one is asked; after the last the servers are to prepare.
+    /// After the query of this number the next one is asked; after the last the rounds at commit begin.
     fn goes_on(
         &mut self,
         alloc: Global,
@@ -281,7 +261,7 @@ impl Coordinator {
     {
         let next = number.saturating_add(1);
         match self.home_of(scenario, next) {
-            None => self.asks(alloc),
+            None => self.begins_rounds(alloc),
             Some(server) => self.sends_query(alloc, scenario, next, server),
         }
     }
@@ -360,290 +340,6 @@ impl Coordinator {
         self.epochs.put(server.0 as usize, Some(done.epoch));
         Ok(())
     }
-
-    fn first_round(&self, alloc: Global) -> Result<Round, NoMemory>
-        ensures { IfOk result (λ round. round ≡ row.first_round self.now) }
-    {
-        Ok(Round {
-            number: 1,
-            aim: None,
-            kept: List::new(alloc),
-            awaited: self.servers.try_clone(alloc)?,
-            mets: List::new(alloc),
-        })
-    }
-
-    fn asks(&mut self, alloc: Global) -> Result<Reaction, NoMemory>
-        ensures { IfOk result (λ reaction. Gives (row.asks self.old) self.new reaction) }
-    {
-        let turn = self.next_turn();
-        let round = self.first_round(alloc)?;
-        let letter = Letter {
-            from: Actor::Coordinator(self.txn),
-            to: Actor::Authority,
-            body: Body::Ask(AskRequest {
-                txn: self.txn,
-                turn,
-            }),
-        };
-        self.turn = turn;
-        self.phase = Phase::Asking { round };
-        sent_alone(alloc, letter)
-    }
-
-    fn epoch_of(&self, server: ServerId) -> u64
-        ensures { result ≡ row.epoch_of self.now server }
-    {
-        self.epoch_told(server).unwrap_or(0)
-    }
-
-    fn prepare_letter(
-        &self,
-        alloc: Global,
-        staple: &Staple,
-        server: ServerId,
-    ) -> Result<Letter, NoMemory>
-        ensures { IfOk result (λ letter. letter ≡ row.prepare_letter self.now staple.now server) }
-    {
-        let prepare = PrepareRequest {
-            txn: self.txn,
-            turn: self.next_turn(),
-            epoch: self.epoch_of(server),
-            staple: Some(staple.try_clone(alloc)?),
-            want: List::new(alloc),
-        };
-        Ok(self.request(server, Body::Prepare(prepare)))
-    }
-
-    fn prepare_letters(
-        &self,
-        alloc: Global,
-        staple: &Staple,
-        servers: &[ServerId],
-    ) -> Result<List<Letter>, NoMemory>
-        ensures { IfOk result (λ letters.
-            letters ≡ map (row.prepare_letter self.now staple.now) servers.now) }
-    {
-        let mut letters = List::new(alloc);
-        for server in servers {
-            letters.push(self.prepare_letter(alloc, staple, *server)?)?;
-        }
-        Ok(letters)
-    }
-
-    fn on_tell(
-        &mut self,
-        alloc: Global,
-        sent: Place,
-        tell: &TellReply,
-    ) -> Result<Reaction, NoMemory>
-        ensures { IfOk result (λ reaction.
-            Gives (row.on_tell self.old self.old.phase sent tell.now) self.new reaction) }
-    {
-        if tell.turn != self.turn {
-            return Ok(ignored(alloc));
-        }
-        match &self.phase {
-            Phase::Asking { round } if round.aim.is_none() => {}
-            Phase::Asking { .. } => return Ok(unbuilt(alloc)),
-            _ => return Ok(ignored(alloc)),
-        }
-        let staple = Staple {
-            place: sent,
-            clock: tell.clock,
-            revoked: tell.revoked.try_clone(alloc)?,
-        };
-        match mem::replace(&mut self.phase, Phase::Idle) {
-            Phase::Asking { round } => self.prepares(alloc, round, staple),
-            other => {
-                self.phase = other;
-                Ok(ignored(alloc))
-            }
-        }
-    }
-
-    fn prepares(
-        &mut self,
-        alloc: Global,
-        round: Round,
-        staple: Staple,
-    ) -> Result<Reaction, NoMemory>
-        ensures { IfOk result (λ reaction.
-            Gives (row.prepares self.old round staple) self.new reaction) }
-    {
-        let letters = self.prepare_letters(alloc, &staple, round.awaited.as_slice())?;
-        self.turn = self.next_turn();
-        self.phase = Phase::Checking { round, staple };
-        Ok(Reaction {
-            append: None,
-            letters,
-        })
-    }
-
-    fn on_vote(
-        &mut self,
-        alloc: Global,
-        from: Actor,
-        reply: &VoteReply,
-    ) -> Result<Reaction, NoMemory>
-        ensures { IfOk result (λ reaction.
-            Gives (row.on_vote self.old self.old.phase from reply.now) self.new reaction) }
-    {
-        let Actor::Server(server) = from else {
-            return Ok(ignored(alloc));
-        };
-        if reply.turn != self.turn || !awaits_vote(&self.phase, server) {
-            return Ok(ignored(alloc));
-        }
-        let verdicts = match &reply.vote {
-            Vote::Yes(verdicts) => verdicts,
-            Vote::No(why) => return self.on_no(alloc, server, *why),
-        };
-        match mem::replace(&mut self.phase, Phase::Idle) {
-            Phase::Checking { round, staple } => self.voted(alloc, round, staple, server, verdicts),
-            other => {
-                self.phase = other;
-                Ok(ignored(alloc))
-            }
-        }
-    }
-
-    /// A vote NO of a server that is awaited ends the transaction at once.
-    fn on_no(&mut self, alloc: Global, server: ServerId, why: No) -> Result<Reaction, NoMemory>
-        ensures { IfOk result (λ reaction.
-            Gives (row.vote_at self.old self.old.phase server (vote.No why)) self.new reaction) }
-    {
-        if !matches!(self.phase, Phase::Checking { .. }) {
-            return Ok(ignored(alloc));
-        }
-        match why {
-            No::Range { query, value } => self.aborts(
-                alloc,
-                Cause::No(OutOfRange {
-                    query,
-                    server,
-                    value,
-                }),
-            ),
-            No::Restarted => Ok(unbuilt(alloc)),
-        }
-    }
-
-    fn voted(
-        &mut self,
-        alloc: Global,
-        round: Round,
-        staple: Staple,
-        server: ServerId,
-        verdicts: &List<Verdict>,
-    ) -> Result<Reaction, NoMemory>
-        ensures { IfOk result (λ reaction.
-            Gives
-            (row.on_vote_of
-            (record self.old { phase = Phase.Checking round staple }) round staple server
-            (vote.Yes verdicts.now))
-            self.new reaction) }
-    {
-        let left = without(alloc, round.awaited.as_slice(), server)?;
-        if !left.is_empty() {
-            let round = with_reply(alloc, round, server, verdicts, left)?;
-            self.phase = Phase::Checking { round, staple };
-            return Ok(nothing(alloc));
-        }
-        if !round.kept.is_empty() || !have_one_version(verdicts.as_slice()) {
-            self.phase = Phase::Checking { round, staple };
-            return Ok(unbuilt(alloc));
-        }
-        if let Some(verdict) = first_false(verdicts.as_slice()) {
-            return self.aborts(alloc, Cause::Denied(denied_by(verdict)));
-        }
-        self.commits(alloc, round.number, verdicts)
-    }
-
-    fn aborts(&mut self, alloc: Global, why: Cause) -> Result<Reaction, NoMemory>
-        ensures { IfOk result (λ reaction. Gives (row.aborts self.old why) self.new reaction) }
-    {
-        self.decides(alloc, Outcome::Abort, Decision::Abort(why))
-    }
-
-    fn commits(
-        &mut self,
-        alloc: Global,
-        rounds: u32,
-        proofs: &List<Verdict>,
-    ) -> Result<Reaction, NoMemory>
-        ensures { IfOk result (λ reaction.
-            Gives (row.commits self.old rounds proofs.now) self.new reaction) }
-    {
-        self.instances.push(Instance {
-            reading: None,
-            proofs: proofs.try_clone(alloc)?,
-        })?;
-        let commit = CommitRecord {
-            rounds,
-            instances: self.instances.try_clone(alloc)?,
-            deeds: self.deeds.try_clone(alloc)?,
-        };
-        self.decides(alloc, Outcome::Commit, Decision::Commit(commit))
-    }
-
-    fn decides(
-        &mut self,
-        alloc: Global,
-        outcome: Outcome,
-        decision: Decision,
-    ) -> Result<Reaction, NoMemory>
-        ensures { IfOk result (λ reaction.
-            Gives (row.decides self.old outcome decision) self.new reaction) }
-    {
-        let letters = self.decide_letters(alloc, outcome)?;
-        self.phase = Phase::Ending {
-            outcome,
-            awaited: self.servers.try_clone(alloc)?,
-        };
-        let decided = Record::Decided(Decided {
-            txn: self.txn,
-            decision,
-        });
-        Ok(Reaction {
-            append: Some(decided),
-            letters,
-        })
-    }
-
-    fn decide_letters(&self, alloc: Global, outcome: Outcome) -> Result<List<Letter>, NoMemory>
-        ensures { IfOk result (λ letters. letters ≡ row.decide_letters self.now outcome) }
-    {
-        let mut letters = List::new(alloc);
-        for server in self.servers.as_slice() {
-            let decide = DecideRequest {
-                txn: self.txn,
-                outcome,
-            };
-            letters.push(self.request(*server, Body::Decide(decide)))?;
-        }
-        Ok(letters)
-    }
-
-    fn on_ack(&mut self, alloc: Global, from: Actor) -> Result<Reaction, NoMemory>
-        ensures { IfOk result (λ reaction.
-            Gives (row.on_ack self.old self.old.phase from) self.new reaction) }
-    {
-        let Actor::Server(server) = from else {
-            return Ok(ignored(alloc));
-        };
-        match mem::replace(&mut self.phase, Phase::Idle) {
-            Phase::Ending { outcome, awaited } => {
-                let awaited = without(alloc, awaited.as_slice(), server)?;
-                self.phase = Phase::Ending { outcome, awaited };
-                Ok(nothing(alloc))
-            }
-            other => {
-                self.phase = other;
-                Ok(ignored(alloc))
-            }
-        }
-    }
 }
 
 fn servers_at(alloc: Global, scenario: &Scenario, txn: TxnId) -> Result<List<ServerId>, NoMemory>
@@ -696,96 +392,5 @@ fn is_plain(phase: &Phase) -> bool
             ..
         } => false,
         _ => true,
-    }
-}
-
-fn awaits_vote(phase: &Phase, server: ServerId) -> bool
-    ensures { result ≡ row.awaits_vote phase.now server }
-{
-    match phase {
-        Phase::Checking { round, staple: _ } => is_awaited(round.awaited.as_slice(), server),
-        _ => false,
-    }
-}
-
-fn is_awaited(awaited: &[ServerId], server: ServerId) -> bool
-    ensures { result ≡ row.is_awaited awaited.now server }
-{
-    awaited.iter().any(|other| other.0 == server.0)
-}
-
-fn without(
-    alloc: Global,
-    awaited: &[ServerId],
-    server: ServerId,
-) -> Result<List<ServerId>, NoMemory>
-    ensures { IfOk result (λ left. left ≡ row.without awaited.now server) }
-{
-    let left: Vec<ServerId> = awaited
-        .iter()
-        .copied()
-        .filter(|other| other.0 != server.0)
-        .collect(alloc)?;
-    Ok(List::from_vec(left))
-}
-
-fn with_reply(
-    alloc: Global,
-    round: Round,
-    server: ServerId,
-    verdicts: &List<Verdict>,
-    left: List<ServerId>,
-) -> Result<Round, NoMemory>
-    ensures { IfOk result (λ made.
-        made
-        ≡ record round {
-          kept = round.kept ++ record { server = server; verdicts = verdicts.now } ∷ [];
-          awaited = left;
-        }) }
-{
-    let mut round = round;
-    round.kept.push(Reply {
-        server,
-        verdicts: verdicts.try_clone(alloc)?,
-    })?;
-    round.awaited = left;
-    Ok(round)
-}
-
-fn agrees(one: &Verdict, other: &Verdict) -> bool
-    ensures { result ≡ row.agrees one.now other.now }
-{
-    one.admin.0 != other.admin.0 || one.version.0 == other.version.0
-}
-
-fn agrees_with_all(one: &Verdict, verdicts: &[Verdict]) -> bool
-    ensures { result ≡ list_all (row.agrees one.now) verdicts.now }
-{
-    verdicts.iter().all(|other| agrees(one, other))
-}
-
-fn have_one_version(verdicts: &[Verdict]) -> bool
-    ensures { result ≡ row.have_one_version verdicts.now }
-{
-    verdicts.iter().all(|one| agrees_with_all(one, verdicts))
-}
-
-/// The first false verdict.
-fn first_false(verdicts: &[Verdict]) -> Option<&Verdict>
-    ensures { option_copied result ≡ row.first_false verdicts.now }
-{
-    verdicts.iter().find(|verdict| verdict.rule.is_none())
-}
-
-/// What a false verdict denies.
-fn denied_by(verdict: &Verdict) -> Denied
-    ensures { result ≡ row.denied_by verdict.now }
-{
-    Denied {
-        query: verdict.query,
-        server: verdict.server,
-        admin: verdict.admin,
-        version: verdict.version,
-        place: verdict.place,
     }
 }

@@ -19,7 +19,7 @@ pub mod views;
 mod world;
 
 pub use actors::Actors;
-pub use coord::{Coordinator, Phase, Reply, Round};
+pub use coord::{Coordinator, Phase};
 pub use error::StepError;
 pub use history::History;
 pub use part::{Act, Part};

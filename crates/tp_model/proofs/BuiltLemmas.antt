@@ -1,15 +1,10 @@
--- What the present stage gives of a scenario: one server, and at most one transaction, which is plain.
+-- What the present stage gives of a scenario: at most one transaction, which is plain.
 use Rattle.std.proofs.Common.{◌≡◌, ◌≤◌, true, List, [], ◌∷◌, length, Some, refl, slice_get, subst, zero, suc, ℕ, arith}
 use Rattle.std.proofs.lemmas.Option.{same_Some}
-use Rattle.tp_model.specs.Words.{Admin, Scenario, ServerDecl, Transaction}
+use Rattle.tp_model.specs.Words.{Scenario, Transaction}
 use Rattle.tp_model.specs.Built.{is_built}
-use Rattle.tp_model.specs.Stage.{has_one_server, has_plain_txns, is_plain_txn}
+use Rattle.tp_model.specs.Stage.{has_plain_txns, is_plain_txn}
 use Rattle.tp_model.proofs.RuleLemmas.{stage_built}
-
-one_server : (admins : List Admin) (servers : List ServerDecl) → has_one_server admins servers ≡ true → length servers ≡ 1
-one_server admins [] h = absurd (cc)
-one_server admins (server ∷ []) h = refl
-one_server admins (server ∷ other ∷ others) h = absurd (cc)
 
 few_plain : (txns : List Transaction) → has_plain_txns txns ≡ true → length txns ≤ 1
 few_plain [] h = omega arith
@@ -21,10 +16,6 @@ plain_at [] n txn h e = absurd (cc)
 plain_at (first ∷ []) zero txn h e = subst (λ (t : Transaction). is_plain_txn t ≡ true) (same_Some first txn e) h
 plain_at (first ∷ []) (suc n) txn h e = absurd (cc)
 plain_at (first ∷ other ∷ others) n txn h e = absurd (cc)
-
--- there is one server
-pub length-servers_built : (sc : Scenario) → is_built sc ≡ true → length sc.servers ≡ 1
-length-servers_built sc h = one_server sc.admins sc.servers (stage_built sc h).servers
 
 -- there is at most one transaction
 pub length-txns_built : (sc : Scenario) → is_built sc ≡ true → length sc.txns ≤ 1

@@ -1,25 +1,11 @@
--- What of a valid scenario is built so far: one server that knows the opening versions; at most one transaction, deferred under view; and
--- steps that submit, tick, revoke, or deliver a mail for the first time. It widens as more is built, and then is no condition any more.
-use Rattle.std.specs.Prelude.{◌&&◌, ◌==◌, ◌++◌, ℕ, List, [], ◌∷◌, Bool, true, false, not, nat_le}
+-- What of a valid scenario is built so far: at most one transaction, deferred under view; and steps that submit, publish, push, tick,
+-- revoke, or deliver a mail for the first time. It widens as more is built, and then is no condition any more.
+use Rattle.std.specs.Prelude.{◌&&◌, ◌==◌, ◌++◌, ℕ, List, [], ◌∷◌, Bool, true, false, not}
 use Rattle.std.specs.List.{list_any}
-use Rattle.tp_model.specs.Words.{Admin, Level, Scenario, Scheme, ServerDecl, Step, Transaction, Version}
+use Rattle.tp_model.specs.Words.{Level, Scenario, Scheme, Step, Transaction}
 use Rattle.tp_model.specs.Words.level
 use Rattle.tp_model.specs.Words.scheme
 use Rattle.tp_model.specs.Words.step
-
--- ---- servers
-
--- of no administrator is less than the opening version known
-abbrev pub knows_openings : List Admin → List Version → Bool
-knows_openings [] versions = true
-knows_openings (admin ∷ admins) [] = true
-knows_openings (admin ∷ admins) (version ∷ versions) =
-    nat_le admin.opening.0 version.0 && knows_openings admins versions
-
--- there is one server, and it knows the opening versions
-abbrev pub has_one_server : List Admin → List ServerDecl → Bool
-has_one_server admins (server ∷ []) = knows_openings admins server.knows
-has_one_server admins _ = false
 
 -- ---- transactions
 
@@ -43,9 +29,11 @@ has_plain_txns _ = false
 
 -- ---- steps
 
--- after the deliveries of these mails: a submission, a tick, a revocation, or the first delivery of a mail
+-- after the deliveries of these mails: a submission, a publication, a push, a tick, a revocation, or the first delivery of a mail
 abbrev pub is_plain_step : List ℕ → Step → Bool
 is_plain_step delivered (step.Submit txn) = true
+is_plain_step delivered (step.Publish admin) = true
+is_plain_step delivered (step.Push admin server) = true
 is_plain_step delivered (step.Tick by) = true
 is_plain_step delivered (step.Revoke cred) = true
 is_plain_step delivered (step.Deliver mail) = not (list_any (λ other. mail == other) delivered)
@@ -67,5 +55,4 @@ are_plain_steps delivered (taken ∷ steps) =
 -- the scenario has no form that is not built
 abbrev pub is_stage : Scenario → Bool
 is_stage scenario =
-    has_one_server scenario.admins scenario.servers && has_plain_txns scenario.txns
-    && are_plain_steps [] scenario.steps
+    has_plain_txns scenario.txns && are_plain_steps [] scenario.steps

@@ -33,6 +33,13 @@ impl Master {
         })
     }
 
+    /// Whether the library of an administrator has a version after the newest.
+    pub fn has_more(&self, admin: AdminId) -> bool
+        ensures { result ≡ office.has_more self.now admin }
+    {
+        version_in(&self.newest, admin).0 < version_in(&self.last, admin).0
+    }
+
     /// Makes the next version of an administrator's policy the newest, and answers it. NoMore exactly where the newest is the last in
     /// the library; then nothing changes. It takes no memory.
     pub fn publish(&mut self, admin: AdminId) -> Result<Version, NoMore>

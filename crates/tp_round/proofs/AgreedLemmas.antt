@@ -110,6 +110,17 @@ true_where false true false mets wanted first e = cc
 true_where false false spent mets wanted None e = (refl, refl)
 true_where false false spent mets wanted (Some verdict) e = cc
 
+answered_where : (waits out spent : Bool) (mets : List Met) (wanted : List Wanted) (first : Option Verdict)
+    → cond waits Waiting (cond out (cond spent (Spent mets) (Update wanted)) (final_answer first)) ≡ AllTrue → waits ≡ false
+answered_where true out spent mets wanted first e = cc
+answered_where false out spent mets wanted first e = refl
+
+-- where the answer is that all is true, nothing is missing
+pub all_answered : (round : Round) (reading : Option Reading) → judge round reading ≡ AllTrue → is_waiting round reading ≡ false
+all_answered round reading e =
+    answered_where (is_waiting round reading) (list_any (is_outdated (aim_in round reading)) round.targets) (is_spent round (met_in round reading)) (mets_in round (met_in round reading))
+    (wants_of (aim_in round reading) round.targets) (least_false (proofs_in round.targets)) e
+
 pub all_agree : (round : Round) (reading : Option Reading) → judge round reading ≡ AllTrue → AllAgree round reading
 all_agree round reading e =
     let met : Option Met = met_in round reading in

@@ -61,7 +61,7 @@ servers_renewed aim (target ∷ targets) =
     ap (λ server. server ∷ map server_of (map (next_target aim) targets)) (same_server_where target (is_outdated aim target))
     ∙ ap (λ servers. target.server ∷ servers) (servers_renewed aim targets)
 
-same_servers : (one other : ServerId) → same_server one other ≡ true → one ≡ other
+pub same_servers : (one other : ServerId) → same_server one other ≡ true → one ≡ other
 same_servers one other e = let make : ℕ → ServerId = λ n. record { 0 = n } in ap make (eqb-true one.0 other.0 e)
 
 servers_where : (target : Target) (targets more : List Target) (server : ServerId) (verdicts : List Verdict) (b : Bool) → awaits server target ≡ b

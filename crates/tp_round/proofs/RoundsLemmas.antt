@@ -124,7 +124,8 @@ pub aim_at : (f : AdminId → ℕ) (admins : List AdminId) → list_all (is_want
 aim_at f [] = refl
 aim_at f (admin ∷ admins) = and_from (f admin == f admin) (list_all (is_wanted_at f) (map (aimed_at f) admins)) (number_itself (f admin)) (aim_at f admins)
 
-all_wanted : (f : AdminId → ℕ) (aim : List (AdminId × Version)) (targets : List Target) → list_all (is_wanted_at f) aim ≡ true
+-- so has what is wanted of each server
+pub all_wanted : (f : AdminId → ℕ) (aim : List (AdminId × Version)) (targets : List Target) → list_all (is_wanted_at f) aim ≡ true
     → list_all (are_wanted_at f) (map (want_of aim) targets) ≡ true
 all_wanted f aim [] all = refl
 all_wanted f aim (target ∷ targets) all =
@@ -153,15 +154,15 @@ renewed_at f aim (target ∷ targets) all =
 -- ---- what every run keeps
 
 -- after the first update the kept replies and what was named have the versions of its targets
-record IsSecond (round : Round) : Type 0 where
-  number : round.number ≡ 2
-  aimed : AdminId → ℕ
-  kept : list_all (are_at aimed) round.targets ≡ true
-  named : list_all (are_wanted_at aimed) round.named ≡ true
+pub record IsSecond (round : Round) : Type 0 where
+  pub number : round.number ≡ 2
+  pub aimed : AdminId → ℕ
+  pub kept : list_all (are_at aimed) round.targets ≡ true
+  pub named : list_all (are_wanted_at aimed) round.named ≡ true
 
-record Keeps (round : Round) : Type 0 where
-  view : (admin : AdminId) → is_global_at round.levels admin ≡ false
-  count : (round.number ≡ 1) ⊎ IsSecond round
+pub record Keeps (round : Round) : Type 0 where
+  pub view : (admin : AdminId) → is_global_at round.levels admin ≡ false
+  pub count : (round.number ≡ 1) ⊎ IsSecond round
 
 -- ---- nobody is out of date in the second round
 
@@ -201,7 +202,7 @@ second_where true differs same = cc
 second_where false differs same = cc
 
 -- an update comes only in the first round
-first_only : (round : Round) (reading : Option Reading) (named : List Wanted) → Keeps round → judge round reading ≡ Update named → (round.number ≡ 1) ⊎ IsSecond round → round.number ≡ 1
+pub first_only : (round : Round) (reading : Option Reading) (named : List Wanted) → Keeps round → judge round reading ≡ Update named → (round.number ≡ 1) ⊎ IsSecond round → round.number ≡ 1
 first_only round reading named keeps e (inl first) = first
 first_only round reading named keeps e (inr second) =
     let is = updated round reading named e in
@@ -210,7 +211,8 @@ first_only round reading named keeps e (inr second) =
 
 -- ---- one call
 
-number_two : (round : Round) → round.number ≡ 1 → min (round.number + 1) (2 ^ 32 - 1) ≡ 2
+-- the round after the first is the second
+pub number_two : (round : Round) → round.number ≡ 1 → min (round.number + 1) (2 ^ 32 - 1) ≡ 2
 number_two round e = ap (λ n. min (n + 1) (2 ^ 32 - 1)) e
 
 update_keeps : (round : Round) (reading : Option Reading) (named : List Wanted) → Keeps round → judge round reading ≡ Update named

@@ -49,3 +49,9 @@ never_spent round reading mets view e =
     let never : is_spent round met ≡ false = ap (is_spent round) (nothing_met round reading view) in
     spent_where (is_waiting round reading) (list_any (is_outdated (aim_in round reading)) round.targets) (is_spent round met) (mets_in round met) mets
     (wants_of (aim_in round reading) round.targets) (least_false (proofs_in round.targets)) never e
+
+-- nor are they where the master was not read
+pub unread_unspent : (round : Round) (mets : List Met) → judge round None ≡ Spent mets → ⊥
+unread_unspent round mets e =
+    spent_where (is_waiting round None) (list_any (is_outdated (aim_in round None)) round.targets) (is_spent round None) (mets_in round None) mets
+    (wants_of (aim_in round None) round.targets) (least_false (proofs_in round.targets)) refl e

@@ -1,9 +1,8 @@
 //! A round: which servers are asked, what they replied, and what is judged of it.
 ghost use Rattle.std.specs.Prelude.{◌≡◌, ◌≤◌, ◌++◌, [], map, option_to_list, IfOk, OnOk, OnErr, false};
-ghost use Rattle.std.specs.List.{list_any, IsDistinct};
+ghost use Rattle.std.specs.List.{list_any};
 ghost use Rattle.std.specs.Option.{option_copied};
 ghost use Rattle.tp_types.specs.declared.scenario.Level.TheVariants as level_of;
-ghost use Rattle.tp_model.specs.Ids.{same_server};
 ghost use Rattle.tp_round.specs.declared.round.Judged.TheVariants as judged;
 ghost use Rattle.tp_round.specs.Judge as rule;
 ghost use Rattle.tp_round.specs.Replies as replies;
@@ -131,7 +130,8 @@ fn with_met(alloc: Global, mets: &List<Met>, met: Option<Met>) -> Result<List<Me
 }
 
 impl Round {
-    /// The first round over these servers, none of which stands twice. Their replies are awaited, and the room for them is made here.
+    /// The first round over these servers, which are to differ: of one that stands twice two replies are awaited. The room for replies is made
+    /// here.
     /// Of rounds that read the master at most `limit` may meet a newer version, from 1 to 16. The level is view consistency so far.
     pub fn start(
         alloc: Global,
@@ -139,7 +139,6 @@ impl Round {
         limit: u32,
         level: Level,
     ) -> Result<Round, NoMemory>
-        requires distinct { IsDistinct same_server targets.now }
         requires some { 1 ≤ limit }
         requires few { limit ≤ 16 }
         requires view { level ≡ level_of.View }
@@ -173,6 +172,15 @@ impl Round {
         };
         self.targets.put(at, kept);
         true
+    }
+
+    /// Whether the server's reply is awaited.
+    pub fn awaits(&self, server: ServerId) -> bool
+        ensures { result ≡ rule.is_awaited self.now.targets server }
+    {
+        self.targets
+            .iter()
+            .any(|target| target.server == server && target.reply.is_none())
     }
 
     fn is_waiting(&self, reading: Option<&Reading>) -> bool

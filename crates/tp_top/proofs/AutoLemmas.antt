@@ -152,6 +152,9 @@ gives_up old new taken (error.NoSuchMail mail mails) ok refused memory =
 gives_up old new taken (error.AlreadySubmitted txn) ok refused memory =
     let r = refused (λ h. cc) in
     absurd (cc (ok, r.reason))
+gives_up old new taken (error.NoMore admin) ok refused memory =
+    let r = refused (λ h. cc) in
+    absurd (cc (ok, r.reason))
 gives_up old new taken (error.TooLate clock) ok refused memory =
     let r = refused (λ h. cc) in
     absurd (cc (ok, r.reason))

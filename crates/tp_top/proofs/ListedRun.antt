@@ -9,7 +9,7 @@ use Rattle.tp_model.specs.Words.step
 use Rattle.tp_model.specs.Built.{is_built}
 use Rattle.tp_model.specs.Limits.{has_count}
 use Rattle.tp_model.specs.Stage.{are_plain_steps, delivered_after, is_plain_step}
-use Rattle.tp_model.specs.Valid.{is_valid_step}
+use Rattle.tp_model.specs.Valid.{is_admin, is_server, is_valid_step}
 use Rattle.tp_model.proofs.RuleLemmas.{stage_built, valid_built}
 use Rattle.tp_machine.specs.declared.error.StepError.{StepError}
 use Rattle.tp_machine.specs.Machine.{Machine, after_steps, machine_after, refusal}
@@ -33,8 +33,9 @@ plain_exists sc delivered (step.Submit txn) valid plain = low_is _ _ valid
 plain_exists sc delivered (step.Tick by) valid plain = tt
 plain_exists sc delivered (step.Revoke cred) valid plain = low_is _ _ valid
 plain_exists sc delivered (step.Deliver mail) valid plain = tt
-plain_exists sc delivered (step.Publish admin) valid plain = absurd (cc)
-plain_exists sc delivered (step.Push admin server) valid plain = absurd (cc)
+plain_exists sc delivered (step.Publish admin) valid plain = low_is _ _ valid
+plain_exists sc delivered (step.Push admin server) valid plain =
+    let parts = and_parts (is_admin sc admin) (is_server sc server) valid in (low_is _ _ parts.0, low_is _ _ parts.1)
 plain_exists sc delivered (step.Lose mail) valid plain = absurd (cc)
 plain_exists sc delivered (step.Crash who cut) valid plain = absurd (cc)
 plain_exists sc delivered (step.Boot who) valid plain = absurd (cc)
@@ -46,8 +47,8 @@ plain_kind delivered (step.Submit txn) plain = tt
 plain_kind delivered (step.Tick by) plain = tt
 plain_kind delivered (step.Revoke cred) plain = tt
 plain_kind delivered (step.Deliver mail) plain = tt
-plain_kind delivered (step.Publish admin) plain = absurd (cc)
-plain_kind delivered (step.Push admin server) plain = absurd (cc)
+plain_kind delivered (step.Publish admin) plain = tt
+plain_kind delivered (step.Push admin server) plain = tt
 plain_kind delivered (step.Lose mail) plain = absurd (cc)
 plain_kind delivered (step.Crash who cut) plain = absurd (cc)
 plain_kind delivered (step.Boot who) plain = absurd (cc)

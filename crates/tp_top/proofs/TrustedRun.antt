@@ -12,7 +12,7 @@ use Rattle.tp_model.specs.TrustedHistory.{TrustedHistory, TrustedSoFar}
 use Rattle.tp_machine.specs.declared.error.StepError.{StepError}
 use Rattle.tp_machine.specs.declared.error.StepError.TheVariants as error
 use Rattle.tp_machine.specs.Laws.{HasAllCommits, IsTrustedState}
-use Rattle.tp_machine.specs.Machine.{Machine, Move, State, after, after_step, after_steps, delivery, ending_of, idle_move, is_submitted, machine_after, mails_of, opening, refusal, revokes, state_after, submission, ticks, with_new, without_number}
+use Rattle.tp_machine.specs.Machine.{Machine, Move, State, after, after_step, after_steps, delivery, ending_of, idle_move, is_submitted, machine_after, mails_of, opening, publishes, pushes, refusal, revokes, state_after, submission, ticks, with_new, without_number}
 use Rattle.tp_machine.specs.Seen.{IsBuiltStep}
 use Rattle.tp_machine.specs.Sound.{Each, IsStepOf, IsTxn}
 use Rattle.tp_machine.proofs.basics.Machine.{steps_next}
@@ -54,6 +54,8 @@ sent_next sc m (step.Deliver mail) h =
     sent_after m.state (step.Deliver mail) (delivery sc m.state.actors (slice_get m.state.mails mail)) (without_number m.undelivered mail) (sent_without m.state m.undelivered mail h)
 sent_next sc m (step.Lose mail) h =
     sent_after m.state (step.Lose mail) (idle_move m.state.actors (what.Lost mail ∷ [])) (without_number m.undelivered mail) (sent_without m.state m.undelivered mail h)
+sent_next sc m (step.Publish admin) h = sent_after m.state (step.Publish admin) (publishes m.state.actors admin) m.undelivered h
+sent_next sc m (step.Push admin server) h = sent_after m.state (step.Push admin server) (pushes m.state.actors admin server) m.undelivered h
 sent_next sc m (step.Tick by) h = sent_after m.state (step.Tick by) (ticks m.state.actors by) m.undelivered h
 sent_next sc m (step.Revoke cred) h = sent_after m.state (step.Revoke cred) (revokes m.state.actors cred) m.undelivered h
 sent_next sc m _ h = h

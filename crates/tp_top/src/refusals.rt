@@ -3,7 +3,7 @@ ghost use Rattle.std.specs.Prelude.{◌≡◌, ◌++◌, IfOk, OnOk, codes};
 ghost use Rattle.tp_top.specs.Refusals as refusals;
 
 use crate::listed::StepRefusal;
-use crate::report::piece::{put, put_number, put_txn};
+use crate::report::piece::{put, put_admin, put_number, put_txn};
 use itoa::Integer;
 use std::alloc::Global;
 use tp_machine::StepError;
@@ -98,6 +98,10 @@ fn put_step_fault(line: &mut Vec<u8>, scenario: &Scenario, why: StepError) -> Re
         StepError::AlreadySubmitted { txn } => {
             put(line, b" submitted ")?;
             put_txn(line, scenario, txn)
+        }
+        StepError::NoMore { admin } => {
+            put(line, b" nomore ")?;
+            put_admin(line, scenario, admin)
         }
         StepError::TooLate { clock } => put_after(line, b" toolate ", clock),
         StepError::NoMemory => put(line, b""),

@@ -14,6 +14,7 @@ use Rattle.tp_machine.specs.Machine.{with_age}
 use Rattle.tp_machine.specs.Runs.{deed_of}
 use Rattle.tp_machine.specs.Sound.{Each, EachPlaced}
 use Rattle.tp_machine.specs.coord.Row as coord
+use Rattle.tp_round.specs.declared.round.Round.{Round}
 use Rattle.tp_machine.specs.coord.State.{Coordinator}
 use Rattle.tp_machine.specs.declared.server.Entry.{Entry}
 use Rattle.tp_machine.specs.server.Row as server
@@ -106,9 +107,9 @@ told_age : (A : TxnId → ℕ → Type 0) (txn : TxnId) (age : Option ℕ) (plac
 told_age A txn None place e h = absurd (cc)
 told_age A txn (Some old) place e h = h
 
-prepare_letters_aged : (A : TxnId → ℕ → Type 0) (place : ℕ) (c : Coordinator) (staple : Staple) (servers : List ServerId) → Each (LetterAged A place) (map (coord.prepare_letter c staple) servers)
-prepare_letters_aged A place c staple [] = tt
-prepare_letters_aged A place c staple (at ∷ servers) = (tt, prepare_letters_aged A place c staple servers)
+prepare_letters_aged : (A : TxnId → ℕ → Type 0) (place : ℕ) (c : Coordinator) (round : Round) (staple : Staple) (servers : List ServerId) → Each (LetterAged A place) (map (coord.prepare_letter c round staple) servers)
+prepare_letters_aged A place c round staple [] = tt
+prepare_letters_aged A place c round staple (at ∷ servers) = (tt, prepare_letters_aged A place c round staple servers)
 
 orders_aged : (A : TxnId → ℕ → Type 0) (place : ℕ) (c : Coordinator) (ended : Outcome) (servers : List ServerId)
     → Each (LetterAged A place) (map (λ (at : ServerId). coord.request c at (body.Decide (record { txn = c.txn; outcome = ended }))) servers)
@@ -125,13 +126,14 @@ coordinator_row_ages A place sc c mail h =
           let known = h.known (querying_is c c.phase done k.awaited) in
           record { same_age = refl; known = λ querying. known; same_txn = refl; letters = (told_age A c.txn c.age place known h.age, tt) };
       ran_last = λ done server asked value k none. record { same_age = refl; known = λ querying. absurd (cc); same_txn = refl; letters = (tt, tt) };
-      told_first = λ tell round k.
-          record { same_age = refl; known = λ querying. absurd (cc); same_txn = refl; letters = prepare_letters_aged A place c (coord.staple_of tell mail.sent) round.awaited };
-      counted = λ reply round staple server verdicts other others y e. record { same_age = refl; known = λ querying. absurd (cc); same_txn = refl; letters = tt };
-      committed = λ reply round staple server verdicts y e first agreed.
+      told = λ tell round k.
+          record { same_age = refl; known = λ querying. absurd (cc); same_txn = refl; letters = prepare_letters_aged A place c round (coord.staple_of tell mail.sent) (coord.awaited_in round) };
+      counted = λ reply round staple server verdicts y e. record { same_age = refl; known = λ querying. absurd (cc); same_txn = refl; letters = tt };
+      committed = λ reply round staple server verdicts y e.
           record { same_age = refl; known = λ querying. absurd (cc); same_txn = refl; letters = orders_aged A place c outcome.Commit c.servers };
-      denied = λ reply round staple server verdicts verdict y e f.
+      denied = λ reply round staple server verdicts verdict y e.
           record { same_age = refl; known = λ querying. absurd (cc); same_txn = refl; letters = orders_aged A place c outcome.Abort c.servers };
+      updated = λ reply round staple server verdicts named y e. record { same_age = refl; known = λ querying. absurd (cc); same_txn = refl; letters = (tt, tt) };
       refused = λ reply round staple server number value k.
           record { same_age = refl; known = λ querying. absurd (cc); same_txn = refl; letters = orders_aged A place c outcome.Abort c.servers };
       acknowledged = λ ack ended awaited server a. record { same_age = refl; known = λ querying. absurd (cc); same_txn = refl; letters = tt };

@@ -186,9 +186,10 @@ newest_no_age : (A : TxnId → ℕ → Type 0) (place : ℕ) (held : Master) (sa
 newest_no_age A place held (body.Probe probe) = (tt, tt)
 newest_no_age A place held _ = tt
 
--- the authority alone acts
-authority_ages : (w : State) (taken : Step) (authority : Authority) (happened : List What) → Ages w → MoveAges w taken (record { actors = record w.actors { authority = authority }; happened = happened; letters = [] })
-authority_ages w taken authority happened h =
+-- the offices alone act
+offices_ages : (w : State) (taken : Step) (authority : Authority) (held : Master) (happened : List What) → Ages w
+    → MoveAges w taken (record { actors = record w.actors { authority = authority; master = held }; happened = happened; letters = [] })
+offices_ages w taken authority held happened h =
     let now = ages_now w taken h in
     record { actors_are = record { servers = now.servers; coordinators = now.coordinators; sent = now.sent }; letters = tt }
 
@@ -226,8 +227,12 @@ ages_cases sc w sound h =
           coordinator_acts_ages w taken txn part.log (Some effect.state) [] effect.reaction.append effect.reaction.letters h (aged_still (Now w taken) (length w.steps) c (coordinator_row sc c mail) t aged) t.letters;
       authority_told = λ n mail sent. record { actors_are = ages_now w (step.Deliver n) h; letters = tells_no_age (Now w (step.Deliver n)) (length w.steps) w.actors.authority mail.letter.body };
       master_told = λ n mail sent. record { actors_are = ages_now w (step.Deliver n) h; letters = newest_no_age (Now w (step.Deliver n)) (length w.steps) w.actors.master mail.letter.body };
-      ticked = λ by. authority_ages w (step.Tick by) (office.after_tick by w.actors.authority) (what.Ticked by ∷ []) h;
-      revoked = λ cred exists. authority_ages w (step.Revoke cred) (office.after_revocation cred w.actors.authority) (what.Revoked cred ∷ []) h;
+      published = λ admin exists more.
+          let now = master.published admin w.actors.master in
+          offices_ages w (step.Publish admin) w.actors.authority now (what.Published admin (master.next_of w.actors.master admin) ∷ []) h;
+      pushed = λ admin server exists there. record { actors_are = ages_now w (step.Push admin server) h; letters = (tt, tt) };
+      ticked = λ by. offices_ages w (step.Tick by) (office.after_tick by w.actors.authority) w.actors.master (what.Ticked by ∷ []) h;
+      revoked = λ cred exists. offices_ages w (step.Revoke cred) (office.after_revocation cred w.actors.authority) w.actors.master (what.Revoked cred ∷ []) h;
       begun = λ txn part c exists up new. begun_ages sc w sound h txn part c up;
     }
 

@@ -3,7 +3,7 @@
 use Rattle.std.specs.List.{list_any}
 use Rattle.std.specs.Option.{option_map_or}
 use Rattle.std.proofs.Common.{Bool, IfSome, List, None, Option, Some, [], ap, arith, cond, false, is_some, length, map, not, option_and_then, option_map, refl, slice_get, subst, suc, sym, true, zero, ℕ, ◌+◌, ◌==◌, ◌||◌, ◌∙◌, ◌∷◌, ◌≡◌}
-use Rattle.std.proofs.lemmas.Bool.{or_left, or_right}
+use Rattle.std.proofs.lemmas.Bool.{or_left}
 use Rattle.std.proofs.lemmas.Map.Keys.{any_passes_from_place}
 use Rattle.std.proofs.lemmas.Option.{same_Some}
 use Rattle.tp_types.proofs.ListLemmas.{number_itself}
@@ -22,17 +22,23 @@ use Rattle.tp_model.specs.Words.{AckReply, Actor, Body, Cause, DecideRequest, De
 use Rattle.tp_machine.proofs.basics.Homes.{IsHome, home_is}
 use Rattle.tp_machine.proofs.basics.Ids.{same_server_is}
 use Rattle.tp_machine.proofs.basics.Lists.{by_cond, each_as, each_filter}
+use Rattle.tp_machine.proofs.basics.Rounds.{EachServer, all_in, each_missing, each_renewed, each_replied, each_started, is_in, judged_whole, missing_in, none_missing, replied_is, updated_is}
 use Rattle.tp_machine.proofs.basics.Logs.{appended, decided_with}
 use Rattle.tp_machine.proofs.walks.CoordinatorRows.{IsAck, IsYes, coordinator_by, submit_by}
 use Rattle.tp_machine.specs.Logs.{decided_in, decision_in}
 use Rattle.tp_machine.specs.Machine.{log_with, with_age}
 use Rattle.tp_machine.specs.Sound.{Each}
 use Rattle.tp_machine.specs.coord.Opened.{servers_at}
-use Rattle.tp_machine.specs.coord.Row.{aborts, asks, awaits_query, commits, coordinator_row, denied_by, is_awaited, is_begun, next_number, prepare_letter, prepares, query_of, refused_by, request, sends_query, server_of, staple_of, submit_row, with_deed, without}
+use Rattle.tp_machine.specs.coord.Row.{aborts, asks, awaits_query, commit_round, commits, coordinator_row, denied_by, is_begun, next_number, prepare_letter, prepares, query_of, refused_by, request, sends_query, server_of, staple_of, submit_row, with_deed, without}
 use Rattle.tp_machine.specs.coord.State.{Coordinator}
 use Rattle.tp_machine.specs.declared.coord.Phase.TheVariants as phase
 use Rattle.tp_machine.specs.declared.coord.Phase.{Phase}
-use Rattle.tp_machine.specs.declared.coord.Round.{Round}
+use Rattle.tp_round.specs.Judge.{after_judgement, after_reply, aim_in, judge, met_in, mets_in, new_target, next_round}
+use Rattle.tp_round.specs.Replies.{by_query, proofs_in}
+use Rattle.tp_round.specs.declared.round.Judged.TheVariants as judged
+use Rattle.tp_round.specs.declared.round.Judged.{Judged}
+use Rattle.tp_round.specs.declared.round.Round.{Round}
+use Rattle.tp_round.specs.declared.round.Wanted.{Wanted}
 
 -- ---- what is kept
 
@@ -41,31 +47,35 @@ abbrev pub PhaseAgrees : Phase → Option Decision → Type 0
 PhaseAgrees (phase.Ending ended awaited) decided = option_map outcome_of decided ≡ Some ended
 PhaseAgrees _ decided = decided ≡ None
 
--- the servers whose replies a phase awaits
-abbrev pub awaited_in : Phase → List ServerId
-awaited_in (phase.Asking round) = round.awaited
-awaited_in (phase.Checking round staple) = round.awaited
-awaited_in (phase.Ending ended awaited) = awaited
-awaited_in _ = []
+-- the server has an item of the transaction
+abbrev pub HoldsItem : Scenario → TxnId → ServerId → Type 0
+HoldsItem sc txn at = has_item_at sc at txn ≡ true
 
 -- each of these servers has an item of the transaction
 abbrev pub HaveItems : Scenario → TxnId → List ServerId → Type 0
-HaveItems sc txn servers = Each (λ (at : ServerId). has_item_at sc at txn ≡ true) servers
+HaveItems sc txn servers = Each (HoldsItem sc txn) servers
 
--- a coordinator agrees with its log, its servers are those of its transaction, and it awaits no other
+-- each server that a phase speaks of has an item of the transaction
+abbrev pub PhaseHasItems : Scenario → TxnId → Phase → Type 0
+PhaseHasItems sc txn (phase.Asking round) = EachServer (HoldsItem sc txn) round.targets
+PhaseHasItems sc txn (phase.Checking round staple) = EachServer (HoldsItem sc txn) round.targets
+PhaseHasItems sc txn (phase.Ending ended awaited) = HaveItems sc txn awaited
+PhaseHasItems sc txn _ = Unit {0}
+
+-- a coordinator agrees with its log, its servers are those of its transaction, and it asks no other
 pub record CoordinatorAgrees (sc : Scenario) (c : Coordinator) (kept : List Record) : Type 0 where
   pub decided : PhaseAgrees c.phase (decided_in kept)
   pub servers : c.servers ≡ servers_at sc c.txn
-  pub awaited : HaveItems sc c.txn (awaited_in c.phase)
+  pub awaited : PhaseHasItems sc c.txn c.phase
 
 -- each of a transaction's servers that is not awaited
 abbrev pub AllBut : (ServerId → Type 0) → List ServerId → List ServerId → Type 0
-AllBut P awaited servers = Each (λ (at : ServerId). is_awaited awaited at ≡ false → P at) servers
+AllBut P awaited servers = Each (λ (at : ServerId). is_in awaited at ≡ false → P at) servers
 
 -- who has voted has prepared, and who has acknowledged has settled; P and S say who has
 abbrev pub PhaseRests : (P S : ServerId → Type 0) → Phase → List ServerId → Type 0
-PhaseRests P S (phase.Asking round) servers = AllBut P round.awaited servers
-PhaseRests P S (phase.Checking round staple) servers = AllBut P round.awaited servers
+PhaseRests P S (phase.Asking round) servers = AllBut P (missing_in round.targets) servers
+PhaseRests P S (phase.Checking round staple) servers = AllBut P (missing_in round.targets) servers
 PhaseRests P S (phase.Ending ended awaited) servers = AllBut S awaited servers
 PhaseRests P S _ servers = Unit {0}
 
@@ -196,48 +206,58 @@ asked_has_item sc c number asked at e there = found (slice_get sc.txns c.txn.0) 
 
 -- ---- who is awaited
 
--- each member of a list is awaited there
-all_awaited : (servers : List ServerId) → Each (λ (at : ServerId). is_awaited servers at ≡ true) servers
-all_awaited [] = tt
-all_awaited (first ∷ servers) = (
-  or_left (first.0 == first.0) (is_awaited servers first) (number_itself first.0),
-  each_as (λ (at : ServerId). is_awaited servers at ≡ true) (λ (at : ServerId). is_awaited (first ∷ servers) at ≡ true)
-      (λ at e. or_right (first.0 == at.0) (is_awaited servers at) e) servers (all_awaited servers),
-)
-
 -- where all are awaited nothing is said
 pub all_but_all : (P : ServerId → Type 0) (servers : List ServerId) → AllBut P servers servers
 all_but_all P servers =
-    each_as (λ (at : ServerId). is_awaited servers at ≡ true) (λ (at : ServerId). is_awaited servers at ≡ false → P at) (λ at e f. absurd (cc)) servers (all_awaited servers)
+    each_as (λ (at : ServerId). is_in servers at ≡ true) (λ (at : ServerId). is_in servers at ≡ false → P at) (λ at e f. absurd (cc)) servers (all_in servers)
+
+all_new : (started : List ServerId) → missing_in (map new_target started) ≡ started
+all_new [] = refl
+all_new (server ∷ others) = ap (λ (rest : List ServerId). server ∷ rest) (all_new others)
+
+-- of servers that were asked anew nothing is said
+all_but_new : (P : ServerId → Type 0) (servers : List ServerId) → AllBut P (missing_in (map new_target servers)) servers
+all_but_new P servers = subst (λ (missing : List ServerId). AllBut P missing servers) (sym (all_new servers)) (all_but_all P servers)
 
 neither : (a b : Bool) → (a || b) ≡ false → b ≡ false
 neither a b e = grind arith
 
 removed : (first : ServerId) (awaited left : List ServerId) (server at : ServerId) (b c : Bool) → (first.0 == server.0) ≡ b → (first.0 == at.0) ≡ c
-    → (is_awaited awaited at ≡ true → is_awaited left at ≡ false → at ≡ server) → (c || is_awaited awaited at) ≡ true → is_awaited (cond (not b) (first ∷ left) left) at ≡ false → at ≡ server
+    → (is_in awaited at ≡ true → is_in left at ≡ false → at ≡ server) → (c || is_in awaited at) ≡ true → is_in (cond (not b) (first ∷ left) left) at ≡ false → at ≡ server
 removed first awaited left server at true true g k later e f = sym (same_server_is first at k) ∙ same_server_is first server g
 removed first awaited left server at true false g k later e f = later e f
-removed first awaited left server at false true g k later e f = let awaits = or_left (first.0 == at.0) (is_awaited left at) k in absurd (cc)
-removed first awaited left server at false false g k later e f = later e (neither (first.0 == at.0) (is_awaited left at) f)
+removed first awaited left server at false true g k later e f = let awaits = or_left (first.0 == at.0) (is_in left at) k in absurd (cc)
+removed first awaited left server at false false g k later e f = later e (neither (first.0 == at.0) (is_in left at) f)
 
 -- a server that is awaited no more is the one that replied
-removed_is : (awaited : List ServerId) (server at : ServerId) → is_awaited awaited at ≡ true → is_awaited (without awaited server) at ≡ false → at ≡ server
+removed_is : (awaited : List ServerId) (server at : ServerId) → is_in awaited at ≡ true → is_in (without awaited server) at ≡ false → at ≡ server
 removed_is [] server at e f = absurd (cc)
 removed_is (first ∷ awaited) server at e f = removed first awaited (without awaited server) server at (first.0 == server.0) (first.0 == at.0) refl refl (removed_is awaited server at) e f
 
 -- once a server has replied
 all_but_one : (P : ServerId → Type 0) (awaited : List ServerId) (server : ServerId) (servers : List ServerId) → P server → AllBut P awaited servers → AllBut P (without awaited server) servers
 all_but_one P awaited server servers p h =
-    each_as (λ (at : ServerId). is_awaited awaited at ≡ false → P at) (λ (at : ServerId). is_awaited (without awaited server) at ≡ false → P at)
-    (λ at old gone. replied_by at (is_awaited awaited at) refl old gone) servers h
+    each_as (λ (at : ServerId). is_in awaited at ≡ false → P at) (λ (at : ServerId). is_in (without awaited server) at ≡ false → P at)
+    (λ at old gone. replied_by at (is_in awaited at) refl old gone) servers h
   where
-    replied_by : (at : ServerId) (b : Bool) → is_awaited awaited at ≡ b → (is_awaited awaited at ≡ false → P at) → is_awaited (without awaited server) at ≡ false → P at
+    replied_by : (at : ServerId) (b : Bool) → is_in awaited at ≡ b → (is_in awaited at ≡ false → P at) → is_in (without awaited server) at ≡ false → P at
     replied_by at true e old gone = subst P (sym (removed_is awaited server at e gone)) p
+    replied_by at false e old gone = old e
+
+-- once a server has replied in a round
+all_but_reply : (P : ServerId → Type 0) (round : Round) (server : ServerId) (verdicts : List Verdict) (servers : List ServerId) → P server → AllBut P (missing_in round.targets) servers
+    → AllBut P (missing_in (after_reply round server verdicts).targets) servers
+all_but_reply P round server verdicts servers p h =
+    each_as (λ (at : ServerId). is_in (missing_in round.targets) at ≡ false → P at) (λ (at : ServerId). is_in (missing_in (after_reply round server verdicts).targets) at ≡ false → P at)
+    (λ at old gone. replied_by at (is_in (missing_in round.targets) at) refl old gone) servers h
+  where
+    replied_by : (at : ServerId) (b : Bool) → is_in (missing_in round.targets) at ≡ b → (is_in (missing_in round.targets) at ≡ false → P at) → is_in (missing_in (after_reply round server verdicts).targets) at ≡ false → P at
+    replied_by at true e old gone = subst P (sym (replied_is round.targets server at verdicts e gone)) p
     replied_by at false e old gone = old e
 
 -- none is awaited
 none_awaited : (P : ServerId → Type 0) (servers : List ServerId) → AllBut P [] servers → Each P servers
-none_awaited P servers h = each_as (λ (at : ServerId). is_awaited [] at ≡ false → P at) P (λ at replied. replied refl) servers h
+none_awaited P servers h = each_as (λ (at : ServerId). is_in [] at ≡ false → P at) P (λ at replied. replied refl) servers h
 
 -- what holds of each that is awaited holds of those that are left
 left_have_items : (sc : Scenario) (txn : TxnId) (awaited : List ServerId) (server : ServerId) → HaveItems sc txn awaited → HaveItems sc txn (without awaited server)
@@ -253,13 +273,13 @@ pub record Keeps (sc : Scenario) (P S : ServerId → Type 0) (c : Coordinator) (
 ignores_lawful : (sc : Scenario) (P S : ServerId → Type 0) (c : Coordinator) (kept : List Record) → Keeps sc P S c kept → CoordinatorLawful sc P S c kept (ignores c)
 ignores_lawful sc P S c kept h = record { agrees = h.agrees; replied = h.replied; same_begun = refl; same_txn = refl; fresh = tt; letters = tt }
 
--- the queries, the requests and the replies of a coordinator that has not decided
-asks_lawful : (sc : Scenario) (P S : ServerId → Type 0) (c : Coordinator) (kept : List Record) → decided_in kept ≡ None → is_begun c.phase ≡ true → c.servers ≡ servers_at sc c.txn
-    → CoordinatorLawful sc P S c kept (asks c)
-asks_lawful sc P S c kept d b s =
+-- the authority is asked by a coordinator that has not decided, before a round of which this holds
+asks_lawful : (sc : Scenario) (P S : ServerId → Type 0) (c : Coordinator) (kept : List Record) (round : Round) → decided_in kept ≡ None → is_begun c.phase ≡ true → c.servers ≡ servers_at sc c.txn
+    → EachServer (HoldsItem sc c.txn) round.targets → AllBut P (missing_in round.targets) (servers_at sc c.txn) → CoordinatorLawful sc P S c kept (asks c round)
+asks_lawful sc P S c kept round d b s items replied =
     record {
-      agrees = record { decided = d; servers = s; awaited = subst (HaveItems sc c.txn) (sym s) (servers_at_have_items sc c.txn) };
-      replied = subst (λ (servers : List ServerId). AllBut P servers (servers_at sc c.txn)) (sym s) (all_but_all P (servers_at sc c.txn));
+      agrees = record { decided = d; servers = s; awaited = items };
+      replied = replied;
       same_begun = sym b;
       same_txn = refl;
       fresh = tt;
@@ -279,24 +299,24 @@ sends_query_lawful sc P S c kept number at d b s k =
       letters = (record { same_txn = refl; item = asked_has_item sc c number k.asked at k.asked_is k.server_is; submitted = refl }, tt);
     }
 
-prepare_letters_lawful : (sc : Scenario) (c : Coordinator) (begun : Bool) (decided : Option Decision) (staple : Staple) (servers : List ServerId) → begun ≡ true → HaveItems sc c.txn servers
-    → Each (LetterAgrees sc c.txn begun decided) (map (prepare_letter c staple) servers)
-prepare_letters_lawful sc c begun decided staple [] b h = tt
-prepare_letters_lawful sc c begun decided staple (at ∷ servers) b h =
-    (record { same_txn = refl; item = h.0; submitted = b }, prepare_letters_lawful sc c begun decided staple servers b h.1)
+prepare_letters_lawful : (sc : Scenario) (c : Coordinator) (begun : Bool) (decided : Option Decision) (round : Round) (staple : Staple) (servers : List ServerId) → begun ≡ true → HaveItems sc c.txn servers
+    → Each (LetterAgrees sc c.txn begun decided) (map (prepare_letter c round staple) servers)
+prepare_letters_lawful sc c begun decided round staple [] b h = tt
+prepare_letters_lawful sc c begun decided round staple (at ∷ servers) b h =
+    (record { same_txn = refl; item = h.0; submitted = b }, prepare_letters_lawful sc c begun decided round staple servers b h.1)
 
 -- each awaited server is asked to prepare
 prepares_lawful : (sc : Scenario) (P S : ServerId → Type 0) (c : Coordinator) (kept : List Record) (round : Round) (staple : Staple) → Keeps sc P S c kept → c.phase ≡ phase.Asking round
     → CoordinatorLawful sc P S c kept (prepares c round staple)
 prepares_lawful sc P S c kept round staple h e =
-    let items = subst (λ (p : Phase). HaveItems sc c.txn (awaited_in p)) e h.agrees.awaited in
+    let items : EachServer (HoldsItem sc c.txn) round.targets = subst (PhaseHasItems sc c.txn) e h.agrees.awaited in
     record {
       agrees = record { decided = subst (λ (p : Phase). PhaseAgrees p (decided_in kept)) e h.agrees.decided; servers = h.agrees.servers; awaited = items };
       replied = subst (λ (p : Phase). PhaseRests P S p (servers_at sc c.txn)) e h.replied;
       same_begun = sym (ap is_begun e);
       same_txn = refl;
       fresh = tt;
-      letters = prepare_letters_lawful sc c true (decided_in kept) staple round.awaited refl items;
+      letters = prepare_letters_lawful sc c true (decided_in kept) round staple (missing_in round.targets) refl (each_missing (HoldsItem sc c.txn) round.targets items);
     }
 
 -- an order to each of these servers
@@ -342,14 +362,14 @@ aborts_lawful sc P S c kept why h d b =
     }
 
 -- what is known where a vote YES is awaited and comes
-record IsCounted (sc : Scenario) (P S : ServerId → Type 0) (c : Coordinator) (kept : List Record) (round : Round) (server : ServerId) : Type 0 where
+record IsCounted (sc : Scenario) (P S : ServerId → Type 0) (c : Coordinator) (kept : List Record) (round : Round) : Type 0 where
   pub undecided : decided_in kept ≡ None
   pub begun : is_begun c.phase ≡ true
-  pub items : HaveItems sc c.txn (without round.awaited server)
-  pub prepared : AllBut P (without round.awaited server) (servers_at sc c.txn)
+  pub items : EachServer (HoldsItem sc c.txn) round.targets
+  pub prepared : AllBut P (missing_in round.targets) (servers_at sc c.txn)
 
 yes_counted : (sc : Scenario) (P S : ServerId → Type 0) (c : Coordinator) (kept : List Record) (mail : Mail) (reply : VoteReply) (round : Round) (staple : Staple) (server : ServerId) (verdicts : List Verdict)
-    → Keeps sc P S c kept → ReplyRests P S (decided_in kept) mail.letter.from mail.letter.body → IsYes c mail reply round staple server verdicts → IsCounted sc P S c kept round server
+    → Keeps sc P S c kept → ReplyRests P S (decided_in kept) mail.letter.from mail.letter.body → IsYes c mail reply round staple server verdicts → IsCounted sc P S c kept (after_reply round server verdicts)
 yes_counted sc P S c kept mail reply round staple server verdicts h m y =
     let undecided : decided_in kept ≡ None = subst (λ (p : Phase). PhaseAgrees p (decided_in kept)) y.checking h.agrees.decided in
     let rests : YesRests (decided_in kept ≡ None → P server) reply.vote =
@@ -358,9 +378,25 @@ yes_counted sc P S c kept mail reply round staple server verdicts h m y =
     record {
       undecided = undecided;
       begun = ap is_begun y.checking;
-      items = left_have_items sc c.txn round.awaited server (subst (λ (p : Phase). HaveItems sc c.txn (awaited_in p)) y.checking h.agrees.awaited);
-      prepared = all_but_one P round.awaited server (servers_at sc c.txn) (prepared undecided) (subst (λ (p : Phase). PhaseRests P S p (servers_at sc c.txn)) y.checking h.replied);
+      items = each_replied (HoldsItem sc c.txn) round.targets server verdicts (subst (PhaseHasItems sc c.txn) y.checking h.agrees.awaited);
+      prepared = all_but_reply P round server verdicts (servers_at sc c.txn) (prepared undecided) (subst (λ (p : Phase). PhaseRests P S p (servers_at sc c.txn)) y.checking h.replied);
     }
+
+-- where all have replied each server has prepared
+whole_prepared : (sc : Scenario) (P S : ServerId → Type 0) (c : Coordinator) (kept : List Record) (round : Round) (answer : Judged) → IsCounted sc P S c kept round → judge round None ≡ answer
+    → (answer ≡ judged.Waiting → ⊥) → Each P (servers_at sc c.txn)
+whole_prepared sc P S c kept round answer k e other =
+    none_awaited P (servers_at sc c.txn) (subst (λ (missing : List ServerId). AllBut P missing (servers_at sc c.txn)) (none_missing round.targets (judged_whole round answer e other)) k.prepared)
+
+-- the next round after an update
+updated_lawful : (sc : Scenario) (P S : ServerId → Type 0) (c : Coordinator) (kept : List Record) (round : Round) (named : List Wanted) → IsCounted sc P S c kept round → c.servers ≡ servers_at sc c.txn
+    → judge round None ≡ judged.Update named → CoordinatorLawful sc P S c kept (asks c (after_judgement round None))
+updated_lawful sc P S c kept round named k s e =
+    let next = next_round round (aim_in round None) named (mets_in round (met_in round None)) in
+    let prepared : Each P (servers_at sc c.txn) = whole_prepared sc P S c kept round (judged.Update named) k e (λ f. cc) in
+    subst (λ (r : Round). CoordinatorLawful sc P S c kept (asks c r)) (sym (updated_is round named e))
+    (asks_lawful sc P S c kept next k.undecided k.begun s (each_renewed (HoldsItem sc c.txn) (aim_in round None) round.targets k.items)
+    (each_as P (λ (at : ServerId). is_in (missing_in next.targets) at ≡ false → P at) (λ at p left. p) (servers_at sc c.txn) prepared))
 
 acknowledged_lawful : (sc : Scenario) (P S : ServerId → Type 0) (c : Coordinator) (kept : List Record) (mail : Mail) (ack : AckReply) (ended : Outcome) (awaited : List ServerId) (server : ServerId)
     → Keeps sc P S c kept → ReplyRests P S (decided_in kept) mail.letter.from mail.letter.body → IsAck c mail ack ended awaited server
@@ -372,7 +408,7 @@ acknowledged_lawful sc P S c kept mail ack ended awaited server h m a =
       agrees = record {
         decided = subst (λ (p : Phase). PhaseAgrees p (decided_in kept)) a.ending h.agrees.decided;
         servers = h.agrees.servers;
-        awaited = left_have_items sc c.txn awaited server (subst (λ (p : Phase). HaveItems sc c.txn (awaited_in p)) a.ending h.agrees.awaited);
+        awaited = left_have_items sc c.txn awaited server (subst (PhaseHasItems sc c.txn) a.ending h.agrees.awaited);
       };
       replied = all_but_one S awaited server (servers_at sc c.txn) settled (subst (λ (p : Phase). PhaseRests P S p (servers_at sc c.txn)) a.ending h.replied);
       same_begun = sym (ap is_begun a.ending);
@@ -404,10 +440,13 @@ coordinator_row_lawful sc P S c kept mail h m =
           record { agrees = on.agrees; replied = on.replied; same_begun = sym now.1; same_txn = refl; fresh = tt; letters = on.letters };
       ran_last = λ done server asked value k none.
           let now = awaiting_query c c.phase done (decided_in kept) k.awaited h.agrees.decided in
-          let on = asks_lawful sc P S (with_deed c server done asked value) kept now.0 now.1 h.agrees.servers in
+          let next = with_deed c server done asked value in
+          let on = asks_lawful sc P S next kept (commit_round next) now.0 now.1 h.agrees.servers
+          (each_started (HoldsItem sc c.txn) c.servers (subst (HaveItems sc c.txn) (sym h.agrees.servers) (servers_at_have_items sc c.txn)))
+          (subst (λ (servers : List ServerId). AllBut P (missing_in (map new_target servers)) (servers_at sc c.txn)) (sym h.agrees.servers) (all_but_new P (servers_at sc c.txn))) in
           record { agrees = on.agrees; replied = on.replied; same_begun = sym now.1; same_txn = refl; fresh = tt; letters = on.letters };
-      told_first = λ tell round k. prepares_lawful sc P S c kept round (staple_of tell mail.sent) h k.asking;
-      counted = λ reply round staple server verdicts other others y e.
+      told = λ tell round k. prepares_lawful sc P S c kept round (staple_of tell mail.sent) h k.asking;
+      counted = λ reply round staple server verdicts y e.
           let k = yes_counted sc P S c kept mail reply round staple server verdicts h m y in
           record {
             agrees = record { decided = k.undecided; servers = h.agrees.servers; awaited = k.items };
@@ -417,13 +456,15 @@ coordinator_row_lawful sc P S c kept mail h m =
             fresh = tt;
             letters = tt;
           };
-      committed = λ reply round staple server verdicts y e first agreed.
+      committed = λ reply round staple server verdicts y e.
           let k = yes_counted sc P S c kept mail reply round staple server verdicts h m y in
-          commits_lawful sc P S c kept round.number verdicts h k.undecided k.begun
-          (none_awaited P (servers_at sc c.txn) (subst (λ (left : List ServerId). AllBut P left (servers_at sc c.txn)) e k.prepared));
-      denied = λ reply round staple server verdicts verdict y e f.
+          commits_lawful sc P S c kept round.number (by_query (proofs_in (after_reply round server verdicts).targets)) h k.undecided k.begun
+          (whole_prepared sc P S c kept (after_reply round server verdicts) judged.AllTrue k e (λ f. cc));
+      denied = λ reply round staple server verdicts verdict y e.
           let k = yes_counted sc P S c kept mail reply round staple server verdicts h m y in
           aborts_lawful sc P S c kept (cause.Denied (denied_by verdict)) h k.undecided k.begun;
+      updated = λ reply round staple server verdicts named y e.
+          updated_lawful sc P S c kept (after_reply round server verdicts) named (yes_counted sc P S c kept mail reply round staple server verdicts h m y) h.agrees.servers e;
       refused = λ reply round staple server number value k.
           let undecided : decided_in kept ≡ None = subst (λ (p : Phase). PhaseAgrees p (decided_in kept)) k.checking h.agrees.decided in
           aborts_lawful sc P S c kept (cause.No (refused_by server number value)) h undecided (ap is_begun k.checking);

@@ -22,7 +22,8 @@ use Rattle.tp_machine.specs.Logs.{decided_at, decided_by, decided_in, has_voted,
 use Rattle.tp_machine.specs.Machine.{State, acts, log_with, server_fact, server_move}
 use Rattle.tp_machine.specs.Sound.{Each, IsServer}
 use Rattle.tp_machine.specs.coord.Opened.{servers_at}
-use Rattle.tp_machine.specs.coord.Row.{is_awaited, is_begun}
+use Rattle.tp_machine.specs.coord.Row.{is_begun}
+use Rattle.tp_machine.proofs.basics.Rounds.{is_in, missing_in}
 use Rattle.tp_machine.specs.declared.actors.Actors.{Actors}
 use Rattle.tp_machine.specs.coord.State.{Coordinator}
 use Rattle.tp_machine.specs.declared.coord.Phase.TheVariants as phase
@@ -364,11 +365,11 @@ server_logs_stay sc w at part next append found grown r =
 phase_stays : (P Q S T : ServerId → Type 0) (awaited : Phase) (decided : Option Decision) (servers : List ServerId) → PhaseAgrees awaited decided → (decided ≡ None → (at : ServerId) → P at → Q at)
     → ((at : ServerId) → S at → T at) → PhaseRests P S awaited servers → PhaseRests Q T awaited servers
 phase_stays P Q S T (phase.Asking round) decided servers a undecided settled h =
-    each_as (λ (at : ServerId). is_awaited round.awaited at ≡ false → P at) (λ (at : ServerId). is_awaited round.awaited at ≡ false → Q at) (λ at k left. undecided a at (k left)) servers h
+    each_as (λ (at : ServerId). is_in (missing_in round.targets) at ≡ false → P at) (λ (at : ServerId). is_in (missing_in round.targets) at ≡ false → Q at) (λ at k left. undecided a at (k left)) servers h
 phase_stays P Q S T (phase.Checking round staple) decided servers a undecided settled h =
-    each_as (λ (at : ServerId). is_awaited round.awaited at ≡ false → P at) (λ (at : ServerId). is_awaited round.awaited at ≡ false → Q at) (λ at k left. undecided a at (k left)) servers h
+    each_as (λ (at : ServerId). is_in (missing_in round.targets) at ≡ false → P at) (λ (at : ServerId). is_in (missing_in round.targets) at ≡ false → Q at) (λ at k left. undecided a at (k left)) servers h
 phase_stays P Q S T (phase.Ending ended awaited) decided servers a undecided settled h =
-    each_as (λ (at : ServerId). is_awaited awaited at ≡ false → S at) (λ (at : ServerId). is_awaited awaited at ≡ false → T at) (λ at k left. settled at (k left)) servers h
+    each_as (λ (at : ServerId). is_in awaited at ≡ false → S at) (λ (at : ServerId). is_in awaited at ≡ false → T at) (λ at k left. settled at (k left)) servers h
 phase_stays P Q S T _ decided servers a undecided settled h = tt
 
 served_stays : (old new : Actors) (txn : TxnId) (servers : List ServerId) (decided : Option Decision) → LogsStay old new → decided_at old.coordinators txn.0 ≡ decided

@@ -13,7 +13,7 @@ use Rattle.tp_model.specs.Words.outcome
 use Rattle.tp_model.specs.Words.step
 use Rattle.tp_model.specs.Words.vote
 use Rattle.tp_model.specs.Words.what
-use Rattle.tp_model.specs.Words.{Actor, Body, CredId, Decision, Mail, Outcome, Record, Scenario, ServerId, Settled, Step, TxnId, Vote, What}
+use Rattle.tp_model.specs.Words.{Actor, AdminId, Body, CredId, Decision, Mail, Outcome, Record, Scenario, ServerId, Settled, Step, TxnId, Version, Vote, What}
 use Rattle.tp_machine.proofs.agreement.Coordinator.{CoordinatorLawful, Keeps, ReplyRests, SubmissionLawful, YesRests, coordinator_row_lawful, submit_row_lawful}
 use Rattle.tp_machine.proofs.agreement.CoordinatorActs.{coordinator_acts_agrees, receipt_acts, submission_acts}
 use Rattle.tp_machine.proofs.agreement.Logs.{DecidedAs, IsAsked, IsPrepared, IsSettled, outcome_settled, submitted_count, submitted_up}
@@ -55,10 +55,10 @@ idle_agrees sc w h (step.Deliver mail) happened e = subst (λ (hs : List What). 
 idle_agrees sc w h (step.Lose mail) happened e = subst (λ (hs : List What). MoveAgrees sc w (idle_move w.actors hs)) (sym e) (unmoved_agrees sc w (what.Lost mail ∷ []) [] h (lost_says sc w mail) tt)
 idle_agrees sc w h _ happened e = absurd e
 
--- the authority alone acts
-authority_agrees : (sc : Scenario) (w : State) (authority : Authority) (happened : List What) → Agrees sc w → SaysOnly sc w.facts happened
-    → MoveAgrees sc w (record { actors = record w.actors { authority = authority }; happened = happened; letters = [] })
-authority_agrees sc w authority happened h o =
+-- the offices alone act
+offices_agree : (sc : Scenario) (w : State) (authority : Authority) (held : Master) (happened : List What) → Agrees sc w → SaysOnly sc w.facts happened
+    → MoveAgrees sc w (record { actors = record w.actors { authority = authority; master = held }; happened = happened; letters = [] })
+offices_agree sc w authority held happened h o =
     let t = unmoved_agrees sc w happened [] h o tt in
     record {
       coordinator_count = t.coordinator_count;
@@ -78,6 +78,9 @@ ticked_says sc w by = record { follows = (tt, tt); no_submission = λ txn. refl;
 
 revoked_says : (sc : Scenario) (w : State) (cred : CredId) → SaysOnly sc w.facts (what.Revoked cred ∷ [])
 revoked_says sc w cred = record { follows = (tt, tt); no_submission = λ txn. refl; no_decision = λ txn. refl; no_settlement = λ at txn. refl }
+
+published_says : (sc : Scenario) (w : State) (admin : AdminId) (version : Version) → SaysOnly sc w.facts (what.Published admin version ∷ [])
+published_says sc w admin version = record { follows = (tt, tt); no_submission = λ txn. refl; no_decision = λ txn. refl; no_settlement = λ at txn. refl }
 
 -- ---- what is known of actors that are up
 
@@ -234,8 +237,12 @@ agrees_cases sc w built sound h =
           unmoved_agrees sc w [] (office.authority_row w.actors.authority mail).reaction.letters h (silent_says sc w) (tells_rest sc w.actors w.actors.authority mail.letter.body);
       master_told = λ n mail sent.
           unmoved_agrees sc w [] (master.master_row w.actors.master mail).reaction.letters h (silent_says sc w) (newest_rests sc w.actors w.actors.master mail.letter.body);
-      ticked = λ by. authority_agrees sc w (office.after_tick by w.actors.authority) (what.Ticked by ∷ []) h (ticked_says sc w by);
-      revoked = λ cred exists. authority_agrees sc w (office.after_revocation cred w.actors.authority) (what.Revoked cred ∷ []) h (revoked_says sc w cred);
+      published = λ admin exists more.
+          let next = master.next_of w.actors.master admin in
+          offices_agree sc w w.actors.authority (master.published admin w.actors.master) (what.Published admin next ∷ []) h (published_says sc w admin next);
+      pushed = λ admin server exists there. unmoved_agrees sc w [] (master.pushes w.actors.master admin server).reaction.letters h (silent_says sc w) (tt, tt);
+      ticked = λ by. offices_agree sc w (office.after_tick by w.actors.authority) w.actors.master (what.Ticked by ∷ []) h (ticked_says sc w by);
+      revoked = λ cred exists. offices_agree sc w (office.after_revocation cred w.actors.authority) w.actors.master (what.Revoked cred ∷ []) h (revoked_says sc w cred);
       begun = λ txn part c exists up new. begun_agrees sc w built sound h txn part c exists up new;
     }
 

@@ -91,6 +91,8 @@ allowed sc m taken (Some why) e = absurd (cc)
 pub steps_next : (sc : Scenario) (m : Machine) (taken : Step) → IsBuiltStep taken → (machine_after sc m taken).state.steps ≡ m.state.steps ++ taken ∷ []
 steps_next sc m (step.Submit txn) h = refl
 steps_next sc m (step.Deliver mail) h = refl
+steps_next sc m (step.Publish admin) h = refl
+steps_next sc m (step.Push admin server) h = refl
 steps_next sc m (step.Tick by) h = refl
 steps_next sc m (step.Revoke cred) h = refl
 steps_next sc m _ h = absurd h

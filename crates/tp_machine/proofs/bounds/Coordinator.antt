@@ -23,6 +23,7 @@ use Rattle.tp_machine.specs.coord.Row.{is_begun, next_number}
 use Rattle.tp_machine.specs.coord.State.{Coordinator}
 use Rattle.tp_machine.specs.declared.coord.Phase.TheVariants as phase
 use Rattle.tp_machine.specs.declared.coord.Phase.{Phase}
+use Rattle.tp_round.specs.declared.round.Round.{Round}
 
 -- ---- what is kept
 
@@ -85,9 +86,9 @@ deeds_before sc c mail done server asked value homes h k =
 
 -- ---- letters without a value
 
-prepares_say_none : (c : Coordinator) (staple : Staple) (servers : List ServerId) → Each IsBoundedLetter (map (coord.prepare_letter c staple) servers)
-prepares_say_none c staple [] = tt
-prepares_say_none c staple (at ∷ servers) = (tt, prepares_say_none c staple servers)
+prepares_say_none : (c : Coordinator) (round : Round) (staple : Staple) (servers : List ServerId) → Each IsBoundedLetter (map (coord.prepare_letter c round staple) servers)
+prepares_say_none c round staple [] = tt
+prepares_say_none c round staple (at ∷ servers) = (tt, prepares_say_none c round staple servers)
 
 orders_say_none : (c : Coordinator) (ended : Outcome) (servers : List ServerId) → Each IsBoundedLetter (map (λ (at : ServerId). coord.request c at (body.Decide (record { txn = c.txn; outcome = ended }))) servers)
 orders_say_none c ended [] = tt
@@ -104,10 +105,11 @@ coordinator_row_bounds sc c mail valid homes h said =
       ran_next = λ done server asked value next k home.
           asks_bounded sc (coord.with_deed c server done asked value) (next_number done.query) next valid homes (deeds_more sc c mail done server asked value h said k) (deeds_before sc c mail done server asked value homes h k);
       ran_last = λ done server asked value k none. record { state = record { deeds = deeds_more sc c mail done server asked value h said k; low = tt }; forces = tt; letters = (tt, tt) };
-      told_first = λ tell round k. record { state = record { deeds = h.deeds; low = tt }; forces = tt; letters = prepares_say_none c (coord.staple_of tell mail.sent) round.awaited };
-      counted = λ reply round staple server verdicts other others y e. record { state = record { deeds = h.deeds; low = tt }; forces = tt; letters = tt };
-      committed = λ reply round staple server verdicts y e first agreed. record { state = record { deeds = h.deeds; low = tt }; forces = h.deeds; letters = orders_say_none c outcome.Commit c.servers };
-      denied = λ reply round staple server verdicts verdict y e f. record { state = record { deeds = h.deeds; low = tt }; forces = tt; letters = orders_say_none c outcome.Abort c.servers };
+      told = λ tell round k. record { state = record { deeds = h.deeds; low = tt }; forces = tt; letters = prepares_say_none c round (coord.staple_of tell mail.sent) (coord.awaited_in round) };
+      counted = λ reply round staple server verdicts y e. record { state = record { deeds = h.deeds; low = tt }; forces = tt; letters = tt };
+      committed = λ reply round staple server verdicts y e. record { state = record { deeds = h.deeds; low = tt }; forces = h.deeds; letters = orders_say_none c outcome.Commit c.servers };
+      denied = λ reply round staple server verdicts verdict y e. record { state = record { deeds = h.deeds; low = tt }; forces = tt; letters = orders_say_none c outcome.Abort c.servers };
+      updated = λ reply round staple server verdicts named y e. record { state = record { deeds = h.deeds; low = tt }; forces = tt; letters = (tt, tt) };
       refused = λ reply round staple server number value k.
           record { state = record { deeds = h.deeds; low = tt }; forces = subst IsBoundedVote k.vote_is (subst IsBoundedBody k.said_is said); letters = orders_say_none c outcome.Abort c.servers };
       acknowledged = λ ack ended awaited server a. record { state = record { deeds = h.deeds; low = tt }; forces = tt; letters = tt };

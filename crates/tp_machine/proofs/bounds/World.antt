@@ -92,9 +92,9 @@ state_after_bounds sc w taken move h t =
 
 -- ---- neither servers nor coordinators act
 
-still_bounds : (sc : Scenario) (w : State) (authority : Authority) (happened : List What) (letters : List Letter) → Bounds sc w → Each IsBoundedWhat happened → Each IsBoundedLetter letters
-    → MoveBounds sc (record { actors = record w.actors { authority = authority }; happened = happened; letters = letters })
-still_bounds sc w authority happened letters h told said = record { servers = h.servers; coordinators = h.coordinators; letters = said; happened = told }
+still_bounds : (sc : Scenario) (w : State) (authority : Authority) (held : Master) (happened : List What) (letters : List Letter) → Bounds sc w → Each IsBoundedWhat happened → Each IsBoundedLetter letters
+    → MoveBounds sc (record { actors = record w.actors { authority = authority; master = held }; happened = happened; letters = letters })
+still_bounds sc w authority held happened letters h told said = record { servers = h.servers; coordinators = h.coordinators; letters = said; happened = told }
 
 idle_bounds : (sc : Scenario) (w : State) → Bounds sc w → (taken : Step) (happened : List What) → SaysIdle taken happened → MoveBounds sc (idle_move w.actors happened)
 idle_bounds sc w h (step.Deliver mail) happened e =
@@ -209,10 +209,13 @@ bounds_cases sc w built sound agrees pairs serial h =
       idle = idle_bounds sc w h;
       server_received = λ n mail at part s sent up. receipt_by_server sc w built sound agrees pairs serial h n mail at part s sent up;
       coordinator_received = λ n mail txn part c sent up. receipt_by_coordinator sc w built h n mail txn part c sent up;
-      authority_told = λ n mail sent. still_bounds sc w w.actors.authority [] _ h tt (authority_says_none w.actors.authority mail.letter.body);
-      master_told = λ n mail sent. still_bounds sc w w.actors.authority [] _ h tt (master_says_none w.actors.master mail.letter.body);
-      ticked = λ by. still_bounds sc w (office.after_tick by w.actors.authority) (what.Ticked by ∷ []) [] h (tt, tt) tt;
-      revoked = λ cred exists. still_bounds sc w (office.after_revocation cred w.actors.authority) (what.Revoked cred ∷ []) [] h (tt, tt) tt;
+      authority_told = λ n mail sent. still_bounds sc w w.actors.authority w.actors.master [] _ h tt (authority_says_none w.actors.authority mail.letter.body);
+      master_told = λ n mail sent. still_bounds sc w w.actors.authority w.actors.master [] _ h tt (master_says_none w.actors.master mail.letter.body);
+      published = λ admin exists more.
+          still_bounds sc w w.actors.authority (master.published admin w.actors.master) (what.Published admin (master.next_of w.actors.master admin) ∷ []) [] h (tt, tt) tt;
+      pushed = λ admin server exists there. still_bounds sc w w.actors.authority w.actors.master [] (master.pushes w.actors.master admin server).reaction.letters h tt (tt, tt);
+      ticked = λ by. still_bounds sc w (office.after_tick by w.actors.authority) w.actors.master (what.Ticked by ∷ []) [] h (tt, tt) tt;
+      revoked = λ cred exists. still_bounds sc w (office.after_revocation cred w.actors.authority) w.actors.master (what.Revoked cred ∷ []) [] h (tt, tt) tt;
       begun = λ txn part c exists up new. begun_bounds sc w built h txn part c up new;
     }
 

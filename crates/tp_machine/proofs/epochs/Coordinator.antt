@@ -1,6 +1,5 @@
 -- Epochs, the coordinator's other rows: they name what is kept, and keep it.
-use Rattle.std.proofs.Common.{Bool, List, None, Option, Some, [], ap, false, is_some, map, not, refl, subst, true, unwrap_or, ℕ, ◌==◌, ◌||◌, ◌∙◌, ◌∷◌, ◌≡◌}
-use Rattle.std.proofs.lemmas.Bool.{eqb-true}
+use Rattle.std.proofs.Common.{List, None, Option, Some, [], ap, false, is_some, map, refl, subst, sym, true, unwrap_or, ℕ, ◌∙◌, ◌∷◌, ◌≡◌}
 use Rattle.tp_types.specs.Effect.{Effect, ignores, sends}
 use Rattle.tp_model.specs.Words.body
 use Rattle.tp_model.specs.Words.cause
@@ -8,11 +7,9 @@ use Rattle.tp_model.specs.Words.outcome
 use Rattle.tp_model.specs.Words.{Actor, Body, Mail, Outcome, Scenario, ServerId, Staple, Verdict}
 use Rattle.tp_machine.proofs.agreement.Coordinator.{idle_is}
 use Rattle.tp_machine.proofs.basics.Homes.{HaveHomes}
-use Rattle.tp_machine.proofs.basics.Ids.{server_number}
-use Rattle.tp_machine.proofs.basics.Lists.{each_filter, each_more}
 use Rattle.tp_machine.proofs.basics.Phases.{has_run_at, is_undecided}
 use Rattle.tp_machine.proofs.epochs.Asked.{Asking, NamesKept, asked_then, kept_are_asked, kept_are_own, then_kept}
-use Rattle.tp_machine.proofs.epochs.Kept.{CoordinatorKeeps, IsDoneMail, KeepsAsked, KeepsEpoch, PhaseKept, RoundKept, RowKeeps, ignores_keeps, kept_epoch, plain_keeps, query_keeps, ran_last_keeps, ran_next_keeps}
+use Rattle.tp_machine.proofs.epochs.Kept.{CoordinatorKeeps, IsDoneMail, KeepsAsked, KeepsEpoch, PhaseKept, RowKeeps, ignores_keeps, kept_epoch, plain_keeps, query_keeps, ran_last_keeps, ran_next_keeps}
 use Rattle.tp_machine.proofs.epochs.Server.{IsPlainLetter, LetterFirst, LetterTold}
 use Rattle.tp_machine.proofs.walks.CoordinatorRows.{coordinator_by, submit_by}
 use Rattle.tp_machine.specs.Machine.{with_age}
@@ -22,8 +19,12 @@ use Rattle.tp_machine.specs.coord.Row as coord
 use Rattle.tp_machine.specs.coord.State.{Coordinator}
 use Rattle.tp_machine.specs.declared.coord.Phase.TheVariants as phase
 use Rattle.tp_machine.specs.declared.coord.Phase.{Phase}
-use Rattle.tp_machine.specs.declared.coord.Reply.{Reply}
-use Rattle.tp_machine.specs.declared.coord.Round.{Round}
+use Rattle.tp_machine.proofs.basics.Rounds.{EachServer, each_missing, each_renewed, each_replied, missing_in, updated_is}
+use Rattle.tp_round.specs.Judge.{after_judgement, after_reply, aim_in, judge}
+use Rattle.tp_round.specs.Replies.{by_query, proofs_in}
+use Rattle.tp_round.specs.declared.round.Judged.TheVariants as judged
+use Rattle.tp_round.specs.declared.round.Round.{Round}
+use Rattle.tp_round.specs.declared.round.Wanted.{Wanted}
 
 -- ---- Tell
 
@@ -31,25 +32,25 @@ pub some_is : (kept : Option ℕ) → is_some kept ≡ true → kept ≡ Some (u
 some_is None e = absurd (cc)
 some_is (Some n) e = refl
 
-prepares_name : (c : Coordinator) (staple : Staple) (servers : List ServerId) → Each (KeepsEpoch c) servers → Each (NamesKept c.txn (kept_epoch c)) (map (coord.prepare_letter c staple) servers)
-prepares_name c staple [] h = tt
-prepares_name c staple (at ∷ servers) h = ((refl, some_is (kept_epoch c at) h.0), prepares_name c staple servers h.1)
+prepares_name : (c : Coordinator) (round : Round) (staple : Staple) (servers : List ServerId) → Each (KeepsEpoch c) servers → Each (NamesKept c.txn (kept_epoch c)) (map (coord.prepare_letter c round staple) servers)
+prepares_name c round staple [] h = tt
+prepares_name c round staple (at ∷ servers) h = ((refl, some_is (kept_epoch c at) h.0), prepares_name c round staple servers h.1)
 
-prepares_first : (sc : Scenario) (c : Coordinator) (staple : Staple) (servers : List ServerId) → Each (LetterFirst sc) (map (coord.prepare_letter c staple) servers)
-prepares_first sc c staple [] = tt
-prepares_first sc c staple (at ∷ servers) = (tt, prepares_first sc c staple servers)
+prepares_first : (sc : Scenario) (c : Coordinator) (round : Round) (staple : Staple) (servers : List ServerId) → Each (LetterFirst sc) (map (coord.prepare_letter c round staple) servers)
+prepares_first sc c round staple [] = tt
+prepares_first sc c round staple (at ∷ servers) = (tt, prepares_first sc c round staple servers)
 
-prepares_told : (sc : Scenario) (A : Asking) (E : ℕ → ℕ) (c : Coordinator) (staple : Staple) (servers : List ServerId) → Each (LetterTold sc A E) (map (coord.prepare_letter c staple) servers)
-prepares_told sc A E c staple [] = tt
-prepares_told sc A E c staple (at ∷ servers) = (tt, prepares_told sc A E c staple servers)
+prepares_told : (sc : Scenario) (A : Asking) (E : ℕ → ℕ) (c : Coordinator) (round : Round) (staple : Staple) (servers : List ServerId) → Each (LetterTold sc A E) (map (coord.prepare_letter c round staple) servers)
+prepares_told sc A E c round staple [] = tt
+prepares_told sc A E c round staple (at ∷ servers) = (tt, prepares_told sc A E c round staple servers)
 
 prepares_keeps : (sc : Scenario) (E : ℕ → ℕ) (A : Asking) (c : Coordinator) (round : Round) (staple : Staple) → CoordinatorKeeps sc E (A c.txn) c → c.phase ≡ phase.Asking round
     → RowKeeps sc E A c (coord.prepares c round staple)
 prepares_keeps sc E A c round staple h e =
     let k : KeepsAsked sc (A c.txn) c = h.undecided (ap is_undecided e) in
-    let kept : RoundKept (KeepsEpoch c) round = subst (PhaseKept (KeepsEpoch c)) e k.round in
-    let letters = map (coord.prepare_letter c staple) round.awaited in
-    let names : Each (NamesKept c.txn (kept_epoch c)) letters = prepares_name c staple round.awaited kept.awaited in
+    let kept : EachServer (KeepsEpoch c) round.targets = subst (PhaseKept (KeepsEpoch c)) e k.round in
+    let letters = map (coord.prepare_letter c round staple) (missing_in round.targets) in
+    let names : Each (NamesKept c.txn (kept_epoch c)) letters = prepares_name c round staple (missing_in round.targets) (each_missing (KeepsEpoch c) round.targets kept) in
     record {
       keeps = record {
         places = h.places;
@@ -63,8 +64,8 @@ prepares_keeps sc E A c round staple h e =
       own = kept_are_own c.txn (kept_epoch c) letters names;
       sent = record {
         named = kept_are_asked A c.txn (kept_epoch c) letters k.asked names;
-        first = prepares_first sc c staple round.awaited;
-        told = prepares_told sc (asked_then A letters) E c staple round.awaited;
+        first = prepares_first sc c round staple (missing_in round.targets);
+        told = prepares_told sc (asked_then A letters) E c round staple (missing_in round.targets);
       };
     }
 
@@ -74,32 +75,39 @@ orders_plain : (c : Coordinator) (ended : Outcome) (servers : List ServerId) →
 orders_plain c ended [] = tt
 orders_plain c ended (at ∷ servers) = (tt, orders_plain c ended servers)
 
-either_keeps : (K : ServerId → Type 0) (other at : ServerId) (later b : Bool) → (other.0 == at.0) ≡ b → (b || later) ≡ true → K other → (later ≡ true → K at) → K at
-either_keeps K other at later true same e here rest = subst K (ap server_number (eqb-true other.0 at.0 same)) here
-either_keeps K other at later false apart e here rest = rest e
-
-awaited_keeps : (K : ServerId → Type 0) (servers : List ServerId) (at : ServerId) → coord.is_awaited servers at ≡ true → Each K servers → K at
-awaited_keeps K [] at e h = absurd (cc)
-awaited_keeps K (other ∷ servers) at e h = either_keeps K other at (coord.is_awaited servers at) (other.0 == at.0) refl e h.0 (λ later. awaited_keeps K servers at later h.1)
-
 counted_keeps : (sc : Scenario) (E : ℕ → ℕ) (A : Asking) (c : Coordinator) (round : Round) (staple : Staple) (at : ServerId) (verdicts : List Verdict) → CoordinatorKeeps sc E (A c.txn) c
-    → c.phase ≡ phase.Checking round staple → coord.is_awaited round.awaited at ≡ true → RowKeeps sc E A c (sends (record c { phase = phase.Checking (coord.with_reply round at verdicts) staple }) [])
-counted_keeps sc E A c round staple at verdicts h e awaited =
+    → c.phase ≡ phase.Checking round staple → RowKeeps sc E A c (sends (record c { phase = phase.Checking (after_reply round at verdicts) staple }) [])
+counted_keeps sc E A c round staple at verdicts h e =
     let k : KeepsAsked sc (A c.txn) c = h.undecided (ap is_undecided e) in
-    let kept : RoundKept (KeepsEpoch c) round = subst (PhaseKept (KeepsEpoch c)) e k.round in
-    plain_keeps sc E A c.txn (Some (record c { phase = phase.Checking (coord.with_reply round at verdicts) staple })) []
+    let kept : EachServer (KeepsEpoch c) round.targets = subst (PhaseKept (KeepsEpoch c)) e k.round in
+    plain_keeps sc E A c.txn (Some (record c { phase = phase.Checking (after_reply round at verdicts) staple })) []
     (record {
       places = h.places;
       past = h.past;
       undecided = λ unsure. record {
         asked = k.asked;
         ran = λ s. k.ran s ∙ ap (λ (p : Phase). has_run_at sc c.txn p s) e;
-        round = record {
-          awaited = each_filter (KeepsEpoch c) (λ (s : ServerId). not (s.0 == at.0)) round.awaited kept.awaited;
-          replied = each_more (λ (reply : Reply). KeepsEpoch c reply.server) round.kept (record { server = at; verdicts = verdicts }) kept.replied (awaited_keeps (KeepsEpoch c) round.awaited at awaited kept.awaited);
-        };
+        round = each_replied (KeepsEpoch c) round.targets at verdicts kept;
       };
     }) tt
+
+-- the authority is asked before a further round
+updated_keeps : (sc : Scenario) (E : ℕ → ℕ) (A : Asking) (c : Coordinator) (round : Round) (staple : Staple) (at : ServerId) (verdicts : List Verdict) (named : List Wanted) → CoordinatorKeeps sc E (A c.txn) c
+    → c.phase ≡ phase.Checking round staple → judge (after_reply round at verdicts) None ≡ judged.Update named
+    → RowKeeps sc E A c (coord.asks c (after_judgement (after_reply round at verdicts) None))
+updated_keeps sc E A c round staple at verdicts named h e judgement =
+    let k : KeepsAsked sc (A c.txn) c = h.undecided (ap is_undecided e) in
+    let replied = after_reply round at verdicts in
+    let kept : EachServer (KeepsEpoch c) replied.targets = each_replied (KeepsEpoch c) round.targets at verdicts (subst (PhaseKept (KeepsEpoch c)) e k.round) in
+    let next = after_judgement replied None in
+    let renewed : EachServer (KeepsEpoch c) next.targets =
+    subst (λ (r : Round). EachServer (KeepsEpoch c) r.targets) (sym (updated_is replied named judgement)) (each_renewed (KeepsEpoch c) (aim_in replied None) replied.targets kept) in
+    plain_keeps sc E A c.txn (Some (coord.asks c next).state) (coord.asks c next).reaction.letters
+    (record {
+      places = h.places;
+      past = h.past;
+      undecided = λ unsure. record { asked = k.asked; ran = λ s. k.ran s ∙ ap (λ (p : Phase). has_run_at sc c.txn p s) e; round = renewed };
+    }) (tt, tt)
 
 -- ---- all mails
 
@@ -117,14 +125,15 @@ coordinator_row_keeps sc E A c mail homes h servers m =
       ignored = ignores_keeps sc E A c h;
       ran_next = λ done at asked value next k home. ran_next_keeps sc E A c mail done at asked value next homes h (subst (IsMail sc E A c mail.letter.from) k.said_is m) k;
       ran_last = λ done at asked value k none. ran_last_keeps sc E A c mail done at asked value homes h servers (subst (IsMail sc E A c mail.letter.from) k.said_is m) k none;
-      told_first = λ tell round k. prepares_keeps sc E A c round (coord.staple_of tell mail.sent) h k.asking;
-      counted = λ reply round staple at verdicts other others y e. counted_keeps sc E A c round staple at verdicts h y.checking y.awaited;
-      committed = λ reply round staple at verdicts y e first agreed.
-          plain_keeps sc E A c.txn (Some (coord.commits c round.number verdicts).state) (coord.decide_letters c outcome.Commit)
+      told = λ tell round k. prepares_keeps sc E A c round (coord.staple_of tell mail.sent) h k.asking;
+      counted = λ reply round staple at verdicts y e. counted_keeps sc E A c round staple at verdicts h y.checking;
+      committed = λ reply round staple at verdicts y e.
+          plain_keeps sc E A c.txn (Some (coord.commits c round.number (by_query (proofs_in (after_reply round at verdicts).targets))).state) (coord.decide_letters c outcome.Commit)
           (record { places = h.places; past = h.past; undecided = λ unsure. absurd (cc) }) (orders_plain c outcome.Commit c.servers);
-      denied = λ reply round staple at verdicts verdict y e f.
+      denied = λ reply round staple at verdicts verdict y e.
           plain_keeps sc E A c.txn (Some (coord.aborts c (cause.Denied (coord.denied_by verdict))).state) (coord.decide_letters c outcome.Abort)
           (record { places = h.places; past = h.past; undecided = λ unsure. absurd (cc) }) (orders_plain c outcome.Abort c.servers);
+      updated = λ reply round staple at verdicts named y e. updated_keeps sc E A c round staple at verdicts named h y.checking e;
       refused = λ reply round staple at number value k.
           plain_keeps sc E A c.txn (Some (coord.aborts c (cause.No (coord.refused_by at number value))).state) (coord.decide_letters c outcome.Abort)
           (record { places = h.places; past = h.past; undecided = λ unsure. absurd (cc) }) (orders_plain c outcome.Abort c.servers);

@@ -18,6 +18,7 @@ use Rattle.tp_machine.proofs.basics.Ids.{server_number}
 use Rattle.tp_machine.proofs.basics.Lists.{each_as, missing, placed_set}
 use Rattle.tp_machine.proofs.basics.Logs.{get_set}
 use Rattle.tp_machine.proofs.basics.Phases.{all_ran, awaits_is, has_run_at, is_first_at, is_undecided, late_has_run, next_ran, queries_of, sent_to_server}
+use Rattle.tp_machine.proofs.basics.Rounds.{EachServer, each_started}
 use Rattle.tp_machine.proofs.epochs.Asked.{Asking, IsKeptNaming, NamesKept, NamesOwn, asked_then, kept_are_asked, kept_are_own, naming, none_then, then_kept}
 use Rattle.tp_machine.proofs.epochs.Server.{BodyTold, DoneMade, IsPlainLetter, LettersEpochs, has_restarted, plain_letters, plain_names_none, plain_names_own}
 use Rattle.tp_machine.proofs.walks.CoordinatorRows.{IsRanAnswer}
@@ -27,8 +28,6 @@ use Rattle.tp_machine.specs.coord.Row as coord
 use Rattle.tp_machine.specs.coord.State.{Coordinator}
 use Rattle.tp_machine.specs.declared.coord.Phase.TheVariants as phase
 use Rattle.tp_machine.specs.declared.coord.Phase.{Phase}
-use Rattle.tp_machine.specs.declared.coord.Reply.{Reply}
-use Rattle.tp_machine.specs.declared.coord.Round.{Round}
 
 -- ---- what is kept
 
@@ -39,14 +38,10 @@ kept_epoch c at = flattened (slice_get c.epochs at.0)
 abbrev pub KeepsEpoch : Coordinator → ServerId → Type 0
 KeepsEpoch c at = is_some (kept_epoch c at) ≡ true
 
--- an epoch is kept of each server that a round awaits, and of each that has replied
-pub record RoundKept (K : ServerId → Type 0) (round : Round) : Type 0 where
-  pub awaited : Each K round.awaited
-  pub replied : Each (λ (reply : Reply). K reply.server) round.kept
-
+-- an epoch is kept of each server of a round
 abbrev pub PhaseKept : (ServerId → Type 0) → Phase → Type 0
-PhaseKept K (phase.Asking round) = RoundKept K round
-PhaseKept K (phase.Checking round staple) = RoundKept K round
+PhaseKept K (phase.Asking round) = EachServer K round.targets
+PhaseKept K (phase.Checking round staple) = EachServer K round.targets
 PhaseKept K _ = Unit {0}
 
 -- before the decision: what was asked is kept, and an epoch is kept of a server exactly where a query ran
@@ -176,22 +171,20 @@ deed_keeps sc E A c done asked at value h m =
 
 -- the last query ran: all servers are asked to prepare
 last_keeps : (sc : Scenario) (E : ℕ → ℕ) (A : Asking) (c : Coordinator) (done : DoneReply) (asked : Query) (at : ServerId) (value : ℤ) → CoordinatorKeeps sc E (A c.txn) c → c.servers ≡ servers_at sc c.txn
-    → IsAnswer sc E A c done asked at → query_in sc c.txn (done.query + 1) ≡ None → RowKeeps sc E A c (coord.asks (coord.with_deed c at done asked value))
+    → IsAnswer sc E A c done asked at → query_in sc c.txn (done.query + 1) ≡ None → RowKeeps sc E A c (coord.asks (coord.with_deed c at done asked value) (coord.commit_round (coord.with_deed c at done asked value)))
 last_keeps sc E A c done asked at value h servers m last =
-    let next = (coord.asks (coord.with_deed c at done asked value)).state in
+    let now = coord.with_deed c at done asked value in
+    let next = (coord.asks now (coord.commit_round now)).state in
     let k = deed_keeps sc E A c done asked at value h m in
     let ran : (s : ServerId) → is_some (kept_epoch next s) ≡ has_run_at sc c.txn next.phase s = λ s. k.ran s ∙ ap (list_any (is_at_server sc s.0)) (all_ran sc c.txn done.query last) in
-    plain_keeps sc E A c.txn (Some next) (coord.asks (coord.with_deed c at done asked value)).reaction.letters
+    plain_keeps sc E A c.txn (Some next) (coord.asks now (coord.commit_round now)).reaction.letters
     (record {
       places = k.places;
       past = k.past;
       undecided = λ unsure. record {
         asked = k.asked;
         ran = ran;
-        round = record {
-          awaited = each_server sc c (KeepsEpoch next) servers (λ s item. ran s ∙ (late_has_run sc c.txn next.phase s refl ∙ item));
-          replied = tt;
-        };
+        round = each_started (KeepsEpoch next) c.servers (each_server sc c (KeepsEpoch next) servers (λ s item. ran s ∙ (late_has_run sc c.txn next.phase s refl ∙ item)));
       };
     }) (tt, tt)
 
@@ -258,7 +251,7 @@ is_answer sc E A c mail done at asked value m k =
 -- the answer to the last query
 pub ran_last_keeps : (sc : Scenario) (E : ℕ → ℕ) (A : Asking) (c : Coordinator) (mail : Mail) (done : DoneReply) (at : ServerId) (asked : Query) (value : ℤ) → HaveHomes sc → CoordinatorKeeps sc E (A c.txn) c
     → c.servers ≡ servers_at sc c.txn → IsDoneMail sc E A c mail.letter.from done → IsRanAnswer sc c mail done at asked value → coord.home_of sc c (coord.next_number done.query) ≡ None
-    → RowKeeps sc E A c (coord.asks (coord.with_deed c at done asked value))
+    → RowKeeps sc E A c (coord.asks (coord.with_deed c at done asked value) (coord.commit_round (coord.with_deed c at done asked value)))
 ran_last_keeps sc E A c mail done at asked value homes h servers m k none =
     last_keeps sc E A c done asked at value h servers (is_answer sc E A c mail done at asked value m k) (last_is sc c done.query asked homes k.asked_is none)
 

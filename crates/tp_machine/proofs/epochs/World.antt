@@ -348,11 +348,11 @@ newest_plain : (held : Master) (said : Body) → Each IsPlainLetter (master.on_b
 newest_plain held (body.Probe probe) = (tt, tt)
 newest_plain held _ = tt
 
--- the authority alone acts
-authority_epochs : (sc : Scenario) (w : State) (authority : Authority) (happened : List What) → Epochs sc w
-    → StepEpochs sc w (record { actors = record w.actors { authority = authority }; happened = happened; letters = [] })
-authority_epochs sc w authority happened h =
-    same_asked sc w (record { actors = record w.actors { authority = authority }; happened = happened; letters = [] }) tt
+-- the offices alone act
+offices_epochs : (sc : Scenario) (w : State) (authority : Authority) (held : Master) (happened : List What) → Epochs sc w
+    → StepEpochs sc w (record { actors = record w.actors { authority = authority; master = held }; happened = happened; letters = [] })
+offices_epochs sc w authority held happened h =
+    same_asked sc w (record { actors = record w.actors { authority = authority; master = held }; happened = happened; letters = [] }) tt
     (record {
       actors_are = record { servers = h.servers; coordinators = h.coordinators; named = h.named; first = h.first; told = h.told };
       sent = plain_letters sc (asked_in w.mails) (epoch_at w.actors.servers) [] tt;
@@ -368,8 +368,10 @@ epochs_cases sc w homes sound a h =
       coordinator_received = λ n mail txn part c sent up. receipt_by_coordinator sc w homes sound a h n mail txn part c sent up;
       authority_told = λ n mail sent. unmoved_epochs sc w [] (office.authority_row w.actors.authority mail).reaction.letters h (tells_plain w.actors.authority mail.letter.body);
       master_told = λ n mail sent. unmoved_epochs sc w [] (master.master_row w.actors.master mail).reaction.letters h (newest_plain w.actors.master mail.letter.body);
-      ticked = λ by. authority_epochs sc w (office.after_tick by w.actors.authority) (what.Ticked by ∷ []) h;
-      revoked = λ cred exists. authority_epochs sc w (office.after_revocation cred w.actors.authority) (what.Revoked cred ∷ []) h;
+      published = λ admin exists more. offices_epochs sc w w.actors.authority (master.published admin w.actors.master) (what.Published admin (master.next_of w.actors.master admin) ∷ []) h;
+      pushed = λ admin server exists there. unmoved_epochs sc w [] (master.pushes w.actors.master admin server).reaction.letters h (tt, tt);
+      ticked = λ by. offices_epochs sc w (office.after_tick by w.actors.authority) w.actors.master (what.Ticked by ∷ []) h;
+      revoked = λ cred exists. offices_epochs sc w (office.after_revocation cred w.actors.authority) w.actors.master (what.Revoked cred ∷ []) h;
       begun = λ txn part c exists up new. begun_epochs sc w sound h txn part c up new;
     }
 

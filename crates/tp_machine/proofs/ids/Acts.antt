@@ -2,22 +2,23 @@
 -- step are sound.
 use Rattle.std.specs.List.{list_any}
 use Rattle.std.specs.Option.{option_map_or}
-use Rattle.std.proofs.Common.{IfSome, List, None, Option, Some, [], arith, drop, flat_map, length, refl, replicate, slice_get, subst, suc, sym, zero, ℕ, ◌++◌, ◌+◌, ◌∷◌, ◌≡◌}
+use Rattle.std.proofs.Common.{IfSome, List, None, Option, Some, [], arith, drop, flat_map, length, refl, replicate, slice_get, subst, suc, sym, zero, ℕ, true, ◌++◌, ◌+◌, ◌<◌, ◌∙◌, ◌∷◌, ◌≡◌}
+use Rattle.std.proofs.lemmas.Option.{same_Some}
 use Rattle.tp_types.specs.Effect.{Effect}
 use Rattle.tp_model.specs.Queries.{is_at_server, servers_from, servers_of}
 use Rattle.tp_model.specs.Words.actor
 use Rattle.tp_model.specs.Words.body
 use Rattle.tp_model.specs.Words.log
 use Rattle.tp_model.specs.Words.what
-use Rattle.tp_model.specs.Words.{Body, CredId, Letter, Mail, Query, Record, Scenario, ServerDecl, ServerId, Settled, Transaction, TxnId, What}
+use Rattle.tp_model.specs.Words.{Admin, AdminId, Body, CredId, Letter, Mail, Query, Record, Scenario, ServerDecl, ServerId, Settled, Transaction, TxnId, What}
 use Rattle.tp_machine.proofs.basics.Lists.{by_cond, each_append, each_drop, each_flat_map, each_get, each_more, each_set, missing, placed_none}
 use Rattle.tp_machine.proofs.basics.Stores.{opened_each}
 use Rattle.tp_machine.proofs.ids.Coordinator.{IsSoundCoordinatorEffect, coordinator_row_sound, coordinator_with_age_sound, submit_row_sound}
-use Rattle.tp_machine.proofs.ids.Server.{IsSoundServerEffect, server_row_sound}
-use Rattle.tp_machine.proofs.ids.Valid.{IsValid}
+use Rattle.tp_machine.proofs.ids.Server.{IsSoundServerEffect, server_row_sound, version_of, versions_set}
+use Rattle.tp_machine.proofs.ids.Valid.{IsValid, less}
 use Rattle.tp_machine.specs.Machine.{PartMove, acts_by, coordinator_fact, log_with, opened_part, server_fact, with_age}
 use Rattle.tp_machine.specs.Parts.{Part}
-use Rattle.tp_machine.specs.Sound.{AreCreds, AreVersions, Each, IsActor, IsCred, IsServer, IsSettledOf, IsSoundAuthority, IsSoundBody, IsSoundCoordinatorPart, IsSoundCoordinatorRecord, IsSoundCoordinatorUp, IsSoundDecision, IsSoundEntry, IsSoundLetter, IsSoundMaster, IsSoundRefusal, IsSoundServerPart, IsSoundServerRecord, IsSoundServerUp, IsSoundWhat, IsTxn, IsWriteOf}
+use Rattle.tp_machine.specs.Sound.{AreCreds, AreVersions, Each, IsActor, IsAdmin, IsCred, IsServer, IsSettledOf, IsSoundAuthority, IsSoundBody, IsSoundCoordinatorPart, IsSoundCoordinatorRecord, IsSoundCoordinatorUp, IsSoundDecision, IsSoundEntry, IsSoundLetter, IsSoundMaster, IsSoundRefusal, IsSoundServerPart, IsSoundServerRecord, IsSoundServerUp, IsSoundWhat, IsTxn, IsVersion, IsVersionOf, IsWriteOf}
 use Rattle.tp_machine.specs.coord.Opened as coord
 use Rattle.tp_machine.specs.coord.Row.{coordinator_row, submit_row}
 use Rattle.tp_machine.specs.coord.State.{Coordinator}
@@ -164,13 +165,35 @@ authority_sends_sound sc authority mail h m = told_sound sc authority mail.lette
 -- ---- the master
 
 newest_sound : (sc : Scenario) (held : Master) (said : Body) → IsSoundMaster sc held → IsSoundBody sc actor.Master said → Each (IsSoundLetter sc) (master.on_body held said).reaction.letters
-newest_sound sc held (body.Probe probe) h m = (record { from_is_actor = tt; to_is_actor = m.txn; says = record { txn = m.txn; goes_to = refl; newest = h }; refuses = tt }, tt)
+newest_sound sc held (body.Probe probe) h m = (record { from_is_actor = tt; to_is_actor = m.txn; says = record { txn = m.txn; goes_to = refl; newest = h.newest }; refuses = tt }, tt)
 newest_sound sc held _ h m = tt
 
 -- what the master sends on receipt of a mail to it
 pub master_sends_sound : (sc : Scenario) (held : Master) (mail : Mail) → IsSoundMaster sc held → IsSoundBody sc actor.Master mail.letter.body
     → Each (IsSoundLetter sc) (master.master_row held mail).reaction.letters
 master_sends_sound sc held mail h m = newest_sound sc held mail.letter.body h m
+
+-- a version that is published exists, as the library has more
+pub published_exists : (sc : Scenario) (held : Master) (admin : AdminId) → IsSoundMaster sc held → IsAdmin sc admin → master.has_more held admin ≡ true → IsVersion sc admin (master.next_of held admin)
+published_exists sc held admin h within more =
+    let last = version_of sc.admins held.last admin.0 (record { 0 = 0 }) h.last within in
+    let below : (master.version_in held.newest admin).0 < (master.version_in held.last admin).0 = less (master.version_in held.newest admin).0 (master.version_in held.last admin).0 more in
+    record { declared = last.0; declared_is = last.1; in_library = (omega arith, omega (arith, below, last.2.1)) }
+
+-- so the master stays sound
+pub published_sound : (sc : Scenario) (held : Master) (admin : AdminId) → IsSoundMaster sc held → IsVersion sc admin (master.next_of held admin) → IsSoundMaster sc (master.published admin held)
+published_sound sc held admin h v =
+    record {
+      newest = versions_set sc.admins held.newest admin.0 (master.next_of held admin) h.newest
+          (λ declared e. subst (λ (a : Admin). IsVersionOf a (master.next_of held admin)) (same_Some v.declared declared (sym v.declared_is ∙ e)) v.in_library);
+      last = h.last;
+    }
+
+-- a version that is pushed exists
+pub pushes_sound : (sc : Scenario) (held : Master) (admin : AdminId) (server : ServerId) → IsSoundMaster sc held → IsAdmin sc admin → IsServer sc server → Each (IsSoundLetter sc) (master.pushes held admin server).reaction.letters
+pushes_sound sc held admin server h within exists =
+    let newest = version_of sc.admins held.newest admin.0 (record { 0 = 0 }) h.newest within in
+    (record { from_is_actor = tt; to_is_actor = exists; says = record { goes_to = tt; version = record { declared = newest.0; declared_is = newest.1; in_library = newest.2 } }; refuses = tt }, tt)
 
 -- ---- before the first step
 

@@ -1,25 +1,37 @@
 -- The coordinator's rows keep its state sound, force a sound record, and send sound letters.
-use Rattle.std.specs.List.{list_all}
-use Rattle.std.proofs.Common.{IfSome, List, None, Option, Some, [], ap, arith, false, is_some, option_and_then, option_map, refl, slice_get, subst, true, ℕ, ℤ, ◌++◌, ◌∷◌, ◌≡◌}
+use Rattle.std.specs.List.{find}
+use Rattle.std.specs.Option.{is_none, option_map_or}
+use Rattle.std.proofs.Common.{IfSome, List, None, Option, Some, [], ap, false, filter, is_some, map, not, option_and_then, option_map, refl, slice_get, subst, sym, true, unwrap_or, ℕ, ℤ, ◌∷◌, ◌≡◌}
 use Rattle.std.proofs.lemmas.Option.{same_Some}
 use Rattle.tp_types.specs.Effect.{Effect, ignores, sends}
+use Rattle.tp_model.specs.Ids.{same_server}
 use Rattle.tp_model.specs.Queries.{item_of, query_at}
 use Rattle.tp_model.specs.Words.actor
 use Rattle.tp_model.specs.Words.cause
 use Rattle.tp_model.specs.Words.query
-use Rattle.tp_model.specs.Words.{Actor, Body, Cause, DoneReply, Item, Mail, Outcome, Query, Scenario, ServerId, Staple, Transaction, TxnId, Verdict, VoteReply}
+use Rattle.tp_model.specs.Words.{Actor, AdminId, Body, Cause, DoneReply, Item, Mail, Outcome, Query, Scenario, ServerId, Staple, Transaction, TxnId, Verdict, Version, VoteReply}
 use Rattle.tp_machine.proofs.basics.Homes.{IsHome, home_is}
-use Rattle.tp_machine.proofs.basics.Lists.{each_filter, each_found, each_get, each_map, each_more, each_passing}
+use Rattle.tp_machine.proofs.basics.Lists.{by_cond, each_append, each_as, each_filter, each_flat_map, each_found, each_get, each_map, each_more, each_passing}
 use Rattle.tp_machine.proofs.ids.Valid.{IsValid, IsValidItem}
 use Rattle.tp_machine.proofs.walks.CoordinatorRows.{IsNo, IsYes, coordinator_by, submit_by}
 use Rattle.tp_machine.specs.Runs.{deed_of}
-use Rattle.tp_machine.specs.Sound.{AreSoundVerdicts, Each, HasValue, IsActor, IsItemOf, IsRefusalOf, IsServer, IsSoundBallot, IsSoundBody, IsSoundCause, IsSoundCoordinator, IsSoundCoordinatorRecord, IsSoundDeed, IsSoundInstance, IsSoundLetter, IsSoundPhase, IsSoundProof, IsSoundQuery, IsSoundRefusal, IsSoundReply, IsSoundRound, IsSoundStaple, IsSoundVerdict, ProvesEach, proves_each, query_in}
+use Rattle.tp_machine.specs.Sound.{AreSoundVerdicts, AreWanted, Each, HasValue, IsActor, IsItemOf, IsRefusalOf, IsServer, IsSoundBallot, IsSoundBody, IsSoundCause, IsSoundCoordinator, IsSoundCoordinatorRecord, IsSoundDeed, IsSoundInstance, IsSoundLetter, IsSoundPhase, IsSoundProof, IsSoundQuery, IsSoundMet, IsSoundRefusal, IsSoundRound, IsSoundStaple, IsSoundTarget, IsSoundVerdict, IsSoundWanted, IsVersion, ProvesEach, proves_each, query_in}
 use Rattle.tp_machine.specs.Sums.{asked_value, registers_after, sum_asked}
-use Rattle.tp_machine.specs.coord.Row.{aborts, are_agreed, asks, commits, coordinator_row, coordinator_with_age, denied_by, first_false, first_round, instances_with, is_false_verdict, is_true_verdict, next_number, next_turn, prepare_letter, prepares, query_of, query_request, refused_by, request, sends_query, staple_of, submit_row, value_of, with_deed, with_reply, without}
+use Rattle.tp_machine.specs.coord.Row.{aborts, asks, commit_round, commits, coordinator_row, coordinator_with_age, denied_by, instances_with, next_number, next_turn, prepare_letter, prepares, query_of, query_request, refused_by, request, sends_query, staple_of, submit_row, value_of, with_deed, without}
 use Rattle.tp_machine.specs.coord.State.{Coordinator}
 use Rattle.tp_machine.specs.declared.coord.Phase.TheVariants as phase
 use Rattle.tp_machine.specs.declared.coord.Phase.{Phase}
-use Rattle.tp_machine.specs.declared.coord.Round.{Round}
+use Rattle.tp_machine.proofs.basics.Aims.{IsOf, aim_has}
+use Rattle.tp_machine.proofs.basics.Rounds.{each_by_query, each_missing, missing_in, updated_is}
+use Rattle.tp_round.proofs.AgainLemmas.{updated}
+use Rattle.tp_round.proofs.AgreedLemmas.{all_agree, false_is_least}
+use Rattle.tp_round.specs.Judge.{after_judgement, after_reply, aim_in, awaits, is_outdated, is_proved_by, judge, new_target, next_target, want_of, wants_of, with_reply}
+use Rattle.tp_round.specs.Laws.{is_true}
+use Rattle.tp_round.specs.Replies.{by_query, proofs_in, verdicts_in}
+use Rattle.tp_round.specs.declared.round.Judged.TheVariants as judged
+use Rattle.tp_round.specs.declared.round.Round.{Round}
+use Rattle.tp_round.specs.declared.round.Target.{Target}
+use Rattle.tp_round.specs.declared.round.Wanted.{Wanted}
 
 -- what a coordinator's act leaves is sound: its state, still of the same transaction, what it forces and what it sends
 pub record IsSoundCoordinatorEffect (sc : Scenario) (c : Coordinator) (effect : Effect Coordinator) : Type 0 where
@@ -120,14 +132,18 @@ coordinator_with_age_sound sc c place h =
 
 -- ---- Done
 
-asks_sound : (sc : Scenario) (c : Coordinator) → IsSoundCoordinator sc c → IsSoundCoordinatorEffect sc c (asks c)
-asks_sound sc c h =
+asks_sound : (sc : Scenario) (c : Coordinator) (round : Round) → IsSoundCoordinator sc c → IsSoundRound sc c.txn round → IsSoundCoordinatorEffect sc c (asks c round)
+asks_sound sc c round h r =
     record {
       same_txn = refl;
-      state_is = moved sc c (phase.Asking (first_round c)) (next_turn c) c.epochs h (record { aim = tt; kept = tt; awaited = h.servers; mets = tt });
+      state_is = moved sc c (phase.Asking round) (next_turn c) c.epochs h r;
       forces = tt;
       sends_only = (record { from_is_actor = h.exists; to_is_actor = tt; says = record { txn = h.exists; goes_to = refl }; refuses = tt }, tt);
     }
+
+-- the first round, of servers that exist
+first_sound : (sc : Scenario) (txn : TxnId) (servers : List ServerId) → Each (IsServer sc) servers → Each (IsSoundTarget sc txn) (map new_target servers)
+first_sound sc txn servers h = each_map (IsServer sc) (IsSoundTarget sc txn) new_target (λ server exists. record { server = exists; reply = tt }) servers h
 
 with_deed_sound : (sc : Scenario) (c : Coordinator) (server : ServerId) (done : DoneReply) (asked : Query) (value : ℤ) → IsSoundCoordinator sc c
     → query_in sc c.txn done.query ≡ Some asked → IsSoundCoordinator sc (with_deed c server done asked value)
@@ -143,6 +159,12 @@ with_deed_sound sc c server done asked value h e =
 
 -- ---- Tell
 
+-- what is wanted of a server exists
+want_sound : (sc : Scenario) (round : Round) (server : ServerId) (found : Option Wanted) → find (λ (named : Wanted). same_server named.server server) round.named ≡ found → Each (IsSoundWanted sc) round.named
+    → AreWanted sc (option_map_or (λ (named : Wanted). named.want) found [])
+want_sound sc round server None e h = tt
+want_sound sc round server (Some named) e h = (each_found (IsSoundWanted sc) (λ (one : Wanted). same_server one.server server) round.named named h e).want
+
 prepares_sound : (sc : Scenario) (c : Coordinator) (round : Round) (staple : Staple) → IsSoundCoordinator sc c → IsSoundRound sc c.txn round → IsSoundStaple sc staple
     → IsSoundCoordinatorEffect sc c (prepares c round staple)
 prepares_sound sc c round staple h r t =
@@ -150,17 +172,32 @@ prepares_sound sc c round staple h r t =
       same_txn = refl;
       state_is = moved sc c (phase.Checking round staple) (next_turn c) c.epochs h (r, t);
       forces = tt;
-      sends_only = each_map (IsServer sc) (IsSoundLetter sc) (prepare_letter c staple)
-          (λ server exists. request_sound sc c server _ h exists (record { txn = h.exists; goes_to = tt; staple = t; want = tt })) round.awaited r.awaited;
+      sends_only = each_map (IsServer sc) (IsSoundLetter sc) (prepare_letter c round staple)
+          (λ server exists. request_sound sc c server _ h exists
+          (record { txn = h.exists; goes_to = tt; staple = t; want = want_sound sc round server (find (λ (named : Wanted). same_server named.server server) round.named) refl r.named }))
+          (missing_in round.targets) (each_missing (IsServer sc) round.targets (each_as (IsSoundTarget sc c.txn) (λ (target : Target). IsServer sc target.server) (λ target k. k.server) round.targets r.targets));
     }
 
 -- ---- Vote
 
--- verdicts that agreed are proofs
-proofs_sound : (sc : Scenario) (txn : TxnId) (verdicts : List Verdict) → are_agreed verdicts ≡ true → AreSoundVerdicts sc txn verdicts → Each (IsSoundProof sc txn) verdicts
-proofs_sound sc txn verdicts e h =
-    let all_true : list_all is_true_verdict verdicts ≡ true = grind arith in
-    each_passing (IsSoundVerdict sc txn) (IsSoundProof sc txn) is_true_verdict (λ verdict sound passes. record { sound = sound; has_rule = passes }) verdicts all_true h
+-- the verdicts of a round's replies
+replies_sound : (sc : Scenario) (txn : TxnId) (targets : List Target) → Each (IsSoundTarget sc txn) targets → AreSoundVerdicts sc txn (proofs_in targets)
+replies_sound sc txn targets h = each_flat_map (IsSoundTarget sc txn) (IsSoundVerdict sc txn) verdicts_in (λ target k. of_reply target.reply k.reply) targets h
+  where
+    of_reply : (reply : Option (List Verdict)) → IfSome reply (AreSoundVerdicts sc txn) → AreSoundVerdicts sc txn (unwrap_or reply [])
+    of_reply None k = tt
+    of_reply (Some verdicts) k = k
+
+has_rule : (rule : Option ℕ) → not (is_none rule) ≡ true → is_some rule ≡ true
+has_rule None e = absurd (cc)
+has_rule (Some rule) e = refl
+
+-- where all is true the verdicts are proofs
+proofs_sound : (sc : Scenario) (txn : TxnId) (round : Round) → judge round None ≡ judged.AllTrue → Each (IsSoundTarget sc txn) round.targets → Each (IsSoundProof sc txn) (by_query (proofs_in round.targets))
+proofs_sound sc txn round e h =
+    each_by_query (IsSoundProof sc txn) (proofs_in round.targets)
+    (each_passing (IsSoundVerdict sc txn) (IsSoundProof sc txn) is_true (λ verdict sound passes. record { sound = sound; has_rule = has_rule verdict.rule passes }) (proofs_in round.targets) (all_agree round None e).all_true
+    (replies_sound sc txn round.targets h))
 
 commits_sound : (sc : Scenario) (c : Coordinator) (rounds : ℕ) (proofs : List Verdict) → IsSoundCoordinator sc c → Each (IsSoundProof sc c.txn) proofs
     → IsSoundCoordinatorEffect sc c (commits c rounds proofs)
@@ -186,27 +223,63 @@ aborts_sound sc c why h caused =
     }
 
 -- a false verdict that is sound denies what exists
-denied_sound : (sc : Scenario) (txn : TxnId) (verdicts : List Verdict) (verdict : Verdict) → AreSoundVerdicts sc txn verdicts → first_false verdicts ≡ Some verdict → IsSoundCause sc txn (cause.Denied (denied_by verdict))
-denied_sound sc txn verdicts verdict h e =
-    let sound : IsSoundVerdict sc txn verdict = each_found (IsSoundVerdict sc txn) is_false_verdict verdicts verdict h e in
+denied_sound : (sc : Scenario) (txn : TxnId) (round : Round) (verdict : Verdict) → judge round None ≡ judged.False verdict → Each (IsSoundTarget sc txn) round.targets
+    → IsSoundCause sc txn (cause.Denied (denied_by verdict))
+denied_sound sc txn round verdict e h =
+    let least = false_is_least round None verdict e in
+    let sound : IsSoundVerdict sc txn verdict = each_get (IsSoundVerdict sc txn) (proofs_in round.targets) least.place verdict (replies_sound sc txn round.targets h) least.there in
     record { query = sound.query; version = sound.version }
 
 without_sound : (sc : Scenario) (awaited : List ServerId) (server : ServerId) → Each (IsServer sc) awaited → Each (IsServer sc) (without awaited server)
 without_sound sc awaited server h = each_filter (IsServer sc) _ awaited h
 
-counted_sound : (sc : Scenario) (c : Coordinator) (round : Round) (staple : Staple) (server : ServerId) (verdicts : List Verdict) → IsSoundCoordinator sc c → IsSoundPhase sc c.txn (phase.Checking round staple)
-    → IsServer sc server → AreSoundVerdicts sc c.txn verdicts → IsSoundCoordinatorEffect sc c (sends (record c { phase = phase.Checking (with_reply round server verdicts) staple }) [])
-counted_sound sc c round staple server verdicts h a exists v =
-    let kept : Each (IsSoundReply sc c.txn) (round.kept ++ record { server = server; verdicts = verdicts } ∷ []) =
-    each_more (IsSoundReply sc c.txn) round.kept (record { server = server; verdicts = verdicts }) a.0.kept (record { server = exists; verdicts = v }) in
-    let next : IsSoundRound sc c.txn (with_reply round server verdicts) =
-    record { aim = a.0.aim; kept = kept; awaited = without_sound sc round.awaited server a.0.awaited; mets = a.0.mets } in
-    record {
-      same_txn = refl;
-      state_is = moved sc c (phase.Checking (with_reply round server verdicts) staple) c.turn c.epochs h (next, a.1);
-      forces = tt;
-      sends_only = tt;
-    }
+-- a round with a sound reply
+replied_sound : (sc : Scenario) (txn : TxnId) (round : Round) (server : ServerId) (verdicts : List Verdict) → IsSoundRound sc txn round → IsServer sc server → AreSoundVerdicts sc txn verdicts
+    → IsSoundRound sc txn (after_reply round server verdicts)
+replied_sound sc txn round server verdicts r exists v = record { view = r.view; targets = with_sound round.targets r.targets; aim = r.aim; named = r.named; mets = r.mets }
+  where
+    with_sound : (targets : List Target) → Each (IsSoundTarget sc txn) targets → Each (IsSoundTarget sc txn) (with_reply targets server verdicts)
+    with_sound [] h = tt
+    with_sound (target ∷ targets) h =
+        by_cond (Each (IsSoundTarget sc txn)) (awaits server target) (λ e. (record { server = exists; reply = v }, h.1)) (λ e. (h.0, with_sound targets h.1))
+
+counted_sound : (sc : Scenario) (c : Coordinator) (round : Round) (staple : Staple) → IsSoundCoordinator sc c → IsSoundRound sc c.txn round → IsSoundStaple sc staple
+    → IsSoundCoordinatorEffect sc c (sends (record c { phase = phase.Checking round staple }) [])
+counted_sound sc c round staple h r t =
+    record { same_txn = refl; state_is = moved sc c (phase.Checking round staple) c.turn c.epochs h (r, t); forces = tt; sends_only = tt }
+
+-- ---- an update
+
+-- what is aimed at exists, as the versions of proofs do
+aim_sound : (sc : Scenario) (txn : TxnId) (round : Round) → IsSoundRound sc txn round → AreWanted sc (aim_in round None)
+aim_sound sc txn round r =
+    each_as (IsOf (λ (admin : AdminId) (version : ℕ). IsVersion sc admin (record { 0 = version }))) (λ (wanted : AdminId × Version). IsVersion sc wanted.0 wanted.1) (λ wanted k. k) (aim_in round None)
+    (aim_has (λ (admin : AdminId) (version : ℕ). IsVersion sc admin (record { 0 = version })) round.levels (proofs_in round.targets) r.view
+    (each_as (IsSoundVerdict sc txn) _ (λ verdict k. k.version) (proofs_in round.targets) (replies_sound sc txn round.targets r.targets)))
+
+renewed_sound : (sc : Scenario) (txn : TxnId) (aim : List (AdminId × Version)) (target : Target) → IsSoundTarget sc txn target → IsSoundTarget sc txn (next_target aim target)
+renewed_sound sc txn aim target h = by_cond (IsSoundTarget sc txn) (is_outdated aim target) (λ e. record { server = h.server; reply = tt }) (λ e. h)
+
+-- the named servers are some of the round's
+named_sound : (sc : Scenario) (txn : TxnId) (aim : List (AdminId × Version)) (targets : List Target) → AreWanted sc aim → Each (IsSoundTarget sc txn) targets → Each (IsSoundWanted sc) (wants_of aim targets)
+named_sound sc txn aim targets a h =
+    each_map (IsSoundTarget sc txn) (IsSoundWanted sc) (want_of aim)
+    (λ target k. record { server = k.server; want = each_filter (λ (wanted : AdminId × Version). IsVersion sc wanted.0 wanted.1) (is_proved_by target) aim a })
+    (filter (is_outdated aim) targets) (each_filter (IsSoundTarget sc txn) (is_outdated aim) targets h)
+
+-- the next round after an update
+next_sound : (sc : Scenario) (txn : TxnId) (round : Round) (named : List Wanted) → judge round None ≡ judged.Update named → IsSoundRound sc txn round → IsSoundRound sc txn (after_judgement round None)
+next_sound sc txn round named e r =
+    let aim = aim_in round None in
+    let aimed : AreWanted sc aim = aim_sound sc txn round r in
+    subst (IsSoundRound sc txn) (sym (updated_is round named e))
+    (record {
+      view = r.view;
+      targets = each_map (IsSoundTarget sc txn) (IsSoundTarget sc txn) (next_target aim) (λ target k. renewed_sound sc txn aim target k) round.targets r.targets;
+      aim = aimed;
+      named = subst (Each (IsSoundWanted sc)) (sym (updated round None named e).is_named) (named_sound sc txn aim round.targets aimed r.targets);
+      mets = each_append (IsSoundMet sc) round.mets [] r.mets tt;
+    })
 
 -- ---- Ack
 
@@ -256,15 +329,20 @@ coordinator_row_sound sc c mail valid h a r m =
           (record { asked = further.asked; asked_is = further.asked_is; server_is = further.server_is }) in
           record { same_txn = refl; state_is = on.state_is; forces = tt; sends_only = on.sends_only };
       ran_last = λ done server asked value k none.
-          let on = asks_sound sc (with_deed c server done asked value) (with_deed_sound sc c server done asked value h k.asked_is) in
+          let now = with_deed c server done asked value in
+          let on = asks_sound sc now (commit_round now) (with_deed_sound sc c server done asked value h k.asked_is)
+          (record { view = refl; targets = first_sound sc c.txn c.servers h.servers; aim = tt; named = tt; mets = tt }) in
           record { same_txn = refl; state_is = on.state_is; forces = tt; sends_only = on.sends_only };
-      told_first = λ tell round k. prepares_sound sc c round (staple_of tell mail.sent) h (awaits k.asking) (subst (IsSoundBody sc (actor.Coordinator c.txn)) k.said_is m).revoked;
-      counted = λ reply round staple server verdicts other others y e.
-          counted_sound sc c round staple server verdicts h (awaits y.checking) (subst (IsActor sc) y.from_is a) (yes_sound sc c mail reply round staple server verdicts m y);
-      committed = λ reply round staple server verdicts y e first agreed.
-          commits_sound sc c round.number verdicts h (proofs_sound sc c.txn verdicts agreed (yes_sound sc c mail reply round staple server verdicts m y));
-      denied = λ reply round staple server verdicts verdict y e f.
-          aborts_sound sc c (cause.Denied (denied_by verdict)) h (denied_sound sc c.txn verdicts verdict (yes_sound sc c mail reply round staple server verdicts m y) f);
+      told = λ tell round k. prepares_sound sc c round (staple_of tell mail.sent) h (awaits k.asking) (subst (IsSoundBody sc (actor.Coordinator c.txn)) k.said_is m).revoked;
+      counted = λ reply round staple server verdicts y e. counted_sound sc c (after_reply round server verdicts) staple h (replied reply round staple server verdicts y) (awaits y.checking).1;
+      committed = λ reply round staple server verdicts y e.
+          let replied_round = after_reply round server verdicts in
+          commits_sound sc c round.number (by_query (proofs_in replied_round.targets)) h (proofs_sound sc c.txn replied_round e (replied reply round staple server verdicts y).targets);
+      denied = λ reply round staple server verdicts verdict y e.
+          aborts_sound sc c (cause.Denied (denied_by verdict)) h (denied_sound sc c.txn (after_reply round server verdicts) verdict e (replied reply round staple server verdicts y).targets);
+      updated = λ reply round staple server verdicts named y e.
+          let replied_round = after_reply round server verdicts in
+          asks_sound sc c (after_judgement replied_round None) h (next_sound sc c.txn replied_round named e (replied reply round staple server verdicts y));
       refused = λ reply round staple server number value k.
           aborts_sound sc c (cause.No (refused_by server number value)) h (no_sound sc c mail reply round staple server number value r m k);
       acknowledged = λ ack ended awaited server k. acknowledged_sound sc c ended awaited server h (awaits k.ending);
@@ -272,3 +350,7 @@ coordinator_row_sound sc c mail valid h a r m =
   where
     awaits : {awaited : Phase} → c.phase ≡ awaited → IsSoundPhase sc c.txn awaited
     awaits e = subst (IsSoundPhase sc c.txn) e h.awaits
+
+    replied : (reply : VoteReply) (round : Round) (staple : Staple) (server : ServerId) (verdicts : List Verdict) → IsYes c mail reply round staple server verdicts → IsSoundRound sc c.txn (after_reply round server verdicts)
+    replied reply round staple server verdicts y =
+        replied_sound sc c.txn round server verdicts (awaits y.checking).0 (subst (IsActor sc) y.from_is a) (yes_sound sc c mail reply round staple server verdicts m y)

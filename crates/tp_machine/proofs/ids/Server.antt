@@ -111,7 +111,7 @@ restarted_sound sc s q m = record { txn = m.txn; goes_to = refl; query = record 
 -- ---- Prepare
 
 -- of sound versions the one of an administrator that exists
-version_of : (admins : List Admin) (versions : List Version) (n : ℕ) (default : Version) → AreVersionsOf admins versions → n < length admins
+pub version_of : (admins : List Admin) (versions : List Version) (n : ℕ) (default : Version) → AreVersionsOf admins versions → n < length admins
     → (declared : Admin) × (slice_get admins n ≡ Some declared) × IsVersionOf declared (unwrap_or (slice_get versions n) default)
 version_of [] versions n default h within = absurd (omega arith)
 version_of (admin ∷ admins) [] n default h within = absurd h
@@ -127,7 +127,7 @@ known_version sc s admin h within =
 greater_of : (declared : Admin) (one other : Version) → IsVersionOf declared one → IsVersionOf declared other → IsVersionOf declared (greater one other)
 greater_of declared one other h k = (omega (arith, h.0), omega (arith, h.1, k.1))
 
-versions_set : (admins : List Admin) (versions : List Version) (n : ℕ) (new : Version) → AreVersionsOf admins versions → ((declared : Admin) → slice_get admins n ≡ Some declared → IsVersionOf declared new)
+pub versions_set : (admins : List Admin) (versions : List Version) (n : ℕ) (new : Version) → AreVersionsOf admins versions → ((declared : Admin) → slice_get admins n ≡ Some declared → IsVersionOf declared new)
     → AreVersionsOf admins (slice_set versions n new)
 versions_set [] [] n new h of = tt
 versions_set [] (version ∷ versions) n new h of = absurd h

@@ -6,12 +6,12 @@ use Rattle.tp_model.specs.Words.step
 use Rattle.tp_model.specs.Words.what
 use Rattle.tp_model.specs.Words.{Actor, Letter, Mail, Scenario, ServerId, Step, TxnId, What}
 use Rattle.tp_machine.proofs.basics.Lists.{at_made, at_set, each_append, each_get, each_map}
-use Rattle.tp_machine.proofs.ids.Acts.{IsSoundAct, authority_sends_sound, coordinator_begun_sound, coordinator_idle_sound, coordinator_receipt_sound, master_sends_sound, none_sound, revoked_sound, server_opening_sound, server_receipt_sound}
+use Rattle.tp_machine.proofs.ids.Acts.{IsSoundAct, authority_sends_sound, coordinator_begun_sound, coordinator_idle_sound, coordinator_receipt_sound, master_sends_sound, none_sound, published_exists, published_sound, pushes_sound, revoked_sound, server_opening_sound, server_receipt_sound}
 use Rattle.tp_machine.proofs.ids.Valid.{IsValid, valid_built}
 use Rattle.tp_machine.proofs.walks.Steps.{Cases, SaysIdle, WasSent, machine_after_by}
 use Rattle.tp_machine.specs.Machine.{Machine, Move, State, facts_of, idle_move, machine_after, mails_of, opened_part, opening_state, refusal, state_after}
 use Rattle.tp_machine.specs.Parts.{Part}
-use Rattle.tp_machine.specs.Sound.{AreSoundActors, Each, IsActor, IsSound, IsSoundAuthority, IsSoundBody, IsSoundCoordinatorPart, IsSoundFact, IsSoundLetter, IsSoundMail, IsSoundServerPart, IsSoundWhat, IsStepOf}
+use Rattle.tp_machine.specs.Sound.{AreSoundActors, Each, IsActor, IsSound, IsSoundAuthority, IsSoundBody, IsSoundCoordinatorPart, IsSoundFact, IsSoundLetter, IsSoundMail, IsSoundMaster, IsSoundServerPart, IsSoundWhat, IsStepOf}
 use Rattle.tp_machine.specs.coord.Opened as coord
 use Rattle.tp_machine.specs.coord.Opened.{idle}
 use Rattle.tp_machine.specs.coord.State.{Coordinator}
@@ -19,6 +19,7 @@ use Rattle.tp_machine.specs.declared.actors.Actors.{Actors}
 use Rattle.tp_machine.specs.server.Opened as server
 use Rattle.tp_machine.specs.server.State.{Server}
 use Rattle.tp_offices.specs.declared.authority.Authority.{Authority}
+use Rattle.tp_offices.specs.declared.master.Master.{Master}
 
 -- ---- a move
 
@@ -62,6 +63,10 @@ coordinators_sound sc actors txn part h p =
 authority_sound : (sc : Scenario) (actors : Actors) (authority : Authority) → AreSoundActors sc actors → IsSoundAuthority sc authority → AreSoundActors sc (record actors { authority = authority })
 authority_sound sc actors authority h a = record { servers = h.servers; coordinators = h.coordinators; authority = a; master = h.master }
 
+-- and with a master that acted
+master_sound : (sc : Scenario) (actors : Actors) (held : Master) → AreSoundActors sc actors → IsSoundMaster sc held → AreSoundActors sc (record actors { master = held })
+master_sound sc actors held h m = record { servers = h.servers; coordinators = h.coordinators; authority = h.authority; master = m }
+
 -- what a mail that was sent says is sound
 letter_sound : (sc : Scenario) (w : State) (n : ℕ) (mail : Mail) (to : Actor) → IsSound sc w → WasSent w n mail to → IsActor sc mail.letter.from × IsSoundBody sc to mail.letter.body
 letter_sound sc w n mail to h sent =
@@ -83,6 +88,14 @@ sound_cases sc w valid h =
           record { actors_are = h.actors_are; left = record { facts_are = tt; letters_are = authority_sends_sound sc w.actors.authority mail h.actors_are.authority (letter_sound sc w n mail actor.Authority h sent).1 } };
       master_told = λ n mail sent.
           record { actors_are = h.actors_are; left = record { facts_are = tt; letters_are = master_sends_sound sc w.actors.master mail h.actors_are.master (letter_sound sc w n mail actor.Master h sent).1 } };
+      published = λ admin exists more.
+          let version = published_exists sc w.actors.master admin h.actors_are.master exists more in
+          record {
+            actors_are = master_sound sc w.actors _ h.actors_are (published_sound sc w.actors.master admin h.actors_are.master version);
+            left = record { facts_are = (version, tt); letters_are = tt };
+          };
+      pushed = λ admin server exists there.
+          record { actors_are = h.actors_are; left = record { facts_are = tt; letters_are = pushes_sound sc w.actors.master admin server h.actors_are.master exists there } };
       ticked = λ by. record { actors_are = authority_sound sc w.actors _ h.actors_are h.actors_are.authority; left = record { facts_are = (tt, tt); letters_are = tt } };
       revoked = λ cred exists.
           record {
@@ -129,7 +142,7 @@ sound_opening sc built =
             (at_made (λ (k : ℕ) (found : Part Coordinator). IsSoundCoordinatorPart sc (record { 0 = k }) found) (λ (k : ℕ). opened_part (coord.idle sc (record { 0 = k }))) 0 (length sc.txns)
             (λ k within. coordinator_idle_sound sc (record { 0 = k }) (omega arith)) n part e);
         authority = none_sound sc (length sc.creds);
-        master = valid.openings;
+        master = record { newest = valid.openings; last = valid.lasts };
       };
       mails_are = tt;
       facts_are = tt;

@@ -11,7 +11,7 @@ use Rattle.tp_model.specs.Authorisation.{version_in, version_of}
 use Rattle.tp_model.specs.Ids.{same_cred, same_item}
 use Rattle.std.specs.Cmp.Lexicographic.{pointwise}
 use Rattle.tp_model.specs.Words.{Admin, CredId, Item, Policy, Scenario, ServerDecl, Transaction, Version}
-use Rattle.tp_offices.specs.Master.{opening_of}
+use Rattle.tp_offices.specs.Master.{last_of, opening_of}
 use Rattle.tp_machine.specs.Sound.{AreCreds, AreVersions, AreVersionsOf, Each, IsAdmin, IsCred, IsServer, IsVersionOf, proves_each}
 use Rattle.tp_machine.proofs.basics.Facts.{each_from_all}
 use Rattle.tp_machine.specs.server.Verdicts.{HasFewRules}
@@ -34,6 +34,7 @@ pub record IsValid (sc : Scenario) : Type 0 where
   pub items : Each (IsValidItem sc) sc.items
   pub servers : Each (λ (declared : ServerDecl). AreVersions sc declared.knows) sc.servers
   pub openings : AreVersions sc (map opening_of sc.admins)
+  pub lasts : AreVersions sc (map last_of sc.admins)
   pub deferred : Each (λ (declared : Transaction). proves_each declared.scheme ≡ false) sc.txns
 
 -- ---- numbers
@@ -44,7 +45,7 @@ least low high n e = grind (arith, nat_tests)
 most : (low high n : ℕ) → is_from_to low high n ≡ true → n ≤ high
 most low high n e = grind (arith, nat_tests)
 
-less : (n bound : ℕ) → nat_lt n bound ≡ true → n < bound
+pub less : (n bound : ℕ) → nat_lt n bound ≡ true → n < bound
 less n bound e = grind (arith, nat_tests)
 
 three : (a b c : Bool) → (a && b && c) ≡ true → (a ≡ true) × (b ≡ true) × (c ≡ true)
@@ -66,6 +67,17 @@ opening_valid admin e =
 openings_valid : (admins : List Admin) → Each (λ (admin : Admin). IsVersionOf admin admin.opening) admins → AreVersionsOf admins (map opening_of admins)
 openings_valid [] h = tt
 openings_valid (admin ∷ admins) h = (h.0, openings_valid admins h.1)
+
+-- a library has at most 64 versions, so the last one is that of its length
+last_valid : (admin : Admin) → is_valid_admin admin ≡ true → IsVersionOf admin (last_of admin)
+last_valid admin e =
+    let parts = three (has_count 1 64 admin.library) (list_all is_valid_policy admin.library) (is_from_to 1 (length admin.library) admin.opening.0) e in
+    let low : 1 ≤ length admin.library = least 1 64 (length admin.library) parts.0 in
+    (omega (arith, low), omega arith)
+
+lasts_valid : (admins : List Admin) → Each (λ (admin : Admin). IsVersionOf admin (last_of admin)) admins → AreVersionsOf admins (map last_of admins)
+lasts_valid [] h = tt
+lasts_valid (admin ∷ admins) h = (h.0, lasts_valid admins h.1)
 
 known_valid : (admins : List Admin) (versions : List Version) → Each (λ (admin : Admin). IsVersionOf admin admin.opening) admins → are_known admins versions ≡ true → AreVersionsOf admins versions
 known_valid [] [] h e = tt
@@ -134,5 +146,6 @@ valid_built sc built =
       items = each_as (λ (item : Item). is_valid_item sc item ≡ true) (IsValidItem sc) (item_valid sc) sc.items (each_from_all (is_valid_item sc) sc.items items.0);
       servers = servers_valid sc 0 sc.servers opening servers.1;
       openings = openings_valid sc.admins opening;
+      lasts = lasts_valid sc.admins (each_as (λ (admin : Admin). is_valid_admin admin ≡ true) (λ (admin : Admin). IsVersionOf admin (last_of admin)) last_valid sc.admins (each_from_all is_valid_admin sc.admins admins.1));
       deferred = deferred_built sc built;
     }

@@ -109,6 +109,8 @@ few_cases sc w built a h =
           coordinator_acts_few w txn _ h few.awaits few.letters;
       authority_told = λ n mail sent. record { awaits = h.awaits; letters = authority_sends w.actors.authority mail.letter.body };
       master_told = λ n mail sent. record { awaits = h.awaits; letters = master_sends w.actors.master mail.letter.body };
+      published = λ admin exists more. record { awaits = h.awaits; letters = omega arith };
+      pushed = λ admin server exists there. record { awaits = h.awaits; letters = omega arith };
       ticked = λ by. record { awaits = h.awaits; letters = omega arith };
       revoked = λ cred exists. record { awaits = h.awaits; letters = omega arith };
       begun = λ txn part c exists up new.
@@ -137,6 +139,8 @@ step_counted : (sc : Scenario) (m : Machine) (taken : Step) → length (machine_
 step_counted sc m (step.Submit txn) = omega (arith, length-append m.state.steps (step.Submit txn ∷ []))
 step_counted sc m (step.Deliver mail) = omega (arith, length-append m.state.steps (step.Deliver mail ∷ []))
 step_counted sc m (step.Lose mail) = omega (arith, length-append m.state.steps (step.Lose mail ∷ []))
+step_counted sc m (step.Publish admin) = omega (arith, length-append m.state.steps (step.Publish admin ∷ []))
+step_counted sc m (step.Push admin server) = omega (arith, length-append m.state.steps (step.Push admin server ∷ []))
 step_counted sc m (step.Tick by) = omega (arith, length-append m.state.steps (step.Tick by ∷ []))
 step_counted sc m (step.Revoke cred) = omega (arith, length-append m.state.steps (step.Revoke cred ∷ []))
 step_counted sc m _ = omega arith

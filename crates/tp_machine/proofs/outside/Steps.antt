@@ -5,16 +5,16 @@ use Rattle.std.proofs.lemmas.Bool.Decides.{nat_tests}
 use Rattle.std.proofs.lemmas.List.{append-nil, append_assoc, length_push}
 use Rattle.std.proofs.lemmas.Bool.{and_from, and_parts, le-leb}
 use Rattle.std.proofs.lemmas.List.Elements.{filter-append}
-use Rattle.tp_model.specs.Words.{Fact, Record, Scenario, ServerId, Step, What}
+use Rattle.tp_model.specs.Words.{AdminId, Fact, Record, Scenario, ServerId, Step, What}
 use Rattle.tp_model.specs.Words.log
 use Rattle.tp_model.specs.Words.step
 use Rattle.tp_model.specs.Words.what
 use Rattle.tp_model.specs.Facts.{before, is_earlier}
 use Rattle.tp_model.specs.Outside.{IsOutside, is_outside, is_outside_what, rises_from, said_by, said_from, at_place}
-use Rattle.tp_model.specs.Versions.{is_publication, opening_of}
+use Rattle.tp_model.specs.Versions.{is_publication, newest, opening_of}
 use Rattle.tp_machine.specs.coord.State.{Coordinator}
 use Rattle.tp_machine.specs.Parts.{Part}
-use Rattle.tp_machine.specs.Machine.{Machine, State, Move, state_after, coordinator_fact, machine_after, idle_move, facts_of, server_fact, log_with, refusal}
+use Rattle.tp_machine.specs.Machine.{Machine, State, Move, state_after, coordinator_fact, machine_after, idle_move, publishes, facts_of, server_fact, log_with, refusal}
 use Rattle.tp_machine.specs.coord.Row.{coordinator_row, submit_row}
 use Rattle.tp_machine.specs.server.Row.{server_row}
 use Rattle.tp_machine.proofs.agreement.CoordinatorActs.{coordinator_facts}
@@ -24,7 +24,9 @@ use Rattle.tp_machine.proofs.basics.Logs.{gained}
 use Rattle.tp_machine.proofs.basics.Lists.{each_append}
 use Rattle.tp_machine.proofs.walks.Steps.{Cases, SaysIdle, machine_after_by}
 use Rattle.tp_types.specs.Effect.{Effect}
-use Rattle.tp_machine.specs.Sound.{IsStepOf}
+use Rattle.tp_machine.specs.Sound.{IsAdmin, IsStepOf}
+use Rattle.tp_machine.proofs.trust.World.{MasterFits, facts_after}
+use Rattle.tp_offices.specs.Master as master
 
 -- ---- what a move says by itself
 
@@ -127,8 +129,17 @@ idle_says sc w (step.Deliver mail) happened e = subst (λ (hs : List What). Says
 idle_says sc w (step.Lose mail) happened e = subst (λ (hs : List What). Says sc w (step.Lose mail) (idle_move w.actors hs)) (sym e) refl
 idle_says sc w _ happened e = absurd e
 
-outside_cases : (sc : Scenario) (w : State) → Cases sc w (Says sc w)
-outside_cases sc w =
+-- the version that is published comes after the newest
+published_says : (sc : Scenario) (w : State) (admin : AdminId) → IsAdmin sc admin → MasterFits sc w.facts (length w.steps) w.actors.master → Says sc w (step.Publish admin) (publishes w.actors admin)
+published_says sc w admin exists fits =
+    let place = length w.steps in
+    let happened = what.Published admin (master.next_of w.actors.master admin) ∷ [] in
+    let same : newest sc admin place (facts_after w happened) ≡ newest sc admin place w.facts =
+    ap (λ (earlier : List Fact). (opening_of sc admin).0 + count_by (is_publication admin) earlier) ((grows_with_facts w.facts place happened).same place (omega arith)) in
+    ap (λ (version : ℕ). what.Published admin (record { 0 = version + 1 }) ∷ []) (fits.newest_is admin exists ∙ sym same)
+
+outside_cases : (sc : Scenario) (w : State) → MasterFits sc w.facts (length w.steps) w.actors.master → Cases sc w (Says sc w)
+outside_cases sc w fits =
     record {
       idle = idle_says sc w;
       server_received = λ n mail at part s sent up.
@@ -137,6 +148,8 @@ outside_cases sc w =
       coordinator_received = λ n mail txn part c sent up. coordinator_says part (coordinator_row sc c mail);
       authority_told = λ n mail sent. refl;
       master_told = λ n mail sent. refl;
+      published = λ admin exists more. published_says sc w admin exists fits;
+      pushed = λ admin server exists there. refl;
       ticked = λ by. refl;
       revoked = λ cred exists. refl;
       begun = λ txn part c exists up new. ap (λ (told : List What). what.Submitted txn ∷ told) (coordinator_says part (submit_row sc c));
@@ -144,9 +157,9 @@ outside_cases sc w =
 
 -- a step keeps that the facts from outside are what the steps say
 pub outside_next : (sc : Scenario) (m : Machine) (taken : Step) → IsStepOf sc taken → refusal m.state taken ≡ None → length m.state.actors.coordinators ≡ length sc.txns
-    → ArePast (length m.state.steps) m.state.facts → IsOutside sc m.state.steps m.state.facts → IsOutside sc (machine_after sc m taken).state.steps (machine_after sc m taken).state.facts
-outside_next sc m taken exists allowed count past h =
-    machine_after_by sc m (Says sc m.state) (λ w. IsOutside sc w.steps w.facts) (outside_cases sc m.state) count
+    → ArePast (length m.state.steps) m.state.facts → MasterFits sc m.state.facts (length m.state.steps) m.state.actors.master → IsOutside sc m.state.steps m.state.facts → IsOutside sc (machine_after sc m taken).state.steps (machine_after sc m taken).state.facts
+outside_next sc m taken exists allowed count past fits h =
+    machine_after_by sc m (Says sc m.state) (λ w. IsOutside sc w.steps w.facts) (outside_cases sc m.state fits) count
     (λ taken move says. state_after_outside sc m.state taken move past h says) h taken exists allowed
 
 -- before the first step nothing was said

@@ -1,6 +1,6 @@
 -- Deeds and epochs, the coordinator's rows: each is an event at every server, as the coordinator's transaction is seen there.
 use Rattle.std.specs.Option.{option_map_or}
-use Rattle.std.proofs.Common.{Bool, List, None, Option, Some, [], ap, arith, false, if◌then◌else◌, length, map, option_and_then, option_map, refl, slice_get, slice_set, subst, suc, sym, true, zero, ℕ, ℤ, ◌++◌, ◌+◌, ◌<◌, ◌==◌, ◌∙◌, ◌∷◌, ◌≡◌, ◌≤◌}
+use Rattle.std.proofs.Common.{Bool, List, None, Option, Some, [], ap, arith, false, if◌then◌else◌, length, map, option_and_then, option_map, refl, slice_get, slice_set, subst, suc, sym, true, zero, ℕ, ℤ, ◌++◌, ◌+◌, ◌<◌, ◌==◌, ◌∙◌, ◌∷◌, ◌≡◌, ◌≤◌, ◌⊎◌}
 use Rattle.std.proofs.lemmas.Bool.{and_parts, eq-eqb, eqb-true}
 use Rattle.std.proofs.lemmas.List.{length_push}
 use Rattle.std.proofs.lemmas.Option.{same_Some, slice_get_within}
@@ -8,6 +8,7 @@ use Rattle.tp_types.proofs.ListLemmas.{number_itself}
 use Rattle.tp_types.specs.Effect.{Effect, ignores}
 use Rattle.tp_types.specs.Table.{flattened}
 use Rattle.tp_model.specs.Queries.{is_at_server, item_of, query_at}
+use Rattle.tp_model.specs.Limits.{is_empty}
 use Rattle.tp_model.specs.Words.actor
 use Rattle.tp_model.specs.Words.body
 use Rattle.tp_model.specs.Words.cause
@@ -18,11 +19,11 @@ use Rattle.tp_machine.proofs.basics.Homes.{HaveHomes, IsHome, home_is, last_is, 
 use Rattle.tp_machine.proofs.basics.Lists.{each_get, set_here}
 use Rattle.tp_machine.proofs.basics.Phases.{awaits_is, is_undecided, sent_to_server}
 use Rattle.tp_machine.proofs.epochs.Coordinator.{some_is}
-use Rattle.tp_machine.proofs.epochs.Kept.{KeepsEpoch, PhaseKept, RoundKept, from_server, kept_epoch}
+use Rattle.tp_machine.proofs.epochs.Kept.{KeepsEpoch, PhaseKept, from_server, kept_epoch}
 use Rattle.tp_machine.proofs.ids.Valid.{IsValid, IsValidItem}
 use Rattle.tp_machine.proofs.pairs.Actors.{asker_of, asker_up, site_of, stand_of}
 use Rattle.tp_machine.proofs.pairs.Answered.{Taken, answered, elsewhere, next_deed, taken, takes}
-use Rattle.tp_machine.proofs.pairs.Fits.{AnswerFits, AskerFits, DoneFits, Fits, PrepareFits, QueryFits, RanFits}
+use Rattle.tp_machine.proofs.pairs.Fits.{AnswerFits, AskerFits, DoneFits, Fits, Names, PrepareFits, QueryFits, RanFits}
 use Rattle.tp_machine.proofs.pairs.Follows.{Next, next_both, next_same}
 use Rattle.tp_machine.proofs.pairs.Letters.{asks, prepares}
 use Rattle.tp_machine.proofs.pairs.Lists.{of_some}
@@ -42,7 +43,10 @@ use Rattle.tp_machine.specs.coord.Row.{awaits_query, next_number, next_turn, que
 use Rattle.tp_machine.specs.coord.State.{Coordinator}
 use Rattle.tp_machine.specs.declared.coord.Phase.TheVariants as phase
 use Rattle.tp_machine.specs.declared.coord.Phase.{Phase}
-use Rattle.tp_machine.specs.declared.coord.Round.{Round}
+use Rattle.tp_machine.proofs.basics.Rounds.{EachServer, each_missing, missing_in}
+use Rattle.tp_round.specs.Judge.{after_judgement, after_reply}
+use Rattle.tp_round.specs.Replies.{by_query, proofs_in}
+use Rattle.tp_round.specs.declared.round.Round.{Round}
 
 -- ---- an act
 
@@ -78,6 +82,15 @@ pub record CoordinatorActsPairs (sc : Scenario) (declared : Transaction) (P : �
 abbrev pub RowAsks : Scenario → Transaction → (ℕ → Pair) → Effect Coordinator → Type 0
 RowAsks sc declared P effect = CoordinatorActsPairs sc declared P effect.state effect.reaction.letters
 
+-- what a round wants of a server, if it wants anything, names all administrators there
+abbrev pub NamesAt : Scenario → Transaction → Round → ServerId → Type 0
+NamesAt sc declared round at = (is_empty (coord.want_for round at) ≡ true) ⊎ Names (site_of sc at.0 declared) (coord.want_for round at)
+
+-- a round before which the authority is asked
+abbrev pub PhaseNames : Scenario → Transaction → Phase → Type 0
+PhaseNames sc declared (phase.Asking round) = Each (NamesAt sc declared round) (missing_in round.targets)
+PhaseNames sc declared _ = Unit {0}
+
 -- a coordinator before its row
 pub record CoordinatorPaired (sc : Scenario) (declared : Transaction) (P : ℕ → Pair) (c : Coordinator) : Type 0 where
   pub declared_is : slice_get sc.txns c.txn.0 ≡ Some declared
@@ -87,6 +100,7 @@ pub record CoordinatorPaired (sc : Scenario) (declared : Transaction) (P : ℕ �
   pub low : c.turn ≤ 1000
   pub places : length c.epochs ≡ length sc.servers
   pub keeps : is_undecided c.phase ≡ true → PhaseKept (KeepsEpoch c) c.phase
+  pub names : PhaseNames sc declared c.phase
 
 -- ---- the asker
 
@@ -277,12 +291,12 @@ ran_at sc declared P c done asked server value now h k on at = ran_by sc declare
 
 -- the last query ran
 last_asks : (sc : Scenario) (declared : Transaction) (P : ℕ → Pair) (c : Coordinator) (done : DoneReply) (asked : Query) (server : ServerId) (value : ℤ) → CoordinatorPaired sc declared P c
-    → IsAwaited sc declared P c done asked server value → query_at declared (done.query + 1) ≡ None → RowAsks sc declared P (coord.asks (coord.with_deed c server done asked value))
+    → IsAwaited sc declared P c done asked server value → query_at declared (done.query + 1) ≡ None → RowAsks sc declared P (coord.asks (coord.with_deed c server done asked value) (coord.commit_round (coord.with_deed c server done asked value)))
 last_asks sc declared P c done asked server value h k none =
     let number : done.query ≡ length c.deeds + 1 = subst (λ (p : Phase). PhaseNumbered p c.deeds) k.awaits h.numbered in
     let all : done.query ≡ length declared.queries = ran_all declared done.query asked k.asked_is none in
     record {
-      next = ran_at sc declared P c done asked server value (phase.Asking (coord.first_round (coord.with_deed c server done asked value))) h k (record { asks = λ e. absurd (cc); all = λ e. sym number ∙ all });
+      next = ran_at sc declared P c done asked server value (phase.Asking (coord.commit_round (coord.with_deed c server done asked value))) h k (record { asks = λ e. absurd (cc); all = λ e. sym number ∙ all });
       numbered = tt;
       requests = (tt, tt);
     }
@@ -316,40 +330,54 @@ next_asks sc declared P c done asked server next value h k further home =
 -- ---- Tell
 
 -- a request to prepare names the epoch that is kept
-prepare_fits : (sc : Scenario) (declared : Transaction) (Q : ℕ → Pair) (c next : Coordinator) (staple : Staple) (servers : List ServerId) → c.txn ≡ next.txn
-    → ((at : ℕ) → (Q at).asker ≡ Some (asker_of at next)) → ((at : ℕ) → Fits (site_of sc at declared) (Q at)) → stand_of next.phase ≡ Prepares → c.epochs ≡ next.epochs → Each (KeepsEpoch c) servers
-    → Each (λ (letter : Letter). AskPairs sc declared next.txn Q letter.to letter.body) (map (coord.prepare_letter c staple) servers)
-prepare_fits sc declared Q c next staple [] own is fits stand same h = tt
-prepare_fits sc declared Q c next staple (at ∷ servers) own is fits stand same h =
+prepare_fits : (sc : Scenario) (declared : Transaction) (Q : ℕ → Pair) (c next : Coordinator) (round : Round) (staple : Staple) (servers : List ServerId) → c.txn ≡ next.txn
+    → ((at : ℕ) → (Q at).asker ≡ Some (asker_of at next)) → ((at : ℕ) → Fits (site_of sc at declared) (Q at)) → stand_of next.phase ≡ Prepares → c.epochs ≡ next.epochs → Each (KeepsEpoch c) servers → Each (NamesAt sc declared round) servers
+    → Each (λ (letter : Letter). AskPairs sc declared next.txn Q letter.to letter.body) (map (coord.prepare_letter c round staple) servers)
+prepare_fits sc declared Q c next round staple [] own is fits stand same h names = tt
+prepare_fits sc declared Q c next round staple (at ∷ servers) own is fits stand same h names =
     let site = site_of sc at.0 declared in
     let kept : (asker_of at.0 next).epoch ≡ Some (coord.epoch_of c at) =
     ap (λ (epochs : List (Option ℕ)). flattened (slice_get epochs at.0)) (sym same) ∙ some_is (kept_epoch c at) h.0 in (
-      (own, prepares site (Q at.0) (asker_of at.0 next) (record { txn = c.txn; turn = next_turn c; epoch = coord.epoch_of c at; staple = Some staple; want = [] }) (is at.0) (fits at.0) stand kept),
-      prepare_fits sc declared Q c next staple servers own is fits stand same h.1,
+      (own, prepares site (Q at.0) (asker_of at.0 next) (coord.prepare_request c round staple at) (is at.0) (fits at.0) stand kept names.0),
+      prepare_fits sc declared Q c next round staple servers own is fits stand same h.1 names.1,
     )
+
+-- a coordinator that prepares, in a further turn
+prepares_on : (sc : Scenario) (declared : Transaction) (P : ℕ → Pair) (c next : Coordinator) → CoordinatorPaired sc declared P c → stand_of c.phase ≡ Prepares → is_undecided c.phase ≡ true
+    → ((at : ℕ) → asker_up at next ≡ Some (record { stand = Prepares; turn = next_turn c; epoch = flattened (slice_get c.epochs at); deeds = c.deeds }))
+    → (at : ℕ) → Next (site_of sc at declared) (P at) (with_asker (P at) (asker_up at next))
+prepares_on sc declared P c next h stands undecided is at =
+    let rises : next_turn c ≡ c.turn + 1 = turn_rises c h.low in
+    let old : AskerFits (site_of sc at declared) (P at) (asker_of at c) = of_some (AskerFits (site_of sc at declared) (P at)) (P at).asker (asker_of at c) (asker_there sc declared P c at h undecided) (h.fits at).asker in
+    subst (λ (a : Option Asker). Next (site_of sc at declared) (P at) (with_asker (P at) a)) (sym (is at))
+    (moves (site_of sc at declared) (P at) (asker_of at c) Prepares (next_turn c) (asker_there sc declared P c at h undecided) (h.fits at)
+    (record {
+      answered = λ asks. cc;
+      turn_past = omega (arith, rises);
+      asks = λ e. absurd (cc);
+      all = λ e. old.all stands;
+      stays = λ e. refl;
+    }))
 
 prepares_asks : (sc : Scenario) (declared : Transaction) (P : ℕ → Pair) (c : Coordinator) (round : Round) (staple : Staple) → CoordinatorPaired sc declared P c → c.phase ≡ phase.Asking round
     → RowAsks sc declared P (coord.prepares c round staple)
 prepares_asks sc declared P c round staple h asking =
     let next = (coord.prepares c round staple).state in
     let undecided : is_undecided c.phase ≡ true = ap is_undecided asking in
-    let rises : next_turn c ≡ c.turn + 1 = turn_rises c h.low in
-    let kept : RoundKept (KeepsEpoch c) round = subst (PhaseKept (KeepsEpoch c)) asking (h.keeps undecided) in
-    let event : (at : ℕ) → Next (site_of sc at declared) (P at) (with_asker (P at) (asker_up at next)) = λ at.
-    let old : AskerFits (site_of sc at declared) (P at) (asker_of at c) = of_some (AskerFits (site_of sc at declared) (P at)) (P at).asker (asker_of at c) (asker_there sc declared P c at h undecided) (h.fits at).asker in
-    moves (site_of sc at declared) (P at) (asker_of at c) Prepares (next_turn c) (asker_there sc declared P c at h undecided) (h.fits at)
-    (record {
-      answered = λ asks. let prepares_now = ap stand_of asking in cc;
-      turn_past = omega (arith, rises);
-      asks = λ e. absurd (cc);
-      all = λ e. old.all (ap stand_of asking);
-      stays = λ e. refl;
-    }) in
+    let kept : EachServer (KeepsEpoch c) round.targets = subst (PhaseKept (KeepsEpoch c)) asking (h.keeps undecided) in
+    let event : (at : ℕ) → Next (site_of sc at declared) (P at) (with_asker (P at) (asker_up at next)) = prepares_on sc declared P c next h (ap stand_of asking) undecided (λ at. refl) in
     record {
       next = event;
       numbered = tt;
-      requests = prepare_fits sc declared (λ at. with_asker (P at) (asker_up at next)) c next staple round.awaited refl (λ at. refl) (λ at. (event at).fits) refl refl kept.awaited;
+      requests = prepare_fits sc declared (λ at. with_asker (P at) (asker_up at next)) c next round staple (missing_in round.targets) refl (λ at. refl) (λ at. (event at).fits) refl refl
+          (each_missing (KeepsEpoch c) round.targets kept) (subst (PhaseNames sc declared) asking h.names);
     }
+
+-- the authority is asked before a further round
+updated_asks : (sc : Scenario) (declared : Transaction) (P : ℕ → Pair) (c : Coordinator) (round next : Round) (staple : Staple) → CoordinatorPaired sc declared P c → c.phase ≡ phase.Checking round staple
+    → RowAsks sc declared P (coord.asks c next)
+updated_asks sc declared P c round next staple h checking =
+    record { next = prepares_on sc declared P c (coord.asks c next).state h (ap stand_of checking) (ap is_undecided checking) (λ at. refl); numbered = tt; requests = (tt, tt) }
 
 -- ---- Vote, and the end
 
@@ -417,14 +445,15 @@ coordinator_row_asks sc declared P c mail valid homes h m =
           next_asks sc declared P c done asked server next value h (awaited done server asked value k) (next_is sc c done.query asked homes k.asked_is) (home_is sc c (next_number done.query) next home);
       ran_last = λ done server asked value k none.
           last_asks sc declared P c done asked server value h (awaited done server asked value k) (no_query sc c declared (done.query + 1) h.declared_is (last_is sc c done.query asked homes k.asked_is none));
-      told_first = λ tell round k. prepares_asks sc declared P c round (coord.staple_of tell mail.sent) h k.asking;
-      counted = λ reply round staple server verdicts other others y e. record {
-        next = λ at. still_asks sc declared P c (record c { phase = phase.Checking (coord.with_reply round server verdicts) staple }) at h (counted_asker at c round (coord.with_reply round server verdicts) staple y.checking);
+      told = λ tell round k. prepares_asks sc declared P c round (coord.staple_of tell mail.sent) h k.asking;
+      counted = λ reply round staple server verdicts y e. record {
+        next = λ at. still_asks sc declared P c (record c { phase = phase.Checking (after_reply round server verdicts) staple }) at h (counted_asker at c round (after_reply round server verdicts) staple y.checking);
         numbered = tt;
         requests = tt;
       };
-      committed = λ reply round staple server verdicts y e first agreed. ends_asks sc declared P c (coord.commits c round.number verdicts).state outcome.Commit c.servers h refl tt;
-      denied = λ reply round staple server verdicts verdict y e f. ends_asks sc declared P c (coord.aborts c (cause.Denied (coord.denied_by verdict))).state outcome.Abort c.servers h refl tt;
+      committed = λ reply round staple server verdicts y e. ends_asks sc declared P c (coord.commits c round.number (by_query (proofs_in (after_reply round server verdicts).targets))).state outcome.Commit c.servers h refl tt;
+      denied = λ reply round staple server verdicts verdict y e. ends_asks sc declared P c (coord.aborts c (cause.Denied (coord.denied_by verdict))).state outcome.Abort c.servers h refl tt;
+      updated = λ reply round staple server verdicts named y e. updated_asks sc declared P c round (after_judgement (after_reply round server verdicts) None) staple h y.checking;
       refused = λ reply round staple server number value k. ends_asks sc declared P c (coord.aborts c (cause.No (coord.refused_by server number value))).state outcome.Abort c.servers h refl tt;
       acknowledged = λ ack ended awaited server a. record {
         next = λ at. still_asks sc declared P c (record c { phase = phase.Ending ended (coord.without awaited server) }) at h (sym (ap (λ (p : Phase). if is_undecided p then Some (asker_of at c) else None) a.ending));

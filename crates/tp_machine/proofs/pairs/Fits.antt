@@ -2,7 +2,11 @@
 use Rattle.tp_machine.proofs.basics.Verdicts.{numbers_of}
 use Rattle.tp_machine.specs.Sums.{asked_value}
 use Rattle.std.proofs.Common.{◌≡◌, ◌⊎◌, ℕ, ◌+◌, ◌<◌, ◌≤◌, List, [], ◌∷◌, ◌++◌, length, take, true, false, Option, Some, None, is_some, IfSome, Contains, option_map, ℤ}
-use Rattle.tp_model.specs.Words.{Answer, Deed, DoneReply, PrepareRequest, Prepared, QueryRequest, Verdict, Vote}
+use Rattle.tp_model.specs.Authorisation.{is_own_query}
+use Rattle.tp_model.specs.Limits.{is_empty}
+use Rattle.tp_round.specs.Laws.{wanted_of}
+use Rattle.tp_machine.proofs.basics.Ids.{server_number}
+use Rattle.tp_model.specs.Words.{AdminId, Answer, Deed, DoneReply, PrepareRequest, Prepared, QueryRequest, Verdict, Version, Vote}
 use Rattle.tp_model.specs.Words.answer
 use Rattle.tp_model.specs.Words.vote
 use Rattle.tp_machine.specs.declared.server.Ballot.{Ballot}
@@ -147,9 +151,14 @@ pub record PrepareLive (r : PrepareRequest) (a : Asker) : Type 0 where
   pub epoch : a.epoch ≡ Some r.epoch
   pub prepares : a.stand ≡ Prepares
 
--- a request to prepare: all queries at the server have run in the epoch that it names
+-- of each administrator of the transaction's queries at the server a version is wanted
+abbrev pub Names : Site → List (AdminId × Version) → Type 0
+Names s want = (number : ℕ) (admin : AdminId) → is_own_query s.scenario s.txn number (server_number s.at) admin ≡ true → is_some (wanted_of want admin) ≡ true
+
+-- a request to prepare: all queries at the server have run in the epoch that it names; where it wants versions, it names all administrators
 pub record PrepareFits (s : Site) (p : Pair) (r : PrepareRequest) : Type 0 where
   pub covers : Tells p r.epoch (Covers s (count s))
+  pub names : (is_empty r.want ≡ true) ⊎ Names s r.want
   pub live : IfSome p.asker (PrepareLive r)
 
 -- ---- votes

@@ -154,6 +154,7 @@ pub prepare_follows : (s : Site) (p q : Pair) (r : PrepareRequest) → Follows p
 prepare_follows s p q r f h =
     record {
       covers = tells_grown p q r.epoch (Covers s (count s)) (covers_more s (count s)) f.grows h.covers;
+      names = h.names;
       live = some_onward (PrepareLive r) p.asker q.asker (prepare_live r) f.onward h.live;
     }
 

@@ -1,11 +1,12 @@
 -- What is sent fits the state in which it is sent.
 use Rattle.tp_machine.specs.Sums.{asked_value}
-use Rattle.std.proofs.Common.{◌≡◌, ⊎_elim, ℕ, ◌+◌, List, [], length, take, true, Option, Some, None, IfSome, Contains, refl, sym, ap, subst, ◌∙◌, arith}
+use Rattle.std.proofs.Common.{◌≡◌, ⊎_elim, ℕ, ◌+◌, List, [], length, take, true, Option, Some, None, IfSome, Contains, refl, sym, ap, subst, ◌∙◌, arith, ◌⊎◌}
 use Rattle.std.proofs.lemmas.List.{take_all}
 use Rattle.tp_model.specs.Words.{Deed, DoneReply, PrepareRequest, QueryRequest}
 use Rattle.tp_machine.specs.Sums.{asked_value}
 use Rattle.tp_machine.specs.declared.server.Entry.{Entry}
-use Rattle.tp_machine.proofs.pairs.Fits.{AskerFits, Covers, DoneFits, EntryFits, Fits, Matches, OneMore, Pairing, PrepareFits, PrepareLive, QueryFits, QueryLive, Tells}
+use Rattle.tp_model.specs.Limits.{is_empty}
+use Rattle.tp_machine.proofs.pairs.Fits.{AskerFits, Covers, DoneFits, EntryFits, Fits, Matches, Names, OneMore, Pairing, PrepareFits, PrepareLive, QueryFits, QueryLive, Tells}
 use Rattle.tp_machine.proofs.pairs.Grows.{covers_more}
 use Rattle.tp_machine.proofs.pairs.Lists.{answer_each, answer_in, of_some, to_some}
 use Rattle.tp_machine.proofs.pairs.Loses.{tells_as}
@@ -85,12 +86,13 @@ asks s p a q is h stand at next =
     }
 
 -- a request to prepare that names the epoch that is kept, the first time or again
-pub prepares : (s : Site) (p : Pair) (a : Asker) (r : PrepareRequest) → p.asker ≡ Some a → Fits s p → a.stand ≡ Prepares → a.epoch ≡ Some r.epoch → PrepareFits s p r
-prepares s p a r is h stand epoch =
+pub prepares : (s : Site) (p : Pair) (a : Asker) (r : PrepareRequest) → p.asker ≡ Some a → Fits s p → a.stand ≡ Prepares → a.epoch ≡ Some r.epoch → ((is_empty r.want ≡ true) ⊎ Names s r.want) → PrepareFits s p r
+prepares s p a r is h stand epoch names =
     let old : AskerFits s p a = of_some (AskerFits s p) p.asker a is h.asker in
     let covers : Tells p r.epoch (Covers s (length a.deeds)) = of_some (λ (e : ℕ). Tells p e (Covers s (length a.deeds))) a.epoch r.epoch epoch (kept_covers s p a a.epoch old old.pairing) in
     record {
       covers = subst (λ (n : ℕ). Tells p r.epoch (Covers s n)) (old.all stand) covers;
+      names = names;
       live = to_some (PrepareLive r) p.asker a is (record { epoch = epoch; prepares = stand });
     }
 

@@ -27,7 +27,7 @@ use Rattle.tp_machine.proofs.epochs.World.{Epochs, made_from_zero}
 use Rattle.tp_machine.proofs.ids.Queries.{homes_built}
 use Rattle.tp_machine.proofs.ids.Valid.{IsValid, valid_built}
 use Rattle.tp_machine.proofs.pairs.Actors.{BodyPairs, DoneFrom, LetterPairs, PrepareAt, QueryAt, VoteFrom, asker_at, asker_by, asker_of, asker_up, body_stays, pair_at, pair_by, pair_up, site_of, stand_of}
-use Rattle.tp_machine.proofs.pairs.CoordinatorRows.{AnswerPairs, AskPairs, CoordinatorActsPairs, CoordinatorPaired, PhaseNumbered, PrepareTo, QueryTo, coordinator_row_asks, submit_row_asks}
+use Rattle.tp_machine.proofs.pairs.CoordinatorRows.{AnswerPairs, AskPairs, CoordinatorActsPairs, CoordinatorPaired, PhaseNames, PhaseNumbered, PrepareTo, QueryTo, coordinator_row_asks, submit_row_asks}
 use Rattle.tp_machine.proofs.pairs.Fits.{AskerFits, DoneFits, Fits, PrepareFits, QueryFits}
 use Rattle.tp_machine.proofs.pairs.Follows.{Next, next_same}
 use Rattle.tp_machine.proofs.pairs.Lists.{of_some, some_as}
@@ -37,7 +37,8 @@ use Rattle.tp_machine.proofs.pairs.ServerRows.{IsReply, OrderDecided, ReplyPairs
 use Rattle.tp_machine.proofs.pairs.Site.{Site}
 use Rattle.tp_machine.proofs.serial_data.Lists.{set_elsewhere}
 use Rattle.tp_machine.proofs.trust.Coordinator.{CoordinatorFits, turn_low}
-use Rattle.tp_machine.proofs.trust.Fit.{PhaseFits}
+use Rattle.tp_machine.proofs.trust.Phases.{PhaseFits}
+use Rattle.tp_machine.proofs.trust.Rounds.{few_rounds, round_names}
 use Rattle.tp_machine.proofs.trust.Turns.{AreFew, few_queries, low_query, low_round, query_count}
 use Rattle.tp_machine.proofs.trust.World.{Trusts}
 use Rattle.tp_machine.proofs.walks.Steps.{Cases, IsCoordinatorUp, IsServerUp, WasSent, machine_after_by}
@@ -305,11 +306,11 @@ low_turn sc facts place c (phase.Querying number staple) few h e within =
 low_turn sc facts place c (phase.Asking round) few h e within =
     let low = turn_low sc facts place c (phase.Asking round) h e in
     let f = subst (PhaseFits sc facts place c.txn) e h.awaits in
-    low_round (query_count sc c.txn) round.number 1 c.turn (few c.txn) (omega (arith, f.1.number)) (omega arith) low
+    low_round (query_count sc c.txn) round.number 1 c.turn (few c.txn) (few_rounds sc facts place c.txn round f.1) (omega arith) low
 low_turn sc facts place c (phase.Checking round staple) few h e within =
     let low = turn_low sc facts place c (phase.Checking round staple) h e in
     let f = subst (PhaseFits sc facts place c.txn) e h.awaits in
-    low_round (query_count sc c.txn) round.number 2 c.turn (few c.txn) (omega (arith, f.1.number)) (omega arith) low
+    low_round (query_count sc c.txn) round.number 2 c.turn (few c.txn) (few_rounds sc facts place c.txn round f.1) (omega arith) low
 low_turn sc facts place c (phase.Ending ended awaited) few h e within =
     let low = turn_low sc facts place c (phase.Ending ended awaited) h e in
     low_round (query_count sc c.txn) 17 3 c.turn (few c.txn) (omega arith) (omega arith) low
@@ -325,6 +326,10 @@ asked_within sc declared P c (phase.Querying number staple) e declared_is number
     let many : query_count sc c.txn ≡ length declared.queries = ap (λ (found : Option Transaction). option_map_or (λ (d : Transaction). length d.queries) found 0) declared_is in
     (omega (arith, numbered), omega (arith, numbered, least, many))
 asked_within sc declared P c _ e declared_is numbered fits is = tt
+
+phase_names : (sc : Scenario) (facts : List Fact) (place : ℕ) (txn : TxnId) (awaited : Phase) (declared : Transaction) → slice_get sc.txns txn.0 ≡ Some declared → PhaseFits sc facts place txn awaited → PhaseNames sc declared awaited
+phase_names sc facts place txn (phase.Asking round) declared e h = round_names sc facts place txn round declared e h.1
+phase_names sc facts place txn _ declared e h = tt
 
 coordinator_paired : (sc : Scenario) (w : State) (declared : Transaction) (txn : TxnId) (part : Part Coordinator) (c : Coordinator) → AreFew sc → IsSound sc w → Epochs sc w → Trusts sc w → Pairs sc w → IsCoordinatorUp w txn part c
     → slice_get sc.txns txn.0 ≡ Some declared → CoordinatorPaired sc declared (pair_at w.actors txn) c
@@ -344,6 +349,7 @@ coordinator_paired sc w declared txn part c few sound epochs trusts h up exists 
       low = low_turn sc w.facts (length w.steps) c c.phase few fits refl (asked_within sc declared (pair_at w.actors txn) c c.phase refl declared_is numbered all is);
       places = keeps.places;
       keeps = λ undecided. (keeps.undecided undecided).round;
+      names = phase_names sc w.facts (length w.steps) c.txn c.phase declared declared_is fits.awaits;
     }
 
 -- a transaction of the scenario
@@ -406,6 +412,9 @@ pairs_cases sc w built valid few sound a epochs trusts h =
       coordinator_received = λ n mail txn part c sent up. receipt_by_coordinator sc w valid (homes_built sc built) few sound a epochs trusts h n mail txn part c sent up;
       authority_told = λ n mail sent. still_pairs sc w [] (office.authority_row w.actors.authority mail).reaction.letters w.actors h refl refl (tells_plain sc w.actors.authority mail.letter.body);
       master_told = λ n mail sent. still_pairs sc w [] (master.master_row w.actors.master mail).reaction.letters w.actors h refl refl (newest_plain sc w.actors.master mail.letter.body);
+      published = λ admin exists more.
+          still_pairs sc w (what.Published admin (master.next_of w.actors.master admin) ∷ []) [] (record w.actors { master = master.published admin w.actors.master }) h refl refl tt;
+      pushed = λ admin server exists there. still_pairs sc w [] (master.pushes w.actors.master admin server).reaction.letters w.actors h refl refl (λ P. tt, tt);
       ticked = λ by. still_pairs sc w (what.Ticked by ∷ []) [] (record w.actors { authority = office.after_tick by w.actors.authority }) h refl refl tt;
       revoked = λ cred exists. still_pairs sc w (what.Revoked cred ∷ []) [] (record w.actors { authority = office.after_revocation cred w.actors.authority }) h refl refl tt;
       begun = λ txn part c exists up new. begun_pairs sc w built few sound a epochs trusts h txn part c exists up new;

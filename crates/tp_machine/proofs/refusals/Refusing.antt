@@ -1,71 +1,53 @@
--- A server refuses: the value is outside its item's range, and it is that of the transaction's run on the store, since the server holds all that
--- the transaction has done.
+-- A server refuses: the value is outside its item's range, and it is that of the transaction's run by itself on the store where it first aborted,
+-- since the server holds its share of what the coordinator has done, and that is the run.
 use Rattle.std.specs.List.{list_any}
 use Rattle.std.specs.Option.{option_map_or}
 use Rattle.std.specs.Ordering.{int_eq}
-use Rattle.std.proofs.Common.{Bool, IfSome, List, MatchOption, None, Option, Some, [], ap, arith, false, find, if◌then◌else◌, inr, is_some, length, not, option_and_then, option_map, refl, slice_get, subst, suc, sym, true, zero, ℕ, ℤ, ◌++◌, ◌+◌, ◌<◌, ◌∙◌, ◌∷◌, ◌≡◌}
+use Rattle.std.proofs.Common.{Bool, IfSome, List, MatchOption, None, Option, Some, [], ap, arith, false, find, if◌then◌else◌, inr, is_some, length, not, option_and_then, option_map, refl, slice_get, subst, suc, sym, true, zero, ℕ, ℤ, ◌+◌, ◌∙◌, ◌∷◌, ◌≡◌}
 use Rattle.std.proofs.lemmas.Bool.Decides.{Decides-int_eq, nat_tests}
-use Rattle.std.proofs.lemmas.Bool.{and_from, and_parts, eqb-true, false_from_ne_true, or_left, or_parts, or_right}
+use Rattle.std.proofs.lemmas.Bool.{and_from, and_parts, eqb-true, or_left, or_parts, or_right}
 use Rattle.std.proofs.lemmas.List.Folds.{list_any-append}
 use Rattle.std.proofs.lemmas.Option.{same_Some, slice_get-map}
 use Rattle.tp_types.proofs.ListLemmas.{number_itself}
-use Rattle.tp_model.proofs.BuiltLemmas.{length-servers_built}
-use Rattle.tp_model.specs.Agreement.{has_item_at}
 use Rattle.tp_model.specs.Built.{is_built}
-use Rattle.tp_model.specs.Causes.{first_abort_of, is_abort, is_abort_what, is_outside_range, place_of}
-use Rattle.tp_model.specs.Facts.{before, is_settled_as, is_settled_what, same_outcome}
+use Rattle.tp_model.specs.Causes.{first_abort_of, is_outside_range, place_of}
+use Rattle.tp_model.specs.Facts.{before, first_of, is_settled_as}
 use Rattle.tp_model.specs.Ids.{same_item, same_server, same_txn}
 use Rattle.tp_model.specs.Limits.{is_between}
 use Rattle.tp_model.specs.SerialRun.{overlaid, run_value, serial_run, store_of}
-use Rattle.tp_model.specs.Valid.{is_valid_txn}
 use Rattle.tp_model.specs.Words.actor
+use Rattle.tp_model.specs.Words.body
 use Rattle.tp_model.specs.Words.no
 use Rattle.tp_model.specs.Words.outcome
 use Rattle.tp_model.specs.Words.what
-use Rattle.tp_model.specs.Words.{Actor, Decision, Deed, Fact, Item, ItemId, Mail, Outcome, PrepareRequest, Scenario, ServerId, Settled, Transaction, TxnId, What}
-use Rattle.tp_machine.proofs.agreement.Coordinator.{PhaseAgrees}
-use Rattle.tp_machine.proofs.agreement.Logs.{outcome_settled}
-use Rattle.tp_machine.proofs.agreement.Server.{open_unsettled}
-use Rattle.tp_machine.proofs.agreement.Steps.{server_agrees}
-use Rattle.tp_machine.proofs.agreement.World.{Agrees, CoordinatorUpAgrees, FactFollows, WhatFollows}
-use Rattle.tp_machine.proofs.basics.Facts.{any_settled, before_past, grows_with_facts, said, settlements}
-use Rattle.tp_machine.proofs.basics.Ids.{same_txn_is, server_number}
+use Rattle.tp_model.specs.Words.{Actor, Deed, Fact, Item, ItemId, Mail, PrepareRequest, Scenario, ServerId, Transaction, TxnId, What}
+use Rattle.tp_machine.proofs.agreement.World.{Agrees}
+use Rattle.tp_machine.proofs.basics.Facts.{before_past, grows_with_facts, said}
 use Rattle.tp_machine.proofs.basics.Lists.{each_get}
-use Rattle.tp_machine.proofs.basics.Logs.{listed}
-use Rattle.tp_machine.proofs.ids.Valid.{IsValid, valid_built}
-use Rattle.tp_machine.proofs.pairs.Actors.{BodyPairs, LetterPairs, PrepareAt, asker_by, asker_of, asker_up, entry_by, entry_up, is_part_up, pair_at, site_of, stand_of}
+use Rattle.tp_machine.proofs.pairs.Actors.{BodyPairs, LetterPairs, asker_of, entry_by, entry_up, is_part_up, pair_at, site_of, stand_of}
 use Rattle.tp_machine.proofs.pairs.Answered.{there_matches}
-use Rattle.tp_machine.proofs.pairs.Fits.{AskerFits, Fits, IsThere, PrepareFits, PrepareLive}
+use Rattle.tp_machine.proofs.pairs.Fits.{AskerFits, IsThere, PrepareFits, PrepareLive}
 use Rattle.tp_machine.proofs.pairs.Lists.{of_some}
 use Rattle.tp_machine.proofs.pairs.Moves.{matched}
 use Rattle.tp_machine.proofs.pairs.Outcomes.{got_part}
-use Rattle.tp_machine.proofs.pairs.Pair.{Prepares, entry_held, got, held_up}
+use Rattle.tp_machine.proofs.pairs.Pair.{Prepares, entry_held, held_up}
 use Rattle.tp_machine.proofs.pairs.World.{Pairs}
-use Rattle.tp_machine.proofs.refusals.World.{IsAwaiting, ReasonShown}
-use Rattle.tp_machine.proofs.serial_data.Alone.{clear_commit}
-use Rattle.tp_machine.proofs.serial_data.Commits.{IsItemAt, commit_serial}
+use Rattle.tp_machine.proofs.refusals.Running.{asker_fits, asker_is, run_now}
+use Rattle.tp_machine.proofs.refusals.World.{IsAwaiting, IsRunBefore, ReasonShown, Refusals, first_abort_append, keeps_same, run_stays}
+use Rattle.tp_machine.proofs.serial_data.Commits.{IsItemAt}
 use Rattle.tp_machine.proofs.serial_data.Joined.{share_at}
-use Rattle.tp_machine.proofs.serial_data.Lengths.{store_length}
-use Rattle.tp_machine.proofs.serial_data.Ranges.{store_within}
-use Rattle.tp_machine.proofs.serial_data.Reads.{ReadsFrom}
 use Rattle.tp_machine.proofs.serial_data.Refused.{last_is_refused, last_is_run, last_kept_share}
 use Rattle.tp_machine.proofs.serial_data.Rows.{ServerReads, deeds_in}
-use Rattle.tp_machine.proofs.serial_data.Runs.{RunsSoFar}
-use Rattle.tp_machine.proofs.serial_data.Shares.{no_share, server_there, share_reads}
 use Rattle.tp_machine.proofs.serial_data.Tentative.{AreLast, last_kept}
-use Rattle.tp_machine.proofs.serial_data.Unsettled.{IsUnsettled}
 use Rattle.tp_machine.proofs.serial_data.World.{Serial, ServerUpSerial}
 use Rattle.tp_machine.proofs.trust.World.{facts_after}
 use Rattle.tp_machine.proofs.walks.ServerRows.{IsRefusal}
-use Rattle.tp_machine.proofs.walks.Steps.{IsCoordinatorUp, IsServerUp, WasSent}
-use Rattle.tp_machine.specs.Logs.{decided_in, settled_by, settled_in}
+use Rattle.tp_machine.proofs.walks.Steps.{IsServerUp, WasSent}
 use Rattle.tp_machine.specs.Machine.{State, facts_of}
 use Rattle.tp_machine.specs.Parts.{Part}
-use Rattle.tp_machine.specs.Sound.{Each, IsItemOf, IsServer, IsSound, IsSoundServer, IsSoundServerUp, IsWriteOf}
+use Rattle.tp_machine.specs.Sound.{IsItemOf, IsSound, IsSoundServer, IsSoundServerUp, IsWriteOf}
 use Rattle.tp_machine.specs.coord.Row.{refused_by}
 use Rattle.tp_machine.specs.coord.State.{Coordinator}
-use Rattle.tp_machine.specs.declared.coord.Phase.TheVariants as phase
-use Rattle.tp_machine.specs.declared.coord.Phase.{Phase}
 use Rattle.tp_machine.specs.declared.server.Entry.{Entry}
 use Rattle.tp_machine.specs.server.Row.{entry_at}
 use Rattle.tp_machine.specs.server.State.{Server}
@@ -78,78 +60,41 @@ use Rattle.tp_store.specs.declared.writes.TentativeWrite.{TentativeWrite}
 
 -- ---- what the server holds
 
--- the coordinator that asked for the vote, and what the server holds of its transaction
-record IsAsked (sc : Scenario) (w : State) (at : ServerId) (txn : TxnId) (declared : Transaction) (entry : Entry) (awaiting : IsAwaiting w.actors.coordinators txn) : Type 0 where
-  prepares : stand_of awaiting.c.phase ≡ Prepares
-  runs : RunsSoFar declared awaiting.c.deeds
-  all : length awaiting.c.deeds ≡ length declared.queries
-  share : entry.deeds ≡ share_at sc at.0 awaiting.c.deeds
+-- what a request to prepare says at the server that it comes to
+prepare_fits : (sc : Scenario) (w : State) (n : ℕ) (mail : Mail) (at : ServerId) (p : PrepareRequest) (declared : Transaction) → Pairs sc w → WasSent w n mail (actor.Server at) → mail.letter.body ≡ body.Prepare p
+    → slice_get sc.txns p.txn.0 ≡ Some declared → PrepareFits (site_of sc at.0 declared) (pair_at w.actors p.txn at.0) p
+prepare_fits sc w n mail at p declared pairs sent said there =
+    let paired : BodyPairs sc (pair_at w.actors) mail.letter.from (actor.Server at) mail.letter.body =
+    subst (λ (to : Actor). BodyPairs sc (pair_at w.actors) mail.letter.from to mail.letter.body) sent.goes_to (each_get (λ (m : Mail). LetterPairs sc (pair_at w.actors) m.letter) w.mails n mail pairs.mails sent.sent) in
+    subst (BodyPairs sc (pair_at w.actors) mail.letter.from (actor.Server at)) said paired declared there
 
-asker_is : (w : State) (txn : TxnId) (at : ℕ) (awaiting : IsAwaiting w.actors.coordinators txn) → (pair_at w.actors txn at).asker ≡ Some (asker_of at awaiting.c)
-asker_is w txn at awaiting =
-    ap (option_and_then (asker_by at)) awaiting.found
-    ∙ (ap (option_and_then (asker_up at)) awaiting.up ∙ ap (λ (b : Bool). if b then Some (asker_of at awaiting.c) else None) awaiting.undecided)
+-- and of its coordinator
+prepare_live : (sc : Scenario) (w : State) (n : ℕ) (mail : Mail) (at : ServerId) (p : PrepareRequest) (declared : Transaction) (awaiting : IsAwaiting w.actors.coordinators p.txn) → Pairs sc w → WasSent w n mail (actor.Server at)
+    → mail.letter.body ≡ body.Prepare p → slice_get sc.txns p.txn.0 ≡ Some declared → PrepareLive p (asker_of at.0 awaiting.c)
+prepare_live sc w n mail at p declared awaiting pairs sent said there =
+    of_some (PrepareLive p) (pair_at w.actors p.txn at.0).asker (asker_of at.0 awaiting.c) (asker_is w p.txn at.0 awaiting) (prepare_fits sc w n mail at p declared pairs sent said there).live
 
-asked_of : (sc : Scenario) (w : State) (at : ServerId) (part : Part Server) (s : Server) (p : PrepareRequest) (entry : Entry) (declared : Transaction) (awaiting : IsAwaiting w.actors.coordinators p.txn) → Pairs sc w → IsServerUp w at part s
-    → slice_get sc.txns p.txn.0 ≡ Some declared → PrepareFits (site_of sc at.0 declared) (pair_at w.actors p.txn at.0) p → entry_at s p.txn ≡ Some entry → entry.epoch ≡ p.epoch → IsAsked sc w at p.txn declared entry awaiting
-asked_of sc w at part s p entry declared awaiting pairs up there asked found epoch =
+-- the coordinator of a request to prepare, where it has not decided, brings the servers to vote
+pub asked_prepares : (sc : Scenario) (w : State) (n : ℕ) (mail : Mail) (at : ServerId) (p : PrepareRequest) (declared : Transaction) (awaiting : IsAwaiting w.actors.coordinators p.txn) → Pairs sc w → WasSent w n mail (actor.Server at)
+    → mail.letter.body ≡ body.Prepare p → slice_get sc.txns p.txn.0 ≡ Some declared → stand_of awaiting.c.phase ≡ Prepares
+asked_prepares sc w n mail at p declared awaiting pairs sent said there = (prepare_live sc w n mail at p declared awaiting pairs sent said there).prepares
+
+-- and the entry of the epoch that it names has the server's share of what it has done
+asked_share : (sc : Scenario) (w : State) (n : ℕ) (mail : Mail) (at : ServerId) (part : Part Server) (s : Server) (p : PrepareRequest) (entry : Entry) (declared : Transaction) (awaiting : IsAwaiting w.actors.coordinators p.txn) → Pairs sc w
+    → WasSent w n mail (actor.Server at) → IsServerUp w at part s → mail.letter.body ≡ body.Prepare p → slice_get sc.txns p.txn.0 ≡ Some declared → entry_at s p.txn ≡ Some entry → entry.epoch ≡ p.epoch
+    → entry.deeds ≡ share_at sc at.0 awaiting.c.deeds
+asked_share sc w n mail at part s p entry declared awaiting pairs sent up said there found epoch =
     let site = site_of sc at.0 declared in
     let pair = pair_at w.actors p.txn at.0 in
     let a = asker_of at.0 awaiting.c in
-    let is : pair.asker ≡ Some a = asker_is w p.txn at.0 awaiting in
-    let fits : Fits site pair = pairs.fits p.txn at.0 declared there in
-    let old : AskerFits site pair a = of_some (AskerFits site pair) pair.asker a is fits.asker in
-    let live : PrepareLive p a = of_some (PrepareLive p) pair.asker a is asked.live in
+    let old : AskerFits site pair a = asker_fits sc w p.txn at.0 declared awaiting pairs there in
+    let live : PrepareLive p a = prepare_live sc w n mail at p declared awaiting pairs sent said there in
     let up_is : pair.up ≡ true = ap (λ (found_part : Option (Part Server)). option_map_or is_part_up found_part false) up.found ∙ ap is_some up.up in
     let entry_is : pair.entry ≡ Some entry = ap (option_and_then (entry_by p.txn)) up.found ∙ (ap (option_and_then (entry_up p.txn)) up.up ∙ found) in
     let held_is : IsThere pair entry.epoch entry.deeds = held_up pair.up pair.entry pair.prepared up_is ∙ ap (option_map entry_held) entry_is in
     let kept : a.epoch ≡ Some entry.epoch = live.epoch ∙ ap (λ (n : ℕ). Some n) (sym epoch) in
     let prepares = live.prepares in
-    let same : entry.deeds ≡ got site a.deeds = matched site a entry.deeds (λ asks. let other = prepares in cc) (there_matches site pair a a.epoch entry.epoch entry.deeds old.pairing (inr kept) held_is) in
-    record { prepares = prepares; runs = old.runs; all = old.all prepares; share = same ∙ got_part site a.deeds old.runs }
-
-undecided_log : (awaited : Phase) (decided : Option Decision) → stand_of awaited ≡ Prepares → PhaseAgrees awaited decided → decided ≡ None
-undecided_log (phase.Asking round) decided e h = h
-undecided_log (phase.Checking round staple) decided e h = h
-undecided_log phase.Idle decided e h = absurd (cc)
-undecided_log (phase.Querying number staple) decided e h = absurd (cc)
-undecided_log (phase.Ending ended awaited) decided e h = absurd (cc)
-
--- ---- one server
-
--- all items of the transaction are at the one server
-only_here : (sc : Scenario) (at other : ServerId) (txn : TxnId) → IsValid sc → length sc.servers ≡ 1 → IsServer sc at → has_item_at sc other txn ≡ true → other ≡ at
-only_here sc at other txn valid one exists e =
-    let theirs : other.0 < length sc.servers = server_there sc other txn valid e in
-    let own : at.0 < length sc.servers = exists in
-    ap server_number (omega (arith, one, theirs, own))
-
-reads_at : (sc : Scenario) (w : State) (at : ServerId) (part : Part Server) (s : Server) (txn : TxnId) (entry : Entry) (declared : Transaction) (awaiting : IsAwaiting w.actors.coordinators txn) (n : ℕ) (b : Bool)
-    → has_item_at sc (record { 0 = n }) txn ≡ b → IsValid sc → length sc.servers ≡ 1 → IsServer sc at → Serial sc w → IsServerUp w at part s → slice_get sc.txns txn.0 ≡ Some declared → entry_at s txn ≡ Some entry
-    → IsAsked sc w at txn declared entry awaiting → ReadsFrom (overlaid sc w.facts) (share_at sc n awaiting.c.deeds)
-reads_at sc w at part s txn entry declared awaiting n false item valid one exists serial up there found asked =
-    subst (ReadsFrom (overlaid sc w.facts)) (sym (no_share sc n txn declared awaiting.c.deeds there asked.runs item)) tt
-reads_at sc w at part s txn entry declared awaiting n true item valid one exists serial up there found asked =
-    let here : ServerUpSerial sc (overlaid sc w.facts) at s = subst (λ (u : Option Server). IfSome u (ServerUpSerial sc (overlaid sc w.facts) at)) up.up (serial.servers at.0 part up.found).state in
-    let same : n ≡ at.0 = ap (λ (server : ServerId). server.0) (only_here sc at (record { 0 = n }) txn valid one exists item) in
-    let reads : ReadsFrom s.store.values (share_at sc at.0 awaiting.c.deeds) = subst (ReadsFrom s.store.values) asked.share (here.reads.reads txn.0 entry found) in
-    subst (λ (k : ℕ). ReadsFrom (overlaid sc w.facts) (share_at sc k awaiting.c.deeds)) (sym same)
-    (share_reads sc at.0 s.store.values (overlaid sc w.facts) awaiting.c.deeds (λ k item_there found_item home. here.values k item_there found_item (ap server_number home)) reads)
-
--- what the transaction has done is its run by itself on the store
-run_now : (sc : Scenario) (w : State) (at : ServerId) (part : Part Server) (s : Server) (txn : TxnId) (entry : Entry) (declared : Transaction) (awaiting : IsAwaiting w.actors.coordinators txn) → is_built sc ≡ true → IsValid sc → IsServer sc at
-    → Agrees sc w → Pairs sc w → Serial sc w → IsServerUp w at part s → slice_get sc.txns txn.0 ≡ Some declared → entry_at s txn ≡ Some entry → IsAsked sc w at txn declared entry awaiting
-    → awaiting.c.deeds ≡ serial_run declared (store_of sc w.facts)
-run_now sc w at part s txn entry declared awaiting built valid exists agrees pairs serial up there found asked =
-    let valid_txn : is_valid_txn sc declared ≡ true = each_get (λ (t : Transaction). is_valid_txn sc t ≡ true) sc.txns txn.0 declared valid.txns there in
-    let coordinator_up : IsCoordinatorUp w txn awaiting.part awaiting.c = record { found = awaiting.found; up = awaiting.up } in
-    let own : CoordinatorUpAgrees sc w.actors.servers txn awaiting.part.log awaiting.c =
-    subst (λ (u : Option Coordinator). IfSome u (CoordinatorUpAgrees sc w.actors.servers txn awaiting.part.log)) awaiting.up (agrees.coordinators txn.0 awaiting.part awaiting.found).state in
-    let none : decided_in awaiting.part.log ≡ None = undecided_log awaiting.c.phase (decided_in awaiting.part.log) asked.prepares own.agrees.decided in
-    commit_serial sc declared (IsUnsettled sc w.actors) (λ (n : ℕ). overlaid sc w.facts) (store_of sc w.facts) awaiting.c.deeds valid_txn
-    (store_within sc (store_of sc w.facts) valid (store_length sc w.facts) serial.range) asked.runs asked.all
-    (λ n. reads_at sc w at part s txn entry declared awaiting n (has_item_at sc (record { 0 = n }) txn) refl valid (length-servers_built sc built) exists serial up there found asked) serial.store
-    (clear_commit sc w txn awaiting.part awaiting.c declared built agrees pairs coordinator_up there none asked.prepares)
+    matched site a entry.deeds (λ asks. let other = prepares in cc) (there_matches site pair a a.epoch entry.epoch entry.deeds old.pairing (inr kept) held_is) ∙ got_part site a.deeds old.runs
 
 -- ---- the refused write
 
@@ -219,70 +164,80 @@ outside_write sc s txn entry number value sound reads found e = least_of (first_
 
 -- ---- the first abort
 
-abort_there : (sc : Scenario) (all : List Fact) (fact : Fact) (txn : TxnId) (at : ServerId) → FactFollows sc all fact → ((other : ServerId) → has_item_at sc other txn ≡ true → other ≡ at) → is_abort txn fact ≡ true
-    → is_settled_as at txn outcome.Abort fact ≡ true
-abort_there sc all fact txn at h only e = by_what fact.what h e
-  where
-    by_what : (what_is : What) → WhatFollows sc (before fact.place all) what_is → is_abort_what txn what_is ≡ true → is_settled_what at txn outcome.Abort what_is ≡ true
-    by_what (what.Settled other of_txn ended) k f =
-        let parts = and_parts (same_txn of_txn txn) (same_outcome ended outcome.Abort) f in
-        let own : of_txn ≡ txn = same_txn_is of_txn txn parts.0 in
-        let here : other ≡ at = only other (subst (λ (t : TxnId). has_item_at sc other t ≡ true) own k.item) in
-        and_from _ _ (and_from (same_server other at) (same_txn of_txn txn) (subst (λ (server : ServerId). same_server server at ≡ true) (sym here) (number_itself at.0)) parts.0) parts.1
-    by_what (what.Submitted other) k f = absurd (cc)
-    by_what (what.Published admin version) k f = absurd (cc)
-    by_what (what.Revoked cred) k f = absurd (cc)
-    by_what (what.Ticked by) k f = absurd (cc)
-    by_what (what.Crashed actor_is) k f = absurd (cc)
-    by_what (what.Lost mail) k f = absurd (cc)
-    by_what (what.Decided other decided) k f = absurd (cc)
+-- the place of a transaction's first abort, and what its coordinator has done
+pub record IsFirstAbort (sc : Scenario) (facts : List Fact) (place : ℕ) (txn : TxnId) (declared : Transaction) (c : Coordinator) : Type 0 where
+  pub first : ℕ
+  pub first_is : first_abort_of txn facts ≡ Some first
+  pub run : IsRunBefore sc facts place first declared c
 
-first_now : (sc : Scenario) (all : List Fact) (facts : List Fact) (txn : TxnId) (at : ServerId) (place : ℕ) → Each (FactFollows sc all) facts → ((other : ServerId) → has_item_at sc other txn ≡ true → other ≡ at)
-    → list_any (is_settled_as at txn outcome.Abort) facts ≡ false → first_abort_of txn (facts ++ facts_of place (what.Settled at txn outcome.Abort ∷ [])) ≡ Some place
-first_now sc all [] txn at place h only none =
-    ap (λ (b : Bool). option_map place_of (if b then Some (record { place = place; what = what.Settled at txn outcome.Abort }) else None)) (and_from (same_txn txn txn) true (number_itself txn.0) refl)
-first_now sc all (fact ∷ facts) txn at place h only none =
-    let parts = or_parts (is_settled_as at txn outcome.Abort fact) (list_any (is_settled_as at txn outcome.Abort) facts) none in
-    let not_here : is_abort txn fact ≡ false = false_from_ne_true (is_abort txn fact) (λ e. let settled = abort_there sc all fact txn at h.0 only e in let not_so = parts.0 in cc) in
-    ap (λ (b : Bool). option_map place_of (if b then Some fact else find (is_abort txn) (facts ++ facts_of place (what.Settled at txn outcome.Abort ∷ [])))) not_here
-    ∙ first_now sc all facts txn at place h.1 only parts.1
+-- once a server aborts the transaction its coordinator has done the transaction's run by itself on the store: now, where it is the first abort
+pub run_at_abort : (sc : Scenario) (w : State) (txn : TxnId) (happened : List What) (declared : Transaction) (awaiting : IsAwaiting w.actors.coordinators txn) → is_built sc ≡ true → Agrees sc w → Pairs sc w → Serial sc w
+    → Refusals sc w → slice_get sc.txns txn.0 ≡ Some declared → stand_of awaiting.c.phase ≡ Prepares → first_abort_of txn w.facts ≡ None
+    → IsRunBefore sc (facts_after w happened) (length w.steps + 1) (length w.steps) declared awaiting.c
+run_at_abort sc w txn happened declared awaiting built a pairs serial h there prepares none =
+    let place = length w.steps in
+    let all : before place (facts_after w happened) ≡ w.facts = (grows_with_facts w.facts place happened).same place (omega arith) ∙ before_past place w.facts a.past in
+    record {
+      prepares = prepares;
+      past = omega arith;
+      runs = run_now sc w txn declared awaiting built a pairs serial h.unbooted (record { declared_is = there; prepares = prepares; none = none })
+          ∙ ap (λ (found : List Fact). serial_run declared (store_of sc found)) (sym all);
+    }
+
+-- the first abort after a server aborts: one of before, or this one
+first_now : (sc : Scenario) (w : State) (at : ServerId) (txn : TxnId) (declared : Transaction) (awaiting : IsAwaiting w.actors.coordinators txn) → is_built sc ≡ true → Agrees sc w → Pairs sc w → Serial sc w → Refusals sc w
+    → slice_get sc.txns txn.0 ≡ Some declared → stand_of awaiting.c.phase ≡ Prepares
+    → IsFirstAbort sc (facts_after w (what.Settled at txn outcome.Abort ∷ [])) (length w.steps + 1) txn declared awaiting.c
+first_now sc w at txn declared awaiting built a pairs serial h there prepares = by_old (first_abort_of txn w.facts) refl
+  where
+    by_old : (old : Option ℕ) → first_abort_of txn w.facts ≡ old → IsFirstAbort sc (facts_after w (what.Settled at txn outcome.Abort ∷ [])) (length w.steps + 1) txn declared awaiting.c
+    by_old (Some first) found =
+        let happened = what.Settled at txn outcome.Abort ∷ [] in
+        record {
+          first = first;
+          first_is = first_abort_append txn w.facts (facts_of (length w.steps) happened) ∙ ap (λ (old : Option ℕ). first_of old (first_abort_of txn (facts_of (length w.steps) happened))) found;
+          run = run_stays sc w.facts happened (length w.steps) first declared awaiting.c awaiting.c (keeps_same awaiting.c) (h.aborted txn declared first awaiting there found);
+        }
+    by_old None none =
+        let happened = what.Settled at txn outcome.Abort ∷ [] in
+        let new : first_abort_of txn (facts_of (length w.steps) happened) ≡ Some (length w.steps) =
+        ap (λ (b : Bool). option_map place_of (if b then Some (record { place = length w.steps; what = what.Settled at txn outcome.Abort }) else None)) (and_from (same_txn txn txn) true (number_itself txn.0) refl) in
+        record {
+          first = length w.steps;
+          first_is = first_abort_append txn w.facts (facts_of (length w.steps) happened)
+              ∙ (ap (λ (old : Option ℕ). first_of old (first_abort_of txn (facts_of (length w.steps) happened))) none ∙ new);
+          run = run_at_abort sc w txn happened declared awaiting built a pairs serial h there prepares none;
+        }
 
 -- ---- it is shown
 
 pub refusal_shown : (sc : Scenario) (w : State) (n : ℕ) (mail : Mail) (at : ServerId) (part : Part Server) (s : Server) (p : PrepareRequest) (entry : Entry) (number : ℕ) (value : ℤ) → is_built sc ≡ true → IsSound sc w → Agrees sc w → Pairs sc w
-    → Serial sc w → WasSent w n mail (actor.Server at) → IsServerUp w at part s → IsRefusal s mail p entry number value → IsAwaiting w.actors.coordinators p.txn
+    → Serial sc w → Refusals sc w → WasSent w n mail (actor.Server at) → IsServerUp w at part s → IsRefusal s mail p entry number value → IsAwaiting w.actors.coordinators p.txn
     → ReasonShown sc (facts_after w (what.Settled at p.txn outcome.Abort ∷ [])) (length w.steps + 1) at p.txn (no.Range number value)
-refusal_shown sc w n mail at part s p entry number value built sound a pairs serial sent up k awaiting = λ declared there.
-    let valid : IsValid sc = valid_built sc built in
+refusal_shown sc w n mail at part s p entry number value built sound a pairs serial h sent up k awaiting = λ declared there.
     let txn = p.txn in
     let place = length w.steps in
     let happened = what.Settled at txn outcome.Abort ∷ [] in
     let part_sound = sound.actors_are.servers at.0 part up.found in
     let server_sound : IsSoundServerUp sc at s = subst (λ (u : Option Server). IfSome u (IsSoundServerUp sc at)) up.up part_sound.state in
-    let paired : BodyPairs sc (pair_at w.actors) mail.letter.from (actor.Server at) mail.letter.body =
-    subst (λ (to : Actor). BodyPairs sc (pair_at w.actors) mail.letter.from to mail.letter.body) sent.goes_to (each_get (λ (m : Mail). LetterPairs sc (pair_at w.actors) m.letter) w.mails n mail pairs.mails sent.sent) in
-    let request : PrepareAt sc (pair_at w.actors) (actor.Server at) p = subst (BodyPairs sc (pair_at w.actors) mail.letter.from (actor.Server at)) k.said_is paired in
-    let asked : IsAsked sc w at txn declared entry awaiting = asked_of sc w at part s p entry declared awaiting pairs up there (request declared there) k.found (eqb-true entry.epoch p.epoch k.same_epoch) in
-    let runs : awaiting.c.deeds ≡ serial_run declared (store_of sc w.facts) = run_now sc w at part s txn entry declared awaiting built valid part_sound.exists a pairs serial up there k.found asked in
+    let share : entry.deeds ≡ share_at sc at.0 awaiting.c.deeds = asked_share sc w n mail at part s p entry declared awaiting pairs sent up k.said_is there k.found (eqb-true entry.epoch p.epoch k.same_epoch) in
+    let found : IsFirstAbort sc (facts_after w happened) (place + 1) txn declared awaiting.c =
+    first_now sc w at txn declared awaiting built a pairs serial h there (asked_prepares sc w n mail at p declared awaiting pairs sent k.said_is there) in
+    let store = store_of sc (before found.first (facts_after w happened)) in
+    let runs : awaiting.c.deeds ≡ serial_run declared store = found.run.runs in
     let here : ServerUpSerial sc (overlaid sc w.facts) at s = subst (λ (u : Option Server). IfSome u (ServerUpSerial sc (overlaid sc w.facts) at)) up.up (serial.servers at.0 part up.found).state in
     let out : IsOutsideWrite sc at entry.deeds number value = subst (λ (server : ServerId). IsOutsideWrite sc server entry.deeds number value) server_sound.server_is (outside_write sc s txn entry number value server_sound.sound here.reads k.found k.outside) in
     let own : IsItemAt sc at.0 out.write.item.0 = record { declared = out.item.declared; declared_is = out.item.declared_is; at_is = ap (λ (server : ServerId). server.0) out.item.server_is } in
-    let last : last_kept out.write.item (serial_run declared (store_of sc w.facts)) ≡ Some out.write =
-    ap (last_kept out.write.item) (sym runs) ∙ (sym (last_kept_share sc at.0 out.write.item awaiting.c.deeds own) ∙ (ap (last_kept out.write.item) (sym asked.share) ∙ out.last)) in
-    let all : before place (facts_after w happened) ≡ w.facts = (grows_with_facts w.facts place happened).same place (omega arith) ∙ before_past place w.facts a.past in
-    let open_log : settled_in txn part.log ≡ None = open_unsettled s part.log txn (server_agrees sc w at part s a up) k.unsettled in
-    let none_told : settlements at txn (said w.facts) ≡ [] =
-    a.settled at txn ∙ ap (λ (found : Option Settled). listed (option_map outcome_settled found)) (ap (option_and_then (settled_by txn)) up.found ∙ open_log) in
-    let none : list_any (is_settled_as at txn outcome.Abort) w.facts ≡ false = any_settled at txn outcome.Abort w.facts ∙ ap (list_any (λ (o : Outcome). same_outcome o outcome.Abort)) none_told in
-    let value_now : run_value declared (store_of sc w.facts) number ≡ Some value =
-    ap (run_value declared (store_of sc w.facts)) (sym out.query_is) ∙ (last_is_run declared (store_of sc w.facts) out.write.item out.write last ∙ ap (λ (v : ℤ). Some v) out.value_is) in
+    let last : last_kept out.write.item (serial_run declared store) ≡ Some out.write =
+    ap (last_kept out.write.item) (sym runs) ∙ (sym (last_kept_share sc at.0 out.write.item awaiting.c.deeds own) ∙ (ap (last_kept out.write.item) (sym share) ∙ out.last)) in
+    let value_then : run_value declared store number ≡ Some value =
+    ap (run_value declared store) (sym out.query_is) ∙ (last_is_run declared store out.write.item out.write last ∙ ap (λ (v : ℤ). Some v) out.value_is) in
     record {
-      write = last_is_refused sc declared (store_of sc w.facts) (refused_by at number value) out.write.item out.write last out.query_is out.outside;
+      write = last_is_refused sc declared store (refused_by at number value) out.write.item out.write last out.query_is out.outside;
       aborted = list_any-append (is_settled_as at txn outcome.Abort) w.facts (facts_of place happened)
           ∙ or_right _ _ (or_left _ false (and_from _ _ (and_from (same_server at at) (same_txn txn txn) (number_itself at.0) (number_itself txn.0)) refl));
-      first = place;
-      first_is = first_now sc w.facts w.facts txn at place a.facts (λ other item. only_here sc at other txn valid (length-servers_built sc built) part_sound.exists item) none;
-      past = omega arith;
-      run = ap (λ (found : List Fact). option_map_or (int_eq value) (run_value declared (store_of sc found) number) false) all
-          ∙ (ap (λ (v : Option ℤ). option_map_or (int_eq value) v false) value_now ∙ (Decides-int_eq value value).1 refl);
+      first = found.first;
+      first_is = found.first_is;
+      past = found.run.past;
+      run = ap (λ (v : Option ℤ). option_map_or (int_eq value) v false) value_then ∙ (Decides-int_eq value value).1 refl;
     }

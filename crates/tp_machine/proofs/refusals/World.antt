@@ -1,15 +1,16 @@
 -- Refusals, in every state: while a transaction's coordinator is up and has not decided, facts show the reason that a server has settled the
--- transaction with; and they show the value of each abort for a value out of its range.
+-- transaction with, and once a server has aborted it the coordinator has done what the transaction does by itself on the store at the first
+-- abort; and facts show the value of each abort for a value out of its range.
 use Rattle.std.specs.List.{list_any}
 use Rattle.std.specs.Option.{option_map_or}
 use Rattle.std.specs.Ordering.{int_eq}
-use Rattle.std.proofs.Common.{Bool, IfSome, List, None, Option, Some, [], ap, arith, false, find, if◌then◌else◌, length, option_map, slice_get, subst, sym, true, ℕ, ◌++◌, ◌+◌, ◌<◌, ◌∙◌, ◌∷◌, ◌≡◌, ◌≤◌}
+use Rattle.std.proofs.Common.{Bool, IfSome, List, None, Option, Some, [], ap, arith, false, find, if◌then◌else◌, length, option_map, refl, slice_get, subst, sym, true, ℕ, ◌++◌, ◌+◌, ◌<◌, ◌∙◌, ◌∷◌, ◌≡◌, ◌≤◌}
 use Rattle.std.proofs.lemmas.Bool.{or_left}
 use Rattle.std.proofs.lemmas.List.Folds.{list_any-append}
 use Rattle.std.proofs.lemmas.List.{length_push}
 use Rattle.tp_model.specs.Causes.{first_abort_of, has_refused_write, is_abort, is_run_value, place_of}
-use Rattle.tp_model.specs.Facts.{before, is_settled_as}
-use Rattle.tp_model.specs.SerialRun.{run_value, store_of}
+use Rattle.tp_model.specs.Facts.{before, first_of, is_settled_as}
+use Rattle.tp_model.specs.SerialRun.{run_value, serial_run, store_of}
 use Rattle.tp_model.specs.Words.cause
 use Rattle.tp_model.specs.Words.decision
 use Rattle.tp_model.specs.Words.no
@@ -19,6 +20,9 @@ use Rattle.tp_model.specs.Words.{Fact, No, OutOfRange, Scenario, ServerId, Settl
 use Rattle.tp_machine.proofs.basics.Facts.{ArePast, grows_with_facts}
 use Rattle.tp_machine.proofs.basics.Lists.{each_append}
 use Rattle.tp_machine.proofs.basics.Phases.{is_undecided}
+use Rattle.tp_machine.proofs.pairs.Actors.{stand_of}
+use Rattle.tp_machine.proofs.pairs.Pair.{Prepares}
+use Rattle.tp_machine.proofs.refusals.Unbooted.{Unbooted}
 use Rattle.tp_machine.specs.Logs.{settled_at}
 use Rattle.tp_machine.specs.Machine.{Move, State, facts_of, state_after}
 use Rattle.tp_machine.specs.Parts.{Part}
@@ -56,6 +60,17 @@ pub record IsAwaiting (coordinators : List (Part Coordinator)) (txn : TxnId) : T
 abbrev pub AreSettledShown : Scenario → Actors → List Fact → ℕ → Type 0
 AreSettledShown sc actors facts place = (at : ServerId) (txn : TxnId) (settled : Settled) → settled_at actors.servers at.0 txn ≡ Some settled → IsAwaiting actors.coordinators txn → IfSome settled.why (ReasonShown sc facts place at txn)
 
+-- a coordinator brings the servers to vote, and has done what its transaction does by itself on the store before a place that is past
+pub record IsRunBefore (sc : Scenario) (facts : List Fact) (place first : ℕ) (declared : Transaction) (c : Coordinator) : Type 0 where
+  pub prepares : stand_of c.phase ≡ Prepares
+  pub past : first < place
+  pub runs : c.deeds ≡ serial_run declared (store_of sc (before first facts))
+
+-- once a server has aborted the transaction of a coordinator that is up and has not decided, that is so of it, at the place of the first abort
+abbrev pub AreAbortedRuns : Scenario → List (Part Coordinator) → List Fact → ℕ → Type 0
+AreAbortedRuns sc coordinators facts place = (txn : TxnId) (declared : Transaction) (first : ℕ) (awaiting : IsAwaiting coordinators txn) → slice_get sc.txns txn.0 ≡ Some declared → first_abort_of txn facts ≡ Some first
+    → IsRunBefore sc facts place first declared awaiting.c
+
 -- an abort for a refused value
 abbrev pub WhatRefused : Scenario → List Fact → ℕ → What → Type 0
 WhatRefused sc facts place (what.Decided txn (decision.Abort (cause.No refused))) = RefusalShown sc facts (before place facts) place txn refused
@@ -66,7 +81,10 @@ FactRefused sc facts fact = WhatRefused sc facts fact.place fact.what
 
 pub record Refusals (sc : Scenario) (w : State) : Type 0 where
   pub settled : AreSettledShown sc w.actors w.facts (length w.steps)
+  pub aborted : AreAbortedRuns sc w.actors.coordinators w.facts (length w.steps)
   pub facts : Each (FactRefused sc w.facts) w.facts
+  -- no server was booted, which goes when boots are built
+  pub unbooted : Unbooted w
 
 -- ---- it stays as facts are added
 
@@ -115,6 +133,36 @@ facts_stay : (sc : Scenario) (all : List Fact) (happened : List What) (place : �
 facts_stay sc all happened place [] past h = tt
 facts_stay sc all happened place (fact ∷ facts) past h = (what_stays sc all happened fact.place place fact.what past.0 h.0, facts_stay sc all happened place facts past.1 h.1)
 
+-- a coordinator that brings the servers to vote still does, and has done nothing more
+pub record StillPrepares (old new : Coordinator) : Type 0 where
+  pub prepares : stand_of new.phase ≡ Prepares
+  pub deeds : new.deeds ≡ old.deeds
+
+-- of a coordinator that did so before
+abbrev pub KeepsDeeds : Coordinator → Coordinator → Type 0
+KeepsDeeds old new = stand_of old.phase ≡ Prepares → StillPrepares old new
+
+pub keeps_same : (c : Coordinator) → KeepsDeeds c c
+keeps_same c = λ prepares. record { prepares = prepares; deeds = refl }
+
+pub run_stays : (sc : Scenario) (facts : List Fact) (happened : List What) (place first : ℕ) (declared : Transaction) (old new : Coordinator) → KeepsDeeds old new → IsRunBefore sc facts place first declared old
+    → IsRunBefore sc (facts ++ facts_of place happened) (place + 1) first declared new
+run_stays sc facts happened place first declared old new keeps h =
+    let past = h.past in
+    let same : before first (facts ++ facts_of place happened) ≡ before first facts = (grows_with_facts facts place happened).same first (omega (arith, past)) in
+    let kept : StillPrepares old new = keeps h.prepares in
+    record { prepares = kept.prepares; past = omega (arith, past); runs = kept.deeds ∙ (h.runs ∙ ap (λ (found : List Fact). serial_run declared (store_of sc found)) (sym same)) }
+
+-- the first abort is among the facts, or else among those that are added
+pub first_abort_append : (txn : TxnId) (facts more : List Fact) → first_abort_of txn (facts ++ more) ≡ first_of (first_abort_of txn facts) (first_abort_of txn more)
+first_abort_append txn [] more = refl
+first_abort_append txn (fact ∷ facts) more = by_test (is_abort txn fact) (first_abort_append txn facts more)
+  where
+    by_test : (b : Bool) → first_abort_of txn (facts ++ more) ≡ first_of (first_abort_of txn facts) (first_abort_of txn more)
+        → option_map place_of (if b then Some fact else find (is_abort txn) (facts ++ more)) ≡ first_of (option_map place_of (if b then Some fact else find (is_abort txn) facts)) (first_abort_of txn more)
+    by_test true later = refl
+    by_test false later = later
+
 -- ---- a move
 
 -- the facts after a move
@@ -123,16 +171,20 @@ facts_after w happened = w.facts ++ facts_of (length w.steps) happened
 
 pub record MoveRefuses (sc : Scenario) (w : State) (move : Move) : Type 0 where
   pub settled : AreSettledShown sc move.actors (facts_after w move.happened) (length w.steps + 1)
+  pub aborted : AreAbortedRuns sc move.actors.coordinators (facts_after w move.happened) (length w.steps + 1)
   pub happened : Each (WhatRefused sc (facts_after w move.happened) (length w.steps)) move.happened
 
 new_facts : (sc : Scenario) (all : List Fact) (place : ℕ) (happened : List What) → Each (WhatRefused sc all place) happened → Each (FactRefused sc all) (facts_of place happened)
 new_facts sc all place [] h = tt
 new_facts sc all place (w ∷ happened) h = (h.0, new_facts sc all place happened h.1)
 
-pub state_after_refusals : (sc : Scenario) (w : State) (taken : Step) (move : Move) → ArePast (length w.steps) w.facts → Refusals sc w → MoveRefuses sc w move → Refusals sc (state_after w taken move)
-state_after_refusals sc w taken move past h t =
+pub state_after_refusals : (sc : Scenario) (w : State) (taken : Step) (move : Move) → ArePast (length w.steps) w.facts → Refusals sc w → MoveRefuses sc w move → Unbooted (state_after w taken move)
+    → Refusals sc (state_after w taken move)
+state_after_refusals sc w taken move past h t unbooted =
     record {
       settled = subst (AreSettledShown sc move.actors (facts_after w move.happened)) (sym (length_push w.steps taken)) t.settled;
+      aborted = subst (AreAbortedRuns sc move.actors.coordinators (facts_after w move.happened)) (sym (length_push w.steps taken)) t.aborted;
+      unbooted = unbooted;
       facts = each_append (FactRefused sc (facts_after w move.happened)) w.facts (facts_of (length w.steps) move.happened)
           (facts_stay sc w.facts move.happened (length w.steps) w.facts past h.facts)
           (new_facts sc (facts_after w move.happened) (length w.steps) move.happened t.happened);
@@ -146,3 +198,16 @@ old_shown sc w happened at txn settled h e awaiting = by_why settled.why (h.sett
     by_why : (why : Option No) → IfSome why (ReasonShown sc w.facts (length w.steps) at txn) → IfSome why (ReasonShown sc (facts_after w happened) (length w.steps + 1) at txn)
     by_why None k = tt
     by_why (Some why) k = reason_stays sc w.facts happened (length w.steps) at txn why k
+
+-- what was aborted before the step was run before it, and is still; now is what is to be shown where the step has the first abort
+pub old_run : (sc : Scenario) (w : State) (happened : List What) (txn : TxnId) (declared : Transaction) (first : ℕ) (awaiting : IsAwaiting w.actors.coordinators txn) (new : Coordinator) → Refusals sc w
+    → slice_get sc.txns txn.0 ≡ Some declared → KeepsDeeds awaiting.c new → (first_abort_of txn w.facts ≡ None → first_abort_of txn (facts_of (length w.steps) happened) ≡ Some first → IsRunBefore sc (facts_after w happened) (length w.steps + 1) first declared new)
+    → first_abort_of txn (facts_after w happened) ≡ Some first → IsRunBefore sc (facts_after w happened) (length w.steps + 1) first declared new
+old_run sc w happened txn declared first awaiting new h exists keeps now e =
+    by_old (first_abort_of txn w.facts) refl (sym (first_abort_append txn w.facts (facts_of (length w.steps) happened)) ∙ e)
+  where
+    by_old : (old : Option ℕ) → first_abort_of txn w.facts ≡ old → first_of old (first_abort_of txn (facts_of (length w.steps) happened)) ≡ Some first
+        → IsRunBefore sc (facts_after w happened) (length w.steps + 1) first declared new
+    by_old None none later = now none later
+    by_old (Some was) found later =
+        run_stays sc w.facts happened (length w.steps) first declared awaiting.c new keeps (h.aborted txn declared first awaiting exists (found ∙ later))

@@ -77,10 +77,11 @@ coordinator_row_own sc c mail =
       ignored = tt;
       ran_next = λ done server asked value next k home. tt;
       ran_last = λ done server asked value k none. tt;
-      told_first = λ tell round k. tt;
-      counted = λ reply round staple server verdicts other others y e. tt;
-      committed = λ reply round staple server verdicts y e first agreed. record { deeds = refl; prepares = ap stand_of y.checking };
-      denied = λ reply round staple server verdicts verdict y e f. tt;
+      told = λ tell round k. tt;
+      counted = λ reply round staple server verdicts y e. tt;
+      committed = λ reply round staple server verdicts y e. record { deeds = refl; prepares = ap stand_of y.checking };
+      denied = λ reply round staple server verdicts verdict y e. tt;
+      updated = λ reply round staple server verdicts named y e. tt;
       refused = λ reply round staple server number value k. tt;
       acknowledged = λ ack ended awaited server a. tt;
     })

@@ -163,6 +163,9 @@ serial_cases sc w built sound agrees pairs h =
       coordinator_received = λ n mail txn part c sent up. receipt_by_coordinator sc w built sound agrees pairs h n mail txn part c sent up;
       authority_told = λ n mail sent. unmoved_serial sc w w.actors [] (office.authority_row w.actors.authority mail).reaction.letters h refl refl tt;
       master_told = λ n mail sent. unmoved_serial sc w w.actors [] (master.master_row w.actors.master mail).reaction.letters h refl refl tt;
+      published = λ admin exists more.
+          unmoved_serial sc w (record w.actors { master = master.published admin w.actors.master }) (what.Published admin (master.next_of w.actors.master admin) ∷ []) [] h refl refl (tt, tt);
+      pushed = λ admin server exists there. unmoved_serial sc w w.actors [] (master.pushes w.actors.master admin server).reaction.letters h refl refl tt;
       ticked = λ by. unmoved_serial sc w (record w.actors { authority = office.after_tick by w.actors.authority }) (what.Ticked by ∷ []) [] h refl refl (tt, tt);
       revoked = λ cred exists. unmoved_serial sc w (record w.actors { authority = office.after_revocation cred w.actors.authority }) (what.Revoked cred ∷ []) [] h refl refl (tt, tt);
       begun = λ txn part c exists up new. begun_serial sc w built sound agrees pairs h txn part c exists up new;

@@ -28,11 +28,11 @@ use Rattle.tp_machine.proofs.trust.Fit.{AuthorityFits, BodyFits, IsSubmitted, La
 use Rattle.tp_machine.proofs.trust.Kept.{IsTrusted, part_as, part_keeps, trusted_stays}
 use Rattle.tp_machine.proofs.trust.Server.{ServerTrusts}
 use Rattle.tp_machine.proofs.trust.Turns.{Answers, IsAbove, IsClosed, Stamp, TellNow, TurnFits, stamp_of}
-use Rattle.tp_machine.proofs.trust.World.{BodyTimely, CoordinatorPartFits, IsStill, MailTimely, MoveTrusts, ServerPartFits, StampFits, Timely, Trusts, WhatFits, authority_stays, coordinator_up_stays, decision_stays, facts_after, later_with_facts, server_part_stays, up_at, up_of}
+use Rattle.tp_machine.proofs.trust.World.{BodyTimely, CoordinatorPartFits, IsStill, MailTimely, MoveTrusts, ServerPartFits, StampFits, Timely, Trusts, WhatFits, authority_stays, coordinator_up_stays, decision_stays, facts_after, later_with_facts, master_stays, server_part_stays, up_at, up_of}
 
 -- ---- what a step says by itself
 
--- it leaves the clock and the revocations, and shows what it must
+-- it leaves the clock, the revocations and the newest versions, and shows what it must
 pub record SaysFit (sc : Scenario) (place : ℕ) (own : List What) : Type 0 where
   pub still : Each IsStill own
   pub fit : (facts : List Fact) → Each (WhatFits sc facts place) own
@@ -50,6 +50,7 @@ unmoved_trusts sc w happened letters past h own fit timely =
     let l = later_with_facts w happened (place + 1) (omega arith) in
     record {
       authority = authority_stays sc w happened w.actors.authority past own.still h.authority;
+      master = master_stays sc w happened w.actors.master past own.still h.master;
       servers = λ n part e. server_part_stays sc w.facts (facts_after w happened) place (place + 1) T T part l (λ said t. t) (h.servers n part e);
       coordinators = λ n part e. coordinator_up_stays sc w.facts (facts_after w happened) place (place + 1) part.up l (h.coordinators n part e);
       letters = fit;
@@ -114,8 +115,10 @@ server_acts_trusts sc w at part own now append letters past h found says t =
     let l = later_with_facts w happened (place + 1) (omega arith) in
     let next : Part Server = record { up = now; log = kept } in
     let here = h.servers at.0 part found in
+    let still : Each IsStill happened = subst (Each IsStill) (sym tells) (each_append IsStill own (server_facts at append) says.still (server_facts_still at append)) in
     record {
-      authority = authority_stays sc w happened w.actors.authority past (subst (Each IsStill) (sym tells) (each_append IsStill own (server_facts at append) says.still (server_facts_still at append))) h.authority;
+      authority = authority_stays sc w happened w.actors.authority past still h.authority;
+      master = master_stays sc w happened w.actors.master past still h.master;
       servers = at_set (λ (n : ℕ) (p : Part Server). ServerPartFits sc after (place + 1) T p) w.actors.servers at.0 next
           (λ n p e. server_part_stays sc w.facts after place (place + 1) T T p l (λ said k. k) (h.servers n p e))
           (record {
@@ -199,10 +202,12 @@ coordinator_acts_trusts sc w txn part own now append letters past h found t =
     let l = later_with_facts w happened (place + 1) (omega arith) in
     let next : Part Coordinator = record { up = now; log = log_with part.log append } in
     let coordinators = slice_set w.actors.coordinators txn.0 next in
+    let quiet : Each IsStill happened = subst (Each IsStill) (sym tells) (each_append IsStill own (coordinator_facts append) t.says.still (coordinator_facts_still append)) in
     let still : (sent : ℕ) (said : Body) → BodyTimely sc w.actors.coordinators sent said → BodyTimely sc coordinators sent said =
     λ sent said k. body_still sc w.actors.coordinators txn part next sent said found t.old k in
     record {
-      authority = authority_stays sc w happened w.actors.authority past (subst (Each IsStill) (sym tells) (each_append IsStill own (coordinator_facts append) t.says.still (coordinator_facts_still append))) h.authority;
+      authority = authority_stays sc w happened w.actors.authority past quiet h.authority;
+      master = master_stays sc w happened w.actors.master past quiet h.master;
       servers = λ n p e. server_part_stays sc w.facts after place (place + 1) (Timely sc w.actors.coordinators) (Timely sc coordinators) p l (λ said k sent. still sent said (k sent)) (h.servers n p e);
       coordinators = at_set (λ (n : ℕ) (p : Part Coordinator). CoordinatorPartFits sc after (place + 1) p) w.actors.coordinators txn.0 next
           (λ n p e. coordinator_up_stays sc w.facts after place (place + 1) p.up l (h.coordinators n p e)) (t.fits after after_is);

@@ -2,7 +2,7 @@
 use Rattle.std.specs.Cmp.Lexicographic.{pointwise}
 use Rattle.std.specs.List.{list_all, range_with_len}
 use Rattle.std.specs.Option.{option_map_or}
-use Rattle.std.proofs.Common.{Bool, List, None, Option, Some, [], ap, arith, false, if◌then◌else◌, is_none, is_some, length, nat_le, not, refl, slice_get, subst, true, ℕ, ◌&&◌, ◌==◌, ◌||◌, ◌∙◌, ◌∷◌, ◌≡◌}
+use Rattle.std.proofs.Common.{Bool, List, None, Option, Some, [], ap, arith, false, if◌then◌else◌, inl, inr, is_none, is_some, length, nat_le, not, refl, slice_get, subst, true, ℕ, ◌&&◌, ◌==◌, ◌||◌, ◌∙◌, ◌∷◌, ◌≡◌, ◌⊎◌}
 use Rattle.std.proofs.lemmas.Bool.{and_from, and_parts, le-leb, lt-ltb, or_right}
 use Rattle.tp_types.proofs.ListLemmas.{number_itself, three_from}
 use Rattle.tp_model.specs.Authorisation.{is_allowed, is_certified, is_own_query, is_true_verdict, policy_at}
@@ -12,7 +12,7 @@ use Rattle.tp_model.specs.Demand.{is_deferred_demand, is_final_instance, is_over
 use Rattle.tp_model.specs.Facts.{before}
 use Rattle.tp_model.specs.Levels.{is_global, level_of, reads_master}
 use Rattle.tp_model.specs.Trust.{is_trusted, is_trusted_commit, is_trusted_instance, is_trusted_proof, is_within, keeps_trust, keeps_trust_what}
-use Rattle.tp_model.specs.Versions.{is_one_version, meets_readings, newest}
+use Rattle.tp_model.specs.Versions.{meets_readings, newest}
 use Rattle.tp_model.specs.Words.cause
 use Rattle.tp_model.specs.Words.decision
 use Rattle.tp_model.specs.Words.scheme
@@ -24,13 +24,12 @@ use Rattle.tp_machine.proofs.basics.Lists.{each_get, missing}
 use Rattle.tp_machine.proofs.refusals.World.{FactRefused, IsRefused, Refusals, WhatRefused}
 use Rattle.tp_machine.proofs.trust.Built.{ArePlain, are_plain}
 use Rattle.tp_machine.proofs.trust.Coordinator.{CauseFits, CommitFits}
-use Rattle.tp_machine.proofs.trust.Fit.{IsRight, Right, VerdictsFit}
+use Rattle.tp_machine.proofs.trust.Fit.{IsRight, Right, has_rule}
 use Rattle.tp_machine.proofs.trust.Server.{policy_there}
 use Rattle.tp_machine.proofs.trust.World.{FactFits, Trusts, WhatFits}
 use Rattle.tp_machine.specs.Machine.{State}
 use Rattle.tp_machine.specs.Sound.{Each, IsSound, IsSoundCause, IsSoundFact, IsSoundWhat, IsTxn, IsVersion}
 use Rattle.tp_machine.specs.coord.Row as row
-use Rattle.tp_machine.specs.coord.Row.{are_agreed}
 
 -- ---- a proof
 
@@ -45,10 +44,10 @@ trusted_proof sc txn declared place facts proof h has_rule =
     (le-leb proof.version.0 (newest sc proof.admin place facts) h.published)
 
 trusted_proofs : (sc : Scenario) (txn : TxnId) (declared : Transaction) (place : ℕ) (facts : List Fact) (proofs : List Verdict) → slice_get sc.txns txn.0 ≡ Some declared
-    → Each (Right sc facts place txn) proofs → list_all row.is_true_verdict proofs ≡ true → list_all (is_trusted_proof sc txn declared place facts) proofs ≡ true
+    → Each (Right sc facts place txn) proofs → list_all has_rule proofs ≡ true → list_all (is_trusted_proof sc txn declared place facts) proofs ≡ true
 trusted_proofs sc txn declared place facts [] e h t = refl
 trusted_proofs sc txn declared place facts (proof ∷ proofs) e h t =
-    let parts = and_parts (row.is_true_verdict proof) (list_all row.is_true_verdict proofs) t in
+    let parts = and_parts (has_rule proof) (list_all has_rule proofs) t in
     and_from _ _ (trusted_proof sc txn declared place facts proof (h.0 declared e) parts.0) (trusted_proofs sc txn declared place facts proofs e h.1 parts.1)
 
 -- ---- an instance
@@ -57,28 +56,29 @@ same_numbers : (numbers : List ℕ) → pointwise ◌==◌ numbers numbers ≡ t
 same_numbers [] = refl
 same_numbers (n ∷ numbers) = and_from (n == n) (pointwise ◌==◌ numbers numbers) (number_itself n) (same_numbers numbers)
 
--- proofs that are right, true and of one version close the instance of a deferred commit that reads no master
-closes_instance : (sc : Scenario) (txn : TxnId) (declared : Transaction) (place : ℕ) (facts : List Fact) (proofs : List Verdict) → reads_master sc declared ≡ false → slice_get sc.txns txn.0 ≡ Some declared
-    → VerdictsFit sc facts place txn proofs → are_agreed proofs ≡ true
-    → (is_final_instance sc facts declared (record { reading = None; proofs = proofs }) ≡ true) × (is_trusted_instance sc txn declared place facts (record { reading = None; proofs = proofs }) ≡ true)
-closes_instance sc txn declared place facts proofs view e fit agreed =
-    let parts = and_parts (list_all row.is_true_verdict proofs) (is_one_version proofs) agreed in
-    let over : is_over (length declared.queries) proofs ≡ true = ap (λ (numbers : List ℕ). pointwise ◌==◌ numbers (range_with_len 1 (length declared.queries))) (fit.all declared e) ∙ same_numbers (range_with_len 1 (length declared.queries)) in
-    let reading : (if reads_master sc declared then meets_readings sc declared None facts proofs else true) ≡ true = ap (λ (b : Bool). if b then meets_readings sc declared None facts proofs else true) view in
-    (and_from _ _ over (and_from _ _ parts.1 reading), and_from _ true (trusted_proofs sc txn declared place facts proofs e fit.right parts.0) refl)
+-- the proofs of a commit close the instance of a deferred transaction that reads no master
+closes_instance : (sc : Scenario) (txn : TxnId) (declared : Transaction) (place : ℕ) (facts : List Fact) (committed : CommitRecord) → reads_master sc declared ≡ false → slice_get sc.txns txn.0 ≡ Some declared
+    → (h : CommitFits sc facts place txn committed)
+    → (is_final_instance sc facts declared (record { reading = None; proofs = h.proofs }) ≡ true) × (is_trusted_instance sc txn declared place facts (record { reading = None; proofs = h.proofs }) ≡ true)
+closes_instance sc txn declared place facts committed view e h =
+    let over : is_over (length declared.queries) h.proofs ≡ true = ap (λ (numbers : List ℕ). pointwise ◌==◌ numbers (range_with_len 1 (length declared.queries))) (h.all declared e) ∙ same_numbers (range_with_len 1 (length declared.queries)) in
+    let reading : (if reads_master sc declared then meets_readings sc declared None facts h.proofs else true) ≡ true = ap (λ (b : Bool). if b then meets_readings sc declared None facts h.proofs else true) view in
+    (and_from _ _ over (and_from _ _ h.one_version reading), and_from _ true (trusted_proofs sc txn declared place facts h.proofs e h.right h.have_rules) refl)
 
 -- ---- a commit
 
-round_count : (sc : Scenario) (declared : Transaction) (rounds : ℕ) → reads_master sc declared ≡ false → rounds ≡ 1 → is_round_count sc declared rounds ≡ true
-round_count sc declared rounds view one =
+round_count : (sc : Scenario) (declared : Transaction) (rounds : ℕ) → reads_master sc declared ≡ false → (rounds ≡ 1) ⊎ (rounds ≡ 2) → is_round_count sc declared rounds ≡ true
+round_count sc declared rounds view (inl one) =
     ap (λ (n : ℕ). nat_le 1 n && nat_le n (most_rounds sc declared)) one ∙ ap (λ (b : Bool). nat_le 1 1 && nat_le 1 (if b then declared.rounds else 2)) view
+round_count sc declared rounds view (inr two) =
+    ap (λ (n : ℕ). nat_le 1 n && nat_le n (most_rounds sc declared)) two ∙ ap (λ (b : Bool). nat_le 1 2 && nat_le 2 (if b then declared.rounds else 2)) view
 
 trusted_commit : (sc : Scenario) (txn : TxnId) (place : ℕ) (facts : List Fact) (committed : CommitRecord) (declared : Transaction) → ArePlain sc → slice_get sc.txns txn.0 ≡ Some declared
     → CommitFits sc facts place txn committed → is_trusted_commit sc txn place facts committed declared ≡ true
 trusted_commit sc txn place facts committed declared form e h =
     let deferred : declared.scheme ≡ scheme.Deferred = each_get (λ (t : Transaction). t.scheme ≡ scheme.Deferred) sc.txns txn.0 declared form.deferred e in
     let view : reads_master sc declared ≡ false = each_get (λ (t : Transaction). reads_master sc t ≡ false) sc.txns txn.0 declared form.view e in
-    let closed = closes_instance sc txn declared place facts h.proofs view e h.fit h.agreed in
+    let closed = closes_instance sc txn declared place facts committed view e h in
     and_from _ _
     (ap (λ (s : Scheme). meets_scheme s sc facts declared committed) deferred
     ∙ and_from _ _ (ap (is_deferred_demand sc facts declared) h.instances ∙ closed.0) (round_count sc declared committed.rounds view h.rounds))
@@ -111,7 +111,7 @@ no_rule (Some rule) e = absurd (cc)
 
 -- a right verdict without a rule, of a version that exists, shows a denial
 denial_shown : (sc : Scenario) (txn : TxnId) (declared : Transaction) (place : ℕ) (facts : List Fact) (verdict : Verdict) → is_global (level_of declared verdict.admin) ≡ false
-    → IsVersion sc verdict.admin verdict.version → IsRight sc facts place txn declared verdict → row.is_false_verdict verdict ≡ true
+    → IsVersion sc verdict.admin verdict.version → IsRight sc facts place txn declared verdict → is_none verdict.rule ≡ true
     → is_denied sc txn place facts (row.denied_by verdict) declared ≡ true
 denial_shown sc txn declared place facts verdict view version h ruleless =
     four_true (is_own_query sc declared verdict.query verdict.server verdict.admin) (is_within txn place facts verdict.place) (is_denied_version sc place facts declared (row.denied_by verdict))

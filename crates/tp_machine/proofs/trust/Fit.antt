@@ -14,13 +14,8 @@ use Rattle.tp_model.specs.Words.vote
 use Rattle.tp_model.specs.Words.{Action, AdminId, Answer, Body, CredId, Fact, Mail, Policy, Scenario, Staple, Transaction, TxnId, Verdict, Version, Vote}
 use Rattle.tp_machine.proofs.basics.Facts.{Grows}
 use Rattle.tp_machine.proofs.basics.Lists.{each_as}
-use Rattle.tp_machine.proofs.basics.Verdicts.{numbers_of}
 use Rattle.tp_machine.specs.Sound.{Each, EachPlaced, IsAdmin}
 use Rattle.tp_machine.specs.coord.Row.{staple_of}
-use Rattle.tp_machine.specs.declared.coord.Phase.TheVariants as phase
-use Rattle.tp_machine.specs.declared.coord.Phase.{Phase}
-use Rattle.tp_machine.specs.declared.coord.Reply.{Reply}
-use Rattle.tp_machine.specs.declared.coord.Round.{Round}
 use Rattle.tp_machine.specs.server.State.{Server}
 use Rattle.tp_machine.specs.server.Verdicts.{version_known}
 use Rattle.tp_offices.specs.Authority.{revocations}
@@ -51,17 +46,16 @@ Right sc facts place txn verdict = (declared : Transaction) → slice_get sc.txn
 abbrev pub IsSubmitted : List Fact → TxnId → Type 0
 IsSubmitted facts txn = list_any (is_submission txn) facts ≡ true
 
--- these are the numbers of all the transaction's queries, in order (one server has them all)
+-- these are the numbers of all the transaction's queries, in order
 abbrev pub AreAll : Scenario → TxnId → List ℕ → Type 0
 AreAll sc txn numbers = (declared : Transaction) → slice_get sc.txns txn.0 ≡ Some declared → numbers ≡ range_with_len 1 (length declared.queries)
 
--- a vote's verdicts are right, and there is one for each query
-pub record VerdictsFit (sc : Scenario) (facts : List Fact) (place : ℕ) (txn : TxnId) (verdicts : List Verdict) : Type 0 where
-  pub right : Each (Right sc facts place txn) verdicts
-  pub all : AreAll sc txn (numbers_of verdicts)
+abbrev pub has_rule : Verdict → Bool
+has_rule verdict = is_some verdict.rule
 
+-- a vote's verdicts are right
 abbrev pub VoteFits : Scenario → List Fact → ℕ → TxnId → Vote → Type 0
-VoteFits sc facts place txn (vote.Yes verdicts) = VerdictsFit sc facts place txn verdicts
+VoteFits sc facts place txn (vote.Yes verdicts) = Each (Right sc facts place txn) verdicts
 VoteFits sc facts place txn _ = Unit {0}
 
 abbrev pub AnswerFits : Scenario → List Fact → ℕ → TxnId → Answer → Type 0
@@ -97,19 +91,6 @@ pub record AuthorityFits (sc : Scenario) (facts : List Fact) (place : ℕ) (auth
   pub revoked_is : (cred : CredId) → is_among (revocations authority.revoked) cred ≡ is_among (revoked_at place facts) cred
   pub placed : EachPlaced (λ (n : ℕ) (cred : CredId). cred.0 ≡ n) authority.revoked
   pub places : length authority.revoked ≡ length sc.creds
-
--- a round is the first, and the replies that it keeps fit
-pub record RoundFits (sc : Scenario) (facts : List Fact) (place : ℕ) (txn : TxnId) (round : Round) : Type 0 where
-  pub number : round.number ≡ 1
-  pub kept : Each (λ (reply : Reply). Each (Right sc facts place txn) reply.verdicts) round.kept
-
--- a coordinator awaits the answer to a request that fits
-abbrev pub PhaseFits : Scenario → List Fact → ℕ → TxnId → Phase → Type 0
-PhaseFits sc facts place txn phase.Idle = Unit {0}
-PhaseFits sc facts place txn (phase.Querying number staple) = IsSubmitted facts txn × IfSome staple (StapleFits sc facts place txn)
-PhaseFits sc facts place txn (phase.Asking round) = IsSubmitted facts txn × RoundFits sc facts place txn round
-PhaseFits sc facts place txn (phase.Checking round staple) = IsSubmitted facts txn × RoundFits sc facts place txn round × StapleFits sc facts place txn staple
-PhaseFits sc facts place txn (phase.Ending ended awaited) = Unit {0}
 
 -- ---- it stays as facts are added
 
@@ -193,18 +174,15 @@ right_stays sc old new low high txn verdict l h declared found =
       published = omega (arith, was.published, newest_rises sc verdict.admin old new low high l);
     }
 
-rights_stay : (sc : Scenario) (old new : List Fact) (low high : ℕ) (txn : TxnId) (verdicts : List Verdict) → Later old new low high → Each (Right sc old low txn) verdicts → Each (Right sc new high txn) verdicts
+pub rights_stay : (sc : Scenario) (old new : List Fact) (low high : ℕ) (txn : TxnId) (verdicts : List Verdict) → Later old new low high → Each (Right sc old low txn) verdicts → Each (Right sc new high txn) verdicts
 rights_stay sc old new low high txn verdicts l h = each_as (Right sc old low txn) (Right sc new high txn) (λ v r. right_stays sc old new low high txn v l r) verdicts h
-
-pub verdicts_stay : (sc : Scenario) (old new : List Fact) (low high : ℕ) (txn : TxnId) (verdicts : List Verdict) → Later old new low high → VerdictsFit sc old low txn verdicts → VerdictsFit sc new high txn verdicts
-verdicts_stay sc old new low high txn verdicts l h = record { right = rights_stay sc old new low high txn verdicts l h.right; all = h.all }
 
 pub maybe_stays : {A : Type 0} (P Q : A → Type 0) (found : Option A) → ((x : A) → P x → Q x) → IfSome found P → IfSome found Q
 maybe_stays P Q None step h = tt
 maybe_stays P Q (Some x) step h = step x h
 
 vote_stays : (sc : Scenario) (old new : List Fact) (low high : ℕ) (txn : TxnId) (said : Vote) → Later old new low high → VoteFits sc old low txn said → VoteFits sc new high txn said
-vote_stays sc old new low high txn (vote.Yes verdicts) l h = verdicts_stay sc old new low high txn verdicts l h
+vote_stays sc old new low high txn (vote.Yes verdicts) l h = rights_stay sc old new low high txn verdicts l h
 vote_stays sc old new low high txn _ l h = tt
 
 answer_stays : (sc : Scenario) (old new : List Fact) (low high : ℕ) (txn : TxnId) (said : Answer) → Later old new low high → AnswerFits sc old low txn said → AnswerFits sc new high txn said
@@ -231,20 +209,3 @@ body_stays sc old new low high sent _ l h = tt
 
 pub server_stays : (sc : Scenario) (old new : List Fact) (low high : ℕ) (s : Server) → Later old new low high → ServerFits sc old low s → ServerFits sc new high s
 server_stays sc old new low high s l h = record { known = λ admin within. omega (arith, h.known admin within, newest_rises sc admin old new low high l) }
-
-round_stays : (sc : Scenario) (old new : List Fact) (low high : ℕ) (txn : TxnId) (round : Round) → Later old new low high → RoundFits sc old low txn round → RoundFits sc new high txn round
-round_stays sc old new low high txn round l h =
-    record {
-      number = h.number;
-      kept = each_as (λ (reply : Reply). Each (Right sc old low txn) reply.verdicts) (λ (reply : Reply). Each (Right sc new high txn) reply.verdicts)
-          (λ reply r. rights_stay sc old new low high txn reply.verdicts l r) round.kept h.kept;
-    }
-
-pub phase_stays : (sc : Scenario) (old new : List Fact) (low high : ℕ) (txn : TxnId) (awaited : Phase) → Later old new low high → PhaseFits sc old low txn awaited → PhaseFits sc new high txn awaited
-phase_stays sc old new low high txn phase.Idle l h = tt
-phase_stays sc old new low high txn (phase.Querying number staple) l h =
-    (l.more txn h.0, maybe_stays (StapleFits sc old low txn) (StapleFits sc new high txn) staple (λ s f. staple_stays sc old new low high txn s l f) h.1)
-phase_stays sc old new low high txn (phase.Asking round) l h = (l.more txn h.0, round_stays sc old new low high txn round l h.1)
-phase_stays sc old new low high txn (phase.Checking round staple) l h =
-    (l.more txn h.0, round_stays sc old new low high txn round l h.1, staple_stays sc old new low high txn staple l h.2)
-phase_stays sc old new low high txn (phase.Ending ended awaited) l h = tt

@@ -1,25 +1,30 @@
--- The offices: the clock moves, credentials are revoked, and the master answers.
-use Rattle.std.proofs.lemmas.List.{append-nil, length-set}
+-- The offices: the clock moves, credentials are revoked, and the master publishes, pushes and answers.
+use Rattle.std.proofs.lemmas.List.{append-nil, length-map, length-set}
 use Rattle.std.proofs.lemmas.List.Folds.{list_any-append}
-use Rattle.std.proofs.Common.{Bool, List, None, Option, Some, [], false, ap, arith, length, refl, replicate, slice_get, slice_set, suc, sym, zero, ℕ, ◌+◌, ◌<◌, ◌==◌, ◌||◌, ◌∙◌, ◌∷◌, ◌≡◌}
-use Rattle.std.specs.List.{sum_by}
+use Rattle.std.proofs.Common.{Bool, List, None, Option, Some, [], true, false, ap, arith, cond, get_or, if◌then◌else◌, length, refl, replicate, slice_get, slice_set, suc, sym, unwrap_or, zero, ℕ, ◌+◌, ◌<◌, ◌==◌, ◌||◌, ◌∙◌, ◌∷◌, ◌≡◌}
+use Rattle.std.specs.List.{count_by, sum_by}
 use Rattle.std.proofs.lemmas.List.Sums.{sum_by-cons}
+use Rattle.std.proofs.lemmas.Bool.{eqb-true}
+use Rattle.std.proofs.lemmas.Option.{slice_get-get_or, slice_get-map}
 use Rattle.tp_model.specs.Credentials.{is_among, revoked_at, ticks}
 use Rattle.tp_model.specs.Ids.{same_cred}
-use Rattle.tp_model.specs.Words.{Body, CredId, Fact, Letter, Scenario, What}
+use Rattle.tp_model.specs.Versions.{is_publication, newest, opening_of}
+use Rattle.tp_model.specs.Words.{AdminId, Body, CredId, Fact, Letter, Scenario, ServerId, Version, What}
 use Rattle.tp_model.specs.Words.body
 use Rattle.tp_model.specs.Words.what
 use Rattle.tp_types.specs.Table.{flattened}
 use Rattle.tp_offices.specs.Authority as office
 use Rattle.tp_offices.specs.Master as master
 use Rattle.tp_offices.specs.declared.authority.Authority.{Authority}
-use Rattle.tp_machine.specs.Machine.{State, revokes, ticks as moves}
-use Rattle.tp_machine.specs.Sound.{Each, IsCred}
+use Rattle.tp_offices.specs.declared.master.Master.{Master}
+use Rattle.tp_machine.specs.Machine.{State, facts_of, publishes, revokes, ticks as moves}
+use Rattle.tp_machine.specs.Sound.{Each, IsAdmin, IsCred}
 use Rattle.tp_machine.proofs.basics.Facts.{ArePast}
 use Rattle.tp_machine.proofs.basics.Lists.{placed_set}
-use Rattle.tp_machine.proofs.trust.Fit.{AuthorityFits, BodyFits, maybe_stays}
+use Rattle.tp_machine.proofs.basics.Logs.{get_set}
+use Rattle.tp_machine.proofs.trust.Fit.{AuthorityFits, BodyFits, maybe_stays, newest_rises}
 use Rattle.tp_machine.proofs.trust.Turns.{TurnFits}
-use Rattle.tp_machine.proofs.trust.World.{BodyTimely, MoveTrusts, Timely, Trusts, WhatFits, clock_after, coordinator_up_stays, facts_after, later_with_facts, revoked_after, server_part_stays, up_at}
+use Rattle.tp_machine.proofs.trust.World.{BodyTimely, MasterFits, MoveTrusts, Timely, Trusts, WhatFits, authority_kept, clock_after, coordinator_up_stays, facts_after, later_with_facts, master_kept, newest_after, revoked_after, server_part_stays, up_at}
 
 -- ---- one credential more
 
@@ -93,17 +98,48 @@ revoked_fits sc w cred authority exists past h =
       places = length-set authority.revoked cred.0 (Some cred) ∙ count;
     }
 
+-- ---- the master after a publication
+
+-- a publication raises the newest version of its administrator by one, and no other
+raised_by_one : (versions : List Version) (n m before : ℕ) (b : Bool) → (n == m) ≡ b → (unwrap_or (slice_get versions m) (record { 0 = 0 })).0 ≡ before
+    → (unwrap_or (if b then Some (record { 0 = (unwrap_or (slice_get versions n) (record { 0 = 0 })).0 + 1 }) else slice_get versions m) (record { 0 = 0 })).0 ≡ before + (cond b 1 0 + 0)
+raised_by_one versions n m before true e was =
+    let same : (unwrap_or (slice_get versions n) (record { 0 = 0 })).0 ≡ (unwrap_or (slice_get versions m) (record { 0 = 0 })).0 = ap (λ (k : ℕ). (unwrap_or (slice_get versions k) (record { 0 = 0 })).0) (eqb-true n m e) in
+    omega (arith, same, was)
+raised_by_one versions n m before false e was = omega (arith, was)
+
+published_fits : (sc : Scenario) (w : State) (admin : AdminId) (held : Master) → IsAdmin sc admin → ArePast (length w.steps) w.facts → MasterFits sc w.facts (length w.steps) held
+    → MasterFits sc (facts_after w (what.Published admin (master.next_of held admin) ∷ [])) (length w.steps + 1) (master.published admin held)
+published_fits sc w admin held exists past h =
+    let place = length w.steps in
+    let next = master.next_of held admin in
+    let happened = what.Published admin next ∷ [] in
+    record {
+      newest_is = λ other within.
+          let same = admin.0 == other.0 in
+          let before = newest sc other place w.facts in
+          let one : count_by (is_publication other) (facts_of place happened) ≡ cond same 1 0 + 0 =
+          sum_by-cons (λ (fact : Fact). cond (is_publication other fact) 1 0) (record { place = place; what = what.Published admin next }) [] in
+          let there : slice_get held.newest admin.0 ≡ Some (get_or held.newest admin.0 next) = slice_get-get_or held.newest admin.0 next (omega (arith, exists, h.places)) in
+          ap (λ (found : Option Version). (unwrap_or found (record { 0 = 0 })).0) (get_set held.newest admin.0 other.0 (get_or held.newest admin.0 next) next there)
+          ∙ (raised_by_one held.newest admin.0 other.0 before same refl (h.newest_is other within)
+          ∙ sym (newest_after sc w happened other past ∙ ap (λ (more : ℕ). before + more) one));
+      places = length-set held.newest admin.0 next ∙ h.places;
+    }
+
 -- ---- the move
 
--- the authority alone acts
-authority_trusts : (sc : Scenario) (w : State) (authority : Authority) (happened : List What) → Trusts sc w → AuthorityFits sc (facts_after w happened) (length w.steps + 1) authority
-    → ((facts : List Fact) → Each (WhatFits sc facts (length w.steps)) happened) → MoveTrusts sc w (record { actors = record w.actors { authority = authority }; happened = happened; letters = [] })
-authority_trusts sc w authority happened h fits facts =
+-- the offices alone act
+offices_trust : (sc : Scenario) (w : State) (authority : Authority) (held : Master) (happened : List What) → Trusts sc w → AuthorityFits sc (facts_after w happened) (length w.steps + 1) authority
+    → MasterFits sc (facts_after w happened) (length w.steps + 1) held → ((facts : List Fact) → Each (WhatFits sc facts (length w.steps)) happened)
+    → MoveTrusts sc w (record { actors = record w.actors { authority = authority; master = held }; happened = happened; letters = [] })
+offices_trust sc w authority held happened h fits master_fits facts =
     let place = length w.steps in
     let T = Timely sc w.actors.coordinators in
     let l = later_with_facts w happened (place + 1) (omega arith) in
     record {
       authority = fits;
+      master = master_fits;
       servers = λ n part e. server_part_stays sc w.facts (facts_after w happened) place (place + 1) T T part l (λ said t. t) (h.servers n part e);
       coordinators = λ n part e. coordinator_up_stays sc w.facts (facts_after w happened) place (place + 1) part.up l (h.coordinators n part e);
       letters = tt;
@@ -114,13 +150,24 @@ authority_trusts sc w authority happened h fits facts =
 
 pub ticked_trusts : (sc : Scenario) (w : State) (by : ℕ) → ArePast (length w.steps) w.facts → Trusts sc w → MoveTrusts sc w (moves w.actors by)
 ticked_trusts sc w by past h =
-    authority_trusts sc w (office.after_tick by w.actors.authority) (what.Ticked by ∷ []) h (ticked_fits sc w by w.actors.authority past h.authority) (λ facts. (tt, tt))
+    let happened = what.Ticked by ∷ [] in
+    offices_trust sc w (office.after_tick by w.actors.authority) w.actors.master happened h (ticked_fits sc w by w.actors.authority past h.authority)
+    (master_kept sc w happened w.actors.master past (λ admin. sum_by-cons (λ (fact : Fact). cond (is_publication admin fact) 1 0) (record { place = length w.steps; what = what.Ticked by }) []) h.master) (λ facts. (tt, tt))
 
 pub revoked_trusts : (sc : Scenario) (w : State) (cred : CredId) → IsCred sc cred → ArePast (length w.steps) w.facts → Trusts sc w → MoveTrusts sc w (revokes w.actors cred)
 revoked_trusts sc w cred exists past h =
-    authority_trusts sc w (office.after_revocation cred w.actors.authority) (what.Revoked cred ∷ []) h (revoked_fits sc w cred w.actors.authority exists past h.authority) (λ facts. (tt, tt))
+    let happened = what.Revoked cred ∷ [] in
+    offices_trust sc w (office.after_revocation cred w.actors.authority) w.actors.master happened h (revoked_fits sc w cred w.actors.authority exists past h.authority)
+    (master_kept sc w happened w.actors.master past (λ admin. sum_by-cons (λ (fact : Fact). cond (is_publication admin fact) 1 0) (record { place = length w.steps; what = what.Revoked cred }) []) h.master) (λ facts. (tt, tt))
 
--- ---- the master
+pub published_trusts : (sc : Scenario) (w : State) (admin : AdminId) → IsAdmin sc admin → ArePast (length w.steps) w.facts → Trusts sc w → MoveTrusts sc w (publishes w.actors admin)
+published_trusts sc w admin exists past h =
+    let happened = what.Published admin (master.next_of w.actors.master admin) ∷ [] in
+    offices_trust sc w w.actors.authority (master.published admin w.actors.master) happened h (authority_kept sc w happened w.actors.authority past
+    (sum_by-cons ticks (record { place = length w.steps; what = what.Published admin (master.next_of w.actors.master admin) }) []) refl h.authority)
+    (published_fits sc w admin w.actors.master exists past h.master) (λ facts. (tt, tt))
+
+-- ---- what the master sends
 
 -- what the master answers says nothing that has to fit yet
 pub newest_fits : (sc : Scenario) (w : State) (said : Body) → Each (λ (letter : Letter). BodyFits sc (facts_after w []) (length w.steps + 1) (length w.steps) letter.body) (master.on_body w.actors.master said).reaction.letters
@@ -137,3 +184,22 @@ newest_timely sc w (body.Probe probe) sent m =
       tt,
     )
 newest_timely sc w _ sent m = tt
+
+-- a version that is pushed is the newest
+pub pushed_fits : (sc : Scenario) (w : State) (admin : AdminId) (server : ServerId) → IsAdmin sc admin → Trusts sc w
+    → Each (λ (letter : Letter). BodyFits sc (facts_after w []) (length w.steps + 1) (length w.steps) letter.body) (master.pushes w.actors.master admin server).reaction.letters
+pushed_fits sc w admin server exists h =
+    let rises = newest_rises sc admin w.facts (facts_after w []) (length w.steps) (length w.steps + 1) (later_with_facts w [] (length w.steps + 1) (omega arith)) in
+    (omega (arith, h.master.newest_is admin exists, rises), tt)
+
+-- ---- before the first step
+
+-- the master knows the versions with which the administrators begin
+pub opening_fits : (sc : Scenario) → MasterFits sc [] 0 (master.opening sc)
+opening_fits sc =
+    record {
+      newest_is = λ admin exists.
+          let begun : (master.version_in (master.opening sc).newest admin).0 ≡ (opening_of sc admin).0 = ap (λ (found : Option Version). (unwrap_or found (record { 0 = 0 })).0) (slice_get-map master.opening_of sc.admins admin.0) in
+          omega (arith, begun);
+      places = length-map sc.admins master.opening_of;
+    }

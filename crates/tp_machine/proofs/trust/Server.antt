@@ -1,7 +1,8 @@
 -- Trust, the server's rows: verdicts are right at the place of the staple, and there is one for each query.
+use Rattle.std.specs.List.{list_all}
 use Rattle.std.specs.Option.{option_map_or}
-use Rattle.std.proofs.Common.{IfSome, List, Option, Some, [], ap, arith, false, is_some, length, option_and_then, refl, slice_get, subst, suc, sym, true, unwrap_or, zero, ℕ, ℤ, ⊎_elim, ◌<◌, ◌==◌, ◌∙◌, ◌∷◌, ◌≡◌, ◌≤◌}
-use Rattle.std.proofs.lemmas.Bool.{and_from, eqb-true}
+use Rattle.std.proofs.Common.{IfSome, List, None, Option, Some, [], ap, arith, false, inl, inr, is_some, length, option_and_then, refl, slice_get, subst, suc, sym, true, unwrap_or, zero, ℕ, ℤ, ⊎_elim, ◌<◌, ◌==◌, ◌∙◌, ◌∷◌, ◌≡◌, ◌≤◌, ◌⊎◌}
+use Rattle.std.proofs.lemmas.Bool.{and_from}
 use Rattle.std.proofs.lemmas.Option.{same_Some}
 use Rattle.tp_types.proofs.ListLemmas.{number_itself}
 use Rattle.tp_types.specs.Effect.{Effect, ignores, sends}
@@ -11,19 +12,25 @@ use Rattle.tp_model.specs.Versions.{newest}
 use Rattle.tp_model.specs.Words.actor
 use Rattle.tp_model.specs.Words.body
 use Rattle.tp_model.specs.Words.vote
-use Rattle.tp_model.specs.Words.{Admin, AdminId, Body, Deed, DoneReply, Fact, Item, Letter, Mail, No, Policy, PrepareRequest, PushNotice, Query, QueryRequest, Record, Scenario, ServerId, Settled, Staple, Transaction, TxnId, Verdict, Version}
+use Rattle.tp_model.specs.Words.{Actor, Admin, AdminId, Body, Deed, DoneReply, Fact, Item, Letter, Mail, No, Policy, PrepareRequest, PushNotice, Query, QueryRequest, Record, Scenario, ServerId, Settled, Staple, Transaction, TxnId, Verdict, Version}
 use Rattle.tp_machine.proofs.basics.Lists.{each_append, each_as, each_found, each_map, placed_emptied, placed_set}
 use Rattle.tp_machine.proofs.basics.Ids.{admin_number}
 use Rattle.tp_machine.proofs.basics.Stores.{ended_known, kept_known}
-use Rattle.tp_machine.proofs.basics.Verdicts.{deed_numbers, numbers_kept}
 use Rattle.tp_machine.proofs.basics.Versions.{known_most, learnt_most, used_by}
 use Rattle.tp_machine.proofs.ids.Server.{learnt_sound, verdict_sound}
 use Rattle.tp_machine.proofs.ids.Valid.{IsValid}
 use Rattle.tp_machine.proofs.trust.Evaluation.{evaluate_right}
-use Rattle.tp_machine.proofs.trust.Fit.{AreAll, BodyFits, IsPublished, IsRight, Right, ServerFits, StapleFits, VerdictsFit}
+use Rattle.tp_machine.proofs.trust.Fit.{BodyFits, IsPublished, IsRight, Right, ServerFits, StapleFits}
 use Rattle.tp_machine.proofs.trust.Kept.{AreKept, IsKept, IsTrusted, RecordKept, vote_cast}
-use Rattle.tp_machine.proofs.trust.Turns.{Answers, IsClosed, PrepareNow, Stamp, VoteNow, stamp_of}
-use Rattle.tp_machine.proofs.trust.Whole.{WholeMail}
+use Rattle.tp_machine.proofs.trust.Turns.{AimedVote, Answers, IsClosed, PrepareNow, Stamp, VoteNow, WantNow, stamp_of}
+use Rattle.tp_machine.proofs.basics.Aims.{is_within, wanted_aimed}
+use Rattle.tp_machine.proofs.pairs.Actors.{BodyPairs, site_of}
+use Rattle.tp_machine.proofs.pairs.Pair.{Pair}
+use Rattle.tp_machine.proofs.pairs.Fits.{Names}
+use Rattle.tp_model.specs.Limits.{is_empty}
+use Rattle.tp_round.specs.Judge.{is_aimed}
+use Rattle.tp_round.specs.Laws.{wanted_of}
+use Rattle.tp_round.specs.declared.round.Round.{Round}
 use Rattle.tp_machine.proofs.walks.ServerRows.{IsFirstHere, IsFurther, IsGranted, server_by}
 use Rattle.tp_machine.specs.Evaluation.{IsRightVerdict}
 use Rattle.tp_machine.specs.Runs.{deed_of}
@@ -34,7 +41,7 @@ use Rattle.tp_machine.specs.declared.server.Ballot.{Ballot}
 use Rattle.tp_machine.specs.declared.server.Entry.{Entry}
 use Rattle.tp_machine.specs.server.Row.{ack_letter, answers, completes, done_reply, ends, entry_after, entry_at, learns, no_letter, refused_as, restarted_reply, server_row, settled_as, votes_on, yes_letter}
 use Rattle.tp_machine.specs.server.State.{Server}
-use Rattle.tp_machine.specs.server.Verdicts.{learnt, verdict_on, verdicts_on, version_used}
+use Rattle.tp_machine.specs.server.Verdicts.{learnt, verdict_on, verdicts_on, version_known, version_or, version_used}
 
 -- an act of a server: what it is after it, if it is up, fits; what it keeps and forced, and its letters, fit too and T of them. T is closed
 -- under answers, and is so of the mail
@@ -195,38 +202,77 @@ placed_there : (sc : Scenario) (s : Server) (txn : Transaction) (staple : Staple
 placed_there sc s txn staple want other [] e = tt
 placed_there sc s txn staple want other (deed ∷ deeds) e = (e, placed_there sc s txn staple want other deeds e)
 
-vote_now : (sc : Scenario) (s : Server) (awaited : Phase) (p : PrepareRequest) (txn : Transaction) (staple : Staple) (deeds : List Deed) → p.staple ≡ Some staple → PrepareNow awaited p
-    → VoteNow awaited (vote.Yes (verdicts_on sc s txn staple p.want deeds))
-vote_now sc s (phase.Checking round st) p txn staple deeds e h = placed_there sc s txn staple p.want st.place deeds (ap (λ (x : Staple). x.place) (same_Some staple st (sym e ∙ h)))
-vote_now sc s _ p txn staple deeds e h = tt
+-- a verdict at a version that is wanted
+used_aimed : (s : Server) (want aim : List (AdminId × Version)) (verdict : Verdict) (wanted : Option ℕ) → wanted_of want verdict.admin ≡ wanted → is_some wanted ≡ true → verdict.version ≡ version_used s want verdict.admin
+    → Each (λ (one : AdminId × Version). is_within aim one ≡ true) want → is_aimed aim verdict ≡ true
+used_aimed s want aim verdict None e some used within = absurd (cc)
+used_aimed s want aim verdict (Some version) e some used within =
+    wanted_aimed aim want verdict version within e (ap (λ (v : Version). v.0) used ∙ ap (λ (w : Option ℕ). (version_or w (version_known s verdict.admin)).0) e)
+
+-- where all administrators are named all verdicts are at wanted versions
+verdicts_aimed : (sc : Scenario) (facts : List Fact) (place : ℕ) (s : Server) (txn : TxnId) (presenting : Transaction) (staple : Staple) (want aim : List (AdminId × Version)) (deeds : List Deed)
+    → slice_get sc.txns txn.0 ≡ Some presenting → Names (site_of sc s.server.0 presenting) want → Each (λ (one : AdminId × Version). is_within aim one ≡ true) want
+    → Each (Right sc facts place txn) (verdicts_on sc s presenting staple want deeds) → list_all (is_aimed aim) (verdicts_on sc s presenting staple want deeds) ≡ true
+verdicts_aimed sc facts place s txn presenting staple want aim [] there names within rights = refl
+verdicts_aimed sc facts place s txn presenting staple want aim (deed ∷ deeds) there names within rights =
+    let verdict = verdict_on sc s presenting staple want deed in
+    and_from (is_aimed aim verdict) (list_all (is_aimed aim) (verdicts_on sc s presenting staple want deeds))
+    (used_aimed s want aim verdict (wanted_of want verdict.admin) refl (names verdict.query verdict.admin (rights.0 presenting there).own) refl within)
+    (verdicts_aimed sc facts place s txn presenting staple want aim deeds there names within rights.1)
+
+-- what is wanted, if anything is, names all administrators of the transaction's queries at the server
+abbrev pub IsNamed : Scenario → ServerId → PrepareRequest → Type 0
+IsNamed sc at p = (declared : Transaction) → slice_get sc.txns p.txn.0 ≡ Some declared → (is_empty p.want ≡ true) ⊎ Names (site_of sc at.0 declared) p.want
+
+abbrev pub NamedMail : Scenario → ServerId → Body → Type 0
+NamedMail sc at (body.Prepare p) = IsNamed sc at p
+NamedMail sc at _ = Unit {0}
+
+-- so a mail to the server says
+pub named_mail : (sc : Scenario) (P : TxnId → ℕ → Pair) (from : Actor) (at : ServerId) (said : Body) → BodyPairs sc P from (actor.Server at) said → NamedMail sc at said
+named_mail sc P from at (body.Prepare p) h = λ declared e. (h declared e).names
+named_mail sc P from at _ h = tt
+
+-- a vote has the versions of a round whose request it answers
+aimed_vote : (sc : Scenario) (facts : List Fact) (place : ℕ) (s : Server) (p : PrepareRequest) (round : Round) (txn : Transaction) (staple : Staple) (deeds : List Deed) → slice_get sc.txns p.txn.0 ≡ Some txn
+    → Each (Right sc facts place p.txn) (verdicts_on sc s txn staple p.want deeds) → (is_empty p.want ≡ true) ⊎ Names (site_of sc s.server.0 txn) p.want → WantNow round p.want
+    → AimedVote round (vote.Yes (verdicts_on sc s txn staple p.want deeds))
+aimed_vote sc facts place s p round txn staple deeds there rights names (inl first) = inl first
+aimed_vote sc facts place s p round txn staple deeds there rights (inl none) (inr wants) = let some = wants.0 in absurd (cc)
+aimed_vote sc facts place s p round txn staple deeds there rights (inr names) (inr wants) = inr (verdicts_aimed sc facts place s p.txn txn staple p.want round.aim deeds there names wants.1 rights)
+
+vote_now : (sc : Scenario) (facts : List Fact) (place : ℕ) (s : Server) (awaited : Phase) (p : PrepareRequest) (txn : Transaction) (staple : Staple) (deeds : List Deed) → p.staple ≡ Some staple → slice_get sc.txns p.txn.0 ≡ Some txn
+    → Each (Right sc facts place p.txn) (verdicts_on sc s txn staple p.want deeds) → IsNamed sc s.server p → PrepareNow awaited p → VoteNow awaited (vote.Yes (verdicts_on sc s txn staple p.want deeds))
+vote_now sc facts place s (phase.Checking round st) p txn staple deeds e there rights names h =
+    (placed_there sc s txn staple p.want st.place deeds (ap (λ (x : Staple). x.place) (same_Some staple st (sym e ∙ h.0))), aimed_vote sc facts place s p round txn staple deeds there rights (names txn there) h.1)
+vote_now sc facts place s _ p txn staple deeds e there rights names h = tt
 
 -- a vote of the turn of its request, at the place of its staple
-vote_answers : (sc : Scenario) (s : Server) (p : PrepareRequest) (txn : Transaction) (staple : Staple) (deeds : List Deed) → p.staple ≡ Some staple
+vote_answers : (sc : Scenario) (facts : List Fact) (place : ℕ) (s : Server) (p : PrepareRequest) (txn : Transaction) (staple : Staple) (deeds : List Deed) → p.staple ≡ Some staple → slice_get sc.txns p.txn.0 ≡ Some txn
+    → Each (Right sc facts place p.txn) (verdicts_on sc s txn staple p.want deeds) → IsNamed sc s.server p
     → Answers (body.Prepare p) (body.Vote (record { txn = p.txn; turn = p.turn; vote = vote.Yes (verdicts_on sc s txn staple p.want deeds) })) (record { txn = p.txn; turn = p.turn })
-vote_answers sc s p txn staple deeds e =
+vote_answers sc facts place s p txn staple deeds e there rights names =
     record {
       asked = record { txn = p.txn; turn = p.turn };
       asked_is = refl;
       reply_is = refl;
       same_txn = refl;
-      timely = λ any c sent place t unsure. record { past = (t unsure).past; now = λ same. vote_now sc s c.phase p txn staple deeds e ((t unsure).now same) };
+      timely = λ any c sent again t unsure. record { past = (t unsure).past; now = λ same. vote_now sc facts place s c.phase p txn staple deeds e there rights names ((t unsure).now same) };
     }
 
 votes_trusts : (sc : Scenario) (facts : List Fact) (place : ℕ) (T : Body → Type 0) (s : Server) (p : PrepareRequest) (txn : Transaction) (staple : Staple) (entry : Entry) → IsValid sc → IsSoundServer sc s
     → AreWanted sc p.want → ServerTrusted sc facts place T s → IsClosed T → T (body.Prepare p) → p.staple ≡ Some staple → slice_get sc.txns p.txn.0 ≡ Some txn → StapleFits sc facts place p.txn staple
-    → Each (IsPublished sc facts place) p.want → entry_at s p.txn ≡ Some entry → AreAll sc p.txn (deed_numbers entry.deeds) → RowTrusts sc facts place T (votes_on sc (learnt s p.want) p entry staple txn)
-votes_trusts sc facts place T s p txn staple entry valid sound wanted h closed t e there fits published found all =
+    → Each (IsPublished sc facts place) p.want → entry_at s p.txn ≡ Some entry → IsNamed sc s.server p → RowTrusts sc facts place T (votes_on sc (learnt s p.want) p entry staple txn)
+votes_trusts sc facts place T s p txn staple entry valid sound wanted h closed t e there fits published found names =
     let now = learnt s p.want in
     let after : ServerFits sc facts place now = learnt_fits sc facts place s p.want h.fits published in
     let k : IsSoundEntry sc s.server p.txn entry = sound.entries p.txn.0 entry found in
     let old : IsKept (IsTrusted sc facts place T) p.txn entry = h.keeps p.txn.0 entry found in
     let verdicts = verdicts_on sc now txn staple p.want entry.deeds in
-    let fit : VerdictsFit sc facts place p.txn verdicts = record {
-      right = rights_of sc facts place now p.txn txn staple p.want entry.deeds valid (learnt_sound sc s p.want sound wanted) wanted after published there fits k.deeds;
-      all = λ declared f. numbers_kept sc now txn staple p.want entry.deeds ∙ all declared f;
-    } in
+    let fit : Each (Right sc facts place p.txn) verdicts =
+    rights_of sc facts place now p.txn txn staple p.want entry.deeds valid (learnt_sound sc s p.want sound wanted) wanted after published there fits k.deeds in
     let said = body.Vote (record { txn = p.txn; turn = p.turn; vote = vote.Yes verdicts }) in
-    let timely : T said = closed (body.Prepare p) said (record { txn = p.txn; turn = p.turn }) (vote_answers sc now p txn staple entry.deeds e) t in
+    let timely : T said = closed (body.Prepare p) said (record { txn = p.txn; turn = p.turn }) (vote_answers sc facts place now p txn staple entry.deeds e there fit names) t in
     let trusted : IsTrusted sc facts place T said = record { fits = λ sent. fit; timely = timely } in
     record {
       fits = record { known = after.known };
@@ -253,7 +299,7 @@ record LetterTrusts (sc : Scenario) (facts : List Fact) (place : ℕ) (T : Body 
   timely : IfSome (stamp_of letter.body) (λ (stamped : Stamp). T letter.body)
 
 no_now : (awaited : Phase) (why : No) → VoteNow awaited (vote.No why)
-no_now (phase.Checking round staple) why = tt
+no_now (phase.Checking round staple) why = (tt, tt)
 no_now phase.Idle why = tt
 no_now (phase.Querying number staple) why = tt
 no_now (phase.Asking round) why = tt
@@ -303,8 +349,8 @@ learns_trusts sc facts place T s push h new =
 
 -- every row of a server on receipt of a mail
 pub server_row_trusts : (sc : Scenario) (facts : List Fact) (place : ℕ) (T : Body → Type 0) (s : Server) (mail : Mail) → IsValid sc → IsSoundServer sc s → IsSoundBody sc (actor.Server s.server) mail.letter.body → ServerTrusted sc facts place T s
-    → BodyFits sc facts place mail.sent mail.letter.body → WholeMail sc s mail.letter.body → IsClosed T → T mail.letter.body → RowTrusts sc facts place T (server_row sc s mail)
-server_row_trusts sc facts place T s mail valid sound m h f whole closed t =
+    → BodyFits sc facts place mail.sent mail.letter.body → NamedMail sc s.server mail.letter.body → IsClosed T → T mail.letter.body → RowTrusts sc facts place T (server_row sc s mail)
+server_row_trusts sc facts place T s mail valid sound m h f named closed t =
     server_by sc s mail (RowTrusts sc facts place T)
     (record {
       ignored = ignores_trusts sc facts place T s h;
@@ -317,7 +363,7 @@ server_row_trusts sc facts place T s mail valid sound m h f whole closed t =
           let asked : BodyFits sc facts place mail.sent (body.Prepare p) = subst (BodyFits sc facts place mail.sent) k.said_is f in
           votes_trusts sc facts place T s p txn staple entry valid sound (subst (IsSoundBody sc (actor.Server s.server)) k.said_is m).want h closed (subst T k.said_is t) k.stapled k.declared
           (subst (λ (x : Option Staple). IfSome x (StapleFits sc facts place p.txn)) k.stapled asked.0) asked.1 k.found
-          (subst (WholeMail sc s) k.said_is whole entry k.found (eqb-true entry.epoch p.epoch k.same_epoch));
+          (subst (NamedMail sc s.server) k.said_is named);
       voted_again = λ p entry cast k. votes_again_trusts sc facts place T s p entry cast h k.found k.ballot_is;
       refused = λ p entry number value k.
           ends_trusts sc facts place T s (refused_as p _) (no_letter s p _) h (no_letter_trusts sc facts place T s p _ closed (subst T k.said_is t));

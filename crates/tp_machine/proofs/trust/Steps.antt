@@ -1,5 +1,5 @@
 -- Trust, step by step: it holds before the first step, and each step keeps it.
-use Rattle.std.proofs.Common.{IfSome, List, None, Option, Some, [], arith, false, length, refl, subst, sym, true, ℕ, ◌+◌, ◌==◌, ◌∙◌, ◌∷◌, ◌≡◌}
+use Rattle.std.proofs.Common.{IfSome, List, None, Option, Some, [], ap, arith, false, length, option_and_then, refl, slice_get, subst, sym, true, ℕ, ◌+◌, ◌==◌, ◌∙◌, ◌∷◌, ◌≡◌}
 use Rattle.std.proofs.lemmas.Bool.{or_left, or_right}
 use Rattle.std.proofs.lemmas.List.Folds.{list_any-append}
 use Rattle.std.proofs.lemmas.List.{length-replicate}
@@ -14,7 +14,8 @@ use Rattle.tp_model.specs.Words.what
 use Rattle.tp_model.specs.Words.{Actor, Body, CredId, Fact, Mail, Scenario, ServerId, Step, TxnId, What}
 use Rattle.tp_machine.proofs.agreement.CoordinatorActs.{coordinator_facts}
 use Rattle.tp_machine.proofs.agreement.Steps.{own_txn}
-use Rattle.tp_machine.proofs.agreement.World.{Agrees}
+use Rattle.tp_machine.proofs.agreement.Coordinator.{CoordinatorAgrees}
+use Rattle.tp_machine.proofs.agreement.World.{Agrees, CoordinatorUpAgrees}
 use Rattle.tp_machine.proofs.basics.Facts.{ArePast}
 use Rattle.tp_machine.proofs.basics.Homes.{HaveHomes}
 use Rattle.tp_machine.proofs.basics.Lists.{at_made, each_get, placed_none}
@@ -24,18 +25,17 @@ use Rattle.tp_machine.proofs.pairs.Actors.{BodyPairs, LetterPairs, pair_at}
 use Rattle.tp_machine.proofs.pairs.World.{Pairs}
 use Rattle.tp_machine.proofs.trust.Acts.{ActTrusts, act_trusts, coordinator_acts_trusts, server_acts_trusts, tells_fit, tells_timely, timely_closed, unmoved_trusts}
 use Rattle.tp_machine.proofs.trust.Built.{known_at_first}
-use Rattle.tp_machine.proofs.trust.Coordinator.{CoordinatorFits, CoordinatorTrusts, LetterOfTurn, RecordDecides, coordinator_row_trusts, submit_row_trusts}
+use Rattle.tp_machine.proofs.trust.Coordinator.{CoordinatorFits, CoordinatorTrusts, LetterOfTurn, PresentMail, RecordDecides, coordinator_row_trusts, submit_row_trusts}
 use Rattle.tp_machine.proofs.trust.Fit.{BodyFits, IsSubmitted, Later, MailFits, ServerFits, maybe_stays}
 use Rattle.tp_machine.proofs.trust.Kept.{AreKept, IsKept, IsTrusted}
-use Rattle.tp_machine.proofs.trust.Offices.{newest_fits, newest_timely, none_revoked, revoked_trusts, ticked_trusts}
-use Rattle.tp_machine.proofs.trust.Server.{ServerTrusted, server_row_trusts}
-use Rattle.tp_machine.proofs.trust.Turns.{AreFew, IsNoTell, TurnFits, few_queries, stamp_of, timely_anywhere}
-use Rattle.tp_machine.proofs.trust.Whole.{whole_mail}
-use Rattle.tp_machine.proofs.trust.World.{BodyTimely, CoordinatorPartFits, MailTimely, MoveTrusts, ServerPartFits, StampFits, Timely, Trusts, coordinator_stays, facts_after, later_with_facts, state_after_trusts, up_at}
+use Rattle.tp_machine.proofs.trust.Offices.{newest_fits, newest_timely, none_revoked, opening_fits, published_trusts, pushed_fits, revoked_trusts, ticked_trusts}
+use Rattle.tp_machine.proofs.trust.Server.{NamedMail, ServerTrusted, named_mail, server_row_trusts}
+use Rattle.tp_machine.proofs.trust.Turns.{AreFew, IsNoTell, IsTimely, Stamp, TurnFits, few_queries, stamp_of, timely_anywhere}
+use Rattle.tp_machine.proofs.trust.World.{BodyTimely, CoordinatorPartFits, MailTimely, MoveTrusts, ServerPartFits, StampFits, Timely, Trusts, coordinator_stays, facts_after, later_with_facts, state_after_trusts, up_at, up_of}
 use Rattle.tp_machine.proofs.walks.Steps.{Cases, IsCoordinatorUp, IsServerUp, SaysIdle, WasSent, machine_after_by}
 use Rattle.tp_machine.specs.Machine.{Machine, State, acts_by, coordinator_fact, coordinator_move, facts_of, idle_move, is_part_submitted, machine_after, opened_part, opening_state, refusal, server_fact, server_move, with_age}
 use Rattle.tp_machine.specs.Parts.{Part}
-use Rattle.tp_machine.specs.Sound.{Each, IsServer, IsSound, IsSoundBody, IsSoundLetter, IsSoundMail, IsSoundServerUp, IsStepOf}
+use Rattle.tp_machine.specs.Sound.{Each, IsSound, IsSoundBody, IsSoundLetter, IsSoundMail, IsSoundServerUp, IsStepOf}
 use Rattle.tp_machine.specs.coord.Opened as coord
 use Rattle.tp_machine.specs.coord.Opened.{idle}
 use Rattle.tp_machine.specs.coord.Row.{begins, coordinator_row, home_of, is_begun, submit_row}
@@ -82,9 +82,9 @@ heard_anywhere sc coordinators sent said other h place =
     (λ stamped k. maybe_stays (TurnFits sc sent stamped.turn said) (TurnFits sc place stamped.turn said) (up_at coordinators stamped.txn.0)
     (λ c t. timely_anywhere sc c sent place stamped.turn said other t) k) h
 
-receipt_by_server : (sc : Scenario) (w : State) → is_built sc ≡ true → IsValid sc → IsSound sc w → ArePast (length w.steps) w.facts → Pairs sc w → Trusts sc w → (n : ℕ) (mail : Mail) (at : ServerId) (part : Part Server) (s : Server)
+receipt_by_server : (sc : Scenario) (w : State) → IsValid sc → IsSound sc w → ArePast (length w.steps) w.facts → Pairs sc w → Trusts sc w → (n : ℕ) (mail : Mail) (at : ServerId) (part : Part Server) (s : Server)
     → WasSent w n mail (actor.Server at) → IsServerUp w at part s → MoveTrusts sc w (server_move w.actors at (acts_by (server_fact at) [] part.log (server_row sc s mail)))
-receipt_by_server sc w built valid sound past pairs h n mail at part s sent up =
+receipt_by_server sc w valid sound past pairs h n mail at part s sent up =
     let place = length w.steps in
     let T = Timely sc w.actors.coordinators in
     let effect = server_row sc s mail in
@@ -95,29 +95,44 @@ receipt_by_server sc w built valid sound past pairs h n mail at part s sent up =
       fits = subst (λ (u : Option Server). IfSome u (ServerFits sc w.facts place)) up.up fits.state;
       keeps = subst (λ (u : Option Server). IfSome u (AreKept (IsTrusted sc w.facts place T))) up.up fits.kept.state;
     } in
-    let exists : IsServer sc at = subst (IsServer sc) here.server_is here.sound.exists in
     let said : BodyPairs sc (pair_at w.actors) mail.letter.from (actor.Server at) mail.letter.body =
     subst (λ (to : Actor). BodyPairs sc (pair_at w.actors) mail.letter.from to mail.letter.body) sent.goes_to (each_get (λ (m : Mail). LetterPairs sc (pair_at w.actors) m.letter) w.mails n mail pairs.mails sent.sent) in
     server_acts_trusts sc w at part [] (Some effect.state) effect.reaction.append effect.reaction.letters past h up.found (record { still = tt; fit = λ facts. tt })
     (server_row_trusts sc w.facts place T s mail valid here.sound (subst (λ (a : ServerId). IsSoundBody sc (actor.Server a) mail.letter.body) (sym here.server_is) m.says) trusted m.fits
-    (whole_mail sc w at part s mail.letter.from mail.letter.body valid built exists pairs up said)
+    (subst (λ (a : ServerId). NamedMail sc a mail.letter.body) (sym here.server_is) (named_mail sc (pair_at w.actors) mail.letter.from at mail.letter.body said))
     (timely_closed sc w.actors.coordinators) (heard_anywhere sc w.actors.coordinators mail.sent mail.letter.body (no_tell sc at mail.letter.body m.says) m.timely))
 
 coordinator_fits : (sc : Scenario) (w : State) (txn : TxnId) (part : Part Coordinator) (c : Coordinator) → Trusts sc w → IsCoordinatorUp w txn part c → CoordinatorFits sc w.facts (length w.steps) c
 coordinator_fits sc w txn part c h up = subst (λ (u : Option Coordinator). IfSome u (CoordinatorFits sc w.facts (length w.steps))) up.up (h.coordinators txn.0 part up.found)
 
-receipt_by_coordinator : (sc : Scenario) (w : State) → AreFew sc → HaveHomes sc → IsSound sc w → ArePast (length w.steps) w.facts → Trusts sc w → (n : ℕ) (mail : Mail) (txn : TxnId) (part : Part Coordinator) (c : Coordinator)
+-- what a mail says to the coordinator that is up
+present_mail : (coordinators : List (Part Coordinator)) (c : Coordinator) (txn : TxnId) (part : Part Coordinator) (sc : Scenario) (sent : ℕ) (said : Body) → c.txn ≡ txn → slice_get coordinators txn.0 ≡ Some part → part.up ≡ Some c
+    → BodyTimely sc coordinators sent said → PresentMail sc c sent said
+present_mail coordinators c txn part sc sent said own found up h =
+    maybe_stays (StampFits sc coordinators sent said) (λ (stamped : Stamp). stamped.txn ≡ c.txn → IsTimely sc c sent stamped.turn said) (stamp_of said)
+    (λ stamped k same.
+    let there : up_at coordinators stamped.txn.0 ≡ Some c = ap (λ (t : TxnId). up_at coordinators t.0) (same ∙ own) ∙ (ap (option_and_then up_of) found ∙ up) in
+    subst (λ (u : Option Coordinator). IfSome u (TurnFits sc sent stamped.turn said)) there k) h
+
+receipt_by_coordinator : (sc : Scenario) (w : State) → AreFew sc → HaveHomes sc → IsValid sc → IsSound sc w → Agrees sc w → Pairs sc w → Trusts sc w → (n : ℕ) (mail : Mail) (txn : TxnId) (part : Part Coordinator) (c : Coordinator)
     → WasSent w n mail (actor.Coordinator txn) → IsCoordinatorUp w txn part c → MoveTrusts sc w (coordinator_move w.actors txn (acts_by coordinator_fact [] part.log (coordinator_row sc c mail)))
-receipt_by_coordinator sc w few homes sound past h n mail txn part c sent up =
+receipt_by_coordinator sc w few homes valid sound a pairs h n mail txn part c sent up =
     let place = length w.steps in
     let effect = coordinator_row sc c mail in
     let append = effect.reaction.append in
     let letters = effect.reaction.letters in
     let m = mail_trusted sc w n mail (actor.Coordinator txn) sound h sent in
     let same : c.txn ≡ txn = own_txn sc w txn part c sound up.found up.up in
+    let agrees : CoordinatorAgrees sc c part.log =
+    (subst (λ (u : Option Coordinator). IfSome u (CoordinatorUpAgrees sc w.actors.servers txn part.log)) up.up (a.coordinators txn.0 part up.found).state).agrees in
+    let paired : BodyPairs sc (pair_at w.actors) mail.letter.from (actor.Coordinator txn) mail.letter.body =
+    subst (λ (to : Actor). BodyPairs sc (pair_at w.actors) mail.letter.from to mail.letter.body) sent.goes_to (each_get (λ (m : Mail). LetterPairs sc (pair_at w.actors) m.letter) w.mails n mail pairs.mails sent.sent) in
     let row : CoordinatorTrusts sc w.facts place c.txn (Some c) (Some effect.state) append letters =
-    coordinator_row_trusts sc w.facts place c mail few homes (coordinator_fits sc w txn part c h up) (subst (λ (t : TxnId). IsSoundBody sc (actor.Coordinator t) mail.letter.body) (sym same) m.says) m.fits in
-    coordinator_acts_trusts sc w txn part [] (Some effect.state) append letters past h up.found
+    coordinator_row_trusts sc w.facts place (pair_at w.actors) c mail few homes valid agrees.servers (coordinator_fits sc w txn part c h up)
+    (subst (λ (t : TxnId). IsSoundBody sc (actor.Coordinator t) mail.letter.body) (sym same) m.says) m.fits
+    (subst (λ (t : TxnId). BodyPairs sc (pair_at w.actors) mail.letter.from (actor.Coordinator t) mail.letter.body) (sym same) paired)
+    (present_mail w.actors.coordinators c txn part sc mail.sent mail.letter.body same up.found up.up m.timely) in
+    coordinator_acts_trusts sc w txn part [] (Some effect.state) append letters a.past h up.found
     (act_trusts sc w txn part.up (Some effect.state) [] append letters (record { still = tt; fit = λ facts. tt })
     (subst (λ (was : Option Coordinator). CoordinatorTrusts sc w.facts place txn was (Some effect.state) append letters) (sym up.up)
     (subst (λ (t : TxnId). CoordinatorTrusts sc w.facts place t (Some c) (Some effect.state) append letters) same row)))
@@ -170,8 +185,8 @@ trusts_cases : (sc : Scenario) (w : State) → is_built sc ≡ true → IsValid 
 trusts_cases sc w built valid few sound a pairs h =
     record {
       idle = idle_trusts sc w a.past h;
-      server_received = λ n mail at part s sent up. receipt_by_server sc w built valid sound a.past pairs h n mail at part s sent up;
-      coordinator_received = λ n mail txn part c sent up. receipt_by_coordinator sc w few (homes_built sc built) sound a.past h n mail txn part c sent up;
+      server_received = λ n mail at part s sent up. receipt_by_server sc w valid sound a.past pairs h n mail at part s sent up;
+      coordinator_received = λ n mail txn part c sent up. receipt_by_coordinator sc w few (homes_built sc built) valid sound a pairs h n mail txn part c sent up;
       authority_told = λ n mail sent.
           let m = mail_trusted sc w n mail actor.Authority sound h sent in
           unmoved_trusts sc w [] (office.authority_row w.actors.authority mail).reaction.letters a.past h (record { still = tt; fit = λ facts. tt })
@@ -179,6 +194,9 @@ trusts_cases sc w built valid few sound a pairs h =
       master_told = λ n mail sent.
           unmoved_trusts sc w [] (master.master_row w.actors.master mail).reaction.letters a.past h (record { still = tt; fit = λ facts. tt })
           (newest_fits sc w mail.letter.body) (newest_timely sc w mail.letter.body mail.sent (mail_trusted sc w n mail actor.Master sound h sent).timely);
+      published = λ admin exists more. published_trusts sc w admin exists a.past h;
+      pushed = λ admin server exists there.
+          unmoved_trusts sc w [] (master.pushes w.actors.master admin server).reaction.letters a.past h (record { still = tt; fit = λ facts. tt }) (pushed_fits sc w admin server exists h) (tt, tt);
       ticked = λ by. ticked_trusts sc w by a.past h;
       revoked = λ cred exists. revoked_trusts sc w cred exists a.past h;
       begun = λ txn part c exists up new. begun_trusts sc w sound a.past h txn part c up new;
@@ -205,6 +223,7 @@ trusts_opening sc built =
         placed = placed_none (λ (n : ℕ) (cred : CredId). cred.0 ≡ n) (length sc.creds);
         places = length-replicate {A = Option CredId} (length sc.creds) None;
       };
+      master = opening_fits sc;
       servers = λ n part e. at_made (λ (k : ℕ) (found : Part Server). ServerPartFits sc [] 0 T found) (λ (k : ℕ). opened_part (server.opening sc (record { 0 = k }))) 0 (length sc.servers)
           (λ k within. record {
             state = record {

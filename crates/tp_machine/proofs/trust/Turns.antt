@@ -1,16 +1,19 @@
 -- Turns: a mail of an earlier turn says nothing of the present request, one of the present turn is an answer to it, and requests are few.
 use Rattle.std.specs.List.{list_all, list_any}
 use Rattle.std.specs.Option.{option_map_or}
-use Rattle.std.proofs.Common.{Bool, List, None, Option, Some, [], arith, length, not, option_and_then, slice_get, suc, true, zero, ℕ, ◌&&◌, ◌*◌, ◌+◌, ◌-◌, ◌<◌, ◌∷◌, ◌≡◌, ◌≤◌}
+use Rattle.std.proofs.Common.{Bool, List, None, Option, Some, [], arith, false, length, not, option_and_then, slice_get, suc, true, zero, ℕ, ◌&&◌, ◌*◌, ◌+◌, ◌-◌, ◌<◌, ◌∷◌, ◌≡◌, ◌≤◌, ◌⊎◌}
 use Rattle.std.proofs.lemmas.Bool.{and_parts}
 use Rattle.std.proofs.lemmas.Option.{slice_get_within}
 use Rattle.tp_model.proofs.RuleLemmas.{count_most}
-use Rattle.tp_model.specs.Limits.{has_count, is_from_to}
+use Rattle.tp_model.specs.Limits.{has_count, is_empty, is_from_to}
 use Rattle.tp_model.specs.Queries.{query_at}
 use Rattle.tp_model.specs.Valid.{IsValid, are_distinct, has_valid_creds, is_name_of_server, is_valid_query, is_valid_txn, same_txn_name}
 use Rattle.tp_model.specs.Words.body
 use Rattle.tp_model.specs.Words.vote
-use Rattle.tp_model.specs.Words.{Body, Instance, PrepareRequest, Query, Scenario, Transaction, TxnId, Verdict, Vote}
+use Rattle.tp_model.specs.Words.{AdminId, Body, Instance, PrepareRequest, Query, Scenario, Transaction, TxnId, Verdict, Version, Vote}
+use Rattle.tp_round.specs.Judge.{is_aimed}
+use Rattle.tp_round.specs.declared.round.Round.{Round}
+use Rattle.tp_machine.proofs.basics.Aims.{is_within}
 use Rattle.tp_machine.proofs.basics.Phases.{is_undecided}
 use Rattle.tp_machine.specs.Sound.{Each, query_in}
 use Rattle.tp_machine.specs.coord.Row.{next_turn}
@@ -57,14 +60,23 @@ abbrev pub TellNow : Coordinator → Phase → ℕ → Type 0
 TellNow c (phase.Asking round) sent = IsAbove sent c.instances c.gathered
 TellNow c _ sent = Unit {0}
 
--- a request to prepare has the staple of the round
+-- after an update a request wants something, of what the round aims at
+abbrev pub WantNow : Round → List (AdminId × Version) → Type 0
+WantNow round want = (round.number ≡ 1) ⊎ ((is_empty want ≡ false) × Each (λ (wanted : AdminId × Version). is_within round.aim wanted ≡ true) want)
+
+-- and what a server votes has the versions that the round aims at
+abbrev pub AimedVote : Round → Vote → Type 0
+AimedVote round (vote.Yes verdicts) = (round.number ≡ 1) ⊎ (list_all (is_aimed round.aim) verdicts ≡ true)
+AimedVote round _ = Unit {0}
+
+-- a request to prepare has the staple of the round, and wants what the round does
 abbrev pub PrepareNow : Phase → PrepareRequest → Type 0
-PrepareNow (phase.Checking round staple) p = p.staple ≡ Some staple
+PrepareNow (phase.Checking round staple) p = (p.staple ≡ Some staple) × WantNow round p.want
 PrepareNow _ p = Unit {0}
 
--- and a vote is of its place
+-- and a vote is of its place, and of the versions
 abbrev pub VoteNow : Phase → Vote → Type 0
-VoteNow (phase.Checking round staple) said = PlacedAt staple.place said
+VoteNow (phase.Checking round staple) said = PlacedAt staple.place said × AimedVote round said
 VoteNow _ said = Unit {0}
 
 -- what a mail of the present turn, sent at a place, says of the request that is outstanding
@@ -196,6 +208,10 @@ low_query count number turn few first last low = omega (arith, few, first, last,
 
 pub low_round : (count number asked turn : ℕ) → count ≤ 16 → number ≤ 17 → asked ≤ 3 → turn ≤ until_round count number asked → turn ≤ 1000
 low_round count number asked turn few most of_three low = omega (arith, few, most, of_three, low)
+
+-- so is the next round
+pub further_move : (count number turn : ℕ) → 1 ≤ number → turn ≤ until_round count number 2 → turn + 1 ≤ until_round count (number + 1) 1
+further_move count number turn first low = omega (arith, first, low)
 
 pub end_move : (count number asked turn : ℕ) → number ≤ 17 → asked ≤ 3 → turn ≤ until_round count number asked → turn ≤ until_round count 17 3
 end_move count number asked turn most of_three low = omega (arith, most, of_three, low)

@@ -1,11 +1,12 @@
 -- Trust over every list of steps: what is kept of a world, and what a step has to leave.
-use Rattle.std.specs.List.{cons_option, filter_map, sum_by}
-use Rattle.std.proofs.Common.{IfSome, List, None, Option, Some, [], ap, arith, length, option_and_then, refl, slice_get, subst, sym, ℕ, ◌++◌, ◌+◌, ◌<◌, ◌∙◌, ◌∷◌, ◌≡◌, ◌≤◌}
+use Rattle.std.specs.List.{cons_option, count_by, filter_map, sum_by}
+use Rattle.std.proofs.Common.{Bool, IfSome, List, None, Option, Some, [], ap, arith, cond, false, length, option_and_then, refl, slice_get, subst, sym, ℕ, ◌++◌, ◌+◌, ◌<◌, ◌∙◌, ◌∷◌, ◌≡◌, ◌≤◌}
 use Rattle.std.proofs.lemmas.List.Sums.{sum_by-append, sum_by-cons}
 use Rattle.tp_model.specs.Words.cause
 use Rattle.tp_model.specs.Credentials.{clock_at, is_among, revoked_at, revoked_by, revoked_what, ticks, ticks_what}
 use Rattle.tp_model.specs.Facts.{is_submission}
-use Rattle.tp_model.specs.Words.{Body, Cause, CredId, Decision, Fact, Instance, Letter, Mail, Scenario, Step, TxnId, Verdict, What}
+use Rattle.tp_model.specs.Versions.{is_publication, is_publication_what, newest, opening_of}
+use Rattle.tp_model.specs.Words.{AdminId, Body, Cause, CredId, Decision, Fact, Instance, Letter, Mail, Scenario, Step, TxnId, Verdict, What}
 use Rattle.std.proofs.lemmas.Bool.{or_left}
 use Rattle.std.proofs.lemmas.List.{append-nil, length_push}
 use Rattle.std.proofs.lemmas.List.Folds.{list_any-append}
@@ -14,16 +15,19 @@ use Rattle.tp_model.specs.Words.decision
 use Rattle.tp_model.specs.Words.what
 use Rattle.tp_machine.specs.Machine.{Move, State, facts_of, mails_of, state_after}
 use Rattle.tp_machine.specs.Parts.{Part}
-use Rattle.tp_machine.specs.Sound.{Each, EachAt}
+use Rattle.tp_machine.specs.Sound.{Each, EachAt, IsAdmin}
 use Rattle.tp_machine.specs.coord.State.{Coordinator}
 use Rattle.tp_machine.specs.declared.actors.Actors.{Actors}
+use Rattle.tp_offices.specs.Master.{version_in}
 use Rattle.tp_offices.specs.declared.authority.Authority.{Authority}
+use Rattle.tp_offices.specs.declared.master.Master.{Master}
 use Rattle.tp_machine.specs.server.State.{Server}
 use Rattle.tp_machine.proofs.agreement.World.{Agrees}
-use Rattle.tp_machine.proofs.basics.Facts.{ArePast, before_past, grows_with_facts, new_facts_past, past_as}
+use Rattle.tp_machine.proofs.basics.Facts.{ArePast, before_past, count_append, grows_with_facts, new_facts_past, past_as}
 use Rattle.tp_machine.proofs.basics.Lists.{each_append, each_as}
 use Rattle.tp_machine.proofs.trust.Coordinator.{CauseFits, CoordinatorFits, DecisionFits}
-use Rattle.tp_machine.proofs.trust.Fit.{AuthorityFits, BodyFits, Later, MailFits, ServerFits, body_stays, maybe_stays, phase_stays, right_stays, server_stays, verdicts_stay}
+use Rattle.tp_machine.proofs.trust.Fit.{AuthorityFits, BodyFits, Later, MailFits, ServerFits, body_stays, maybe_stays, right_stays, rights_stay, server_stays}
+use Rattle.tp_machine.proofs.trust.Phases.{phase_stays}
 use Rattle.tp_machine.proofs.trust.Kept.{IsTrusted, PartKept, part_as, trusted_stays}
 use Rattle.tp_machine.proofs.trust.Turns.{AreEarlier, IsAbove, Stamp, TurnFits, stamp_of}
 
@@ -58,6 +62,11 @@ MailTimely sc coordinators mail = BodyTimely sc coordinators mail.sent mail.lett
 abbrev pub Timely : Scenario → List (Part Coordinator) → Body → Type 0
 Timely sc coordinators said = (sent : ℕ) → BodyTimely sc coordinators sent said
 
+-- the newest version that the master knows of each administrator is that of the facts
+pub record MasterFits (sc : Scenario) (facts : List Fact) (place : ℕ) (held : Master) : Type 0 where
+  pub newest_is : (admin : AdminId) → IsAdmin sc admin → (version_in held.newest admin).0 ≡ newest sc admin place facts
+  pub places : length held.newest ≡ length sc.admins
+
 -- what a fact of a place shows by the facts before it
 abbrev pub WhatFits : Scenario → List Fact → ℕ → What → Type 0
 WhatFits sc facts place (what.Decided txn decided) = DecisionFits sc facts place txn decided
@@ -69,6 +78,7 @@ FactFits sc facts fact = WhatFits sc facts fact.place fact.what
 -- all that trust rests on: each actor, all that servers keep, each mail ever sent and each fact fits the facts so far
 pub record TrustsAt (sc : Scenario) (facts : List Fact) (place : ℕ) (actors : Actors) (mails : List Mail) : Type 0 where
   pub authority : AuthorityFits sc facts place actors.authority
+  pub master : MasterFits sc facts place actors.master
   pub servers : EachAt (λ (n : ℕ) (part : Part Server). ServerPartFits sc facts place (Timely sc actors.coordinators) part) actors.servers
   pub coordinators : EachAt (λ (n : ℕ) (part : Part Coordinator). CoordinatorPartFits sc facts place part) actors.coordinators
   pub mails_fit : Each (MailFits sc facts place) mails
@@ -87,6 +97,7 @@ facts_after w happened = w.facts ++ facts_of (length w.steps) happened
 -- a step leaves actors, letters and facts that fit the facts after it
 pub record MoveTrusts (sc : Scenario) (w : State) (move : Move) : Type 0 where
   pub authority : AuthorityFits sc (facts_after w move.happened) (length w.steps + 1) move.actors.authority
+  pub master : MasterFits sc (facts_after w move.happened) (length w.steps + 1) move.actors.master
   pub servers : EachAt (λ (n : ℕ) (part : Part Server). ServerPartFits sc (facts_after w move.happened) (length w.steps + 1) (Timely sc move.actors.coordinators) part) move.actors.servers
   pub coordinators : EachAt (λ (n : ℕ) (part : Part Coordinator). CoordinatorPartFits sc (facts_after w move.happened) (length w.steps + 1) part) move.actors.coordinators
   pub letters : Each (λ (letter : Letter). BodyFits sc (facts_after w move.happened) (length w.steps + 1) (length w.steps) letter.body) move.letters
@@ -144,7 +155,7 @@ cause_stays sc old new low high txn _ l h = absurd h
 
 pub decision_stays : (sc : Scenario) (old new : List Fact) (low high : ℕ) (txn : TxnId) (decided : Decision) → Later old new low high → DecisionFits sc old low txn decided → DecisionFits sc new high txn decided
 decision_stays sc old new low high txn (decision.Commit committed) l h =
-    record { rounds = h.rounds; proofs = h.proofs; instances = h.instances; fit = verdicts_stay sc old new low high txn h.proofs l h.fit; agreed = h.agreed }
+    record { rounds = h.rounds; proofs = h.proofs; instances = h.instances; right = rights_stay sc old new low high txn h.proofs l h.right; all = h.all; have_rules = h.have_rules; one_version = h.one_version }
 decision_stays sc old new low high txn (decision.Abort why) l h = cause_stays sc old new low high txn why l h
 
 -- what holds up to a place holds up to an earlier one
@@ -174,10 +185,11 @@ new_mails_timely : (sc : Scenario) (coordinators : List (Part Coordinator)) (sen
 new_mails_timely sc coordinators sent number [] h = tt
 new_mails_timely sc coordinators sent number (letter ∷ letters) h = (h.0, new_mails_timely sc coordinators sent (number + 1) letters h.1)
 
--- ---- the authority's facts
+-- ---- the offices' facts
 
--- the clock and the revocations stay
+-- the clock, the revocations and the newest versions stay
 abbrev pub IsStill : What → Type 0
+IsStill (what.Published admin version) = ⊥
 IsStill (what.Ticked by) = ⊥
 IsStill (what.Revoked cred) = ⊥
 IsStill _ = Unit {0}
@@ -201,6 +213,19 @@ no_revocation place (w ∷ happened) h =
   where
     still : (v : What) → IsStill v → revoked_what v ≡ None
     still (what.Revoked other) n = absurd n
+    still _ n = refl
+
+no_publication : (admin : AdminId) (place : ℕ) (happened : List What) → Each IsStill happened → count_by (is_publication admin) (facts_of place happened) ≡ 0
+no_publication admin place [] h = refl
+no_publication admin place (w ∷ happened) h =
+    let count : Fact → ℕ = λ fact. cond (is_publication admin fact) 1 0 in
+    let whole : sum_by count (facts_of place (w ∷ happened)) ≡ count (record { place = place; what = w }) + sum_by count (facts_of place happened) = sum_by-cons count (record { place = place; what = w }) (facts_of place happened) in
+    let later : sum_by count (facts_of place happened) ≡ 0 = no_publication admin place happened h.1 in
+    let here : count (record { place = place; what = w }) ≡ 0 = ap (λ (b : Bool). cond b 1 0) (still w h.0) in
+    omega (arith, whole, later, here)
+  where
+    still : (v : What) → IsStill v → is_publication_what admin v ≡ false
+    still (what.Published other version) n = absurd n
     still _ n = refl
 
 past_after : (w : State) (happened : List What) → ArePast (length w.steps) w.facts → ArePast (length w.steps + 1) (facts_after w happened)
@@ -228,22 +253,52 @@ revoked_after w happened past =
     ∙ (filter_map-append revoked_by w.facts (facts_of place happened)
     ∙ ap (λ (facts : List Fact). filter_map revoked_by facts ++ filter_map revoked_by (facts_of place happened)) (sym (before_past place w.facts past)))
 
+-- the newest version after a turn
+pub newest_after : (sc : Scenario) (w : State) (happened : List What) (admin : AdminId) → ArePast (length w.steps) w.facts
+    → newest sc admin (length w.steps + 1) (facts_after w happened) ≡ newest sc admin (length w.steps) w.facts + count_by (is_publication admin) (facts_of (length w.steps) happened)
+newest_after sc w happened admin past =
+    let place = length w.steps in
+    let now = facts_after w happened in
+    let opening = (opening_of sc admin).0 in
+    let was : newest sc admin place w.facts ≡ opening + count_by (is_publication admin) w.facts = ap (λ (facts : List Fact). opening + count_by (is_publication admin) facts) (before_past place w.facts past) in
+    let all : newest sc admin (place + 1) now ≡ opening + count_by (is_publication admin) now =
+    ap (λ (facts : List Fact). opening + count_by (is_publication admin) facts) (before_past (place + 1) now (past_after w happened past)) in
+    let sum_now : count_by (is_publication admin) now ≡ count_by (is_publication admin) w.facts + count_by (is_publication admin) (facts_of place happened) = count_append (is_publication admin) w.facts (facts_of place happened) in
+    omega (arith, was, all, sum_now)
+
+-- a master that stays fits the facts after a move in which nothing is published
+pub master_kept : (sc : Scenario) (w : State) (happened : List What) (held : Master) → ArePast (length w.steps) w.facts
+    → ((admin : AdminId) → count_by (is_publication admin) (facts_of (length w.steps) happened) ≡ 0) → MasterFits sc w.facts (length w.steps) held → MasterFits sc (facts_after w happened) (length w.steps + 1) held
+master_kept sc w happened held past none h =
+    record {
+      newest_is = λ admin exists. omega (arith, h.newest_is admin exists, newest_after sc w happened admin past, none admin);
+      places = h.places;
+    }
+
+pub master_stays : (sc : Scenario) (w : State) (happened : List What) (held : Master) → ArePast (length w.steps) w.facts → Each IsStill happened → MasterFits sc w.facts (length w.steps) held
+    → MasterFits sc (facts_after w happened) (length w.steps + 1) held
+master_stays sc w happened held past still h = master_kept sc w happened held past (λ admin. no_publication admin (length w.steps) happened still) h
+
 -- an authority that stays fits the facts after a move in which no time passes and nothing is revoked
-pub authority_stays : (sc : Scenario) (w : State) (happened : List What) (authority : Authority) → ArePast (length w.steps) w.facts → Each IsStill happened → AuthorityFits sc w.facts (length w.steps) authority
-    → AuthorityFits sc (facts_after w happened) (length w.steps + 1) authority
-authority_stays sc w happened authority past still h =
+pub authority_kept : (sc : Scenario) (w : State) (happened : List What) (authority : Authority) → ArePast (length w.steps) w.facts → sum_by ticks (facts_of (length w.steps) happened) ≡ 0
+    → filter_map revoked_by (facts_of (length w.steps) happened) ≡ [] → AuthorityFits sc w.facts (length w.steps) authority → AuthorityFits sc (facts_after w happened) (length w.steps + 1) authority
+authority_kept sc w happened authority past none none_revoked h =
     let place = length w.steps in
     let clock = clock_after sc w happened past in
-    let none = no_ticks place happened still in
     let was = h.clock_is in
     let same : revoked_at (place + 1) (facts_after w happened) ≡ revoked_at place w.facts =
-    revoked_after w happened past ∙ (ap (λ (more : List CredId). revoked_at place w.facts ++ more) (no_revocation place happened still) ∙ append-nil (revoked_at place w.facts)) in
+    revoked_after w happened past ∙ (ap (λ (more : List CredId). revoked_at place w.facts ++ more) none_revoked ∙ append-nil (revoked_at place w.facts)) in
     record {
       clock_is = omega (arith, was, clock, none);
       revoked_is = λ cred. h.revoked_is cred ∙ ap (λ (revoked : List CredId). is_among revoked cred) (sym same);
       placed = h.placed;
       places = h.places;
     }
+
+pub authority_stays : (sc : Scenario) (w : State) (happened : List What) (authority : Authority) → ArePast (length w.steps) w.facts → Each IsStill happened → AuthorityFits sc w.facts (length w.steps) authority
+    → AuthorityFits sc (facts_after w happened) (length w.steps + 1) authority
+authority_stays sc w happened authority past still h =
+    authority_kept sc w happened authority past (no_ticks (length w.steps) happened still) (no_revocation (length w.steps) happened still) h
 
 -- ---- a step
 
@@ -256,6 +311,7 @@ state_after_trusts sc w taken move a h t =
     let mails = w.mails ++ mails_of place (length w.mails) move.letters in
     let made : TrustsAt sc now (place + 1) move.actors mails = record {
       authority = t.authority;
+      master = t.master;
       servers = t.servers;
       coordinators = t.coordinators;
       mails_fit = each_append (MailFits sc now (place + 1)) w.mails (mails_of place (length w.mails) move.letters)

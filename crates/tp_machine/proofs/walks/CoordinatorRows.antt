@@ -1,23 +1,27 @@
 -- A coordinator's rows are walked once: what is shown of each of their outcomes holds of the rows. A new outcome is a field here, and of each
 -- theorem's cases.
-use Rattle.std.specs.List.{list_all}
-use Rattle.std.proofs.Common.{Bool, List, None, Option, Some, [], ap, arith, false, is_none, is_some, refl, true, ℕ, ℤ, ◌&&◌, ◌==◌, ◌∷◌, ◌≡◌}
-use Rattle.std.proofs.lemmas.Bool.{and_from, and_parts}
+use Rattle.std.specs.List.{list_any}
+use Rattle.std.proofs.Common.{Bool, List, None, Option, Some, [], ap, false, if◌then◌else◌, refl, true, ℕ, ℤ, ◌&&◌, ◌==◌, ◌≡◌}
+use Rattle.std.proofs.lemmas.Bool.{and_parts}
 use Rattle.tp_types.specs.Effect.{Effect, ignores, sends}
-use Rattle.tp_model.specs.Limits.{is_empty}
 use Rattle.tp_model.specs.Words.actor
 use Rattle.tp_model.specs.Words.answer
 use Rattle.tp_model.specs.Words.body
 use Rattle.tp_model.specs.Words.cause
 use Rattle.tp_model.specs.Words.no
 use Rattle.tp_model.specs.Words.vote
-use Rattle.tp_model.specs.Words.{AckReply, Actor, Answer, Body, DoneReply, Mail, No, Outcome, Query, Scenario, ServerId, Staple, TellReply, Verdict, Vote, VoteReply}
+use Rattle.tp_model.specs.Words.{AckReply, Actor, Answer, Body, DoneReply, Mail, Met, No, Outcome, Query, Scenario, ServerId, Staple, TellReply, Verdict, Vote, VoteReply}
 use Rattle.tp_machine.proofs.basics.Lists.{by_cond}
-use Rattle.tp_machine.specs.coord.Row.{aborts, ack_from, are_agreed, asks, asks_next, awaits_query, awaits_vote, begins, commits, coordinator_row, denied_by, first_false, have_one_version, home_of, is_awaited, is_false_verdict, is_from, is_plain, is_true_verdict, next_number, on_ack, on_answer, on_body, on_done_from, on_done_of_query, on_no, on_reply, on_staple, on_verdicts, on_vote, on_vote_of, prepares, query_of, refused_by, sends_query, server_of, staple_of, submit_row, vote_at, with_deed, with_reply, without}
+use Rattle.tp_machine.specs.coord.Row.{aborts, ack_from, asks, asks_next, awaits_query, awaits_vote, begins, commit_round, commits, coordinator_row, denied_by, home_of, is_from, is_plain, next_number, on_ack, on_answer, on_body, on_done_from, on_done_of_query, on_judged, on_no, on_staple, on_vote, on_vote_of, prepares, query_of, refused_by, sends_query, server_of, staple_of, submit_row, vote_at, with_deed, without}
 use Rattle.tp_machine.specs.coord.State.{Coordinator}
 use Rattle.tp_machine.specs.declared.coord.Phase.TheVariants as phase
 use Rattle.tp_machine.specs.declared.coord.Phase.{Phase}
-use Rattle.tp_machine.specs.declared.coord.Round.{Round}
+use Rattle.tp_round.specs.Judge.{after_judgement, after_reply, aim_in, final_answer, is_awaited, is_outdated, is_waiting, judge, wants_of}
+use Rattle.tp_round.specs.Replies.{by_query, least_false, proofs_in}
+use Rattle.tp_round.specs.declared.round.Judged.TheVariants as judged
+use Rattle.tp_round.specs.declared.round.Judged.{Judged}
+use Rattle.tp_round.specs.declared.round.Round.{Round}
+use Rattle.tp_round.specs.declared.round.Wanted.{Wanted}
 
 -- ---- outcomes of a receipt
 
@@ -31,12 +35,11 @@ pub record IsRanAnswer (sc : Scenario) (c : Coordinator) (mail : Mail) (done : D
   pub server_is : server_of sc asked ≡ Some server
   pub answer_is : done.answer ≡ answer.Ran value None
 
--- the awaited answer of the authority, before a first round
+-- the awaited answer of the authority, before a round
 pub record IsStaple (c : Coordinator) (mail : Mail) (tell : TellReply) (round : Round) : Type 0 where
   pub said_is : mail.letter.body ≡ body.Tell tell
   pub present : (tell.turn == c.turn) ≡ true
   pub asking : c.phase ≡ phase.Asking round
-  pub first : is_none round.aim ≡ true
 
 -- an awaited vote YES
 pub record IsYes (c : Coordinator) (mail : Mail) (reply : VoteReply) (round : Round) (staple : Staple) (server : ServerId) (verdicts : List Verdict) : Type 0 where
@@ -44,7 +47,7 @@ pub record IsYes (c : Coordinator) (mail : Mail) (reply : VoteReply) (round : Ro
   pub from_is : mail.letter.from ≡ actor.Server server
   pub present : (reply.turn == c.turn) ≡ true
   pub checking : c.phase ≡ phase.Checking round staple
-  pub awaited : is_awaited round.awaited server ≡ true
+  pub awaited : is_awaited round.targets server ≡ true
   pub vote_is : reply.vote ≡ vote.Yes verdicts
 
 -- an awaited vote NO, for a value outside its range
@@ -53,7 +56,7 @@ pub record IsNo (c : Coordinator) (mail : Mail) (reply : VoteReply) (round : Rou
   pub from_is : mail.letter.from ≡ actor.Server server
   pub present : (reply.turn == c.turn) ≡ true
   pub checking : c.phase ≡ phase.Checking round staple
-  pub awaited : is_awaited round.awaited server ≡ true
+  pub awaited : is_awaited round.targets server ≡ true
   pub vote_is : reply.vote ≡ vote.No (no.Range number value)
 
 -- an acknowledgement of what was decided
@@ -68,14 +71,16 @@ pub record CoordinatorCases (sc : Scenario) (c : Coordinator) (mail : Mail) (P :
   pub ran_next : (done : DoneReply) (server : ServerId) (asked : Query) (value : ℤ) (next : ServerId) → IsRanAnswer sc c mail done server asked value → home_of sc c (next_number done.query) ≡ Some next
       → P (sends_query sc (with_deed c server done asked value) (next_number done.query) next)
   pub ran_last : (done : DoneReply) (server : ServerId) (asked : Query) (value : ℤ) → IsRanAnswer sc c mail done server asked value → home_of sc c (next_number done.query) ≡ None
-      → P (asks (with_deed c server done asked value))
-  pub told_first : (tell : TellReply) (round : Round) → IsStaple c mail tell round → P (prepares c round (staple_of tell mail.sent))
-  pub counted : (reply : VoteReply) (round : Round) (staple : Staple) (server : ServerId) (verdicts : List Verdict) (other : ServerId) (others : List ServerId) → IsYes c mail reply round staple server verdicts
-      → without round.awaited server ≡ other ∷ others → P (sends (record c { phase = phase.Checking (with_reply round server verdicts) staple }) [])
+      → P (asks (with_deed c server done asked value) (commit_round (with_deed c server done asked value)))
+  pub told : (tell : TellReply) (round : Round) → IsStaple c mail tell round → P (prepares c round (staple_of tell mail.sent))
+  pub counted : (reply : VoteReply) (round : Round) (staple : Staple) (server : ServerId) (verdicts : List Verdict) → IsYes c mail reply round staple server verdicts
+      → judge (after_reply round server verdicts) None ≡ judged.Waiting → P (sends (record c { phase = phase.Checking (after_reply round server verdicts) staple }) [])
   pub committed : (reply : VoteReply) (round : Round) (staple : Staple) (server : ServerId) (verdicts : List Verdict) → IsYes c mail reply round staple server verdicts
-      → without round.awaited server ≡ [] → is_empty round.kept ≡ true → are_agreed verdicts ≡ true → P (commits c round.number verdicts)
+      → judge (after_reply round server verdicts) None ≡ judged.AllTrue → P (commits c round.number (by_query (proofs_in (after_reply round server verdicts).targets)))
   pub denied : (reply : VoteReply) (round : Round) (staple : Staple) (server : ServerId) (verdicts : List Verdict) (verdict : Verdict) → IsYes c mail reply round staple server verdicts
-      → without round.awaited server ≡ [] → first_false verdicts ≡ Some verdict → P (aborts c (cause.Denied (denied_by verdict)))
+      → judge (after_reply round server verdicts) None ≡ judged.False verdict → P (aborts c (cause.Denied (denied_by verdict)))
+  pub updated : (reply : VoteReply) (round : Round) (staple : Staple) (server : ServerId) (verdicts : List Verdict) (named : List Wanted) → IsYes c mail reply round staple server verdicts
+      → judge (after_reply round server verdicts) None ≡ judged.Update named → P (asks c (after_judgement (after_reply round server verdicts) None))
   pub refused : (reply : VoteReply) (round : Round) (staple : Staple) (server : ServerId) (number : ℕ) (value : ℤ) → IsNo c mail reply round staple server number value
       → P (aborts c (cause.No (refused_by server number value)))
   pub acknowledged : (ack : AckReply) (ended : Outcome) (awaited : List ServerId) (server : ServerId) → IsAck c mail ack ended awaited server
@@ -114,43 +119,35 @@ asked_by sc c mail P cases done (Some asked) e awaited plain asked_is = on_done_
 on_staple_by : (sc : Scenario) (c : Coordinator) (mail : Mail) (P : Effect Coordinator → Type 0) → CoordinatorCases sc c mail P → (tell : TellReply) (awaited : Phase) → mail.letter.body ≡ body.Tell tell
     → (tell.turn == c.turn) ≡ true → c.phase ≡ awaited → P (on_staple c awaited (staple_of tell mail.sent))
 on_staple_by sc c mail P cases tell (phase.Asking round) e present asking =
-    by_cond P (is_none round.aim) (λ first. cases.told_first tell round (record { said_is = e; present = present; asking = asking; first = first })) (λ later. cases.ignored)
+    cases.told tell round (record { said_is = e; present = present; asking = asking })
 on_staple_by sc c mail P cases tell _ e present asking = cases.ignored
 
 -- ---- Vote
 
-a_rule : (rule : Option ℕ) → is_none rule ≡ false → is_some rule ≡ true
-a_rule None e = absurd (cc)
-a_rule (Some rule) e = refl
+-- where nothing is read, no round is spent
+never_spent : (waits out : Bool) (round : Round) (wanted : List Wanted) (last : Judged) (mets : List Met) → (last ≡ judged.Spent mets → ⊥)
+    → (if waits then judged.Waiting else if out then judged.Update wanted else last) ≡ judged.Spent mets → ⊥
+never_spent true out round wanted last mets other e = cc
+never_spent false true round wanted last mets other e = cc
+never_spent false false round wanted last mets other e = other e
 
-true_first : (verdict : Verdict) (verdicts : List Verdict) (b : Bool) → is_false_verdict verdict ≡ b → (first_false verdicts ≡ None → list_all is_true_verdict verdicts ≡ true)
-    → first_false (verdict ∷ verdicts) ≡ None → list_all is_true_verdict (verdict ∷ verdicts) ≡ true
-true_first verdict verdicts true here later e = absurd (grind arith)
-true_first verdict verdicts false other later e =
-    let next : first_false verdicts ≡ None = grind arith in
-    and_from (is_true_verdict verdict) (list_all is_true_verdict verdicts) (a_rule verdict.rule other) (later next)
+not_final : (found : Option Verdict) (mets : List Met) → final_answer found ≡ judged.Spent mets → ⊥
+not_final None mets e = cc
+not_final (Some verdict) mets e = cc
 
--- where no verdict is false all are true
-all_true : (verdicts : List Verdict) → first_false verdicts ≡ None → list_all is_true_verdict verdicts ≡ true
-all_true [] e = refl
-all_true (verdict ∷ verdicts) e = true_first verdict verdicts (is_false_verdict verdict) refl (λ later. all_true verdicts later) e
+unread : (round : Round) (mets : List Met) → judge round None ≡ judged.Spent mets → ⊥
+unread round mets e =
+    never_spent (is_waiting round None) (list_any (is_outdated (aim_in round None)) round.targets) round (wants_of (aim_in round None) round.targets) (final_answer (least_false (proofs_in round.targets))) mets
+    (not_final (least_false (proofs_in round.targets)) mets) e
 
 judged_by : (sc : Scenario) (c : Coordinator) (mail : Mail) (P : Effect Coordinator → Type 0) → CoordinatorCases sc c mail P → (reply : VoteReply) (round : Round) (staple : Staple) (server : ServerId)
-    (verdicts : List Verdict) (found : Option Verdict) → IsYes c mail reply round staple server verdicts → without round.awaited server ≡ [] → is_empty round.kept ≡ true → have_one_version verdicts ≡ true
-    → first_false verdicts ≡ found
-    → P (on_verdicts c round verdicts found)
-judged_by sc c mail P cases reply round staple server verdicts (Some verdict) y e first one f = cases.denied reply round staple server verdicts verdict y e f
-judged_by sc c mail P cases reply round staple server verdicts None y e first one f =
-    cases.committed reply round staple server verdicts y e first (and_from (list_all is_true_verdict verdicts) (have_one_version verdicts) (all_true verdicts f) one)
-
-on_reply_by : (sc : Scenario) (c : Coordinator) (mail : Mail) (P : Effect Coordinator → Type 0) → CoordinatorCases sc c mail P → (reply : VoteReply) (round : Round) (staple : Staple) (server : ServerId)
-    (verdicts : List Verdict) (left : List ServerId) → IsYes c mail reply round staple server verdicts → without round.awaited server ≡ left → P (on_reply c round staple server verdicts left)
-on_reply_by sc c mail P cases reply round staple server verdicts [] y e =
-    by_cond P (is_empty round.kept && have_one_version verdicts)
-    (λ one. let parts = and_parts (is_empty round.kept) (have_one_version verdicts) one in
-    judged_by sc c mail P cases reply round staple server verdicts (first_false verdicts) y e parts.0 parts.1 refl)
-    (λ other. cases.ignored)
-on_reply_by sc c mail P cases reply round staple server verdicts (other ∷ others) y e = cases.counted reply round staple server verdicts other others y e
+    (verdicts : List Verdict) (answer_is : Judged) → IsYes c mail reply round staple server verdicts → judge (after_reply round server verdicts) None ≡ answer_is
+    → P (on_judged c (after_reply round server verdicts) staple answer_is)
+judged_by sc c mail P cases reply round staple server verdicts judged.Waiting y e = cases.counted reply round staple server verdicts y e
+judged_by sc c mail P cases reply round staple server verdicts judged.AllTrue y e = cases.committed reply round staple server verdicts y e
+judged_by sc c mail P cases reply round staple server verdicts (judged.False verdict) y e = cases.denied reply round staple server verdicts verdict y e
+judged_by sc c mail P cases reply round staple server verdicts (judged.Spent mets) y e = absurd (unread (after_reply round server verdicts) mets e)
+judged_by sc c mail P cases reply round staple server verdicts (judged.Update named) y e = cases.updated reply round staple server verdicts named y e
 
 on_no_by : (sc : Scenario) (c : Coordinator) (mail : Mail) (P : Effect Coordinator → Type 0) → CoordinatorCases sc c mail P → (reply : VoteReply) (round : Round) (staple : Staple) (server : ServerId) (why : No)
     → ((number : ℕ) (value : ℤ) → why ≡ no.Range number value → IsNo c mail reply round staple server number value) → P (on_no c server why)
@@ -160,7 +157,8 @@ on_no_by sc c mail P cases reply round staple server no.Restarted n = cases.igno
 on_vote_of_by : (sc : Scenario) (c : Coordinator) (mail : Mail) (P : Effect Coordinator → Type 0) → CoordinatorCases sc c mail P → (reply : VoteReply) (round : Round) (staple : Staple) (server : ServerId) (said : Vote)
     → ((verdicts : List Verdict) → said ≡ vote.Yes verdicts → IsYes c mail reply round staple server verdicts)
     → ((number : ℕ) (value : ℤ) → said ≡ vote.No (no.Range number value) → IsNo c mail reply round staple server number value) → P (on_vote_of c round staple server said)
-on_vote_of_by sc c mail P cases reply round staple server (vote.Yes verdicts) y n = on_reply_by sc c mail P cases reply round staple server verdicts (without round.awaited server) (y verdicts refl) refl
+on_vote_of_by sc c mail P cases reply round staple server (vote.Yes verdicts) y n = 
+    judged_by sc c mail P cases reply round staple server verdicts (judge (after_reply round server verdicts) None) (y verdicts refl) refl
 on_vote_of_by sc c mail P cases reply round staple server (vote.No why) y n =
     on_no_by sc c mail P cases reply round staple server why (λ number value e. n number value (ap (λ (w : No). vote.No w) e))
 

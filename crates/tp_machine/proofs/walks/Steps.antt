@@ -2,7 +2,7 @@
 -- field of each theorem's cases.
 use Rattle.std.proofs.Common.{◌≡◌, ℕ, List, [], ◌∷◌, length, slice_get, Bool, true, false, Option, Some, None, if◌then◌else◌, refl, sym, subst, arith}
 use Rattle.std.specs.Option.{option_map_or}
-use Rattle.tp_model.specs.Words.{Actor, CredId, Mail, Scenario, ServerId, Step, TxnId, What}
+use Rattle.tp_model.specs.Words.{Actor, AdminId, CredId, Mail, Scenario, ServerId, Step, TxnId, What}
 use Rattle.tp_model.specs.Words.actor
 use Rattle.tp_model.specs.Words.step
 use Rattle.tp_model.specs.Words.what
@@ -11,10 +11,11 @@ use Rattle.tp_machine.specs.declared.error.StepError.{StepError}
 use Rattle.tp_machine.specs.declared.error.StepError.TheVariants as error
 use Rattle.tp_machine.specs.Parts.{Part}
 use Rattle.tp_machine.specs.server.State.{Server}
-use Rattle.tp_machine.specs.Machine.{Machine, Move, State, acts_by, coordinator_fact, coordinator_move, coordinator_submits_up, coordinator_takes_up, delivery, idle_move, is_part_submitted, is_submitted, machine_after, receipt, refusal, revokes, server_fact, server_move, server_takes_up, state_after, submission, submission_by, ticks, to_authority, to_coordinator, to_master, to_server, with_age}
-use Rattle.tp_machine.specs.Sound.{IsCred, IsStepOf, IsTxn}
+use Rattle.tp_machine.specs.Machine.{Machine, Move, State, acts_by, coordinator_fact, coordinator_move, coordinator_submits_up, coordinator_takes_up, delivery, idle_move, is_part_submitted, is_submitted, machine_after, publishes, pushes, receipt, refusal, revokes, server_fact, server_move, server_takes_up, state_after, submission, submission_by, ticks, to_authority, to_coordinator, to_master, to_server, with_age}
+use Rattle.tp_machine.specs.Sound.{IsAdmin, IsCred, IsServer, IsStepOf, IsTxn}
 use Rattle.tp_machine.specs.coord.Row.{coordinator_row, submit_row}
 use Rattle.tp_machine.specs.server.Row.{server_row}
+use Rattle.tp_offices.specs.Master as master
 use Rattle.tp_machine.proofs.basics.Logs.{set_same}
 use Rattle.tp_machine.proofs.basics.Lists.{missing}
 
@@ -48,6 +49,8 @@ pub record Cases (sc : Scenario) (w : State) (P : Step → Move → Type 0) : Ty
       → P (step.Deliver n) (coordinator_move w.actors txn (acts_by coordinator_fact [] part.log (coordinator_row sc c mail)))
   pub authority_told : (n : ℕ) (mail : Mail) → WasSent w n mail actor.Authority → P (step.Deliver n) (to_authority w.actors mail)
   pub master_told : (n : ℕ) (mail : Mail) → WasSent w n mail actor.Master → P (step.Deliver n) (to_master w.actors mail)
+  pub published : (admin : AdminId) → IsAdmin sc admin → master.has_more w.actors.master admin ≡ true → P (step.Publish admin) (publishes w.actors admin)
+  pub pushed : (admin : AdminId) (server : ServerId) → IsAdmin sc admin → IsServer sc server → P (step.Push admin server) (pushes w.actors admin server)
   pub ticked : (by : ℕ) → P (step.Tick by) (ticks w.actors by)
   pub revoked : (cred : CredId) → IsCred sc cred → P (step.Revoke cred) (revokes w.actors cred)
   pub begun : (txn : TxnId) (part : Part Coordinator) (c : Coordinator) → IsTxn sc txn → IsCoordinatorUp w txn part c → is_part_submitted (Some c) ≡ false
@@ -108,6 +111,13 @@ submission_by_part : (sc : Scenario) (w : State) (P : Step → Move → Type 0) 
 submission_by_part sc w P cases txn None count exists e new = absurd (missing w.actors.coordinators txn.0 (omega (arith, exists, count)) e)
 submission_by_part sc w P cases txn (Some part) count exists e new = begun_by_up sc w P cases txn part part.up exists e refl new
 
+-- ---- publications
+
+-- a publication that is not refused finds a version in the library
+there_is_more : (b : Bool) (why : StepError) → (if b then None else Some why) ≡ None → b ≡ true
+there_is_more true why e = refl
+there_is_more false why e = absurd (cc)
+
 -- ---- steps
 
 -- what is shown of each case holds of the state after any step that is not refused; a step of a kind that is not built changes nothing
@@ -121,6 +131,10 @@ machine_after_by sc m P Q cases count ends unchanged (step.Deliver mail) exists 
     ends (step.Deliver mail) (delivery sc m.state.actors (slice_get m.state.mails mail)) (delivery_by sc m.state P cases mail (slice_get m.state.mails mail) refl)
 machine_after_by sc m P Q cases count ends unchanged (step.Lose mail) exists allowed =
     ends (step.Lose mail) (idle_move m.state.actors (what.Lost mail ∷ [])) (cases.idle (step.Lose mail) (what.Lost mail ∷ []) refl)
+machine_after_by sc m P Q cases count ends unchanged (step.Publish admin) exists allowed =
+    ends (step.Publish admin) (publishes m.state.actors admin) (cases.published admin exists (there_is_more (master.has_more m.state.actors.master admin) (error.NoMore admin) allowed))
+machine_after_by sc m P Q cases count ends unchanged (step.Push admin server) exists allowed =
+    ends (step.Push admin server) (pushes m.state.actors admin server) (cases.pushed admin server exists.0 exists.1)
 machine_after_by sc m P Q cases count ends unchanged (step.Tick by) exists allowed = ends (step.Tick by) (ticks m.state.actors by) (cases.ticked by)
 machine_after_by sc m P Q cases count ends unchanged (step.Revoke cred) exists allowed = ends (step.Revoke cred) (revokes m.state.actors cred) (cases.revoked cred exists)
 machine_after_by sc m P Q cases count ends unchanged _ exists allowed = unchanged

@@ -1,12 +1,13 @@
 -- A coordinator's rows: what it does when its transaction is submitted, and on receipt of a mail. A reply is used only in
 -- the phase that awaits it, with the present turn, and once from each server; otherwise nothing happens.
-use Rattle.std.specs.List.{find, list_all, list_any}
-use Rattle.std.specs.Prelude.{Bool, List, None, Option, Some, [], false, filter, if◌then◌else◌, is_none, is_some, map, min, not, option_and_then, option_map, slice_get, slice_set, true, unwrap_or, ℕ, ℤ, ◌&&◌, ◌++◌, ◌+◌, ◌-◌, ◌==◌, ◌^◌, ◌∷◌}
+use Rattle.std.specs.List.{find}
+use Rattle.std.specs.Option.{option_map_or}
+use Rattle.std.specs.Prelude.{Bool, List, None, Option, Some, [], false, filter, if◌then◌else◌, map, min, not, option_and_then, option_map, slice_get, slice_set, true, unwrap_or, ℕ, ℤ, ◌&&◌, ◌++◌, ◌+◌, ◌-◌, ◌==◌, ◌^◌, ◌∷◌}
 use Rattle.tp_types.specs.Effect.{Effect, ignores, logs, sends, unbuilt}
 use Rattle.tp_types.specs.Table.{flattened}
 use Rattle.tp_types.specs.declared.records.Outcome.TheVariants.{Abort, Commit}
 use Rattle.tp_model.specs.Queries.{item_of, query_at}
-use Rattle.tp_model.specs.Limits.{is_empty}
+use Rattle.tp_model.specs.Ids.{same_server}
 use Rattle.tp_model.specs.Words.actor
 use Rattle.tp_model.specs.Words.answer
 use Rattle.tp_model.specs.Words.body
@@ -15,13 +16,19 @@ use Rattle.tp_model.specs.Words.decision
 use Rattle.tp_model.specs.Words.log
 use Rattle.tp_model.specs.Words.no
 use Rattle.tp_model.specs.Words.vote
-use Rattle.tp_model.specs.Words.{Actor, Answer, Body, Cause, CommitRecord, Decision, Denied, DoneReply, Instance, Item, ItemId, Letter, Mail, No, OutOfRange, Outcome, Query, QueryRequest, Scenario, ServerId, Staple, TellReply, Transaction, Verdict, Vote, VoteReply}
+use Rattle.tp_model.specs.Words.{Actor, AdminId, Answer, Body, Cause, CommitRecord, Decision, Denied, DoneReply, Instance, Item, ItemId, Letter, Mail, No, OutOfRange, Outcome, PrepareRequest, Query, QueryRequest, Scenario, ServerId, Staple, TellReply, Transaction, Verdict, Version, Vote, VoteReply}
 use Rattle.tp_machine.specs.Runs.{deed_of}
 use Rattle.tp_machine.specs.Sums.{asked_value}
 use Rattle.tp_machine.specs.coord.State.{Coordinator}
 use Rattle.tp_machine.specs.declared.coord.Phase.TheVariants as phase
 use Rattle.tp_machine.specs.declared.coord.Phase.{Phase}
-use Rattle.tp_machine.specs.declared.coord.Round.{Round}
+use Rattle.tp_round.specs.Judge.{after_judgement, after_reply, first_round, is_awaited, is_missing, judge}
+use Rattle.tp_round.specs.Replies.{by_query, proofs_in}
+use Rattle.tp_round.specs.declared.round.Judged.TheVariants as judged
+use Rattle.tp_round.specs.declared.round.Judged.{Judged}
+use Rattle.tp_round.specs.declared.round.Round.{Round}
+use Rattle.tp_round.specs.declared.round.Target.{Target}
+use Rattle.tp_round.specs.declared.round.Wanted.{Wanted}
 
 -- the turn of the next request; at the greatest number it stays
 abbrev pub next_turn : Coordinator → ℕ
@@ -107,18 +114,21 @@ abbrev pub is_from : Actor → ServerId → Bool
 is_from (actor.Server server) asked = server.0 == asked.0
 is_from _ asked = false
 
-abbrev pub first_round : Coordinator → Round
-first_round c = record { number = 1; aim = None; kept = []; awaited = c.servers; mets = [] }
+-- a request to the authority
+abbrev pub ask_letter : Coordinator → Letter
+ask_letter c = record {
+  from = actor.Coordinator c.txn;
+  to = actor.Authority;
+  body = body.Ask (record { txn = c.txn; turn = next_turn c });
+}
 
--- the transaction's servers are to prepare: the authority is asked first
-abbrev pub asks : Coordinator → Effect Coordinator
-asks c =
-    sends (record c { turn = next_turn c; phase = phase.Asking (first_round c) })
-    (record {
-      from = actor.Coordinator c.txn;
-      to = actor.Authority;
-      body = body.Ask (record { txn = c.txn; turn = next_turn c });
-    } ∷ [])
+-- before each round of validation the authority is asked
+abbrev pub asks : Coordinator → Round → Effect Coordinator
+asks c round = sends (record c { turn = next_turn c; phase = phase.Asking round }) (ask_letter c ∷ [])
+
+-- the first round at commit, of all of the transaction's servers. No master is read, and under view consistency two rounds are enough
+abbrev pub commit_round : Coordinator → Round
+commit_round c = first_round c.servers 2 [] false
 
 -- a coordinator with the deed of a query that ran, and the epoch of its server
 abbrev pub with_deed : Coordinator → ServerId → DoneReply → Query → ℤ → Coordinator
@@ -132,9 +142,9 @@ with_deed c server done query value =
 abbrev pub next_number : ℕ → ℕ
 next_number number = min (number + 1) (2 ^ 32 - 1)
 
--- the query of this number is asked, or where there is none the servers are to prepare
+-- the query of this number is asked, or where there is none the rounds at commit begin
 abbrev pub asks_next : Scenario → Coordinator → ℕ → Option ServerId → Effect Coordinator
-asks_next sc c number None = asks c
+asks_next sc c number None = asks c (commit_round c)
 asks_next sc c number (Some server) = sends_query sc c number server
 
 -- the transaction goes on after the query of this number
@@ -184,29 +194,44 @@ on_done sc c awaited from done =
 abbrev pub epoch_of : Coordinator → ServerId → ℕ
 epoch_of c server = unwrap_or (epoch_told c server) 0
 
-abbrev pub prepare_letter : Coordinator → Staple → ServerId → Letter
-prepare_letter c staple server =
-    request c server (body.Prepare (record {
-      txn = c.txn;
-      turn = next_turn c;
-      epoch = epoch_of c server;
-      staple = Some staple;
-      want = [];
-    }))
+-- what the last update wants of a server; nothing where it named the server not
+abbrev pub want_for : Round → ServerId → List (AdminId × Version)
+want_for round server =
+    option_map_or (λ (named : Wanted). named.want)
+    (find (λ (named : Wanted). same_server named.server server) round.named) []
+
+abbrev pub prepare_request : Coordinator → Round → Staple → ServerId → PrepareRequest
+prepare_request c round staple server = record {
+  txn = c.txn;
+  turn = next_turn c;
+  epoch = epoch_of c server;
+  staple = Some staple;
+  want = want_for round server;
+}
+
+abbrev pub prepare_letter : Coordinator → Round → Staple → ServerId → Letter
+prepare_letter c round staple server =
+    request c server (body.Prepare (prepare_request c round staple server))
 
 abbrev pub staple_of : TellReply → ℕ → Staple
 staple_of tell sent = record { place = sent; clock = tell.clock; revoked = tell.revoked }
 
--- a first round: each awaited server is asked to prepare with the staple
+abbrev pub server_in : Target → ServerId
+server_in target = target.server
+
+-- the servers of a round whose replies are awaited
+abbrev pub awaited_in : Round → List ServerId
+awaited_in round = map server_in (filter is_missing round.targets)
+
+-- each awaited server is asked to prepare with the staple, at the versions that are wanted of it
 abbrev pub prepares : Coordinator → Round → Staple → Effect Coordinator
 prepares c round staple =
     sends (record c { turn = next_turn c; phase = phase.Checking round staple })
-    (map (prepare_letter c staple) round.awaited)
+    (map (prepare_letter c round staple) (awaited_in round))
 
--- the authority was asked before a round; a round that is not the first is not built
+-- the authority was asked before a round
 abbrev pub on_staple : Coordinator → Phase → Staple → Effect Coordinator
-on_staple c (phase.Asking round) staple =
-    if is_none round.aim then prepares c round staple else unbuilt c
+on_staple c (phase.Asking round) staple = prepares c round staple
 on_staple c _ staple = ignores c
 
 abbrev pub on_tell : Coordinator → Phase → ℕ → TellReply → Effect Coordinator
@@ -214,35 +239,6 @@ on_tell c awaited sent tell =
     if tell.turn == c.turn then on_staple c awaited (staple_of tell sent) else ignores c
 
 -- ---- Vote
-
-abbrev pub is_awaited : List ServerId → ServerId → Bool
-is_awaited awaited server = list_any (λ (other : ServerId). other.0 == server.0) awaited
-
-abbrev pub without : List ServerId → ServerId → List ServerId
-without awaited server = filter (λ (other : ServerId). not (other.0 == server.0)) awaited
-
--- the round with a server's verdicts
-abbrev pub with_reply : Round → ServerId → List Verdict → Round
-with_reply round server verdicts =
-    record round {
-      kept = round.kept ++ record { server = server; verdicts = verdicts } ∷ [];
-      awaited = without round.awaited server;
-    }
-
-abbrev pub is_true_verdict : Verdict → Bool
-is_true_verdict verdict = is_some verdict.rule
-
--- two verdicts of one administrator have one version
-abbrev pub agrees : Verdict → Verdict → Bool
-agrees one other = if one.admin.0 == other.admin.0 then one.version.0 == other.version.0 else true
-
--- verdicts of one administrator have one version
-abbrev pub have_one_version : List Verdict → Bool
-have_one_version verdicts = list_all (λ (one : Verdict). list_all (agrees one) verdicts) verdicts
-
--- all verdicts are true, and those of one administrator have one version
-abbrev pub are_agreed : List Verdict → Bool
-are_agreed verdicts = list_all is_true_verdict verdicts && have_one_version verdicts
 
 abbrev pub instances_with : Coordinator → List Verdict → List Instance
 instances_with c proofs = c.instances ++ record { reading = None; proofs = proofs } ∷ []
@@ -271,13 +267,6 @@ commits c rounds proofs =
 abbrev pub aborts : Coordinator → Cause → Effect Coordinator
 aborts c why = decides c Abort (decision.Abort why)
 
-abbrev pub is_false_verdict : Verdict → Bool
-is_false_verdict verdict = is_none verdict.rule
-
--- the first false verdict, which is of the least query, as a server's verdicts go by query
-abbrev pub first_false : List Verdict → Option Verdict
-first_false verdicts = find is_false_verdict verdicts
-
 -- what a false verdict denies
 abbrev pub denied_by : Verdict → Denied
 denied_by verdict =
@@ -289,23 +278,18 @@ denied_by verdict =
       place = verdict.place;
     }
 
--- of verdicts that have one version each a false one denies, and else all are proofs
-abbrev pub on_verdicts : Coordinator → Round → List Verdict → Option Verdict → Effect Coordinator
-on_verdicts c round verdicts (Some denied) = aborts c (cause.Denied (denied_by denied))
-on_verdicts c round verdicts None = commits c round.number verdicts
+-- by what is judged of the replies: a missing one is awaited, true proofs of one version each commit, a false one denies, and servers that
+-- are out of date are asked again
+abbrev pub on_judged : Coordinator → Round → Staple → Judged → Effect Coordinator
+on_judged c round staple judged.Waiting = sends (record c { phase = phase.Checking round staple }) []
+on_judged c round staple judged.AllTrue = commits c round.number (by_query (proofs_in round.targets))
+on_judged c round staple (judged.False verdict) = aborts c (cause.Denied (denied_by verdict))
+on_judged c round staple (judged.Spent mets) = aborts c (cause.Rounds mets)
+on_judged c round staple (judged.Update named) = asks c (after_judgement round None)
 
--- a round in which all have replied is judged. Replies of several servers, and versions that differ, are not built
-abbrev pub judgement : Coordinator → Round → List Verdict → Effect Coordinator
-judgement c round verdicts =
-    if is_empty round.kept && have_one_version verdicts
-    then on_verdicts c round verdicts (first_false verdicts)
-    else unbuilt c
-
-abbrev pub on_reply : Coordinator → Round → Staple → ServerId → List Verdict → List ServerId
-    → Effect Coordinator
-on_reply c round staple server verdicts [] = judgement c round verdicts
-on_reply c round staple server verdicts (other ∷ others) =
-    sends (record c { phase = phase.Checking (with_reply round server verdicts) staple }) []
+-- a round with one more reply is judged
+abbrev pub on_reply : Coordinator → Round → Staple → Effect Coordinator
+on_reply c round staple = on_judged c round staple (judge round None)
 
 -- what a server's vote NO refuses
 abbrev pub refused_by : ServerId → ℕ → ℤ → OutOfRange
@@ -318,12 +302,12 @@ on_no c server no.Restarted = unbuilt c
 
 abbrev pub on_vote_of : Coordinator → Round → Staple → ServerId → Vote → Effect Coordinator
 on_vote_of c round staple server (vote.Yes verdicts) =
-    on_reply c round staple server verdicts (without round.awaited server)
+    on_reply c (after_reply round server verdicts) staple
 on_vote_of c round staple server (vote.No why) = on_no c server why
 
 -- the vote of this server is awaited
 abbrev pub awaits_vote : Phase → ServerId → Bool
-awaits_vote (phase.Checking round staple) server = is_awaited round.awaited server
+awaits_vote (phase.Checking round staple) server = is_awaited round.targets server
 awaits_vote _ server = false
 
 abbrev pub vote_at : Coordinator → Phase → ServerId → Vote → Effect Coordinator
@@ -337,6 +321,9 @@ on_vote c awaited (actor.Server server) reply =
 on_vote c awaited _ reply = ignores c
 
 -- ---- Ack
+
+abbrev pub without : List ServerId → ServerId → List ServerId
+without awaited server = filter (λ (other : ServerId). not (other.0 == server.0)) awaited
 
 abbrev pub ack_from : Coordinator → Outcome → List ServerId → Actor → Effect Coordinator
 ack_from c outcome awaited (actor.Server server) = sends (record c { phase = phase.Ending outcome (without awaited server) }) []
