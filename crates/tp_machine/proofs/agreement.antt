@@ -2,6 +2,7 @@
 pub mod Coordinator
 pub mod CoordinatorActs
 pub mod End
+pub mod Known
 pub mod Logs
 pub mod Server
 pub mod ServerActs

@@ -4,10 +4,7 @@ pub mod Laws
 pub mod Logs
 pub mod Machine
 pub mod Parts
-pub mod Runs
 pub mod Seen
 pub mod Sound
-pub mod Sums
-pub mod coord
 pub mod mirrors
 pub mod server

@@ -1,11 +1,11 @@
 -- What a log says: look-ups on the list of its records. Nothing else reads a log.
-use Rattle.std.specs.Prelude.{ℕ, ◌+◌, ◌||◌, List, [], ◌∷◌, slice_get, Bool, false, Option, Some, None, is_some, option_and_then, if◌then◌else◌}
+use Rattle.std.specs.Prelude.{ℕ, max, ◌+◌, ◌||◌, List, [], ◌∷◌, slice_get, Bool, false, Option, Some, None, is_some, option_and_then, if◌then◌else◌}
 use Rattle.std.specs.Option.{option_map_or}
-use Rattle.tp_model.specs.Words.{Decision, Prepared, Record, Settled, TxnId}
+use Rattle.tp_model.specs.Words.{AdminId, Decision, Prepared, Record, Settled, TxnId, Version}
 use Rattle.tp_model.specs.Words.log
 use Rattle.tp_model.specs.Facts.{first_of}
-use Rattle.tp_model.specs.Ids.{same_txn}
-use Rattle.tp_machine.specs.coord.State.{Coordinator}
+use Rattle.tp_model.specs.Ids.{same_admin, same_txn}
+use Rattle.tp_coord.specs.State.{Coordinator}
 use Rattle.tp_machine.specs.Parts.{Part}
 use Rattle.tp_machine.specs.server.State.{Server}
 
@@ -64,6 +64,20 @@ boots_in (first ∷ kept) = boots_in kept
 -- the server's epoch: one, and one more for each boot
 abbrev pub epoch_in : List Record → ℕ
 epoch_in kept = boots_in kept + 1
+
+abbrev pub number_of : Version → ℕ
+number_of version = version.0
+
+-- the number of the version of an administrator that a record tells; 0 where it tells none
+abbrev pub told_in : AdminId → Record → ℕ
+told_in admin (log.Told t) = if same_admin t.admin admin then t.version.0 else 0
+told_in admin (log.Prepared p) = option_map_or number_of (slice_get p.told admin.0) 0
+told_in admin _ = 0
+
+-- the greatest that is told of an administrator, or the first where no record tells a greater
+abbrev pub known_in : ℕ → AdminId → List Record → ℕ
+known_in first admin [] = first
+known_in first admin (earliest ∷ kept) = max (told_in admin earliest) (known_in first admin kept)
 
 -- ---- the logs of all actors
 

@@ -8,14 +8,14 @@ use Rattle.tp_model.specs.Words.log
 use Rattle.tp_model.specs.Words.step
 use Rattle.tp_model.specs.Words.what
 use Rattle.tp_machine.specs.declared.actors.Actors.{Actors}
-use Rattle.tp_machine.specs.coord.State.{Coordinator}
+use Rattle.tp_coord.specs.State.{Coordinator}
 use Rattle.tp_machine.specs.declared.error.StepError.{StepError}
 use Rattle.tp_machine.specs.declared.error.StepError.TheVariants as error
 use Rattle.tp_machine.specs.Parts.{Part}
 use Rattle.tp_machine.specs.server.State.{Server}
 use Rattle.tp_types.specs.Effect.{Effect}
-use Rattle.tp_machine.specs.coord.Opened as coord
-use Rattle.tp_machine.specs.coord.Row.{coordinator_row, is_begun, submit_row, coordinator_with_age}
+use Rattle.tp_coord.specs.Opened as coord
+use Rattle.tp_coord.specs.Row.{coordinator_row, is_begun, submit_row, coordinator_with_age}
 use Rattle.tp_offices.specs.Authority as office
 use Rattle.tp_offices.specs.Master as master
 use Rattle.tp_offices.specs.declared.master.Master.{Master}

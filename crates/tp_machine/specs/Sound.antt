@@ -17,10 +17,10 @@ use Rattle.tp_model.specs.Words.what
 use Rattle.tp_model.specs.Words.{Actor, Admin, AdminId, Answer, Body, Cause, CommitRecord, CredId, Decided, Decision, Deed, Denied, Died, DoneReply, Fact, Instance, Item, ItemId, Letter, Mail, Met, Newer, NewestReply, No, OutOfRange, PrepareRequest, Prepared, PushNotice, Query, QueryRequest, Record, Scenario, Scheme, ServerId, Settled, Staple, Step, TellReply, Transaction, TxnId, ValidateRequest, Verdict, VerdictsReply, Version, Vote, VoteReply, What}
 use Rattle.tp_machine.specs.Machine.{State}
 use Rattle.tp_machine.specs.Parts.{Part}
-use Rattle.tp_machine.specs.coord.State.{Coordinator}
+use Rattle.tp_coord.specs.State.{Coordinator}
 use Rattle.tp_machine.specs.declared.actors.Actors.{Actors}
-use Rattle.tp_machine.specs.declared.coord.Phase.TheVariants as phase
-use Rattle.tp_machine.specs.declared.coord.Phase.{Phase}
+use Rattle.tp_coord.specs.declared.coordinator.Phase.TheVariants as phase
+use Rattle.tp_coord.specs.declared.coordinator.Phase.{Phase}
 use Rattle.tp_round.specs.declared.round.Round.{Round}
 use Rattle.tp_round.specs.declared.round.Target.{Target}
 use Rattle.tp_round.specs.declared.round.Wanted.{Wanted}

@@ -5,10 +5,10 @@ ghost use Rattle.tp_machine.specs.Machine as machine;
 ghost use Rattle.tp_machine.specs.server.Verdicts.{HasFewRules};
 ghost use Rattle.tp_offices.specs.Master as office;
 
-use crate::coord::Coordinator;
 use crate::part::{Act, Part, coordinator_submits, coordinator_takes, no_act, server_takes};
 use crate::server::Server;
 use std::alloc::Global;
+use tp_coord::Coordinator;
 use tp_offices::{Authority, Master, NoMore};
 use tp_types::{
     Actor, AdminId, CredId, Item, List, Mail, NoMemory, Place, Reaction, Scenario, ServerId, TxnId,

@@ -10,11 +10,11 @@ ghost use Rattle.tp_machine.specs.server.Verdicts.{HasFewRules};
 ghost use Rattle.tp_offices.specs.Master as office;
 
 use crate::actors::Actors;
-use crate::coord::Coordinator;
 use crate::error::StepError;
 use crate::history::History;
 use crate::part::{Act, no_act};
 use std::alloc::Global;
+use tp_coord::Coordinator;
 use tp_offices::Master;
 use tp_types::{AdminId, CredId, Mail, NoMemory, Scenario, ServerId, Step, TxnId};
 

@@ -4,22 +4,17 @@
 mod actors;
 mod acts;
 pub mod agree;
-mod coord;
 mod error;
 pub mod evaluation;
 mod history;
 pub mod laws;
 mod part;
-mod runs;
 pub mod serial;
 mod server;
-mod sums;
 mod verdicts;
-pub mod views;
 mod world;
 
 pub use actors::Actors;
-pub use coord::{Coordinator, Phase};
 pub use error::StepError;
 pub use history::History;
 pub use part::{Act, Part};

@@ -5,10 +5,10 @@ ghost use Rattle.tp_machine.specs.mirrors.Acts.{Acts};
 ghost use Rattle.tp_machine.specs.Machine as machine;
 ghost use Rattle.tp_machine.specs.server.Verdicts.{HasFewRules};
 
-use crate::coord::Coordinator;
 use crate::server::Server;
 use std::alloc::Global;
 use std::marker::Model;
+use tp_coord::Coordinator;
 use tp_types::{
     Letter, List, Mail, NoMemory, Place, Reaction, Record, Scenario, ServerId, TryClone, TxnId,
     What,

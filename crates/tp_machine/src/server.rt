@@ -9,13 +9,12 @@ ghost use Rattle.tp_machine.specs.server.Opened as opened;
 ghost use Rattle.tp_machine.specs.server.Verdicts as verdicts;
 ghost use Rattle.tp_machine.specs.server.Verdicts.{HasFewRules};
 ghost use Rattle.tp_machine.specs.mirrors.Entries.{entry_of, IsNoted};
-ghost use Rattle.tp_machine.specs.Runs as ran;
+ghost use Rattle.tp_model.specs.Deeds as ran;
 
-use crate::runs::deed_of;
 use crate::verdicts::verdicts_on;
 use std::alloc::Global;
 use std::marker::Model;
-use tp_model::query_at;
+use tp_model::{deed_of, query_at};
 use tp_store::Store;
 use tp_types::{
     AckReply, Actor, AdminId, Answer, Body, DecideRequest, Deed, DoneReply, Letter, List, Mail, No,

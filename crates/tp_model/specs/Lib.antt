@@ -4,6 +4,7 @@ pub mod Built
 pub mod Causes
 pub mod Commits
 pub mod Credentials
+pub mod Deeds
 pub mod Demand
 pub mod Facts
 pub mod Ids

@@ -1,12 +1,14 @@
 //! The definitions that every layer is judged by, and the plain helpers that compute them.
 #![tactic(auto)]
 
+mod deeds;
 mod level;
 mod policy;
 mod query;
 mod valid;
 mod versions;
 
+pub use deeds::deed_of;
 pub use level::{is_global, level_of, reads_master};
 pub use policy::{matches, meets, policy_at, rule_in};
 pub use query::{action_of, has_query_at, item_of, only, query_at, servers_of};

@@ -1,8 +1,4 @@
 //! A recording that is played line by line.
-ghost use Rattle.std.specs.Prelude.{◌≡◌, IfOk, IfSome};
-ghost use Rattle.std.specs.List.{list_any, IsDistinct};
-ghost use Rattle.tp_model.specs.Ids.{same_server};
-
 use crate::numbers::numbers_of;
 use crate::spelled::{add_verdicts, judged_line, verdict_of};
 use std::alloc::Global;
@@ -28,34 +24,21 @@ fn number_of(word: &str) -> u32 {
     word.parse::<u32>().unwrap_or(0)
 }
 
-fn is_among(servers: &[ServerId], server: ServerId) -> bool
-    ensures { result ≡ list_any (same_server server) servers.now }
-{
-    servers.iter().any(|other| server == *other)
-}
-
-fn targets_of(alloc: Global, words: &[&str]) -> Result<Option<List<ServerId>>, NoMemory>
-    ensures { IfOk result (λ found. IfSome found (λ targets. IsDistinct same_server targets)) }
-{
+fn targets_of(alloc: Global, words: &[&str]) -> Result<List<ServerId>, NoMemory> {
     let mut targets = List::new(alloc);
     for word in words {
-        let server = ServerId(number_of(word));
-        if is_among(targets.as_slice(), server) {
-            return Ok(None);
-        }
-        targets.push(server)?;
+        targets.push(ServerId(number_of(word)))?;
     }
-    Ok(Some(targets))
+    Ok(targets)
 }
 
 fn started(alloc: Global, limit: u32, words: &[&str]) -> Result<Option<Round>, NoMemory> {
     if limit < 1 || limit > 16 {
         return Ok(None);
     }
-    match targets_of(alloc, words)? {
-        None => Ok(None),
-        Some(targets) => Ok(Some(Round::start(alloc, targets.as_slice(), limit, Level::View)?)),
-    }
+    let targets = targets_of(alloc, words)?;
+    let round = Round::start(alloc, targets.as_slice(), limit, Level::View)?;
+    Ok(Some(round))
 }
 
 fn levels_of(alloc: Global, words: &[&str]) -> Result<List<Level>, NoMemory> {
@@ -103,8 +86,10 @@ fn goes(
     match words {
         ["reply", server, kept, verdicts @ ..] => {
             let verdicts = verdicts_of(alloc, verdicts)?;
-            let was_kept = round.reply(ServerId(number_of(server)), verdicts);
-            Ok(was_kept == (*kept == "kept"))
+            let server = ServerId(number_of(server));
+            let was_awaited = round.awaits(server);
+            let was_kept = round.reply(server, verdicts);
+            Ok(was_awaited == was_kept && was_kept == (*kept == "kept"))
         }
         ["judge", ..] => {
             let judged = round.judge(alloc, reading)?;

@@ -11,11 +11,11 @@ use Rattle.tp_machine.proofs.basics.Phases.{is_querying, querying_is}
 use Rattle.tp_machine.proofs.walks.CoordinatorRows.{coordinator_by, submit_by}
 use Rattle.tp_machine.proofs.walks.ServerRows.{IsFirstHere, IsFurther, IsGranted, server_by}
 use Rattle.tp_machine.specs.Machine.{with_age}
-use Rattle.tp_machine.specs.Runs.{deed_of}
+use Rattle.tp_model.specs.Deeds.{deed_of}
 use Rattle.tp_machine.specs.Sound.{Each, EachPlaced}
-use Rattle.tp_machine.specs.coord.Row as coord
+use Rattle.tp_coord.specs.Row as coord
 use Rattle.tp_round.specs.declared.round.Round.{Round}
-use Rattle.tp_machine.specs.coord.State.{Coordinator}
+use Rattle.tp_coord.specs.State.{Coordinator}
 use Rattle.tp_machine.specs.declared.server.Entry.{Entry}
 use Rattle.tp_machine.specs.server.Row as server
 use Rattle.tp_machine.specs.server.State.{Server}

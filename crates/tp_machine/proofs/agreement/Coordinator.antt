@@ -28,11 +28,11 @@ use Rattle.tp_machine.proofs.walks.CoordinatorRows.{IsAck, IsYes, coordinator_by
 use Rattle.tp_machine.specs.Logs.{decided_in, decision_in}
 use Rattle.tp_machine.specs.Machine.{log_with, with_age}
 use Rattle.tp_machine.specs.Sound.{Each}
-use Rattle.tp_machine.specs.coord.Opened.{servers_at}
-use Rattle.tp_machine.specs.coord.Row.{aborts, asks, awaits_query, commit_round, commits, coordinator_row, denied_by, is_begun, next_number, prepare_letter, prepares, query_of, refused_by, request, sends_query, server_of, staple_of, submit_row, with_deed, without}
-use Rattle.tp_machine.specs.coord.State.{Coordinator}
-use Rattle.tp_machine.specs.declared.coord.Phase.TheVariants as phase
-use Rattle.tp_machine.specs.declared.coord.Phase.{Phase}
+use Rattle.tp_coord.specs.Opened.{servers_at}
+use Rattle.tp_coord.specs.Row.{aborts, asks, awaits_query, commit_round, commits, coordinator_row, denied_by, is_begun, next_number, prepare_letter, prepares, query_of, refused_by, request, sends_query, server_of, staple_of, submit_row, with_deed, without}
+use Rattle.tp_coord.specs.State.{Coordinator}
+use Rattle.tp_coord.specs.declared.coordinator.Phase.TheVariants as phase
+use Rattle.tp_coord.specs.declared.coordinator.Phase.{Phase}
 use Rattle.tp_round.specs.Judge.{after_judgement, after_reply, aim_in, judge, met_in, mets_in, new_target, next_round}
 use Rattle.tp_round.specs.Replies.{by_query, proofs_in}
 use Rattle.tp_round.specs.declared.round.Judged.TheVariants as judged

@@ -21,10 +21,10 @@ use Rattle.tp_model.specs.Ids.{same_txn}
 use Rattle.tp_machine.specs.Logs.{decided_at, decided_by, decided_in, decision_in, prepared_by, settled_in}
 use Rattle.tp_machine.specs.Machine.{State, acts, coordinator_fact, coordinator_move, log_with}
 use Rattle.tp_machine.specs.Sound.{Each}
-use Rattle.tp_machine.specs.coord.Opened.{servers_at}
-use Rattle.tp_machine.specs.coord.Row.{is_begun}
+use Rattle.tp_coord.specs.Opened.{servers_at}
+use Rattle.tp_coord.specs.Row.{is_begun}
 use Rattle.tp_machine.specs.declared.actors.Actors.{Actors}
-use Rattle.tp_machine.specs.coord.State.{Coordinator}
+use Rattle.tp_coord.specs.State.{Coordinator}
 use Rattle.tp_machine.specs.Parts.{Part}
 use Rattle.tp_machine.specs.server.State.{Server}
 use Rattle.tp_machine.proofs.agreement.ServerActs.{begun_count, none_more, server_exists, submitted_told}
@@ -317,6 +317,7 @@ coordinator_acts_agrees sc w txn part now own append letters h found l =
           let was = h.servers n p e in
           record {
             state = was.state;
+            knows = was.knows;
             settled = λ t s f.
                 let rests = was.settled t s f in
                 record {

@@ -13,9 +13,9 @@ use Rattle.tp_model.specs.Facts.{first_of, outcome_of}
 use Rattle.tp_model.specs.Ids.{same_txn}
 use Rattle.tp_machine.specs.Logs.{decided_at, has_voted, has_voted_at, preparation_in, prepared_at, prepared_in, settled_at, settled_in, settlement_in, voted_in, while_unsettled}
 use Rattle.tp_machine.specs.Machine.{log_with}
-use Rattle.tp_machine.specs.coord.Row.{is_begun}
+use Rattle.tp_coord.specs.Row.{is_begun}
 use Rattle.tp_machine.specs.declared.actors.Actors.{Actors}
-use Rattle.tp_machine.specs.coord.State.{Coordinator}
+use Rattle.tp_coord.specs.State.{Coordinator}
 use Rattle.tp_machine.specs.Parts.{Part}
 use Rattle.tp_machine.specs.server.State.{Server}
 use Rattle.tp_machine.proofs.basics.Ids.{same_txn_is}

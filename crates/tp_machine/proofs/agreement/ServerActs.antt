@@ -21,16 +21,17 @@ use Rattle.tp_model.specs.Ids.{same_server, same_txn}
 use Rattle.tp_machine.specs.Logs.{decided_at, decided_by, decided_in, has_voted, prepared_by, prepared_in, settled_at, settled_by, settled_in, settlement_in, voted_by}
 use Rattle.tp_machine.specs.Machine.{State, acts, log_with, server_fact, server_move}
 use Rattle.tp_machine.specs.Sound.{Each, IsServer}
-use Rattle.tp_machine.specs.coord.Opened.{servers_at}
-use Rattle.tp_machine.specs.coord.Row.{is_begun}
+use Rattle.tp_coord.specs.Opened.{servers_at}
+use Rattle.tp_coord.specs.Row.{is_begun}
 use Rattle.tp_machine.proofs.basics.Rounds.{is_in, missing_in}
 use Rattle.tp_machine.specs.declared.actors.Actors.{Actors}
-use Rattle.tp_machine.specs.coord.State.{Coordinator}
-use Rattle.tp_machine.specs.declared.coord.Phase.TheVariants as phase
-use Rattle.tp_machine.specs.declared.coord.Phase.{Phase}
+use Rattle.tp_coord.specs.State.{Coordinator}
+use Rattle.tp_coord.specs.declared.coordinator.Phase.TheVariants as phase
+use Rattle.tp_coord.specs.declared.coordinator.Phase.{Phase}
 use Rattle.tp_machine.specs.Parts.{Part}
 use Rattle.tp_machine.specs.server.State.{Server}
 use Rattle.tp_machine.proofs.agreement.Coordinator.{DecisionRests, PhaseAgrees, PhaseRests, decided_begun}
+use Rattle.tp_machine.proofs.agreement.Known.{KnowsTold}
 use Rattle.tp_machine.proofs.agreement.Logs.{DecidedAs, IsAsked, IsPrepared, IsServed, IsSettled, LogPrepared, LogServed, LogsStay, Settles, WasSubmitted, logs_same, once, outcome_settled, part_stays, prepared_kept, prepared_open, prepared_voted, settled_outcome, settled_stays, settles_is, submitted_count, submitted_up}
 use Rattle.tp_machine.proofs.agreement.Server.{LetterKept, RecordRests, ReplyKept, ServerAgrees, SettlementRests, VoteKept}
 use Rattle.tp_machine.proofs.agreement.World.{Agrees, BodyRests, CoordinatorPartAgrees, CoordinatorUpAgrees, CoordinatorsAgree, Follows, LetterRests, MoveAgrees, ServerPartAgrees, SettledRests, VoteRests, WhatFollows}
@@ -144,6 +145,7 @@ unmoved_agrees sc w happened letters h o r =
 -- what a server's act leaves and says: its state, where it is up after it, what it forced if anything, what the step says by itself, and letters
 pub record ServerActs (sc : Scenario) (w : State) (at : ServerId) (kept : List Record) (now : Option Server) (own : List What) (append : Option Record) (letters : List Letter) : Type 0 where
   pub state : IfSome now (λ (s : Server). ServerAgrees s (log_with kept append))
+  pub knows : IfSome now (KnowsTold sc at (log_with kept append))
   pub rests : IfSome append (RecordRests (DecidedAs w.actors.coordinators) (IsAsked sc w.actors.coordinators at) kept)
   pub own_says : SaysOnly sc w.facts own
   pub replies : Each (LetterKept at (log_with kept append)) letters
@@ -459,6 +461,7 @@ server_acts_agrees sc w at part now own append letters h found l =
       servers = at_set (λ (n : ℕ) (p : Part Server). ServerPartAgrees sc w.actors.coordinators (record { 0 = n }) p) w.actors.servers at.0 next h.servers
           (record {
             state = l.state;
+            knows = l.knows;
             settled = λ txn s e. settled_after sc w at part append txn (settled_in txn part.log) s h found (here.settled txn) l.rests (sym (settled_with txn part.log append) ∙ e);
           });
       letters = letters_rest sc w at part next letters found l.replies;

@@ -16,6 +16,7 @@ use Rattle.tp_model.specs.Words.what
 use Rattle.tp_model.specs.Words.{Actor, AdminId, Body, CredId, Decision, Mail, Outcome, Record, Scenario, ServerId, Settled, Step, TxnId, Version, Vote, What}
 use Rattle.tp_machine.proofs.agreement.Coordinator.{CoordinatorLawful, Keeps, ReplyRests, SubmissionLawful, YesRests, coordinator_row_lawful, submit_row_lawful}
 use Rattle.tp_machine.proofs.agreement.CoordinatorActs.{coordinator_acts_agrees, receipt_acts, submission_acts}
+use Rattle.tp_machine.proofs.agreement.Known.{KnowsTold, learns_knows, opening_knows, row_learns}
 use Rattle.tp_machine.proofs.agreement.Logs.{DecidedAs, IsAsked, IsPrepared, IsSettled, outcome_settled, submitted_count, submitted_up}
 use Rattle.tp_machine.proofs.agreement.Server.{IsUnsettled, LetterKept, RefusalsAbort, RequestRests, ServerAgrees, ServerLawful, cast_in, server_row_lawful}
 use Rattle.tp_machine.proofs.agreement.ServerActs.{SaysOnly, server_acts_agrees, unmoved_agrees}
@@ -30,9 +31,9 @@ use Rattle.tp_machine.specs.Logs.{decided_at, decided_by, decided_in, settled_by
 use Rattle.tp_machine.specs.Machine.{Machine, State, acts_by, coordinator_fact, coordinator_move, idle_move, is_part_submitted, log_with, machine_after, opened_actors, opened_part, opening_state, refusal, server_fact, server_move, with_age}
 use Rattle.tp_machine.specs.Parts.{Part}
 use Rattle.tp_machine.specs.Sound.{Each, EachAt, IsSound, IsSoundBody, IsSoundCoordinatorUp, IsSoundLetter, IsSoundMail, IsSoundServerUp, IsStepOf, IsTxn}
-use Rattle.tp_machine.specs.coord.Opened as coord
-use Rattle.tp_machine.specs.coord.Row.{coordinator_row, submit_row}
-use Rattle.tp_machine.specs.coord.State.{Coordinator}
+use Rattle.tp_coord.specs.Opened as coord
+use Rattle.tp_coord.specs.Row.{coordinator_row, submit_row}
+use Rattle.tp_coord.specs.State.{Coordinator}
 use Rattle.tp_machine.specs.declared.actors.Actors.{Actors}
 use Rattle.tp_machine.specs.server.Opened as server
 use Rattle.tp_machine.specs.server.Row.{server_row}
@@ -101,6 +102,10 @@ own_txn sc w txn part c sound found up = (subst (λ (u : Option Coordinator). If
 pub server_agrees : (sc : Scenario) (w : State) (at : ServerId) (part : Part Server) (s : Server) → Agrees sc w → IsServerUp w at part s → ServerAgrees s part.log
 server_agrees sc w at part s h up = subst (λ (u : Option Server). IfSome u (λ (t : Server). ServerAgrees t part.log)) up.up (h.servers at.0 part up.found).state
 
+-- and knows no less than it tells
+server_knows : (sc : Scenario) (w : State) (at : ServerId) (part : Part Server) (s : Server) → Agrees sc w → IsServerUp w at part s → KnowsTold sc at part.log s
+server_knows sc w at part s h up = subst (λ (u : Option Server). IfSome u (KnowsTold sc at part.log)) up.up (h.servers at.0 part up.found).knows
+
 pub coordinator_agrees : (sc : Scenario) (w : State) (txn : TxnId) (part : Part Coordinator) (c : Coordinator) → Agrees sc w → IsCoordinatorUp w txn part c
     → Keeps sc (IsPrepared w.actors.servers txn) (IsSettled w.actors.servers txn) c part.log
 coordinator_agrees sc w txn part c h up =
@@ -136,9 +141,12 @@ mail_sound sc w n mail to sound sent =
     let letter : IsSoundLetter sc mail.letter = each_get (IsSoundMail sc) w.mails n mail sound.mails_are sent.sent in
     subst (λ (t : Actor). IsSoundBody sc t mail.letter.body) sent.goes_to letter.says
 
--- the state of a server that is up is its own
+-- the state of a server that is up is sound, and its own
+server_sound : (sc : Scenario) (w : State) (at : ServerId) (part : Part Server) (s : Server) → IsSound sc w → slice_get w.actors.servers at.0 ≡ Some part → part.up ≡ Some s → IsSoundServerUp sc at s
+server_sound sc w at part s sound found up = subst (λ (u : Option Server). IfSome u (IsSoundServerUp sc at)) up (sound.actors_are.servers at.0 part found).state
+
 pub own_server : (sc : Scenario) (w : State) (at : ServerId) (part : Part Server) (s : Server) → IsSound sc w → slice_get w.actors.servers at.0 ≡ Some part → part.up ≡ Some s → s.server ≡ at
-own_server sc w at part s sound found up = (subst (λ (u : Option Server). IfSome u (IsSoundServerUp sc at)) up (sound.actors_are.servers at.0 part found).state).server_is
+own_server sc w at part s sound found up = (server_sound sc w at part s sound found up).server_is
 
 -- the authority's answers rest on nothing
 tells_rest : (sc : Scenario) (actors : Actors) (authority : Authority) (said : Body) → Each (LetterRests sc actors) (office.on_body authority said).reaction.letters
@@ -213,6 +221,7 @@ receipt_by_server sc w sound h n mail at part s sent up =
     server_acts_agrees sc w at part (Some effect.state) [] effect.reaction.append effect.reaction.letters h up.found
     (record {
       state = l.agrees;
+      knows = learns_knows sc at s part.log effect (server_sound sc w at part s sound up.found up.up).sound.known (server_knows sc w at part s h up) (row_learns sc s mail);
       rests = l.rests;
       own_says = silent_says sc w;
       replies = subst (λ (x : ServerId). Each (LetterKept x (log_with part.log effect.reaction.append)) effect.reaction.letters) (own_server sc w at part s sound up.found up.up) l.replies;
@@ -276,8 +285,9 @@ record IsIdlePart (sc : Scenario) (servers : List (Part Server)) (part : Part Co
   pub empty : part.log ≡ []
   pub unsubmitted : submitted_up part.up ≡ 0
 
-record IsOpenedPart (part : Part Server) : Type 0 where
+record IsOpenedPart (sc : Scenario) (at : ServerId) (part : Part Server) : Type 0 where
   pub agrees : IfSome part.up (λ (s : Server). ServerAgrees s part.log)
+  pub knows : IfSome part.up (KnowsTold sc at part.log)
   pub empty : part.log ≡ []
 
 -- the world before the first step agrees
@@ -288,16 +298,18 @@ agrees_opening sc =
     let idle : EachAt (λ (n : ℕ) (part : Part Coordinator). IsIdlePart sc servers part) coordinators =
     λ n part e. at_made (λ (k : ℕ) (found : Part Coordinator). IsIdlePart sc servers found) (λ (k : ℕ). opened_part (coord.idle sc (record { 0 = k }))) 0 (length sc.txns)
     (λ k within. record { state = λ txn. record { agrees = record { decided = refl; servers = refl; awaited = tt }; replied = tt }; empty = refl; unsubmitted = refl }) n part e in
-    let open_ones : EachAt (λ (n : ℕ) (part : Part Server). IsOpenedPart part) servers =
-    λ n part e. at_made (λ (k : ℕ) (found : Part Server). IsOpenedPart found) (λ (k : ℕ). opened_part (server.opening sc (record { 0 = k }))) 0 (length sc.servers)
+    let open_ones : EachAt (λ (n : ℕ) (part : Part Server). IsOpenedPart sc (record { 0 = n }) part) servers =
+    λ n part e. subst (λ (k : ℕ). IsOpenedPart sc (record { 0 = k }) part) (omega arith)
+    (at_made (λ (k : ℕ) (found : Part Server). IsOpenedPart sc (record { 0 = k }) found) (λ (k : ℕ). opened_part (server.opening sc (record { 0 = k }))) 0 (length sc.servers)
     (λ k within. record {
       agrees = record {
         settled = λ txn. unset_at (length sc.txns) txn.0;
         unsettled = placed_none (IsUnsettled []) (length sc.txns);
         prepared = λ txn. sym (ap (option_and_then cast_in) (unset_at (length sc.txns) txn.0));
       };
+      knows = opening_knows sc (record { 0 = k });
       empty = refl;
-    }) n part e in
+    }) n part e) in
     record {
       past = tt;
       coordinator_count = length-map-range_with_len (λ (n : ℕ). opened_part (coord.idle sc (record { 0 = n }))) 0 (length sc.txns);
@@ -308,6 +320,7 @@ agrees_opening sc =
       };
       servers = λ n part e. record {
         state = (open_ones n part e).agrees;
+        knows = (open_ones n part e).knows;
         settled = λ txn s f. absurd (none_settled (settled_in txn part.log) s (ap (settled_in txn) (open_ones n part e).empty) f);
       };
       mails = tt;

@@ -14,12 +14,13 @@ use Rattle.tp_model.specs.Facts.{before, is_decided_as, is_submission}
 use Rattle.tp_machine.specs.Logs.{decided_at, decided_in, settled_at, settled_in}
 use Rattle.tp_machine.specs.Machine.{Move, State, facts_of, mails_of, state_after}
 use Rattle.tp_machine.specs.Sound.{Each, EachAt}
-use Rattle.tp_machine.specs.coord.Opened.{servers_at}
+use Rattle.tp_coord.specs.Opened.{servers_at}
 use Rattle.tp_machine.specs.declared.actors.Actors.{Actors}
-use Rattle.tp_machine.specs.coord.State.{Coordinator}
+use Rattle.tp_coord.specs.State.{Coordinator}
 use Rattle.tp_machine.specs.Parts.{Part}
 use Rattle.tp_machine.specs.server.State.{Server}
 use Rattle.tp_machine.proofs.agreement.Coordinator.{CoordinatorAgrees, DecisionRests, PhaseRests}
+use Rattle.tp_machine.proofs.agreement.Known.{KnowsTold}
 use Rattle.tp_machine.proofs.agreement.Logs.{DecidedAs, HasVoted, IsAsked, IsPrepared, IsServed, IsSettled, LogsStay, decided_stays, settled_outcome, settled_stays, submitted_count, undecided_before}
 use Rattle.tp_machine.proofs.agreement.Server.{ServerAgrees}
 use Rattle.tp_machine.proofs.basics.Facts.{ArePast, Grows, before_past, decided_what, decisions, grows_with_facts, new_facts_past, past_as, said, said_with_facts, settled_what, settlements, submissions, submitted_what}
@@ -50,9 +51,10 @@ pub record SettledRests (sc : Scenario) (coordinators : List (Part Coordinator))
   pub commit : settled.outcome ≡ outcome.Commit → (settled.why ≡ None) × DecidedAs coordinators txn outcome.Commit
   pub abort : settled.outcome ≡ outcome.Abort → DecidedAs coordinators txn outcome.Commit → ⊥
 
--- a server that is up agrees with its log, and its log with the coordinators'
+-- a server that is up agrees with its log, and knows no less than it tells; and its log agrees with the coordinators'
 pub record ServerPartAgrees (sc : Scenario) (coordinators : List (Part Coordinator)) (at : ServerId) (part : Part Server) : Type 0 where
   pub state : IfSome part.up (λ (s : Server). ServerAgrees s part.log)
+  pub knows : IfSome part.up (KnowsTold sc at part.log)
   pub settled : (txn : TxnId) (settled : Settled) → settled_in txn part.log ≡ Some settled → SettledRests sc coordinators at txn settled
 
 -- a request of a transaction that was submitted goes to a server with an item of it

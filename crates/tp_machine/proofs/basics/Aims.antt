@@ -63,9 +63,10 @@ each_admin P (verdict ∷ proofs) admins h k = each_admin P proofs (with_admin a
 -- each proof is one of its administrator's
 each_own : (proofs whole : List Verdict) → ((admin : AdminId) → list_any (is_of admin) proofs ≡ true → list_any (is_of admin) whole ≡ true) → Each (λ (verdict : Verdict). list_any (is_of verdict.admin) whole ≡ true) proofs
 each_own [] whole into = tt
-each_own (verdict ∷ proofs) whole into =
-    (into verdict.admin (or_left (is_of verdict.admin verdict) (list_any (is_of verdict.admin) proofs) (number_itself verdict.admin.0)),
-    each_own proofs whole (λ admin e. into admin (or_right (is_of admin verdict) (list_any (is_of admin) proofs) e)))
+each_own (verdict ∷ proofs) whole into = (
+  into verdict.admin (or_left (is_of verdict.admin verdict) (list_any (is_of verdict.admin) proofs) (number_itself verdict.admin.0)),
+  each_own proofs whole (λ admin e. into admin (or_right (is_of admin verdict) (list_any (is_of admin) proofs) e)),
+)
 
 -- ---- what is aimed at and wanted
 
@@ -95,9 +96,10 @@ is_within aim wanted = list_any (λ (aimed : AdminId × Version). same_admin aim
 
 all_within : (aim whole : List (AdminId × Version)) → ((wanted : AdminId × Version) → is_within aim wanted ≡ true → is_within whole wanted ≡ true) → Each (λ (wanted : AdminId × Version). is_within whole wanted ≡ true) aim
 all_within [] whole into = tt
-all_within (first ∷ others) whole into =
-    (into first (or_left (same_admin first.0 first.0 && (first.1.0 == first.1.0)) (is_within others first) (and_from (same_admin first.0 first.0) (first.1.0 == first.1.0) (number_itself first.0.0) (number_itself first.1.0))),
-    all_within others whole (λ wanted e. into wanted (or_right (same_admin first.0 wanted.0 && (first.1.0 == wanted.1.0)) (is_within others wanted) e)))
+all_within (first ∷ others) whole into = (
+  into first (or_left (same_admin first.0 first.0 && (first.1.0 == first.1.0)) (is_within others first) (and_from (same_admin first.0 first.0) (first.1.0 == first.1.0) (number_itself first.0.0) (number_itself first.1.0))),
+  all_within others whole (λ wanted e. into wanted (or_right (same_admin first.0 wanted.0 && (first.1.0 == wanted.1.0)) (is_within others wanted) e)),
+)
 
 -- what is wanted of a server is within what is aimed at
 pub wants_within : (aim : List (AdminId × Version)) (targets : List Target) → Each (λ (named : Wanted). Each (λ (wanted : AdminId × Version). is_within aim wanted ≡ true) named.want) (wants_of aim targets)

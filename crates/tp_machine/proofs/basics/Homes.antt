@@ -5,8 +5,8 @@ use Rattle.tp_model.specs.Queries.{item_of, query_at}
 use Rattle.tp_model.specs.Words.{Item, Query, Scenario, ServerId, Transaction}
 use Rattle.tp_machine.proofs.basics.Lists.{each_get, missing}
 use Rattle.tp_machine.specs.Sound.{Each}
-use Rattle.tp_machine.specs.coord.Row.{begins, home_of, is_begun, next_number, query_of, server_of, submit_row}
-use Rattle.tp_machine.specs.coord.State.{Coordinator}
+use Rattle.tp_coord.specs.Row.{begins, home_of, is_begun, next_number, query_of, server_of, submit_row}
+use Rattle.tp_coord.specs.State.{Coordinator}
 
 -- of each transaction the items of queries exist, and there are from one to 16
 pub record HaveHomes (sc : Scenario) : Type 0 where

@@ -1,14 +1,14 @@
 -- Laws of what logs say as they grow, and of look-ups in lists of which one member changes.
 use Rattle.std.specs.Option.{option_map_or}
-use Rattle.std.proofs.Common.{Bool, IfSome, List, None, Option, Some, [], ap, arith, drop, false, flat_map, if◌then◌else◌, is_some, length, option_and_then, refl, slice_get, slice_set, subst, suc, sym, true, zero, ℕ, ◌++◌, ◌==◌, ◌∙◌, ◌∷◌, ◌≡◌}
+use Rattle.std.proofs.Common.{Bool, IfSome, List, max, None, Option, Some, [], ap, arith, drop, false, flat_map, if◌then◌else◌, is_some, length, option_and_then, refl, slice_get, slice_set, subst, suc, sym, true, zero, ℕ, ◌++◌, ◌==◌, ◌∙◌, ◌∷◌, ◌≡◌}
 use Rattle.std.proofs.lemmas.Bool.Decides.{nat_tests}
 use Rattle.std.proofs.lemmas.Option.{same_Some}
 use Rattle.std.proofs.lemmas.List.{append-nil}
 use Rattle.tp_model.specs.Facts.{first_of}
 use Rattle.tp_model.specs.Ids.{same_txn}
-use Rattle.tp_model.specs.Words.{Prepared, Record, Settled, TxnId, What}
+use Rattle.tp_model.specs.Words.{AdminId, Prepared, Record, Settled, TxnId, What}
 use Rattle.tp_model.specs.Words.log
-use Rattle.tp_machine.specs.Logs.{decided_in, decision_in, has_voted, is_prepared_or_settled, preparation_in, prepared_in, settled_in, settlement_in, voted_in, while_unsettled}
+use Rattle.tp_machine.specs.Logs.{decided_in, decision_in, has_voted, is_prepared_or_settled, known_in, preparation_in, prepared_in, settled_in, settlement_in, told_in, voted_in, while_unsettled}
 use Rattle.tp_machine.specs.Machine.{log_with}
 use Rattle.tp_machine.proofs.basics.Ids.{same_txn_is}
 
@@ -154,6 +154,35 @@ pub voted_open : (settled : Option Settled) (voted : Option Prepared) → settle
 voted_open (Some s) voted e h = absurd (cc)
 voted_open None None e h = absurd (cc)
 voted_open None (Some p) e h = refl
+
+-- ---- what is told of versions
+
+-- what is told of an administrator by a record, if there is one
+abbrev pub told_by : AdminId → Option Record → ℕ
+told_by admin append = option_map_or (told_in admin) append 0
+
+max_none : (n : ℕ) → max n 0 ≡ n
+max_none n = omega arith
+
+max_both : (n m : ℕ) → max n m ≡ max m n
+max_both n m = omega arith
+
+max_three : (n m k : ℕ) → max n (max m k) ≡ max (max n m) k
+max_three n m k = omega arith
+
+known_push : (first : ℕ) (admin : AdminId) (kept : List Record) (forced : Record) → known_in first admin (kept ++ forced ∷ []) ≡ max (known_in first admin kept) (told_in admin forced)
+known_push first admin [] forced = max_both (told_in admin forced) first
+known_push first admin (earliest ∷ kept) forced =
+    ap (max (told_in admin earliest)) (known_push first admin kept forced) ∙ max_three (told_in admin earliest) (known_in first admin kept) (told_in admin forced)
+
+-- a record raises what is known to the greater of it and what the record tells
+pub known_with : (first : ℕ) (admin : AdminId) (kept : List Record) (append : Option Record) → known_in first admin (log_with kept append) ≡ max (known_in first admin kept) (told_by admin append)
+known_with first admin kept None = sym (max_none (known_in first admin kept))
+known_with first admin kept (Some forced) = known_push first admin kept forced
+
+-- a record that tells nothing of the administrator leaves it
+pub known_still : (first : ℕ) (admin : AdminId) (kept : List Record) (append : Option Record) → told_by admin append ≡ 0 → known_in first admin (log_with kept append) ≡ known_in first admin kept
+known_still first admin kept append none = known_with first admin kept append ∙ (ap (max (known_in first admin kept)) none ∙ max_none (known_in first admin kept))
 
 -- ---- what a log gained
 

@@ -2,7 +2,7 @@
 use Rattle.std.proofs.Common.{◌≡◌, ℕ, ◌+◌, ◌++◌, [], ◌∷◌, arith}
 use Rattle.std.proofs.lemmas.List.FromFn.{map-range_with_len_more}
 use Rattle.tp_model.specs.Words.{Scenario}
-use Rattle.tp_machine.specs.coord.Opened as coord
+use Rattle.tp_coord.specs.Opened as coord
 use Rattle.tp_machine.specs.server.Opened as server
 use Rattle.tp_machine.specs.Machine.{opened_part, opened_servers, idle_coordinators}
 

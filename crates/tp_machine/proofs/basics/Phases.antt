@@ -9,10 +9,10 @@ use Rattle.tp_model.specs.Agreement.{has_item, has_item_at}
 use Rattle.tp_model.specs.Queries.{is_at_server, item_of, query_at}
 use Rattle.tp_model.specs.Words.{DoneReply, Item, Query, Scenario, ServerId, Transaction, TxnId}
 use Rattle.tp_machine.specs.Sound.{query_in}
-use Rattle.tp_machine.specs.coord.Row.{awaits_query, is_plain, server_of}
-use Rattle.tp_machine.specs.coord.State.{Coordinator}
-use Rattle.tp_machine.specs.declared.coord.Phase.TheVariants as phase
-use Rattle.tp_machine.specs.declared.coord.Phase.{Phase}
+use Rattle.tp_coord.specs.Row.{awaits_query, is_plain, server_of}
+use Rattle.tp_coord.specs.State.{Coordinator}
+use Rattle.tp_coord.specs.declared.coordinator.Phase.TheVariants as phase
+use Rattle.tp_coord.specs.declared.coordinator.Phase.{Phase}
 
 -- a coordinator that is not ending has not decided
 abbrev pub is_undecided : Phase → Bool

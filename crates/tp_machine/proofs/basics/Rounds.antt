@@ -15,7 +15,7 @@ use Rattle.tp_round.specs.declared.round.Wanted.{Wanted}
 use Rattle.tp_machine.proofs.basics.Ids.{same_server_is}
 use Rattle.tp_machine.proofs.basics.Lists.{by_cond, each_append, each_filter}
 use Rattle.tp_machine.specs.Sound.{Each}
-use Rattle.tp_machine.specs.coord.Row.{server_in}
+use Rattle.tp_coord.specs.Row.{server_in}
 
 -- the server is one of these
 abbrev pub is_in : List ServerId → ServerId → Bool

@@ -8,7 +8,7 @@ use Rattle.tp_model.specs.Words.{Query, Scenario, ServerId, Transaction, TxnId}
 use Rattle.tp_model.specs.Agreement.{has_item, has_item_at}
 use Rattle.tp_model.specs.Queries.{is_at_server, servers_from, servers_of}
 use Rattle.tp_machine.specs.Sound.{Each, IsServer}
-use Rattle.tp_machine.specs.coord.Opened.{servers_at}
+use Rattle.tp_coord.specs.Opened.{servers_at}
 
 split_cond : {A : Type 0} (P : A → Type 0) (b : Bool) (x : A) (xs : List A) → Each P (if b then x ∷ xs else xs) → Each P xs × (b ≡ true → P x)
 split_cond P true x xs h = (h.1, λ e. h.0)

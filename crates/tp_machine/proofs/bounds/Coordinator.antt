@@ -15,14 +15,14 @@ use Rattle.tp_machine.proofs.ids.Valid.{IsValid}
 use Rattle.tp_machine.proofs.walks.CoordinatorRows.{IsRanAnswer, coordinator_by, submit_by}
 use Rattle.tp_machine.specs.Bounded.{AreBoundedDeeds, IsBounded, IsBoundedAnswer, IsBoundedBody, IsBoundedDeed, IsBoundedRecord, IsBoundedVote}
 use Rattle.tp_machine.specs.Machine.{with_age}
-use Rattle.tp_machine.specs.Runs.{deed_of}
+use Rattle.tp_model.specs.Deeds.{deed_of}
 use Rattle.tp_machine.specs.Sound.{Each}
-use Rattle.tp_machine.specs.Sums.{asked_value}
-use Rattle.tp_machine.specs.coord.Row as coord
-use Rattle.tp_machine.specs.coord.Row.{is_begun, next_number}
-use Rattle.tp_machine.specs.coord.State.{Coordinator}
-use Rattle.tp_machine.specs.declared.coord.Phase.TheVariants as phase
-use Rattle.tp_machine.specs.declared.coord.Phase.{Phase}
+use Rattle.tp_coord.specs.Sums.{asked_value}
+use Rattle.tp_coord.specs.Row as coord
+use Rattle.tp_coord.specs.Row.{is_begun, next_number}
+use Rattle.tp_coord.specs.State.{Coordinator}
+use Rattle.tp_coord.specs.declared.coordinator.Phase.TheVariants as phase
+use Rattle.tp_coord.specs.declared.coordinator.Phase.{Phase}
 use Rattle.tp_round.specs.declared.round.Round.{Round}
 
 -- ---- what is kept

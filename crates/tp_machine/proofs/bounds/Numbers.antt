@@ -20,7 +20,7 @@ use Rattle.tp_machine.proofs.serial_data.Ranges.{store_within}
 use Rattle.tp_machine.proofs.serial_data.Reads.{valid_queries}
 use Rattle.tp_machine.specs.Bounded.{AreBoundedDeeds, AreExact, IsAtMost, IsBounded, bound_of}
 use Rattle.tp_machine.specs.Sound.{Each}
-use Rattle.tp_machine.specs.Sums.{asked_value, clamped_sum, registers_after, registers_from, registers_with, sum_asked}
+use Rattle.tp_coord.specs.Sums.{asked_value, clamped_sum, registers_after, registers_from, registers_with, sum_asked}
 
 -- ---- bounds
 

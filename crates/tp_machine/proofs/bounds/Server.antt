@@ -16,7 +16,7 @@ use Rattle.tp_machine.proofs.serial_data.Rows.{IsRunAt, QueryRises, RequestClear
 use Rattle.tp_machine.proofs.serial_data.Tentative.{last_upto}
 use Rattle.tp_machine.proofs.walks.ServerRows.{IsFirstHere, IsFurther, IsGranted, server_by}
 use Rattle.tp_machine.specs.Bounded.{IsAtMost, IsBounded, IsBoundedBody, IsBoundedDeed, IsBoundedDone, IsBoundedEntry, IsBoundedNo, IsBoundedQuery, IsBoundedRecord, IsBoundedSettled, IsBoundedWrite}
-use Rattle.tp_machine.specs.Runs.{deed_of}
+use Rattle.tp_model.specs.Deeds.{deed_of}
 use Rattle.tp_machine.specs.Sound.{Each, EachPlaced}
 use Rattle.tp_machine.specs.declared.server.Entry.{Entry}
 use Rattle.tp_machine.specs.server.Row.{completes, done_reply, ends, entry_after, server_row, value_of_run}

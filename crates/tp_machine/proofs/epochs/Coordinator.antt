@@ -14,11 +14,11 @@ use Rattle.tp_machine.proofs.epochs.Server.{IsPlainLetter, LetterFirst, LetterTo
 use Rattle.tp_machine.proofs.walks.CoordinatorRows.{coordinator_by, submit_by}
 use Rattle.tp_machine.specs.Machine.{with_age}
 use Rattle.tp_machine.specs.Sound.{Each}
-use Rattle.tp_machine.specs.coord.Opened.{servers_at}
-use Rattle.tp_machine.specs.coord.Row as coord
-use Rattle.tp_machine.specs.coord.State.{Coordinator}
-use Rattle.tp_machine.specs.declared.coord.Phase.TheVariants as phase
-use Rattle.tp_machine.specs.declared.coord.Phase.{Phase}
+use Rattle.tp_coord.specs.Opened.{servers_at}
+use Rattle.tp_coord.specs.Row as coord
+use Rattle.tp_coord.specs.State.{Coordinator}
+use Rattle.tp_coord.specs.declared.coordinator.Phase.TheVariants as phase
+use Rattle.tp_coord.specs.declared.coordinator.Phase.{Phase}
 use Rattle.tp_machine.proofs.basics.Rounds.{EachServer, each_missing, each_renewed, each_replied, missing_in, updated_is}
 use Rattle.tp_round.specs.Judge.{after_judgement, after_reply, aim_in, judge}
 use Rattle.tp_round.specs.Replies.{by_query, proofs_in}

@@ -23,11 +23,11 @@ use Rattle.tp_machine.proofs.epochs.Asked.{Asking, IsKeptNaming, NamesKept, Name
 use Rattle.tp_machine.proofs.epochs.Server.{BodyTold, DoneMade, IsPlainLetter, LettersEpochs, has_restarted, plain_letters, plain_names_none, plain_names_own}
 use Rattle.tp_machine.proofs.walks.CoordinatorRows.{IsRanAnswer}
 use Rattle.tp_machine.specs.Sound.{Each, EachPlaced, IsActor, query_in}
-use Rattle.tp_machine.specs.coord.Opened.{servers_at}
-use Rattle.tp_machine.specs.coord.Row as coord
-use Rattle.tp_machine.specs.coord.State.{Coordinator}
-use Rattle.tp_machine.specs.declared.coord.Phase.TheVariants as phase
-use Rattle.tp_machine.specs.declared.coord.Phase.{Phase}
+use Rattle.tp_coord.specs.Opened.{servers_at}
+use Rattle.tp_coord.specs.Row as coord
+use Rattle.tp_coord.specs.State.{Coordinator}
+use Rattle.tp_coord.specs.declared.coordinator.Phase.TheVariants as phase
+use Rattle.tp_coord.specs.declared.coordinator.Phase.{Phase}
 
 -- ---- what is kept
 

@@ -19,9 +19,9 @@ use Rattle.tp_machine.proofs.ids.Valid.{IsValid, less}
 use Rattle.tp_machine.specs.Machine.{PartMove, acts_by, coordinator_fact, log_with, opened_part, server_fact, with_age}
 use Rattle.tp_machine.specs.Parts.{Part}
 use Rattle.tp_machine.specs.Sound.{AreCreds, AreVersions, Each, IsActor, IsAdmin, IsCred, IsServer, IsSettledOf, IsSoundAuthority, IsSoundBody, IsSoundCoordinatorPart, IsSoundCoordinatorRecord, IsSoundCoordinatorUp, IsSoundDecision, IsSoundEntry, IsSoundLetter, IsSoundMaster, IsSoundRefusal, IsSoundServerPart, IsSoundServerRecord, IsSoundServerUp, IsSoundWhat, IsTxn, IsVersion, IsVersionOf, IsWriteOf}
-use Rattle.tp_machine.specs.coord.Opened as coord
-use Rattle.tp_machine.specs.coord.Row.{coordinator_row, submit_row}
-use Rattle.tp_machine.specs.coord.State.{Coordinator}
+use Rattle.tp_coord.specs.Opened as coord
+use Rattle.tp_coord.specs.Row.{coordinator_row, submit_row}
+use Rattle.tp_coord.specs.State.{Coordinator}
 use Rattle.tp_machine.specs.declared.server.Entry.{Entry}
 use Rattle.tp_machine.specs.server.Opened as server
 use Rattle.tp_machine.specs.server.Row.{server_row}

@@ -14,13 +14,13 @@ use Rattle.tp_machine.proofs.basics.Homes.{IsHome, home_is}
 use Rattle.tp_machine.proofs.basics.Lists.{by_cond, each_append, each_as, each_filter, each_flat_map, each_found, each_get, each_map, each_more, each_passing}
 use Rattle.tp_machine.proofs.ids.Valid.{IsValid, IsValidItem}
 use Rattle.tp_machine.proofs.walks.CoordinatorRows.{IsNo, IsYes, coordinator_by, submit_by}
-use Rattle.tp_machine.specs.Runs.{deed_of}
+use Rattle.tp_model.specs.Deeds.{deed_of}
 use Rattle.tp_machine.specs.Sound.{AreSoundVerdicts, AreWanted, Each, HasValue, IsActor, IsItemOf, IsRefusalOf, IsServer, IsSoundBallot, IsSoundBody, IsSoundCause, IsSoundCoordinator, IsSoundCoordinatorRecord, IsSoundDeed, IsSoundInstance, IsSoundLetter, IsSoundPhase, IsSoundProof, IsSoundQuery, IsSoundMet, IsSoundRefusal, IsSoundRound, IsSoundStaple, IsSoundTarget, IsSoundVerdict, IsSoundWanted, IsVersion, ProvesEach, proves_each, query_in}
-use Rattle.tp_machine.specs.Sums.{asked_value, registers_after, sum_asked}
-use Rattle.tp_machine.specs.coord.Row.{aborts, asks, commit_round, commits, coordinator_row, coordinator_with_age, denied_by, instances_with, next_number, next_turn, prepare_letter, prepares, query_of, query_request, refused_by, request, sends_query, staple_of, submit_row, value_of, with_deed, without}
-use Rattle.tp_machine.specs.coord.State.{Coordinator}
-use Rattle.tp_machine.specs.declared.coord.Phase.TheVariants as phase
-use Rattle.tp_machine.specs.declared.coord.Phase.{Phase}
+use Rattle.tp_coord.specs.Sums.{asked_value, registers_after, sum_asked}
+use Rattle.tp_coord.specs.Row.{aborts, asks, commit_round, commits, coordinator_row, coordinator_with_age, denied_by, instances_with, next_number, next_turn, prepare_letter, prepares, query_of, query_request, refused_by, request, sends_query, staple_of, submit_row, value_of, with_deed, without}
+use Rattle.tp_coord.specs.State.{Coordinator}
+use Rattle.tp_coord.specs.declared.coordinator.Phase.TheVariants as phase
+use Rattle.tp_coord.specs.declared.coordinator.Phase.{Phase}
 use Rattle.tp_machine.proofs.basics.Aims.{IsOf, aim_has}
 use Rattle.tp_machine.proofs.basics.Rounds.{each_by_query, each_missing, missing_in, updated_is}
 use Rattle.tp_round.proofs.AgainLemmas.{updated}

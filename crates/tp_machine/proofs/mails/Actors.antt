@@ -11,14 +11,14 @@ use Rattle.tp_round.specs.declared.round.Round.{Round}
 use Rattle.tp_round.specs.declared.round.Target.{Target}
 use Rattle.tp_round.specs.declared.round.Wanted.{Wanted}
 use Rattle.tp_machine.proofs.basics.Rounds.{missing_in, updated_is}
-use Rattle.tp_machine.specs.declared.coord.Phase.TheVariants as phase
+use Rattle.tp_coord.specs.declared.coordinator.Phase.TheVariants as phase
 use Rattle.tp_machine.proofs.basics.Lists.{by_cond}
 use Rattle.tp_machine.proofs.walks.CoordinatorRows.{coordinator_by, submit_by}
 use Rattle.tp_machine.proofs.walks.ServerRows.{server_by}
 use Rattle.tp_machine.specs.Machine.{with_age}
-use Rattle.tp_machine.specs.coord.Row as coord
-use Rattle.tp_machine.specs.coord.State.{Coordinator}
-use Rattle.tp_machine.specs.declared.coord.Phase.{Phase}
+use Rattle.tp_coord.specs.Row as coord
+use Rattle.tp_coord.specs.State.{Coordinator}
+use Rattle.tp_coord.specs.declared.coordinator.Phase.{Phase}
 use Rattle.tp_machine.specs.server.Row as server
 use Rattle.tp_machine.specs.server.State.{Server}
 

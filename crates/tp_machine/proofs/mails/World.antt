@@ -18,8 +18,8 @@ use Rattle.tp_machine.proofs.walks.Steps.{Cases, IsCoordinatorUp, machine_after_
 use Rattle.tp_machine.specs.Machine.{Machine, Move, PartMove, State, after_step, after_steps, coordinator_move, machine_after, mails_of, opened_part, opening_state, refusal, state_after}
 use Rattle.tp_machine.specs.Parts.{Part}
 use Rattle.tp_machine.specs.Sound.{EachAt, IsStepOf}
-use Rattle.tp_machine.specs.coord.Opened.{idle, servers_at}
-use Rattle.tp_machine.specs.coord.State.{Coordinator}
+use Rattle.tp_coord.specs.Opened.{idle, servers_at}
+use Rattle.tp_coord.specs.State.{Coordinator}
 use Rattle.tp_machine.specs.declared.error.StepError.{StepError}
 use Rattle.tp_offices.specs.Authority as office
 use Rattle.tp_offices.specs.Master as master

@@ -12,10 +12,10 @@ use Rattle.tp_model.specs.Words.what
 use Rattle.tp_model.specs.Facts.{before, is_earlier}
 use Rattle.tp_model.specs.Outside.{IsOutside, is_outside, is_outside_what, rises_from, said_by, said_from, at_place}
 use Rattle.tp_model.specs.Versions.{is_publication, newest, opening_of}
-use Rattle.tp_machine.specs.coord.State.{Coordinator}
+use Rattle.tp_coord.specs.State.{Coordinator}
 use Rattle.tp_machine.specs.Parts.{Part}
 use Rattle.tp_machine.specs.Machine.{Machine, State, Move, state_after, coordinator_fact, machine_after, idle_move, publishes, facts_of, server_fact, log_with, refusal}
-use Rattle.tp_machine.specs.coord.Row.{coordinator_row, submit_row}
+use Rattle.tp_coord.specs.Row.{coordinator_row, submit_row}
 use Rattle.tp_machine.specs.server.Row.{server_row}
 use Rattle.tp_machine.proofs.agreement.CoordinatorActs.{coordinator_facts}
 use Rattle.tp_machine.proofs.agreement.ServerActs.{server_facts}

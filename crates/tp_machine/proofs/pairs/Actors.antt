@@ -12,10 +12,10 @@ use Rattle.tp_machine.proofs.pairs.Pair.{Asker, Asks, Pair, Prepares, Rests, Sta
 use Rattle.tp_machine.proofs.pairs.Site.{Site}
 use Rattle.tp_machine.specs.Logs.{epoch_by, prepared_by, settled_by}
 use Rattle.tp_machine.specs.Parts.{Part}
-use Rattle.tp_machine.specs.coord.State.{Coordinator}
+use Rattle.tp_coord.specs.State.{Coordinator}
 use Rattle.tp_machine.specs.declared.actors.Actors.{Actors}
-use Rattle.tp_machine.specs.declared.coord.Phase.TheVariants as phase
-use Rattle.tp_machine.specs.declared.coord.Phase.{Phase}
+use Rattle.tp_coord.specs.declared.coordinator.Phase.TheVariants as phase
+use Rattle.tp_coord.specs.declared.coordinator.Phase.{Phase}
 use Rattle.tp_machine.specs.declared.server.Entry.{Entry}
 use Rattle.tp_machine.specs.server.Row.{entry_at}
 use Rattle.tp_machine.specs.server.State.{Server}

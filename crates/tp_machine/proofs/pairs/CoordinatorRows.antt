@@ -35,14 +35,14 @@ use Rattle.tp_machine.proofs.serial_data.Runs.{deed_asked, deed_at}
 use Rattle.tp_machine.proofs.trust.Turns.{turn_rises}
 use Rattle.tp_machine.proofs.walks.CoordinatorRows.{IsRanAnswer, coordinator_by, submit_by}
 use Rattle.tp_machine.specs.Machine.{with_age}
-use Rattle.tp_machine.specs.Runs.{deed_of}
+use Rattle.tp_model.specs.Deeds.{deed_of}
 use Rattle.tp_machine.specs.Sound.{Each}
-use Rattle.tp_machine.specs.Sums.{asked_value}
-use Rattle.tp_machine.specs.coord.Row as coord
-use Rattle.tp_machine.specs.coord.Row.{awaits_query, next_number, next_turn, query_of, server_of}
-use Rattle.tp_machine.specs.coord.State.{Coordinator}
-use Rattle.tp_machine.specs.declared.coord.Phase.TheVariants as phase
-use Rattle.tp_machine.specs.declared.coord.Phase.{Phase}
+use Rattle.tp_coord.specs.Sums.{asked_value}
+use Rattle.tp_coord.specs.Row as coord
+use Rattle.tp_coord.specs.Row.{awaits_query, next_number, next_turn, query_of, server_of}
+use Rattle.tp_coord.specs.State.{Coordinator}
+use Rattle.tp_coord.specs.declared.coordinator.Phase.TheVariants as phase
+use Rattle.tp_coord.specs.declared.coordinator.Phase.{Phase}
 use Rattle.tp_machine.proofs.basics.Rounds.{EachServer, each_missing, missing_in}
 use Rattle.tp_round.specs.Judge.{after_judgement, after_reply}
 use Rattle.tp_round.specs.Replies.{by_query, proofs_in}

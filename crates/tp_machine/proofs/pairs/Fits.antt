@@ -1,6 +1,6 @@
 -- What holds of a transaction's deeds and epochs at a server in every state, and what each of its mails says of them.
 use Rattle.tp_machine.proofs.basics.Verdicts.{numbers_of}
-use Rattle.tp_machine.specs.Sums.{asked_value}
+use Rattle.tp_coord.specs.Sums.{asked_value}
 use Rattle.std.proofs.Common.{◌≡◌, ◌⊎◌, ℕ, ◌+◌, ◌<◌, ◌≤◌, List, [], ◌∷◌, ◌++◌, length, take, true, false, Option, Some, None, is_some, IfSome, Contains, option_map, ℤ}
 use Rattle.tp_model.specs.Authorisation.{is_own_query}
 use Rattle.tp_model.specs.Limits.{is_empty}
@@ -12,7 +12,7 @@ use Rattle.tp_model.specs.Words.vote
 use Rattle.tp_machine.specs.declared.server.Ballot.{Ballot}
 use Rattle.tp_machine.specs.declared.server.Entry.{Entry}
 use Rattle.tp_machine.specs.Sound.{Each}
-use Rattle.tp_machine.specs.Sums.{asked_value}
+use Rattle.tp_coord.specs.Sums.{asked_value}
 use Rattle.tp_machine.proofs.pairs.Lists.{answer_in}
 use Rattle.tp_machine.proofs.pairs.Pair.{Asker, Asks, Held, Pair, Prepares, got, held, numbers, prepared_held, voted_held}
 use Rattle.tp_machine.proofs.pairs.Site.{Site, count, here, upto}

@@ -1,5 +1,5 @@
 -- One state follows another, in which what was sent or kept before still fits. No event needs to look at it again.
-use Rattle.tp_machine.specs.Sums.{asked_value}
+use Rattle.tp_coord.specs.Sums.{asked_value}
 use Rattle.std.proofs.Common.{◌≡◌, inl, inr, ⊎_elim, ℕ, ◌+◌, ◌≤◌, ℤ, List, [], ◌++◌, length, take, Option, Some, None, IfSome, Contains, refl, sym, ap, subst, ◌∙◌, append_assoc, append-nil}
 use Rattle.std.proofs.lemmas.List.{take-append-le}
 use Rattle.std.proofs.lemmas.List.Elements.{Contains-append_left}
@@ -7,7 +7,7 @@ use Rattle.tp_model.specs.Words.{Answer, Deed, DoneReply, PrepareRequest, QueryR
 use Rattle.tp_model.specs.Words.answer
 use Rattle.tp_machine.specs.declared.server.Entry.{Entry}
 use Rattle.tp_machine.specs.Sound.{Each}
-use Rattle.tp_machine.specs.Sums.{asked_value}
+use Rattle.tp_coord.specs.Sums.{asked_value}
 use Rattle.tp_machine.proofs.basics.Lists.{each_as}
 use Rattle.tp_machine.proofs.pairs.Fits.{AnswerFits, Covers, DoneFits, EntryFits, Fits, IsAsked, Live, PrepareFits, PrepareLive, QueryFits, QueryLive, RanFits, RanLive, Tells, Waits}
 use Rattle.tp_machine.proofs.pairs.Grows.{Grows, covers_more, grows_both, loses_grows, tells_grown}

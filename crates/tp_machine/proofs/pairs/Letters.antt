@@ -1,9 +1,9 @@
 -- What is sent fits the state in which it is sent.
-use Rattle.tp_machine.specs.Sums.{asked_value}
+use Rattle.tp_coord.specs.Sums.{asked_value}
 use Rattle.std.proofs.Common.{◌≡◌, ⊎_elim, ℕ, ◌+◌, List, [], length, take, true, Option, Some, None, IfSome, Contains, refl, sym, ap, subst, ◌∙◌, arith, ◌⊎◌}
 use Rattle.std.proofs.lemmas.List.{take_all}
 use Rattle.tp_model.specs.Words.{Deed, DoneReply, PrepareRequest, QueryRequest}
-use Rattle.tp_machine.specs.Sums.{asked_value}
+use Rattle.tp_coord.specs.Sums.{asked_value}
 use Rattle.tp_machine.specs.declared.server.Entry.{Entry}
 use Rattle.tp_model.specs.Limits.{is_empty}
 use Rattle.tp_machine.proofs.pairs.Fits.{AskerFits, Covers, DoneFits, EntryFits, Fits, Matches, Names, OneMore, Pairing, PrepareFits, PrepareLive, QueryFits, QueryLive, Tells}

@@ -15,7 +15,7 @@ use Rattle.tp_machine.proofs.pairs.Loses.{same_held}
 use Rattle.tp_machine.proofs.pairs.Pair.{Asker, Held, Pair, entry_held, got, held, held_up, if_voted, numbers, numbers_more, voted_held}
 use Rattle.tp_machine.proofs.pairs.Site.{Site, here, in_upto, upto, upto_here, upto_in, upto_none, upto_same}
 use Rattle.tp_machine.proofs.serial_data.Runs.{deed_at}
-use Rattle.tp_machine.specs.Sums.{asked_value}
+use Rattle.tp_coord.specs.Sums.{asked_value}
 use Rattle.tp_machine.specs.declared.server.Entry.{Entry}
 
 -- ---- the numbers of an entry with a query that waits

@@ -39,9 +39,9 @@ use Rattle.tp_machine.proofs.serial_data.Runs.{deed_asked, deed_at}
 use Rattle.tp_machine.proofs.walks.ServerRows.{IsFirstHere, IsFurther, server_by}
 use Rattle.tp_machine.specs.Logs.{epoch_in, preparation_in, prepared_in, settled_in, settlement_in, voted_in, while_unsettled}
 use Rattle.tp_machine.specs.Machine.{log_with}
-use Rattle.tp_machine.specs.Runs.{deed_of}
+use Rattle.tp_model.specs.Deeds.{deed_of}
 use Rattle.tp_machine.specs.Sound.{Each, IsSoundBody, IsSoundDone, IsSoundQuery, IsSoundServer}
-use Rattle.tp_machine.specs.Sums.{clamped_sum, registers_after, sum_asked}
+use Rattle.tp_coord.specs.Sums.{clamped_sum, registers_after, sum_asked}
 use Rattle.tp_machine.specs.declared.server.Ballot.{Ballot}
 use Rattle.tp_machine.specs.declared.server.Entry.{Entry}
 use Rattle.tp_machine.specs.server.Row.{ack_letter, age_of, answer_to, answers, asked_query, ballot_of, casts, completes, done_reply, ends, entry_after, entry_at, learns, no_letter, prepared_record, refused_as, refuses, restarts, server_row, settled_as, settles, told_of, value_of_run, yes_letter}

@@ -46,13 +46,13 @@ use Rattle.tp_machine.specs.Logs.{decided_at, decided_by, decided_in, epoch_at}
 use Rattle.tp_machine.specs.Machine.{Machine, Move, State, acts, acts_by, coordinator_fact, coordinator_move, idle_coordinators, is_part_submitted, log_with, machine_after, mails_of, opened_part, opened_servers, opening_state, refusal, server_fact, server_move, state_after, with_age}
 use Rattle.tp_machine.specs.Parts.{Part}
 use Rattle.tp_machine.specs.Sound.{Each, EachAt, IsSound, IsSoundBody, IsSoundServerUp, IsStepOf, IsTxn}
-use Rattle.tp_machine.specs.coord.Opened as coord_opened
-use Rattle.tp_machine.specs.coord.Opened.{idle}
-use Rattle.tp_machine.specs.coord.Row.{coordinator_row, submit_row}
-use Rattle.tp_machine.specs.coord.State.{Coordinator}
+use Rattle.tp_coord.specs.Opened as coord_opened
+use Rattle.tp_coord.specs.Opened.{idle}
+use Rattle.tp_coord.specs.Row.{coordinator_row, submit_row}
+use Rattle.tp_coord.specs.State.{Coordinator}
 use Rattle.tp_machine.specs.declared.actors.Actors.{Actors}
-use Rattle.tp_machine.specs.declared.coord.Phase.TheVariants as phase
-use Rattle.tp_machine.specs.declared.coord.Phase.{Phase}
+use Rattle.tp_coord.specs.declared.coordinator.Phase.TheVariants as phase
+use Rattle.tp_coord.specs.declared.coordinator.Phase.{Phase}
 use Rattle.tp_machine.specs.declared.server.Entry.{Entry}
 use Rattle.tp_machine.specs.server.Opened as server_opened
 use Rattle.tp_machine.specs.server.Row.{entry_at, server_row}

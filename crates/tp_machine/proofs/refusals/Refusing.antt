@@ -46,8 +46,8 @@ use Rattle.tp_machine.proofs.walks.Steps.{IsServerUp, WasSent}
 use Rattle.tp_machine.specs.Machine.{State, facts_of}
 use Rattle.tp_machine.specs.Parts.{Part}
 use Rattle.tp_machine.specs.Sound.{IsItemOf, IsSound, IsSoundServer, IsSoundServerUp, IsWriteOf}
-use Rattle.tp_machine.specs.coord.Row.{refused_by}
-use Rattle.tp_machine.specs.coord.State.{Coordinator}
+use Rattle.tp_coord.specs.Row.{refused_by}
+use Rattle.tp_coord.specs.State.{Coordinator}
 use Rattle.tp_machine.specs.declared.server.Entry.{Entry}
 use Rattle.tp_machine.specs.server.Row.{entry_at}
 use Rattle.tp_machine.specs.server.State.{Server}

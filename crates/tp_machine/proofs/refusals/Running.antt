@@ -46,9 +46,9 @@ use Rattle.tp_machine.proofs.walks.Steps.{IsCoordinatorUp, IsServerUp}
 use Rattle.tp_machine.specs.Logs.{decided_at, decided_by, decided_in, epoch_by, settled_at, settled_by, settled_in}
 use Rattle.tp_machine.specs.Machine.{State}
 use Rattle.tp_machine.specs.Parts.{Part}
-use Rattle.tp_machine.specs.coord.State.{Coordinator}
-use Rattle.tp_machine.specs.declared.coord.Phase.TheVariants as phase
-use Rattle.tp_machine.specs.declared.coord.Phase.{Phase}
+use Rattle.tp_coord.specs.State.{Coordinator}
+use Rattle.tp_coord.specs.declared.coordinator.Phase.TheVariants as phase
+use Rattle.tp_coord.specs.declared.coordinator.Phase.{Phase}
 use Rattle.tp_machine.specs.declared.server.Entry.{Entry}
 use Rattle.tp_machine.specs.server.Row.{entry_at}
 use Rattle.tp_machine.specs.server.State.{Server}

@@ -13,9 +13,9 @@ use Rattle.tp_machine.specs.Logs.{boots_in}
 use Rattle.tp_machine.specs.Machine.{Machine, Move, State, acts_by, coordinator_fact, coordinator_move, log_with, machine_after, mails_of, opened_part, opening_state, refusal, server_fact, server_move, state_after, with_age}
 use Rattle.tp_machine.specs.Parts.{Part}
 use Rattle.tp_machine.specs.Sound.{Each, EachAt, EachPlaced, IsStepOf}
-use Rattle.tp_machine.specs.coord.Opened as coord_opened
-use Rattle.tp_machine.specs.coord.Row as coord
-use Rattle.tp_machine.specs.coord.State.{Coordinator}
+use Rattle.tp_coord.specs.Opened as coord_opened
+use Rattle.tp_coord.specs.Row as coord
+use Rattle.tp_coord.specs.State.{Coordinator}
 use Rattle.tp_machine.specs.declared.actors.Actors.{Actors}
 use Rattle.tp_machine.specs.declared.server.Entry.{Entry}
 use Rattle.tp_machine.specs.server.Opened as server_opened

@@ -27,8 +27,8 @@ use Rattle.tp_machine.specs.Logs.{settled_at}
 use Rattle.tp_machine.specs.Machine.{Move, State, facts_of, state_after}
 use Rattle.tp_machine.specs.Parts.{Part}
 use Rattle.tp_machine.specs.Sound.{Each}
-use Rattle.tp_machine.specs.coord.Row.{refused_by}
-use Rattle.tp_machine.specs.coord.State.{Coordinator}
+use Rattle.tp_coord.specs.Row.{refused_by}
+use Rattle.tp_coord.specs.State.{Coordinator}
 use Rattle.tp_machine.specs.declared.actors.Actors.{Actors}
 
 -- ---- what is shown

@@ -25,7 +25,7 @@ use Rattle.tp_machine.proofs.walks.Steps.{IsCoordinatorUp}
 use Rattle.tp_machine.specs.Logs.{decided_at, decided_by, decided_in}
 use Rattle.tp_machine.specs.Machine.{State}
 use Rattle.tp_machine.specs.Parts.{Part}
-use Rattle.tp_machine.specs.coord.State.{Coordinator}
+use Rattle.tp_coord.specs.State.{Coordinator}
 use Rattle.tp_machine.specs.server.State.{Server}
 
 -- there is at most one transaction

@@ -11,7 +11,7 @@ use Rattle.tp_model.specs.Queries.{signed}
 use Rattle.tp_model.specs.SerialRun.{add_term, operand_in, sum_in, term_in}
 use Rattle.tp_model.specs.Valid.{begins_well, is_valid_operand, is_valid_sum, is_valid_term}
 use Rattle.tp_model.specs.Words.{Operand, Term}
-use Rattle.tp_machine.specs.Sums.{add_clamped, clamped, clamped_sum}
+use Rattle.tp_coord.specs.Sums.{add_clamped, clamped, clamped_sum}
 
 -- what an i128 holds stays
 clamped_itself : (bound : ℕ) (z : ℤ) → bound < 2 ^ 127 → IsWithin bound z → clamped z ≡ z

@@ -44,11 +44,11 @@ use Rattle.tp_machine.specs.Logs.{decided_at, decided_in, decision_in, prepared_
 use Rattle.tp_machine.specs.Machine.{State, acts, coordinator_fact, coordinator_move, log_with}
 use Rattle.tp_machine.specs.Parts.{Part}
 use Rattle.tp_machine.specs.Sound.{Each, IsTxn}
-use Rattle.tp_machine.specs.coord.Opened.{servers_at}
-use Rattle.tp_machine.specs.coord.Row.{coordinator_row}
-use Rattle.tp_machine.specs.coord.State.{Coordinator}
-use Rattle.tp_machine.specs.declared.coord.Phase.TheVariants as phase
-use Rattle.tp_machine.specs.declared.coord.Phase.{Phase}
+use Rattle.tp_coord.specs.Opened.{servers_at}
+use Rattle.tp_coord.specs.Row.{coordinator_row}
+use Rattle.tp_coord.specs.State.{Coordinator}
+use Rattle.tp_coord.specs.declared.coordinator.Phase.TheVariants as phase
+use Rattle.tp_coord.specs.declared.coordinator.Phase.{Phase}
 use Rattle.tp_machine.specs.server.State.{Server}
 
 -- ---- rows

@@ -28,7 +28,7 @@ use Rattle.tp_machine.specs.Logs.{settled_at}
 use Rattle.tp_machine.specs.Machine.{State, ending_of, item_value, item_values, value_up}
 use Rattle.tp_machine.specs.Parts.{Part}
 use Rattle.tp_machine.specs.Sound.{Each, IsServer, IsSound}
-use Rattle.tp_machine.specs.coord.Opened.{servers_at}
+use Rattle.tp_coord.specs.Opened.{servers_at}
 use Rattle.tp_machine.specs.server.State.{Server}
 
 -- ---- commits

@@ -11,10 +11,10 @@ use Rattle.tp_model.specs.Words.step
 use Rattle.tp_model.specs.Words.what
 use Rattle.tp_model.specs.Facts.{record_of}
 use Rattle.tp_model.specs.Commits.{are_lone, is_commit_at, is_commit_what, is_lone, is_lone_what}
-use Rattle.tp_machine.specs.coord.State.{Coordinator}
+use Rattle.tp_coord.specs.State.{Coordinator}
 use Rattle.tp_machine.specs.Parts.{Part}
 use Rattle.tp_machine.specs.Machine.{Machine, State, Move, state_after, coordinator_fact, machine_after, facts_of, server_fact, log_with, refusal}
-use Rattle.tp_machine.specs.coord.Row.{coordinator_row, submit_row}
+use Rattle.tp_coord.specs.Row.{coordinator_row, submit_row}
 use Rattle.tp_machine.specs.server.Row.{server_row}
 use Rattle.tp_machine.proofs.agreement.ServerActs.{server_facts}
 use Rattle.tp_machine.proofs.agreement.CoordinatorActs.{coordinator_facts}

@@ -26,7 +26,7 @@ use Rattle.tp_machine.proofs.serial_data.Reads.{AreClear, IsReadFrom, ReadsFrom,
 use Rattle.tp_machine.proofs.serial_data.Stores.{HasPlace}
 use Rattle.tp_machine.proofs.serial_data.Tentative.{AreLast, AreUpTo, inside_tested, none_last, own_read, read_last, write_last, write_of}
 use Rattle.tp_machine.proofs.walks.ServerRows.{IsFirstHere, IsFirstVote, IsFurther, IsGranted, IsLaterVote, IsVote, server_by}
-use Rattle.tp_machine.specs.Runs.{deed_of}
+use Rattle.tp_model.specs.Deeds.{deed_of}
 use Rattle.tp_machine.specs.Sound.{EachPlaced}
 use Rattle.tp_machine.specs.declared.server.Ballot.{Ballot}
 use Rattle.tp_machine.specs.declared.server.Entry.{Entry}

@@ -8,7 +8,7 @@ use Rattle.tp_model.specs.SerialRun.{cleared_registers}
 use Rattle.tp_model.specs.Words.action
 use Rattle.tp_model.specs.Words.{Action, Deed, ItemId, Query, Transaction}
 use Rattle.tp_machine.specs.Sound.{Each}
-use Rattle.tp_machine.specs.Sums.{asked_value, registers_after, registers_from, registers_with, sum_asked}
+use Rattle.tp_coord.specs.Sums.{asked_value, registers_after, registers_from, registers_with, sum_asked}
 
 -- ---- deeds
 

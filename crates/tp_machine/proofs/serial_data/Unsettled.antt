@@ -17,7 +17,7 @@ use Rattle.tp_machine.proofs.serial_data.Stores.{Adds, Drops, StoreFits, store_a
 use Rattle.tp_machine.specs.Logs.{decided_at, decided_by, decided_in, decision_in, settled_at, settled_by, settled_in, settlement_in}
 use Rattle.tp_machine.specs.Machine.{log_with}
 use Rattle.tp_machine.specs.Parts.{Part}
-use Rattle.tp_machine.specs.coord.State.{Coordinator}
+use Rattle.tp_coord.specs.State.{Coordinator}
 use Rattle.tp_machine.specs.declared.actors.Actors.{Actors}
 use Rattle.tp_machine.specs.server.State.{Server}
 

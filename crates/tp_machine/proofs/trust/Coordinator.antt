@@ -30,11 +30,11 @@ use Rattle.tp_machine.proofs.trust.Turns.{AreFew, IsAbove, IsOfPast, IsTimely, N
 use Rattle.tp_machine.proofs.walks.CoordinatorRows.{IsYes, coordinator_by, submit_by}
 use Rattle.tp_machine.specs.Machine.{with_age}
 use Rattle.tp_machine.specs.Sound.{Each, IsSoundBody, query_in}
-use Rattle.tp_machine.specs.coord.Opened.{servers_at}
-use Rattle.tp_machine.specs.coord.Row.{aborts, asks, commit_round, commits, coordinator_row, coordinator_with_age, denied_by, is_begun, next_number, next_turn, prepare_letter, prepares, refused_by, requests, sends_query, staple_of, submit_row, want_for, with_deed, without}
-use Rattle.tp_machine.specs.coord.State.{Coordinator}
-use Rattle.tp_machine.specs.declared.coord.Phase.TheVariants as phase
-use Rattle.tp_machine.specs.declared.coord.Phase.{Phase}
+use Rattle.tp_coord.specs.Opened.{servers_at}
+use Rattle.tp_coord.specs.Row.{aborts, asks, commit_round, commits, coordinator_row, coordinator_with_age, denied_by, is_begun, next_number, next_turn, prepare_letter, prepares, refused_by, requests, sends_query, staple_of, submit_row, want_for, with_deed, without}
+use Rattle.tp_coord.specs.State.{Coordinator}
+use Rattle.tp_coord.specs.declared.coordinator.Phase.TheVariants as phase
+use Rattle.tp_coord.specs.declared.coordinator.Phase.{Phase}
 use Rattle.tp_round.specs.Judge.{after_judgement, after_reply, first_round, judge}
 use Rattle.tp_round.specs.Replies.{by_query, proofs_in}
 use Rattle.tp_round.specs.declared.round.Judged.TheVariants as judged

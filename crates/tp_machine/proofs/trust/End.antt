@@ -29,7 +29,7 @@ use Rattle.tp_machine.proofs.trust.Server.{policy_there}
 use Rattle.tp_machine.proofs.trust.World.{FactFits, Trusts, WhatFits}
 use Rattle.tp_machine.specs.Machine.{State}
 use Rattle.tp_machine.specs.Sound.{Each, IsSound, IsSoundCause, IsSoundFact, IsSoundWhat, IsTxn, IsVersion}
-use Rattle.tp_machine.specs.coord.Row as row
+use Rattle.tp_coord.specs.Row as row
 
 -- ---- a proof
 

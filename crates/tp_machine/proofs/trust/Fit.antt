@@ -15,7 +15,7 @@ use Rattle.tp_model.specs.Words.{Action, AdminId, Answer, Body, CredId, Fact, Ma
 use Rattle.tp_machine.proofs.basics.Facts.{Grows}
 use Rattle.tp_machine.proofs.basics.Lists.{each_as}
 use Rattle.tp_machine.specs.Sound.{Each, EachPlaced, IsAdmin}
-use Rattle.tp_machine.specs.coord.Row.{staple_of}
+use Rattle.tp_coord.specs.Row.{staple_of}
 use Rattle.tp_machine.specs.server.State.{Server}
 use Rattle.tp_machine.specs.server.Verdicts.{version_known}
 use Rattle.tp_offices.specs.Authority.{revocations}

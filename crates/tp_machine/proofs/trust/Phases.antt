@@ -3,8 +3,8 @@ use Rattle.std.proofs.Common.{IfSome, List, ℕ}
 use Rattle.tp_model.specs.Words.{Fact, Scenario, TxnId}
 use Rattle.tp_machine.proofs.trust.Fit.{IsSubmitted, Later, StapleFits, maybe_stays, staple_stays}
 use Rattle.tp_machine.proofs.trust.Rounds.{RoundFits, round_fits_later}
-use Rattle.tp_machine.specs.declared.coord.Phase.TheVariants as phase
-use Rattle.tp_machine.specs.declared.coord.Phase.{Phase}
+use Rattle.tp_coord.specs.declared.coordinator.Phase.TheVariants as phase
+use Rattle.tp_coord.specs.declared.coordinator.Phase.{Phase}
 
 -- a coordinator awaits the answer to a request that fits
 abbrev pub PhaseFits : Scenario → List Fact → ℕ → TxnId → Phase → Type 0

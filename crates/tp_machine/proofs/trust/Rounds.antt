@@ -28,13 +28,13 @@ use Rattle.tp_machine.proofs.pairs.Actors.{site_of}
 use Rattle.tp_machine.proofs.pairs.CoordinatorRows.{NamesAt}
 use Rattle.tp_machine.proofs.pairs.Fits.{Names}
 use Rattle.tp_machine.proofs.trust.Turns.{WantNow}
-use Rattle.tp_machine.specs.coord.Row.{server_in, want_for}
+use Rattle.tp_coord.specs.Row.{server_in, want_for}
 use Rattle.tp_model.specs.Agreement.{has_item}
 use Rattle.tp_model.specs.Limits.{is_empty}
 use Rattle.tp_machine.proofs.pairs.Site.{Site, here, upto, with_number}
 use Rattle.tp_machine.proofs.trust.Fit.{IsPublished, Later, Right, newest_rises, right_stays}
 use Rattle.tp_machine.specs.Sound.{Each}
-use Rattle.tp_machine.specs.coord.Opened.{servers_at}
+use Rattle.tp_coord.specs.Opened.{servers_at}
 
 -- ---- members
 
@@ -310,8 +310,10 @@ wants_by sc facts place txn round items (inl first) = each_of (missing_in round.
 wants_by sc facts place txn round items (inr second) =
     each_as (λ (at : ServerId). HoldsItem sc txn at × IsNamedFor sc txn at (want_in round.named at)) (λ (at : ServerId). WantNow round (want_for round at))
     (λ at k. let there = item_declared sc at txn (slice_get sc.txns txn.0) refl k.0 in
-    inr (not_empty sc there.0 at (want_for round at) there.2 (k.1 there.0 there.1),
-    want_each (λ (want : List (AdminId × Version)). Each (λ (wanted : AdminId × Version). is_within round.aim wanted ≡ true) want) round.named at tt second.within)) (missing_in round.targets)
+    inr (
+      not_empty sc there.0 at (want_for round at) there.2 (k.1 there.0 there.1),
+      want_each (λ (want : List (AdminId × Version)). Each (λ (wanted : AdminId × Version). is_within round.aim wanted ≡ true) want) round.named at tt second.within,
+    )) (missing_in round.targets)
     (each_two (HoldsItem sc txn) (λ (at : ServerId). IsNamedFor sc txn at (want_in round.named at)) (missing_in round.targets) (each_missing (HoldsItem sc txn) round.targets items) (named_missing sc txn round.named round.targets second.covers))
 
 -- the transaction's servers have items of it

@@ -33,10 +33,10 @@ use Rattle.tp_round.specs.Laws.{wanted_of}
 use Rattle.tp_round.specs.declared.round.Round.{Round}
 use Rattle.tp_machine.proofs.walks.ServerRows.{IsFirstHere, IsFurther, IsGranted, server_by}
 use Rattle.tp_machine.specs.Evaluation.{IsRightVerdict}
-use Rattle.tp_machine.specs.Runs.{deed_of}
+use Rattle.tp_model.specs.Deeds.{deed_of}
 use Rattle.tp_machine.specs.Sound.{AreWanted, Each, IsAdmin, IsQueryAt, IsSoundBody, IsSoundDeedAt, IsSoundEntry, IsSoundServer, IsSoundVerdict, IsVersion, query_in}
-use Rattle.tp_machine.specs.declared.coord.Phase.TheVariants as phase
-use Rattle.tp_machine.specs.declared.coord.Phase.{Phase}
+use Rattle.tp_coord.specs.declared.coordinator.Phase.TheVariants as phase
+use Rattle.tp_coord.specs.declared.coordinator.Phase.{Phase}
 use Rattle.tp_machine.specs.declared.server.Ballot.{Ballot}
 use Rattle.tp_machine.specs.declared.server.Entry.{Entry}
 use Rattle.tp_machine.specs.server.Row.{ack_letter, answers, completes, done_reply, ends, entry_after, entry_at, learns, no_letter, refused_as, restarted_reply, server_row, settled_as, votes_on, yes_letter}

@@ -36,10 +36,10 @@ use Rattle.tp_machine.proofs.walks.Steps.{Cases, IsCoordinatorUp, IsServerUp, Sa
 use Rattle.tp_machine.specs.Machine.{Machine, State, acts_by, coordinator_fact, coordinator_move, facts_of, idle_move, is_part_submitted, machine_after, opened_part, opening_state, refusal, server_fact, server_move, with_age}
 use Rattle.tp_machine.specs.Parts.{Part}
 use Rattle.tp_machine.specs.Sound.{Each, IsSound, IsSoundBody, IsSoundLetter, IsSoundMail, IsSoundServerUp, IsStepOf}
-use Rattle.tp_machine.specs.coord.Opened as coord
-use Rattle.tp_machine.specs.coord.Opened.{idle}
-use Rattle.tp_machine.specs.coord.Row.{begins, coordinator_row, home_of, is_begun, submit_row}
-use Rattle.tp_machine.specs.coord.State.{Coordinator}
+use Rattle.tp_coord.specs.Opened as coord
+use Rattle.tp_coord.specs.Opened.{idle}
+use Rattle.tp_coord.specs.Row.{begins, coordinator_row, home_of, is_begun, submit_row}
+use Rattle.tp_coord.specs.State.{Coordinator}
 use Rattle.tp_machine.specs.declared.server.Entry.{Entry}
 use Rattle.tp_machine.specs.server.Opened as server
 use Rattle.tp_machine.specs.server.Row.{server_row}

@@ -16,10 +16,10 @@ use Rattle.tp_round.specs.declared.round.Round.{Round}
 use Rattle.tp_machine.proofs.basics.Aims.{is_within}
 use Rattle.tp_machine.proofs.basics.Phases.{is_undecided}
 use Rattle.tp_machine.specs.Sound.{Each, query_in}
-use Rattle.tp_machine.specs.coord.Row.{next_turn}
-use Rattle.tp_machine.specs.coord.State.{Coordinator}
-use Rattle.tp_machine.specs.declared.coord.Phase.TheVariants as phase
-use Rattle.tp_machine.specs.declared.coord.Phase.{Phase}
+use Rattle.tp_coord.specs.Row.{next_turn}
+use Rattle.tp_coord.specs.State.{Coordinator}
+use Rattle.tp_coord.specs.declared.coordinator.Phase.TheVariants as phase
+use Rattle.tp_coord.specs.declared.coordinator.Phase.{Phase}
 
 -- ---- turns
 

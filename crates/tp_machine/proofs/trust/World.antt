@@ -16,7 +16,7 @@ use Rattle.tp_model.specs.Words.what
 use Rattle.tp_machine.specs.Machine.{Move, State, facts_of, mails_of, state_after}
 use Rattle.tp_machine.specs.Parts.{Part}
 use Rattle.tp_machine.specs.Sound.{Each, EachAt, IsAdmin}
-use Rattle.tp_machine.specs.coord.State.{Coordinator}
+use Rattle.tp_coord.specs.State.{Coordinator}
 use Rattle.tp_machine.specs.declared.actors.Actors.{Actors}
 use Rattle.tp_offices.specs.Master.{version_in}
 use Rattle.tp_offices.specs.declared.authority.Authority.{Authority}

@@ -12,10 +12,10 @@ use Rattle.tp_model.specs.Words.no
 use Rattle.tp_model.specs.Words.vote
 use Rattle.tp_model.specs.Words.{AckReply, Actor, Answer, Body, DoneReply, Mail, Met, No, Outcome, Query, Scenario, ServerId, Staple, TellReply, Verdict, Vote, VoteReply}
 use Rattle.tp_machine.proofs.basics.Lists.{by_cond}
-use Rattle.tp_machine.specs.coord.Row.{aborts, ack_from, asks, asks_next, awaits_query, awaits_vote, begins, commit_round, commits, coordinator_row, denied_by, home_of, is_from, is_plain, next_number, on_ack, on_answer, on_body, on_done_from, on_done_of_query, on_judged, on_no, on_staple, on_vote, on_vote_of, prepares, query_of, refused_by, sends_query, server_of, staple_of, submit_row, vote_at, with_deed, without}
-use Rattle.tp_machine.specs.coord.State.{Coordinator}
-use Rattle.tp_machine.specs.declared.coord.Phase.TheVariants as phase
-use Rattle.tp_machine.specs.declared.coord.Phase.{Phase}
+use Rattle.tp_coord.specs.Row.{aborts, ack_from, asks, asks_next, awaits_query, awaits_vote, begins, commit_round, commits, coordinator_row, denied_by, home_of, is_from, is_plain, next_number, on_ack, on_answer, on_body, on_done_from, on_done_of_query, on_judged, on_no, on_staple, on_vote, on_vote_of, prepares, query_of, refused_by, sends_query, server_of, staple_of, submit_row, vote_at, with_deed, without}
+use Rattle.tp_coord.specs.State.{Coordinator}
+use Rattle.tp_coord.specs.declared.coordinator.Phase.TheVariants as phase
+use Rattle.tp_coord.specs.declared.coordinator.Phase.{Phase}
 use Rattle.tp_round.specs.Judge.{after_judgement, after_reply, aim_in, final_answer, is_awaited, is_outdated, is_waiting, judge, wants_of}
 use Rattle.tp_round.specs.Replies.{by_query, least_false, proofs_in}
 use Rattle.tp_round.specs.declared.round.Judged.TheVariants as judged
@@ -157,7 +157,7 @@ on_no_by sc c mail P cases reply round staple server no.Restarted n = cases.igno
 on_vote_of_by : (sc : Scenario) (c : Coordinator) (mail : Mail) (P : Effect Coordinator → Type 0) → CoordinatorCases sc c mail P → (reply : VoteReply) (round : Round) (staple : Staple) (server : ServerId) (said : Vote)
     → ((verdicts : List Verdict) → said ≡ vote.Yes verdicts → IsYes c mail reply round staple server verdicts)
     → ((number : ℕ) (value : ℤ) → said ≡ vote.No (no.Range number value) → IsNo c mail reply round staple server number value) → P (on_vote_of c round staple server said)
-on_vote_of_by sc c mail P cases reply round staple server (vote.Yes verdicts) y n = 
+on_vote_of_by sc c mail P cases reply round staple server (vote.Yes verdicts) y n =
     judged_by sc c mail P cases reply round staple server verdicts (judge (after_reply round server verdicts) None) (y verdicts refl) refl
 on_vote_of_by sc c mail P cases reply round staple server (vote.No why) y n =
     on_no_by sc c mail P cases reply round staple server why (λ number value e. n number value (ap (λ (w : No). vote.No w) e))

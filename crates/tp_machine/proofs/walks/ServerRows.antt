@@ -9,7 +9,7 @@ use Rattle.tp_model.specs.Words.body
 use Rattle.tp_model.specs.Words.no
 use Rattle.tp_model.specs.Words.{Body, DecideRequest, DoneReply, Mail, No, PrepareRequest, PushNotice, Query, QueryRequest, Scenario, Settled, Staple, Transaction}
 use Rattle.tp_machine.proofs.basics.Lists.{by_cond}
-use Rattle.tp_machine.specs.Runs.{deed_of}
+use Rattle.tp_model.specs.Deeds.{deed_of}
 use Rattle.tp_machine.specs.declared.server.Ballot.{Ballot}
 use Rattle.tp_machine.specs.declared.server.Entry.{Entry}
 use Rattle.tp_machine.specs.server.Row.{ack_letter, age_of, answer_to, answers, asked_query, asked_to_vote, completes, entry_at, evaluates, is_open, learns, names_another_epoch, new_entry, no_letter, on_body, on_granted, on_open_query, on_refused, on_settled_decide, on_settled_prepare, on_unlost_query, refuses, restarts, runs_query, runs_with, server_row, settles, value_of_run, votes_at, votes_in_range, votes_on, votes_with, yes_letter}

@@ -15,7 +15,7 @@ use Rattle.tp_model.specs.Words.log
 use Rattle.tp_model.specs.Words.no
 use Rattle.tp_model.specs.Words.vote
 use Rattle.tp_model.specs.Words.{Body, DecideRequest, Deed, DoneReply, ItemId, Letter, Mail, No, Outcome, PrepareRequest, Prepared, PushNotice, Query, QueryRequest, Scenario, Settled, Staple, Told, Transaction, TxnId, Verdict}
-use Rattle.tp_machine.specs.Runs.{deed_of}
+use Rattle.tp_model.specs.Deeds.{deed_of}
 use Rattle.tp_machine.specs.declared.server.Ballot.{Ballot}
 use Rattle.tp_machine.specs.declared.server.Entry.{Entry}
 use Rattle.tp_machine.specs.server.State.{Server}

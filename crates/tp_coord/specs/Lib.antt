@@ -1,0 +1,4 @@
+pub mod Opened
+pub mod Row
+pub mod State
+pub mod Sums

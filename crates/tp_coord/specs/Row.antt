@@ -1,0 +1,364 @@
+-- A coordinator's rows: what it does when its transaction is submitted, and on receipt of a mail. A reply is used only in
+-- the phase that awaits it, with the present turn, and once from each server; otherwise nothing happens.
+use Rattle.std.specs.List.{find}
+use Rattle.std.specs.Option.{option_map_or}
+use Rattle.std.specs.Prelude.{Bool, List, None, Option, Some, [], false, filter, if◌then◌else◌, map, min, not, option_and_then, option_map, slice_get, slice_set, true, unwrap_or, ℕ, ℤ, ◌&&◌, ◌++◌, ◌+◌, ◌-◌, ◌==◌, ◌^◌, ◌∷◌}
+use Rattle.tp_types.specs.Effect.{Effect, ignores, logs, sends, unbuilt}
+use Rattle.tp_types.specs.Table.{flattened}
+use Rattle.tp_types.specs.declared.records.Outcome.TheVariants.{Abort, Commit}
+use Rattle.tp_model.specs.Queries.{item_of, query_at}
+use Rattle.tp_model.specs.Ids.{same_server}
+use Rattle.tp_model.specs.Words.actor
+use Rattle.tp_model.specs.Words.answer
+use Rattle.tp_model.specs.Words.body
+use Rattle.tp_model.specs.Words.cause
+use Rattle.tp_model.specs.Words.decision
+use Rattle.tp_model.specs.Words.log
+use Rattle.tp_model.specs.Words.no
+use Rattle.tp_model.specs.Words.vote
+use Rattle.tp_model.specs.Words.{Actor, AdminId, Answer, Body, Cause, CommitRecord, Decision, Denied, DoneReply, Instance, Item, ItemId, Letter, Mail, No, OutOfRange, Outcome, PrepareRequest, Query, QueryRequest, Scenario, ServerId, Staple, TellReply, Transaction, Verdict, Version, Vote, VoteReply}
+use Rattle.tp_model.specs.Deeds.{deed_of}
+use Rattle.tp_coord.specs.Sums.{asked_value}
+use Rattle.tp_coord.specs.State.{Coordinator}
+use Rattle.tp_coord.specs.declared.coordinator.Phase.TheVariants as phase
+use Rattle.tp_coord.specs.declared.coordinator.Phase.{Phase}
+use Rattle.tp_round.specs.Judge.{after_judgement, after_reply, first_round, is_awaited, is_missing, judge}
+use Rattle.tp_round.specs.Replies.{by_query, proofs_in}
+use Rattle.tp_round.specs.declared.round.Judged.TheVariants as judged
+use Rattle.tp_round.specs.declared.round.Judged.{Judged}
+use Rattle.tp_round.specs.declared.round.Round.{Round}
+use Rattle.tp_round.specs.declared.round.Target.{Target}
+use Rattle.tp_round.specs.declared.round.Wanted.{Wanted}
+
+-- the turn of the next request; at the greatest number it stays
+abbrev pub next_turn : Coordinator → ℕ
+next_turn c = min (c.turn + 1) (2 ^ 32 - 1)
+
+-- a letter to a server
+abbrev pub request : Coordinator → ServerId → Body → Letter
+request c server said = record {
+  from = actor.Coordinator c.txn;
+  to = actor.Server server;
+  body = said;
+}
+
+abbrev pub requests : Coordinator → Body → List ServerId → List Letter
+requests c said servers = map (λ (server : ServerId). request c server said) servers
+
+-- a query of the transaction by its number
+abbrev pub query_of : Scenario → Coordinator → ℕ → Option Query
+query_of sc c number =
+    option_and_then (λ (txn : Transaction). query_at txn number) (slice_get sc.txns c.txn.0)
+
+-- the server of an item
+abbrev pub server_at : Scenario → ItemId → Option ServerId
+server_at sc item = option_map (λ (i : Item). i.server) (slice_get sc.items item.0)
+
+-- the server of a query
+abbrev pub server_of : Scenario → Query → Option ServerId
+server_of sc query = server_at sc (item_of query)
+
+-- ---- queries
+
+-- the epoch that a server has told the transaction, if it has told one
+abbrev pub epoch_told : Coordinator → ServerId → Option ℕ
+epoch_told c server = flattened (slice_get c.epochs server.0)
+
+-- the value that a query is asked with: a write's sum over what was read
+abbrev pub value_of : Scenario → Coordinator → ℕ → Option ℤ
+value_of sc c number =
+    option_and_then (λ (txn : Transaction). asked_value txn c.deeds number)
+    (slice_get sc.txns c.txn.0)
+
+-- the request for a query
+abbrev pub query_request : Scenario → Coordinator → ServerId → ℕ → QueryRequest
+query_request sc c server number = record {
+  txn = c.txn;
+  turn = next_turn c;
+  query = number;
+  age = c.age;
+  epoch = epoch_told c server;
+  value = value_of sc c number;
+  staple = None;
+  pin = None;
+}
+
+-- a query is sent to the server of its item
+abbrev pub sends_query : Scenario → Coordinator → ℕ → ServerId → Effect Coordinator
+sends_query sc c number server =
+    sends (record c { turn = next_turn c; phase = phase.Querying number None })
+    (request c server (body.Query (query_request sc c server number)) ∷ [])
+
+-- the server of the transaction's query of this number
+abbrev pub home_of : Scenario → Coordinator → ℕ → Option ServerId
+home_of sc c number = option_and_then (server_of sc) (query_of sc c number)
+
+-- ---- Submit
+
+-- the first query is sent. Its age is the place where it is sent
+abbrev pub begins : Scenario → Coordinator → Option ServerId → Effect Coordinator
+begins sc c None = ignores c
+begins sc c (Some server) = sends_query sc c 1 server
+
+-- what the submission of the transaction does
+abbrev pub submit_row : Scenario → Coordinator → Effect Coordinator
+submit_row sc c = begins sc c (home_of sc c 1)
+
+-- a coordinator that knows the place of its submission
+abbrev pub coordinator_with_age : Coordinator → ℕ → Coordinator
+coordinator_with_age c place = record c { age = Some place }
+
+-- ---- Done
+
+abbrev pub is_from : Actor → ServerId → Bool
+is_from (actor.Server server) asked = server.0 == asked.0
+is_from _ asked = false
+
+-- a request to the authority
+abbrev pub ask_letter : Coordinator → Letter
+ask_letter c = record {
+  from = actor.Coordinator c.txn;
+  to = actor.Authority;
+  body = body.Ask (record { txn = c.txn; turn = next_turn c });
+}
+
+-- before each round of validation the authority is asked
+abbrev pub asks : Coordinator → Round → Effect Coordinator
+asks c round = sends (record c { turn = next_turn c; phase = phase.Asking round }) (ask_letter c ∷ [])
+
+-- the first round at commit, of all of the transaction's servers. No master is read, and under view consistency two rounds are enough
+abbrev pub commit_round : Coordinator → Round
+commit_round c = first_round c.servers 2 [] false
+
+-- a coordinator with the deed of a query that ran, and the epoch of its server
+abbrev pub with_deed : Coordinator → ServerId → DoneReply → Query → ℤ → Coordinator
+with_deed c server done query value =
+    record c {
+      epochs = slice_set c.epochs server.0 (Some done.epoch);
+      deeds = c.deeds ++ deed_of done.query query value ∷ [];
+    }
+
+-- the number after a query's; at the greatest number it stays
+abbrev pub next_number : ℕ → ℕ
+next_number number = min (number + 1) (2 ^ 32 - 1)
+
+-- the query of this number is asked, or where there is none the rounds at commit begin
+abbrev pub asks_next : Scenario → Coordinator → ℕ → Option ServerId → Effect Coordinator
+asks_next sc c number None = asks c (commit_round c)
+asks_next sc c number (Some server) = sends_query sc c number server
+
+-- the transaction goes on after the query of this number
+abbrev pub goes_on : Scenario → Coordinator → ℕ → Effect Coordinator
+goes_on sc c number = asks_next sc c (next_number number) (home_of sc c (next_number number))
+
+-- by the answer: what ran is kept, and the transaction goes on. An answer that ends the transaction is not built
+abbrev pub on_answer : Scenario → Coordinator → ServerId → DoneReply → Query → Answer
+    → Effect Coordinator
+on_answer sc c server done query (answer.Ran value None) =
+    goes_on sc (with_deed c server done query value) done.query
+on_answer sc c server done query _ = unbuilt c
+
+-- the reply to a query, from the server that was asked
+abbrev pub on_done_from : Scenario → Coordinator → Actor → DoneReply → Query → Option ServerId
+    → Effect Coordinator
+on_done_from sc c from done query None = ignores c
+on_done_from sc c from done query (Some server) =
+    if is_from from server then on_answer sc c server done query done.answer else ignores c
+
+abbrev pub on_done_of_query : Scenario → Coordinator → Actor → DoneReply → Option Query
+    → Effect Coordinator
+on_done_of_query sc c from done None = ignores c
+on_done_of_query sc c from done (Some query) =
+    on_done_from sc c from done query (server_of sc query)
+
+-- the query that is awaited, in the present turn
+abbrev pub awaits_query : Coordinator → Phase → DoneReply → Bool
+awaits_query c (phase.Querying number staple) done = (done.turn == c.turn) && (done.query == number)
+awaits_query c _ done = false
+
+-- a query that was asked with a staple is not built
+abbrev pub is_plain : Phase → Bool
+is_plain (phase.Querying number (Some staple)) = false
+is_plain _ = true
+
+abbrev pub on_done : Scenario → Coordinator → Phase → Actor → DoneReply → Effect Coordinator
+on_done sc c awaited from done =
+    if awaits_query c awaited done
+    then (if is_plain awaited then on_done_of_query sc c from done (query_of sc c done.query)
+    else unbuilt c)
+    else ignores c
+
+-- ---- Tell
+
+-- the epoch that a server told; 0, which is no epoch, where it told none
+abbrev pub epoch_of : Coordinator → ServerId → ℕ
+epoch_of c server = unwrap_or (epoch_told c server) 0
+
+-- what the last update wants of a server; nothing where it named the server not
+abbrev pub want_for : Round → ServerId → List (AdminId × Version)
+want_for round server =
+    option_map_or (λ (named : Wanted). named.want)
+    (find (λ (named : Wanted). same_server named.server server) round.named) []
+
+abbrev pub prepare_request : Coordinator → Round → Staple → ServerId → PrepareRequest
+prepare_request c round staple server = record {
+  txn = c.txn;
+  turn = next_turn c;
+  epoch = epoch_of c server;
+  staple = Some staple;
+  want = want_for round server;
+}
+
+abbrev pub prepare_letter : Coordinator → Round → Staple → ServerId → Letter
+prepare_letter c round staple server =
+    request c server (body.Prepare (prepare_request c round staple server))
+
+abbrev pub staple_of : TellReply → ℕ → Staple
+staple_of tell sent = record { place = sent; clock = tell.clock; revoked = tell.revoked }
+
+abbrev pub server_in : Target → ServerId
+server_in target = target.server
+
+-- the servers of a round whose replies are awaited
+abbrev pub awaited_in : Round → List ServerId
+awaited_in round = map server_in (filter is_missing round.targets)
+
+-- each awaited server is asked to prepare with the staple, at the versions that are wanted of it
+abbrev pub prepares : Coordinator → Round → Staple → Effect Coordinator
+prepares c round staple =
+    sends (record c { turn = next_turn c; phase = phase.Checking round staple })
+    (map (prepare_letter c round staple) (awaited_in round))
+
+-- the authority was asked before a round
+abbrev pub on_staple : Coordinator → Phase → Staple → Effect Coordinator
+on_staple c (phase.Asking round) staple = prepares c round staple
+on_staple c _ staple = ignores c
+
+abbrev pub on_tell : Coordinator → Phase → ℕ → TellReply → Effect Coordinator
+on_tell c awaited sent tell =
+    if tell.turn == c.turn then on_staple c awaited (staple_of tell sent) else ignores c
+
+-- ---- Vote
+
+abbrev pub instances_with : Coordinator → List Verdict → List Instance
+instances_with c proofs = c.instances ++ record { reading = None; proofs = proofs } ∷ []
+
+abbrev pub commit_record : Coordinator → ℕ → List Verdict → CommitRecord
+commit_record c rounds proofs = record { rounds = rounds; instances = instances_with c proofs; deeds = c.deeds }
+
+abbrev pub decide_letters : Coordinator → Outcome → List Letter
+decide_letters c outcome =
+    requests c (body.Decide (record { txn = c.txn; outcome = outcome })) c.servers
+
+-- the decision is forced before it is sent to all of the transaction's servers
+abbrev pub decides : Coordinator → Outcome → Decision → Effect Coordinator
+decides c outcome decided =
+    logs (record c { phase = phase.Ending outcome c.servers })
+    (log.Decided (record { txn = c.txn; decision = decided }))
+    (decide_letters c outcome)
+
+-- the transaction commits on these proofs, which close an instance
+abbrev pub commits : Coordinator → ℕ → List Verdict → Effect Coordinator
+commits c rounds proofs =
+    decides (record c { instances = instances_with c proofs }) Commit
+    (decision.Commit (commit_record c rounds proofs))
+
+-- the transaction aborts
+abbrev pub aborts : Coordinator → Cause → Effect Coordinator
+aborts c why = decides c Abort (decision.Abort why)
+
+-- what a false verdict denies
+abbrev pub denied_by : Verdict → Denied
+denied_by verdict =
+    record {
+      query = verdict.query;
+      server = verdict.server;
+      admin = verdict.admin;
+      version = verdict.version;
+      place = verdict.place;
+    }
+
+-- by what is judged of the replies: a missing one is awaited, true proofs of one version each commit, a false one denies, and servers that
+-- are out of date are asked again
+abbrev pub on_judged : Coordinator → Round → Staple → Judged → Effect Coordinator
+on_judged c round staple judged.Waiting = sends (record c { phase = phase.Checking round staple }) []
+on_judged c round staple judged.AllTrue = commits c round.number (by_query (proofs_in round.targets))
+on_judged c round staple (judged.False verdict) = aborts c (cause.Denied (denied_by verdict))
+on_judged c round staple (judged.Spent mets) = aborts c (cause.Rounds mets)
+on_judged c round staple (judged.Update named) = asks c (after_judgement round None)
+
+-- a round with one more reply is judged
+abbrev pub on_reply : Coordinator → Round → Staple → Effect Coordinator
+on_reply c round staple = on_judged c round staple (judge round None)
+
+-- what a server's vote NO refuses
+abbrev pub refused_by : ServerId → ℕ → ℤ → OutOfRange
+refused_by server number value = record { query = number; server = server; value = value }
+
+-- a NO ends the transaction at once. One of a server that has restarted is not built
+abbrev pub on_no : Coordinator → ServerId → No → Effect Coordinator
+on_no c server (no.Range number value) = aborts c (cause.No (refused_by server number value))
+on_no c server no.Restarted = unbuilt c
+
+abbrev pub on_vote_of : Coordinator → Round → Staple → ServerId → Vote → Effect Coordinator
+on_vote_of c round staple server (vote.Yes verdicts) =
+    on_reply c (after_reply round server verdicts) staple
+on_vote_of c round staple server (vote.No why) = on_no c server why
+
+-- the vote of this server is awaited
+abbrev pub awaits_vote : Phase → ServerId → Bool
+awaits_vote (phase.Checking round staple) server = is_awaited round.targets server
+awaits_vote _ server = false
+
+abbrev pub vote_at : Coordinator → Phase → ServerId → Vote → Effect Coordinator
+vote_at c (phase.Checking round staple) server said = on_vote_of c round staple server said
+vote_at c _ server said = ignores c
+
+abbrev pub on_vote : Coordinator → Phase → Actor → VoteReply → Effect Coordinator
+on_vote c awaited (actor.Server server) reply =
+    if (reply.turn == c.turn) && awaits_vote awaited server then vote_at c awaited server reply.vote
+    else ignores c
+on_vote c awaited _ reply = ignores c
+
+-- ---- Ack
+
+abbrev pub without : List ServerId → ServerId → List ServerId
+without awaited server = filter (λ (other : ServerId). not (other.0 == server.0)) awaited
+
+abbrev pub ack_from : Coordinator → Outcome → List ServerId → Actor → Effect Coordinator
+ack_from c outcome awaited (actor.Server server) = sends (record c { phase = phase.Ending outcome (without awaited server) }) []
+ack_from c outcome awaited _ = ignores c
+
+abbrev pub on_ack : Coordinator → Phase → Actor → Effect Coordinator
+on_ack c (phase.Ending outcome awaited) from = ack_from c outcome awaited from
+on_ack c _ from = ignores c
+
+-- ---- all mails
+
+abbrev pub on_body : Scenario → Coordinator → ℕ → Actor → Body → Effect Coordinator
+on_body sc c sent from (body.Done done) = on_done sc c c.phase from done
+on_body sc c sent from (body.Tell tell) = on_tell c c.phase sent tell
+on_body sc c sent from (body.Vote reply) = on_vote c c.phase from reply
+on_body sc c sent from (body.Ack ack) = on_ack c c.phase from
+on_body sc c sent from (body.Verdicts reply) = unbuilt c
+on_body sc c sent from (body.Newest reply) = unbuilt c
+on_body sc c sent from (body.Inquire inquiry) = unbuilt c
+on_body sc c sent from _ = ignores c
+
+abbrev pub coordinator_row : Scenario → Coordinator → Mail → Effect Coordinator
+coordinator_row sc c mail = on_body sc c mail.sent mail.letter.from mail.letter.body
+
+-- ---- submitted and armed
+
+-- the transaction was submitted: its coordinator is idle until then, and never after. Its age says less, as one that booted knows none
+abbrev pub is_begun : Phase → Bool
+is_begun phase.Idle = false
+is_begun _ = true
+
+abbrev pub is_ending : Phase → Bool
+is_ending (phase.Ending outcome []) = true
+is_ending _ = false
+
+-- the transaction is submitted, and some server has not acknowledged its end
+abbrev pub is_armed : Coordinator → Bool
+is_armed c = is_begun c.phase && not (is_ending c.phase)

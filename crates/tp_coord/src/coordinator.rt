@@ -1,0 +1,392 @@
+//! A coordinator: the requests of one transaction, in their order, and its decision.
+ghost use Rattle.std.specs.Prelude.{◌≡◌, ◌<◌, ◌^◌, ◌==◌, ◌++◌, not, Option, Some, None, [], ◌∷◌, length, map, filter, IfOk, OnOk};
+ghost use Rattle.std.specs.List.{list_all};
+ghost use Rattle.std.specs.Option.{option_copied};
+ghost use Rattle.tp_model.specs.Words.{ServerId, Verdict};
+ghost use Rattle.tp_model.specs.Words.vote;
+ghost use Rattle.tp_coord.specs.declared.coordinator.Phase.TheVariants as Phase;
+ghost use Rattle.tp_types.specs.Effect.{Gives};
+ghost use Rattle.tp_coord.specs.Opened as opened;
+ghost use Rattle.tp_coord.specs.Row as row;
+
+use crate::sums::asked_value;
+use std::alloc::Global;
+use std::marker::Model;
+use tp_model::{deed_of, item_of, query_at, servers_of};
+use tp_round::Round;
+use tp_types::{
+    Actor, Answer, Body, Deed, DoneReply, Instance, Letter, List, Mail, NoMemory, Outcome, Place,
+    Query, QueryRequest, Reaction, Scenario, ServerId, Staple, TxnId, Verdict, ignored,
+    none_for_each, sent_alone, unbuilt,
+};
+
+/// What a coordinator awaits: its whole outstanding request.
+#[derive(Drop)]
+pub enum Phase {
+    Idle,
+    /// A query was sent to its server, with the staple if there was one.
+    Querying {
+        query: u32,
+        staple: Option<Staple>,
+    },
+    /// The authority was asked before a round.
+    Asking {
+        round: Round,
+    },
+    /// The servers of a round were asked, with a staple.
+    Checking {
+        round: Round,
+        staple: Staple,
+    },
+    /// The decision was sent; these servers have not acknowledged it.
+    Ending {
+        outcome: Outcome,
+        awaited: List<ServerId>,
+    },
+}
+
+/// A coordinator's state while it is up.
+#[derive(Drop)]
+pub struct Coordinator {
+    pub txn: TxnId,
+    /// The servers of the transaction's queries, in order of number.
+    pub servers: List<ServerId>,
+    /// The place of the submission, once there was one.
+    pub age: Option<Place>,
+    /// The number of requests so far.
+    pub turn: u32,
+    /// The epoch of each server of the scenario, as its first reply told it.
+    pub epochs: List<Option<u64>>,
+    pub deeds: List<Deed>,
+    /// The proofs so far, where each query is proved as it runs.
+    pub gathered: List<Verdict>,
+    /// The instances that agreed so far.
+    pub instances: List<Instance>,
+    pub phase: Phase,
+}
+
+impl Model for Coordinator {
+    ghost use Rattle.tp_coord.specs.State as state;
+
+    ghost Value = { state.Coordinator };
+
+    ghost view = { λ c. record {
+      txn = c.txn;
+      servers = c.servers;
+      age = c.age;
+      turn = c.turn;
+      epochs = c.epochs;
+      deeds = c.deeds;
+      gathered = c.gathered;
+      instances = c.instances;
+      phase = c.phase;
+    } };
+}
+
+impl Coordinator {
+    /// A coordinator before its transaction is submitted.
+    pub fn idle(alloc: Global, scenario: &Scenario, txn: TxnId) -> Result<Coordinator, NoMemory>
+        requires { length scenario.now.servers < 2 ^ 32 }
+        ensures { IfOk result (λ made. made ≡ opened.idle scenario.now txn) }
+    {
+        Ok(Coordinator {
+            txn,
+            servers: servers_at(alloc, scenario, txn)?,
+            age: None,
+            turn: 0,
+            epochs: none_for_each(alloc, scenario.servers.len())?,
+            deeds: List::new(alloc),
+            gathered: List::new(alloc),
+            instances: List::new(alloc),
+            phase: Phase::Idle,
+        })
+    }
+
+    /// What the submission of the transaction does. After NoMemory nothing is said of the state.
+    pub fn submit(&mut self, alloc: Global, scenario: &Scenario) -> Result<Reaction, NoMemory>
+        ensures { IfOk result (λ reaction.
+            Gives (row.submit_row scenario.now self.old) self.new reaction) }
+    {
+        match self.home_of(scenario, 1) {
+            None => Ok(ignored(alloc)),
+            Some(server) => self.sends_query(alloc, scenario, 1, server),
+        }
+    }
+
+    /// Tells the place of the submission, once it is known.
+    pub fn placed(&mut self, place: Place)
+        ensures { self.new ≡ row.coordinator_with_age self.old place }
+    {
+        self.age = Some(place);
+    }
+
+    /// Whether the transaction was submitted.
+    pub fn begun(&self) -> bool
+        ensures { result ≡ row.is_begun self.now.phase }
+    {
+        !matches!(self.phase, Phase::Idle)
+    }
+
+    /// Whether the transaction is submitted, and some server has not acknowledged its end.
+    pub fn armed(&self) -> bool
+        ensures { result ≡ row.is_armed self.now }
+    {
+        self.begun() && !is_ending(&self.phase)
+    }
+
+    /// What the coordinator does on receipt of a mail. After NoMemory nothing is said of the state.
+    pub fn receive(
+        &mut self,
+        alloc: Global,
+        scenario: &Scenario,
+        mail: &Mail,
+    ) -> Result<Reaction, NoMemory>
+        ensures { IfOk result (λ reaction.
+            Gives (row.coordinator_row scenario.now self.old mail.now) self.new reaction) }
+    {
+        let from = mail.letter.from;
+        match &mail.letter.body {
+            Body::Done(done) => self.on_done(alloc, scenario, from, done),
+            Body::Tell(tell) => self.on_tell(alloc, mail.sent, tell),
+            Body::Vote(reply) => self.on_vote(alloc, from, reply),
+            Body::Ack(_) => self.on_ack(alloc, from),
+            Body::Verdicts(_) | Body::Newest(_) | Body::Inquire(_) => Ok(unbuilt(alloc)),
+            _ => Ok(ignored(alloc)),
+        }
+    }
+
+    fn query_of<'a>(&self, scenario: &'a Scenario, number: u32) -> Option<&'a Query>
+        ensures { option_copied result ≡ row.query_of scenario.now self.now number }
+    {
+        match scenario.txns.get(self.txn.0 as usize) {
+            None => None,
+            Some(txn) => query_at(txn, number),
+        }
+    }
+
+    /// The server of the transaction's query of this number.
+    fn home_of(&self, scenario: &Scenario, number: u32) -> Option<ServerId>
+        ensures { result ≡ row.home_of scenario.now self.now number }
+    {
+        match self.query_of(scenario, number) {
+            None => None,
+            Some(query) => server_of(scenario, query),
+        }
+    }
+
+    pub(crate) fn request(&self, server: ServerId, body: Body) -> Letter
+        ensures { result ≡ row.request self.now server body }
+    {
+        Letter {
+            from: Actor::Coordinator(self.txn),
+            to: Actor::Server(server),
+            body,
+        }
+    }
+
+    pub(crate) fn next_turn(&self) -> u32
+        ensures { result ≡ row.next_turn self.now }
+    {
+        self.turn.saturating_add(1)
+    }
+
+    /// The epoch that a server has told the transaction, if it has told one.
+    pub(crate) fn epoch_told(&self, server: ServerId) -> Option<u64>
+        ensures { result ≡ row.epoch_told self.now server }
+    {
+        match self.epochs.get(server.0 as usize) {
+            Some(told) => *told,
+            None => None,
+        }
+    }
+
+    /// The value that a query is asked with: a write's sum over what was read.
+    fn value_of(
+        &self,
+        alloc: Global,
+        scenario: &Scenario,
+        number: u32,
+    ) -> Result<Option<i128>, NoMemory>
+        ensures { IfOk result (λ value. value ≡ row.value_of scenario.now self.now number) }
+    {
+        match scenario.txns.get(self.txn.0 as usize) {
+            Some(txn) => asked_value(alloc, txn, self.deeds.as_slice(), number),
+            None => Ok(None),
+        }
+    }
+
+    fn sends_query(
+        &mut self,
+        alloc: Global,
+        scenario: &Scenario,
+        number: u32,
+        server: ServerId,
+    ) -> Result<Reaction, NoMemory>
+        ensures { IfOk result (λ reaction.
+            Gives (row.sends_query scenario.now self.old number server) self.new reaction) }
+    {
+        let turn = self.next_turn();
+        let query = QueryRequest {
+            txn: self.txn,
+            turn,
+            query: number,
+            age: self.age,
+            epoch: self.epoch_told(server),
+            value: self.value_of(alloc, scenario, number)?,
+            staple: None,
+            pin: None,
+        };
+        let letter = self.request(server, Body::Query(query));
+        self.turn = turn;
+        self.phase = Phase::Querying {
+            query: number,
+            staple: None,
+        };
+        sent_alone(alloc, letter)
+    }
+
+    /// After the query of this number the next one is asked; after the last the rounds at commit begin.
+    fn goes_on(
+        &mut self,
+        alloc: Global,
+        scenario: &Scenario,
+        number: u32,
+    ) -> Result<Reaction, NoMemory>
+        ensures { IfOk result (λ reaction.
+            Gives (row.goes_on scenario.now self.old number) self.new reaction) }
+    {
+        let next = number.saturating_add(1);
+        match self.home_of(scenario, next) {
+            None => self.begins_rounds(alloc),
+            Some(server) => self.sends_query(alloc, scenario, next, server),
+        }
+    }
+
+    fn on_done(
+        &mut self,
+        alloc: Global,
+        scenario: &Scenario,
+        from: Actor,
+        done: &DoneReply,
+    ) -> Result<Reaction, NoMemory>
+        ensures { IfOk result (λ reaction.
+            Gives
+            (row.on_done scenario.now self.old self.old.phase from done.now) self.new reaction) }
+    {
+        if !self.awaits_query(done) {
+            return Ok(ignored(alloc));
+        }
+        if !is_plain(&self.phase) {
+            return Ok(unbuilt(alloc));
+        }
+        let Some(query) = self.query_of(scenario, done.query) else {
+            return Ok(ignored(alloc));
+        };
+        match server_of(scenario, query) {
+            Some(server) if is_from(from, server) => {
+                self.answered(alloc, scenario, server, done, query)
+            }
+            _ => Ok(ignored(alloc)),
+        }
+    }
+
+    fn answered(
+        &mut self,
+        alloc: Global,
+        scenario: &Scenario,
+        server: ServerId,
+        done: &DoneReply,
+        query: &Query,
+    ) -> Result<Reaction, NoMemory>
+        ensures { IfOk result (λ reaction.
+            Gives (row.on_answer scenario.now self.old server done.now query.now done.now.answer)
+            self.new reaction) }
+    {
+        match &done.answer {
+            Answer::Ran {
+                value,
+                verdict: None,
+            } => {
+                self.ran(server, done, query, *value)?;
+                self.goes_on(alloc, scenario, done.query)
+            }
+            _ => Ok(unbuilt(alloc)),
+        }
+    }
+
+    fn awaits_query(&self, done: &DoneReply) -> bool
+        ensures { result ≡ row.awaits_query self.now self.now.phase done.now }
+    {
+        match &self.phase {
+            Phase::Querying { query, .. } => done.turn == self.turn && done.query == *query,
+            _ => false,
+        }
+    }
+
+    fn ran(
+        &mut self,
+        server: ServerId,
+        done: &DoneReply,
+        query: &Query,
+        value: i128,
+    ) -> Result<(), NoMemory>
+        ensures { OnOk result (self.new ≡ row.with_deed self.old server done.now query.now value) }
+    {
+        self.deeds.push(deed_of(done.query, query, value))?;
+        self.epochs.put(server.0 as usize, Some(done.epoch));
+        Ok(())
+    }
+}
+
+fn servers_at(alloc: Global, scenario: &Scenario, txn: TxnId) -> Result<List<ServerId>, NoMemory>
+    requires { length scenario.now.servers < 2 ^ 32 }
+    ensures { IfOk result (λ made. made ≡ opened.servers_at scenario.now txn) }
+{
+    match scenario.txns.get(txn.0 as usize) {
+        None => Ok(List::new(alloc)),
+        Some(found) => servers_of(alloc, scenario, found),
+    }
+}
+
+fn server_of(scenario: &Scenario, query: &Query) -> Option<ServerId>
+    ensures { result ≡ row.server_of scenario.now query.now }
+{
+    match scenario.items.get(item_of(query).0 as usize) {
+        None => None,
+        Some(item) => Some(item.server),
+    }
+}
+
+fn is_from(from: Actor, asked: ServerId) -> bool
+    ensures { result ≡ row.is_from from asked }
+{
+    match from {
+        Actor::Server(server) => server.0 == asked.0,
+        _ => false,
+    }
+}
+
+fn is_ending(phase: &Phase) -> bool
+    ensures { result ≡ row.is_ending phase.now }
+{
+    match phase {
+        Phase::Ending {
+            outcome: _,
+            awaited,
+        } => awaited.is_empty(),
+        _ => false,
+    }
+}
+
+/// Whether no query that was asked with a staple is awaited.
+fn is_plain(phase: &Phase) -> bool
+    ensures { result ≡ row.is_plain phase.now }
+{
+    match phase {
+        Phase::Querying {
+            staple: Some(_),
+            ..
+        } => false,
+        _ => true,
+    }
+}

@@ -1,0 +1,128 @@
+//! A coordinator's decision, which is forced before it is sent, and the acknowledgements of it.
+ghost use Rattle.std.specs.Prelude.{◌≡◌, ◌==◌, not, Option, None, filter, IfOk};
+ghost use Rattle.tp_model.specs.Words.{ServerId};
+ghost use Rattle.tp_types.specs.Effect.{Gives};
+ghost use Rattle.tp_round.specs.Replies as replies;
+ghost use Rattle.tp_coord.specs.Row as row;
+
+use crate::coordinator::{Coordinator, Phase};
+use std::alloc::Global;
+use std::mem;
+use tp_round::Round;
+use tp_types::{
+    Actor, Body, Cause, CommitRecord, DecideRequest, Decided, Decision, Denied, Instance, Letter,
+    List, NoMemory, Outcome, Reaction, Record, ServerId, TryClone, Verdict, ignored, nothing,
+};
+
+impl Coordinator {
+    pub(crate) fn aborts(&mut self, alloc: Global, why: Cause) -> Result<Reaction, NoMemory>
+        ensures { IfOk result (λ reaction. Gives (row.aborts self.old why) self.new reaction) }
+    {
+        self.decides(alloc, Outcome::Abort, Decision::Abort(why))
+    }
+
+    /// The transaction commits on the proofs of a round, which close an instance.
+    pub(crate) fn commits(&mut self, alloc: Global, round: &Round) -> Result<Reaction, NoMemory>
+        ensures { IfOk result (λ reaction.
+            Gives
+            (row.commits self.old round.now.number (replies.by_query (replies.proofs_in round.now.targets)))
+            self.new reaction) }
+    {
+        self.instances.push(Instance {
+            reading: None,
+            proofs: round.proofs(alloc)?,
+        })?;
+        let commit = CommitRecord {
+            rounds: round.rounds(),
+            instances: self.instances.try_clone(alloc)?,
+            deeds: self.deeds.try_clone(alloc)?,
+        };
+        self.decides(alloc, Outcome::Commit, Decision::Commit(commit))
+    }
+
+    fn decides(
+        &mut self,
+        alloc: Global,
+        outcome: Outcome,
+        decision: Decision,
+    ) -> Result<Reaction, NoMemory>
+        ensures { IfOk result (λ reaction.
+            Gives (row.decides self.old outcome decision) self.new reaction) }
+    {
+        let letters = self.decide_letters(alloc, outcome)?;
+        self.phase = Phase::Ending {
+            outcome,
+            awaited: self.servers.try_clone(alloc)?,
+        };
+        let decided = Record::Decided(Decided {
+            txn: self.txn,
+            decision,
+        });
+        Ok(Reaction {
+            append: Some(decided),
+            letters,
+        })
+    }
+
+    fn decide_letters(&self, alloc: Global, outcome: Outcome) -> Result<List<Letter>, NoMemory>
+        ensures { IfOk result (λ letters. letters ≡ row.decide_letters self.now outcome) }
+    {
+        let mut letters = List::new(alloc);
+        for server in self.servers.as_slice() {
+            let decide = DecideRequest {
+                txn: self.txn,
+                outcome,
+            };
+            letters.push(self.request(*server, Body::Decide(decide)))?;
+        }
+        Ok(letters)
+    }
+
+    pub(crate) fn on_ack(&mut self, alloc: Global, from: Actor) -> Result<Reaction, NoMemory>
+        ensures { IfOk result (λ reaction.
+            Gives (row.on_ack self.old self.old.phase from) self.new reaction) }
+    {
+        let Actor::Server(server) = from else {
+            return Ok(ignored(alloc));
+        };
+        match mem::replace(&mut self.phase, Phase::Idle) {
+            Phase::Ending { outcome, awaited } => {
+                let awaited = without(alloc, awaited.as_slice(), server)?;
+                self.phase = Phase::Ending { outcome, awaited };
+                Ok(nothing(alloc))
+            }
+            other => {
+                self.phase = other;
+                Ok(ignored(alloc))
+            }
+        }
+    }
+}
+
+fn without(
+    alloc: Global,
+    awaited: &[ServerId],
+    server: ServerId,
+) -> Result<List<ServerId>, NoMemory>
+    ensures { IfOk result (λ left. left ≡ row.without awaited.now server) }
+{
+    let left: Vec<ServerId> = awaited
+        .iter()
+        .copied()
+        .filter(|other| other.0 != server.0)
+        .collect(alloc)?;
+    Ok(List::from_vec(left))
+}
+
+/// What a false verdict denies.
+pub(crate) fn denied_by(verdict: &Verdict) -> Denied
+    ensures { result ≡ row.denied_by verdict.now }
+{
+    Denied {
+        query: verdict.query,
+        server: verdict.server,
+        admin: verdict.admin,
+        version: verdict.version,
+        place: verdict.place,
+    }
+}

@@ -1,0 +1,254 @@
+//! A coordinator's rounds of validation: the authority is asked, then the servers are to prepare, and their votes are judged.
+ghost use Rattle.std.specs.Prelude.{◌≡◌, Option, Some, None, [], map, IfOk};
+ghost use Rattle.std.specs.List.{find};
+ghost use Rattle.std.specs.Option.{option_copied};
+ghost use Rattle.tp_model.specs.Ids.{same_server};
+ghost use Rattle.tp_model.specs.Words.vote;
+ghost use Rattle.tp_coord.specs.declared.coordinator.Phase.TheVariants as Phase;
+ghost use Rattle.tp_round.specs.declared.round.Wanted.{Wanted};
+ghost use Rattle.tp_types.specs.Effect.{Gives, sends};
+ghost use Rattle.tp_round.specs.Judge as judge;
+ghost use Rattle.tp_coord.specs.Row as row;
+
+use crate::coordinator::{Coordinator, Phase};
+use crate::decisions::denied_by;
+use std::alloc::Global;
+use std::mem;
+use tp_round::{Judged, Round, Wanted};
+use tp_types::{
+    Actor, AdminId, AskRequest, Body, Cause, Letter, Level, List, No, NoMemory, OutOfRange, Place,
+    PrepareRequest, Reaction, ServerId, Staple, TellReply, TryClone, Verdict, Version, Vote,
+    VoteReply, ignored, nothing, sent_alone, unbuilt,
+};
+
+/// Under view consistency two rounds bring all servers to one version.
+const VIEW_ROUNDS: u32 = 2;
+
+impl Coordinator {
+    /// All queries ran: the first round at commit, of all of the transaction's servers.
+    pub(crate) fn begins_rounds(&mut self, alloc: Global) -> Result<Reaction, NoMemory>
+        ensures { IfOk result (λ reaction.
+            Gives (row.asks self.old (row.commit_round self.old)) self.new reaction) }
+    {
+        let round = Round::start(alloc, self.servers.as_slice(), VIEW_ROUNDS, Level::View)?;
+        self.asks(alloc, round)
+    }
+
+    /// Before each round the authority is asked.
+    fn asks(&mut self, alloc: Global, round: Round) -> Result<Reaction, NoMemory>
+        ensures { IfOk result (λ reaction. Gives (row.asks self.old round) self.new reaction) }
+    {
+        let turn = self.next_turn();
+        let letter = Letter {
+            from: Actor::Coordinator(self.txn),
+            to: Actor::Authority,
+            body: Body::Ask(AskRequest {
+                txn: self.txn,
+                turn,
+            }),
+        };
+        self.turn = turn;
+        self.phase = Phase::Asking { round };
+        sent_alone(alloc, letter)
+    }
+
+    fn epoch_of(&self, server: ServerId) -> u64
+        ensures { result ≡ row.epoch_of self.now server }
+    {
+        self.epoch_told(server).unwrap_or(0)
+    }
+
+    fn prepare_letter(
+        &self,
+        alloc: Global,
+        round: &Round,
+        staple: &Staple,
+        server: ServerId,
+    ) -> Result<Letter, NoMemory>
+        ensures { IfOk result (λ letter.
+            letter ≡ row.prepare_letter self.now round.now staple.now server) }
+    {
+        let prepare = PrepareRequest {
+            txn: self.txn,
+            turn: self.next_turn(),
+            epoch: self.epoch_of(server),
+            staple: Some(staple.try_clone(alloc)?),
+            want: want_for(alloc, round, server)?,
+        };
+        Ok(self.request(server, Body::Prepare(prepare)))
+    }
+
+    fn prepare_letters(
+        &self,
+        alloc: Global,
+        round: &Round,
+        staple: &Staple,
+    ) -> Result<List<Letter>, NoMemory>
+        ensures { IfOk result (λ letters.
+            letters
+            ≡ map (row.prepare_letter self.now round.now staple.now) (row.awaited_in round.now)) }
+    {
+        let mut letters = List::new(alloc);
+        for target in round.targets.as_slice() {
+            if target.reply.is_none() {
+                letters.push(self.prepare_letter(alloc, round, staple, target.server)?)?;
+            }
+        }
+        Ok(letters)
+    }
+
+    pub(crate) fn on_tell(
+        &mut self,
+        alloc: Global,
+        sent: Place,
+        tell: &TellReply,
+    ) -> Result<Reaction, NoMemory>
+        ensures { IfOk result (λ reaction.
+            Gives (row.on_tell self.old self.old.phase sent tell.now) self.new reaction) }
+    {
+        if tell.turn != self.turn || !matches!(self.phase, Phase::Asking { .. }) {
+            return Ok(ignored(alloc));
+        }
+        let staple = Staple {
+            place: sent,
+            clock: tell.clock,
+            revoked: tell.revoked.try_clone(alloc)?,
+        };
+        match mem::replace(&mut self.phase, Phase::Idle) {
+            Phase::Asking { round } => self.prepares(alloc, round, staple),
+            other => {
+                self.phase = other;
+                Ok(ignored(alloc))
+            }
+        }
+    }
+
+    fn prepares(
+        &mut self,
+        alloc: Global,
+        round: Round,
+        staple: Staple,
+    ) -> Result<Reaction, NoMemory>
+        ensures { IfOk result (λ reaction.
+            Gives (row.prepares self.old round staple) self.new reaction) }
+    {
+        let letters = self.prepare_letters(alloc, &round, &staple)?;
+        self.turn = self.next_turn();
+        self.phase = Phase::Checking { round, staple };
+        Ok(Reaction {
+            append: None,
+            letters,
+        })
+    }
+
+    pub(crate) fn on_vote(
+        &mut self,
+        alloc: Global,
+        from: Actor,
+        reply: &VoteReply,
+    ) -> Result<Reaction, NoMemory>
+        ensures { IfOk result (λ reaction.
+            Gives (row.on_vote self.old self.old.phase from reply.now) self.new reaction) }
+    {
+        let Actor::Server(server) = from else {
+            return Ok(ignored(alloc));
+        };
+        if reply.turn != self.turn || !awaits_vote(&self.phase, server) {
+            return Ok(ignored(alloc));
+        }
+        let verdicts = match &reply.vote {
+            Vote::Yes(verdicts) => verdicts,
+            Vote::No(why) => return self.on_no(alloc, server, *why),
+        };
+        match mem::replace(&mut self.phase, Phase::Idle) {
+            Phase::Checking { round, staple } => self.voted(alloc, round, staple, server, verdicts),
+            other => {
+                self.phase = other;
+                Ok(ignored(alloc))
+            }
+        }
+    }
+
+    /// A vote NO of a server that is awaited ends the transaction at once.
+    fn on_no(&mut self, alloc: Global, server: ServerId, why: No) -> Result<Reaction, NoMemory>
+        ensures { IfOk result (λ reaction.
+            Gives (row.vote_at self.old self.old.phase server (vote.No why)) self.new reaction) }
+    {
+        if !matches!(self.phase, Phase::Checking { .. }) {
+            return Ok(ignored(alloc));
+        }
+        match why {
+            No::Range { query, value } => self.aborts(
+                alloc,
+                Cause::No(OutOfRange {
+                    query,
+                    server,
+                    value,
+                }),
+            ),
+            No::Restarted => Ok(unbuilt(alloc)),
+        }
+    }
+
+    /// Other votes of the round are awaited.
+    fn awaits_more(&mut self, alloc: Global, round: Round, staple: Staple) -> Reaction
+        ensures { Gives (sends (record self.old { phase = Phase.Checking round staple }) []) self.new result }
+    {
+        self.phase = Phase::Checking { round, staple };
+        nothing(alloc)
+    }
+
+    /// A vote YES of a server that is awaited: the round is judged with it.
+    fn voted(
+        &mut self,
+        alloc: Global,
+        round: Round,
+        staple: Staple,
+        server: ServerId,
+        verdicts: &List<Verdict>,
+    ) -> Result<Reaction, NoMemory>
+        ensures { IfOk result (λ reaction.
+            Gives (row.on_reply self.old (judge.after_reply round server verdicts.now) staple)
+            self.new reaction) }
+    {
+        let mut round = round;
+        round.reply(server, verdicts.try_clone(alloc)?);
+        match round.judge(alloc, None)? {
+            Judged::Waiting => Ok(self.awaits_more(alloc, round, staple)),
+            Judged::AllTrue => self.commits(alloc, &round),
+            Judged::False { verdict } => self.aborts(alloc, Cause::Denied(denied_by(&verdict))),
+            Judged::Spent(mets) => self.aborts(alloc, Cause::Rounds(mets)),
+            Judged::Update(_) => self.asks(alloc, round),
+        }
+    }
+}
+
+/// What the last update named the server for.
+fn named_for<'a>(named: &'a [Wanted], server: ServerId) -> Option<&'a Wanted>
+    ensures { option_copied result ≡ find (λ (one : Wanted). same_server one.server server) named.now }
+{
+    named.iter().find(|one| one.server.0 == server.0)
+}
+
+/// What the last update wants of a server.
+fn want_for(
+    alloc: Global,
+    round: &Round,
+    server: ServerId,
+) -> Result<List<(AdminId, Version)>, NoMemory>
+    ensures { IfOk result (λ want. want ≡ row.want_for round.now server) }
+{
+    match named_for(round.named.as_slice(), server) {
+        None => Ok(List::new(alloc)),
+        Some(named) => named.want.try_clone(alloc),
+    }
+}
+
+fn awaits_vote(phase: &Phase, server: ServerId) -> bool
+    ensures { result ≡ row.awaits_vote phase.now server }
+{
+    match phase {
+        Phase::Checking { round, staple: _ } => round.awaits(server),
+        _ => false,
+    }
+}
