@@ -16,7 +16,7 @@ use Rattle.tp_lock.specs.Table.{Table}
 
 -- ---- the owner
 
-any_with_grant : (owner : TxnId) (earlier entries : List LockEntry) → list_any (is_of owner) (with_grants_from earlier entries) ≡ list_any (is_of owner) entries
+pub any_with_grant : (owner : TxnId) (earlier entries : List LockEntry) → list_any (is_of owner) (with_grants_from earlier entries) ≡ list_any (is_of owner) entries
 any_with_grant owner earlier [] = refl
 any_with_grant owner earlier (entry ∷ entries) = ap (λ b. is_of owner entry || b) (any_with_grant owner (earlier ++ with_grant earlier entry ∷ []) entries)
 
@@ -97,7 +97,7 @@ all_other owner (entry ∷ entries) none =
     ap (λ b. cond (not b) (entry ∷ filter (is_of_other owner) entries) (filter (is_of_other owner) entries)) parts.0
     ∙ ap (λ rest. entry ∷ rest) (all_other owner entries parts.1)
 
-not_granted : (held clear : Bool) → held ≡ clear → (not held && clear) ≡ false
+pub not_granted : (held clear : Bool) → held ≡ clear → (not held && clear) ≡ false
 not_granted true clear e = refl
 not_granted false clear e = sym e
 

@@ -1,6 +1,6 @@
 -- What slots show, call by call: each mirror of a rule on slots shows what the rule gives.
-use Rattle.std.proofs.Common.{◌≡◌, ℕ, zero, suc, Bool, true, false, not, cond, ◌&&◌, ◌||◌, List, [], ◌∷◌, ◌++◌, get_or, set, map, filter, option_map, Option, Some, None, refl, ap, sym, ◌∙◌, length, ◌≤◌, replicate}
-use Rattle.std.proofs.lemmas.List.{get_or_past, map-append, map-set, set_past}
+use Rattle.std.proofs.Common.{◌≡◌, ℕ, zero, suc, Bool, true, false, not, cond, ◌&&◌, ◌||◌, List, [], ◌∷◌, ◌++◌, get_or, set, map, filter, option_map, Option, Some, None, refl, ap, sym, ◌∙◌, replicate}
+use Rattle.std.proofs.lemmas.List.{map-append, map-set}
 use Rattle.std.specs.List.{find, list_any}
 use Rattle.tp_types.specs.declared.ids.ItemId.{ItemId}
 use Rattle.tp_types.specs.declared.ids.TxnId.{TxnId}
@@ -118,7 +118,7 @@ untold_after_request owner age mode from item [] = refl
 untold_after_request owner age mode from zero (slots ∷ lists) = ap (λ grants. grants ++ untold (suc from) lists) (untold_with from owner age mode slots (mirror.is_served owner mode slots))
 untold_after_request owner age mode from (suc item) (slots ∷ lists) = ap (λ grants. untold_in from slots ++ grants) (untold_after_request owner age mode (suc from) item lists)
 
-entries_at_of : (item : ℕ) (lists : List (List Slot)) → get_or (map entries_of lists) item [] ≡ entries_of (get_or lists item [])
+pub entries_at_of : (item : ℕ) (lists : List (List Slot)) → get_or (map entries_of lists) item [] ≡ entries_of (get_or lists item [])
 entries_at_of item [] = refl
 entries_at_of zero (slots ∷ lists) = refl
 entries_at_of (suc item) (slots ∷ lists) = entries_at_of item lists
@@ -138,14 +138,6 @@ pub answer_at_of : (owner : TxnId) (age : ℕ) (item : ItemId) (mode : Action) (
 answer_at_of owner age item mode lists =
     ap (rule.answer owner age mode) (entries_at_of item.0 lists) ∙ answer_of owner age mode (get_or lists item.0 [])
 
--- an item that is not there
-pub nothing_there : (owner : TxnId) (age : ℕ) (item : ItemId) (mode : Action) (lists : List (List Slot)) → length lists ≤ item.0
-    → (Granted ≡ rule.answer_at owner age item mode (shown lists)) × (shown lists ≡ rule.after_request owner age item mode (shown lists))
-nothing_there owner age item mode lists past =
-    let empty : get_or lists item.0 [] ≡ [] = get_or_past lists item.0 [] past in
-    let same : set lists item.0 (mirror.with_slot owner age mode (get_or lists item.0 [])) ≡ lists = set_past lists item.0 (mirror.with_slot owner age mode (get_or lists item.0 [])) past in
-    (ap (mirror.answer owner age mode) (sym empty) ∙ sym (answer_at_of owner age item mode lists), ap shown (sym same) ∙ shown_after_request owner age item mode lists)
-
 -- the slots of an item
 pub slots_there : (owner : TxnId) (age : ℕ) (item : ItemId) (mode : Action) (lists : List (List Slot)) (slots : List Slot) → slots ≡ get_or lists item.0 []
     → (mirror.answer owner age mode slots ≡ rule.answer_at owner age item mode (shown lists))
@@ -157,7 +149,7 @@ slots_there owner age item mode lists slots here = (
 
 -- ---- a release
 
-granted_of : (earlier : List Slot) (entry : LockEntry) → rule.is_granted (entries_of earlier) entry ≡ mirror.is_granted earlier entry
+pub granted_of : (earlier : List Slot) (entry : LockEntry) → rule.is_granted (entries_of earlier) entry ≡ mirror.is_granted earlier entry
 granted_of earlier entry = ap (λ b. not entry.held && not b) (any_of (rule.conflicts entry.owner entry.mode) earlier)
 
 with_grant_of : (earlier : List Slot) (slot : Slot) → rule.with_grant (entries_of earlier) slot.entry ≡ entry_of (mirror.with_grant earlier slot)

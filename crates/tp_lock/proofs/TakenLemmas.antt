@@ -1,18 +1,16 @@
 -- The grant that is taken, and how far all are taken.
-use Rattle.std.proofs.Common.{◌≡◌, ℕ, zero, suc, Bool, true, false, not, cond, ◌&&◌, List, [], ◌∷◌, ◌++◌, get_or, drop, set, map, filter, option_map, Some, None, Result, Ok, Err, OnOk, OnErr, refl, ap, sym, ◌∙◌, append-nil, add-one, arith, length, take, ◌<◌, ◌≤◌, ◌+◌, ◌⊎◌, inl, inr, slice_get, is_some}
-use Rattle.std.proofs.lemmas.List.{drop_all, drop_more, length-set, set_split, take_all}
-use Rattle.std.proofs.lemmas.List.Folds.{list_all_more}
+use Rattle.std.proofs.Common.{◌≡◌, ℕ, zero, suc, Bool, true, false, not, cond, List, [], ◌∷◌, ◌++◌, get_or, drop, set, map, filter, option_map, Some, None, refl, ap, sym, ◌∙◌, append-nil, add-one, arith, length, take, ◌<◌, ◌≤◌, ◌+◌, ◌⊎◌, inl, inr, slice_get, is_some}
+use Rattle.std.proofs.lemmas.List.{drop_all, drop_more, set_split, take_all}
 use Rattle.std.specs.List.{find, list_all}
 use Rattle.std.proofs.lemmas.Bool.{and_parts, not-true}
 use Rattle.tp_types.specs.declared.ids.TxnId.{TxnId}
-use Rattle.tp_types.specs.declared.list.NoMemory.{NoMemory}
 use Rattle.tp_types.specs.declared.policy.Action.{Action}
 use Rattle.tp_lock.specs.declared.entry.Asked.{Asked}
 use Rattle.tp_lock.specs.declared.entry.Asked.TheVariants.{Granted, Waits, Dies}
 use Rattle.tp_lock.specs.declared.slots.Slot.{Slot}
 use Rattle.tp_lock.specs.Rule as rule
 use Rattle.tp_lock.specs.mirrors.Slots as mirror
-use Rattle.tp_lock.specs.mirrors.Slots.{AreKept, are_told, entries_of, first_in, first_of, is_untold, shown, told_first, told_lists, untold, with_slot}
+use Rattle.tp_lock.specs.mirrors.Slots.{are_told, entries_of, first_in, first_of, is_untold, shown, told_first, told_lists, untold, with_slot}
 use Rattle.tp_lock.proofs.ShownLemmas.{same_table}
 
 -- ---- a grant that is taken
@@ -125,15 +123,12 @@ lists_after (suc at) (slots ∷ lists) told =
 are_passed : (lists : List (List Slot)) (at : ℕ) → list_all are_told (take at lists) ≡ true → ArePassed lists at
 are_passed lists at told = record { first = first_after 0 at at lists (omega arith) told; told = lists_after at lists told }
 
--- one more list in which nothing is found
-pub told_more : (lists : List (List Slot)) (at : ℕ) (slots : List Slot) → at < length lists → slots ≡ get_or lists at slots
-    → option_map mirror.owner_of (find is_untold slots) ≡ None → list_all are_told (take at lists) ≡ true → list_all are_told (take (at + 1) lists) ≡ true
-told_more lists at slots lt here nothing told =
-    let last : are_told slots ≡ true = elim (untold_cases slots) [
-      | inl has ↦ let some : option_map mirror.owner_of (find is_untold slots) ≡ Some has.first.entry.owner = ap (option_map mirror.owner_of) has.found in cc
-      | inr none ↦ ap (λ o. not (is_some o)) none.found
-    ] in
-    list_all_more are_told lists at slots lt ∙ ap (λ b. b && are_told (get_or lists at slots)) told ∙ ap are_told (sym here) ∙ last
+-- and all are told
+pub none_found : (slots : List Slot) → option_map mirror.owner_of (find is_untold slots) ≡ None → are_told slots ≡ true
+none_found slots nothing = elim (untold_cases slots) [
+  | inl has ↦ let some : option_map mirror.owner_of (find is_untold slots) ≡ Some has.first.entry.owner = ap (option_map mirror.owner_of) has.found in cc
+  | inr none ↦ ap (λ o. not (is_some o)) none.found
+]
 
 -- the list at this place has the first grant, which is taken
 pub here_passed : (lists : List (List Slot)) (at : ℕ) (slots : List Slot) (owner : TxnId) → at < length lists → slots ≡ get_or lists at slots
@@ -165,7 +160,7 @@ all_passed lists at over before =
     let same : told_lists lists ≡ lists = sym passed.told ∙ rw (past, front) (append-nil lists) in
     (sym (ap (first_of at) past) ∙ passed.first ∙ sym (shown_first lists), ap shown (sym same) ∙ shown_told lists)
 
--- ---- how far all grants are taken
+-- ---- a request
 
 told_push : (slots : List Slot) (slot : Slot) → slot.told ≡ true → find is_untold (slots ++ slot ∷ []) ≡ find is_untold slots
 told_push [] slot told = ap (λ b. cond (not b) (Some slot) None) told
@@ -181,24 +176,6 @@ told_with : (owner : TxnId) (age : ℕ) (mode : Action) (asked : Asked) (slots :
 told_with owner age mode asked slots true = refl
 told_with owner age mode asked slots false = told_with_answer owner age mode asked slots
 
--- a request adds no grant, whatever its answer
-told_answer : (owner : TxnId) (age : ℕ) (mode : Action) (slots grown : List Slot) (result : Result Asked NoMemory)
-    → OnOk result (grown ≡ with_slot owner age mode slots) → OnErr result (grown ≡ slots) → are_told grown ≡ are_told slots
-told_answer owner age mode slots grown (Ok asked) ok err =
-    ap are_told ok ∙ told_with owner age mode (mirror.answer_to_new owner age mode slots) slots (mirror.is_served owner mode slots)
-told_answer owner age mode slots grown (Err error) ok err = ap are_told err
-
-told_set : (next item : ℕ) (lists : List (List Slot)) (slots : List Slot) → are_told slots ≡ are_told (get_or lists item [])
-    → list_all are_told (take next (set lists item slots)) ≡ list_all are_told (take next lists)
-told_set zero item lists slots e = refl
-told_set (suc next) item [] slots e = refl
-told_set (suc next) zero (first ∷ lists) slots e = ap (λ b. b && list_all are_told (take next lists)) e
-told_set (suc next) (suc item) (first ∷ lists) slots e = ap (λ b. are_told first && b) (told_set next item lists slots e)
-
-pub after_request_kept : (owner : TxnId) (age : ℕ) (mode : Action) (next item : ℕ) (lists : List (List Slot)) (slots grown : List Slot) (result : Result Asked NoMemory)
-    → slots ≡ get_or lists item [] → OnOk result (grown ≡ with_slot owner age mode slots) → OnErr result (grown ≡ slots)
-    → AreKept lists next → AreKept (set lists item grown) next
-after_request_kept owner age mode next item lists slots grown result here ok err kept = record {
-  few = rw length-set kept.few;
-  told = told_set next item lists grown (told_answer owner age mode slots grown result ok err ∙ ap are_told here) ∙ kept.told;
-}
+-- a request adds no grant
+pub told_with_slot : (owner : TxnId) (age : ℕ) (mode : Action) (slots : List Slot) → are_told (with_slot owner age mode slots) ≡ are_told slots
+told_with_slot owner age mode slots = told_with owner age mode (mirror.answer_to_new owner age mode slots) slots (mirror.is_served owner mode slots)

@@ -7,6 +7,7 @@ ghost use Rattle.tp_lock.specs.Rule as rule;
 mod entry;
 mod laws;
 mod lists;
+mod owned;
 mod plain;
 mod slots;
 

@@ -1,5 +1,6 @@
-//! What each call does with the slots of one item. None but a request takes memory.
-ghost use Rattle.std.specs.Prelude.{◌≡◌, [], IfOk, OnOk, OnErr, filter, find, option_map, option_and_then, slice_get};
+//! What each call does with the slots of an item, or of several. None but a request takes memory.
+ghost use Rattle.std.specs.Prelude.{◌≡◌, [], drop, IfOk, OnOk, OnErr, filter, find, option_map, option_and_then, slice_get};
+ghost use Rattle.tp_lock.specs.mirrors.Kept as kept;
 ghost use Rattle.tp_lock.specs.mirrors.Slots as mirror;
 
 use crate::entry::{Asked, LockEntry};
@@ -68,13 +69,58 @@ fn settle(slots: &mut [Slot])
 }
 
 /// Takes the owner's slots out, and settles those that are left in their order.
-pub fn leave(alloc: Global, slots: &mut List<Slot>, owner: TxnId)
+fn leave(alloc: Global, slots: &mut List<Slot>, owner: TxnId)
     ensures { slots.new ≡ mirror.left_by owner slots.old }
 {
     let whole = mem::replace(slots, List::new(alloc));
     let mut left = without(whole.into_vec(), owner);
     settle(&mut left);
     *slots = List::from_vec(left);
+}
+
+/// Takes the owner's slots out of the list of one item.
+fn leave_one(alloc: Global, lists: &mut Vec<List<Slot>>, item: u32, owner: TxnId)
+    ensures { lists.new.items ≡ kept.at_item (mirror.left_by owner) item lists.old.items }
+{
+    if let Some(slots) = lists.get_mut(item as usize) {
+        leave(alloc, slots, owner);
+    }
+}
+
+/// Takes the owner's slots out of the lists of these items.
+pub fn leave_each(alloc: Global, lists: &mut Vec<List<Slot>>, items: &[u32], owner: TxnId)
+    ensures { lists.new.items ≡ kept.at_each (mirror.left_by owner) items.now lists.old.items }
+{
+    for item in items {
+        leave_one(alloc, lists, *item, owner);
+    }
+}
+
+fn tell_all(slots: &mut [Slot])
+    ensures { slots.new ≡ mirror.all_told slots.old }
+{
+    for at in 0..slots.len() {
+        slots[at].told = true;
+    }
+}
+
+fn forget_one(alloc: Global, lists: &mut Vec<List<Slot>>, item: u32)
+    ensures { lists.new.items ≡ kept.at_item mirror.all_told item lists.old.items }
+{
+    if let Some(slots) = lists.get_mut(item as usize) {
+        let mut whole = mem::replace(slots, List::new(alloc)).into_vec();
+        tell_all(&mut whole);
+        *slots = List::from_vec(whole);
+    }
+}
+
+/// Forgets the grants that nobody took in the lists of these items, from a place on.
+pub fn forget_each(alloc: Global, lists: &mut Vec<List<Slot>>, items: &[u32], from: usize)
+    ensures { lists.new.items ≡ kept.at_each mirror.all_told (drop from items.now) lists.old.items }
+{
+    for at in from..items.len() {
+        forget_one(alloc, lists, items[at]);
+    }
 }
 
 fn untold_at(slots: &List<Slot>, at: usize) -> Option<Slot>
@@ -87,7 +133,7 @@ fn untold_at(slots: &List<Slot>, at: usize) -> Option<Slot>
 }
 
 /// Tells the first grant that nobody took, and answers its owner.
-pub fn tell(slots: &mut List<Slot>) -> Option<TxnId>
+fn tell(slots: &mut List<Slot>) -> Option<TxnId>
     ensures owner { result ≡ option_map mirror.owner_of (find mirror.is_untold slots.old) }
     ensures told { slots.new ≡ mirror.told_first slots.old }
 {
@@ -98,4 +144,16 @@ pub fn tell(slots: &mut List<Slot>) -> Option<TxnId>
         }
     }
     None
+}
+
+/// Tells the first grant that nobody took in the list of one item.
+pub fn tell_one(lists: &mut Vec<List<Slot>>, item: u32) -> Option<TxnId>
+    ensures owner { result ≡ option_map mirror.owner_of
+        (find mirror.is_untold (kept.slots_at item lists.old.items)) }
+    ensures told { lists.new.items ≡ kept.at_item mirror.told_first item lists.old.items }
+{
+    match lists.get_mut(item as usize) {
+        None => None,
+        Some(slots) => tell(slots),
+    }
 }

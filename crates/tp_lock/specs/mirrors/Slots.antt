@@ -1,6 +1,6 @@
 -- Slots: entries with a flag that is false for a grant that nobody took.
-use Rattle.std.specs.Prelude.{ℕ, suc, ◌≡◌, ◌≤◌, ◌^◌, length, take, ◌++◌, ◌&&◌, ◌||◌, not, List, [], ◌∷◌, Bool, true, false, if◌then◌else◌, map, filter, Option, Some, None, option_map, is_some}
-use Rattle.std.specs.List.{find, list_all, list_any}
+use Rattle.std.specs.Prelude.{ℕ, suc, ◌++◌, ◌&&◌, ◌||◌, not, List, [], ◌∷◌, Bool, true, false, if◌then◌else◌, map, filter, Option, Some, None, option_map, is_some}
+use Rattle.std.specs.List.{find, list_any}
 use Rattle.tp_types.specs.declared.ids.TxnId.{TxnId}
 use Rattle.tp_types.specs.declared.policy.Action.{Action}
 use Rattle.tp_lock.specs.declared.entry.Asked.{Asked}
@@ -35,11 +35,6 @@ untold item (slots ∷ lists) = untold_in item slots ++ untold (suc item) lists
 
 abbrev pub are_told : List Slot → Bool
 are_told slots = not (is_some (find is_untold slots))
-
--- the items can be numbered, and no list before this place has a grant that nobody took
-pub record AreKept (lists : List (List Slot)) (next : ℕ) : Type 0 where
-  pub few : length lists ≤ 2 ^ 32
-  pub told : list_all are_told (take next lists) ≡ true
 
 abbrev pub shown : List (List Slot) → Table
 shown lists = record { lists = map entries_of lists; grants = untold 0 lists }
@@ -101,6 +96,14 @@ is_of_other owner slot = rule.is_of_other owner slot.entry
 
 abbrev pub left_by : TxnId → List Slot → List Slot
 left_by owner slots = with_grants_from [] (filter (is_of_other owner) slots)
+
+-- ---- grants that are forgotten
+
+abbrev pub as_told : Slot → Slot
+as_told slot = record slot { told = true }
+
+abbrev pub all_told : List Slot → List Slot
+all_told slots = map as_told slots
 
 -- ---- a grant that is taken
 
