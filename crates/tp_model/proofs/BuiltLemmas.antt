@@ -1,5 +1,5 @@
 -- What the present stage gives of a scenario: at most one transaction, which is plain.
-use Rattle.std.proofs.Common.{◌≡◌, ◌≤◌, true, List, [], ◌∷◌, length, Some, refl, slice_get, subst, zero, suc, ℕ, arith}
+use Rattle.std.proofs.Common.{◌≡◌, ◌≤◌, true, List, [], ◌∷◌, length, Some, slice_get, subst, zero, suc, ℕ, arith}
 use Rattle.std.proofs.lemmas.Option.{same_Some}
 use Rattle.tp_model.specs.Words.{Scenario, Transaction}
 use Rattle.tp_model.specs.Built.{is_built}

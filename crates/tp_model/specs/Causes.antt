@@ -1,6 +1,7 @@
--- Causes of aborts: what a history shows where a transaction aborted. A denial, a value out of its item's range, a server's restart
--- and a halt of the coordinator have their rows; the other causes have none yet, and what has no row is not shown.
-use Rattle.std.specs.Prelude.{ℕ, ◌&&◌, ◌||◌, nat_le, List, drop, slice_get, Bool, true, false, Option, not, is_some, option_map, ℤ}
+-- Causes of aborts: what a history shows where a transaction aborted. A denial, a value out of its item's range, a death for an older
+-- transaction, a server's restart and a halt of the coordinator have their rows. A newer version, and rounds that each met one, have
+-- none yet, and what has no row is not shown.
+use Rattle.std.specs.Prelude.{ℕ, ◌&&◌, ◌||◌, nat_le, List, [], drop, slice_get, Bool, true, false, Option, not, is_some, option_map, ℤ}
 use Rattle.std.specs.List.{find, list_all, list_any}
 use Rattle.std.specs.Option.{option_map_or}
 use Rattle.std.specs.Ordering.{int_eq}
@@ -14,6 +15,7 @@ use Rattle.tp_types.specs.declared.records.Cause.{Cause}
 use Rattle.tp_types.specs.declared.records.Cause.TheVariants as cause
 use Rattle.tp_types.specs.declared.records.Decision.TheVariants as decision
 use Rattle.tp_types.specs.declared.records.Denied.{Denied}
+use Rattle.tp_types.specs.declared.records.Died.{Died}
 use Rattle.tp_types.specs.declared.records.OutOfRange.{OutOfRange}
 use Rattle.tp_types.specs.declared.records.Outcome.TheVariants as outcome
 use Rattle.tp_types.specs.declared.scenario.Actor.{Actor}
@@ -26,11 +28,11 @@ use Rattle.tp_types.specs.declared.scenario.Scheme.{Scheme}
 use Rattle.tp_types.specs.declared.scenario.Scheme.TheVariants as scheme
 use Rattle.tp_types.specs.declared.scenario.Transaction.{Transaction}
 use Rattle.tp_model.specs.Authorisation.{is_allowed, is_own_query, policy_at}
-use Rattle.tp_model.specs.Facts.{before, is_settled_as, same_outcome}
+use Rattle.tp_model.specs.Facts.{before, is_settled_as, is_settlement, is_submission, same_outcome}
 use Rattle.tp_model.specs.Ids.{same_item, same_server, same_txn}
 use Rattle.tp_model.specs.Levels.{is_global, level_of}
 use Rattle.tp_model.specs.Limits.{is_between}
-use Rattle.tp_model.specs.Queries.{query_at, servers_of}
+use Rattle.tp_model.specs.Queries.{is_at_server, item_of, query_at, servers_of}
 use Rattle.tp_model.specs.SerialRun.{run_value, store_at}
 use Rattle.tp_model.specs.Trust.{is_within}
 use Rattle.tp_model.specs.Versions.{newest}
@@ -165,6 +167,58 @@ is_refused sc txn decided facts refused declared =
     && was_refused_at refused.server txn decided facts
     && is_explained sc txn facts refused declared
 
+-- ---- died
+
+-- one of the queries writes the item that the other reads or writes
+abbrev pub is_conflict : Query → Query → Bool
+is_conflict one other = is_write_of (item_of other) one || is_write_of (item_of one) other
+
+abbrev pub conflicts_with : Query → Transaction → Bool
+conflicts_with query declared = list_any (is_conflict query) declared.queries
+
+-- the other is a transaction of the scenario, and has a query in conflict with this one
+abbrev pub has_conflict : Scenario → TxnId → Query → Bool
+has_conflict sc other query =
+    option_map_or (conflicts_with query) (slice_get sc.txns other.0) false
+
+-- the query is on an item of the server, and the other transaction has one in conflict with it
+abbrev pub is_contested_query : Scenario → Died → Query → Bool
+is_contested_query sc died query =
+    is_at_server sc died.server.0 query && has_conflict sc died.other query
+
+-- so is the transaction's query of this number
+abbrev pub has_contested_query : Scenario → Transaction → Died → Bool
+has_contested_query sc declared died =
+    option_map_or (is_contested_query sc died) (query_at declared died.query) false
+
+-- the place of the transaction's first submission
+abbrev pub submitted_at : TxnId → List Fact → Option ℕ
+submitted_at txn facts = option_map place_of (find (is_submission txn) facts)
+
+-- the facts before the transaction's submission; none where it was not submitted
+abbrev pub before_submission : TxnId → List Fact → List Fact
+before_submission txn facts =
+    option_map_or (λ (place : ℕ). before place facts) (submitted_at txn facts) []
+
+-- the other was submitted before the transaction was, so it is the older one
+abbrev pub was_submitted_before : TxnId → TxnId → List Fact → Bool
+was_submitted_before other txn facts =
+    list_any (is_submission other) (before_submission txn facts)
+
+-- before the transaction was submitted the server had settled the other, as a commit or as an abort
+abbrev pub was_settled_before : ServerId → TxnId → TxnId → List Fact → Bool
+was_settled_before at other txn facts =
+    list_any (is_settlement at other) (before_submission txn facts)
+
+-- wait-die (Rosenkrantz, Stearns and Lewis 1978): an older transaction in conflict stood in the way of a query. When the younger one was
+-- submitted, the server had not settled it; by the place it may have, since an answer that was given may be sent again later
+abbrev pub is_older_conflict : Scenario → TxnId → ℕ → List Fact → Died → Transaction → Bool
+is_older_conflict sc txn decided facts died declared =
+    has_contested_query sc declared died
+    && is_within txn decided facts died.place
+    && was_submitted_before died.other txn facts
+    && not (was_settled_before died.server died.other txn facts)
+
 -- ---- all causes
 
 -- the history shows the cause of an abort that was decided at the place
@@ -173,6 +227,8 @@ is_shown sc txn decided facts (cause.Denied denied) declared =
     is_denied sc txn decided facts denied declared
 is_shown sc txn decided facts (cause.No refused) declared =
     is_refused sc txn decided facts refused declared
+is_shown sc txn decided facts (cause.Died died) declared =
+    is_older_conflict sc txn decided facts died declared
 is_shown sc txn decided facts (cause.Restarted at) declared =
     is_server_of sc at declared && crashed_within (is_server_actor at) txn decided facts
 is_shown sc txn decided facts cause.Halted declared =

@@ -11,6 +11,6 @@ mod versions;
 pub use deeds::deed_of;
 pub use level::{is_global, level_of, reads_master};
 pub use policy::{matches, meets, policy_at, rule_in};
-pub use query::{action_of, has_query_at, item_of, only, query_at, servers_of};
+pub use query::{action_of, has_query_at, is_at_server, item_of, only, query_at, servers_of};
 pub use valid::is_valid;
 pub use versions::{newest_at, publications};

@@ -48,7 +48,8 @@ pub fn only<T>(items: &[T]) -> Option<&T>
     }
 }
 
-fn is_at_server(scenario: &Scenario, server: u32, query: &Query) -> bool
+/// The query is on an item of the server.
+pub fn is_at_server(scenario: &Scenario, server: u32, query: &Query) -> bool
     ensures { result ≡ queries.is_at_server scenario.now server query.now }
 {
     match scenario.items.get(item_of(query).0 as usize) {
