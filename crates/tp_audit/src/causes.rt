@@ -5,6 +5,7 @@ ghost use Rattle.tp_model.specs.Causes as causes;
 ghost use Rattle.tp_model.specs.Versions as versions;
 
 use crate::authorisation::{is_allowed, is_own_query};
+use crate::conflicts::is_older_conflict;
 use crate::crashes::{coordinator_crashed, is_server_of, server_crashed};
 use crate::refusals::is_refused;
 use crate::trust::is_within;
@@ -141,6 +142,7 @@ fn is_shown(
     match why {
         Cause::Denied(denied) => Ok(is_denied(scenario, txn, decided, facts, denied, declared)),
         Cause::No(refused) => is_refused(alloc, scenario, txn, decided, facts, refused, declared),
+        Cause::Died(died) => Ok(is_older_conflict(scenario, txn, decided, facts, died, declared)),
         Cause::Restarted { server } => {
             Ok(is_restart(scenario, txn, decided, facts, *server, declared))
         }

@@ -6,6 +6,7 @@ mod agreement;
 mod authorisation;
 mod causes;
 mod commits;
+mod conflicts;
 mod crashes;
 mod credentials;
 mod demand;

@@ -14,7 +14,8 @@ use tp_types::{
     Transaction, TxnId, What,
 };
 
-fn is_write_of(item: ItemId, query: &Query) -> bool
+/// The query writes the item.
+pub fn is_write_of(item: ItemId, query: &Query) -> bool
     ensures { result ≡ causes.is_write_of item query.now }
 {
     match query {
