@@ -377,7 +377,7 @@ pub struct Basis {
 pub enum Why {
     Denied(Denied),
     No(OutOfRange),
-    Died,
+    Died(Died),
     Newer,
     Rounds,
     Restarted(u32),
@@ -457,15 +457,6 @@ fn committed(rt: &(impl Abort + AllocGlobal), basis: &Basis) -> Decision {
     })
 }
 
-fn died() -> Cause {
-    Cause::Died(Died {
-        query: 1,
-        server: ServerId(0),
-        other: TxnId(1),
-        place: 2,
-    })
-}
-
 fn newer() -> Cause {
     Cause::Newer(Newer {
         admin: AdminId(0),
@@ -478,7 +469,7 @@ fn cause(rt: &(impl Abort + AllocGlobal), why: Why) -> Cause {
     match why {
         Why::Denied(denied) => Cause::Denied(denied),
         Why::No(refused) => Cause::No(refused),
-        Why::Died => died(),
+        Why::Died(died) => Cause::Died(died),
         Why::Newer => newer(),
         Why::Rounds => Cause::Rounds(List::new(rt.alloc())),
         Why::Restarted(server) => Cause::Restarted {

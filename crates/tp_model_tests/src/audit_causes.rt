@@ -326,10 +326,6 @@ const CASES: &[Case] = &[
     ),
     // causes that are not built
     (
-        &[(0, Said::Submit(PAY)), (5, Said::Abort(PAY, Why::Died))],
-        Some(1),
-    ),
-    (
         &[(0, Said::Submit(PAY)), (5, Said::Abort(PAY, Why::Newer))],
         Some(1),
     ),

@@ -9,6 +9,8 @@ mod audit_agreement;
 #[cfg(test)]
 mod audit_causes;
 #[cfg(test)]
+mod audit_conflicts;
+#[cfg(test)]
 mod audit_refusals;
 #[cfg(test)]
 mod audit_serial;
