@@ -16,7 +16,7 @@ use Rattle.tp_model.specs.Words.decision
 use Rattle.tp_model.specs.Words.log
 use Rattle.tp_model.specs.Words.no
 use Rattle.tp_model.specs.Words.vote
-use Rattle.tp_model.specs.Words.{Actor, AdminId, Answer, Body, Cause, CommitRecord, Decision, Denied, DoneReply, Instance, Item, ItemId, Letter, Mail, No, OutOfRange, Outcome, PrepareRequest, Query, QueryRequest, Scenario, ServerId, Staple, TellReply, Transaction, Verdict, Version, Vote, VoteReply}
+use Rattle.tp_model.specs.Words.{Actor, AdminId, Answer, Body, Cause, CommitRecord, Decision, Denied, Died, DoneReply, Instance, Item, ItemId, Letter, Mail, No, OutOfRange, Outcome, PrepareRequest, Query, QueryRequest, Scenario, ServerId, Staple, TellReply, Transaction, TxnId, Verdict, Version, Vote, VoteReply}
 use Rattle.tp_model.specs.Deeds.{deed_of}
 use Rattle.tp_coord.specs.Sums.{asked_value}
 use Rattle.tp_coord.specs.State.{Coordinator}
@@ -57,6 +57,23 @@ server_at sc item = option_map (λ (i : Item). i.server) (slice_get sc.items ite
 -- the server of a query
 abbrev pub server_of : Scenario → Query → Option ServerId
 server_of sc query = server_at sc (item_of query)
+
+-- ---- decisions
+
+abbrev pub decide_letters : Coordinator → Outcome → List Letter
+decide_letters c outcome =
+    requests c (body.Decide (record { txn = c.txn; outcome = outcome })) c.servers
+
+-- the decision is forced before it is sent to all of the transaction's servers
+abbrev pub decides : Coordinator → Outcome → Decision → Effect Coordinator
+decides c outcome decided =
+    logs (record c { phase = phase.Ending outcome c.servers })
+    (log.Decided (record { txn = c.txn; decision = decided }))
+    (decide_letters c outcome)
+
+-- the transaction aborts
+abbrev pub aborts : Coordinator → Cause → Effect Coordinator
+aborts c why = decides c Abort (decision.Abort why)
 
 -- ---- queries
 
@@ -151,25 +168,33 @@ asks_next sc c number (Some server) = sends_query sc c number server
 abbrev pub goes_on : Scenario → Coordinator → ℕ → Effect Coordinator
 goes_on sc c number = asks_next sc c (next_number number) (home_of sc c (next_number number))
 
--- by the answer: what ran is kept, and the transaction goes on. An answer that ends the transaction is not built
-abbrev pub on_answer : Scenario → Coordinator → ServerId → DoneReply → Query → Answer
+-- an older transaction stood in the way of a query, as its server said at the place where it answered
+abbrev pub died_for : ServerId → DoneReply → TxnId → ℕ → Died
+died_for server done other sent =
+    record { query = done.query; server = server; other = other; place = sent }
+
+-- by the answer: what ran is kept, and the transaction goes on; where an older one stood in the way it aborts. Another answer that ends
+-- the transaction is not built
+abbrev pub on_answer : Scenario → Coordinator → ℕ → ServerId → DoneReply → Query → Answer
     → Effect Coordinator
-on_answer sc c server done query (answer.Ran value None) =
+on_answer sc c sent server done query (answer.Ran value None) =
     goes_on sc (with_deed c server done query value) done.query
-on_answer sc c server done query _ = unbuilt c
+on_answer sc c sent server done query (answer.Died other) =
+    aborts c (cause.Died (died_for server done other sent))
+on_answer sc c sent server done query _ = unbuilt c
 
 -- the reply to a query, from the server that was asked
-abbrev pub on_done_from : Scenario → Coordinator → Actor → DoneReply → Query → Option ServerId
+abbrev pub on_done_from : Scenario → Coordinator → ℕ → Actor → DoneReply → Query → Option ServerId
     → Effect Coordinator
-on_done_from sc c from done query None = ignores c
-on_done_from sc c from done query (Some server) =
-    if is_from from server then on_answer sc c server done query done.answer else ignores c
+on_done_from sc c sent from done query None = ignores c
+on_done_from sc c sent from done query (Some server) =
+    if is_from from server then on_answer sc c sent server done query done.answer else ignores c
 
-abbrev pub on_done_of_query : Scenario → Coordinator → Actor → DoneReply → Option Query
+abbrev pub on_done_of_query : Scenario → Coordinator → ℕ → Actor → DoneReply → Option Query
     → Effect Coordinator
-on_done_of_query sc c from done None = ignores c
-on_done_of_query sc c from done (Some query) =
-    on_done_from sc c from done query (server_of sc query)
+on_done_of_query sc c sent from done None = ignores c
+on_done_of_query sc c sent from done (Some query) =
+    on_done_from sc c sent from done query (server_of sc query)
 
 -- the query that is awaited, in the present turn
 abbrev pub awaits_query : Coordinator → Phase → DoneReply → Bool
@@ -181,10 +206,11 @@ abbrev pub is_plain : Phase → Bool
 is_plain (phase.Querying number (Some staple)) = false
 is_plain _ = true
 
-abbrev pub on_done : Scenario → Coordinator → Phase → Actor → DoneReply → Effect Coordinator
-on_done sc c awaited from done =
+abbrev pub on_done : Scenario → Coordinator → Phase → ℕ → Actor → DoneReply → Effect Coordinator
+on_done sc c awaited sent from done =
     if awaits_query c awaited done
-    then (if is_plain awaited then on_done_of_query sc c from done (query_of sc c done.query)
+    then (if is_plain awaited
+    then on_done_of_query sc c sent from done (query_of sc c done.query)
     else unbuilt c)
     else ignores c
 
@@ -246,26 +272,11 @@ instances_with c proofs = c.instances ++ record { reading = None; proofs = proof
 abbrev pub commit_record : Coordinator → ℕ → List Verdict → CommitRecord
 commit_record c rounds proofs = record { rounds = rounds; instances = instances_with c proofs; deeds = c.deeds }
 
-abbrev pub decide_letters : Coordinator → Outcome → List Letter
-decide_letters c outcome =
-    requests c (body.Decide (record { txn = c.txn; outcome = outcome })) c.servers
-
--- the decision is forced before it is sent to all of the transaction's servers
-abbrev pub decides : Coordinator → Outcome → Decision → Effect Coordinator
-decides c outcome decided =
-    logs (record c { phase = phase.Ending outcome c.servers })
-    (log.Decided (record { txn = c.txn; decision = decided }))
-    (decide_letters c outcome)
-
 -- the transaction commits on these proofs, which close an instance
 abbrev pub commits : Coordinator → ℕ → List Verdict → Effect Coordinator
 commits c rounds proofs =
     decides (record c { instances = instances_with c proofs }) Commit
     (decision.Commit (commit_record c rounds proofs))
-
--- the transaction aborts
-abbrev pub aborts : Coordinator → Cause → Effect Coordinator
-aborts c why = decides c Abort (decision.Abort why)
 
 -- what a false verdict denies
 abbrev pub denied_by : Verdict → Denied
@@ -336,7 +347,7 @@ on_ack c _ from = ignores c
 -- ---- all mails
 
 abbrev pub on_body : Scenario → Coordinator → ℕ → Actor → Body → Effect Coordinator
-on_body sc c sent from (body.Done done) = on_done sc c c.phase from done
+on_body sc c sent from (body.Done done) = on_done sc c c.phase sent from done
 on_body sc c sent from (body.Tell tell) = on_tell c c.phase sent tell
 on_body sc c sent from (body.Vote reply) = on_vote c c.phase from reply
 on_body sc c sent from (body.Ack ack) = on_ack c c.phase from

@@ -11,7 +11,7 @@ pub record Coordinator : Type 0 where
   pub age : Option ℕ
   -- the number of requests so far
   pub turn : ℕ
-  -- the epoch of each server of the scenario, as its first reply told it
+  -- the epoch of each server of the scenario, as its last reply told it
   pub epochs : List (Option ℕ)
   pub deeds : List Deed
   -- the proofs so far, where each query is proved as it runs

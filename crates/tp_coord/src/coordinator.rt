@@ -15,9 +15,9 @@ use std::marker::Model;
 use tp_model::{deed_of, item_of, query_at, servers_of};
 use tp_round::Round;
 use tp_types::{
-    Actor, Answer, Body, Deed, DoneReply, Instance, Letter, List, Mail, NoMemory, Outcome, Place,
-    Query, QueryRequest, Reaction, Scenario, ServerId, Staple, TxnId, Verdict, ignored,
-    none_for_each, sent_alone, unbuilt,
+    Actor, Answer, Body, Cause, Deed, Died, DoneReply, Instance, Letter, List, Mail, NoMemory,
+    Outcome, Place, Query, QueryRequest, Reaction, Scenario, ServerId, Staple, TxnId, Verdict,
+    ignored, none_for_each, sent_alone, unbuilt,
 };
 
 /// What a coordinator awaits: its whole outstanding request.
@@ -55,7 +55,7 @@ pub struct Coordinator {
     pub age: Option<Place>,
     /// The number of requests so far.
     pub turn: u32,
-    /// The epoch of each server of the scenario, as its first reply told it.
+    /// The epoch of each server of the scenario, as its last reply told it.
     pub epochs: List<Option<u64>>,
     pub deeds: List<Deed>,
     /// The proofs so far, where each query is proved as it runs.
@@ -146,7 +146,7 @@ impl Coordinator {
     {
         let from = mail.letter.from;
         match &mail.letter.body {
-            Body::Done(done) => self.on_done(alloc, scenario, from, done),
+            Body::Done(done) => self.on_done(alloc, scenario, mail.sent, from, done),
             Body::Tell(tell) => self.on_tell(alloc, mail.sent, tell),
             Body::Vote(reply) => self.on_vote(alloc, from, reply),
             Body::Ack(_) => self.on_ack(alloc, from),
@@ -266,12 +266,14 @@ impl Coordinator {
         &mut self,
         alloc: Global,
         scenario: &Scenario,
+        sent: Place,
         from: Actor,
         done: &DoneReply,
     ) -> Result<Reaction, NoMemory>
         ensures { IfOk result (λ reaction.
             Gives
-            (row.on_done scenario.now self.old self.old.phase from done.now) self.new reaction) }
+            (row.on_done scenario.now self.old self.old.phase sent from done.now)
+            self.new reaction) }
     {
         if !self.awaits_query(done) {
             return Ok(ignored(alloc));
@@ -284,7 +286,7 @@ impl Coordinator {
         };
         match server_of(scenario, query) {
             Some(server) if is_from(from, server) => {
-                self.answered(alloc, scenario, server, done, query)
+                self.answered(alloc, scenario, sent, server, done, query)
             }
             _ => Ok(ignored(alloc)),
         }
@@ -294,12 +296,14 @@ impl Coordinator {
         &mut self,
         alloc: Global,
         scenario: &Scenario,
+        sent: Place,
         server: ServerId,
         done: &DoneReply,
         query: &Query,
     ) -> Result<Reaction, NoMemory>
         ensures { IfOk result (λ reaction.
-            Gives (row.on_answer scenario.now self.old server done.now query.now done.now.answer)
+            Gives (row.on_answer scenario.now self.old sent server done.now query.now
+            done.now.answer)
             self.new reaction) }
     {
         match &done.answer {
@@ -309,6 +313,15 @@ impl Coordinator {
             } => {
                 self.ran(server, done, query, *value)?;
                 self.goes_on(alloc, scenario, done.query)
+            }
+            Answer::Died { other } => {
+                let died = Died {
+                    query: done.query,
+                    server,
+                    other: *other,
+                    place: sent,
+                };
+                self.aborts(alloc, Cause::Died(died))
             }
             _ => Ok(unbuilt(alloc)),
         }

@@ -2,6 +2,7 @@ pub mod ages
 pub mod agreement
 pub mod basics
 pub mod bounds
+pub mod deaths
 pub mod epochs
 pub mod ids
 pub mod mails

@@ -5,6 +5,7 @@ pub mod Flags
 pub mod Homes
 pub mod Ids
 pub mod Lists
+pub mod Locks
 pub mod Logs
 pub mod Machine
 pub mod Opened

@@ -20,4 +20,5 @@ pub mod Rises
 pub mod ServerRows
 pub mod Site
 pub mod Votes
+pub mod Waiting
 pub mod World

@@ -1,5 +1,5 @@
 -- What is asked of each mail, record and fact of a world: that all they name exists, and that their values are bounded.
-use Rattle.std.specs.Prelude.{Bool, IfSome, List, Option, Some, [], false, is_some, length, option_and_then, option_map, slice_get, true, ℕ, ℤ, ◌<◌, ◌∷◌, ◌≡◌, ◌≤◌}
+use Rattle.std.specs.Prelude.{Bool, IfSome, List, Option, Some, [], false, is_some, length, option_and_then, option_map, slice_get, true, ℕ, ℤ, ◌<◌, ◌∷◌, ◌≡◌, ◌≤◌, is_none, ◌&&◌}
 use Rattle.tp_types.specs.Table.{flattened}
 use Rattle.tp_model.specs.Queries.{item_of, query_at}
 use Rattle.tp_model.specs.Words.actor
@@ -29,6 +29,8 @@ use Rattle.tp_machine.specs.declared.server.Entry.{Entry}
 use Rattle.tp_machine.specs.server.State.{Server}
 use Rattle.tp_offices.specs.declared.authority.Authority.{Authority}
 use Rattle.tp_offices.specs.declared.master.Master.{Master}
+use Rattle.tp_lock.specs.Table.{Table}
+use Rattle.tp_lock.specs.declared.entry.LockEntry.{LockEntry}
 use Rattle.tp_store.specs.Rule.{writes_of}
 use Rattle.tp_store.specs.declared.writes.TentativeWrite.{TentativeWrite}
 
@@ -444,10 +446,16 @@ IsSoundFact sc fact = IsSoundWhat sc fact.what
 
 -- ---- actors
 
+-- a query that waits is of the transaction, and asked without a staple
+pub record IsSoundWait (sc : Scenario) (at : ServerId) (txn : TxnId) (q : QueryRequest) : Type 0 where
+  pub own : q.txn ≡ txn
+  pub plain : (is_none q.staple && is_none q.pin) ≡ true
+  pub sound : IsSoundQuery sc (actor.Server at) q
+
 -- what an entry keeps of a transaction is sound
 pub record IsSoundEntry (sc : Scenario) (at : ServerId) (txn : TxnId) (entry : Entry) : Type 0 where
   pub answers : Each (IsSoundDone sc (actor.Coordinator txn)) entry.answers
-  pub waiting : IfSome entry.waiting (IsSoundQuery sc (actor.Server at))
+  pub waiting : IfSome entry.waiting (IsSoundWait sc at txn)
   pub deeds : Each (IsSoundDeedAt sc at txn) entry.deeds
   pub ballot : IfSome entry.ballot (λ (cast : Ballot). AreSoundVerdicts sc txn cast.verdicts)
 
@@ -461,6 +469,13 @@ pub record IsWriteOf (sc : Scenario) (at : ServerId) (txn : TxnId) (write : Tent
   pub query : IsQueryOf sc txn write.query at
   pub item : IsItemOf sc at write.item
 
+-- each lock is of a transaction that exists
+abbrev pub HaveOwners : Scenario → Table → Type 0
+HaveOwners sc locks = EachAt
+    (λ (item : ℕ) (entries : List LockEntry).
+    Each (λ (lock : LockEntry). IsTxn sc lock.owner) entries)
+    locks.lists
+
 -- a server's state: it exists, and what it knows and keeps of each transaction is sound
 pub record IsSoundServer (sc : Scenario) (s : Server) : Type 0 where
   pub exists : IsServer sc s.server
@@ -470,6 +485,7 @@ pub record IsSoundServer (sc : Scenario) (s : Server) : Type 0 where
       (λ (n : ℕ) (done : Settled). IsSettledOf sc s.server (record { 0 = n }) done) s.settled
   pub entries : EachPlaced
       (λ (n : ℕ) (entry : Entry). IsSoundEntry sc s.server (record { 0 = n }) entry) s.entries
+  pub locks : HaveOwners sc s.locks
 
 -- the server has this number, and is sound
 pub record IsSoundServerUp (sc : Scenario) (at : ServerId) (s : Server) : Type 0 where

@@ -9,16 +9,20 @@ use crate::part::{Act, Part, coordinator_submits, coordinator_takes, no_act, ser
 use crate::server::Server;
 use std::alloc::Global;
 use tp_coord::Coordinator;
+use tp_lock::PlainLocks;
 use tp_offices::{Authority, Master, NoMore};
 use tp_types::{
     Actor, AdminId, CredId, Item, List, Mail, NoMemory, Place, Reaction, Scenario, ServerId, TxnId,
     What,
 };
 
+/// The table of locks that each server keeps.
+pub type Locks = PlainLocks;
+
 /// The servers, the coordinators, each with its log, and the offices.
 #[derive(Drop)]
 pub struct Actors {
-    pub servers: List<Part<Server>>,
+    pub servers: List<Part<Server<Locks>>>,
     pub coordinators: List<Part<Coordinator>>,
     pub authority: Authority,
     pub master: Master,
@@ -226,7 +230,7 @@ impl Actors {
 
 fn item_values(
     alloc: Global,
-    servers: &[Part<Server>],
+    servers: &[Part<Server<Locks>>],
     items: &[Item],
 ) -> Result<List<i128>, NoMemory>
     ensures { IfOk result (λ values. values ≡ machine.item_values servers.now 0 items.now) }
@@ -238,7 +242,7 @@ fn item_values(
     Ok(values)
 }
 
-fn item_value(servers: &[Part<Server>], at: usize, item: &Item) -> i128
+fn item_value(servers: &[Part<Server<Locks>>], at: usize, item: &Item) -> i128
     ensures { result ≡ machine.item_value servers.now at item.now }
 {
     match servers.get(item.server.0 as usize) {
@@ -247,7 +251,7 @@ fn item_value(servers: &[Part<Server>], at: usize, item: &Item) -> i128
     }
 }
 
-fn value_up(up: Option<&Server>, at: usize, opening: i128) -> i128
+fn value_up(up: Option<&Server<Locks>>, at: usize, opening: i128) -> i128
     ensures { result ≡ machine.value_up (option_copied up.entry) at opening }
 {
     match up {
@@ -257,14 +261,15 @@ fn value_up(up: Option<&Server>, at: usize, opening: i128) -> i128
 }
 
 #[tactic(auto, using(crate::proofs::basics::Opened::opened_servers_more))]
-fn opened_servers(alloc: Global, scenario: &Scenario) -> Result<List<Part<Server>>, NoMemory>
+fn opened_servers(alloc: Global, scenario: &Scenario) -> Result<List<Part<Server<Locks>>>, NoMemory>
     requires { length scenario.now.servers < 2 ^ 32 }
     ensures { IfOk result (λ made.
         made ≡ machine.opened_servers scenario.now (length scenario.now.servers)) }
 {
     let mut made = List::new(alloc);
     for number in 0..scenario.servers.len() as u32 {
-        let server = Server::opened(alloc, scenario, ServerId(number))?;
+        let locks = Locks::opened(alloc, scenario.items.len())?;
+        let server = Server::opened(alloc, scenario, ServerId(number), locks)?;
         made.push(Part::opened(alloc, server))?;
     }
     Ok(made)

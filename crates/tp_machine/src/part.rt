@@ -9,6 +9,7 @@ use crate::server::Server;
 use std::alloc::Global;
 use std::marker::Model;
 use tp_coord::Coordinator;
+use tp_lock::LockTable;
 use tp_types::{
     Letter, List, Mail, NoMemory, Place, Reaction, Record, Scenario, ServerId, TryClone, TxnId,
     What,
@@ -73,8 +74,8 @@ pub fn no_act(alloc: Global) -> Act
 }
 
 /// A server receives a mail. After NoMemory nothing is said of its state, but that it is up as before.
-pub fn server_takes(
-    part: &mut Part<Server>,
+pub fn server_takes<L: LockTable + Drop>(
+    part: &mut Part<Server<L>>,
     alloc: Global,
     scenario: &Scenario,
     at: ServerId,

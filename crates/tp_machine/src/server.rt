@@ -1,5 +1,5 @@
 //! A server: what it does on receipt of a mail.
-ghost use Rattle.std.specs.Prelude.{◌≡◌, Option, Some, None, [], ◌∷◌, map, slice_get, slice_set, IfOk, OnOk};
+ghost use Rattle.std.specs.Prelude.{◌≡◌, Option, Some, None, [], ◌∷◌, length, map, slice_get, slice_set, IfOk, OnOk};
 ghost use Rattle.std.specs.Option.{option_copied};
 ghost use Rattle.tp_machine.specs.declared.server.Entry.{Entry};
 ghost use Rattle.tp_types.specs.Effect.{Gives};
@@ -8,13 +8,15 @@ ghost use Rattle.tp_machine.specs.server.Row as row;
 ghost use Rattle.tp_machine.specs.server.Opened as opened;
 ghost use Rattle.tp_machine.specs.server.Verdicts as verdicts;
 ghost use Rattle.tp_machine.specs.server.Verdicts.{HasFewRules};
-ghost use Rattle.tp_machine.specs.mirrors.Entries.{entry_of, IsNoted};
+ghost use Rattle.tp_lock.specs.Rule as lock;
+ghost use Rattle.tp_machine.specs.mirrors.Entries.{Continues, entry_of, IsNoted};
 ghost use Rattle.tp_model.specs.Deeds as ran;
 
 use crate::verdicts::verdicts_on;
 use std::alloc::Global;
 use std::marker::Model;
-use tp_model::{deed_of, query_at};
+use tp_lock::{Asked, LockTable};
+use tp_model::{action_of, deed_of, item_of, query_at};
 use tp_store::Store;
 use tp_types::{
     AckReply, Actor, AdminId, Answer, Body, DecideRequest, Deed, DoneReply, Letter, List, Mail, No,
@@ -48,7 +50,7 @@ pub struct Entry {
 
 /// A server's state while it is up.
 #[derive(Drop)]
-pub struct Server {
+pub struct Server<L: LockTable> {
     pub server: ServerId,
     /// One plus the number of its boots.
     pub epoch: u64,
@@ -58,9 +60,11 @@ pub struct Server {
     pub settled: List<Option<Settled>>,
     /// The entry of each transaction of the scenario, if it has one.
     pub entries: List<Option<Entry>>,
+    /// The locks on the scenario's items.
+    pub locks: L,
 }
 
-impl Model for Server {
+impl<L: LockTable> Model for Server<L> {
     ghost use Rattle.tp_machine.specs.server.State as state;
 
     ghost Value = { state.Server };
@@ -71,12 +75,19 @@ impl Model for Server {
       store = s.store;
       settled = s.settled;
       entries = s.entries;
+      locks = L.table s.locks;
     } };
 }
 
-impl Server {
-    /// A server as it stands before the first step.
-    pub fn opened(alloc: Global, scenario: &Scenario, server: ServerId) -> Result<Server, NoMemory>
+impl<L: LockTable + Drop> Server<L> {
+    /// A server as it stands before the first step, with a table of no locks on the scenario's items.
+    pub fn opened(
+        alloc: Global,
+        scenario: &Scenario,
+        server: ServerId,
+        locks: L,
+    ) -> Result<Server<L>, NoMemory>
+        requires { L.table locks ≡ lock.opening (length scenario.now.items) }
         ensures { IfOk result (λ made. made ≡ opened.opening scenario.now server) }
     {
         Ok(Server {
@@ -85,6 +96,7 @@ impl Server {
             store: Store::opened(alloc, scenario, server)?,
             settled: none_for_each(alloc, scenario.txns.len())?,
             entries: none_for_each(alloc, scenario.txns.len())?,
+            locks,
         })
     }
 
@@ -102,7 +114,7 @@ impl Server {
         match &mail.letter.body {
             Body::Query(request) => self.on_query(alloc, scenario, mail.sent, request),
             Body::Prepare(request) => self.on_prepare(alloc, scenario, request),
-            Body::Decide(request) => self.on_decide(alloc, *request),
+            Body::Decide(request) => self.on_decide(alloc, scenario, *request),
             Body::Push(push) => Ok(self.on_push(alloc, *push)),
             Body::Validate(_) => Ok(unbuilt(alloc)),
             _ => Ok(ignored(alloc)),
@@ -173,7 +185,7 @@ impl Server {
         if entry.waiting.is_some() {
             return Ok(ignored(alloc));
         }
-        self.on_granted(alloc, scenario, sent, request)
+        self.asks(alloc, scenario, sent, request)
     }
 
     /// A query of a transaction that has no entry.
@@ -190,11 +202,11 @@ impl Server {
         if request.epoch.is_some() {
             return self.restarts(alloc, request);
         }
-        self.on_granted(alloc, scenario, sent, request)
+        self.asks(alloc, scenario, sent, request)
     }
 
-    /// A query that may run.
-    fn on_granted(
+    /// A query asks for the lock on its item.
+    fn asks(
         &mut self,
         alloc: Global,
         scenario: &Scenario,
@@ -203,7 +215,7 @@ impl Server {
     ) -> Result<Reaction, NoMemory>
         ensures { IfOk result (λ reaction.
             Gives
-            (row.on_granted scenario.now self.old request.now
+            (row.asks scenario.now self.old request.now
             (entry_of self.old sent request.now))
             self.new reaction) }
     {
@@ -216,7 +228,70 @@ impl Server {
         let Some(value) = self.value_of_run(request, query) else {
             return Ok(ignored(alloc));
         };
-        self.runs(alloc, sent, request, query, value)
+        let age = self.age_at(sent, request);
+        let item = item_of(query);
+        let asked = self
+            .locks
+            .request(alloc, request.txn, age, item, action_of(query))?;
+        match asked {
+            Asked::Granted => {
+                let letter = self.runs(alloc, sent, request, query, value)?;
+                sent_alone(alloc, letter)
+            }
+            Asked::Waits => self.waits(alloc, sent, request),
+            Asked::Dies { other } => self.dies(alloc, sent, request, other),
+        }
+    }
+
+    /// The place of the transaction's submission: as its entry has it, or as the request tells it.
+    fn age_at(&self, sent: Place, request: &QueryRequest) -> Place
+        ensures { result ≡ (entry_of self.now sent request.now).age }
+    {
+        match self.entry_at(request.txn) {
+            Some(entry) => entry.age,
+            None => request.age.unwrap_or(sent),
+        }
+    }
+
+    /// The query is kept until its lock is granted.
+    #[tactic(auto, using(crate::proofs::basics::Tables::set_twice))]
+    fn waits(
+        &mut self,
+        alloc: Global,
+        sent: Place,
+        request: &QueryRequest,
+    ) -> Result<Reaction, NoMemory>
+        ensures { IfOk result (λ reaction.
+            Gives
+            (row.waits self.old request.now (entry_of self.old sent request.now))
+            self.new reaction) }
+    {
+        let mut entry = self.entry_for(alloc, sent, request);
+        entry.waiting = Some(request.try_clone(alloc)?);
+        self.entries.put(request.txn.0 as usize, Some(entry));
+        Ok(ignored(alloc))
+    }
+
+    /// An older transaction stands in the way.
+    #[tactic(auto, using(crate::proofs::basics::Tables::set_twice))]
+    fn dies(
+        &mut self,
+        alloc: Global,
+        sent: Place,
+        request: &QueryRequest,
+        other: TxnId,
+    ) -> Result<Reaction, NoMemory>
+        ensures { IfOk result (λ reaction.
+            Gives
+            (row.dies self.old request.now (entry_of self.old sent request.now) other)
+            self.new reaction) }
+    {
+        let mut entry = self.entry_for(alloc, sent, request);
+        let epoch = entry.epoch;
+        entry.answers.push(died(request, epoch, other))?;
+        self.entries.put(request.txn.0 as usize, Some(entry));
+        let letter = self.reply(request.txn, Body::Done(died(request, epoch, other)));
+        sent_alone(alloc, letter)
     }
 
     fn value_of_run(&self, request: &QueryRequest, query: &Query) -> Option<i128>
@@ -228,7 +303,7 @@ impl Server {
         }
     }
 
-    /// What the query does is kept and answered.
+    /// What the query does is kept, and answered by the letter.
     fn runs(
         &mut self,
         alloc: Global,
@@ -236,19 +311,65 @@ impl Server {
         request: &QueryRequest,
         query: &Query,
         value: i128,
-    ) -> Result<Reaction, NoMemory>
-        ensures { IfOk result (λ reaction.
-            Gives
-            (row.completes self.old request.now query.now
+    ) -> Result<Letter, NoMemory>
+        ensures kept { OnOk result
+            (self.new
+            ≡ row.after_run self.old request.now query.now
             (entry_of self.old sent request.now)
-            (ran.deed_of request.now.query query.now value))
-            self.new reaction) }
+            (ran.deed_of request.now.query query.now value)) }
+        ensures letter { IfOk result (λ letter.
+            letter
+            ≡ row.done_letter self.old request.now
+            (entry_of self.old sent request.now)
+            (ran.deed_of request.now.query query.now value)) }
     {
         let deed = deed_of(request.query, query, value);
         let epoch = self.notes(alloc, sent, request, deed)?;
         self.keep(alloc, request, query, value)?;
-        let letter = self.reply(request.txn, Body::Done(done(request, epoch, deed)));
-        sent_alone(alloc, letter)
+        Ok(self.reply(request.txn, Body::Done(done(request, epoch, deed))))
+    }
+
+    /// What waits at an owner's entry runs, and its answer is added to the letters.
+    fn resumes(
+        &mut self,
+        alloc: Global,
+        scenario: &Scenario,
+        owner: TxnId,
+        letters: &mut List<Letter>,
+    ) -> Result<(), NoMemory>
+        ensures { OnOk result
+            (Continues (row.resumes scenario.now self.old owner) self.new letters.old letters.new) }
+    {
+        let Some(request) = self.taken_waiting(owner) else {
+            return Ok(());
+        };
+        if self.entry_at(request.txn).is_none() {
+            return Ok(());
+        }
+        let Some(query) = asked_query(scenario, &request) else {
+            return Ok(());
+        };
+        let Some(value) = self.value_of_run(&request, query) else {
+            return Ok(());
+        };
+        let letter = self.runs(alloc, 0, &request, query, value)?;
+        letters.push(letter)
+    }
+
+    /// Takes what waits at an owner's entry.
+    #[tactic(auto, using(crate::proofs::basics::Tables::set_twice))]
+    fn taken_waiting(&mut self, owner: TxnId) -> Option<QueryRequest>
+        ensures taken { result ≡ row.waiting_at self.old owner }
+        ensures left { self.new ≡ row.without_waiting self.old owner }
+    {
+        match taken(&mut self.entries, owner.0 as usize) {
+            None => None,
+            Some(mut entry) => {
+                let waiting = entry.waiting.take();
+                self.entries.put(owner.0 as usize, Some(entry));
+                waiting
+            }
+        }
     }
 
     /// Adds a deed, with its answer, to the entry of its transaction, and gives the entry's epoch.
@@ -358,7 +479,7 @@ impl Server {
                 return Ok(ignored(alloc));
             }
         } else if let Some((query, value)) = outside {
-            return self.refuses(alloc, request, No::Range { query, value });
+            return self.refuses(alloc, scenario, request, No::Range { query, value });
         }
         self.evaluates(alloc, scenario, request)
     }
@@ -446,11 +567,12 @@ impl Server {
     fn refuses(
         &mut self,
         alloc: Global,
+        scenario: &Scenario,
         request: &PrepareRequest,
         why: No,
     ) -> Result<Reaction, NoMemory>
         ensures { IfOk result (λ reaction.
-            Gives (row.refuses self.old request.now why) self.new reaction) }
+            Gives (row.refuses scenario.now self.old request.now why) self.new reaction) }
     {
         let settled = Settled {
             txn: request.txn,
@@ -458,24 +580,33 @@ impl Server {
             why: Some(why),
         };
         let vote = self.no_letter(request, why);
-        self.ends(alloc, settled, vote)
+        self.ends(alloc, scenario, settled, vote)
     }
 
-    /// Forces how a transaction ended, ends its entry, and sends the letter.
+    /// Forces how a transaction ended, ends its entry, releases its locks, and sends the letter; what waited for them goes on.
     fn ends(
         &mut self,
         alloc: Global,
+        scenario: &Scenario,
         settled: Settled,
         letter: Letter,
     ) -> Result<Reaction, NoMemory>
         ensures { IfOk result (λ reaction.
-            Gives (row.ends self.old settled letter) self.new reaction) }
+            Gives (row.ends scenario.now self.old settled letter) self.new reaction) }
     {
         let at = settled.txn.0 as usize;
         self.end(settled.txn, settled.outcome);
         self.settled.put(at, Some(settled));
         self.entries.put(at, None);
-        forced_and_sent(alloc, Record::Settled(settled), letter)
+        self.locks.release(settled.txn);
+        let mut letters = List::of_one(alloc, letter)?;
+        while let Some(grant) = self.locks.take_granted() {
+            self.resumes(alloc, scenario, grant.owner, &mut letters)?;
+        }
+        Ok(Reaction {
+            append: Some(Record::Settled(settled)),
+            letters,
+        })
     }
 
     fn prepared(
@@ -517,9 +648,14 @@ impl Server {
         forced_and_sent(alloc, Record::Prepared(forced), letter)
     }
 
-    fn on_decide(&mut self, alloc: Global, request: DecideRequest) -> Result<Reaction, NoMemory>
+    fn on_decide(
+        &mut self,
+        alloc: Global,
+        scenario: &Scenario,
+        request: DecideRequest,
+    ) -> Result<Reaction, NoMemory>
         ensures { IfOk result (λ reaction.
-            Gives (row.on_decide self.old request) self.new reaction) }
+            Gives (row.on_decide scenario.now self.old request) self.new reaction) }
     {
         if !self.is_open(request.txn) {
             return self.on_settled_decide(alloc, request);
@@ -530,7 +666,7 @@ impl Server {
             why: None,
         };
         let letter = self.ack_letter(request.txn);
-        self.ends(alloc, settled, letter)
+        self.ends(alloc, scenario, settled, letter)
     }
 
     /// An order to end what may be settled already.
@@ -643,6 +779,18 @@ fn after_run(mut entry: Entry, request: &QueryRequest, deed: Deed) -> Result<Ent
     entry.answers.push(answer)?;
     entry.deeds.push(deed)?;
     Ok(entry)
+}
+
+fn died(request: &QueryRequest, epoch: u64, other: TxnId) -> DoneReply
+    ensures { result ≡ row.died_reply request.now epoch other }
+{
+    DoneReply {
+        txn: request.txn,
+        turn: request.turn,
+        query: request.query,
+        epoch,
+        answer: Answer::Died { other },
+    }
 }
 
 fn done(request: &QueryRequest, epoch: u64, deed: Deed) -> DoneReply

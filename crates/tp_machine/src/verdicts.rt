@@ -10,6 +10,7 @@ ghost use Rattle.tp_machine.specs.server.Verdicts.{HasFewRules};
 use crate::server::Server;
 use std::alloc::Global;
 use tp_eval::{Certificate, Evidence, certify, valid_of};
+use tp_lock::LockTable;
 use tp_model::{action_of, item_of, policy_at, query_at};
 use tp_types::{
     AdminId, CredId, Deed, ItemId, List, NoMemory, Place, Policy, Query, Scenario, ServerId,
@@ -33,10 +34,10 @@ struct Case<'a> {
 }
 
 /// The verdicts on what the transaction did at the server.
-pub fn verdicts_on(
+pub fn verdicts_on<L: LockTable + Drop>(
     alloc: Global,
     scenario: &Scenario,
-    server: &Server,
+    server: &Server<L>,
     txn: &Transaction,
     staple: &Staple,
     want: &[(AdminId, Version)],
@@ -68,10 +69,10 @@ pub fn verdicts_on(
     Ok(made)
 }
 
-fn verdict_on(
+fn verdict_on<L: LockTable + Drop>(
     alloc: Global,
     case: &Case<'_>,
-    server: &Server,
+    server: &Server<L>,
     deed: Deed,
 ) -> Result<Verdict, NoMemory>
     requires { HasFewRules case.now.scenario.now }
@@ -94,7 +95,11 @@ fn verdict_on(
 }
 
 /// The version that is wanted of an administrator, or else the one that the server knows.
-fn version_used(server: &Server, want: &[(AdminId, Version)], admin: AdminId) -> Version
+fn version_used<L: LockTable + Drop>(
+    server: &Server<L>,
+    want: &[(AdminId, Version)],
+    admin: AdminId,
+) -> Version
     ensures { result ≡ verdicts.version_used server.now want.now admin }
 {
     match wanted_for(want, admin) {

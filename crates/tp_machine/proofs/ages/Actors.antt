@@ -5,11 +5,11 @@ use Rattle.tp_types.specs.Effect.{Effect, ignores}
 use Rattle.tp_model.specs.Words.body
 use Rattle.tp_model.specs.Words.outcome
 use Rattle.tp_model.specs.Words.{Body, Letter, Mail, Outcome, Prepared, Query, QueryRequest, Record, Scenario, ServerId, Staple, TxnId}
-use Rattle.tp_machine.proofs.basics.Lists.{placed_emptied, placed_set}
+use Rattle.tp_machine.proofs.basics.Lists.{each_more, placed_emptied, placed_set}
 use Rattle.tp_machine.proofs.basics.Logs.{Prepares}
 use Rattle.tp_machine.proofs.basics.Phases.{is_querying, querying_is}
 use Rattle.tp_machine.proofs.walks.CoordinatorRows.{coordinator_by, submit_by}
-use Rattle.tp_machine.proofs.walks.ServerRows.{IsFirstHere, IsFurther, IsGranted, server_by}
+use Rattle.tp_machine.proofs.walks.ServerRows.{AreRightWaits, IsAsking, IsFirstHere, IsFurther, server_by}
 use Rattle.tp_machine.specs.Machine.{with_age}
 use Rattle.tp_model.specs.Deeds.{deed_of}
 use Rattle.tp_machine.specs.Sound.{Each, EachPlaced}
@@ -64,19 +64,20 @@ pub record CoordinatorAges (A : TxnId → ℕ → Type 0) (place : ℕ) (c : Coo
 ignores_ages : (A : TxnId → ℕ → Type 0) (place : ℕ) (s : Server) → EachPlaced (EntryAged A) s.entries → ServerAges A place (ignores s)
 ignores_ages A place s h = record { entries = h; forces = tt; letters = tt }
 
--- a query runs at an entry of its transaction's age
-ran_age : (A : TxnId → ℕ → Type 0) (sc : Scenario) (s : Server) (mail : Mail) (q : QueryRequest) (query : Query) (entry : Entry) (value : ℤ) → EachPlaced (EntryAged A) s.entries → BodyAged A mail.sent mail.letter.body
-    → IsGranted sc s mail q query entry value → A q.txn entry.age
+-- a query asks for its lock at an entry of its transaction's age
+pub ran_age : (A : TxnId → ℕ → Type 0) (sc : Scenario) (s : Server) (mail : Mail) (q : QueryRequest) (query : Query) (entry : Entry) (value : ℤ) → EachPlaced (EntryAged A) s.entries → BodyAged A mail.sent mail.letter.body
+    → IsAsking sc s mail q query entry value → A q.txn entry.age
 ran_age A sc s mail q query entry value h m k =
     ⊎_elim (λ (first : IsFirstHere s mail.sent q entry). subst (λ (e : Entry). A q.txn e.age) (sym first.entry_is) (subst (BodyAged A mail.sent) k.said_is m))
     (λ (further : IsFurther s q entry). h q.txn.0 entry further.found) k.place
 
 -- every row of a server on receipt of a mail
-pub server_row_ages : (A : TxnId → ℕ → Type 0) (place : ℕ) (sc : Scenario) (s : Server) (mail : Mail) → EachPlaced (EntryAged A) s.entries → BodyAged A mail.sent mail.letter.body
+pub server_row_ages : (A : TxnId → ℕ → Type 0) (place : ℕ) (sc : Scenario) (s : Server) (mail : Mail) → AreRightWaits sc s → EachPlaced (EntryAged A) s.entries → BodyAged A mail.sent mail.letter.body
     → ServerAges A place (server.server_row sc s mail)
-server_row_ages A place sc s mail h m =
-    server_by sc s mail (ServerAges A place)
+server_row_ages A place sc s mail waits h m =
+    server_by sc s mail (ServerAges A place) waits
     (record {
+      relocked = λ effect locks k. record { entries = k.entries; forces = k.forces; letters = k.letters };
       ignored = ignores_ages A place s h;
       ran = λ q query entry value k.
           record {
@@ -84,6 +85,8 @@ server_row_ages A place sc s mail h m =
             forces = tt;
             letters = (tt, tt);
           };
+      waited = λ q query entry value k. record { entries = placed_set (EntryAged A) s.entries q.txn.0 _ h (ran_age A sc s mail q query entry value h m k); forces = tt; letters = tt };
+      died = λ q query entry value other k dying. record { entries = placed_set (EntryAged A) s.entries q.txn.0 _ h (ran_age A sc s mail q query entry value h m k); forces = tt; letters = (tt, tt) };
       restarted = λ q k. record { entries = h; forces = tt; letters = (tt, tt) };
       answered = λ q entry given k. record { entries = h; forces = tt; letters = (tt, tt) };
       voted = λ p entry staple txn k.
@@ -95,6 +98,12 @@ server_row_ages A place sc s mail h m =
       settled = λ d k. record { entries = placed_emptied (EntryAged A) s.entries d.txn.0 h; forces = tt; letters = (tt, tt) };
       acknowledged = λ d settled k. record { entries = h; forces = tt; letters = (tt, tt) };
       pushed = λ push k. record { entries = h; forces = tt; letters = tt };
+      resumed = λ effect grant q query entry value k now.
+          record {
+            entries = placed_set (EntryAged A) effect.state.entries q.txn.0 _ now.entries (now.entries q.txn.0 entry k.found);
+            forces = now.forces;
+            letters = each_more (LetterAged A place) effect.reaction.letters _ now.letters tt;
+          };
     })
 
 -- ---- a coordinator's rows
@@ -126,6 +135,8 @@ coordinator_row_ages A place sc c mail h =
           let known = h.known (querying_is c c.phase done k.awaited) in
           record { same_age = refl; known = λ querying. known; same_txn = refl; letters = (told_age A c.txn c.age place known h.age, tt) };
       ran_last = λ done server asked value k none. record { same_age = refl; known = λ querying. absurd (cc); same_txn = refl; letters = (tt, tt) };
+      died = λ done server asked other k.
+          record { same_age = refl; known = λ querying. absurd (cc); same_txn = refl; letters = orders_aged A place c outcome.Abort c.servers };
       told = λ tell round k.
           record { same_age = refl; known = λ querying. absurd (cc); same_txn = refl; letters = prepare_letters_aged A place c round (coord.staple_of tell mail.sent) (coord.awaited_in round) };
       counted = λ reply round staple server verdicts y e. record { same_age = refl; known = λ querying. absurd (cc); same_txn = refl; letters = tt };

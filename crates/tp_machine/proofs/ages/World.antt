@@ -10,7 +10,7 @@ use Rattle.tp_machine.proofs.agreement.Steps.{own_txn}
 use Rattle.tp_machine.proofs.agreement.World.{Agrees}
 use Rattle.tp_machine.proofs.basics.Lists.{at_made, at_set, each_append, each_as, each_get, placed_none}
 use Rattle.tp_machine.proofs.basics.Logs.{prepared_grown}
-use Rattle.tp_machine.proofs.walks.Steps.{Cases, IsCoordinatorUp, machine_after_by}
+use Rattle.tp_machine.proofs.walks.Steps.{Cases, IsCoordinatorUp, WaitRightly, machine_after_by}
 use Rattle.tp_machine.specs.Logs.{prepared_in}
 use Rattle.tp_machine.specs.Machine.{Machine, Move, State, acts, acts_by, coordinator_fact, coordinator_move, log_with, machine_after, mails_of, opened_part, opening_state, refusal, server_fact, server_move, state_after, with_age}
 use Rattle.tp_machine.specs.Parts.{Part}
@@ -206,8 +206,8 @@ begun_ages sc w sound h txn part c up =
 
 -- ---- steps
 
-ages_cases : (sc : Scenario) (w : State) → IsSound sc w → Ages w → Cases sc w (MoveAges w)
-ages_cases sc w sound h =
+ages_cases : (sc : Scenario) (w : State) → WaitRightly sc w → IsSound sc w → Ages w → Cases sc w (MoveAges w)
+ages_cases sc w rightly sound h =
     record {
       idle = λ taken happened e. record { actors_are = ages_now w taken h; letters = tt };
       server_received = λ n mail at part s sent up.
@@ -215,7 +215,7 @@ ages_cases sc w sound h =
           let now = ages_now w taken h in
           let entries = subst (λ (u : Option Server). IfSome u (λ (t : Server). EachPlaced (EntryAged (Now w taken)) t.entries)) up.up (now.servers at.0 part up.found).entries in
           let effect = server_row sc s mail in
-          let t = server_row_ages (Now w taken) (length w.steps) sc s mail entries (each_get (MailAged (Now w taken)) w.mails n mail now.sent sent.sent) in
+          let t = server_row_ages (Now w taken) (length w.steps) sc s mail (rightly at part s up) entries (each_get (MailAged (Now w taken)) w.mails n mail now.sent sent.sent) in
           server_acts_ages w taken at part (Some effect.state) [] effect.reaction.append effect.reaction.letters h up.found
           (record { entries = t.entries; forces = t.forces; letters_are = t.letters });
       coordinator_received = λ n mail txn part c sent up.
@@ -237,9 +237,9 @@ ages_cases sc w sound h =
     }
 
 -- a step that is not refused keeps what is said of ages
-pub ages_next : (sc : Scenario) (m : Machine) (taken : Step) → IsStepOf sc taken → refusal m.state taken ≡ None → IsSound sc m.state → Agrees sc m.state → Ages m.state → Ages (machine_after sc m taken).state
-ages_next sc m taken exists allowed sound a h =
-    machine_after_by sc m (MoveAges m.state) Ages (ages_cases sc m.state sound h) a.coordinator_count
+pub ages_next : (sc : Scenario) (m : Machine) (taken : Step) → IsStepOf sc taken → refusal m.state taken ≡ None → WaitRightly sc m.state → IsSound sc m.state → Agrees sc m.state → Ages m.state → Ages (machine_after sc m taken).state
+ages_next sc m taken exists allowed rightly sound a h =
+    machine_after_by sc m (MoveAges m.state) Ages (ages_cases sc m.state rightly sound h) a.coordinator_count
     (λ taken_is move t. state_after_ages m.state taken_is move t) h taken exists allowed
 
 -- before the first step nobody knows an age

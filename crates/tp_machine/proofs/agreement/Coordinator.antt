@@ -29,7 +29,7 @@ use Rattle.tp_machine.specs.Logs.{decided_in, decision_in}
 use Rattle.tp_machine.specs.Machine.{log_with, with_age}
 use Rattle.tp_machine.specs.Sound.{Each}
 use Rattle.tp_coord.specs.Opened.{servers_at}
-use Rattle.tp_coord.specs.Row.{aborts, asks, awaits_query, commit_round, commits, coordinator_row, denied_by, is_begun, next_number, prepare_letter, prepares, query_of, refused_by, request, sends_query, server_of, staple_of, submit_row, with_deed, without}
+use Rattle.tp_coord.specs.Row.{aborts, asks, awaits_query, commit_round, commits, coordinator_row, denied_by, died_for, is_begun, next_number, prepare_letter, prepares, query_of, refused_by, request, sends_query, server_of, staple_of, submit_row, with_deed, without}
 use Rattle.tp_coord.specs.State.{Coordinator}
 use Rattle.tp_coord.specs.declared.coordinator.Phase.TheVariants as phase
 use Rattle.tp_coord.specs.declared.coordinator.Phase.{Phase}
@@ -445,6 +445,9 @@ coordinator_row_lawful sc P S c kept mail h m =
           (each_started (HoldsItem sc c.txn) c.servers (subst (HaveItems sc c.txn) (sym h.agrees.servers) (servers_at_have_items sc c.txn)))
           (subst (λ (servers : List ServerId). AllBut P (missing_in (map new_target servers)) (servers_at sc c.txn)) (sym h.agrees.servers) (all_but_new P (servers_at sc c.txn))) in
           record { agrees = on.agrees; replied = on.replied; same_begun = sym now.1; same_txn = refl; fresh = tt; letters = on.letters };
+      died = λ done server asked other k.
+          let now = awaiting_query c c.phase done (decided_in kept) k.awaited h.agrees.decided in
+          aborts_lawful sc P S c kept (cause.Died (died_for server done other mail.sent)) h now.0 now.1;
       told = λ tell round k. prepares_lawful sc P S c kept round (staple_of tell mail.sent) h k.asking;
       counted = λ reply round staple server verdicts y e.
           let k = yes_counted sc P S c kept mail reply round staple server verdicts h m y in

@@ -9,12 +9,12 @@ use Rattle.tp_model.specs.Words.outcome
 use Rattle.tp_model.specs.Words.{Admin, AdminId, Mail, PushNotice, Record, Scenario, ServerId, Version}
 use Rattle.tp_machine.proofs.basics.Logs.{known_with, told_by}
 use Rattle.tp_machine.proofs.basics.Stores.{ended_known, kept_known}
-use Rattle.tp_machine.proofs.walks.ServerRows.{server_by}
+use Rattle.tp_machine.proofs.walks.ServerRows.{AreRightWaits, resuming, server_by}
 use Rattle.tp_machine.specs.Logs.{known_in, number_of}
 use Rattle.tp_machine.specs.Machine.{log_with}
 use Rattle.tp_machine.specs.Sound.{AreVersions, AreVersionsOf, IsAdmin}
 use Rattle.tp_machine.specs.server.Opened.{opening}
-use Rattle.tp_machine.specs.server.Row.{learns, server_row}
+use Rattle.tp_machine.specs.server.Row.{followed_by, learns, server_row}
 use Rattle.tp_machine.specs.server.State.{Server}
 use Rattle.tp_machine.specs.server.Verdicts.{version_known, with_versions}
 use Rattle.tp_store.specs.Contents.{Contents}
@@ -117,12 +117,15 @@ pushed_learns s push =
     }
 
 -- every row of a server
-pub row_learns : (sc : Scenario) (s : Server) (mail : Mail) → Learns s (server_row sc s mail)
-row_learns sc s mail =
-    server_by sc s mail (Learns s)
+pub row_learns : (sc : Scenario) (s : Server) (mail : Mail) → AreRightWaits sc s → Learns s (server_row sc s mail)
+row_learns sc s mail waits =
+    server_by sc s mail (Learns s) waits
     (record {
+      relocked = λ effect locks k. record { raises = k.raises; forces = k.forces };
       ignored = still_learns s _ refl (λ admin. refl);
       ran = λ q query entry value k. still_learns s _ (kept_known s.store q query value) (λ admin. refl);
+      waited = λ q query entry value k. still_learns s _ refl (λ admin. refl);
+      died = λ q query entry value other k dying. still_learns s _ refl (λ admin. refl);
       restarted = λ q k. still_learns s _ refl (λ admin. refl);
       answered = λ q entry given k. still_learns s _ refl (λ admin. refl);
       voted = λ p entry staple txn k. record {
@@ -135,4 +138,12 @@ row_learns sc s mail =
       settled = λ d k. still_learns s _ (ended_known s.store d.txn d.outcome) (λ admin. refl);
       acknowledged = λ d settled k. still_learns s _ refl (λ admin. refl);
       pushed = λ push k. pushed_learns s push;
+      resumed = λ effect grant q query entry value k now.
+          let same = kept_known effect.state.store q query value in
+          let number : (admin : AdminId) → (version_known (followed_by effect (resuming effect.state q query entry value)).state admin).0 ≡ (version_known effect.state admin).0 = λ admin.
+          ap (λ (known : List Version). (unwrap_or (slice_get known admin.0) (record { 0 = 1 })).0) same in
+          record {
+            raises = λ admin. omega (arith, number admin, now.raises admin);
+            forces = λ admin within. omega (arith, number admin, now.forces admin within);
+          };
     })

@@ -7,6 +7,7 @@ use Rattle.std.proofs.lemmas.Bool.{eqb-true}
 use Rattle.tp_types.proofs.ListLemmas.{number_itself}
 use Rattle.tp_types.specs.Effect.{Effect, ignores, sends}
 use Rattle.tp_types.specs.Table.{flattened, is_unset}
+use Rattle.tp_lock.specs.declared.entry.Grant.{Grant}
 use Rattle.tp_model.specs.Facts.{first_of}
 use Rattle.tp_model.specs.Ids.{same_txn}
 use Rattle.tp_model.specs.Words.actor
@@ -17,17 +18,18 @@ use Rattle.tp_model.specs.Words.vote
 use Rattle.tp_model.specs.Words.{Body, DecideRequest, Deed, DoneReply, Letter, Mail, No, Outcome, PrepareRequest, Prepared, PushNotice, Query, QueryRequest, Record, Scenario, ServerId, Settled, TxnId, Verdict, Vote}
 use Rattle.tp_machine.proofs.agreement.Logs.{LogPrepared}
 use Rattle.tp_machine.proofs.basics.Ids.{same_txn_is}
-use Rattle.tp_machine.proofs.basics.Lists.{placed_emptied, placed_set}
+use Rattle.tp_machine.proofs.basics.Lists.{each_more, placed_emptied, placed_set}
 use Rattle.tp_machine.proofs.basics.Logs.{first_none, get_set, prepared_still, prepared_with, settled_still, settled_with}
+use Rattle.tp_machine.proofs.basics.Tables.{written_over}
 use Rattle.tp_machine.proofs.serial_data.Lists.{set_elsewhere}
-use Rattle.tp_machine.proofs.walks.ServerRows.{IsFirstHere, IsFurther, IsGranted, server_by}
+use Rattle.tp_machine.proofs.walks.ServerRows.{AreRightWaits, IsAsking, IsFirstHere, IsFurther, IsResumed, resuming, server_by, unwaiting}
 use Rattle.tp_machine.specs.Logs.{prepared_in, settled_in, voted_in, while_unsettled}
 use Rattle.tp_machine.specs.Machine.{log_with}
 use Rattle.tp_model.specs.Deeds.{deed_of}
 use Rattle.tp_machine.specs.Sound.{Each, EachPlaced}
 use Rattle.tp_machine.specs.declared.server.Ballot.{Ballot}
 use Rattle.tp_machine.specs.declared.server.Entry.{Entry}
-use Rattle.tp_machine.specs.server.Row.{ack_letter, answers, ballot_of, completes, ends, entry_after, entry_at, is_open, learns, no_letter, prepared_record, refused_as, refuses, restarted_reply, server_row, settled_as, settles, votes, yes_letter}
+use Rattle.tp_machine.specs.server.Row.{ack_letter, answers, ballot_of, closes, completes, entry_after, entry_at, followed_by, is_open, learns, no_letter, prepared_record, refused_as, restarted_reply, server_row, settled_as, votes, with_entry, yes_letter}
 use Rattle.tp_machine.specs.server.State.{Server}
 use Rattle.tp_machine.specs.server.Verdicts.{learnt, verdicts_on}
 
@@ -129,12 +131,6 @@ written_there P [] n v h none = none
 written_there P (x ∷ table) zero v h none = h
 written_there P (x ∷ table) (suc n) v h none = written_there P table n v h none
 
--- a place that is not empty has what was written
-pub written_over : {A : Type 0} (table : List (Option A)) (n : ℕ) (old : A) (v : Option A) → flattened (slice_get table n) ≡ Some old → flattened (slice_get (slice_set table n v) n) ≡ v
-written_over [] n old v e = absurd (cc)
-written_over (x ∷ table) zero old v e = refl
-written_over (x ∷ table) (suc n) old v e = written_over table n old v e
-
 -- ---- what is prepared
 
 none_cast : (entry : Option Entry) (old : Option Prepared) → entry ≡ None → option_map vote_of old ≡ option_and_then cast_in entry → old ≡ None
@@ -181,7 +177,7 @@ pub record IsUnvotedRun (s : Server) (q : QueryRequest) (entry : Entry) : Type 0
   pub entry_unvoted : entry.ballot ≡ None
   pub unvoted : option_and_then cast_in (entry_at s q.txn) ≡ None
 
-pub unvoted_run : (sc : Scenario) (s : Server) (mail : Mail) (q : QueryRequest) (query : Query) (entry : Entry) (value : ℤ) → IsGranted sc s mail q query entry value → IsUnvotedRun s q entry
+pub unvoted_run : (sc : Scenario) (s : Server) (mail : Mail) (q : QueryRequest) (query : Query) (entry : Entry) (value : ℤ) → IsAsking sc s mail q query entry value → IsUnvotedRun s q entry
 unvoted_run sc s mail q query entry value k =
     ⊎_elim
     (λ (first : IsFirstHere s mail.sent q entry).
@@ -201,6 +197,33 @@ runs_lawful V M s kept q query entry deed h new u =
       };
       rests = tt;
       replies = (record { from_is = refl; says = tt }, tt);
+    }
+
+-- the entry of a transaction that was not voted on changes, and nothing is settled or voted on
+entry_lawful : (V : TxnId → Outcome → Type 0) (M : TxnId → Type 0) (s : Server) (kept : List Record) (txn : TxnId) (entry : Entry) (letters : List Letter) → ServerAgrees s kept → settled_in txn kept ≡ None
+    → option_and_then cast_in (entry_at s txn) ≡ None → entry.ballot ≡ None → Each (LetterKept s.server kept) letters → ServerLawful V M s kept (sends (with_entry s txn (Some entry)) letters)
+entry_lawful V M s kept txn entry letters h new unvoted none replies =
+    record {
+      agrees = record {
+        settled = h.settled;
+        unsettled = placed_set (IsUnsettled kept) s.entries txn.0 entry h.unsettled new;
+        prepared = λ other. run_cast s kept txn other entry h unvoted none (same_txn txn other) refl;
+      };
+      rests = tt;
+      replies = replies;
+    }
+
+-- what waited runs, after what was done before
+resumes_lawful : (V : TxnId → Outcome → Type 0) (M : TxnId → Type 0) (sc : Scenario) (s : Server) (kept : List Record) (effect : Effect Server) (grant : Grant) (q : QueryRequest) (query : Query) (entry : Entry) (value : ℤ)
+    → IsResumed sc s.server effect.state grant q query entry value → ServerLawful V M s kept effect → ServerLawful V M s kept (followed_by effect (resuming effect.state q query entry value))
+resumes_lawful V M sc s kept effect grant q query entry value k h =
+    let now = log_with kept effect.reaction.append in
+    let none : option_and_then cast_in (entry_at effect.state q.txn) ≡ None = ap (option_and_then cast_in) k.found ∙ ap (option_map (vote_by entry)) k.unvoted in
+    let ran = runs_lawful V M effect.state now q query (unwaiting entry) (deed_of q.query query value) h.agrees (h.agrees.unsettled q.txn.0 entry k.found) (record { entry_unvoted = k.unvoted; unvoted = none }) in
+    record {
+      agrees = record { settled = ran.agrees.settled; unsettled = ran.agrees.unsettled; prepared = ran.agrees.prepared };
+      rests = h.rests;
+      replies = each_more (LetterKept s.server now) effect.reaction.letters _ h.replies (record { from_is = ap (λ (at : ServerId). actor.Server at) k.server_is; says = tt });
     }
 
 -- ---- Prepare
@@ -337,10 +360,10 @@ settled_first false order old e fresh = absurd (cc)
 -- the transaction of an open place is settled, with a letter that rests on that
 ends_lawful : (V : TxnId → Outcome → Type 0) (M : TxnId → Type 0) (s : Server) (kept : List Record) (order : Settled) (letter : Letter) → ServerAgrees s kept → is_open s order.txn ≡ true
     → SettlementRests V M kept order → letter.from ≡ actor.Server s.server
-    → (settled_in order.txn (log_with kept (Some (log.Settled order))) ≡ Some order → ReplyKept (log_with kept (Some (log.Settled order))) letter.body) → ServerLawful V M s kept (ends s order letter)
+    → (settled_in order.txn (log_with kept (Some (log.Settled order))) ≡ Some order → ReplyKept (log_with kept (Some (log.Settled order))) letter.body) → ServerLawful V M s kept (closes s order letter)
 ends_lawful V M s kept order letter h unsettled rests from says =
     let empty : slice_get s.settled order.txn.0 ≡ Some None = unset_is (slice_get s.settled order.txn.0) unsettled in
-    let forced = (ends s order letter).reaction.append in
+    let forced = (closes s order letter).reaction.append in
     record {
       agrees = record {
         settled = λ txn.
@@ -363,7 +386,7 @@ ends_lawful V M s kept order letter h unsettled rests from says =
 
 -- an order to end a transaction that is open is forced as it is
 settles_lawful : (V : TxnId → Outcome → Type 0) (M : TxnId → Type 0) (s : Server) (kept : List Record) (d : DecideRequest) → ServerAgrees s kept → is_open s d.txn ≡ true → V d.txn d.outcome → M d.txn
-    → ServerLawful V M s kept (settles s d)
+    → ServerLawful V M s kept (closes s (settled_as d) (ack_letter s d.txn))
 settles_lawful V M s kept d h unsettled decided asked =
     ends_lawful V M s kept (settled_as d) (ack_letter s d.txn) h unsettled
     (record { fresh = open_unsettled s kept d.txn h unsettled; asked = asked; ordered = λ none. decided; refused = λ some. absurd (cc) }) refl
@@ -377,7 +400,7 @@ none_voted entry found (Some p) e unvoted h =
 
 -- the server aborts what it has not prepared
 refuses_lawful : (V : TxnId → Outcome → Type 0) (M : TxnId → Type 0) (s : Server) (kept : List Record) (p : PrepareRequest) (entry : Entry) (why : No) → ServerAgrees s kept → is_open s p.txn ≡ true
-    → entry_at s p.txn ≡ Some entry → entry.ballot ≡ None → M p.txn → ServerLawful V M s kept (refuses s p why)
+    → entry_at s p.txn ≡ Some entry → entry.ballot ≡ None → M p.txn → ServerLawful V M s kept (closes s (refused_as p why) (no_letter s p why))
 refuses_lawful V M s kept p entry why h unsettled found unvoted asked =
     ends_lawful V M s kept (refused_as p why) (no_letter s p why) h unsettled
     (record {
@@ -430,14 +453,21 @@ learns_lawful V M s kept push h =
     }
 
 -- every row of a server on receipt of a mail
-pub server_row_lawful : (V : TxnId → Outcome → Type 0) (M : TxnId → Type 0) (sc : Scenario) (s : Server) (kept : List Record) (mail : Mail) → ServerAgrees s kept → RefusalsAbort kept
+pub server_row_lawful : (V : TxnId → Outcome → Type 0) (M : TxnId → Type 0) (sc : Scenario) (s : Server) (kept : List Record) (mail : Mail) → AreRightWaits sc s → ServerAgrees s kept → RefusalsAbort kept
     → RequestRests V M mail.letter.body → ServerLawful V M s kept (server_row sc s mail)
-server_row_lawful V M sc s kept mail h aborts m =
-    server_by sc s mail (ServerLawful V M s kept)
+server_row_lawful V M sc s kept mail waits h aborts m =
+    server_by sc s mail (ServerLawful V M s kept) waits
     (record {
+      relocked = λ effect locks k. record { agrees = record { settled = k.agrees.settled; unsettled = k.agrees.unsettled; prepared = k.agrees.prepared }; rests = k.rests; replies = k.replies };
       ignored = ignores_lawful V M s kept h;
       ran = λ q query entry value k.
           runs_lawful V M s kept q query entry (deed_of q.query query value) h (open_unsettled s kept q.txn h k.unsettled) (unvoted_run sc s mail q query entry value k);
+      waited = λ q query entry value k.
+          let u = unvoted_run sc s mail q query entry value k in
+          entry_lawful V M s kept q.txn (record entry { waiting = Some q }) [] h (open_unsettled s kept q.txn h k.unsettled) u.unvoted u.entry_unvoted tt;
+      died = λ q query entry value other k dying.
+          let u = unvoted_run sc s mail q query entry value k in
+          entry_lawful V M s kept q.txn _ _ h (open_unsettled s kept q.txn h k.unsettled) u.unvoted u.entry_unvoted (record { from_is = refl; says = tt }, tt);
       restarted = λ q k. answers_lawful V M s kept q (restarted_reply q s.epoch) h;
       answered = λ q entry given k. answers_lawful V M s kept q given h;
       voted = λ p entry staple txn k. votes_lawful V M s kept p (verdicts_on sc (learnt s p.want) txn staple p.want entry.deeds) entry h (open_unsettled s kept p.txn h k.unsettled) k.found;
@@ -448,4 +478,5 @@ server_row_lawful V M sc s kept mail h aborts m =
       settled = λ d k. let rests = subst (RequestRests V M) k.said_is m in settles_lawful V M s kept d h k.unsettled rests.0 rests.1;
       acknowledged = λ d settled k. acknowledges_lawful V M s kept d settled h k.found;
       pushed = λ push k. learns_lawful V M s kept push h;
+      resumed = λ effect grant q query entry value k now. resumes_lawful V M sc s kept effect grant q query entry value k now;
     })

@@ -26,7 +26,7 @@ use Rattle.tp_machine.proofs.basics.Ids.{same_txn_is}
 use Rattle.tp_machine.proofs.basics.Lists.{at_made, each_get, placed_none}
 use Rattle.tp_machine.proofs.basics.Logs.{listed}
 use Rattle.tp_machine.proofs.ids.Queries.{homes_built}
-use Rattle.tp_machine.proofs.walks.Steps.{Cases, IsCoordinatorUp, IsServerUp, SaysIdle, WasSent, machine_after_by}
+use Rattle.tp_machine.proofs.walks.Steps.{Cases, IsCoordinatorUp, IsServerUp, SaysIdle, WasSent, WaitRightly, machine_after_by}
 use Rattle.tp_machine.specs.Logs.{decided_at, decided_by, decided_in, settled_by, settled_in}
 use Rattle.tp_machine.specs.Machine.{Machine, State, acts_by, coordinator_fact, coordinator_move, idle_move, is_part_submitted, log_with, machine_after, opened_actors, opened_part, opening_state, refusal, server_fact, server_move, with_age}
 use Rattle.tp_machine.specs.Parts.{Part}
@@ -200,10 +200,10 @@ refusals_abort sc w at part h found txn settled e some = by_outcome settled.outc
         ∙ ap (λ (o : Outcome). record { txn = txn; outcome = o; why = settled.why }) is
 
 -- a server's row on a mail that was sent
-pub server_lawful : (sc : Scenario) (w : State) → Agrees sc w → (n : ℕ) (mail : Mail) (at : ServerId) (part : Part Server) (s : Server) → WasSent w n mail (actor.Server at) → IsServerUp w at part s
+pub server_lawful : (sc : Scenario) (w : State) → WaitRightly sc w → Agrees sc w → (n : ℕ) (mail : Mail) (at : ServerId) (part : Part Server) (s : Server) → WasSent w n mail (actor.Server at) → IsServerUp w at part s
     → ServerLawful (DecidedAs w.actors.coordinators) (IsAsked sc w.actors.coordinators at) s part.log (server_row sc s mail)
-server_lawful sc w h n mail at part s sent up =
-    server_row_lawful (DecidedAs w.actors.coordinators) (IsAsked sc w.actors.coordinators at) sc s part.log mail (server_agrees sc w at part s h up) (refusals_abort sc w at part h up.found)
+server_lawful sc w rightly h n mail at part s sent up =
+    server_row_lawful (DecidedAs w.actors.coordinators) (IsAsked sc w.actors.coordinators at) sc s part.log mail (rightly at part s up) (server_agrees sc w at part s h up) (refusals_abort sc w at part h up.found)
     (request_rests sc w mail.letter.from at mail.letter.body (mail_rests sc w n mail (actor.Server at) h sent))
 
 -- a coordinator's row on a mail that was sent
@@ -213,15 +213,15 @@ coordinator_lawful sc w sound h n mail txn part c sent up =
     coordinator_row_lawful sc (IsPrepared w.actors.servers txn) (IsSettled w.actors.servers txn) c part.log mail (coordinator_agrees sc w txn part c h up)
     (reply_rests sc w txn part mail.letter.from mail.letter.body up.found (mail_sound sc w n mail (actor.Coordinator txn) sound sent) (mail_rests sc w n mail (actor.Coordinator txn) h sent))
 
-receipt_by_server : (sc : Scenario) (w : State) → IsSound sc w → Agrees sc w → (n : ℕ) (mail : Mail) (at : ServerId) (part : Part Server) (s : Server) → WasSent w n mail (actor.Server at) → IsServerUp w at part s
+receipt_by_server : (sc : Scenario) (w : State) → WaitRightly sc w → IsSound sc w → Agrees sc w → (n : ℕ) (mail : Mail) (at : ServerId) (part : Part Server) (s : Server) → WasSent w n mail (actor.Server at) → IsServerUp w at part s
     → MoveAgrees sc w (server_move w.actors at (acts_by (server_fact at) [] part.log (server_row sc s mail)))
-receipt_by_server sc w sound h n mail at part s sent up =
+receipt_by_server sc w rightly sound h n mail at part s sent up =
     let effect = server_row sc s mail in
-    let l = server_lawful sc w h n mail at part s sent up in
+    let l = server_lawful sc w rightly h n mail at part s sent up in
     server_acts_agrees sc w at part (Some effect.state) [] effect.reaction.append effect.reaction.letters h up.found
     (record {
       state = l.agrees;
-      knows = learns_knows sc at s part.log effect (server_sound sc w at part s sound up.found up.up).sound.known (server_knows sc w at part s h up) (row_learns sc s mail);
+      knows = learns_knows sc at s part.log effect (server_sound sc w at part s sound up.found up.up).sound.known (server_knows sc w at part s h up) (row_learns sc s mail (rightly at part s up));
       rests = l.rests;
       own_says = silent_says sc w;
       replies = subst (λ (x : ServerId). Each (LetterKept x (log_with part.log effect.reaction.append)) effect.reaction.letters) (own_server sc w at part s sound up.found up.up) l.replies;
@@ -236,11 +236,11 @@ receipt_by_coordinator sc w sound h n mail txn part c sent up =
 
 -- ---- steps
 
-agrees_cases : (sc : Scenario) (w : State) → is_built sc ≡ true → IsSound sc w → Agrees sc w → Cases sc w (λ taken move. MoveAgrees sc w move)
-agrees_cases sc w built sound h =
+agrees_cases : (sc : Scenario) (w : State) → is_built sc ≡ true → WaitRightly sc w → IsSound sc w → Agrees sc w → Cases sc w (λ taken move. MoveAgrees sc w move)
+agrees_cases sc w built rightly sound h =
     record {
       idle = idle_agrees sc w h;
-      server_received = λ n mail at part s sent up. receipt_by_server sc w sound h n mail at part s sent up;
+      server_received = λ n mail at part s sent up. receipt_by_server sc w rightly sound h n mail at part s sent up;
       coordinator_received = λ n mail txn part c sent up. receipt_by_coordinator sc w sound h n mail txn part c sent up;
       authority_told = λ n mail sent.
           unmoved_agrees sc w [] (office.authority_row w.actors.authority mail).reaction.letters h (silent_says sc w) (tells_rest sc w.actors w.actors.authority mail.letter.body);
@@ -256,9 +256,9 @@ agrees_cases sc w built sound h =
     }
 
 -- a step that is not refused keeps agreement
-pub agrees_next : (sc : Scenario) (m : Machine) (taken : Step) → is_built sc ≡ true → IsStepOf sc taken → refusal m.state taken ≡ None → IsSound sc m.state → Agrees sc m.state → Agrees sc (machine_after sc m taken).state
-agrees_next sc m taken built exists allowed sound h =
-    machine_after_by sc m (λ taken move. MoveAgrees sc m.state move) (Agrees sc) (agrees_cases sc m.state built sound h) h.coordinator_count
+pub agrees_next : (sc : Scenario) (m : Machine) (taken : Step) → is_built sc ≡ true → IsStepOf sc taken → refusal m.state taken ≡ None → WaitRightly sc m.state → IsSound sc m.state → Agrees sc m.state → Agrees sc (machine_after sc m taken).state
+agrees_next sc m taken built exists allowed rightly sound h =
+    machine_after_by sc m (λ taken move. MoveAgrees sc m.state move) (Agrees sc) (agrees_cases sc m.state built rightly sound h) h.coordinator_count
     (λ taken move t. state_after_agrees sc m.state taken move h t) h taken exists allowed
 
 -- ---- before the first step

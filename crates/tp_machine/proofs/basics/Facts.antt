@@ -253,6 +253,12 @@ any_submitted txn facts =
     (λ (fact : Fact). submission_found txn fact ∙ some_found (submitted_what txn fact.what)) facts
     ∙ ap (list_any (λ (found : TxnId). true)) (found_said (submitted_what txn) facts)
 
+pub any_settlement : (at : ServerId) (txn : TxnId) (facts : List Fact) → list_any (is_settlement at txn) facts ≡ list_any (λ (found : Outcome). true) (settlements at txn (said facts))
+any_settlement at txn facts =
+    tested_by (is_settlement at txn) (λ (fact : Fact). settled_what at txn fact.what) (λ (found : Outcome). true)
+    (λ (fact : Fact). settlement_found at txn fact ∙ some_found (settled_what at txn fact.what)) facts
+    ∙ ap (list_any (λ (found : Outcome). true)) (found_said (settled_what at txn) facts)
+
 -- ---- the first commit
 
 abbrev pub first_commit : List Decision → Option CommitRecord

@@ -1,5 +1,6 @@
 -- Laws of tables.
-use Rattle.std.proofs.Common.{◌≡◌, ℕ, zero, suc, List, [], ◌∷◌, map, slice_set, slice_index_or, refl, ap, ◌∙◌}
+use Rattle.std.proofs.Common.{◌≡◌, ℕ, zero, suc, List, [], ◌∷◌, map, slice_get, slice_set, slice_index_or, Option, Some, length, refl, sym, ap, arith, ◌<◌, ◌∙◌}
+use Rattle.tp_types.specs.Table.{flattened}
 use Rattle.std.proofs.Math.Seq.{map-set_same}
 use Rattle.tp_machine.specs.Parts.{Part}
 use Rattle.tp_machine.specs.Machine.{is_part_down}
@@ -14,3 +15,21 @@ set_twice (x ∷ xs) (suc i) a b = ap (λ ys. x ∷ ys) (set_twice xs i a b)
 pub same_up : {S : Type 0} → (parts : List (Part S)) (at : ℕ) (old new : Part S) → old ≡ slice_index_or parts at old → is_part_down new ≡ is_part_down old
     → map is_part_down (slice_set parts at new) ≡ map is_part_down parts
 same_up parts at old new here kept = map-set_same is_part_down parts at new old (kept ∙ ap is_part_down here)
+
+-- a place that is not empty has what was written
+pub written_over : {A : Type 0} (table : List (Option A)) (n : ℕ) (old : A) (v : Option A) → flattened (slice_get table n) ≡ Some old → flattened (slice_get (slice_set table n v) n) ≡ v
+written_over [] n old v e = absurd (cc)
+written_over (x ∷ table) zero old v e = refl
+written_over (x ∷ table) (suc n) old v e = written_over table n old v e
+
+-- to write what stands at a place of a table changes nothing
+pub placed_same : {A : Type 0} (table : List (Option A)) (n : ℕ) (found : Option A) → flattened (slice_get table n) ≡ found → slice_set table n found ≡ table
+placed_same [] n found e = refl
+placed_same (x ∷ table) zero found e = ap (λ y. y ∷ table) (sym e)
+placed_same (x ∷ table) (suc n) found e = ap (λ ys. x ∷ ys) (placed_same table n found e)
+
+-- what stands at a place of a table is within it
+pub placed_within : {A : Type 0} (table : List (Option A)) (n : ℕ) (x : A) → flattened (slice_get table n) ≡ Some x → n < length table
+placed_within [] n x e = absurd (cc)
+placed_within (first ∷ table) zero x e = omega arith
+placed_within (first ∷ table) (suc n) x e = let later = placed_within table n x e in omega (arith, later)

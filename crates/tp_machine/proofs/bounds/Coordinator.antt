@@ -105,6 +105,7 @@ coordinator_row_bounds sc c mail valid homes h said =
       ran_next = λ done server asked value next k home.
           asks_bounded sc (coord.with_deed c server done asked value) (next_number done.query) next valid homes (deeds_more sc c mail done server asked value h said k) (deeds_before sc c mail done server asked value homes h k);
       ran_last = λ done server asked value k none. record { state = record { deeds = deeds_more sc c mail done server asked value h said k; low = tt }; forces = tt; letters = (tt, tt) };
+      died = λ done server asked other k. record { state = record { deeds = h.deeds; low = tt }; forces = tt; letters = orders_say_none c outcome.Abort c.servers };
       told = λ tell round k. record { state = record { deeds = h.deeds; low = tt }; forces = tt; letters = prepares_say_none c round (coord.staple_of tell mail.sent) (coord.awaited_in round) };
       counted = λ reply round staple server verdicts y e. record { state = record { deeds = h.deeds; low = tt }; forces = tt; letters = tt };
       committed = λ reply round staple server verdicts y e. record { state = record { deeds = h.deeds; low = tt }; forces = h.deeds; letters = orders_say_none c outcome.Commit c.servers };

@@ -5,21 +5,22 @@ use Rattle.std.proofs.Common.{IfSome, List, MatchOption, None, Option, Some, [],
 use Rattle.std.proofs.lemmas.Int.{ints}
 use Rattle.std.proofs.lemmas.Option.{same_Some}
 use Rattle.tp_types.specs.Effect.{Effect, sends}
+use Rattle.tp_lock.specs.declared.entry.Grant.{Grant}
 use Rattle.tp_model.specs.SerialRun.{number_at}
 use Rattle.tp_model.specs.Words.query
-use Rattle.tp_model.specs.Words.{DoneReply, ItemId, Letter, Mail, Query, QueryRequest, Scenario, Settled, TxnId}
-use Rattle.tp_machine.proofs.basics.Lists.{each_found, each_get, each_more, placed_emptied, placed_set}
+use Rattle.tp_model.specs.Words.{DecideRequest, DoneReply, ItemId, Letter, Mail, Query, QueryRequest, Scenario, Settled, TxnId}
+use Rattle.tp_machine.proofs.basics.Lists.{each_append, each_found, each_get, each_more, placed_emptied, placed_set}
 use Rattle.tp_machine.proofs.basics.Stores.{EachWrite, ended_each, kept_each, learnt_each}
 use Rattle.tp_machine.proofs.bounds.Numbers.{bounded_item, bounded_later}
 use Rattle.tp_machine.proofs.pairs.Lists.{of_some}
-use Rattle.tp_machine.proofs.serial_data.Rows.{IsRunAt, QueryRises, RequestClear, ServerReads, run_at}
+use Rattle.tp_machine.proofs.serial_data.Rows.{IsRunAt, RequestClear, ServerKeeps, ServerReads, deeds_in, keeps_cases, resumed_at, resumes_keep, run_at, values_by, values_with}
 use Rattle.tp_machine.proofs.serial_data.Tentative.{last_upto}
-use Rattle.tp_machine.proofs.walks.ServerRows.{IsFirstHere, IsFurther, IsGranted, server_by}
+use Rattle.tp_machine.proofs.walks.ServerRows.{AreRightWaits, IsAsking, IsFirstHere, IsFurther, IsOrder, IsResumed, resuming, server_by, unwaiting}
 use Rattle.tp_machine.specs.Bounded.{IsAtMost, IsBounded, IsBoundedBody, IsBoundedDeed, IsBoundedDone, IsBoundedEntry, IsBoundedNo, IsBoundedQuery, IsBoundedRecord, IsBoundedSettled, IsBoundedWrite}
 use Rattle.tp_model.specs.Deeds.{deed_of}
 use Rattle.tp_machine.specs.Sound.{Each, EachPlaced}
 use Rattle.tp_machine.specs.declared.server.Entry.{Entry}
-use Rattle.tp_machine.specs.server.Row.{completes, done_reply, ends, entry_after, server_row, value_of_run}
+use Rattle.tp_machine.specs.server.Row.{closes, completes, died_reply, done_reply, entry_after, entry_at, followed_by, server_row, value_of_run, with_entry}
 use Rattle.tp_machine.specs.server.State.{Server}
 use Rattle.tp_store.proofs.OutsideLemmas.{first_is_least}
 use Rattle.tp_store.specs.Contents.{Contents}
@@ -83,17 +84,16 @@ run_bounded sc s q (query.Read item into) entry value h asked at is =
 run_bounded sc s q (query.Write item expr) entry value h asked at is = of_some (IsBounded q.query) q.value value is asked
 
 -- the entry at which it runs
-entry_bounded : (sc : Scenario) (s : Server) (mail : Mail) (q : QueryRequest) (query : Query) (entry : Entry) (value : ℤ) → ServerBefore s → IsGranted sc s mail q query entry value → IsBoundedEntry entry
+entry_bounded : (sc : Scenario) (s : Server) (mail : Mail) (q : QueryRequest) (query : Query) (entry : Entry) (value : ℤ) → ServerBefore s → IsAsking sc s mail q query entry value → IsBoundedEntry entry
 entry_bounded sc s mail q query entry value h k =
     ⊎_elim (λ (first : IsFirstHere s mail.sent q entry). subst IsBoundedEntry (sym first.entry_is) (record { answers = tt; waiting = tt; deeds = tt }))
     (λ (further : IsFurther s q entry). h.kept.entries q.txn.0 entry further.found) k.place
 
-runs_bounded : (sc : Scenario) (s : Server) (mail : Mail) (q : QueryRequest) (query : Query) (entry : Entry) (value : ℤ) → ServerBefore s → IsBoundedQuery q → ServerReads sc s → QueryRises sc s q
-    → IsGranted sc s mail q query entry value → ServerBounds (completes s q query entry (deed_of q.query query value))
-runs_bounded sc s mail q query entry value h asked reads rises k =
+runs_bounded : (sc : Scenario) (s : Server) (q : QueryRequest) (query : Query) (entry : Entry) (value : ℤ) → ServerBefore s → IsBoundedQuery q → IsRunAt sc s q entry → value_of_run s q query ≡ Some value
+    → IsBoundedEntry entry → ServerBounds (completes s q query entry (deed_of q.query query value))
+runs_bounded sc s q query entry value h asked at is old =
     let deed = deed_of q.query query value in
-    let old : IsBoundedEntry entry = entry_bounded sc s mail q query entry value h k in
-    let new : IsBounded q.query value = run_bounded sc s q query entry value h asked (run_at sc s mail q query entry value reads rises k) k.value_is in
+    let new : IsBounded q.query value = run_bounded sc s q query entry value h asked at is in
     record {
       kept = record {
         writes = kept_each (λ (txn : TxnId) (write : TentativeWrite). IsBoundedWrite write) s.store q query value h.kept.writes new;
@@ -109,9 +109,18 @@ runs_bounded sc s mail q query entry value h asked reads rises k =
       letters = (new, tt);
     }
 
+-- the entry at which a query asks waits, or answers that an older transaction stands in the way
+entry_bounds : (s : Server) (txn : TxnId) (entry : Entry) (letters : List Letter) → ServerBefore s → IsBoundedEntry entry → Each IsBoundedLetter letters → ServerBounds (sends (with_entry s txn (Some entry)) letters)
+entry_bounds s txn entry letters h new said =
+    record {
+      kept = record { writes = h.kept.writes; settled = h.kept.settled; entries = placed_set (λ (n : ℕ) (found : Entry). IsBoundedEntry found) s.entries txn.0 entry h.kept.entries new };
+      forces = tt;
+      letters = said;
+    }
+
 -- ---- the end of a transaction
 
-ends_bounded : (s : Server) (done : Settled) (letter : Letter) → ServerBefore s → IsBoundedSettled done → IsBoundedLetter letter → ServerBounds (ends s done letter)
+ends_bounded : (s : Server) (done : Settled) (letter : Letter) → ServerBefore s → IsBoundedSettled done → IsBoundedLetter letter → ServerBounds (closes s done letter)
 ends_bounded s done letter h why said =
     record {
       kept = record {
@@ -138,20 +147,67 @@ refused_bounded s txn number value h e = found (first_outside_in s.store txn) e 
 
 -- ---- all mails
 
+-- what an order to end leaves of the values is within the bound
+abbrev pub OrdersBounded : Server → Mail → Type 0
+OrdersBounded s mail = (d : DecideRequest) → IsOrder s mail d → Each (IsAtMost (10 ^ 15)) (values_by s.store.values d.outcome (deeds_in (entry_at s d.txn)))
+
+-- an act beside what it keeps of values; M says which requests were made
+record BoundsBeside (sc : Scenario) (M : TxnId → Type 0) (s : Server) (effect : Effect Server) : Type 0 where
+  keeps : ServerKeeps sc M s effect
+  values : Each (IsAtMost (10 ^ 15)) effect.state.store.values
+  row : ServerBounds effect
+
+beside : (sc : Scenario) (M : TxnId → Type 0) (s : Server) (effect : Effect Server) → ServerKeeps sc M s effect → Each (IsAtMost (10 ^ 15)) (values_with s effect.reaction.append) → ServerBounds effect → BoundsBeside sc M s effect
+beside sc M s effect keeps values row = record { keeps = keeps; values = subst (Each (IsAtMost (10 ^ 15))) (sym keeps.values) values; row = row }
+
+-- what waited runs, after what was done before
+resumes_bounded : (sc : Scenario) (M : TxnId → Type 0) (s : Server) (effect : Effect Server) (grant : Grant) (q : QueryRequest) (query : Query) (entry : Entry) (value : ℤ) → IsResumed sc s.server effect.state grant q query entry value
+    → BoundsBeside sc M s effect → BoundsBeside sc M s (followed_by effect (resuming effect.state q query entry value))
+resumes_bounded sc M s effect grant q query entry value k h =
+    let keeps = resumes_keep sc M s effect grant q query entry value k h.keeps in
+    let old : IsBoundedEntry entry = h.row.kept.entries q.txn.0 entry k.found in
+    let asked : IsBoundedQuery q = subst (λ (w : Option QueryRequest). IfSome w IsBoundedQuery) k.waiting_is old.waiting in
+    let ran = runs_bounded sc effect.state q query (unwaiting entry) value (record { values = h.values; kept = h.row.kept }) asked (resumed_at sc s.server effect.state grant q query entry value h.keeps.reads k) k.value_is
+    (record { answers = old.answers; waiting = tt; deeds = old.deeds }) in
+    record {
+      keeps = keeps;
+      values = subst (Each (IsAtMost (10 ^ 15))) (h.keeps.values ∙ sym keeps.values) h.values;
+      row = record { kept = ran.kept; forces = h.row.forces; letters = each_append IsBoundedLetter effect.reaction.letters _ h.row.letters ran.letters };
+    }
+
 -- every row of a server on receipt of a mail
-pub server_row_bounds : (sc : Scenario) (M : TxnId → Type 0) (s : Server) (mail : Mail) → ServerBefore s → IsBoundedBody mail.letter.body → ServerReads sc s → RequestClear sc M s mail.letter.body
+pub server_row_bounds : (sc : Scenario) (M : TxnId → Type 0) (s : Server) (mail : Mail) → AreRightWaits sc s → ServerBefore s → IsBoundedBody mail.letter.body → ServerReads sc s → RequestClear sc M s mail.letter.body → OrdersBounded s mail
     → ServerBounds (server_row sc s mail)
-server_row_bounds sc M s mail h said reads clear =
-    server_by sc s mail ServerBounds
+server_row_bounds sc M s mail waits h said reads clear orders =
+    let keeps = keeps_cases sc M s mail reads clear in
+    (server_by sc s mail (BoundsBeside sc M s) waits
     (record {
-      ignored = stays_bounded s [] h tt;
-      ran = λ q query entry value k. runs_bounded sc s mail q query entry value h (subst IsBoundedBody k.said_is said) reads (subst (RequestClear sc M s) k.said_is clear) k;
-      restarted = λ q k. stays_bounded s _ h (tt, tt);
+      relocked = λ effect locks k.
+          record {
+            keeps = keeps.relocked effect locks k.keeps;
+            values = k.values;
+            row = record { kept = record { writes = k.row.kept.writes; settled = k.row.kept.settled; entries = k.row.kept.entries }; forces = k.row.forces; letters = k.row.letters };
+          };
+      ignored = beside sc M s _ keeps.ignored h.values (stays_bounded s [] h tt);
+      ran = λ q query entry value k.
+          beside sc M s _ (keeps.ran q query entry value k) h.values
+          (runs_bounded sc s q query entry value h (subst IsBoundedBody k.said_is said) (run_at sc s mail q query entry value reads (subst (RequestClear sc M s) k.said_is clear) k) k.value_is (entry_bounded sc s mail q query entry value h k));
+      waited = λ q query entry value k.
+          let old = entry_bounded sc s mail q query entry value h k in
+          beside sc M s _ (keeps.waited q query entry value k) h.values
+          (entry_bounds s q.txn (record entry { waiting = Some q }) [] h (record { answers = old.answers; waiting = subst IsBoundedBody k.said_is said; deeds = old.deeds }) tt);
+      died = λ q query entry value other k dying.
+          let old = entry_bounded sc s mail q query entry value h k in
+          beside sc M s _ (keeps.died q query entry value other k dying) h.values
+          (entry_bounds s q.txn _ _ h (record { answers = each_more IsBoundedDone entry.answers (died_reply q entry.epoch other) old.answers tt; waiting = old.waiting; deeds = old.deeds }) (tt, tt));
+      restarted = λ q k. beside sc M s _ (keeps.restarted q k) h.values (stays_bounded s _ h (tt, tt));
       answered = λ q entry given k.
-          stays_bounded s _ h (each_found IsBoundedDone (λ (other : DoneReply). other.query == q.query) entry.answers given (h.kept.entries q.txn.0 entry k.found).answers k.given_is, tt);
+          beside sc M s _ (keeps.answered q entry given k) h.values
+          (stays_bounded s _ h (each_found IsBoundedDone (λ (other : DoneReply). other.query == q.query) entry.answers given (h.kept.entries q.txn.0 entry k.found).answers k.given_is, tt));
       voted = λ p entry staple txn k.
           let old : IsBoundedEntry entry = h.kept.entries p.txn.0 entry k.found in
-          record {
+          beside sc M s _ (keeps.voted p entry staple txn k) h.values
+          (record {
             kept = record {
               writes = learnt_each (λ (txn : TxnId) (write : TentativeWrite). IsBoundedWrite write) s.store p.want h.kept.writes;
               settled = h.kept.settled;
@@ -159,13 +215,16 @@ server_row_bounds sc M s mail h said reads clear =
             };
             forces = old.deeds;
             letters = (tt, tt);
-          };
-      voted_again = λ p entry cast k. stays_bounded s _ h (tt, tt);
+          });
+      voted_again = λ p entry cast k. beside sc M s _ (keeps.voted_again p entry cast k) h.values (stays_bounded s _ h (tt, tt));
       refused = λ p entry number value k.
           let why : IsBounded number value = refused_bounded s p.txn number value h k.outside in
-          ends_bounded s _ _ h why why;
-      refused_again = λ p settled why k. stays_bounded s _ h (of_some IsBoundedNo settled.why why k.why_is (h.kept.settled p.txn.0 settled k.found), tt);
-      settled = λ d k. ends_bounded s _ _ h tt tt;
-      acknowledged = λ d settled k. stays_bounded s _ h (tt, tt);
-      pushed = λ push k. record { kept = record { writes = h.kept.writes; settled = h.kept.settled; entries = h.kept.entries }; forces = tt; letters = tt };
-    })
+          beside sc M s _ (keeps.refused p entry number value k) h.values (ends_bounded s _ _ h why why);
+      refused_again = λ p settled why k.
+          beside sc M s _ (keeps.refused_again p settled why k) h.values (stays_bounded s _ h (of_some IsBoundedNo settled.why why k.why_is (h.kept.settled p.txn.0 settled k.found), tt));
+      settled = λ d k. beside sc M s _ (keeps.settled d k) (orders d k) (ends_bounded s _ _ h tt tt);
+      acknowledged = λ d settled k. beside sc M s _ (keeps.acknowledged d settled k) h.values (stays_bounded s _ h (tt, tt));
+      pushed = λ push k.
+          beside sc M s _ (keeps.pushed push k) h.values (record { kept = record { writes = h.kept.writes; settled = h.kept.settled; entries = h.kept.entries }; forces = tt; letters = tt });
+      resumed = λ effect grant q query entry value k now. resumes_bounded sc M s effect grant q query entry value k now;
+    })).row

@@ -12,24 +12,25 @@ use Rattle.tp_model.specs.Words.log
 use Rattle.tp_model.specs.Words.step
 use Rattle.tp_model.specs.Words.what
 use Rattle.tp_model.specs.Words.{Body, Deed, Letter, Mail, Record, Scenario, ServerId, Settled, Step, Transaction, TxnId, What}
-use Rattle.tp_machine.proofs.agreement.Logs.{IsAsked}
-use Rattle.tp_machine.proofs.agreement.Steps.{server_agrees, server_lawful}
+use Rattle.tp_machine.proofs.agreement.Logs.{DecidedAs, IsAsked}
+use Rattle.tp_machine.proofs.agreement.Server.{RequestRests, open_unsettled}
+use Rattle.tp_machine.proofs.agreement.Steps.{mail_rests, request_rests, server_agrees, server_lawful}
 use Rattle.tp_machine.proofs.agreement.World.{Agrees}
 use Rattle.tp_machine.proofs.basics.Lists.{at_made, at_set, each_append, each_as, each_drop, each_flat_map, each_get, each_map, each_more, placed_none}
 use Rattle.tp_machine.proofs.basics.Stores.{opened_each}
 use Rattle.tp_machine.proofs.bounds.Coordinator.{CoordinatorBounds, CoordinatorLow, coordinator_row_bounds, submit_row_bounds}
 use Rattle.tp_machine.proofs.bounds.Numbers.{AreBefore, number_low, sums_exact, values_most}
-use Rattle.tp_machine.proofs.bounds.Server.{IsBoundedLetter, ServerBefore, server_row_bounds}
+use Rattle.tp_machine.proofs.bounds.Server.{IsBoundedLetter, OrdersBounded, ServerBefore, server_row_bounds}
 use Rattle.tp_machine.proofs.bounds.Values.{values_in_range}
 use Rattle.tp_machine.proofs.ids.Queries.{homes_built}
 use Rattle.tp_machine.proofs.ids.Valid.{valid_built}
 use Rattle.tp_machine.proofs.pairs.Lists.{of_some}
 use Rattle.tp_machine.proofs.pairs.World.{Pairs}
 use Rattle.tp_machine.proofs.serial_data.Built.{opening_in_range}
-use Rattle.tp_machine.proofs.serial_data.Rows.{RequestClear, server_row_keeps}
+use Rattle.tp_machine.proofs.serial_data.Rows.{RequestClear, deeds_in, server_row_keeps, values_by, values_length}
 use Rattle.tp_machine.proofs.serial_data.Steps.{received_clear}
 use Rattle.tp_machine.proofs.serial_data.World.{Serial, ServerUpSerial}
-use Rattle.tp_machine.proofs.walks.Steps.{Cases, IsCoordinatorUp, IsServerUp, SaysIdle, WasSent, machine_after_by}
+use Rattle.tp_machine.proofs.walks.Steps.{Cases, IsCoordinatorUp, IsServerUp, SaysIdle, WaitRightly, WasSent, machine_after_by}
 use Rattle.tp_machine.specs.Bounded.{AreBounded, IsBoundedCoordinator, IsBoundedEntry, IsBoundedFact, IsBoundedMail, IsBoundedRecord, IsBoundedServer, IsBoundedServerPart, IsBoundedSettled, IsBoundedWhat, IsBoundedWrite}
 use Rattle.tp_machine.specs.Machine.{Machine, Move, State, acts, acts_by, coordinator_fact, coordinator_move, facts_of, idle_move, is_part_submitted, log_with, machine_after, mails_of, opened_part, opening_state, refusal, server_fact, server_move, state_after, with_age}
 use Rattle.tp_machine.specs.Parts.{Part}
@@ -41,7 +42,7 @@ use Rattle.tp_coord.specs.State.{Coordinator}
 use Rattle.tp_machine.specs.declared.actors.Actors.{Actors}
 use Rattle.tp_machine.specs.declared.server.Entry.{Entry}
 use Rattle.tp_machine.specs.server.Opened as server_opened
-use Rattle.tp_machine.specs.server.Row.{server_row}
+use Rattle.tp_machine.specs.server.Row.{entry_at, server_row, settled_as}
 use Rattle.tp_machine.specs.server.State.{Server}
 use Rattle.tp_offices.specs.Authority as office
 use Rattle.tp_offices.specs.Master as master
@@ -146,20 +147,33 @@ server_acts_bounds sc w at part now append letters h found state forces said =
       happened = told_by (server_fact at) [] part.log (log_with part.log append) (server_tells at) tt records;
     }
 
-receipt_by_server : (sc : Scenario) (w : State) → is_built sc ≡ true → IsSound sc w → Agrees sc w → Pairs sc w → Serial sc w → Bounds sc w → (n : ℕ) (mail : Mail) (at : ServerId) (part : Part Server) (s : Server)
+-- what an order leaves of the values is in range, as its transaction was decided
+orders_bounded : (sc : Scenario) (w : State) → is_built sc ≡ true → Agrees sc w → Serial sc w → (n : ℕ) (mail : Mail) (at : ServerId) (part : Part Server) (s : Server) → WasSent w n mail (actor.Server at) → IsServerUp w at part s
+    → are_in_range sc.items s.store.values ≡ true → length s.store.values ≡ length sc.items → OrdersBounded s mail
+orders_bounded sc w built agrees serial n mail at part s sent up in_range items_are d k =
+    let V = DecidedAs w.actors.coordinators in
+    let M = IsAsked sc w.actors.coordinators at in
+    let here = server_agrees sc w at part s agrees up in
+    let rests = subst (RequestRests V M) k.said_is (request_rests sc w mail.letter.from at mail.letter.body (mail_rests sc w n mail (actor.Server at) agrees sent)) in
+    let range = values_in_range sc w at part s (Some (log.Settled (settled_as d))) agrees serial (record { found = up.found; agrees = here; in_range = in_range })
+    (record { fresh = open_unsettled s part.log d.txn here k.unsettled; asked = rests.1; ordered = λ none. rests.0; refused = λ some. absurd (cc) }) in
+    values_most sc (values_by s.store.values d.outcome (deeds_in (entry_at s d.txn))) (valid_built sc built) (values_length (length sc.items) d.outcome s.store.values (deeds_in (entry_at s d.txn)) items_are) range
+
+receipt_by_server : (sc : Scenario) (w : State) → is_built sc ≡ true → WaitRightly sc w → IsSound sc w → Agrees sc w → Pairs sc w → Serial sc w → Bounds sc w → (n : ℕ) (mail : Mail) (at : ServerId) (part : Part Server) (s : Server)
     → WasSent w n mail (actor.Server at) → IsServerUp w at part s → MoveBounds sc (server_move w.actors at (acts_by (server_fact at) [] part.log (server_row sc s mail)))
-receipt_by_server sc w built sound agrees pairs serial h n mail at part s sent up =
+receipt_by_server sc w built rightly sound agrees pairs serial h n mail at part s sent up =
     let M = IsAsked sc w.actors.coordinators at in
     let effect = server_row sc s mail in
     let old : IsBoundedServer sc s = of_some (IsBoundedServer sc) part.up s up.up (h.servers at.0 part up.found).state in
     let was : ServerUpSerial sc (overlaid sc w.facts) at s = of_some (ServerUpSerial sc (overlaid sc w.facts) at) part.up s up.up (serial.servers at.0 part up.found).state in
     let clear : RequestClear sc M s mail.letter.body = received_clear sc w built sound agrees pairs serial n mail at part s sent up was.reads.entry_places in
-    let keeps = server_row_keeps sc M s mail was.reads clear in
+    let keeps = server_row_keeps sc M s mail (rightly at part s up) was.reads clear in
     let before : ServerBefore s = record { values = old.values; kept = record { writes = old.writes; settled = old.settled; entries = old.entries } } in
-    let row = server_row_bounds sc M s mail before (each_get IsBoundedMail w.mails n mail h.mails sent.sent) was.reads clear in
+    let row = server_row_bounds sc M s mail (rightly at part s up) before (each_get IsBoundedMail w.mails n mail h.mails sent.sent) was.reads clear
+    (orders_bounded sc w built agrees serial n mail at part s sent up old.in_range was.reads.items_are) in
     let range : are_in_range sc.items effect.state.store.values ≡ true =
     ap (are_in_range sc.items) keeps.values
-    ∙ values_in_range sc w at part s effect.reaction.append agrees serial (record { found = up.found; agrees = server_agrees sc w at part s agrees up; in_range = old.in_range }) (server_lawful sc w agrees n mail at part s sent up).rests in
+    ∙ values_in_range sc w at part s effect.reaction.append agrees serial (record { found = up.found; agrees = server_agrees sc w at part s agrees up; in_range = old.in_range }) (server_lawful sc w rightly agrees n mail at part s sent up).rests in
     server_acts_bounds sc w at part (Some effect.state) effect.reaction.append effect.reaction.letters h up.found
     (record {
       in_range = range;
@@ -203,11 +217,11 @@ begun_bounds sc w built h txn part c up new =
 
 -- ---- steps
 
-bounds_cases : (sc : Scenario) (w : State) → is_built sc ≡ true → IsSound sc w → Agrees sc w → Pairs sc w → Serial sc w → Bounds sc w → Cases sc w (λ taken move. MoveBounds sc move)
-bounds_cases sc w built sound agrees pairs serial h =
+bounds_cases : (sc : Scenario) (w : State) → is_built sc ≡ true → WaitRightly sc w → IsSound sc w → Agrees sc w → Pairs sc w → Serial sc w → Bounds sc w → Cases sc w (λ taken move. MoveBounds sc move)
+bounds_cases sc w built rightly sound agrees pairs serial h =
     record {
       idle = idle_bounds sc w h;
-      server_received = λ n mail at part s sent up. receipt_by_server sc w built sound agrees pairs serial h n mail at part s sent up;
+      server_received = λ n mail at part s sent up. receipt_by_server sc w built rightly sound agrees pairs serial h n mail at part s sent up;
       coordinator_received = λ n mail txn part c sent up. receipt_by_coordinator sc w built h n mail txn part c sent up;
       authority_told = λ n mail sent. still_bounds sc w w.actors.authority w.actors.master [] _ h tt (authority_says_none w.actors.authority mail.letter.body);
       master_told = λ n mail sent. still_bounds sc w w.actors.authority w.actors.master [] _ h tt (master_says_none w.actors.master mail.letter.body);
@@ -220,10 +234,10 @@ bounds_cases sc w built sound agrees pairs serial h =
     }
 
 -- a step that is not refused keeps all values within their bounds
-pub bounds_next : (sc : Scenario) (m : Machine) (taken : Step) → is_built sc ≡ true → IsStepOf sc taken → refusal m.state taken ≡ None → IsSound sc m.state → Agrees sc m.state → Pairs sc m.state → Serial sc m.state
+pub bounds_next : (sc : Scenario) (m : Machine) (taken : Step) → is_built sc ≡ true → IsStepOf sc taken → refusal m.state taken ≡ None → WaitRightly sc m.state → IsSound sc m.state → Agrees sc m.state → Pairs sc m.state → Serial sc m.state
     → Bounds sc m.state → Bounds sc (machine_after sc m taken).state
-bounds_next sc m taken built exists allowed sound agrees pairs serial h =
-    machine_after_by sc m (λ taken move. MoveBounds sc move) (Bounds sc) (bounds_cases sc m.state built sound agrees pairs serial h) agrees.coordinator_count
+bounds_next sc m taken built exists allowed rightly sound agrees pairs serial h =
+    machine_after_by sc m (λ taken move. MoveBounds sc move) (Bounds sc) (bounds_cases sc m.state built rightly sound agrees pairs serial h) agrees.coordinator_count
     (λ taken move t. state_after_bounds sc m.state taken move h t) h taken exists allowed
 
 -- ---- before the first step

@@ -125,6 +125,9 @@ coordinator_row_keeps sc E A c mail homes h servers m =
       ignored = ignores_keeps sc E A c h;
       ran_next = λ done at asked value next k home. ran_next_keeps sc E A c mail done at asked value next homes h (subst (IsMail sc E A c mail.letter.from) k.said_is m) k;
       ran_last = λ done at asked value k none. ran_last_keeps sc E A c mail done at asked value homes h servers (subst (IsMail sc E A c mail.letter.from) k.said_is m) k none;
+      died = λ done at asked other k.
+          plain_keeps sc E A c.txn (Some (coord.aborts c (cause.Died (coord.died_for at done other mail.sent))).state) (coord.decide_letters c outcome.Abort)
+          (record { places = h.places; past = h.past; undecided = λ unsure. absurd (cc) }) (orders_plain c outcome.Abort c.servers);
       told = λ tell round k. prepares_keeps sc E A c round (coord.staple_of tell mail.sent) h k.asking;
       counted = λ reply round staple at verdicts y e. counted_keeps sc E A c round staple at verdicts h y.checking;
       committed = λ reply round staple at verdicts y e.

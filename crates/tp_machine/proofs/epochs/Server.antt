@@ -4,16 +4,17 @@ use Rattle.std.specs.Option.{option_map_or}
 use Rattle.std.proofs.Common.{Bool, IfSome, List, None, Option, Some, [], ap, arith, false, is_none, is_some, not, option_map, refl, subst, sym, true, ℕ, ℤ, ⊎_elim, ◌++◌, ◌+◌, ◌==◌, ◌∙◌, ◌∷◌, ◌≡◌, ◌≤◌}
 use Rattle.std.proofs.lemmas.Bool.{eqb-true, not-false}
 use Rattle.std.proofs.lemmas.Option.{same_Some}
-use Rattle.tp_types.specs.Effect.{Effect, ignores}
+use Rattle.tp_types.specs.Effect.{Effect, ignores, sends}
+use Rattle.tp_lock.specs.declared.entry.Grant.{Grant}
 use Rattle.tp_model.specs.Words.actor
 use Rattle.tp_model.specs.Words.answer
 use Rattle.tp_model.specs.Words.body
 use Rattle.tp_model.specs.Words.log
 use Rattle.tp_model.specs.Words.{Actor, Answer, Body, Deed, DoneReply, Letter, Mail, PrepareRequest, Prepared, PushNotice, Query, QueryRequest, Record, Scenario, ServerId, Settled, TxnId, Verdict}
-use Rattle.tp_machine.proofs.basics.Lists.{each_append, each_as, each_found, placed_emptied, placed_set}
+use Rattle.tp_machine.proofs.basics.Lists.{each_append, each_as, each_found, each_more, placed_emptied, placed_set}
 use Rattle.tp_machine.proofs.basics.Phases.{is_first_at}
 use Rattle.tp_machine.proofs.epochs.Asked.{Asking, IsAsked, IsOwnNaming, LetterNamed, NamesNone, NamesOwn, naming, naming_of}
-use Rattle.tp_machine.proofs.walks.ServerRows.{IsFirstHere, IsFurther, IsGranted, server_by}
+use Rattle.tp_machine.proofs.walks.ServerRows.{AreRightWaits, IsAsking, IsFirstHere, IsFurther, IsResumed, resuming, server_by, unwaiting}
 use Rattle.tp_machine.specs.Logs.{boots_in, epoch_in}
 use Rattle.tp_machine.specs.Machine.{log_with}
 use Rattle.tp_model.specs.Deeds.{deed_of}
@@ -202,7 +203,7 @@ none_of None e = refl
 none_of (Some named) e = absurd (cc)
 
 run_made : (sc : Scenario) (A : Asking) (s : Server) (kept : List Record) (mail : Mail) (q : QueryRequest) (query : Query) (entry : Entry) (value : ℤ) → ServerMade sc A s.server s kept
-    → is_none q.epoch ≡ is_first_at sc s.server q.txn q.query → IfSome (option_map (naming q.txn) q.epoch) (IsAsked A (actor.Server s.server)) → IsGranted sc s mail q query entry value → IsRunMade sc A s q entry
+    → is_none q.epoch ≡ is_first_at sc s.server q.txn q.query → IfSome (option_map (naming q.txn) q.epoch) (IsAsked A (actor.Server s.server)) → IsAsking sc s mail q query entry value → IsRunMade sc A s q entry
 run_made sc A s kept mail q query entry value h first m k =
     ⊎_elim
     (λ (new : IsFirstHere s mail.sent q entry).
@@ -239,6 +240,53 @@ runs_made sc A s kept q query entry deed h r =
       replies = ((refl, record { past = omega (arith, answer.past, h.epoch_is); asked = answer.asked }), tt);
     }
 
+-- the entry at which a query asks waits, or answers that an older transaction stands in the way
+entry_made : (sc : Scenario) (A : Asking) (s : Server) (kept : List Record) (txn : TxnId) (entry : Entry) (letters : List Letter) → ServerMade sc A s.server s kept → EntryMade sc A s.server s.epoch entry
+    → Each (λ (letter : Letter). ReplyMade sc A s.server (epoch_in kept) letter.from letter.body) letters → RowEpochs sc A s kept (sends (server.with_entry s txn (Some entry)) letters)
+entry_made sc A s kept txn entry letters h made replies =
+    record {
+      made = record { epoch_is = h.epoch_is; entries = placed_set (λ (n : ℕ) (found : Entry). EntryMade sc A s.server s.epoch found) s.entries txn.0 entry h.entries made };
+      forces = tt;
+      replies = replies;
+    }
+
+-- the epoch that a query names which waits is the entry's
+waits_named : (sc : Scenario) (A : Asking) (s : Server) (mail : Mail) (q : QueryRequest) (query : Query) (entry : Entry) (value : ℤ) → IfSome (option_map (naming q.txn) q.epoch) (IsAsked A (actor.Server s.server))
+    → IsAsking sc s mail q query entry value → IfSome q.epoch (λ (named : ℕ). (A q.txn s.server ≡ Some named) × (named ≡ entry.epoch))
+waits_named sc A s mail q query entry value m k =
+    ⊎_elim (λ (new : IsFirstHere s mail.sent q entry). none_named q.epoch new.unnamed) (λ (further : IsFurther s q entry). named q.epoch refl m further.same_epoch) k.place
+  where
+    none_named : (epoch : Option ℕ) → is_some epoch ≡ false → IfSome epoch (λ (n : ℕ). (A q.txn s.server ≡ Some n) × (n ≡ entry.epoch))
+    none_named None e = tt
+    none_named (Some n) e = absurd (cc)
+
+    named : (epoch : Option ℕ) → q.epoch ≡ epoch → IfSome (option_map (naming q.txn) epoch) (IsAsked A (actor.Server s.server)) → option_map_or (λ (e : ℕ). not (e == entry.epoch)) epoch false ≡ false
+        → IfSome epoch (λ (n : ℕ). (A q.txn s.server ≡ Some n) × (n ≡ entry.epoch))
+    named None e asked same = tt
+    named (Some n) e asked same = (asked, same_named (Some n) n entry.epoch refl same)
+
+-- a query that waited names the entry's epoch, which is the one that is asked
+waited_asked : (sc : Scenario) (A : Asking) (at : ServerId) (epoch : ℕ) (q : QueryRequest) → WaitsMade sc A at epoch q → is_first_at sc at q.txn q.query ≡ false → A q.txn at ≡ Some epoch
+waited_asked sc A at epoch q h later = named q.epoch (h.first ∙ later) h.named
+  where
+    named : (told : Option ℕ) → is_none told ≡ false → IfSome told (λ (n : ℕ). (A q.txn at ≡ Some n) × (n ≡ epoch)) → A q.txn at ≡ Some epoch
+    named None none k = absurd (cc)
+    named (Some n) none k = k.0 ∙ ap (λ (m : ℕ). Some m) k.1
+
+-- what waited runs, after what was done before
+resumes_made : (sc : Scenario) (A : Asking) (s : Server) (kept : List Record) (effect : Effect Server) (grant : Grant) (q : QueryRequest) (query : Query) (entry : Entry) (value : ℤ) → IsResumed sc s.server effect.state grant q query entry value
+    → RowEpochs sc A s kept effect → RowEpochs sc A s kept (server.followed_by effect (resuming effect.state q query entry value))
+resumes_made sc A s kept effect grant q query entry value k h =
+    let now = log_with kept effect.reaction.append in
+    let made : ServerMade sc A effect.state.server effect.state now = subst (λ (at : ServerId). ServerMade sc A at effect.state now) (sym k.server_is) h.made in
+    let old : EntryMade sc A effect.state.server effect.state.epoch entry = made.entries q.txn.0 entry k.found in
+    let waited : WaitsMade sc A effect.state.server entry.epoch q = subst (λ (w : Option QueryRequest). IfSome w (WaitsMade sc A effect.state.server entry.epoch)) k.waiting_is old.waiting in
+    let ran = runs_made sc A effect.state now q query (unwaiting entry) (deed_of q.query query value) made
+    (record { made = record { past = old.past; present = old.present; waiting = tt; answers = old.answers }; asked = waited_asked sc A effect.state.server entry.epoch q waited }) in
+    let own : ServerEpochs sc A s.server now (Some (resuming effect.state q query entry value).state) None (resuming effect.state q query entry value).reaction.letters =
+    subst (λ (at : ServerId). ServerEpochs sc A at now (Some (resuming effect.state q query entry value).state) None (resuming effect.state q query entry value).reaction.letters) k.server_is ran in
+    record { made = own.made; forces = h.forces; replies = each_append (λ (letter : Letter). ReplyMade sc A s.server (epoch_in now) letter.from letter.body) effect.reaction.letters _ h.replies own.replies }
+
 -- an answer that is given again, or that the server restarted
 answers_made : (sc : Scenario) (A : Asking) (s : Server) (kept : List Record) (q : QueryRequest) (given : DoneReply) → ServerMade sc A s.server s kept → DoneMade sc A s.server s.epoch given
     → RowEpochs sc A s kept (server.answers s q.txn given)
@@ -258,7 +306,7 @@ votes_made sc A s kept p verdicts entry h e same m =
       replies = (tt, tt);
     }
 
-ends_made : (sc : Scenario) (A : Asking) (s : Server) (kept : List Record) (order : Settled) (letter : Letter) → ServerMade sc A s.server s kept → ReplyMade sc A s.server (epoch_in (log_with kept (Some (log.Settled order)))) letter.from letter.body → RowEpochs sc A s kept (server.ends s order letter)
+ends_made : (sc : Scenario) (A : Asking) (s : Server) (kept : List Record) (order : Settled) (letter : Letter) → ServerMade sc A s.server s kept → ReplyMade sc A s.server (epoch_in (log_with kept (Some (log.Settled order)))) letter.from letter.body → RowEpochs sc A s kept (server.closes s order letter)
 ends_made sc A s kept order letter h reply =
     record {
       made = record {
@@ -274,16 +322,31 @@ learns_made sc A s kept push h =
     record { made = record { epoch_is = omega (arith, h.epoch_is, boots_push kept (log.Told (server.told_of push))); entries = h.entries }; forces = tt; replies = tt }
 
 -- every row of a server on receipt of a mail
-pub server_row_made : (sc : Scenario) (A : Asking) (s : Server) (kept : List Record) (mail : Mail) → ServerMade sc A s.server s kept → QueryFirst sc (actor.Server s.server) mail.letter.body
+pub server_row_made : (sc : Scenario) (A : Asking) (s : Server) (kept : List Record) (mail : Mail) → AreRightWaits sc s → ServerMade sc A s.server s kept → QueryFirst sc (actor.Server s.server) mail.letter.body
     → IfSome (naming_of mail.letter.body) (IsAsked A (actor.Server s.server)) → RowEpochs sc A s kept (server.server_row sc s mail)
-server_row_made sc A s kept mail h first m =
-    server_by sc s mail (RowEpochs sc A s kept)
+server_row_made sc A s kept mail waits h first m =
+    server_by sc s mail (RowEpochs sc A s kept) waits
     (record {
+      relocked = λ effect locks k. record { made = record { epoch_is = k.made.epoch_is; entries = k.made.entries }; forces = k.forces; replies = k.replies };
       ignored = ignores_made sc A s kept h;
       ran = λ q query entry value k.
           let is_first : is_none q.epoch ≡ is_first_at sc s.server q.txn q.query = subst (QueryFirst sc (actor.Server s.server)) k.said_is first in
           let asked : IfSome (option_map (naming q.txn) q.epoch) (IsAsked A (actor.Server s.server)) = subst (λ (said : Body). IfSome (naming_of said) (IsAsked A (actor.Server s.server))) k.said_is m in
           runs_made sc A s kept q query entry (deed_of q.query query value) h (run_made sc A s kept mail q query entry value h is_first asked k);
+      waited = λ q query entry value k.
+          let is_first : is_none q.epoch ≡ is_first_at sc s.server q.txn q.query = subst (QueryFirst sc (actor.Server s.server)) k.said_is first in
+          let asked : IfSome (option_map (naming q.txn) q.epoch) (IsAsked A (actor.Server s.server)) = subst (λ (said : Body). IfSome (naming_of said) (IsAsked A (actor.Server s.server))) k.said_is m in
+          let r = run_made sc A s kept mail q query entry value h is_first asked k in
+          entry_made sc A s kept q.txn (record entry { waiting = Some q }) [] h
+          (record { past = r.made.past; present = r.made.present; waiting = record { first = is_first; named = waits_named sc A s mail q query entry value asked k }; answers = r.made.answers }) tt;
+      died = λ q query entry value other k dying.
+          let is_first : is_none q.epoch ≡ is_first_at sc s.server q.txn q.query = subst (QueryFirst sc (actor.Server s.server)) k.said_is first in
+          let asked : IfSome (option_map (naming q.txn) q.epoch) (IsAsked A (actor.Server s.server)) = subst (λ (said : Body). IfSome (naming_of said) (IsAsked A (actor.Server s.server))) k.said_is m in
+          let r = run_made sc A s kept mail q query entry value h is_first asked k in
+          let answer : DoneMade sc A s.server s.epoch (server.died_reply q entry.epoch other) = record { past = r.made.past; asked = λ died later. r.asked later } in
+          entry_made sc A s kept q.txn _ _ h
+          (record { past = r.made.past; present = r.made.present; waiting = r.made.waiting; answers = each_more (DoneMade sc A s.server s.epoch) entry.answers _ r.made.answers answer })
+          ((refl, record { past = omega (arith, answer.past, h.epoch_is); asked = answer.asked }), tt);
       restarted = λ q k. answers_made sc A s kept q (server.restarted_reply q s.epoch) h (record { past = omega arith; asked = λ ran later. absurd (cc) });
       answered = λ q entry given k.
           answers_made sc A s kept q given h
@@ -297,4 +360,5 @@ server_row_made sc A s kept mail h first m =
       settled = λ d k. ends_made sc A s kept (server.settled_as d) (server.ack_letter s d.txn) h tt;
       acknowledged = λ d settled k. record { made = h; forces = tt; replies = (tt, tt) };
       pushed = λ push k. learns_made sc A s kept push h;
+      resumed = λ effect grant q query entry value k now. resumes_made sc A s kept effect grant q query entry value k now;
     })

@@ -24,7 +24,8 @@ use Rattle.tp_machine.proofs.epochs.Asked.{Asking, IsAsked, LetterNamed, NamesNo
 use Rattle.tp_machine.proofs.epochs.Coordinator.{IsMail, coordinator_row_keeps, submit_row_keeps}
 use Rattle.tp_machine.proofs.epochs.Kept.{CoordinatorEpochs, CoordinatorKeeps}
 use Rattle.tp_machine.proofs.epochs.Server.{BodyTold, DoneMade, DoneTold, EntryMade, IsPlainLetter, LetterFirst, LetterTold, LettersEpochs, PreparedMade, QueryFirst, RecordMade, ReplyMade, ServerEpochs, ServerMade, WaitsMade, epoch_rises, plain_letters, plain_names_none, server_row_made}
-use Rattle.tp_machine.proofs.walks.Steps.{Cases, IsCoordinatorUp, IsServerUp, WasSent, machine_after_by}
+use Rattle.tp_machine.proofs.walks.ServerRows.{AreRightWaits}
+use Rattle.tp_machine.proofs.walks.Steps.{Cases, IsCoordinatorUp, IsServerUp, WaitRightly, WasSent, machine_after_by}
 use Rattle.tp_machine.specs.Logs.{epoch_at, epoch_by, epoch_in, preparation_in, prepared_in}
 use Rattle.tp_machine.specs.Machine.{Machine, Move, State, acts, acts_by, coordinator_fact, coordinator_move, is_part_submitted, log_with, machine_after, mails_of, opened_part, opening_state, refusal, server_fact, server_move, state_after, with_age}
 use Rattle.tp_machine.specs.Parts.{Part}
@@ -277,24 +278,24 @@ coordinator_acts_epochs sc w txn part own now append letters h found t =
 -- ---- what is known of actors that are up
 
 -- a server that receives a mail
-row_at : (sc : Scenario) (A : Asking) (s : Server) (at : ServerId) (kept : List Record) (mail : Mail) → s.server ≡ at → ServerMade sc A at s kept → QueryFirst sc (actor.Server at) mail.letter.body
+row_at : (sc : Scenario) (A : Asking) (s : Server) (at : ServerId) (kept : List Record) (mail : Mail) → AreRightWaits sc s → s.server ≡ at → ServerMade sc A at s kept → QueryFirst sc (actor.Server at) mail.letter.body
     → IfSome (naming_of mail.letter.body) (IsAsked A (actor.Server at))
     → ServerEpochs sc A at kept (Some (server_row sc s mail).state) (server_row sc s mail).reaction.append (server_row sc s mail).reaction.letters
-row_at sc A s at kept mail same made first named =
+row_at sc A s at kept mail waits same made first named =
     let effect = server_row sc s mail in
     subst (λ (a : ServerId). ServerEpochs sc A a kept (Some effect.state) effect.reaction.append effect.reaction.letters) same
-    (server_row_made sc A s kept mail (subst (λ (a : ServerId). ServerMade sc A a s kept) (sym same) made) (subst (λ (a : ServerId). QueryFirst sc (actor.Server a) mail.letter.body) (sym same) first)
+    (server_row_made sc A s kept mail waits (subst (λ (a : ServerId). ServerMade sc A a s kept) (sym same) made) (subst (λ (a : ServerId). QueryFirst sc (actor.Server a) mail.letter.body) (sym same) first)
     (subst (λ (a : ServerId). IfSome (naming_of mail.letter.body) (IsAsked A (actor.Server a))) (sym same) named))
 
-receipt_by_server : (sc : Scenario) (w : State) → IsSound sc w → Epochs sc w → (n : ℕ) (mail : Mail) (at : ServerId) (part : Part Server) (s : Server) → WasSent w n mail (actor.Server at) → IsServerUp w at part s
+receipt_by_server : (sc : Scenario) (w : State) → WaitRightly sc w → IsSound sc w → Epochs sc w → (n : ℕ) (mail : Mail) (at : ServerId) (part : Part Server) (s : Server) → WasSent w n mail (actor.Server at) → IsServerUp w at part s
     → StepEpochs sc w (server_move w.actors at (acts_by (server_fact at) [] part.log (server_row sc s mail)))
-receipt_by_server sc w sound h n mail at part s sent up =
+receipt_by_server sc w rightly sound h n mail at part s sent up =
     let A = asked_in w.mails in
     let effect = server_row sc s mail in
     let here : IsSoundServerUp sc at s = subst (λ (u : Option Server). IfSome u (IsSoundServerUp sc at)) up.up (sound.actors_are.servers at.0 part up.found).state in
     let made : ServerMade sc A at s part.log = subst (λ (u : Option Server). IfSome u (λ (t : Server). ServerMade sc A at t part.log)) up.up (h.servers at.0 part up.found).state in
     server_acts_epochs sc w at part [] (Some effect.state) effect.reaction.append effect.reaction.letters h up.found
-    (row_at sc A s at part.log mail here.server_is made
+    (row_at sc A s at part.log mail (rightly at part s up) here.server_is made
     (subst (λ (to : Actor). QueryFirst sc to mail.letter.body) sent.goes_to (each_get (λ (m : Mail). LetterFirst sc m.letter) w.mails n mail h.first sent.sent))
     (subst (λ (to : Actor). IfSome (naming_of mail.letter.body) (IsAsked A to)) sent.goes_to (each_get (λ (m : Mail). LetterNamed A m.letter) w.mails n mail h.named sent.sent)))
 
@@ -360,11 +361,11 @@ offices_epochs sc w authority held happened h =
 
 -- ---- steps
 
-epochs_cases : (sc : Scenario) (w : State) → HaveHomes sc → IsSound sc w → Agrees sc w → Epochs sc w → Cases sc w (λ taken move. StepEpochs sc w move)
-epochs_cases sc w homes sound a h =
+epochs_cases : (sc : Scenario) (w : State) → HaveHomes sc → WaitRightly sc w → IsSound sc w → Agrees sc w → Epochs sc w → Cases sc w (λ taken move. StepEpochs sc w move)
+epochs_cases sc w homes rightly sound a h =
     record {
       idle = λ taken happened e. unmoved_epochs sc w happened [] h tt;
-      server_received = λ n mail at part s sent up. receipt_by_server sc w sound h n mail at part s sent up;
+      server_received = λ n mail at part s sent up. receipt_by_server sc w rightly sound h n mail at part s sent up;
       coordinator_received = λ n mail txn part c sent up. receipt_by_coordinator sc w homes sound a h n mail txn part c sent up;
       authority_told = λ n mail sent. unmoved_epochs sc w [] (office.authority_row w.actors.authority mail).reaction.letters h (tells_plain w.actors.authority mail.letter.body);
       master_told = λ n mail sent. unmoved_epochs sc w [] (master.master_row w.actors.master mail).reaction.letters h (newest_plain w.actors.master mail.letter.body);
@@ -376,9 +377,9 @@ epochs_cases sc w homes sound a h =
     }
 
 -- a step that is not refused keeps what is said of epochs
-pub epochs_next : (sc : Scenario) (m : Machine) (taken : Step) → HaveHomes sc → IsStepOf sc taken → refusal m.state taken ≡ None → IsSound sc m.state → Agrees sc m.state → Epochs sc m.state → Epochs sc (machine_after sc m taken).state
-epochs_next sc m taken homes exists allowed sound a h =
-    machine_after_by sc m (λ taken move. StepEpochs sc m.state move) (Epochs sc) (epochs_cases sc m.state homes sound a h) a.coordinator_count
+pub epochs_next : (sc : Scenario) (m : Machine) (taken : Step) → HaveHomes sc → IsStepOf sc taken → refusal m.state taken ≡ None → WaitRightly sc m.state → IsSound sc m.state → Agrees sc m.state → Epochs sc m.state → Epochs sc (machine_after sc m taken).state
+epochs_next sc m taken homes exists allowed rightly sound a h =
+    machine_after_by sc m (λ taken move. StepEpochs sc m.state move) (Epochs sc) (epochs_cases sc m.state homes rightly sound a h) a.coordinator_count
     (λ taken move t. state_after_epochs sc m.state taken move t) h taken exists allowed
 
 -- ---- before the first step

@@ -5,6 +5,8 @@ use Rattle.std.specs.Option.{option_map_or}
 use Rattle.std.proofs.Common.{IfSome, List, None, Option, Some, [], arith, drop, flat_map, length, refl, replicate, slice_get, subst, suc, sym, zero, ℕ, true, ◌++◌, ◌+◌, ◌<◌, ◌∙◌, ◌∷◌, ◌≡◌}
 use Rattle.std.proofs.lemmas.Option.{same_Some}
 use Rattle.tp_types.specs.Effect.{Effect}
+use Rattle.tp_lock.specs.declared.entry.LockEntry.{LockEntry}
+use Rattle.tp_machine.proofs.basics.Locks.{no_locks}
 use Rattle.tp_model.specs.Queries.{is_at_server, servers_from, servers_of}
 use Rattle.tp_model.specs.Words.actor
 use Rattle.tp_model.specs.Words.body
@@ -16,6 +18,7 @@ use Rattle.tp_machine.proofs.basics.Stores.{opened_each}
 use Rattle.tp_machine.proofs.ids.Coordinator.{IsSoundCoordinatorEffect, coordinator_row_sound, coordinator_with_age_sound, submit_row_sound}
 use Rattle.tp_machine.proofs.ids.Server.{IsSoundServerEffect, server_row_sound, version_of, versions_set}
 use Rattle.tp_machine.proofs.ids.Valid.{IsValid, less}
+use Rattle.tp_machine.proofs.walks.ServerRows.{AreRightWaits}
 use Rattle.tp_machine.specs.Machine.{PartMove, acts_by, coordinator_fact, log_with, opened_part, server_fact, with_age}
 use Rattle.tp_machine.specs.Parts.{Part}
 use Rattle.tp_machine.specs.Sound.{AreCreds, AreVersions, Each, IsActor, IsAdmin, IsCred, IsServer, IsSettledOf, IsSoundAuthority, IsSoundBody, IsSoundCoordinatorPart, IsSoundCoordinatorRecord, IsSoundCoordinatorUp, IsSoundDecision, IsSoundEntry, IsSoundLetter, IsSoundMaster, IsSoundRefusal, IsSoundServerPart, IsSoundServerRecord, IsSoundServerUp, IsSoundWhat, IsTxn, IsVersion, IsVersionOf, IsWriteOf}
@@ -76,13 +79,13 @@ server_acts_sound sc s own kept effect exists e k o =
     }
 
 -- a server that is up and receives a mail to it
-pub server_receipt_sound : (sc : Scenario) (at : ServerId) (part : Part Server) (s : Server) (mail : Mail) → IsValid sc → IsSoundServerPart sc at part → part.up ≡ Some s
+pub server_receipt_sound : (sc : Scenario) (at : ServerId) (part : Part Server) (s : Server) (mail : Mail) → IsValid sc → AreRightWaits sc s → IsSoundServerPart sc at part → part.up ≡ Some s
     → IsSoundBody sc (actor.Server at) mail.letter.body → IsSoundServerMove sc at (acts_by (server_fact at) [] part.log (server_row sc s mail))
-server_receipt_sound sc at part s mail valid h e m =
+server_receipt_sound sc at part s mail valid waits h e m =
     let state : IsSoundServerUp sc at s = subst (λ (up : Option Server). IfSome up (IsSoundServerUp sc at)) e h.state in
     let P = λ (to : ServerId). IsSoundBody sc (actor.Server to) mail.letter.body → Each (IsSoundServerRecord sc to) part.log
     → IsSoundServerMove sc to (acts_by (server_fact to) [] part.log (server_row sc s mail)) in
-    let act : P s.server = λ said kept. server_acts_sound sc s [] part.log (server_row sc s mail) state.sound.exists (server_row_sound sc s mail valid state.sound said) kept tt in
+    let act : P s.server = λ said kept. server_acts_sound sc s [] part.log (server_row sc s mail) state.sound.exists (server_row_sound sc s mail valid waits state.sound said) kept tt in
     subst P state.server_is act m h.records
 
 -- ---- coordinators
@@ -214,6 +217,7 @@ server_opening_sound sc at valid exists =
           writes = opened_each (IsWriteOf sc at) (server.opening sc at).store (length sc.txns) refl;
           settled = placed_none (λ (n : ℕ) (found : Settled). IsSettledOf sc at (record { 0 = n }) found) (length sc.txns);
           entries = placed_none (λ (n : ℕ) (found : Entry). IsSoundEntry sc at (record { 0 = n }) found) (length sc.txns);
+          locks = no_locks (λ (item : ℕ) (lock : LockEntry). IsTxn sc lock.owner) (length sc.items);
         };
       };
       records = tt;

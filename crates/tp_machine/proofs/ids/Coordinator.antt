@@ -13,11 +13,11 @@ use Rattle.tp_model.specs.Words.{Actor, AdminId, Body, Cause, DoneReply, Item, M
 use Rattle.tp_machine.proofs.basics.Homes.{IsHome, home_is}
 use Rattle.tp_machine.proofs.basics.Lists.{by_cond, each_append, each_as, each_filter, each_flat_map, each_found, each_get, each_map, each_more, each_passing}
 use Rattle.tp_machine.proofs.ids.Valid.{IsValid, IsValidItem}
-use Rattle.tp_machine.proofs.walks.CoordinatorRows.{IsNo, IsYes, coordinator_by, submit_by}
+use Rattle.tp_machine.proofs.walks.CoordinatorRows.{IsDiedAnswer, IsNo, IsYes, coordinator_by, submit_by}
 use Rattle.tp_model.specs.Deeds.{deed_of}
-use Rattle.tp_machine.specs.Sound.{AreSoundVerdicts, AreWanted, Each, HasValue, IsActor, IsItemOf, IsRefusalOf, IsServer, IsSoundBallot, IsSoundBody, IsSoundCause, IsSoundCoordinator, IsSoundCoordinatorRecord, IsSoundDeed, IsSoundInstance, IsSoundLetter, IsSoundPhase, IsSoundProof, IsSoundQuery, IsSoundMet, IsSoundRefusal, IsSoundRound, IsSoundStaple, IsSoundTarget, IsSoundVerdict, IsSoundWanted, IsVersion, ProvesEach, proves_each, query_in}
+use Rattle.tp_machine.specs.Sound.{AreSoundVerdicts, AreWanted, Each, HasValue, IsActor, IsItemOf, IsRefusalOf, IsServer, IsSoundAnswer, IsSoundBallot, IsSoundBody, IsSoundCause, IsSoundCoordinator, IsSoundCoordinatorRecord, IsSoundDeed, IsSoundInstance, IsSoundLetter, IsSoundPhase, IsSoundProof, IsSoundQuery, IsSoundMet, IsSoundRefusal, IsSoundRound, IsSoundStaple, IsSoundTarget, IsSoundVerdict, IsSoundWanted, IsVersion, ProvesEach, proves_each, query_in}
 use Rattle.tp_coord.specs.Sums.{asked_value, registers_after, sum_asked}
-use Rattle.tp_coord.specs.Row.{aborts, asks, commit_round, commits, coordinator_row, coordinator_with_age, denied_by, instances_with, next_number, next_turn, prepare_letter, prepares, query_of, query_request, refused_by, request, sends_query, staple_of, submit_row, value_of, with_deed, without}
+use Rattle.tp_coord.specs.Row.{aborts, asks, commit_round, commits, coordinator_row, coordinator_with_age, denied_by, died_for, instances_with, next_number, next_turn, prepare_letter, prepares, query_of, query_request, refused_by, request, sends_query, staple_of, submit_row, value_of, with_deed, without}
 use Rattle.tp_coord.specs.State.{Coordinator}
 use Rattle.tp_coord.specs.declared.coordinator.Phase.TheVariants as phase
 use Rattle.tp_coord.specs.declared.coordinator.Phase.{Phase}
@@ -316,6 +316,14 @@ no_sound sc c mail reply round staple server number value r m k =
     let own : IsRefusalOf sc server c.txn reply.vote = subst (λ (txn : TxnId). IsRefusalOf sc server txn reply.vote) (same_txn_of c.txn reply.txn said.goes_to) refusal in
     record { query = subst (IsRefusalOf sc server c.txn) k.vote_is own }
 
+-- the reason of an awaited answer that an older transaction stood in the way
+died_sound : (sc : Scenario) (c : Coordinator) (mail : Mail) (done : DoneReply) (server : ServerId) (asked : Query) (other : TxnId) → IsValid sc → IsSoundBody sc (actor.Coordinator c.txn) mail.letter.body
+    → IsDiedAnswer sc c mail done server asked other → IsSoundCause sc c.txn (cause.Died (died_for server done other mail.sent))
+died_sound sc c mail done server asked other valid m k =
+    let said = subst (IsSoundBody sc (actor.Coordinator c.txn)) k.said_is m in
+    let at : IsServerOf sc asked server = server_found sc asked server (slice_get sc.items (item_of asked).0) valid refl k.server_is in
+    record { query = record { asked = asked; asked_is = k.asked_is; kept = at.kept }; other = subst (IsSoundAnswer sc done.txn) k.answer_is said.answer_is_sound }
+
 pub coordinator_row_sound : (sc : Scenario) (c : Coordinator) (mail : Mail) → IsValid sc → IsSoundCoordinator sc c → IsActor sc mail.letter.from
     → IsSoundRefusal sc mail.letter.from mail.letter.body → IsSoundBody sc (actor.Coordinator c.txn) mail.letter.body → IsSoundCoordinatorEffect sc c (coordinator_row sc c mail)
 coordinator_row_sound sc c mail valid h a r m =
@@ -333,6 +341,7 @@ coordinator_row_sound sc c mail valid h a r m =
           let on = asks_sound sc now (commit_round now) (with_deed_sound sc c server done asked value h k.asked_is)
           (record { view = refl; targets = first_sound sc c.txn c.servers h.servers; aim = tt; named = tt; mets = tt }) in
           record { same_txn = refl; state_is = on.state_is; forces = tt; sends_only = on.sends_only };
+      died = λ done server asked other k. aborts_sound sc c (cause.Died (died_for server done other mail.sent)) h (died_sound sc c mail done server asked other valid m k);
       told = λ tell round k. prepares_sound sc c round (staple_of tell mail.sent) h (awaits k.asking) (subst (IsSoundBody sc (actor.Coordinator c.txn)) k.said_is m).revoked;
       counted = λ reply round staple server verdicts y e. counted_sound sc c (after_reply round server verdicts) staple h (replied reply round staple server verdicts y) (awaits y.checking).1;
       committed = λ reply round staple server verdicts y e.

@@ -5,25 +5,31 @@ use Rattle.std.proofs.lemmas.Bool.{and_parts, eqb-true}
 use Rattle.std.proofs.lemmas.Option.{same_Some, slice_get_within}
 use Rattle.tp_types.specs.Effect.{Effect, ignores, sends}
 use Rattle.tp_types.specs.Table.{flattened}
-use Rattle.tp_model.specs.Authorisation.{policy_at}
+use Rattle.tp_lock.specs.Rule.{without_grant}
+use Rattle.tp_lock.specs.Table.{Table}
+use Rattle.tp_lock.specs.declared.entry.Grant.{Grant}
+use Rattle.tp_lock.specs.declared.entry.LockEntry.{LockEntry}
+use Rattle.tp_model.specs.Authorisation.{action_of, policy_at}
 use Rattle.tp_model.specs.Credentials.{is_among, is_presented}
 use Rattle.tp_model.specs.Ids.{same_cred}
 use Rattle.tp_model.specs.Queries.{item_of}
 use Rattle.tp_model.specs.Words.actor
+use Rattle.tp_model.specs.Words.answer
 use Rattle.tp_model.specs.Words.body
 use Rattle.tp_model.specs.Words.no
-use Rattle.tp_model.specs.Words.{Admin, AdminId, Body, CredId, DecideRequest, Deed, DoneReply, Item, ItemId, Letter, Mail, No, PrepareRequest, PushNotice, Query, QueryRequest, Scenario, ServerId, Settled, Staple, Transaction, TxnId, Version}
-use Rattle.tp_machine.proofs.basics.Lists.{each_append, each_found, each_get, each_map, placed_emptied, placed_set}
+use Rattle.tp_model.specs.Words.{Admin, AdminId, Answer, Body, CredId, DecideRequest, Deed, DoneReply, Item, ItemId, Letter, Mail, No, PrepareRequest, PushNotice, Query, QueryRequest, Scenario, ServerId, Settled, Staple, Transaction, TxnId, Version}
+use Rattle.tp_machine.proofs.basics.Lists.{each_append, each_found, each_get, each_map, each_more, placed_emptied, placed_set}
+use Rattle.tp_machine.proofs.basics.Locks.{released_locks, requested_locks, stands_in_the_way}
 use Rattle.tp_machine.proofs.basics.Stores.{ended_each, ended_known, kept_each, kept_known, learnt_each}
 use Rattle.tp_machine.proofs.basics.Versions.{used_by}
 use Rattle.tp_machine.proofs.ids.Valid.{IsValid, IsValidItem}
 use Rattle.tp_machine.proofs.trust.Evaluation.{uses_presented}
-use Rattle.tp_machine.proofs.walks.ServerRows.{IsFirstHere, IsFurther, IsGranted, server_by}
+use Rattle.tp_machine.proofs.walks.ServerRows.{AreRightWaits, IsAsking, IsFirstHere, IsFurther, IsResumed, resuming, server_by_locks, unwaiting, with_locks}
 use Rattle.tp_model.specs.Deeds.{deed_of}
-use Rattle.tp_machine.specs.Sound.{AreCreds, AreSoundVerdicts, AreVersions, AreVersionsOf, AreWanted, Each, IsAdmin, IsCred, IsItemOf, IsQueryOf, IsReasonOf, IsSettledOf, IsSoundBody, IsSoundDeedAt, IsSoundDone, IsSoundEntry, IsSoundLetter, IsSoundNo, IsSoundQuery, IsSoundRefusal, IsSoundServer, IsSoundServerRecord, IsSoundSettled, IsSoundVerdict, IsTxn, IsVersion, IsVersionOf, IsWriteOf}
+use Rattle.tp_machine.specs.Sound.{AreCreds, AreSoundVerdicts, AreVersions, AreVersionsOf, AreWanted, Each, HaveOwners, IsAdmin, IsCred, IsItemOf, IsQueryOf, IsReasonOf, IsSettledOf, IsSoundBody, IsSoundDeedAt, IsSoundDone, IsSoundEntry, IsSoundAnswer, IsSoundLetter, IsSoundNo, IsSoundQuery, IsSoundRefusal, IsSoundServer, IsSoundServerRecord, IsSoundSettled, IsSoundVerdict, IsSoundWait, IsTxn, IsVersion, IsVersionOf, IsWriteOf}
 use Rattle.tp_machine.specs.declared.server.Ballot.{Ballot}
 use Rattle.tp_machine.specs.declared.server.Entry.{Entry}
-use Rattle.tp_machine.specs.server.Row.{ack_letter, answers, completes, done_reply, ends, entry_after, learns, no_letter, refused_as, refuses, reply, restarted_reply, server_row, settled_as, settles, votes_on, yes_letter}
+use Rattle.tp_machine.specs.server.Row.{ack_letter, after_asking, answers, asked_query, closes, completes, died_reply, dies, done_reply, entry_after, followed_by, learns, no_letter, refused_as, reply, restarted_reply, server_row, settled_as, votes_on, waits, yes_letter}
 use Rattle.tp_machine.specs.server.State.{Server}
 use Rattle.tp_machine.specs.server.Verdicts.{admin_of, learnt, verdict_on, verdicts_on, version_known, version_used, with_versions}
 use Rattle.tp_store.proofs.OutsideLemmas.{first_is_least}
@@ -54,32 +60,36 @@ not_some None other e = refl
 not_some (Some x) other e = absurd (cc)
 
 -- an entry at which a query runs is sound
-run_entry : (sc : Scenario) (s : Server) (mail : Mail) (q : QueryRequest) (query : Query) (entry : Entry) (value : ℤ) → IsSoundServer sc s → IsGranted sc s mail q query entry value
+run_entry : (sc : Scenario) (s : Server) (mail : Mail) (q : QueryRequest) (query : Query) (entry : Entry) (value : ℤ) → IsSoundServer sc s → IsAsking sc s mail q query entry value
     → IsSoundEntry sc s.server q.txn entry
 run_entry sc s mail q query entry value h k =
     ⊎_elim
     (λ (first : IsFirstHere s mail.sent q entry). subst (IsSoundEntry sc s.server q.txn) (sym first.entry_is) (record { answers = tt; waiting = tt; deeds = tt; ballot = tt }))
     (λ (further : IsFurther s q entry). h.entries q.txn.0 entry further.found) k.place
 
-runs_sound : (sc : Scenario) (s : Server) (mail : Mail) (q : QueryRequest) (query : Query) (entry : Entry) (value : ℤ) → IsSoundServer sc s → IsSoundQuery sc (actor.Server s.server) q
-    → IsGranted sc s mail q query entry value → IsSoundServerEffect sc s (completes s q query entry (deed_of q.query query value))
-runs_sound sc s mail q query entry value h m k =
+-- a query without a staple is of a transaction whose queries are not each proved
+plain_done : (sc : Scenario) (s : Server) (q : QueryRequest) (answer : Answer) (epoch : ℕ) → IsSoundQuery sc (actor.Server s.server) q → (is_none q.staple && is_none q.pin) ≡ true → IsSoundAnswer sc q.txn answer
+    → IsSoundDone sc (actor.Coordinator q.txn) (record { txn = q.txn; turn = q.turn; query = q.query; epoch = epoch; answer = answer })
+plain_done sc s q answer epoch m plain sound =
+    record {
+      txn = m.txn;
+      goes_to = refl;
+      query = record { asked = m.asked; asked_is = m.asked_is };
+      answer_is_sound = sound;
+      proved = λ each. let stapled = m.stapled each in let unstapled = not_some q.staple (is_none q.pin) plain in absurd (cc);
+    }
+
+runs_sound : (sc : Scenario) (s : Server) (q : QueryRequest) (query : Query) (entry : Entry) (value : ℤ) → IsSoundServer sc s → IsSoundQuery sc (actor.Server s.server) q
+    → (is_none q.staple && is_none q.pin) ≡ true → asked_query sc q ≡ Some query → IsSoundEntry sc s.server q.txn entry → IsSoundServerEffect sc s (completes s q query entry (deed_of q.query query value))
+runs_sound sc s q query entry value h m plain asked old =
     let deed = deed_of q.query query value in
-    let same : query ≡ m.asked = same_Some query m.asked (sym k.asked_is ∙ m.asked_is) in
+    let same : query ≡ m.asked = same_Some query m.asked (sym asked ∙ m.asked_is) in
     let at_is : m.at ≡ s.server = cc in
     let item_is : item_of m.asked ≡ item_of query = ap item_of (sym same) in
     let kept : IsItemOf sc s.server deed.item = subst (IsItemOf sc s.server) item_is (subst (λ (at : ServerId). IsItemOf sc at (item_of m.asked)) at_is m.kept) in
     let deed_sound : IsSoundDeedAt sc s.server q.txn deed =
     record { sound = record { asked = m.asked; asked_is = m.asked_is; item_is = sym item_is }; kept = kept } in
-    let done_sound : IsSoundDone sc (actor.Coordinator q.txn) (done_reply q entry.epoch deed) =
-    record {
-      txn = m.txn;
-      goes_to = refl;
-      query = record { asked = m.asked; asked_is = m.asked_is };
-      answer_is_sound = tt;
-      proved = λ each. let stapled = m.stapled each in let unstapled = not_some q.staple (is_none q.pin) k.plain in absurd (cc);
-    } in
-    let old : IsSoundEntry sc s.server q.txn entry = run_entry sc s mail q query entry value h k in
+    let done_sound : IsSoundDone sc (actor.Coordinator q.txn) (done_reply q entry.epoch deed) = plain_done sc s q (answer.Ran value None) entry.epoch m plain tt in
     record {
       same_server = refl;
       state_is = record {
@@ -95,10 +105,76 @@ runs_sound sc s mail q query entry value h m k =
               deeds = each_append (IsSoundDeedAt sc s.server q.txn) entry.deeds (deed ∷ []) old.deeds (deed_sound, tt);
               ballot = old.ballot;
             });
+        locks = h.locks;
       };
       forces = tt;
       sends_only = (reply_sound sc s q.txn (body.Done (done_reply q entry.epoch deed)) h m.txn done_sound tt, tt);
     }
+
+-- the entry of a query that waits
+waits_sound : (sc : Scenario) (s : Server) (q : QueryRequest) (entry : Entry) → IsSoundServer sc s → IsSoundQuery sc (actor.Server s.server) q → (is_none q.staple && is_none q.pin) ≡ true → IsSoundEntry sc s.server q.txn entry
+    → IsSoundServerEffect sc s (waits s q entry)
+waits_sound sc s q entry h m plain old =
+    record {
+      same_server = refl;
+      state_is = record {
+        exists = h.exists;
+        known = h.known;
+        writes = h.writes;
+        settled = h.settled;
+        entries = placed_set (λ (n : ℕ) (found : Entry). IsSoundEntry sc s.server (record { 0 = n }) found) s.entries q.txn.0 _ h.entries
+            (record { answers = old.answers; waiting = record { own = refl; plain = plain; sound = m }; deeds = old.deeds; ballot = old.ballot });
+        locks = h.locks;
+      };
+      forces = tt;
+      sends_only = tt;
+    }
+
+-- an older transaction stands in the way
+dies_sound : (sc : Scenario) (s : Server) (q : QueryRequest) (entry : Entry) (other : TxnId) → IsSoundServer sc s → IsSoundQuery sc (actor.Server s.server) q → (is_none q.staple && is_none q.pin) ≡ true
+    → IsSoundEntry sc s.server q.txn entry → IsTxn sc other → IsSoundServerEffect sc s (dies s q entry other)
+dies_sound sc s q entry other h m plain old exists =
+    let done_sound : IsSoundDone sc (actor.Coordinator q.txn) (died_reply q entry.epoch other) = plain_done sc s q (answer.Died other) entry.epoch m plain exists in
+    record {
+      same_server = refl;
+      state_is = record {
+        exists = h.exists;
+        known = h.known;
+        writes = h.writes;
+        settled = h.settled;
+        entries = placed_set (λ (n : ℕ) (found : Entry). IsSoundEntry sc s.server (record { 0 = n }) found) s.entries q.txn.0 _ h.entries
+            (record { answers = each_more (IsSoundDone sc (actor.Coordinator q.txn)) entry.answers _ old.answers done_sound; waiting = old.waiting; deeds = old.deeds; ballot = old.ballot });
+        locks = h.locks;
+      };
+      forces = tt;
+      sends_only = (reply_sound sc s q.txn (body.Done (died_reply q entry.epoch other)) h m.txn done_sound tt, tt);
+    }
+
+-- the same with other locks, which all have owners
+relocked_sound : (sc : Scenario) (s : Server) (effect : Effect Server) (locks : Table) → HaveOwners sc locks → IsSoundServerEffect sc s effect → IsSoundServerEffect sc s (with_locks effect locks)
+relocked_sound sc s effect locks owners h =
+    record {
+      same_server = h.same_server;
+      state_is = record { exists = h.state_is.exists; known = h.state_is.known; writes = h.state_is.writes; settled = h.state_is.settled; entries = h.state_is.entries; locks = owners };
+      forces = h.forces;
+      sends_only = h.sends_only;
+    }
+
+-- each lock has an owner
+abbrev OwnerExists : Scenario → ℕ → LockEntry → Type 0
+OwnerExists sc item lock = IsTxn sc lock.owner
+
+asked_owners : (sc : Scenario) (s : Server) (q : QueryRequest) (query : Query) (entry : Entry) → IsSoundServer sc s → IsTxn sc q.txn → HaveOwners sc (after_asking s q query entry).locks
+asked_owners sc s q query entry h exists = requested_locks (OwnerExists sc) q.txn entry.age (item_of query) (action_of query) s.locks h.locks (λ held. exists)
+
+-- what waited runs, after what was done before
+resumes_sound : (sc : Scenario) (s : Server) (effect : Effect Server) (grant : Grant) (q : QueryRequest) (query : Query) (entry : Entry) (value : ℤ) → IsResumed sc s.server effect.state grant q query entry value → IsSoundServerEffect sc s effect
+    → IsSoundServerEffect sc s (followed_by effect (resuming effect.state q query entry value))
+resumes_sound sc s effect grant q query entry value k h =
+    let old = h.state_is.entries q.txn.0 entry k.found in
+    let waited : IsSoundWait sc effect.state.server q.txn q = subst (λ (w : Option QueryRequest). IfSome w (IsSoundWait sc effect.state.server q.txn)) k.waiting_is old.waiting in
+    let ran = runs_sound sc effect.state q query (unwaiting entry) value h.state_is waited.sound k.plain k.asked_is (record { answers = old.answers; waiting = tt; deeds = old.deeds; ballot = old.ballot }) in
+    record { same_server = h.same_server; state_is = ran.state_is; forces = h.forces; sends_only = each_append (IsSoundLetter sc) effect.reaction.letters _ h.sends_only ran.sends_only }
 
 -- an answer that is given again, or for the first time
 answers_sound : (sc : Scenario) (s : Server) (q : QueryRequest) (given : DoneReply) → IsSoundServer sc s → IsTxn sc q.txn → IsSoundDone sc (actor.Coordinator q.txn) given
@@ -167,7 +243,7 @@ learnt_known sc store (wanted ∷ want) h w = learnt_known sc (with_version stor
 
 pub learnt_sound : (sc : Scenario) (s : Server) (want : List (AdminId × Version)) → IsSoundServer sc s → AreWanted sc want → IsSoundServer sc (learnt s want)
 learnt_sound sc s want h w =
-    record { exists = h.exists; known = learnt_known sc s.store want h.known w; writes = learnt_each (IsWriteOf sc s.server) s.store want h.writes; settled = h.settled; entries = h.entries }
+    record { exists = h.exists; known = learnt_known sc s.store want h.known w; writes = learnt_each (IsWriteOf sc s.server) s.store want h.writes; settled = h.settled; entries = h.entries; locks = h.locks }
 
 pub verdict_sound : (sc : Scenario) (s : Server) (txn : TxnId) (presenting : Transaction) (staple : Staple) (want : List (AdminId × Version)) (deed : Deed) → IsValid sc → IsSoundServer sc s → AreWanted sc want
     → slice_get sc.txns txn.0 ≡ Some presenting → IsSoundDeedAt sc s.server txn deed → IsSoundVerdict sc txn (verdict_on sc s presenting staple want deed)
@@ -208,6 +284,7 @@ casts_sound sc s p txn staple entry valid h exists w there k =
         settled = h.settled;
         entries = placed_set (λ (n : ℕ) (found : Entry). IsSoundEntry sc s.server (record { 0 = n }) found) s.entries p.txn.0 _ h.entries
             (record { answers = k.answers; waiting = k.waiting; deeds = k.deeds; ballot = verdicts });
+        locks = h.locks;
       };
       forces = record { txn = exists; deeds = k.deeds; verdicts = verdicts; told = after.known };
       sends_only = (reply_sound sc s p.txn _ h exists (record { txn = exists; goes_to = refl; ballot = verdicts }) tt, tt);
@@ -222,8 +299,8 @@ votes_again_sound sc s p entry cast h exists k ballot_is =
 
 -- ---- Decide
 
-ends_sound : (sc : Scenario) (s : Server) (order : Settled) (letter : Letter) → IsSoundServer sc s → IsSoundSettled sc s.server order → IsSoundLetter sc letter → IsSoundServerEffect sc s (ends s order letter)
-ends_sound sc s order letter h settled sent =
+closes_sound : (sc : Scenario) (s : Server) (order : Settled) (letter : Letter) → IsSoundServer sc s → IsSoundSettled sc s.server order → IsSoundLetter sc letter → IsSoundServerEffect sc s (closes s order letter)
+closes_sound sc s order letter h settled sent =
     record {
       same_server = refl;
       state_is = record {
@@ -232,14 +309,15 @@ ends_sound sc s order letter h settled sent =
         writes = ended_each (IsWriteOf sc s.server) s.store order.txn order.outcome h.writes;
         settled = placed_set (λ (n : ℕ) (found : Settled). IsSettledOf sc s.server (record { 0 = n }) found) s.settled order.txn.0 order h.settled (record { own = refl; sound = settled });
         entries = placed_emptied (λ (n : ℕ) (found : Entry). IsSoundEntry sc s.server (record { 0 = n }) found) s.entries order.txn.0 h.entries;
+        locks = released_locks (OwnerExists sc) (OwnerExists sc) order.txn s.locks (λ item lock held k. k) (λ item lock apart k. k) h.locks;
       };
       forces = settled;
       sends_only = (sent, tt);
     }
 
-settles_sound : (sc : Scenario) (s : Server) (d : DecideRequest) → IsSoundServer sc s → IsTxn sc d.txn → IsSoundServerEffect sc s (settles s d)
+settles_sound : (sc : Scenario) (s : Server) (d : DecideRequest) → IsSoundServer sc s → IsTxn sc d.txn → IsSoundServerEffect sc s (closes s (settled_as d) (ack_letter s d.txn))
 settles_sound sc s d h exists =
-    ends_sound sc s (settled_as d) (ack_letter s d.txn) h (record { txn = exists; why = tt }) (reply_sound sc s d.txn _ h exists (record { txn = exists; goes_to = refl }) tt)
+    closes_sound sc s (settled_as d) (ack_letter s d.txn) h (record { txn = exists; why = tt }) (reply_sound sc s d.txn _ h exists (record { txn = exists; goes_to = refl }) tt)
 
 -- a reason names a query of the transaction
 named_reason : (sc : Scenario) (at : ServerId) (txn : TxnId) (why : No) → IsReasonOf sc at txn why → IsSoundNo sc txn why
@@ -273,20 +351,29 @@ learns_sound : (sc : Scenario) (s : Server) (push : PushNotice) → IsSoundServe
 learns_sound sc s push h v =
     record {
       same_server = refl;
-      state_is = record { exists = h.exists; known = known_more sc s.store push.admin push.version h.known v; writes = h.writes; settled = h.settled; entries = h.entries };
+      state_is = record { exists = h.exists; known = known_more sc s.store push.admin push.version h.known v; writes = h.writes; settled = h.settled; entries = h.entries; locks = h.locks };
       forces = v;
       sends_only = tt;
     }
 
 -- ---- all mails
 
-pub server_row_sound : (sc : Scenario) (s : Server) (mail : Mail) → IsValid sc → IsSoundServer sc s → IsSoundBody sc (actor.Server s.server) mail.letter.body
+pub server_row_sound : (sc : Scenario) (s : Server) (mail : Mail) → IsValid sc → AreRightWaits sc s → IsSoundServer sc s → IsSoundBody sc (actor.Server s.server) mail.letter.body
     → IsSoundServerEffect sc s (server_row sc s mail)
-server_row_sound sc s mail valid h m =
-    server_by sc s mail (IsSoundServerEffect sc s)
+server_row_sound sc s mail valid rightly h m =
+    server_by_locks sc s mail (IsSoundServerEffect sc s) rightly
     (record {
       ignored = ignores_sound sc s h;
-      ran = λ q query entry value k. runs_sound sc s mail q query entry value h (said k.said_is) k;
+      ran = λ q query entry value k granted.
+          relocked_sound sc s (completes s q query entry (deed_of q.query query value)) (after_asking s q query entry).locks (asked_owners sc s q query entry h (said k.said_is).txn)
+          (runs_sound sc s q query entry value h (said k.said_is) k.plain k.asked_is (run_entry sc s mail q query entry value h k));
+      waited = λ q query entry value k waiting.
+          relocked_sound sc s (waits s q entry) (after_asking s q query entry).locks (asked_owners sc s q query entry h (said k.said_is).txn)
+          (waits_sound sc s q entry h (said k.said_is) k.plain (run_entry sc s mail q query entry value h k));
+      died = λ q query entry value other k dying.
+          let way = stands_in_the_way (OwnerExists sc) q.txn entry.age (item_of query) (action_of query) s.locks other h.locks dying in
+          relocked_sound sc s (dies s q entry other) (after_asking s q query entry).locks (asked_owners sc s q query entry h (said k.said_is).txn)
+          (dies_sound sc s q entry other h (said k.said_is) k.plain (run_entry sc s mail q query entry value h k) (subst (IsTxn sc) way.owner_is way.is));
       restarted = λ q k. answers_sound sc s q (restarted_reply q s.epoch) h (said k.said_is).txn (restarted_sound sc s q (said k.said_is));
       answered = λ q entry given k.
           answers_sound sc s q given h (said k.said_is).txn
@@ -296,7 +383,7 @@ server_row_sound sc s mail valid h m =
       refused = λ p entry number value k.
           let exists = (said k.said_is).txn in
           let query : IsQueryOf sc p.txn number s.server = refused_query sc s p.txn number value h k.outside in
-          ends_sound sc s (refused_as p _) (no_letter s p _) h (record { txn = exists; why = query }) (no_letter_sound sc s p _ h exists query);
+          closes_sound sc s (refused_as p _) (no_letter s p _) h (record { txn = exists; why = query }) (no_letter_sound sc s p _ h exists query);
       refused_again = λ p settled why k.
           let exists = (said k.said_is).txn in
           let reason : IsReasonOf sc s.server p.txn why = settled_reason sc s p.txn settled why h k.found k.why_is in
@@ -310,6 +397,9 @@ server_row_sound sc s mail valid h m =
             sends_only = (reply_sound sc s d.txn _ h (said k.said_is).txn (record { txn = (said k.said_is).txn; goes_to = refl }) tt, tt);
           };
       pushed = λ push k. learns_sound sc s push h (said k.said_is).version;
+      passed = λ effect grant first nobody k. relocked_sound sc s effect (without_grant effect.state.locks) k.state_is.locks k;
+      resumed = λ effect grant q query entry value k now.
+          relocked_sound sc s (followed_by effect (resuming effect.state q query entry value)) (without_grant effect.state.locks) now.state_is.locks (resumes_sound sc s effect grant q query entry value k now);
     })
   where
     said : {body : Body} → mail.letter.body ≡ body → IsSoundBody sc (actor.Server s.server) body

@@ -8,7 +8,7 @@ use Rattle.tp_model.specs.Words.{Actor, Letter, Mail, Scenario, ServerId, Step, 
 use Rattle.tp_machine.proofs.basics.Lists.{at_made, at_set, each_append, each_get, each_map}
 use Rattle.tp_machine.proofs.ids.Acts.{IsSoundAct, authority_sends_sound, coordinator_begun_sound, coordinator_idle_sound, coordinator_receipt_sound, master_sends_sound, none_sound, published_exists, published_sound, pushes_sound, revoked_sound, server_opening_sound, server_receipt_sound}
 use Rattle.tp_machine.proofs.ids.Valid.{IsValid, valid_built}
-use Rattle.tp_machine.proofs.walks.Steps.{Cases, SaysIdle, WasSent, machine_after_by}
+use Rattle.tp_machine.proofs.walks.Steps.{Cases, SaysIdle, WaitRightly, WasSent, machine_after_by}
 use Rattle.tp_machine.specs.Machine.{Machine, Move, State, facts_of, idle_move, machine_after, mails_of, opened_part, opening_state, refusal, state_after}
 use Rattle.tp_machine.specs.Parts.{Part}
 use Rattle.tp_machine.specs.Sound.{AreSoundActors, Each, IsActor, IsSound, IsSoundAuthority, IsSoundBody, IsSoundCoordinatorPart, IsSoundFact, IsSoundLetter, IsSoundMail, IsSoundMaster, IsSoundServerPart, IsSoundWhat, IsStepOf}
@@ -73,12 +73,12 @@ letter_sound sc w n mail to h sent =
     let m : IsSoundLetter sc mail.letter = each_get (IsSoundMail sc) w.mails n mail h.mails_are sent.sent in
     (m.from_is_actor, subst (λ (t : Actor). IsSoundBody sc t mail.letter.body) sent.goes_to m.says)
 
-sound_cases : (sc : Scenario) (w : State) → IsValid sc → IsSound sc w → Cases sc w (λ taken move. IsSoundMove sc move)
-sound_cases sc w valid h =
+sound_cases : (sc : Scenario) (w : State) → IsValid sc → WaitRightly sc w → IsSound sc w → Cases sc w (λ taken move. IsSoundMove sc move)
+sound_cases sc w valid rightly h =
     record {
       idle = idle_sound sc w.actors h.actors_are;
       server_received = λ n mail at part s sent up.
-          let move = server_receipt_sound sc at part s mail valid (h.actors_are.servers at.0 part up.found) up.up (letter_sound sc w n mail (actor.Server at) h sent).1 in
+          let move = server_receipt_sound sc at part s mail valid (rightly at part s up) (h.actors_are.servers at.0 part up.found) up.up (letter_sound sc w n mail (actor.Server at) h sent).1 in
           record { actors_are = servers_sound sc w.actors at _ h.actors_are move.part_is; left = move.left };
       coordinator_received = λ n mail txn part c sent up.
           let says = letter_sound sc w n mail (actor.Coordinator txn) h sent in
@@ -150,7 +150,7 @@ sound_opening sc built =
 
 -- a step that names what exists keeps the world sound
 pub sound_next : (sc : Scenario) (m : Machine) (taken : Step) → is_built sc ≡ true → IsStepOf sc taken → refusal m.state taken ≡ None → length m.state.actors.coordinators ≡ length sc.txns
-    → IsSound sc m.state → IsSound sc (machine_after sc m taken).state
-sound_next sc m taken built exists allowed count h =
-    machine_after_by sc m (λ taken move. IsSoundMove sc move) (IsSound sc) (sound_cases sc m.state (valid_built sc built) h) count
+    → WaitRightly sc m.state → IsSound sc m.state → IsSound sc (machine_after sc m taken).state
+sound_next sc m taken built exists allowed count rightly h =
+    machine_after_by sc m (λ taken move. IsSoundMove sc move) (IsSound sc) (sound_cases sc m.state (valid_built sc built) rightly h) count
     (λ taken move t. state_after_sound sc m.state taken move h t) h taken exists allowed

@@ -1,10 +1,12 @@
--- How many letters an act sends, the rows: a server sends one, and a coordinator one, or one to each of its servers or of those that it awaits.
-use Rattle.std.proofs.Common.{Bool, List, None, [], ap, arith, filter, length, map, not, refl, subst, ℕ, ◌==◌, ◌∙◌, ◌≡◌, ◌≤◌, ◌∷◌}
-use Rattle.std.proofs.lemmas.List.{length-map}
+-- How many letters an act sends, the rows: a server sends one, and one for each query that waited and runs; and a coordinator one, or one to each of its servers or of those that it awaits.
+use Rattle.std.proofs.Common.{Bool, List, None, Option, Some, [], ap, arith, false, filter, is_some, length, map, not, refl, slice_get, slice_set, subst, suc, zero, ℕ, ℤ, ⊎_elim, ◌+◌, ◌++◌, ◌==◌, ◌∙◌, ◌≡◌, ◌≤◌, ◌∷◌}
+use Rattle.std.proofs.lemmas.List.{length-map, length_push}
+use Rattle.tp_types.specs.Table.{flattened}
 use Rattle.tp_types.specs.Effect.{Effect}
 use Rattle.tp_model.specs.Words.body
 use Rattle.tp_model.specs.Words.outcome
-use Rattle.tp_model.specs.Words.{Mail, Outcome, Scenario, ServerId, Verdict}
+use Rattle.tp_model.specs.Words.{Mail, Outcome, Query, QueryRequest, Scenario, ServerId, Verdict}
+use Rattle.tp_model.specs.Deeds.{deed_of}
 use Rattle.tp_round.specs.Judge.{after_judgement, after_reply, aim_in, awaits, is_missing, judge, new_target, next_target, with_reply}
 use Rattle.tp_round.specs.declared.round.Judged.TheVariants as judged
 use Rattle.tp_round.specs.declared.round.Round.{Round}
@@ -14,32 +16,96 @@ use Rattle.tp_machine.proofs.basics.Rounds.{missing_in, updated_is}
 use Rattle.tp_coord.specs.declared.coordinator.Phase.TheVariants as phase
 use Rattle.tp_machine.proofs.basics.Lists.{by_cond}
 use Rattle.tp_machine.proofs.walks.CoordinatorRows.{coordinator_by, submit_by}
-use Rattle.tp_machine.proofs.walks.ServerRows.{server_by}
+use Rattle.tp_machine.proofs.walks.ServerRows.{AreRightWaits, IsAsking, IsFirstHere, IsFurther, server_by, unwaiting}
 use Rattle.tp_machine.specs.Machine.{with_age}
 use Rattle.tp_coord.specs.Row as coord
 use Rattle.tp_coord.specs.State.{Coordinator}
 use Rattle.tp_coord.specs.declared.coordinator.Phase.{Phase}
+use Rattle.tp_machine.specs.declared.server.Entry.{Entry}
 use Rattle.tp_machine.specs.server.Row as server
 use Rattle.tp_machine.specs.server.State.{Server}
+use Rattle.tp_machine.specs.server.Verdicts.{learnt, verdicts_on}
 
 -- ---- a server's rows
 
--- a server answers with one letter, or not at all
-pub server_row_sends : (sc : Scenario) (s : Server) (mail : Mail) → length (server.server_row sc s mail).reaction.letters ≤ 1
-server_row_sends sc s mail =
-    server_by sc s mail (λ (effect : Effect Server). length effect.reaction.letters ≤ 1)
+-- one for a query that waits
+abbrev pub one_for : Option QueryRequest → ℕ
+one_for None = 0
+one_for (Some q) = 1
+
+-- so for an entry
+abbrev pub waits_at : Option Entry → ℕ
+waits_at None = 0
+waits_at (Some entry) = one_for entry.waiting
+
+-- how many queries wait at the entries
+abbrev pub waits_in : List (Option Entry) → ℕ
+waits_in [] = 0
+waits_in (entry ∷ entries) = waits_at entry + waits_in entries
+
+-- one entry changes
+waits_set : (entries : List (Option Entry)) (n : ℕ) (entry : Option Entry) → waits_in (slice_set entries n entry) + waits_at (flattened (slice_get entries n)) ≤ waits_in entries + waits_at entry
+waits_set [] n entry = omega arith
+waits_set (first ∷ entries) zero entry =
+    let now : waits_in (slice_set (first ∷ entries) zero entry) ≡ waits_at entry + waits_in entries = refl in
+    let was : waits_at (flattened (slice_get (first ∷ entries) zero)) ≡ waits_at first = refl in
+    omega (arith, now, was)
+waits_set (first ∷ entries) (suc n) entry =
+    let now : waits_in (slice_set (first ∷ entries) (suc n) entry) ≡ waits_at first + waits_in (slice_set entries n entry) = refl in
+    let was : waits_at (flattened (slice_get (first ∷ entries) (suc n))) ≡ waits_at (flattened (slice_get entries n)) = refl in
+    omega (arith, now, was, waits_set entries n entry)
+
+-- an act of a server: for each query that ran and had waited there is one that waits no longer
+abbrev pub ServerSends : Server → Effect Server → Type 0
+ServerSends s effect = length effect.reaction.letters + waits_in effect.state.entries ≤ 1 + waits_in s.entries
+
+-- no query waits at an entry that a further one asks at
+idle_there : (sc : Scenario) (s : Server) (mail : Mail) (q : QueryRequest) (query : Query) (entry : Entry) (value : ℤ) → IsAsking sc s mail q query entry value → waits_at (Some entry) ≡ 0
+idle_there sc s mail q query entry value k =
+    ⊎_elim (λ (first : IsFirstHere s mail.sent q entry). ap (λ (e : Entry). waits_at (Some e)) first.entry_is)
+    (λ (further : IsFurther s q entry). none entry.waiting further.idle) k.place
+  where
+    none : (waiting : Option QueryRequest) → is_some waiting ≡ false → one_for waiting ≡ 0
+    none None e = refl
+    none (Some r) e = absurd (cc)
+
+-- one query waits at an entry at which one waits
+one_waits : (entry : Entry) (q : QueryRequest) → entry.waiting ≡ Some q → waits_at (Some entry) ≡ 1
+one_waits entry q e = ap one_for e
+
+-- a server answers with one letter, or not at all; and what waited with one
+pub server_row_sends : (sc : Scenario) (s : Server) (mail : Mail) → AreRightWaits sc s → ServerSends s (server.server_row sc s mail)
+server_row_sends sc s mail waits =
+    server_by sc s mail (ServerSends s) waits
     (record {
+      relocked = λ effect locks k. k;
       ignored = omega arith;
-      ran = λ q query entry value k. omega arith;
+      ran = λ q query entry value k.
+          omega (arith, idle_there sc s mail q query entry value k, waits_set s.entries q.txn.0 (Some (server.entry_after q entry (deed_of q.query query value))));
+      waited = λ q query entry value k. omega (arith, waits_set s.entries q.txn.0 (Some (record entry { waiting = Some q })));
+      died = λ q query entry value other k dying.
+          omega (arith, idle_there sc s mail q query entry value k, waits_set s.entries q.txn.0 (Some (record entry { answers = entry.answers ++ server.died_reply q entry.epoch other ∷ [] })));
       restarted = λ q k. omega arith;
       answered = λ q entry given k. omega arith;
-      voted = λ p entry staple txn k. omega arith;
+      voted = λ p entry staple txn k.
+          let same : waits_at (server.entry_at s p.txn) ≡ waits_at (Some entry) = ap waits_at k.found in
+          omega (arith, same, waits_set s.entries p.txn.0 (Some (record entry { ballot = Some (server.ballot_of (server.prepared_record (learnt s p.want) p entry (verdicts_on sc (learnt s p.want) txn staple p.want entry.deeds))) })));
       voted_again = λ p entry cast k. omega arith;
-      refused = λ p entry number value k. omega arith;
+      refused = λ p entry number value k. omega (arith, waits_set s.entries p.txn.0 None);
       refused_again = λ p settled why k. omega arith;
-      settled = λ d k. omega arith;
+      settled = λ d k. omega (arith, waits_set s.entries d.txn.0 None);
       acknowledged = λ d settled k. omega arith;
       pushed = λ push k. omega arith;
+      resumed = λ effect grant q query entry value k now.
+          let was : waits_at (server.entry_at effect.state q.txn) ≡ waits_at (Some entry) = ap waits_at k.found in
+          omega (
+            arith,
+            now,
+            was,
+            one_waits entry q k.waiting_is,
+            waits_set effect.state.entries q.txn.0 (Some (server.entry_after q (unwaiting entry) (deed_of q.query query value))),
+            length_push effect.reaction.letters (server.done_letter effect.state q (unwaiting entry) (deed_of q.query query value)),
+          );
     })
 
 -- ---- a coordinator's rows
@@ -103,6 +169,7 @@ coordinator_row_sends most sc c mail one servers h =
       ignored = record { awaits = h; letters = omega arith };
       ran_next = λ done server asked value next k home. record { awaits = omega arith; letters = one };
       ran_last = λ done server asked value k none. record { awaits = omega (arith, servers, length-map c.servers new_target); letters = one };
+      died = λ done server asked other k. record { awaits = servers; letters = decides_few most c c.servers outcome.Abort servers };
       told = λ tell round k.
           let few = awaits_in most c _ h k.asking in
           record { awaits = few; letters = omega (arith, few, missing_few round.targets, length-map (missing_in round.targets) (coord.prepare_letter c round (coord.staple_of tell mail.sent))) };

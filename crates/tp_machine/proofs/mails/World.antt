@@ -1,26 +1,31 @@
--- Mails over every list of steps: a step sends at most 16, one to each server that a scenario may have.
+-- Mails over every list of steps: a step sends at most 16, one to each server that a scenario may have, and one for each query that waited until it. Such a
+-- query was a step that sent none, so no more than 16 mails come on each step.
 use Rattle.std.specs.List.{list_any}
 use Rattle.std.specs.Option.{option_map_or}
-use Rattle.std.proofs.Common.{IfSome, List, None, Option, Some, [], arith, if◌then◌else◌, is_some, length, slice_get, subst, suc, sym, zero, ℕ, ◌*◌, ◌+◌, ◌≡◌, ◌≤◌, ◌∷◌, true}
+use Rattle.std.proofs.Common.{IfSome, List, None, Option, Some, [], arith, ap, if◌then◌else◌, is_some, length, refl, replicate, slice_get, slice_set, subst, suc, sym, zero, ℕ, ◌*◌, ◌+◌, ◌≡◌, ◌≤◌, ◌∷◌, true}
 use Rattle.std.proofs.lemmas.List.{length-append}
+use Rattle.std.proofs.lemmas.Option.{same_Some}
 use Rattle.tp_model.specs.Built.{is_built}
 use Rattle.tp_model.specs.Queries.{is_at_server, servers_from, servers_of}
 use Rattle.tp_model.specs.Words.body
 use Rattle.tp_model.specs.Words.step
-use Rattle.tp_model.specs.Words.{Body, Query, Scenario, ServerId, Step, Transaction, TxnId}
+use Rattle.tp_model.specs.Words.{Body, Mail, Query, Scenario, ServerId, Step, Transaction, TxnId}
 use Rattle.tp_model.proofs.RuleLemmas.{few_servers, valid_built}
 use Rattle.tp_machine.proofs.agreement.Steps.{coordinator_agrees}
 use Rattle.tp_machine.proofs.agreement.World.{Agrees}
 use Rattle.tp_machine.proofs.basics.Flags.{length_mails_of}
 use Rattle.tp_machine.proofs.basics.Lists.{at_made, at_set, by_cond}
-use Rattle.tp_machine.proofs.mails.Actors.{AwaitsFew, coordinator_row_sends, server_row_sends, submit_row_sends}
-use Rattle.tp_machine.proofs.walks.Steps.{Cases, IsCoordinatorUp, machine_after_by}
-use Rattle.tp_machine.specs.Machine.{Machine, Move, PartMove, State, after_step, after_steps, coordinator_move, machine_after, mails_of, opened_part, opening_state, refusal, state_after}
+use Rattle.tp_machine.proofs.mails.Actors.{AwaitsFew, coordinator_row_sends, server_row_sends, submit_row_sends, waits_in}
+use Rattle.tp_machine.proofs.walks.Steps.{Cases, IsCoordinatorUp, IsServerUp, WaitRightly, machine_after_by}
+use Rattle.tp_machine.specs.Machine.{Machine, Move, PartMove, State, acts_by, after_step, after_steps, coordinator_move, log_with, machine_after, mails_of, opened_part, opening_state, refusal, server_fact, server_move, state_after}
 use Rattle.tp_machine.specs.Parts.{Part}
 use Rattle.tp_machine.specs.Sound.{EachAt, IsStepOf}
 use Rattle.tp_coord.specs.Opened.{idle, servers_at}
 use Rattle.tp_coord.specs.State.{Coordinator}
 use Rattle.tp_machine.specs.declared.error.StepError.{StepError}
+use Rattle.tp_machine.specs.server.Opened as server_opened
+use Rattle.tp_machine.specs.server.Row.{server_row}
+use Rattle.tp_machine.specs.server.State.{Server}
 use Rattle.tp_offices.specs.Authority as office
 use Rattle.tp_offices.specs.Master as master
 use Rattle.tp_offices.specs.declared.authority.Authority.{Authority}
@@ -35,18 +40,31 @@ AwaitFew coordinators = EachAt (λ (n : ℕ) (part : Part Coordinator). IfSome p
 abbrev pub HasFewMails : State → Type 0
 HasFewMails w = length w.mails ≤ 16 * length w.steps
 
--- and coordinators that are up await few servers
+-- how many queries wait at a server
+abbrev pub waits_of : Option Server → ℕ
+waits_of None = 0
+waits_of (Some s) = waits_in s.entries
+
+-- how many wait at all servers
+abbrev pub waiting : List (Part Server) → ℕ
+waiting [] = 0
+waiting (part ∷ parts) = waits_of part.up + waiting parts
+
+-- few mails were sent, those among them that are still to come for queries that wait; and coordinators that are up await few servers
 pub record FewMails (w : State) : Type 0 where
   pub awaits : AwaitFew w.actors.coordinators
-  pub mails : HasFewMails w
+  pub mails : length w.mails + waiting w.actors.servers ≤ 16 * length w.steps
+
+pub few_mails : (w : State) → FewMails w → HasFewMails w
+few_mails w h = omega (arith, h.mails)
 
 -- ---- a move
 
-record MoveFew (move : Move) : Type 0 where
+record MoveFew (w : State) (move : Move) : Type 0 where
   pub awaits : AwaitFew move.actors.coordinators
-  pub letters : length move.letters ≤ 16
+  pub letters : length move.letters + waiting move.actors.servers ≤ 16 + waiting w.actors.servers
 
-state_after_few : (w : State) (taken : Step) (move : Move) → FewMails w → MoveFew move → FewMails (state_after w taken move)
+state_after_few : (w : State) (taken : Step) (move : Move) → FewMails w → MoveFew w move → FewMails (state_after w taken move)
 state_after_few w taken move h t =
     record {
       awaits = t.awaits;
@@ -85,9 +103,28 @@ own_awaits w txn part c h up = subst (λ (u : Option Coordinator). IfSome u (Awa
 
 -- ---- acts
 
-coordinator_acts_few : (w : State) (txn : TxnId) (move : PartMove Coordinator) → FewMails w → IfSome move.part.up (AwaitsFew 16) → length move.letters ≤ 16 → MoveFew (coordinator_move w.actors txn move)
+coordinator_acts_few : (w : State) (txn : TxnId) (move : PartMove Coordinator) → FewMails w → IfSome move.part.up (AwaitsFew 16) → length move.letters ≤ 16 → MoveFew w (coordinator_move w.actors txn move)
 coordinator_acts_few w txn move h awaits letters =
-    record { awaits = at_set (λ (n : ℕ) (part : Part Coordinator). IfSome part.up (AwaitsFew 16)) w.actors.coordinators txn.0 move.part h.awaits awaits; letters = letters }
+    record { awaits = at_set (λ (n : ℕ) (part : Part Coordinator). IfSome part.up (AwaitsFew 16)) w.actors.coordinators txn.0 move.part h.awaits awaits; letters = omega (arith, letters) }
+
+-- one server changes
+waiting_set : (parts : List (Part Server)) (n : ℕ) (old new : Part Server) → slice_get parts n ≡ Some old → waiting (slice_set parts n new) + waits_of old.up ≡ waiting parts + waits_of new.up
+waiting_set [] n old new e = absurd (cc)
+waiting_set (part ∷ parts) zero old new e =
+    let same : waits_of part.up ≡ waits_of old.up = ap (λ (p : Part Server). waits_of p.up) (same_Some part old e) in
+    let now : waiting (slice_set (part ∷ parts) zero new) ≡ waits_of new.up + waiting parts = refl in
+    omega (arith, same, now)
+waiting_set (part ∷ parts) (suc n) old new e =
+    let now : waiting (slice_set (part ∷ parts) (suc n) new) ≡ waits_of part.up + waiting (slice_set parts n new) = refl in
+    omega (arith, now, waiting_set parts n old new e)
+
+server_acts_few : (sc : Scenario) (w : State) (at : ServerId) (part : Part Server) (s : Server) (mail : Mail) → WaitRightly sc w → FewMails w → IsServerUp w at part s
+    → MoveFew w (server_move w.actors at (acts_by (server_fact at) [] part.log (server_row sc s mail)))
+server_acts_few sc w at part s mail rightly h up =
+    let effect = server_row sc s mail in
+    let new : Part Server = record { up = Some effect.state; log = log_with part.log effect.reaction.append } in
+    let was : waits_of part.up ≡ waits_in s.entries = ap waits_of up.up in
+    record { awaits = h.awaits; letters = omega (arith, was, server_row_sends sc s mail (rightly at part s up), waiting_set w.actors.servers at.0 part new up.found) }
 
 authority_sends : (authority : Authority) (said : Body) → length (office.on_body authority said).reaction.letters ≤ 16
 authority_sends authority (body.Ask ask) = omega arith
@@ -99,16 +136,16 @@ master_sends held _ = omega arith
 
 -- ---- steps
 
-few_cases : (sc : Scenario) (w : State) → is_built sc ≡ true → Agrees sc w → FewMails w → Cases sc w (λ taken move. MoveFew move)
-few_cases sc w built a h =
+few_cases : (sc : Scenario) (w : State) → is_built sc ≡ true → WaitRightly sc w → Agrees sc w → FewMails w → Cases sc w (λ taken move. MoveFew w move)
+few_cases sc w built rightly a h =
     record {
       idle = λ taken happened e. record { awaits = h.awaits; letters = omega arith };
-      server_received = λ n mail at part s sent up. record { awaits = h.awaits; letters = omega (arith, server_row_sends sc s mail) };
+      server_received = λ n mail at part s sent up. server_acts_few sc w at part s mail rightly h up;
       coordinator_received = λ n mail txn part c sent up.
           let few = coordinator_row_sends 16 sc c mail (omega arith) (own_servers_few sc w txn part c built a up) (own_awaits w txn part c h up) in
           coordinator_acts_few w txn _ h few.awaits few.letters;
-      authority_told = λ n mail sent. record { awaits = h.awaits; letters = authority_sends w.actors.authority mail.letter.body };
-      master_told = λ n mail sent. record { awaits = h.awaits; letters = master_sends w.actors.master mail.letter.body };
+      authority_told = λ n mail sent. record { awaits = h.awaits; letters = omega (arith, authority_sends w.actors.authority mail.letter.body) };
+      master_told = λ n mail sent. record { awaits = h.awaits; letters = omega (arith, master_sends w.actors.master mail.letter.body) };
       published = λ admin exists more. record { awaits = h.awaits; letters = omega arith };
       pushed = λ admin server exists there. record { awaits = h.awaits; letters = omega arith };
       ticked = λ by. record { awaits = h.awaits; letters = omega arith };
@@ -119,17 +156,32 @@ few_cases sc w built a h =
     }
 
 -- a step that is not refused sends few mails
-pub few_next : (sc : Scenario) (m : Machine) (taken : Step) → is_built sc ≡ true → IsStepOf sc taken → refusal m.state taken ≡ None → Agrees sc m.state → FewMails m.state → FewMails (machine_after sc m taken).state
-few_next sc m taken built exists allowed a h =
-    machine_after_by sc m (λ taken_is move. MoveFew move) FewMails (few_cases sc m.state built a h) a.coordinator_count
+pub few_next : (sc : Scenario) (m : Machine) (taken : Step) → is_built sc ≡ true → IsStepOf sc taken → refusal m.state taken ≡ None → WaitRightly sc m.state → Agrees sc m.state → FewMails m.state → FewMails (machine_after sc m taken).state
+few_next sc m taken built exists allowed rightly a h =
+    machine_after_by sc m (λ taken_is move. MoveFew m.state move) FewMails (few_cases sc m.state built rightly a h) a.coordinator_count
     (λ taken_is move t. state_after_few m.state taken_is move h t) h taken exists allowed
+
+-- where no query waits at each server none does
+none_waiting : (parts : List (Part Server)) → EachAt (λ (n : ℕ) (part : Part Server). waits_of part.up ≡ 0) parts → waiting parts ≡ 0
+none_waiting [] h = refl
+none_waiting (part ∷ parts) h = omega (arith, h 0 part refl, none_waiting parts (λ n found e. h (suc n) found e))
+
+no_waits : (count : ℕ) → waits_in (replicate count None) ≡ 0
+no_waits zero = refl
+no_waits (suc count) =
+    let now : waits_in (replicate (suc count) None) ≡ 0 + waits_in (replicate count None) = refl in
+    omega (arith, now, no_waits count)
 
 -- before the first step none was sent
 pub few_opening : (sc : Scenario) → FewMails (opening_state sc)
 few_opening sc =
     record {
       awaits = λ n part e. at_made (λ (k : ℕ) (found : Part Coordinator). IfSome found.up (AwaitsFew 16)) (λ (k : ℕ). opened_part (idle sc (record { 0 = k }))) 0 (length sc.txns) (λ k within. omega arith) n part e;
-      mails = omega arith;
+      mails = omega (
+        arith,
+        none_waiting (opening_state sc).actors.servers
+            (λ n part e. at_made (λ (k : ℕ) (found : Part Server). waits_of found.up ≡ 0) (λ (k : ℕ). opened_part (server_opened.opening sc (record { 0 = k }))) 0 (length sc.servers) (λ k within. no_waits (length sc.txns)) n part e),
+      );
     }
 
 -- ---- how many steps are done

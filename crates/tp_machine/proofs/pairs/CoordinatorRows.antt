@@ -445,6 +445,7 @@ coordinator_row_asks sc declared P c mail valid homes h m =
           next_asks sc declared P c done asked server next value h (awaited done server asked value k) (next_is sc c done.query asked homes k.asked_is) (home_is sc c (next_number done.query) next home);
       ran_last = λ done server asked value k none.
           last_asks sc declared P c done asked server value h (awaited done server asked value k) (no_query sc c declared (done.query + 1) h.declared_is (last_is sc c done.query asked homes k.asked_is none));
+      died = λ done server asked other k. ends_asks sc declared P c (coord.aborts c (cause.Died (coord.died_for server done other mail.sent))).state outcome.Abort c.servers h refl tt;
       told = λ tell round k. prepares_asks sc declared P c round (coord.staple_of tell mail.sent) h k.asking;
       counted = λ reply round staple server verdicts y e. record {
         next = λ at. still_asks sc declared P c (record c { phase = phase.Checking (after_reply round server verdicts) staple }) at h (counted_asker at c round (after_reply round server verdicts) staple y.checking);

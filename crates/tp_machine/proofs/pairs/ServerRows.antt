@@ -7,6 +7,7 @@ use Rattle.std.proofs.lemmas.Option.{same_Some}
 use Rattle.tp_types.proofs.ListLemmas.{number_itself}
 use Rattle.tp_types.specs.Effect.{Effect, ignores, sends}
 use Rattle.tp_types.specs.Table.{flattened}
+use Rattle.tp_lock.specs.declared.entry.Grant.{Grant}
 use Rattle.tp_model.specs.Facts.{first_of}
 use Rattle.tp_model.specs.Ids.{same_txn}
 use Rattle.tp_model.specs.Queries.{query_at}
@@ -18,16 +19,17 @@ use Rattle.tp_model.specs.Words.{Body, DecideRequest, Deed, DoneReply, Letter, M
 use Rattle.tp_machine.proofs.agreement.Server.{ServerAgrees, open_unsettled}
 use Rattle.tp_machine.proofs.agreement.Steps.{same_txn_from}
 use Rattle.tp_machine.proofs.basics.Ids.{same_txn_is}
-use Rattle.tp_machine.proofs.basics.Lists.{each_found, set_here}
+use Rattle.tp_machine.proofs.basics.Lists.{each_as, each_found, each_more, set_here}
 use Rattle.tp_machine.proofs.basics.Logs.{appended, first_none, prepared_still, prepared_with, settled_still, settled_with}
+use Rattle.tp_machine.proofs.basics.Tables.{placed_within}
 use Rattle.tp_machine.proofs.basics.Verdicts.{numbers_kept}
 use Rattle.tp_machine.proofs.epochs.Server.{boots_push}
 use Rattle.tp_machine.proofs.pairs.Actors.{AllFit, AllNext, pair_up, site_of}
 use Rattle.tp_machine.proofs.pairs.Ends as end
 use Rattle.tp_machine.proofs.pairs.Ends.{ordered}
-use Rattle.tp_machine.proofs.pairs.Entries.{begun, changed, keeps, makes, with_entry}
+use Rattle.tp_machine.proofs.pairs.Entries.{begun, changed, denies, keeps, makes, with_entry}
 use Rattle.tp_machine.proofs.pairs.Fits.{AreOnAll, DoneFits, EntryFits, Fits, PrepareFits, QueryFits, VoteFits}
-use Rattle.tp_machine.proofs.pairs.Follows.{Next, next_both, next_same, query_follows}
+use Rattle.tp_machine.proofs.pairs.Follows.{Next, done_follows, next_both, next_same, query_follows}
 use Rattle.tp_machine.proofs.pairs.Lists.{answer_in, of_some}
 use Rattle.tp_machine.proofs.pairs.Pair.{Asker, Pair}
 use Rattle.tp_machine.proofs.pairs.Ran.{IsAnswer, ran, runs}
@@ -36,7 +38,7 @@ use Rattle.tp_machine.proofs.pairs.Votes as vote
 use Rattle.tp_machine.proofs.pairs.Votes.{IsVoteOn, forces, with_ballot}
 use Rattle.tp_machine.proofs.serial_data.Lists.{set_elsewhere}
 use Rattle.tp_machine.proofs.serial_data.Runs.{deed_asked, deed_at}
-use Rattle.tp_machine.proofs.walks.ServerRows.{IsFirstHere, IsFurther, server_by}
+use Rattle.tp_machine.proofs.walks.ServerRows.{AreRightWaits, IsFirstHere, IsFurther, IsResumed, resuming, server_by, unwaiting}
 use Rattle.tp_machine.specs.Logs.{epoch_in, preparation_in, prepared_in, settled_in, settlement_in, voted_in, while_unsettled}
 use Rattle.tp_machine.specs.Machine.{log_with}
 use Rattle.tp_model.specs.Deeds.{deed_of}
@@ -44,7 +46,8 @@ use Rattle.tp_machine.specs.Sound.{Each, IsSoundBody, IsSoundDone, IsSoundQuery,
 use Rattle.tp_coord.specs.Sums.{clamped_sum, registers_after, sum_asked}
 use Rattle.tp_machine.specs.declared.server.Ballot.{Ballot}
 use Rattle.tp_machine.specs.declared.server.Entry.{Entry}
-use Rattle.tp_machine.specs.server.Row.{ack_letter, age_of, answer_to, answers, asked_query, ballot_of, casts, completes, done_reply, ends, entry_after, entry_at, learns, no_letter, prepared_record, refused_as, refuses, restarts, server_row, settled_as, settles, told_of, value_of_run, yes_letter}
+use Rattle.tp_machine.specs.server.Row as server
+use Rattle.tp_machine.specs.server.Row.{ack_letter, age_of, answer_to, answers, asked_query, ballot_of, casts, closes, completes, died_reply, dies, done_letter, done_reply, entry_after, entry_at, followed_by, learns, no_letter, prepared_record, refused_as, restarts, server_row, settled_as, told_of, value_of_run, waits, yes_letter}
 use Rattle.tp_machine.specs.server.State.{Server}
 use Rattle.tp_machine.specs.server.Verdicts.{learnt, verdicts_on}
 
@@ -331,6 +334,84 @@ last_of : {B : Type 0} (P : B → Type 0) (xs : List B) (x : B) → Each P (xs +
 last_of P [] x h = h.0
 last_of P (first ∷ xs) x h = last_of P xs x h.1
 
+-- ---- an entry changes
+
+-- the entry of one transaction changes, and nothing is forced
+entry_pairs : (sc : Scenario) (A : TxnId → Option Asker) (s : Server) (kept : List Record) (txn : TxnId) (new : Entry) (letters : List Letter) → ServerPaired sc A s kept → txn.0 < length sc.txns
+    → ((declared : Transaction) → slice_get sc.txns txn.0 ≡ Some declared → Next (site_of sc s.server.0 declared) (pair_up txn (A txn) s kept) (with_entry (pair_up txn (A txn) s kept) new))
+    → Each (IsReply sc s.server (λ other. pair_up other (A other) (server.with_entry s txn (Some new)) kept)) letters → RowPairs sc A s kept (sends (server.with_entry s txn (Some new)) letters)
+entry_pairs sc A s kept txn new letters h exists event replies =
+    let now = server.with_entry s txn (Some new) in
+    let P : TxnId → Pair = λ other. pair_up other (A other) s kept in
+    let Q : TxnId → Pair = λ other. pair_up other (A other) now kept in
+    let there : entry_at now txn ≡ Some new = ap flattened (set_here s.entries txn.0 (Some new) (omega (arith, exists, h.places))) in
+    let whole : with_entry (P txn) new ≡ Q txn = ap (λ (n : Option Entry). made_pair (A txn) (epoch_in kept) (settled_in txn kept) n (prepared_in txn kept)) (sym there) in
+    record {
+      next = own_next sc s.server.0 P Q txn h.fits (λ declared found. subst (Next (site_of sc s.server.0 declared) (P txn)) whole (event declared found))
+          (λ other apart. other_pair (A other) txn other s now kept None apart (record { entry = Some new; entries = refl; own = tt }));
+      places = length-set s.entries txn.0 (Some new);
+      replies = replies;
+    }
+
+-- the pair once a query has its entry: the one that is there, or the one that is made
+record IsEntered (site : Site) (p : Pair) (q : QueryRequest) (entry : Entry) : Type 0 where
+  next : Next site p (with_entry p entry)
+  fits : QueryFits site (with_entry p entry) q
+  epoch : IfSome q.epoch (λ (e : ℕ). e ≡ entry.epoch)
+  fresh : answer_in q.query entry.answers ≡ None
+  unvoted : entry.ballot ≡ None
+
+entered : (sc : Scenario) (A : TxnId → Option Asker) (s : Server) (kept : List Record) (sent : ℕ) (q : QueryRequest) (entry : Entry) (declared : Transaction) → ServerPaired sc A s kept → settled_in q.txn kept ≡ None
+    → slice_get sc.txns q.txn.0 ≡ Some declared → QueryFits (site_of sc s.server.0 declared) (pair_up q.txn (A q.txn) s kept) q → IsFirstHere s sent q entry ⊎ IsFurther s q entry
+    → IsEntered (site_of sc s.server.0 declared) (pair_up q.txn (A q.txn) s kept) q entry
+entered sc A s kept sent q entry declared h fresh exists asked place =
+    let site = site_of sc s.server.0 declared in
+    let p = pair_up q.txn (A q.txn) s kept in
+    ⊎_elim (λ (first : IsFirstHere s sent q entry).
+    let age = age_of q sent in
+    let unsettled : p.settled ≡ false = ap is_some fresh in
+    let made : Next site p (with_entry p (begun age p.epoch)) = makes site p age refl unsettled first.no_entry (h.fits q.txn declared exists) in
+    let named : IfSome q.epoch (λ (e : ℕ). e ≡ p.epoch) = subst (λ (o : Option ℕ). IfSome o (λ (e : ℕ). e ≡ p.epoch)) (sym (none_named q.epoch first.unnamed)) tt in
+    let entry_is : begun age p.epoch ≡ entry = ap (begun age) (sym h.epoch_is) ∙ sym first.entry_is in
+    subst (IsEntered site p q) entry_is (record { next = made; fits = query_follows site p (with_entry p (begun age p.epoch)) q made.follows asked; epoch = named; fresh = refl; unvoted = refl }))
+    (λ (further : IsFurther s q entry).
+    let same : p ≡ with_entry p entry = ap (λ (n : Option Entry). made_pair (A q.txn) (epoch_in kept) (settled_in q.txn kept) n (prepared_in q.txn kept)) further.found in
+    record {
+      next = subst (Next site p) same (next_same site p (h.fits q.txn declared exists));
+      fits = subst (λ (x : Pair). QueryFits site x q) same asked;
+      epoch = same_epochs q q.epoch entry further.same_epoch;
+      fresh = same_answer q.query entry.answers ∙ further.unanswered;
+      unvoted = no_ballot entry.ballot further.unvoted;
+    }) place
+
+-- a query that waits
+waits_pairs : (sc : Scenario) (A : TxnId → Option Asker) (s : Server) (kept : List Record) (sent : ℕ) (q : QueryRequest) (entry : Entry) → ServerPaired sc A s kept → settled_in q.txn kept ≡ None → q.txn.0 < length sc.txns
+    → IsFirstHere s sent q entry ⊎ IsFurther s q entry → ((declared : Transaction) → slice_get sc.txns q.txn.0 ≡ Some declared → QueryFits (site_of sc s.server.0 declared) (pair_up q.txn (A q.txn) s kept) q)
+    → RowPairs sc A s kept (waits s q entry)
+waits_pairs sc A s kept sent q entry h fresh exists place asked =
+    entry_pairs sc A s kept q.txn (record entry { waiting = Some q }) [] h exists
+    (λ declared found.
+    let site = site_of sc s.server.0 declared in
+    let p = pair_up q.txn (A q.txn) s kept in
+    let e = entered sc A s kept sent q entry declared h fresh found (asked declared found) place in
+    next_both site p (with_entry p entry) (with_entry p (changed entry (Some q) entry.answers)) e.next (keeps site (with_entry p entry) entry q refl e.next.fits e.fits e.epoch e.fresh e.unvoted)) tt
+
+-- a query for which an older transaction stands in the way
+dies_pairs : (sc : Scenario) (A : TxnId → Option Asker) (s : Server) (kept : List Record) (sent : ℕ) (q : QueryRequest) (entry : Entry) (other : TxnId) → ServerPaired sc A s kept → settled_in q.txn kept ≡ None
+    → q.txn.0 < length sc.txns → IsFirstHere s sent q entry ⊎ IsFurther s q entry
+    → ((declared : Transaction) → slice_get sc.txns q.txn.0 ≡ Some declared → QueryFits (site_of sc s.server.0 declared) (pair_up q.txn (A q.txn) s kept) q) → RowPairs sc A s kept (dies s q entry other)
+dies_pairs sc A s kept sent q entry other h fresh exists place asked =
+    let answers = entry.answers ++ died_reply q entry.epoch other ∷ [] in
+    let idle : changed entry None answers ≡ changed entry entry.waiting answers = ap (λ (waiting : Option QueryRequest). changed entry waiting answers) (sym (idle_entry s sent q entry place)) in
+    entry_pairs sc A s kept q.txn (changed entry entry.waiting answers) _ h exists
+    (λ declared found.
+    let site = site_of sc s.server.0 declared in
+    let p = pair_up q.txn (A q.txn) s kept in
+    let e = entered sc A s kept sent q entry declared h fresh found (asked declared found) place in
+    subst (λ (new : Entry). Next site p (with_entry p new)) idle
+    (next_both site p (with_entry p entry) (with_entry p (changed entry None answers)) e.next (denies site (with_entry p entry) entry (died_reply q entry.epoch other) refl e.next.fits tt)))
+    (record { from_is = refl; says = λ declared found. tt }, tt)
+
 -- a query that runs
 runs_pairs : (sc : Scenario) (A : TxnId → Option Asker) (s : Server) (kept : List Record) (sent : ℕ) (q : QueryRequest) (query : Query) (entry : Entry) (value : ℤ) → ServerPaired sc A s kept → settled_in q.txn kept ≡ None
     → IsRunOf sc s q query value → IsFirstHere s sent q entry ⊎ IsFurther s q entry
@@ -372,6 +453,60 @@ runs_pairs sc A s kept sent q query entry value h fresh k place asked =
         },
         tt,
       );
+    }
+
+-- ---- a query that waited runs
+
+-- what is said of transactions is so as they go on
+reply_stays : (sc : Scenario) (at : ServerId) (P Q : TxnId → Pair) → AllNext sc at.0 P Q → (said : Body) → ReplyPairs sc at P said → ReplyPairs sc at Q said
+reply_stays sc at P Q next (body.Done done) h = λ declared found. done_follows (site_of sc at.0 declared) (P done.txn) (Q done.txn) done (next done.txn declared found).follows (h declared found)
+reply_stays sc at P Q next (body.Vote reply) h = h
+reply_stays sc at P Q next (body.Query q) h = absurd h
+reply_stays sc at P Q next (body.Prepare r) h = absurd h
+reply_stays sc at P Q next _ h = tt
+
+all_both : (sc : Scenario) (at : ℕ) (P Q R : TxnId → Pair) → AllNext sc at P Q → AllNext sc at Q R → AllNext sc at P R
+all_both sc at P Q R first second txn declared found = next_both (site_of sc at declared) (P txn) (Q txn) (R txn) (first txn declared found) (second txn declared found)
+
+resumes_pairs : (sc : Scenario) (A : TxnId → Option Asker) (s : Server) (kept : List Record) (effect : Effect Server) (grant : Grant) (q : QueryRequest) (query : Query) (entry : Entry) (value : ℤ) → ServerPaired sc A s kept
+    → IsResumed sc s.server effect.state grant q query entry value → RowPairs sc A s kept effect → RowPairs sc A s kept (followed_by effect (resuming effect.state q query entry value))
+resumes_pairs sc A s kept effect grant q query entry value start k h =
+    let log = log_with kept effect.reaction.append in
+    let was = effect.state in
+    let deed = deed_of q.query query value in
+    let new = entry_after q (unwaiting entry) deed in
+    let now = (resuming was q query entry value).state in
+    let P : TxnId → Pair = λ txn. pair_up txn (A txn) was log in
+    let Q : TxnId → Pair = λ txn. pair_up txn (A txn) now log in
+    let places = start.places in
+    let within : q.txn.0 < length was.entries = placed_within was.entries q.txn.0 entry k.found in
+    let exists : q.txn.0 < length sc.txns = let same = h.places in omega (arith, within, same, places) in
+    let there : entry_at now q.txn ≡ Some new = ap flattened (set_here was.entries q.txn.0 (Some new) within) in
+    let event : (declared : Transaction) → slice_get sc.txns q.txn.0 ≡ Some declared → Next (site_of sc s.server.0 declared) (P q.txn) (Q q.txn) = λ declared found.
+    let site = site_of sc s.server.0 declared in
+    let query_is : query_at declared q.query ≡ Some query = sym (ap (λ (x : Option Transaction). option_and_then (λ (d : Transaction). query_at d q.query) x) found) ∙ k.asked_is in
+    let answered : IsAnswer site entry q (done_reply q entry.epoch deed) value = answer_is sc was site q query value entry (record { exists = exists; asked_is = k.asked_is; value_is = k.value_is }) query_is in
+    let run : Next site (P q.txn) (with_entry (P q.txn) (ran entry (deed_at declared q.query value) (done_reply q entry.epoch deed))) =
+    runs site (P q.txn) entry q (done_reply q entry.epoch deed) value refl k.found k.waiting_is (h.next q.txn declared found).fits answered in
+    let own : deed_at declared q.query value ≡ deed = ap (λ (x : Option Query). deed_asked q.query x value) query_is in
+    let whole : with_entry (P q.txn) (ran entry (deed_at declared q.query value) (done_reply q entry.epoch deed)) ≡ Q q.txn =
+    ap (λ (n : Option Entry). made_pair (A q.txn) (epoch_in log) (settled_in q.txn log) n (prepared_in q.txn log)) (ap (λ (d : Deed). Some (ran entry d (done_reply q entry.epoch deed))) own ∙ sym there) in
+    subst (Next site (P q.txn)) whole run
+    in
+    let step : AllNext sc s.server.0 P Q = own_next sc s.server.0 P Q q.txn (λ txn declared found. (h.next txn declared found).fits) event
+    (λ txn apart. other_pair (A txn) q.txn txn was now log None apart (record { entry = Some new; entries = refl; own = tt })) in
+    let answer : IsReply sc s.server Q (done_letter was q (unwaiting entry) deed) = record {
+      from_is = ap (λ (at : ServerId). actor.Server at) k.server_is;
+      says = λ declared found.
+          let site = site_of sc s.server.0 declared in
+          let fits : EntryFits site (Q q.txn) new = of_some (EntryFits site (Q q.txn)) (Q q.txn).entry new there (event declared found).fits.entry in
+          last_of (DoneFits site (Q q.txn)) entry.answers (done_reply q entry.epoch deed) fits.answers;
+    } in
+    record {
+      next = all_both sc s.server.0 (λ txn. pair_up txn (A txn) s kept) P Q h.next step;
+      places = length-set was.entries q.txn.0 (Some new) ∙ h.places;
+      replies = each_more (IsReply sc s.server Q) effect.reaction.letters _
+          (each_as (IsReply sc s.server P) (IsReply sc s.server Q) (λ letter reply. record { from_is = reply.from_is; says = reply_stays sc s.server P Q step letter.body reply.says }) effect.reaction.letters h.replies) answer;
     }
 
 -- ---- Prepare
@@ -452,10 +587,10 @@ settled_now txn kept s own fresh =
 -- the transaction is settled at the server
 ends_next : (sc : Scenario) (A : TxnId → Option Asker) (s : Server) (kept : List Record) (order : Settled) (letter : Letter) → ServerPaired sc A s kept → settled_in order.txn kept ≡ None → order.txn.0 < length sc.txns
     → ((declared : Transaction) → slice_get sc.txns order.txn.0 ≡ Some declared → Next (site_of sc s.server.0 declared) (pair_up order.txn (A order.txn) s kept) (end.settled (pair_up order.txn (A order.txn) s kept)))
-    → AllNext sc s.server.0 (λ txn. pair_up txn (A txn) s kept) (λ txn. pair_up txn (A txn) (ends s order letter).state (log_with kept (Some (log.Settled order))))
+    → AllNext sc s.server.0 (λ txn. pair_up txn (A txn) s kept) (λ txn. pair_up txn (A txn) (closes s order letter).state (log_with kept (Some (log.Settled order))))
 ends_next sc A s kept order letter h fresh exists may =
     let P : TxnId → Pair = λ txn. pair_up txn (A txn) s kept in
-    let now = (ends s order letter).state in
+    let now = (closes s order letter).state in
     let append = Some (log.Settled order) in
     let Q : TxnId → Pair = λ txn. pair_up txn (A txn) now (log_with kept append) in
     let act : IsOwnAct order.txn s now append = record { entry = None; entries = refl; own = refl } in
@@ -472,7 +607,7 @@ ends_next sc A s kept order letter h fresh exists may =
     own_next sc s.server.0 P Q order.txn h.fits event (λ txn apart. other_pair (A txn) order.txn txn s now kept append apart act)
 
 settles_pairs : (sc : Scenario) (A : TxnId → Option Asker) (s : Server) (kept : List Record) (d : DecideRequest) → ServerPaired sc A s kept → settled_in d.txn kept ≡ None → d.txn.0 < length sc.txns → A d.txn ≡ None
-    → RowPairs sc A s kept (settles s d)
+    → RowPairs sc A s kept (closes s (settled_as d) (ack_letter s d.txn))
 settles_pairs sc A s kept d h fresh exists decided =
     record {
       next = ends_next sc A s kept (settled_as d) (ack_letter s d.txn) h fresh exists
@@ -483,7 +618,7 @@ settles_pairs sc A s kept d h fresh exists decided =
 
 -- the server refuses what it has not voted on
 refuses_pairs : (sc : Scenario) (A : TxnId → Option Asker) (s : Server) (kept : List Record) (p : PrepareRequest) (entry : Entry) (why : No) → ServerPaired sc A s kept → settled_in p.txn kept ≡ None → p.txn.0 < length sc.txns
-    → entry_at s p.txn ≡ Some entry → entry.ballot ≡ None → RequestPairs sc s.server A (λ txn. pair_up txn (A txn) s kept) (body.Prepare p) → RowPairs sc A s kept (refuses s p why)
+    → entry_at s p.txn ≡ Some entry → entry.ballot ≡ None → RequestPairs sc s.server A (λ txn. pair_up txn (A txn) s kept) (body.Prepare p) → RowPairs sc A s kept (closes s (refused_as p why) (no_letter s p why))
 refuses_pairs sc A s kept p entry why h fresh exists found unvoted asked =
     record {
       next = ends_next sc A s kept (refused_as p why) (no_letter s p why) h fresh exists
@@ -514,18 +649,25 @@ learns_pairs sc A s kept push h =
 -- ---- all mails
 
 -- every row of a server on receipt of a mail
-pub server_row_pairs : (sc : Scenario) (A : TxnId → Option Asker) (s : Server) (kept : List Record) (mail : Mail) → ServerPaired sc A s kept → IsSoundServer sc s → IsSoundBody sc (actor.Server s.server) mail.letter.body
+pub server_row_pairs : (sc : Scenario) (A : TxnId → Option Asker) (s : Server) (kept : List Record) (mail : Mail) → AreRightWaits sc s → ServerPaired sc A s kept → IsSoundServer sc s → IsSoundBody sc (actor.Server s.server) mail.letter.body
     → RequestPairs sc s.server A (λ txn. pair_up txn (A txn) s kept) mail.letter.body → RowPairs sc A s kept (server_row sc s mail)
-server_row_pairs sc A s kept mail h sound m asked =
+server_row_pairs sc A s kept mail rightly h sound m asked =
     let to = actor.Server s.server in
     let P : TxnId → Pair = λ txn. pair_up txn (A txn) s kept in
-    server_by sc s mail (RowPairs sc A s kept)
+    server_by sc s mail (RowPairs sc A s kept) rightly
     (record {
+      relocked = λ effect locks k. record { next = k.next; places = k.places; replies = k.replies };
       ignored = ignores_pairs sc A s kept h;
       ran = λ q query entry value k.
           let request : IsSoundQuery sc to q = subst (IsSoundBody sc to) k.said_is m in
           runs_pairs sc A s kept mail.sent q query entry value h (open_unsettled s kept q.txn h.agrees k.unsettled) (record { exists = request.txn; asked_is = k.asked_is; value_is = k.value_is }) k.place
           (subst (RequestPairs sc s.server A P) k.said_is asked);
+      waited = λ q query entry value k.
+          let request : IsSoundQuery sc to q = subst (IsSoundBody sc to) k.said_is m in
+          waits_pairs sc A s kept mail.sent q entry h (open_unsettled s kept q.txn h.agrees k.unsettled) request.txn k.place (subst (RequestPairs sc s.server A P) k.said_is asked);
+      died = λ q query entry value other k dying.
+          let request : IsSoundQuery sc to q = subst (IsSoundBody sc to) k.said_is m in
+          dies_pairs sc A s kept mail.sent q entry other h (open_unsettled s kept q.txn h.agrees k.unsettled) request.txn k.place (subst (RequestPairs sc s.server A P) k.said_is asked);
       restarted = λ q k. restarts_pairs sc A s kept q h;
       answered = λ q entry given k.
           answers_pairs sc A s kept q entry given h k.found
@@ -542,4 +684,5 @@ server_row_pairs sc A s kept mail h sound m asked =
           settles_pairs sc A s kept d h (open_unsettled s kept d.txn h.agrees k.unsettled) (subst (IsSoundBody sc to) k.said_is m).txn (subst (RequestPairs sc s.server A P) k.said_is asked);
       acknowledged = λ d settled k. acknowledges_pairs sc A s kept d h;
       pushed = λ push k. learns_pairs sc A s kept push h;
+      resumed = λ effect grant q query entry value k now. resumes_pairs sc A s kept effect grant q query entry value h k now;
     })

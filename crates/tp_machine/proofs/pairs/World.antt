@@ -41,7 +41,7 @@ use Rattle.tp_machine.proofs.trust.Phases.{PhaseFits}
 use Rattle.tp_machine.proofs.trust.Rounds.{few_rounds, round_names}
 use Rattle.tp_machine.proofs.trust.Turns.{AreFew, few_queries, low_query, low_round, query_count}
 use Rattle.tp_machine.proofs.trust.World.{Trusts}
-use Rattle.tp_machine.proofs.walks.Steps.{Cases, IsCoordinatorUp, IsServerUp, WasSent, machine_after_by}
+use Rattle.tp_machine.proofs.walks.Steps.{Cases, IsCoordinatorUp, IsServerUp, WaitRightly, WasSent, machine_after_by}
 use Rattle.tp_machine.specs.Logs.{decided_at, decided_by, decided_in, epoch_at}
 use Rattle.tp_machine.specs.Machine.{Machine, Move, State, acts, acts_by, coordinator_fact, coordinator_move, idle_coordinators, is_part_submitted, log_with, machine_after, mails_of, opened_part, opened_servers, opening_state, refusal, server_fact, server_move, state_after, with_age}
 use Rattle.tp_machine.specs.Parts.{Part}
@@ -204,9 +204,9 @@ order_decided sc w from at (body.Decide order) a h =
     decided_asker sc w order.txn at.0 (slice_get w.actors.coordinators order.txn.0) a refl (some_mapped outcome_of (decided_at w.actors.coordinators order.txn.0) order.outcome h.0)
 order_decided sc w from at _ a h = tt
 
-receipt_by_server : (sc : Scenario) (w : State) → IsSound sc w → Agrees sc w → Epochs sc w → Pairs sc w → (n : ℕ) (mail : Mail) (at : ServerId) (part : Part Server) (s : Server) → WasSent w n mail (actor.Server at)
+receipt_by_server : (sc : Scenario) (w : State) → WaitRightly sc w → IsSound sc w → Agrees sc w → Epochs sc w → Pairs sc w → (n : ℕ) (mail : Mail) (at : ServerId) (part : Part Server) (s : Server) → WasSent w n mail (actor.Server at)
     → IsServerUp w at part s → MovePairs sc w (server_move w.actors at (acts_by (server_fact at) [] part.log (server_row sc s mail)))
-receipt_by_server sc w sound a epochs h n mail at part s sent up =
+receipt_by_server sc w rightly sound a epochs h n mail at part s sent up =
     let A : TxnId → Option Asker = λ txn. asker_at w.actors.coordinators txn.0 at.0 in
     let effect = server_row sc s mail in
     let own : IsSoundServerUp sc at s = of_some (IsSoundServerUp sc at) part.up s up.up (sound.actors_are.servers at.0 part up.found).state in
@@ -223,7 +223,7 @@ receipt_by_server sc w sound a epochs h n mail at part s sent up =
     let asked : RequestPairs sc at A (λ txn. pair_up txn (A txn) s part.log) mail.letter.body =
     request_pairs sc w mail.letter.from at mail.letter.body (λ txn. pair_up txn (A txn) s part.log) same said (order_decided sc w mail.letter.from at mail.letter.body a (mail_rests sc w n mail (actor.Server at) a sent)) in
     let row : RowPairs sc A s part.log effect =
-    server_row_pairs sc A s part.log mail paired own.sound (subst (λ (m : ServerId). IsSoundBody sc (actor.Server m) mail.letter.body) (sym own.server_is) (mail_sound sc w n mail (actor.Server at) sound sent))
+    server_row_pairs sc A s part.log mail (rightly at part s up) paired own.sound (subst (λ (m : ServerId). IsSoundBody sc (actor.Server m) mail.letter.body) (sym own.server_is) (mail_sound sc w n mail (actor.Server at) sound sent))
     (subst (λ (m : ServerId). RequestPairs sc m A (λ txn. pair_up txn (A txn) s part.log) mail.letter.body) (sym own.server_is) asked) in
     server_acts_pairs sc w at part s effect.state effect.reaction.append effect.reaction.letters h up.found up.up
     (subst (λ (m : ServerId). ServerActsPairs sc m A s part.log effect.state effect.reaction.append effect.reaction.letters) own.server_is row)
@@ -404,11 +404,11 @@ newest_plain : (sc : Scenario) (held : Master) (said : Body) → Each (λ (lette
 newest_plain sc held (body.Probe probe) = (λ P. tt, tt)
 newest_plain sc held _ = tt
 
-pairs_cases : (sc : Scenario) (w : State) → is_built sc ≡ true → IsValid sc → AreFew sc → IsSound sc w → Agrees sc w → Epochs sc w → Trusts sc w → Pairs sc w → Cases sc w (λ taken move. MovePairs sc w move)
-pairs_cases sc w built valid few sound a epochs trusts h =
+pairs_cases : (sc : Scenario) (w : State) → is_built sc ≡ true → IsValid sc → AreFew sc → WaitRightly sc w → IsSound sc w → Agrees sc w → Epochs sc w → Trusts sc w → Pairs sc w → Cases sc w (λ taken move. MovePairs sc w move)
+pairs_cases sc w built valid few rightly sound a epochs trusts h =
     record {
       idle = λ taken happened e. still_pairs sc w happened [] w.actors h refl refl tt;
-      server_received = λ n mail at part s sent up. receipt_by_server sc w sound a epochs h n mail at part s sent up;
+      server_received = λ n mail at part s sent up. receipt_by_server sc w rightly sound a epochs h n mail at part s sent up;
       coordinator_received = λ n mail txn part c sent up. receipt_by_coordinator sc w valid (homes_built sc built) few sound a epochs trusts h n mail txn part c sent up;
       authority_told = λ n mail sent. still_pairs sc w [] (office.authority_row w.actors.authority mail).reaction.letters w.actors h refl refl (tells_plain sc w.actors.authority mail.letter.body);
       master_told = λ n mail sent. still_pairs sc w [] (master.master_row w.actors.master mail).reaction.letters w.actors h refl refl (newest_plain sc w.actors.master mail.letter.body);
@@ -421,11 +421,11 @@ pairs_cases sc w built valid few sound a epochs trusts h =
     }
 
 -- a step that is not refused keeps what is said of deeds and epochs
-pub pairs_next : (sc : Scenario) (m : Machine) (taken : Step) → is_built sc ≡ true → IsStepOf sc taken → refusal m.state taken ≡ None → IsSound sc m.state → Agrees sc m.state → Epochs sc m.state → Trusts sc m.state
+pub pairs_next : (sc : Scenario) (m : Machine) (taken : Step) → is_built sc ≡ true → IsStepOf sc taken → refusal m.state taken ≡ None → WaitRightly sc m.state → IsSound sc m.state → Agrees sc m.state → Epochs sc m.state → Trusts sc m.state
     → Pairs sc m.state → Pairs sc (machine_after sc m taken).state
-pairs_next sc m taken built exists allowed sound a epochs trusts h =
+pairs_next sc m taken built exists allowed rightly sound a epochs trusts h =
     machine_after_by sc m (λ taken move. MovePairs sc m.state move) (Pairs sc)
-    (pairs_cases sc m.state built (valid_built sc built) (few_queries sc (rules.valid_built sc built)) sound a epochs trusts h) a.coordinator_count
+    (pairs_cases sc m.state built (valid_built sc built) (few_queries sc (rules.valid_built sc built)) rightly sound a epochs trusts h) a.coordinator_count
     (λ taken move t. state_after_pairs sc m.state taken move h t) h taken exists allowed
 
 -- ---- before the first step

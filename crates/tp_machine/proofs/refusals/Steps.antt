@@ -41,7 +41,7 @@ use Rattle.tp_machine.proofs.serial_data.World.{Serial}
 use Rattle.tp_machine.proofs.trust.World.{facts_after}
 use Rattle.tp_machine.proofs.walks.CoordinatorRows.{coordinator_by}
 use Rattle.tp_machine.proofs.walks.ServerRows.{server_by}
-use Rattle.tp_machine.proofs.walks.Steps.{Cases, IsCoordinatorUp, IsServerUp, SaysIdle, WasSent, machine_after_by}
+use Rattle.tp_machine.proofs.walks.Steps.{Cases, IsCoordinatorUp, IsServerUp, SaysIdle, WasSent, WaitRightly, machine_after_by}
 use Rattle.tp_machine.specs.Logs.{decided_at, decided_by, settled_at, settled_by, settled_in, settlement_in}
 use Rattle.tp_machine.specs.Machine.{Machine, State, acts_by, coordinator_fact, coordinator_move, facts_of, idle_move, log_with, machine_after, opened_part, opening_state, refusal, server_fact, server_move, with_age}
 use Rattle.tp_machine.specs.Parts.{Part}
@@ -99,6 +99,7 @@ still_undecided sc c mail =
       ignored = λ e. record { undecided = e; keeps = keeps_same c };
       ran_next = λ done server asked value next k home e. querying_open c _ done.query (awaits_is c c.phase done k.awaited k.plain);
       ran_last = λ done server asked value k none e. querying_open c _ done.query (awaits_is c c.phase done k.awaited k.plain);
+      died = λ done server asked other k e. absurd (cc);
       told = λ tell round k e. record { undecided = ap is_undecided k.asking; keeps = λ prepares. record { prepares = refl; deeds = refl } };
       counted = λ reply round staple server verdicts y f e. record { undecided = ap is_undecided y.checking; keeps = λ prepares. record { prepares = refl; deeds = refl } };
       committed = λ reply round staple server verdicts y f e. absurd (cc);
@@ -150,6 +151,7 @@ coordinator_row_shown sc w txn part c n mail sound a h sent up =
       ignored = tt;
       ran_next = λ done server asked value next k home. tt;
       ran_last = λ done server asked value k none. tt;
+      died = λ done server asked other k. tt;
       told = λ tell round k. tt;
       counted = λ reply round staple server verdicts y f. tt;
       committed = λ reply round staple server verdicts y f. tt;
@@ -219,13 +221,16 @@ server_told sc all place at (Some log.Boot) = tt
 server_told sc all place at (Some (log.Told told)) = tt
 server_told sc all place at (Some (log.Prepared p)) = tt
 
-server_row_shown : (sc : Scenario) (w : State) (n : ℕ) (mail : Mail) (at : ServerId) (part : Part Server) (s : Server) → is_built sc ≡ true → IsSound sc w → Agrees sc w → Pairs sc w → Serial sc w → Refusals sc w
+server_row_shown : (sc : Scenario) (w : State) (n : ℕ) (mail : Mail) (at : ServerId) (part : Part Server) (s : Server) → is_built sc ≡ true → WaitRightly sc w → IsSound sc w → Agrees sc w → Pairs sc w → Serial sc w → Refusals sc w
     → WasSent w n mail (actor.Server at) → IsServerUp w at part s → IfSome (server_row sc s mail).reaction.append (SettlementShown sc w at (server_facts at (server_row sc s mail).reaction.append))
-server_row_shown sc w n mail at part s built sound a pairs serial h sent up =
-    server_by sc s mail (λ (effect : Effect Server). IfSome effect.reaction.append (SettlementShown sc w at (server_facts at effect.reaction.append)))
+server_row_shown sc w n mail at part s built rightly sound a pairs serial h sent up =
+    server_by sc s mail (λ (effect : Effect Server). IfSome effect.reaction.append (SettlementShown sc w at (server_facts at effect.reaction.append))) (rightly at part s up)
     (record {
+      relocked = λ effect locks k. k;
       ignored = tt;
       ran = λ q query entry value k. tt;
+      waited = λ q query entry value k. tt;
+      died = λ q query entry value other k dying. tt;
       restarted = λ q k. tt;
       answered = λ q entry given k. tt;
       voted = λ p entry staple txn k. tt;
@@ -239,6 +244,7 @@ server_row_shown sc w n mail at part s built sound a pairs serial h sent up =
       settled = λ d k awaiting. record { prepares = λ declared there. absurd (not_ordered d k.said_is awaiting); why = tt };
       acknowledged = λ d settled k. tt;
       pushed = λ push k. tt;
+      resumed = λ effect grant q query entry value k now. now;
     })
   where
     -- what is ordered was decided
@@ -351,12 +357,12 @@ nothing_begun : (sc : Scenario) (c : Coordinator) (home : Option ServerId) → c
 nothing_begun sc c None = refl
 nothing_begun sc c (Some at) = refl
 
-refusals_cases : (sc : Scenario) (w : State) → is_built sc ≡ true → IsSound sc w → Agrees sc w → Pairs sc w → Serial sc w → Refusals sc w → Cases sc w (λ taken move. MoveRefuses sc w move)
-refusals_cases sc w built sound a pairs serial h =
+refusals_cases : (sc : Scenario) (w : State) → is_built sc ≡ true → WaitRightly sc w → IsSound sc w → Agrees sc w → Pairs sc w → Serial sc w → Refusals sc w → Cases sc w (λ taken move. MoveRefuses sc w move)
+refusals_cases sc w built rightly sound a pairs serial h =
     record {
       idle = λ taken happened e. idle_refuses sc w taken happened h e;
       server_received = λ n mail at part s sent up.
-          server_moves sc w at part s (server_row sc s mail) built a pairs serial h up (server_row_shown sc w n mail at part s built sound a pairs serial h sent up);
+          server_moves sc w at part s (server_row sc s mail) built a pairs serial h up (server_row_shown sc w n mail at part s built rightly sound a pairs serial h sent up);
       coordinator_received = λ n mail txn part c sent up.
           coordinator_moves sc w txn part c (coordinator_row sc c mail) [] h up (still_undecided sc c mail) (λ other. none_told other (length w.steps) (coordinator_row sc c mail).reaction.append)
           (told_shown sc w (coordinator_row sc c mail).reaction.append (coordinator_row_shown sc w txn part c n mail sound a h sent up));
@@ -378,12 +384,12 @@ refusals_cases sc w built sound a pairs serial h =
     }
 
 -- a step that is not refused keeps what is said of refusals
-pub refusals_next : (sc : Scenario) (m : Machine) (taken : Step) → is_built sc ≡ true → IsStepOf sc taken → refusal m.state taken ≡ None → IsSound sc m.state → Agrees sc m.state → Pairs sc m.state → Serial sc m.state
+pub refusals_next : (sc : Scenario) (m : Machine) (taken : Step) → is_built sc ≡ true → IsStepOf sc taken → refusal m.state taken ≡ None → WaitRightly sc m.state → IsSound sc m.state → Agrees sc m.state → Pairs sc m.state → Serial sc m.state
     → Refusals sc m.state → Refusals sc (machine_after sc m taken).state
-refusals_next sc m taken built exists allowed sound a pairs serial h =
-    machine_after_by sc m (λ taken move. MoveRefuses sc m.state move) (λ w. Unbooted w → Refusals sc w) (refusals_cases sc m.state built sound a pairs serial h) a.coordinator_count
+refusals_next sc m taken built exists allowed rightly sound a pairs serial h =
+    machine_after_by sc m (λ taken move. MoveRefuses sc m.state move) (λ w. Unbooted w → Refusals sc w) (refusals_cases sc m.state built rightly sound a pairs serial h) a.coordinator_count
     (λ taken move t unbooted. state_after_refusals sc m.state taken move a.past h t unbooted) (λ unbooted. h) taken exists allowed
-    (unbooted_next sc m taken a.coordinator_count exists allowed h.unbooted)
+    (unbooted_next sc m taken a.coordinator_count exists allowed rightly h.unbooted)
 
 -- before the first step nothing is settled
 pub refusals_opening : (sc : Scenario) → Refusals sc (opening_state sc)

@@ -4,11 +4,11 @@ use Rattle.tp_types.specs.Effect.{Effect}
 use Rattle.tp_model.specs.Words.body
 use Rattle.tp_model.specs.Words.what
 use Rattle.tp_model.specs.Words.{Body, DoneReply, Letter, Mail, Query, QueryRequest, Record, Scenario, ServerId, Settled, Step, TxnId, What}
-use Rattle.tp_machine.proofs.basics.Lists.{at_made, at_set, each_append, each_found, each_get, placed_emptied, placed_none, placed_set}
+use Rattle.tp_machine.proofs.basics.Lists.{at_made, at_set, each_append, each_found, each_get, each_more, placed_emptied, placed_none, placed_set}
 use Rattle.tp_machine.proofs.epochs.Server.{boot_of, boots_push}
 use Rattle.tp_machine.proofs.walks.CoordinatorRows.{coordinator_by, submit_by}
-use Rattle.tp_machine.proofs.walks.ServerRows.{IsFirstHere, IsFurther, IsGranted, server_by}
-use Rattle.tp_machine.proofs.walks.Steps.{Cases, IsCoordinatorUp, IsServerUp, machine_after_by}
+use Rattle.tp_machine.proofs.walks.ServerRows.{AreRightWaits, IsAsking, IsFirstHere, IsFurther, server_by}
+use Rattle.tp_machine.proofs.walks.Steps.{Cases, IsCoordinatorUp, IsServerUp, WaitRightly, machine_after_by}
 use Rattle.tp_machine.specs.Logs.{boots_in}
 use Rattle.tp_machine.specs.Machine.{Machine, Move, State, acts_by, coordinator_fact, coordinator_move, log_with, machine_after, mails_of, opened_part, opening_state, refusal, server_fact, server_move, state_after, with_age}
 use Rattle.tp_machine.specs.Parts.{Part}
@@ -78,19 +78,20 @@ record RowUnbooted (effect : Effect Server) : Type 0 where
   pub append : IfSome effect.reaction.append (λ (forced : Record). boot_of forced ≡ 0)
   pub letters : Each LetterUnbooted effect.reaction.letters
 
-run_entry : (sc : Scenario) (s : Server) (mail : Mail) (q : QueryRequest) (query : Query) (entry : Entry) (value : ℤ) → ServerUnbooted s → IsGranted sc s mail q query entry value → EntryUnbooted entry
+run_entry : (sc : Scenario) (s : Server) (mail : Mail) (q : QueryRequest) (query : Query) (entry : Entry) (value : ℤ) → ServerUnbooted s → IsAsking sc s mail q query entry value → EntryUnbooted entry
 run_entry sc s mail q query entry value h k =
     ⊎_elim (λ (new : IsFirstHere s mail.sent q entry). subst EntryUnbooted (sym new.entry_is) (record { epoch = h.epoch; answers = tt }))
     (λ (further : IsFurther s q entry). h.entries q.txn.0 entry further.found) k.place
 
-ended : (s : Server) (order : Settled) (letter : Letter) → ServerUnbooted s → LetterUnbooted letter → RowUnbooted (server.ends s order letter)
+ended : (s : Server) (order : Settled) (letter : Letter) → ServerUnbooted s → LetterUnbooted letter → RowUnbooted (server.closes s order letter)
 ended s order letter h reply =
     record { state = record { epoch = h.epoch; entries = placed_emptied (λ (n : ℕ) (entry : Entry). EntryUnbooted entry) s.entries order.txn.0 h.entries }; append = refl; letters = (reply, tt) }
 
-server_row_unbooted : (sc : Scenario) (s : Server) (mail : Mail) → ServerUnbooted s → RowUnbooted (server.server_row sc s mail)
-server_row_unbooted sc s mail h =
-    server_by sc s mail RowUnbooted
+server_row_unbooted : (sc : Scenario) (s : Server) (mail : Mail) → AreRightWaits sc s → ServerUnbooted s → RowUnbooted (server.server_row sc s mail)
+server_row_unbooted sc s mail waits h =
+    server_by sc s mail RowUnbooted waits
     (record {
+      relocked = λ effect locks k. record { state = record { epoch = k.state.epoch; entries = k.state.entries }; append = k.append; letters = k.letters };
       ignored = record { state = h; append = tt; letters = tt };
       ran = λ q query entry value k.
           let was : EntryUnbooted entry = run_entry sc s mail q query entry value h k in
@@ -99,6 +100,24 @@ server_row_unbooted sc s mail h =
               epoch = h.epoch;
               entries = placed_set (λ (n : ℕ) (found : Entry). EntryUnbooted found) s.entries q.txn.0 _ h.entries
                   (record { epoch = was.epoch; answers = each_append DoneUnbooted entry.answers _ was.answers (was.epoch, tt) });
+            };
+            append = tt;
+            letters = (was.epoch, tt);
+          };
+      waited = λ q query entry value k.
+          let was : EntryUnbooted entry = run_entry sc s mail q query entry value h k in
+          record {
+            state = record { epoch = h.epoch; entries = placed_set (λ (n : ℕ) (found : Entry). EntryUnbooted found) s.entries q.txn.0 _ h.entries (record { epoch = was.epoch; answers = was.answers }) };
+            append = tt;
+            letters = tt;
+          };
+      died = λ q query entry value other k dying.
+          let was : EntryUnbooted entry = run_entry sc s mail q query entry value h k in
+          record {
+            state = record {
+              epoch = h.epoch;
+              entries = placed_set (λ (n : ℕ) (found : Entry). EntryUnbooted found) s.entries q.txn.0 _ h.entries
+                  (record { epoch = was.epoch; answers = each_more DoneUnbooted entry.answers _ was.answers was.epoch });
             };
             append = tt;
             letters = (was.epoch, tt);
@@ -123,6 +142,17 @@ server_row_unbooted sc s mail h =
       settled = λ d k. ended s (server.settled_as d) (server.ack_letter s d.txn) h tt;
       acknowledged = λ d settled k. record { state = h; append = tt; letters = (tt, tt) };
       pushed = λ push k. record { state = record { epoch = h.epoch; entries = h.entries }; append = refl; letters = tt };
+      resumed = λ effect grant q query entry value k now.
+          let was : EntryUnbooted entry = now.state.entries q.txn.0 entry k.found in
+          record {
+            state = record {
+              epoch = now.state.epoch;
+              entries = placed_set (λ (n : ℕ) (found : Entry). EntryUnbooted found) effect.state.entries q.txn.0 _ now.state.entries
+                  (record { epoch = was.epoch; answers = each_more DoneUnbooted entry.answers _ was.answers was.epoch });
+            };
+            append = now.append;
+            letters = each_more LetterUnbooted effect.reaction.letters _ now.letters was.epoch;
+          };
     })
 
 unbooted_log : (kept : List Record) (append : Option Record) → boots_in kept ≡ 0 → IfSome append (λ (forced : Record). boot_of forced ≡ 0) → boots_in (log_with kept append) ≡ 0
@@ -148,6 +178,7 @@ coordinator_row_unbooted sc c mail h m =
       ignored = record { state = h; letters = tt };
       ran_next = λ done at asked value next k home. record { state = learnt done at (subst BodyUnbooted k.said_is m); letters = (tt, tt) };
       ran_last = λ done at asked value k none. record { state = learnt done at (subst BodyUnbooted k.said_is m); letters = (tt, tt) };
+      died = λ done at asked other k. record { state = h; letters = all_sent _ (λ at. tt) c.servers };
       told = λ tell round k. record { state = h; letters = all_sent (coord.prepare_letter c round (coord.staple_of tell mail.sent)) (λ at. tt) (coord.awaited_in round) };
       counted = λ reply round staple at verdicts y e. record { state = h; letters = tt };
       committed = λ reply round staple at verdicts y e. record { state = h; letters = all_sent _ (λ at. tt) c.servers };
@@ -240,11 +271,11 @@ coordinator_is w txn part c h up = subst (λ (u : Option Coordinator). IfSome u 
 
 -- ---- steps
 
-unbooted_cases : (sc : Scenario) (w : State) → Unbooted w → Cases sc w (λ taken move. MoveUnbooted w move)
-unbooted_cases sc w h =
+unbooted_cases : (sc : Scenario) (w : State) → WaitRightly sc w → Unbooted w → Cases sc w (λ taken move. MoveUnbooted w move)
+unbooted_cases sc w rightly h =
     record {
       idle = λ taken happened e. still w w.actors happened [] h refl refl tt;
-      server_received = λ n mail at part s sent up. server_moves w at part (server.server_row sc s mail) h up.found (server_row_unbooted sc s mail (server_is w at part s h up));
+      server_received = λ n mail at part s sent up. server_moves w at part (server.server_row sc s mail) h up.found (server_row_unbooted sc s mail (rightly at part s up) (server_is w at part s h up));
       coordinator_received = λ n mail txn part c sent up.
           coordinator_moves w txn part (coord.coordinator_row sc c mail) [] h
           (coordinator_row_unbooted sc c mail (coordinator_is w txn part c h up) (each_get MailUnbooted w.mails n mail h.mails sent.sent));
@@ -259,10 +290,10 @@ unbooted_cases sc w h =
     }
 
 -- a step that is not refused boots no server
-pub unbooted_next : (sc : Scenario) (m : Machine) (taken : Step) → length m.state.actors.coordinators ≡ length sc.txns → IsStepOf sc taken → refusal m.state taken ≡ None → Unbooted m.state
+pub unbooted_next : (sc : Scenario) (m : Machine) (taken : Step) → length m.state.actors.coordinators ≡ length sc.txns → IsStepOf sc taken → refusal m.state taken ≡ None → WaitRightly sc m.state → Unbooted m.state
     → Unbooted (machine_after sc m taken).state
-unbooted_next sc m taken count exists allowed h =
-    machine_after_by sc m (λ taken_is move. MoveUnbooted m.state move) Unbooted (unbooted_cases sc m.state h) count (λ taken_is move t. state_after_unbooted m.state taken_is move t) h taken exists allowed
+unbooted_next sc m taken count exists allowed rightly h =
+    machine_after_by sc m (λ taken_is move. MoveUnbooted m.state move) Unbooted (unbooted_cases sc m.state rightly h) count (λ taken_is move t. state_after_unbooted m.state taken_is move t) h taken exists allowed
 
 pub unbooted_opening : (sc : Scenario) → Unbooted (opening_state sc)
 unbooted_opening sc =

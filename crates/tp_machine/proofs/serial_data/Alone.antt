@@ -3,9 +3,8 @@
 use Rattle.tp_machine.proofs.pairs.Pair.{Prepares}
 use Rattle.tp_machine.proofs.serial_data.Unsettled.{IsUnsettled}
 use Rattle.std.specs.Option.{option_map_or}
-use Rattle.std.proofs.Common.{List, None, Option, Some, [], ap, arith, false, length, option_and_then, refl, slice_get, subst, suc, sym, true, zero, ℕ, ◌<◌, ◌∙◌, ◌∷◌, ◌≡◌, ◌≤◌}
+use Rattle.std.proofs.Common.{List, None, Option, Some, ap, arith, false, length, option_and_then, refl, slice_get, subst, suc, sym, true, zero, ℕ, ◌<◌, ◌∙◌, ◌≡◌, ◌≤◌}
 use Rattle.std.proofs.lemmas.Option.{slice_get_within}
-use Rattle.tp_types.specs.Table.{flattened}
 use Rattle.tp_model.proofs.BuiltLemmas.{length-txns_built}
 use Rattle.tp_model.specs.Agreement.{has_item, has_item_at}
 use Rattle.tp_model.specs.Built.{is_built}
@@ -14,6 +13,7 @@ use Rattle.tp_model.specs.Words.decision
 use Rattle.tp_model.specs.Words.{Decision, Deed, Item, ItemId, Query, Scenario, ServerId, Transaction, TxnId}
 use Rattle.tp_machine.proofs.agreement.World.{Agrees}
 use Rattle.tp_machine.proofs.basics.Lists.{each_as, each_get, missing}
+use Rattle.tp_machine.proofs.basics.Tables.{placed_within}
 use Rattle.tp_machine.proofs.ids.Queries.{AreOnItems, queries_on_items}
 use Rattle.tp_machine.proofs.pairs.Actors.{stand_of}
 use Rattle.tp_machine.proofs.pairs.World.{Pairs}
@@ -36,11 +36,6 @@ pub alone_built : (sc : Scenario) → is_built sc ≡ true → IsAlone sc
 alone_built sc built = length-txns_built sc built
 
 -- ---- at a server
-
-placed_within : {A : Type 0} (table : List (Option A)) (n : ℕ) (x : A) → flattened (slice_get table n) ≡ Some x → n < length table
-placed_within [] n x e = absurd (cc)
-placed_within (first ∷ table) zero x e = omega arith
-placed_within (first ∷ table) (suc n) x e = let later = placed_within table n x e in omega (arith, later)
 
 item_txn : (sc : Scenario) (at : ServerId) (txn : TxnId) → has_item_at sc at txn ≡ true → txn.0 < length sc.txns
 item_txn sc at txn e = there (slice_get sc.txns txn.0) refl e

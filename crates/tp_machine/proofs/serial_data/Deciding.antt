@@ -77,6 +77,7 @@ coordinator_row_own sc c mail =
       ignored = tt;
       ran_next = λ done server asked value next k home. tt;
       ran_last = λ done server asked value k none. tt;
+      died = λ done server asked other k. tt;
       told = λ tell round k. tt;
       counted = λ reply round staple server verdicts y e. tt;
       committed = λ reply round staple server verdicts y e. record { deeds = refl; prepares = ap stand_of y.checking };

@@ -6,6 +6,7 @@ use Rattle.std.proofs.lemmas.List.{length-set}
 use Rattle.std.proofs.lemmas.Option.{same_Some}
 use Rattle.tp_types.specs.Effect.{Effect, sends}
 use Rattle.tp_types.specs.Table.{flattened}
+use Rattle.tp_lock.specs.declared.entry.Grant.{Grant}
 use Rattle.tp_model.specs.Ids.{same_txn}
 use Rattle.tp_model.specs.Queries.{item_of}
 use Rattle.tp_model.specs.SerialRun.{stored_all}
@@ -13,8 +14,8 @@ use Rattle.tp_model.specs.Words.body
 use Rattle.tp_model.specs.Words.log
 use Rattle.tp_model.specs.Words.outcome
 use Rattle.tp_model.specs.Words.query
-use Rattle.tp_model.specs.Words.{AdminId, Body, Deed, Letter, Mail, Outcome, PrepareRequest, Prepared, PushNotice, Query, QueryRequest, Record, Scenario, Settled, Staple, Transaction, TxnId, Version}
-use Rattle.tp_machine.proofs.agreement.Server.{written_over}
+use Rattle.tp_model.specs.Words.{AdminId, Body, Deed, Letter, Mail, Outcome, PrepareRequest, Prepared, PushNotice, Query, QueryRequest, Record, Scenario, ServerId, Settled, Staple, Transaction, TxnId, Version}
+use Rattle.tp_machine.proofs.basics.Tables.{written_over}
 use Rattle.tp_machine.proofs.basics.Ids.{same_txn_is}
 use Rattle.tp_machine.proofs.basics.Lists.{missing, placed_emptied_others, placed_set, set_here}
 use Rattle.tp_machine.proofs.basics.Logs.{Prepares}
@@ -25,12 +26,12 @@ use Rattle.tp_machine.proofs.serial_data.Ranges.{AreTested}
 use Rattle.tp_machine.proofs.serial_data.Reads.{AreClear, IsReadFrom, ReadsFrom, reads_clear, reads_more}
 use Rattle.tp_machine.proofs.serial_data.Stores.{HasPlace}
 use Rattle.tp_machine.proofs.serial_data.Tentative.{AreLast, AreUpTo, inside_tested, none_last, own_read, read_last, write_last, write_of}
-use Rattle.tp_machine.proofs.walks.ServerRows.{IsFirstHere, IsFirstVote, IsFurther, IsGranted, IsLaterVote, IsVote, server_by}
+use Rattle.tp_machine.proofs.walks.ServerRows.{AreRightWaits, IsAsking, IsFirstHere, IsFirstVote, IsFurther, IsLaterVote, IsResumed, IsVote, ServerCases, resuming, server_by, unwaiting}
 use Rattle.tp_model.specs.Deeds.{deed_of}
 use Rattle.tp_machine.specs.Sound.{EachPlaced}
 use Rattle.tp_machine.specs.declared.server.Ballot.{Ballot}
 use Rattle.tp_machine.specs.declared.server.Entry.{Entry}
-use Rattle.tp_machine.specs.server.Row.{ack_letter, answer_to, asked_query, completes, ended_store, ends, entry_after, entry_at, is_open, kept_by, learns, no_letter, refused_as, reply, restarted_reply, server_row, settled_as, tentative_write, value_of_run, votes_on, yes_letter}
+use Rattle.tp_machine.specs.server.Row.{ack_letter, answer_to, asked_query, closes, completes, ended_store, entry_after, entry_at, followed_by, is_open, kept_by, learns, no_letter, refused_as, reply, restarted_reply, server_row, settled_as, tentative_write, value_of_run, votes_on, with_entry, yes_letter}
 use Rattle.tp_machine.specs.server.State.{Server}
 use Rattle.tp_machine.specs.server.Verdicts.{learnt, verdicts_on, with_versions}
 use Rattle.tp_store.specs.Contents.{Contents}
@@ -161,7 +162,7 @@ pub record IsRunAt (sc : Scenario) (s : Server) (q : QueryRequest) (entry : Entr
   pub last : AreLast (writes_of s.store q.txn) entry.deeds
   pub upto : AreUpTo q.query entry.deeds
 
-pub run_at : (sc : Scenario) (s : Server) (mail : Mail) (q : QueryRequest) (query : Query) (entry : Entry) (value : ℤ) → ServerReads sc s → QueryRises sc s q → IsGranted sc s mail q query entry value → IsRunAt sc s q entry
+pub run_at : (sc : Scenario) (s : Server) (mail : Mail) (q : QueryRequest) (query : Query) (entry : Entry) (value : ℤ) → ServerReads sc s → QueryRises sc s q → IsAsking sc s mail q query entry value → IsRunAt sc s q entry
 run_at sc s mail q query entry value h m k =
     ⊎_elim
     (λ (first : IsFirstHere s mail.sent q entry).
@@ -221,16 +222,15 @@ tentative_places : (store : Contents) (q : QueryRequest) (query : Query) (value 
 tentative_places store q (query.Read item into) value = refl
 tentative_places store q (query.Write item expr) value = length-set store.tentative q.txn.0 (with_write (writes_of store q.txn) (tentative_write q item value))
 
-runs_keep : (sc : Scenario) (M : TxnId → Type 0) (s : Server) (mail : Mail) (q : QueryRequest) (query : Query) (entry : Entry) (value : ℤ) → ServerReads sc s → QueryRises sc s q → IsGranted sc s mail q query entry value
-    → ServerKeeps sc M s (completes s q query entry (deed_of q.query query value))
-runs_keep sc M s mail q query entry value h m k =
+runs_keep : (sc : Scenario) (M : TxnId → Type 0) (s : Server) (q : QueryRequest) (query : Query) (entry : Entry) (value : ℤ) → ServerReads sc s → q.txn.0 < length sc.txns → (item_of query).0 < length sc.items → IsRunAt sc s q entry
+    → value_of_run s q query ≡ Some value → ServerKeeps sc M s (completes s q query entry (deed_of q.query query value))
+runs_keep sc M s q query entry value h exists on_item at is =
     let deed = deed_of q.query query value in
     let new = entry_after q entry deed in
-    let at : IsRunAt sc s q entry = run_at sc s mail q query entry value h m k in
     let same : (kept_by s.store q query value).values ≡ s.store.values = kept_values s.store q query value in
     let reads : AllRead s.store.values (slice_set s.entries q.txn.0 (Some new)) =
     placed_set (λ (n : ℕ) (found : Entry). ReadsFrom s.store.values found.deeds) s.entries q.txn.0 new h.reads
-    (reads_more s.store.values entry.deeds deed at.reads (run_reads sc s q query entry value h at (m.on_item query k.asked_is) k.value_is)) in
+    (reads_more s.store.values entry.deeds deed at.reads (run_reads sc s q query entry value h at on_item is)) in
     record {
       reads = record {
         reads = subst (λ (values : List ℤ). AllRead values (slice_set s.entries q.txn.0 (Some new))) (sym same) reads;
@@ -238,12 +238,55 @@ runs_keep sc M s mail q query entry value h m k =
         bounds_are = kept_bounds s.store q query value ∙ h.bounds_are;
         places = tentative_places s.store q query value ∙ h.places;
         entry_places = length-set s.entries q.txn.0 (Some new) ∙ h.entry_places;
-        last = λ other. run_last sc s q query entry value other h m.exists at;
+        last = λ other. run_last sc s q query entry value other h exists at;
       };
       forces = tt;
       votes = tt;
       values = same;
     }
+
+-- ---- an entry that does no more
+
+-- the entry at which a query waits, or is told to die, has done what it had
+entry_keeps : (sc : Scenario) (M : TxnId → Type 0) (s : Server) (q : QueryRequest) (entry now : Entry) (letters : List Letter) → ServerReads sc s → q.txn.0 < length sc.txns → IsRunAt sc s q entry → now.deeds ≡ entry.deeds
+    → ServerKeeps sc M s (sends (with_entry s q.txn (Some now)) letters)
+entry_keeps sc M s q entry now letters h exists at same =
+    let entry_places = h.entry_places in
+    record {
+      reads = record {
+        reads = placed_set (λ (n : ℕ) (found : Entry). ReadsFrom s.store.values found.deeds) s.entries q.txn.0 now h.reads (subst (ReadsFrom s.store.values) (sym same) at.reads);
+        items_are = h.items_are;
+        bounds_are = h.bounds_are;
+        places = h.places;
+        entry_places = length-set s.entries q.txn.0 (Some now) ∙ h.entry_places;
+        last = λ other. by_txn other (same_txn q.txn other) refl (omega (arith, exists, entry_places));
+      };
+      forces = tt;
+      votes = tt;
+      values = refl;
+    }
+  where
+    by_txn : (other : TxnId) (b : Bool) → same_txn q.txn other ≡ b → q.txn.0 < length s.entries → AreLast (writes_of s.store other) (deeds_in (flattened (slice_get (slice_set s.entries q.txn.0 (Some now)) other.0)))
+    by_txn other true e within =
+        subst (λ (found : Option Entry). AreLast (writes_of s.store other) (deeds_in found)) (sym (entry_set s q.txn other (Some now) true e within))
+        (subst (AreLast (writes_of s.store other)) (sym same) (subst (λ (t : TxnId). AreLast (writes_of s.store t) entry.deeds) (same_txn_is q.txn other e) at.last))
+    by_txn other false e within = subst (λ (found : Option Entry). AreLast (writes_of s.store other) (deeds_in found)) (sym (entry_set s q.txn other (Some now) false e within)) (h.last other)
+
+-- a query that waited runs where it comes after those that have run
+pub resumed_at : (sc : Scenario) (at : ServerId) (s : Server) (grant : Grant) (q : QueryRequest) (query : Query) (entry : Entry) (value : ℤ) → ServerReads sc s → IsResumed sc at s grant q query entry value → IsRunAt sc s q (unwaiting entry)
+resumed_at sc at s grant q query entry value h k =
+    record {
+      reads = h.reads q.txn.0 entry k.found;
+      last = subst (λ (found : Option Entry). AreLast (writes_of s.store q.txn) (deeds_in found)) k.found (h.last q.txn);
+      upto = k.upto;
+    }
+
+-- what waited runs, after what was done before
+pub resumes_keep : (sc : Scenario) (M : TxnId → Type 0) (s : Server) (effect : Effect Server) (grant : Grant) (q : QueryRequest) (query : Query) (entry : Entry) (value : ℤ) → IsResumed sc s.server effect.state grant q query entry value
+    → ServerKeeps sc M s effect → ServerKeeps sc M s (followed_by effect (resuming effect.state q query entry value))
+resumes_keep sc M s effect grant q query entry value k h =
+    let ran = runs_keep sc M effect.state q query (unwaiting entry) value h.reads k.exists k.on_item (resumed_at sc s.server effect.state grant q query entry value h.reads k) k.value_is in
+    record { reads = ran.reads; forces = h.forces; votes = h.votes; values = ran.values ∙ h.values }
 
 -- ---- Prepare
 
@@ -307,7 +350,7 @@ ended_tentative : (store : Contents) (txn : TxnId) (ended : Outcome) → (ended_
 ended_tentative store txn outcome.Commit = refl
 ended_tentative store txn outcome.Abort = refl
 
-values_length : (count : ℕ) (ended : Outcome) (values : List ℤ) (deeds : List Deed) → length values ≡ count → length (values_by values ended deeds) ≡ count
+pub values_length : (count : ℕ) (ended : Outcome) (values : List ℤ) (deeds : List Deed) → length values ≡ count → length (values_by values ended deeds) ≡ count
 values_length count outcome.Commit values deeds e = all_length count deeds values e
 values_length count outcome.Abort values deeds e = e
 
@@ -316,7 +359,7 @@ others_read : (ended : Outcome) (values : List ℤ) (deeds others : List Deed) �
 others_read outcome.Commit values deeds others clear h = reads_clear values others deeds clear h
 others_read outcome.Abort values deeds others clear h = h
 
-ends_keep : (sc : Scenario) (M : TxnId → Type 0) (s : Server) (d : Settled) (letter : Letter) → ServerReads sc s → OrderClear sc s d.txn → ServerKeeps sc M s (ends s d letter)
+ends_keep : (sc : Scenario) (M : TxnId → Type 0) (s : Server) (d : Settled) (letter : Letter) → ServerReads sc s → OrderClear sc s d.txn → ServerKeeps sc M s (closes s d letter)
 ends_keep sc M s d letter h m =
     let deeds = deeds_in (entry_at s d.txn) in
     let after = ended_store s.store d.txn d.outcome in
@@ -357,13 +400,27 @@ learns_keep sc M s push h =
 
 -- ---- all mails
 
--- every row of a server on receipt of a mail
-pub server_row_keeps : (sc : Scenario) (M : TxnId → Type 0) (s : Server) (mail : Mail) → ServerReads sc s → RequestClear sc M s mail.letter.body → ServerKeeps sc M s (server_row sc s mail)
-server_row_keeps sc M s mail h clear =
-    server_by sc s mail (ServerKeeps sc M s)
-    (record {
+-- each outcome of a receipt
+pub keeps_cases : (sc : Scenario) (M : TxnId → Type 0) (s : Server) (mail : Mail) → ServerReads sc s → RequestClear sc M s mail.letter.body → ServerCases sc s mail (ServerKeeps sc M s)
+keeps_cases sc M s mail h clear =
+    record {
+      relocked = λ effect locks k.
+          record {
+            reads = record { reads = k.reads.reads; items_are = k.reads.items_are; bounds_are = k.reads.bounds_are; places = k.reads.places; entry_places = k.reads.entry_places; last = k.reads.last };
+            forces = k.forces;
+            votes = k.votes;
+            values = k.values;
+          };
       ignored = stays_keep sc M s [] h;
-      ran = λ q query entry value k. runs_keep sc M s mail q query entry value h (subst (RequestClear sc M s) k.said_is clear) k;
+      ran = λ q query entry value k.
+          let m = subst (RequestClear sc M s) k.said_is clear in
+          runs_keep sc M s q query entry value h m.exists (m.on_item query k.asked_is) (run_at sc s mail q query entry value h m k) k.value_is;
+      waited = λ q query entry value k.
+          let m = subst (RequestClear sc M s) k.said_is clear in
+          entry_keeps sc M s q entry (record entry { waiting = Some q }) [] h m.exists (run_at sc s mail q query entry value h m k) refl;
+      died = λ q query entry value other k dying.
+          let m = subst (RequestClear sc M s) k.said_is clear in
+          entry_keeps sc M s q entry _ _ h m.exists (run_at sc s mail q query entry value h m k) refl;
       restarted = λ q k. stays_keep sc M s (reply s q.txn (body.Done (restarted_reply q s.epoch)) ∷ []) h;
       answered = λ q entry given k. stays_keep sc M s (reply s q.txn (body.Done given) ∷ []) h;
       voted = λ p entry staple txn k. votes_keep sc M s mail p entry staple txn h (subst (RequestClear sc M s) k.said_is clear) k;
@@ -373,4 +430,9 @@ server_row_keeps sc M s mail h clear =
       settled = λ d k. ends_keep sc M s (settled_as d) (ack_letter s d.txn) h (subst (RequestClear sc M s) k.said_is clear);
       acknowledged = λ d settled k. stays_keep sc M s (ack_letter s d.txn ∷ []) h;
       pushed = λ push k. learns_keep sc M s push h;
-    })
+      resumed = λ effect grant q query entry value k now. resumes_keep sc M s effect grant q query entry value k now;
+    }
+
+-- every row of a server on receipt of a mail
+pub server_row_keeps : (sc : Scenario) (M : TxnId → Type 0) (s : Server) (mail : Mail) → AreRightWaits sc s → ServerReads sc s → RequestClear sc M s mail.letter.body → ServerKeeps sc M s (server_row sc s mail)
+server_row_keeps sc M s mail waits h clear = server_by sc s mail (ServerKeeps sc M s) waits (keeps_cases sc M s mail h clear)

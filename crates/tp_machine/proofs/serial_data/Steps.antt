@@ -33,7 +33,7 @@ use Rattle.tp_machine.proofs.serial_data.Rows.{QueryRises, RequestClear, ServerR
 use Rattle.tp_machine.proofs.serial_data.Settling.{server_acts_serial, unmoved_serial}
 use Rattle.tp_machine.proofs.serial_data.Tentative.{AreLast, none_last}
 use Rattle.tp_machine.proofs.serial_data.World.{MoveSerial, Serial, ServerPartSerial, ServerUpSerial, state_after_serial}
-use Rattle.tp_machine.proofs.walks.Steps.{Cases, IsCoordinatorUp, IsServerUp, SaysIdle, WasSent, machine_after_by}
+use Rattle.tp_machine.proofs.walks.Steps.{Cases, IsCoordinatorUp, IsServerUp, SaysIdle, WaitRightly, WasSent, machine_after_by}
 use Rattle.tp_machine.specs.Logs.{decided_at, decided_by, prepared_in}
 use Rattle.tp_machine.specs.Machine.{Machine, State, acts_by, coordinator_fact, coordinator_move, idle_move, is_part_submitted, machine_after, opened_part, opening_state, refusal, server_fact, server_move, with_age}
 use Rattle.tp_machine.specs.Parts.{Part}
@@ -106,18 +106,18 @@ received_clear sc w built sound agrees pairs serial n mail at part s sent up pla
     request_clear sc w at part s mail.letter.from mail.letter.body (alone_built sc built) places up pairs agrees serial (mail_sound sc w n mail (actor.Server at) sound sent)
     (mail_rests sc w n mail (actor.Server at) agrees sent) said
 
-receipt_by_server : (sc : Scenario) (w : State) → is_built sc ≡ true → IsSound sc w → Agrees sc w → Pairs sc w → Serial sc w → (n : ℕ) (mail : Mail) (at : ServerId) (part : Part Server) (s : Server)
+receipt_by_server : (sc : Scenario) (w : State) → is_built sc ≡ true → WaitRightly sc w → IsSound sc w → Agrees sc w → Pairs sc w → Serial sc w → (n : ℕ) (mail : Mail) (at : ServerId) (part : Part Server) (s : Server)
     → WasSent w n mail (actor.Server at) → IsServerUp w at part s → MoveSerial sc w (server_move w.actors at (acts_by (server_fact at) [] part.log (server_row sc s mail)))
-receipt_by_server sc w built sound agrees pairs h n mail at part s sent up =
+receipt_by_server sc w built rightly sound agrees pairs h n mail at part s sent up =
     let was : ServerUpSerial sc (overlaid sc w.facts) at s = subst (λ (u : Option Server). IfSome u (ServerUpSerial sc (overlaid sc w.facts) at)) up.up (h.servers at.0 part up.found).state in
     server_acts_serial sc w at part s (server_row sc s mail) agrees h
     (record {
       found = up.found;
       up = up.up;
       agrees = server_agrees sc w at part s agrees up;
-      keeps = server_row_keeps sc (IsAsked sc w.actors.coordinators at) s mail was.reads
+      keeps = server_row_keeps sc (IsAsked sc w.actors.coordinators at) s mail (rightly at part s up) was.reads
           (received_clear sc w built sound agrees pairs h n mail at part s sent up was.reads.entry_places);
-      rests = (server_lawful sc w agrees n mail at part s sent up).rests;
+      rests = (server_lawful sc w rightly agrees n mail at part s sent up).rests;
     })
 
 receipt_by_coordinator : (sc : Scenario) (w : State) → is_built sc ≡ true → IsSound sc w → Agrees sc w → Pairs sc w → Serial sc w → (n : ℕ) (mail : Mail) (txn : TxnId) (part : Part Coordinator) (c : Coordinator)
@@ -155,11 +155,11 @@ begun_serial sc w built sound agrees pairs h txn part c exists up new =
 
 -- ---- steps
 
-serial_cases : (sc : Scenario) (w : State) → is_built sc ≡ true → IsSound sc w → Agrees sc w → Pairs sc w → Serial sc w → Cases sc w (λ taken move. MoveSerial sc w move)
-serial_cases sc w built sound agrees pairs h =
+serial_cases : (sc : Scenario) (w : State) → is_built sc ≡ true → WaitRightly sc w → IsSound sc w → Agrees sc w → Pairs sc w → Serial sc w → Cases sc w (λ taken move. MoveSerial sc w move)
+serial_cases sc w built rightly sound agrees pairs h =
     record {
       idle = idle_serial sc w h;
-      server_received = λ n mail at part s sent up. receipt_by_server sc w built sound agrees pairs h n mail at part s sent up;
+      server_received = λ n mail at part s sent up. receipt_by_server sc w built rightly sound agrees pairs h n mail at part s sent up;
       coordinator_received = λ n mail txn part c sent up. receipt_by_coordinator sc w built sound agrees pairs h n mail txn part c sent up;
       authority_told = λ n mail sent. unmoved_serial sc w w.actors [] (office.authority_row w.actors.authority mail).reaction.letters h refl refl tt;
       master_told = λ n mail sent. unmoved_serial sc w w.actors [] (master.master_row w.actors.master mail).reaction.letters h refl refl tt;
@@ -172,10 +172,10 @@ serial_cases sc w built sound agrees pairs h =
     }
 
 -- a step that is not refused keeps data serial
-pub serial_next : (sc : Scenario) (m : Machine) (taken : Step) → is_built sc ≡ true → IsStepOf sc taken → refusal m.state taken ≡ None → IsSound sc m.state → Agrees sc m.state → Pairs sc m.state → Serial sc m.state
+pub serial_next : (sc : Scenario) (m : Machine) (taken : Step) → is_built sc ≡ true → IsStepOf sc taken → refusal m.state taken ≡ None → WaitRightly sc m.state → IsSound sc m.state → Agrees sc m.state → Pairs sc m.state → Serial sc m.state
     → Serial sc (machine_after sc m taken).state
-serial_next sc m taken built exists allowed sound agrees pairs h =
-    machine_after_by sc m (λ taken move. MoveSerial sc m.state move) (Serial sc) (serial_cases sc m.state built sound agrees pairs h) agrees.coordinator_count
+serial_next sc m taken built exists allowed rightly sound agrees pairs h =
+    machine_after_by sc m (λ taken move. MoveSerial sc m.state move) (Serial sc) (serial_cases sc m.state built rightly sound agrees pairs h) agrees.coordinator_count
     (λ taken move t. state_after_serial sc m.state taken move agrees h t) h taken exists allowed
 
 -- ---- before the first step

@@ -11,7 +11,7 @@ use Rattle.tp_model.specs.Words.decision
 use Rattle.tp_model.specs.Words.log
 use Rattle.tp_model.specs.Words.outcome
 use Rattle.tp_model.specs.Words.vote
-use Rattle.tp_model.specs.Words.{Actor, Body, Cause, CommitRecord, Decision, Denied, DoneReply, Fact, Instance, Letter, Mail, Outcome, Query, Record, Scenario, ServerId, Staple, TxnId, Verdict, Vote, VoteReply}
+use Rattle.tp_model.specs.Words.{Actor, Body, Cause, CommitRecord, Decision, Denied, Died, DoneReply, Fact, Instance, Letter, Mail, Outcome, Query, Record, Scenario, ServerId, Staple, TxnId, Verdict, Vote, VoteReply}
 use Rattle.tp_machine.proofs.basics.Verdicts.{numbers_of}
 use Rattle.tp_machine.proofs.agreement.Coordinator.{idle_is}
 use Rattle.tp_machine.proofs.basics.Homes.{HaveHomes, next_is}
@@ -26,7 +26,7 @@ use Rattle.tp_machine.proofs.trust.Phases.{PhaseFits}
 use Rattle.tp_machine.proofs.trust.RoundAims.{round_updated}
 use Rattle.tp_machine.proofs.trust.RoundProofs.{round_closes}
 use Rattle.tp_machine.proofs.trust.Rounds.{AimedReply, AreNumbersAt, RoundFits, few_rounds, round_denies, round_replied, round_starts, round_wants, want_published}
-use Rattle.tp_machine.proofs.trust.Turns.{AreFew, IsAbove, IsOfPast, IsTimely, Now, PrepareNow, Stamp, TurnFits, VoteNow, WantNow, before_query, ceiling, ceiling_in, end_move, first_move, further_move, low_query, low_round, next_move, number_within, query_count, raised, round_move, stamp_of, turn_rises, until_round}
+use Rattle.tp_machine.proofs.trust.Turns.{AreFew, IsAbove, IsOfPast, IsTimely, Now, PrepareNow, Stamp, TurnFits, VoteNow, WantNow, before_query, ceiling, ceiling_in, died_move, end_move, first_move, further_move, low_query, low_round, next_move, number_within, query_count, raised, round_move, stamp_of, turn_rises, until_round}
 use Rattle.tp_machine.proofs.walks.CoordinatorRows.{IsYes, coordinator_by, submit_by}
 use Rattle.tp_machine.specs.Machine.{with_age}
 use Rattle.tp_machine.specs.Sound.{Each, IsSoundBody, query_in}
@@ -68,10 +68,11 @@ pub record DeniedFits (sc : Scenario) (facts : List Fact) (place : ℕ) (txn : T
   pub right : Right sc facts place txn verdict
   pub ruleless : is_none verdict.rule ≡ true
 
--- what a server refused is shown elsewhere. No coordinator aborts for another cause yet
+-- what a server refused, and a death for an older transaction, are shown elsewhere. No coordinator aborts for another cause yet
 abbrev pub CauseFits : Scenario → List Fact → ℕ → TxnId → Cause → Type 0
 CauseFits sc facts place txn (cause.Denied denied) = DeniedFits sc facts place txn denied
 CauseFits sc facts place txn (cause.No refused) = Unit {0}
+CauseFits sc facts place txn (cause.Died died) = Unit {0}
 CauseFits sc facts place txn _ = ⊥
 
 abbrev pub DecisionFits : Scenario → List Fact → ℕ → TxnId → Decision → Type 0
@@ -276,6 +277,26 @@ committed_trusts sc facts place c round staple homes valid h e =
       old = λ sent turn said t unsure. absurd (cc);
     }
 
+-- an older transaction stood in the way
+died_trusts : (sc : Scenario) (facts : List Fact) (place : ℕ) (c : Coordinator) (done : DoneReply) (asked : Query) (died : Died) → CoordinatorFits sc facts place c → c.phase ≡ phase.Querying done.query None
+    → query_in sc c.txn done.query ≡ Some asked → RowTrusts sc facts place c (aborts c (cause.Died died))
+died_trusts sc facts place c done asked died h e q =
+    let low : c.turn ≤ ceiling_in (query_count sc c.txn) (phase.Querying done.query None) = turn_low sc facts place c (phase.Querying done.query None) h e in
+    let number = number_within sc c.txn done.query asked q in
+    let now = aborts c (cause.Died died) in
+    record {
+      fits = record {
+        awaits = tt;
+        unclosed = λ unsure. absurd (cc);
+        above = λ unsure. absurd (cc);
+        turn = died_move (query_count sc c.txn) done.query c.turn number.0 number.1 low;
+      };
+      decides = tt;
+      says = λ sent. orders_fit sc facts place sent c outcome.Abort c.servers;
+      timely = λ sent. orders_timely sc c (Some now.state) sent outcome.Abort c.servers;
+      old = λ sent turn said t unsure. absurd (cc);
+    }
+
 -- a vote NO ends the transaction
 refused_trusts : (sc : Scenario) (facts : List Fact) (place : ℕ) (c : Coordinator) (round : Round) (staple : Staple) (server : ServerId) (number : ℕ) (value : ℤ) → CoordinatorFits sc facts place c
     → c.phase ≡ phase.Checking round staple → RowTrusts sc facts place c (aborts c (cause.No (refused_by server number value)))
@@ -396,6 +417,7 @@ coordinator_row_trusts sc facts place P c mail few homes valid own h m f n t =
       ran_next = λ done server asked value next k home.
           ran_next_trusts sc facts place c done asked server next value few h (awaits_is c c.phase done k.awaited k.plain) k.asked_is (next_is sc c done.query asked homes k.asked_is);
       ran_last = λ done server asked value k none. ran_last_trusts sc facts place c done asked server value few h (awaits_is c c.phase done k.awaited k.plain) k.asked_is own;
+      died = λ done server asked other k. died_trusts sc facts place c done asked _ h (awaits_is c c.phase done k.awaited k.plain) k.asked_is;
       told = λ tell round k.
           let same : c.txn ≡ tell.txn = same_coordinator c.txn tell.txn (subst (IsSoundBody sc (actor.Coordinator c.txn)) k.said_is m).goes_to in
           let fits : StapleFits sc facts place tell.txn (staple_of tell mail.sent) = subst (BodyFits sc facts place mail.sent) k.said_is f in

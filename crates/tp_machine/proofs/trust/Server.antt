@@ -6,6 +6,7 @@ use Rattle.std.proofs.lemmas.Bool.{and_from}
 use Rattle.std.proofs.lemmas.Option.{same_Some}
 use Rattle.tp_types.proofs.ListLemmas.{number_itself}
 use Rattle.tp_types.specs.Effect.{Effect, ignores, sends}
+use Rattle.tp_lock.specs.declared.entry.Grant.{Grant}
 use Rattle.tp_model.specs.Authorisation.{is_item_at, is_own_query, is_query_at, policy_at, version_in, version_of}
 use Rattle.tp_model.specs.Queries.{query_at}
 use Rattle.tp_model.specs.Versions.{newest}
@@ -13,7 +14,7 @@ use Rattle.tp_model.specs.Words.actor
 use Rattle.tp_model.specs.Words.body
 use Rattle.tp_model.specs.Words.vote
 use Rattle.tp_model.specs.Words.{Actor, Admin, AdminId, Body, Deed, DoneReply, Fact, Item, Letter, Mail, No, Policy, PrepareRequest, PushNotice, Query, QueryRequest, Record, Scenario, ServerId, Settled, Staple, Transaction, TxnId, Verdict, Version}
-use Rattle.tp_machine.proofs.basics.Lists.{each_append, each_as, each_found, each_map, placed_emptied, placed_set}
+use Rattle.tp_machine.proofs.basics.Lists.{each_append, each_as, each_found, each_map, each_more, placed_emptied, placed_set}
 use Rattle.tp_machine.proofs.basics.Ids.{admin_number}
 use Rattle.tp_machine.proofs.basics.Stores.{ended_known, kept_known}
 use Rattle.tp_machine.proofs.basics.Versions.{known_most, learnt_most, used_by}
@@ -31,7 +32,7 @@ use Rattle.tp_model.specs.Limits.{is_empty}
 use Rattle.tp_round.specs.Judge.{is_aimed}
 use Rattle.tp_round.specs.Laws.{wanted_of}
 use Rattle.tp_round.specs.declared.round.Round.{Round}
-use Rattle.tp_machine.proofs.walks.ServerRows.{IsFirstHere, IsFurther, IsGranted, server_by}
+use Rattle.tp_machine.proofs.walks.ServerRows.{AreRightWaits, IsAsking, IsFirstHere, IsFurther, IsResumed, resuming, server_by, unwaiting}
 use Rattle.tp_machine.specs.Evaluation.{IsRightVerdict}
 use Rattle.tp_model.specs.Deeds.{deed_of}
 use Rattle.tp_machine.specs.Sound.{AreWanted, Each, IsAdmin, IsQueryAt, IsSoundBody, IsSoundDeedAt, IsSoundEntry, IsSoundServer, IsSoundVerdict, IsVersion, query_in}
@@ -39,7 +40,7 @@ use Rattle.tp_coord.specs.declared.coordinator.Phase.TheVariants as phase
 use Rattle.tp_coord.specs.declared.coordinator.Phase.{Phase}
 use Rattle.tp_machine.specs.declared.server.Ballot.{Ballot}
 use Rattle.tp_machine.specs.declared.server.Entry.{Entry}
-use Rattle.tp_machine.specs.server.Row.{ack_letter, answers, completes, done_reply, ends, entry_after, entry_at, learns, no_letter, refused_as, restarted_reply, server_row, settled_as, votes_on, yes_letter}
+use Rattle.tp_machine.specs.server.Row.{ack_letter, answers, closes, completes, died_reply, done_reply, entry_after, entry_at, followed_by, learns, no_letter, refused_as, restarted_reply, server_row, settled_as, votes_on, with_entry, yes_letter}
 use Rattle.tp_machine.specs.server.State.{Server}
 use Rattle.tp_machine.specs.server.Verdicts.{learnt, verdict_on, verdicts_on, version_known, version_or, version_used}
 
@@ -140,19 +141,18 @@ done_answers q done same turn =
 
 -- an entry at which a query runs is kept
 run_kept : (sc : Scenario) (facts : List Fact) (place : ℕ) (T : Body → Type 0) (s : Server) (mail : Mail) (q : QueryRequest) (query : Query) (entry : Entry) (value : ℤ) → ServerTrusted sc facts place T s
-    → IsGranted sc s mail q query entry value → IsKept (IsTrusted sc facts place T) q.txn entry
+    → IsAsking sc s mail q query entry value → IsKept (IsTrusted sc facts place T) q.txn entry
 run_kept sc facts place T s mail q query entry value h k =
     ⊎_elim
     (λ (first : IsFirstHere s mail.sent q entry). subst (IsKept (IsTrusted sc facts place T) q.txn) (sym first.entry_is) (record { answers = tt; waiting = tt; ballot = tt }))
     (λ (further : IsFurther s q entry). h.keeps q.txn.0 entry further.found) k.place
 
-runs_trusts : (sc : Scenario) (facts : List Fact) (place : ℕ) (T : Body → Type 0) (s : Server) (mail : Mail) (q : QueryRequest) (query : Query) (entry : Entry) (value : ℤ) → ServerTrusted sc facts place T s
-    → IsClosed T → T (body.Query q) → IsGranted sc s mail q query entry value → RowTrusts sc facts place T (completes s q query entry (deed_of q.query query value))
-runs_trusts sc facts place T s mail q query entry value h closed t k =
+runs_trusts : (sc : Scenario) (facts : List Fact) (place : ℕ) (T : Body → Type 0) (s : Server) (q : QueryRequest) (query : Query) (entry : Entry) (value : ℤ) → ServerTrusted sc facts place T s
+    → IsClosed T → T (body.Query q) → IsKept (IsTrusted sc facts place T) q.txn entry → RowTrusts sc facts place T (completes s q query entry (deed_of q.query query value))
+runs_trusts sc facts place T s q query entry value h closed t old =
     let deed = deed_of q.query query value in
     let answer = done_reply q entry.epoch deed in
     let timely : T (body.Done answer) = closed (body.Query q) (body.Done answer) (record { txn = q.txn; turn = q.turn }) (done_answers q answer refl refl) t in
-    let old : IsKept (IsTrusted sc facts place T) q.txn entry = run_kept sc facts place T s mail q query entry value h k in
     let effect = completes s q query entry deed in
     record {
       fits = knows_as sc facts place s effect.state (kept_known s.store q query value) h.fits;
@@ -165,6 +165,34 @@ runs_trusts sc facts place T s mail q query entry value h closed t k =
       forces = tt;
       says = (tt, tt);
       timely = (timely, tt);
+    }
+
+-- the entry at which a query asks waits, or answers that an older transaction stands in the way
+entry_trusts : (sc : Scenario) (facts : List Fact) (place : ℕ) (T : Body → Type 0) (s : Server) (txn : TxnId) (entry : Entry) (letters : List Letter) → ServerTrusted sc facts place T s → IsKept (IsTrusted sc facts place T) txn entry
+    → Each (λ (letter : Letter). BodyFits sc facts place place letter.body) letters → Each (λ (letter : Letter). IfSome (stamp_of letter.body) (λ (stamped : Stamp). T letter.body)) letters
+    → RowTrusts sc facts place T (sends (with_entry s txn (Some entry)) letters)
+entry_trusts sc facts place T s txn entry letters h kept says timely =
+    record {
+      fits = record { known = h.fits.known };
+      keeps = placed_set (λ (n : ℕ) (found : Entry). IsKept (IsTrusted sc facts place T) (record { 0 = n }) found) s.entries txn.0 entry h.keeps kept;
+      forces = tt;
+      says = says;
+      timely = timely;
+    }
+
+-- what waited runs, after what was done before
+resumes_trusts : (sc : Scenario) (facts : List Fact) (place : ℕ) (T : Body → Type 0) (s : Server) (effect : Effect Server) (grant : Grant) (q : QueryRequest) (query : Query) (entry : Entry) (value : ℤ) → IsClosed T
+    → IsResumed sc s.server effect.state grant q query entry value → RowTrusts sc facts place T effect → RowTrusts sc facts place T (followed_by effect (resuming effect.state q query entry value))
+resumes_trusts sc facts place T s effect grant q query entry value closed k h =
+    let old : IsKept (IsTrusted sc facts place T) q.txn entry = h.keeps q.txn.0 entry k.found in
+    let asked : IsTrusted sc facts place T (body.Query q) = subst (λ (w : Option QueryRequest). IfSome w (λ (r : QueryRequest). IsTrusted sc facts place T (body.Query r))) k.waiting_is old.waiting in
+    let ran = runs_trusts sc facts place T effect.state q query (unwaiting entry) value (record { fits = h.fits; keeps = h.keeps }) closed asked.timely (record { answers = old.answers; waiting = tt; ballot = old.ballot }) in
+    record {
+      fits = ran.fits;
+      keeps = ran.keeps;
+      forces = h.forces;
+      says = each_append (λ (letter : Letter). BodyFits sc facts place place letter.body) effect.reaction.letters _ h.says ran.says;
+      timely = each_append (λ (letter : Letter). IfSome (stamp_of letter.body) (λ (stamped : Stamp). T letter.body)) effect.reaction.letters _ h.timely ran.timely;
     }
 
 -- an answer that is given again fits as it did
@@ -320,10 +348,10 @@ no_letter_trusts sc facts place T s p why closed t =
           }) t;
     }
 
-ends_trusts : (sc : Scenario) (facts : List Fact) (place : ℕ) (T : Body → Type 0) (s : Server) (d : Settled) (letter : Letter) → ServerTrusted sc facts place T s → LetterTrusts sc facts place T letter → RowTrusts sc facts place T (ends s d letter)
+ends_trusts : (sc : Scenario) (facts : List Fact) (place : ℕ) (T : Body → Type 0) (s : Server) (d : Settled) (letter : Letter) → ServerTrusted sc facts place T s → LetterTrusts sc facts place T letter → RowTrusts sc facts place T (closes s d letter)
 ends_trusts sc facts place T s d letter h l =
     record {
-      fits = knows_as sc facts place s (ends s d letter).state (ended_known s.store d.txn d.outcome) h.fits;
+      fits = knows_as sc facts place s (closes s d letter).state (ended_known s.store d.txn d.outcome) h.fits;
       keeps = placed_emptied (λ (n : ℕ) (entry : Entry). IsKept (IsTrusted sc facts place T) (record { 0 = n }) entry) s.entries d.txn.0 h.keeps;
       forces = tt;
       says = (l.says, tt);
@@ -348,13 +376,29 @@ learns_trusts sc facts place T s push h new =
     }
 
 -- every row of a server on receipt of a mail
-pub server_row_trusts : (sc : Scenario) (facts : List Fact) (place : ℕ) (T : Body → Type 0) (s : Server) (mail : Mail) → IsValid sc → IsSoundServer sc s → IsSoundBody sc (actor.Server s.server) mail.letter.body → ServerTrusted sc facts place T s
+pub server_row_trusts : (sc : Scenario) (facts : List Fact) (place : ℕ) (T : Body → Type 0) (s : Server) (mail : Mail) → IsValid sc → AreRightWaits sc s → IsSoundServer sc s → IsSoundBody sc (actor.Server s.server) mail.letter.body → ServerTrusted sc facts place T s
     → BodyFits sc facts place mail.sent mail.letter.body → NamedMail sc s.server mail.letter.body → IsClosed T → T mail.letter.body → RowTrusts sc facts place T (server_row sc s mail)
-server_row_trusts sc facts place T s mail valid sound m h f named closed t =
-    server_by sc s mail (RowTrusts sc facts place T)
+server_row_trusts sc facts place T s mail valid waits sound m h f named closed t =
+    server_by sc s mail (RowTrusts sc facts place T) waits
     (record {
+      relocked = λ effect locks k. record { fits = record { known = k.fits.known }; keeps = k.keeps; forces = k.forces; says = k.says; timely = k.timely };
       ignored = ignores_trusts sc facts place T s h;
-      ran = λ q query entry value k. runs_trusts sc facts place T s mail q query entry value h closed (subst T k.said_is t) k;
+      ran = λ q query entry value k. runs_trusts sc facts place T s q query entry value h closed (subst T k.said_is t) (run_kept sc facts place T s mail q query entry value h k);
+      waited = λ q query entry value k.
+          let old = run_kept sc facts place T s mail q query entry value h k in
+          let asked : BodyFits sc facts place mail.sent (body.Query q) = subst (BodyFits sc facts place mail.sent) k.said_is f in
+          entry_trusts sc facts place T s q.txn (record entry { waiting = Some q }) [] h
+          (record { answers = old.answers; waiting = record { fits = λ sent. asked; timely = subst T k.said_is t }; ballot = old.ballot }) tt tt;
+      died = λ q query entry value other k dying.
+          let old = run_kept sc facts place T s mail q query entry value h k in
+          let answer = died_reply q entry.epoch other in
+          let timely : T (body.Done answer) = closed (body.Query q) (body.Done answer) (record { txn = q.txn; turn = q.turn }) (done_answers q answer refl refl) (subst T k.said_is t) in
+          entry_trusts sc facts place T s q.txn _ _ h
+          (record {
+            answers = each_more (λ (d : DoneReply). IsTrusted sc facts place T (body.Done d)) entry.answers answer old.answers (record { fits = λ sent. tt; timely = timely });
+            waiting = old.waiting;
+            ballot = old.ballot;
+          }) (tt, tt) (timely, tt);
       restarted = λ q k. answers_trusts sc facts place T s q (restarted_reply q s.epoch) h (restarted_trusted sc facts place T s q closed (subst T k.said_is t));
       answered = λ q entry given k.
           answers_trusts sc facts place T s q given h
@@ -373,4 +417,5 @@ server_row_trusts sc facts place T s mail valid sound m h f named closed t =
       settled = λ d k. ends_trusts sc facts place T s (settled_as d) (ack_letter s d.txn) h (record { says = tt; timely = tt });
       acknowledged = λ d settled k. record { fits = h.fits; keeps = h.keeps; forces = tt; says = (tt, tt); timely = (tt, tt) };
       pushed = λ push k. learns_trusts sc facts place T s push h (subst (BodyFits sc facts place mail.sent) k.said_is f);
+      resumed = λ effect grant q query entry value k now. resumes_trusts sc facts place T s effect grant q query entry value closed k now;
     })

@@ -32,7 +32,7 @@ use Rattle.tp_machine.proofs.trust.Offices.{newest_fits, newest_timely, none_rev
 use Rattle.tp_machine.proofs.trust.Server.{NamedMail, ServerTrusted, named_mail, server_row_trusts}
 use Rattle.tp_machine.proofs.trust.Turns.{AreFew, IsNoTell, IsTimely, Stamp, TurnFits, few_queries, stamp_of, timely_anywhere}
 use Rattle.tp_machine.proofs.trust.World.{BodyTimely, CoordinatorPartFits, MailTimely, MoveTrusts, ServerPartFits, StampFits, Timely, Trusts, coordinator_stays, facts_after, later_with_facts, state_after_trusts, up_at, up_of}
-use Rattle.tp_machine.proofs.walks.Steps.{Cases, IsCoordinatorUp, IsServerUp, SaysIdle, WasSent, machine_after_by}
+use Rattle.tp_machine.proofs.walks.Steps.{Cases, IsCoordinatorUp, IsServerUp, SaysIdle, WaitRightly, WasSent, machine_after_by}
 use Rattle.tp_machine.specs.Machine.{Machine, State, acts_by, coordinator_fact, coordinator_move, facts_of, idle_move, is_part_submitted, machine_after, opened_part, opening_state, refusal, server_fact, server_move, with_age}
 use Rattle.tp_machine.specs.Parts.{Part}
 use Rattle.tp_machine.specs.Sound.{Each, IsSound, IsSoundBody, IsSoundLetter, IsSoundMail, IsSoundServerUp, IsStepOf}
@@ -82,9 +82,9 @@ heard_anywhere sc coordinators sent said other h place =
     (λ stamped k. maybe_stays (TurnFits sc sent stamped.turn said) (TurnFits sc place stamped.turn said) (up_at coordinators stamped.txn.0)
     (λ c t. timely_anywhere sc c sent place stamped.turn said other t) k) h
 
-receipt_by_server : (sc : Scenario) (w : State) → IsValid sc → IsSound sc w → ArePast (length w.steps) w.facts → Pairs sc w → Trusts sc w → (n : ℕ) (mail : Mail) (at : ServerId) (part : Part Server) (s : Server)
+receipt_by_server : (sc : Scenario) (w : State) → IsValid sc → WaitRightly sc w → IsSound sc w → ArePast (length w.steps) w.facts → Pairs sc w → Trusts sc w → (n : ℕ) (mail : Mail) (at : ServerId) (part : Part Server) (s : Server)
     → WasSent w n mail (actor.Server at) → IsServerUp w at part s → MoveTrusts sc w (server_move w.actors at (acts_by (server_fact at) [] part.log (server_row sc s mail)))
-receipt_by_server sc w valid sound past pairs h n mail at part s sent up =
+receipt_by_server sc w valid rightly sound past pairs h n mail at part s sent up =
     let place = length w.steps in
     let T = Timely sc w.actors.coordinators in
     let effect = server_row sc s mail in
@@ -98,7 +98,7 @@ receipt_by_server sc w valid sound past pairs h n mail at part s sent up =
     let said : BodyPairs sc (pair_at w.actors) mail.letter.from (actor.Server at) mail.letter.body =
     subst (λ (to : Actor). BodyPairs sc (pair_at w.actors) mail.letter.from to mail.letter.body) sent.goes_to (each_get (λ (m : Mail). LetterPairs sc (pair_at w.actors) m.letter) w.mails n mail pairs.mails sent.sent) in
     server_acts_trusts sc w at part [] (Some effect.state) effect.reaction.append effect.reaction.letters past h up.found (record { still = tt; fit = λ facts. tt })
-    (server_row_trusts sc w.facts place T s mail valid here.sound (subst (λ (a : ServerId). IsSoundBody sc (actor.Server a) mail.letter.body) (sym here.server_is) m.says) trusted m.fits
+    (server_row_trusts sc w.facts place T s mail valid (rightly at part s up) here.sound (subst (λ (a : ServerId). IsSoundBody sc (actor.Server a) mail.letter.body) (sym here.server_is) m.says) trusted m.fits
     (subst (λ (a : ServerId). NamedMail sc a mail.letter.body) (sym here.server_is) (named_mail sc (pair_at w.actors) mail.letter.from at mail.letter.body said))
     (timely_closed sc w.actors.coordinators) (heard_anywhere sc w.actors.coordinators mail.sent mail.letter.body (no_tell sc at mail.letter.body m.says) m.timely))
 
@@ -181,11 +181,11 @@ begun_trusts sc w sound past h txn part c up new =
 
 -- ---- steps
 
-trusts_cases : (sc : Scenario) (w : State) → is_built sc ≡ true → IsValid sc → AreFew sc → IsSound sc w → Agrees sc w → Pairs sc w → Trusts sc w → Cases sc w (λ taken move. MoveTrusts sc w move)
-trusts_cases sc w built valid few sound a pairs h =
+trusts_cases : (sc : Scenario) (w : State) → is_built sc ≡ true → IsValid sc → AreFew sc → WaitRightly sc w → IsSound sc w → Agrees sc w → Pairs sc w → Trusts sc w → Cases sc w (λ taken move. MoveTrusts sc w move)
+trusts_cases sc w built valid few rightly sound a pairs h =
     record {
       idle = idle_trusts sc w a.past h;
-      server_received = λ n mail at part s sent up. receipt_by_server sc w valid sound a.past pairs h n mail at part s sent up;
+      server_received = λ n mail at part s sent up. receipt_by_server sc w valid rightly sound a.past pairs h n mail at part s sent up;
       coordinator_received = λ n mail txn part c sent up. receipt_by_coordinator sc w few (homes_built sc built) valid sound a pairs h n mail txn part c sent up;
       authority_told = λ n mail sent.
           let m = mail_trusted sc w n mail actor.Authority sound h sent in
@@ -203,11 +203,11 @@ trusts_cases sc w built valid few sound a pairs h =
     }
 
 -- a step that is not refused keeps what trust rests on
-pub trusts_next : (sc : Scenario) (m : Machine) (taken : Step) → is_built sc ≡ true → IsStepOf sc taken → refusal m.state taken ≡ None → IsSound sc m.state → Agrees sc m.state → Pairs sc m.state → Trusts sc m.state
+pub trusts_next : (sc : Scenario) (m : Machine) (taken : Step) → is_built sc ≡ true → IsStepOf sc taken → refusal m.state taken ≡ None → WaitRightly sc m.state → IsSound sc m.state → Agrees sc m.state → Pairs sc m.state → Trusts sc m.state
     → Trusts sc (machine_after sc m taken).state
-trusts_next sc m taken built exists allowed sound a pairs h =
+trusts_next sc m taken built exists allowed rightly sound a pairs h =
     machine_after_by sc m (λ taken move. MoveTrusts sc m.state move) (Trusts sc)
-    (trusts_cases sc m.state built (valid_built sc built) (few_queries sc (rules.valid_built sc built)) sound a pairs h) a.coordinator_count
+    (trusts_cases sc m.state built (valid_built sc built) (few_queries sc (rules.valid_built sc built)) rightly sound a pairs h) a.coordinator_count
     (λ taken move t. state_after_trusts sc m.state taken move a h t) h taken exists allowed
 
 -- ---- before the first step

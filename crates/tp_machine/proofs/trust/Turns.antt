@@ -213,5 +213,9 @@ low_round count number asked turn few most of_three low = omega (arith, few, mos
 pub further_move : (count number turn : ℕ) → 1 ≤ number → turn ≤ until_round count number 2 → turn + 1 ≤ until_round count (number + 1) 1
 further_move count number turn first low = omega (arith, first, low)
 
+-- or it ends at a query
+pub died_move : (count number turn : ℕ) → 1 ≤ number → number ≤ count → turn ≤ before_query number + 2 → turn ≤ until_round count 17 3
+died_move count number turn first last low = omega (arith, first, last, low)
+
 pub end_move : (count number asked turn : ℕ) → number ≤ 17 → asked ≤ 3 → turn ≤ until_round count number asked → turn ≤ until_round count 17 3
 end_move count number asked turn most of_three low = omega (arith, most, of_three, low)

@@ -151,6 +151,7 @@ cause_stays : (sc : Scenario) (old new : List Fact) (low high : ℕ) (txn : TxnI
 cause_stays sc old new low high txn (cause.Denied denied) l h =
     record { verdict = h.verdict; denied_is = h.denied_is; right = right_stays sc old new low high txn h.verdict l h.right; ruleless = h.ruleless }
 cause_stays sc old new low high txn (cause.No refused) l h = tt
+cause_stays sc old new low high txn (cause.Died died) l h = tt
 cause_stays sc old new low high txn _ l h = absurd h
 
 pub decision_stays : (sc : Scenario) (old new : List Fact) (low high : ℕ) (txn : TxnId) (decided : Decision) → Later old new low high → DecisionFits sc old low txn decided → DecisionFits sc new high txn decided

@@ -10,9 +10,9 @@ use Rattle.tp_model.specs.Words.body
 use Rattle.tp_model.specs.Words.cause
 use Rattle.tp_model.specs.Words.no
 use Rattle.tp_model.specs.Words.vote
-use Rattle.tp_model.specs.Words.{AckReply, Actor, Answer, Body, DoneReply, Mail, Met, No, Outcome, Query, Scenario, ServerId, Staple, TellReply, Verdict, Vote, VoteReply}
+use Rattle.tp_model.specs.Words.{AckReply, Actor, Answer, Body, DoneReply, Mail, Met, No, Outcome, Query, Scenario, ServerId, Staple, TellReply, TxnId, Verdict, Vote, VoteReply}
 use Rattle.tp_machine.proofs.basics.Lists.{by_cond}
-use Rattle.tp_coord.specs.Row.{aborts, ack_from, asks, asks_next, awaits_query, awaits_vote, begins, commit_round, commits, coordinator_row, denied_by, home_of, is_from, is_plain, next_number, on_ack, on_answer, on_body, on_done_from, on_done_of_query, on_judged, on_no, on_staple, on_vote, on_vote_of, prepares, query_of, refused_by, sends_query, server_of, staple_of, submit_row, vote_at, with_deed, without}
+use Rattle.tp_coord.specs.Row.{aborts, ack_from, asks, asks_next, awaits_query, awaits_vote, begins, commit_round, commits, coordinator_row, denied_by, died_for, home_of, is_from, is_plain, next_number, on_ack, on_answer, on_body, on_done_from, on_done_of_query, on_judged, on_no, on_staple, on_vote, on_vote_of, prepares, query_of, refused_by, sends_query, server_of, staple_of, submit_row, vote_at, with_deed, without}
 use Rattle.tp_coord.specs.State.{Coordinator}
 use Rattle.tp_coord.specs.declared.coordinator.Phase.TheVariants as phase
 use Rattle.tp_coord.specs.declared.coordinator.Phase.{Phase}
@@ -34,6 +34,16 @@ pub record IsRanAnswer (sc : Scenario) (c : Coordinator) (mail : Mail) (done : D
   pub asked_is : query_of sc c done.query ≡ Some asked
   pub server_is : server_of sc asked ≡ Some server
   pub answer_is : done.answer ≡ answer.Ran value None
+
+-- the awaited answer to a query in whose way an older transaction stood
+pub record IsDiedAnswer (sc : Scenario) (c : Coordinator) (mail : Mail) (done : DoneReply) (server : ServerId) (asked : Query) (other : TxnId) : Type 0 where
+  pub said_is : mail.letter.body ≡ body.Done done
+  pub from_is : is_from mail.letter.from server ≡ true
+  pub awaited : awaits_query c c.phase done ≡ true
+  pub plain : is_plain c.phase ≡ true
+  pub asked_is : query_of sc c done.query ≡ Some asked
+  pub server_is : server_of sc asked ≡ Some server
+  pub answer_is : done.answer ≡ answer.Died other
 
 -- the awaited answer of the authority, before a round
 pub record IsStaple (c : Coordinator) (mail : Mail) (tell : TellReply) (round : Round) : Type 0 where
@@ -72,6 +82,7 @@ pub record CoordinatorCases (sc : Scenario) (c : Coordinator) (mail : Mail) (P :
       → P (sends_query sc (with_deed c server done asked value) (next_number done.query) next)
   pub ran_last : (done : DoneReply) (server : ServerId) (asked : Query) (value : ℤ) → IsRanAnswer sc c mail done server asked value → home_of sc c (next_number done.query) ≡ None
       → P (asks (with_deed c server done asked value) (commit_round (with_deed c server done asked value)))
+  pub died : (done : DoneReply) (server : ServerId) (asked : Query) (other : TxnId) → IsDiedAnswer sc c mail done server asked other → P (aborts c (cause.Died (died_for server done other mail.sent)))
   pub told : (tell : TellReply) (round : Round) → IsStaple c mail tell round → P (prepares c round (staple_of tell mail.sent))
   pub counted : (reply : VoteReply) (round : Round) (staple : Staple) (server : ServerId) (verdicts : List Verdict) → IsYes c mail reply round staple server verdicts
       → judge (after_reply round server verdicts) None ≡ judged.Waiting → P (sends (record c { phase = phase.Checking (after_reply round server verdicts) staple }) [])
@@ -94,23 +105,26 @@ next_by sc c mail P cases done server asked value None k e = cases.ran_last done
 next_by sc c mail P cases done server asked value (Some next) k e = cases.ran_next done server asked value next k e
 
 on_answer_by : (sc : Scenario) (c : Coordinator) (mail : Mail) (P : Effect Coordinator → Type 0) → CoordinatorCases sc c mail P → (done : DoneReply) (server : ServerId) (asked : Query) (given : Answer)
-    → ((value : ℤ) → given ≡ answer.Ran value None → IsRanAnswer sc c mail done server asked value) → P (on_answer sc c server done asked given)
-on_answer_by sc c mail P cases done server asked (answer.Ran value None) ran =
+    → ((value : ℤ) → given ≡ answer.Ran value None → IsRanAnswer sc c mail done server asked value) → ((other : TxnId) → given ≡ answer.Died other → IsDiedAnswer sc c mail done server asked other)
+    → P (on_answer sc c mail.sent server done asked given)
+on_answer_by sc c mail P cases done server asked (answer.Ran value None) ran died =
     next_by sc c mail P cases done server asked value (home_of sc c (next_number done.query)) (ran value refl) refl
-on_answer_by sc c mail P cases done server asked _ ran = cases.ignored
+on_answer_by sc c mail P cases done server asked (answer.Died other) ran died = cases.died done server asked other (died other refl)
+on_answer_by sc c mail P cases done server asked _ ran died = cases.ignored
 
 on_done_from_by : (sc : Scenario) (c : Coordinator) (mail : Mail) (P : Effect Coordinator → Type 0) → CoordinatorCases sc c mail P → (done : DoneReply) (asked : Query) (server : Option ServerId)
     → mail.letter.body ≡ body.Done done → awaits_query c c.phase done ≡ true → is_plain c.phase ≡ true → query_of sc c done.query ≡ Some asked → server_of sc asked ≡ server
-    → P (on_done_from sc c mail.letter.from done asked server)
+    → P (on_done_from sc c mail.sent mail.letter.from done asked server)
 on_done_from_by sc c mail P cases done asked None e awaited plain asked_is server_is = cases.ignored
 on_done_from_by sc c mail P cases done asked (Some server) e awaited plain asked_is server_is =
     by_cond P (is_from mail.letter.from server)
     (λ from. on_answer_by sc c mail P cases done server asked done.answer
-    (λ value given. record { said_is = e; from_is = from; awaited = awaited; plain = plain; asked_is = asked_is; server_is = server_is; answer_is = given }))
+    (λ value given. record { said_is = e; from_is = from; awaited = awaited; plain = plain; asked_is = asked_is; server_is = server_is; answer_is = given })
+    (λ other given. record { said_is = e; from_is = from; awaited = awaited; plain = plain; asked_is = asked_is; server_is = server_is; answer_is = given }))
     (λ other. cases.ignored)
 
 asked_by : (sc : Scenario) (c : Coordinator) (mail : Mail) (P : Effect Coordinator → Type 0) → CoordinatorCases sc c mail P → (done : DoneReply) (asked : Option Query)
-    → mail.letter.body ≡ body.Done done → awaits_query c c.phase done ≡ true → is_plain c.phase ≡ true → query_of sc c done.query ≡ asked → P (on_done_of_query sc c mail.letter.from done asked)
+    → mail.letter.body ≡ body.Done done → awaits_query c c.phase done ≡ true → is_plain c.phase ≡ true → query_of sc c done.query ≡ asked → P (on_done_of_query sc c mail.sent mail.letter.from done asked)
 asked_by sc c mail P cases done None e awaited plain asked_is = cases.ignored
 asked_by sc c mail P cases done (Some asked) e awaited plain asked_is = on_done_from_by sc c mail P cases done asked (server_of sc asked) e awaited plain asked_is refl
 

@@ -9,6 +9,7 @@ use Rattle.tp_model.specs.SerialRun.{is_serial}
 use Rattle.tp_model.specs.Trust.{is_trusted}
 use Rattle.tp_model.specs.Words.{Fact, Scenario, Step}
 use Rattle.tp_machine.proofs.ages.World.{Ages, ages_next, ages_opening}
+use Rattle.tp_machine.proofs.deaths.World.{Deaths, deaths_next, deaths_opening}
 use Rattle.tp_machine.proofs.bounds.World.{Bounds, all_bounded, bounds_next, bounds_opening}
 use Rattle.tp_machine.proofs.agreement.End.{facts_agreed}
 use Rattle.tp_machine.proofs.agreement.Steps.{agrees_next, agrees_opening}
@@ -16,8 +17,9 @@ use Rattle.tp_machine.proofs.agreement.World.{Agrees}
 use Rattle.tp_machine.proofs.epochs.World.{Epochs, epochs_next, epochs_opening}
 use Rattle.tp_machine.proofs.ids.Queries.{homes_built}
 use Rattle.tp_machine.proofs.ids.Steps.{sound_next, sound_opening}
-use Rattle.tp_machine.proofs.mails.World.{FewMails, HasFewMails, few_next, few_opening, steps_counted}
+use Rattle.tp_machine.proofs.mails.World.{FewMails, HasFewMails, few_mails, few_next, few_opening, steps_counted}
 use Rattle.tp_machine.proofs.outside.Steps.{outside_next, outside_opening}
+use Rattle.tp_machine.proofs.pairs.Waiting.{wait_rightly}
 use Rattle.tp_machine.proofs.pairs.World.{Pairs, pairs_next, pairs_opening}
 use Rattle.tp_machine.proofs.refusals.Steps.{refusals_next, refusals_opening}
 use Rattle.tp_machine.proofs.refusals.World.{Refusals}
@@ -41,6 +43,7 @@ pub record Holds (sc : Scenario) (w : State) : Type 0 where
   pub agrees : Agrees sc w
   pub epochs : Epochs sc w
   pub ages : Ages w
+  pub deaths : Deaths sc w
   pub lone : AreLone w.facts
   pub outside : IsOutside sc w.steps w.facts
   pub trusts : Trusts sc w
@@ -52,24 +55,26 @@ pub record Holds (sc : Scenario) (w : State) : Type 0 where
 
 pub holds_opening : (sc : Scenario) → is_built sc ≡ true → Holds sc (opening_state sc)
 holds_opening sc built =
-    record { sound = sound_opening sc built; agrees = agrees_opening sc; epochs = epochs_opening sc; ages = ages_opening sc; lone = lone_opening; outside = outside_opening sc; trusts = trusts_opening sc built; pairs = pairs_opening sc; serial = serial_opening sc built; refusals = refusals_opening sc; bounds = bounds_opening sc built; few = few_opening sc }
+    record { sound = sound_opening sc built; agrees = agrees_opening sc; epochs = epochs_opening sc; ages = ages_opening sc; deaths = deaths_opening sc; lone = lone_opening; outside = outside_opening sc; trusts = trusts_opening sc built; pairs = pairs_opening sc; serial = serial_opening sc built; refusals = refusals_opening sc; bounds = bounds_opening sc built; few = few_opening sc }
 
 -- each invariant may lean on all the others before the step
 pub holds_next : (sc : Scenario) (m : Machine) (taken : Step) → is_built sc ≡ true → IsStepOf sc taken → refusal m.state taken ≡ None → Holds sc m.state → Holds sc (machine_after sc m taken).state
 holds_next sc m taken built exists allowed h =
+    let rightly = wait_rightly sc m.state h.sound h.pairs in
     record {
-      sound = sound_next sc m taken built exists allowed h.agrees.coordinator_count h.sound;
-      agrees = agrees_next sc m taken built exists allowed h.sound h.agrees;
-      epochs = epochs_next sc m taken (homes_built sc built) exists allowed h.sound h.agrees h.epochs;
-      ages = ages_next sc m taken exists allowed h.sound h.agrees h.ages;
+      sound = sound_next sc m taken built exists allowed h.agrees.coordinator_count rightly h.sound;
+      agrees = agrees_next sc m taken built exists allowed rightly h.sound h.agrees;
+      epochs = epochs_next sc m taken (homes_built sc built) exists allowed rightly h.sound h.agrees h.epochs;
+      ages = ages_next sc m taken exists allowed rightly h.sound h.agrees h.ages;
+      deaths = deaths_next sc m taken exists allowed rightly h.sound h.agrees h.ages h.pairs h.deaths;
       lone = lone_next sc m taken exists allowed h.agrees.coordinator_count h.agrees.past h.lone;
       outside = outside_next sc m taken exists allowed h.agrees.coordinator_count h.agrees.past h.trusts.master h.outside;
-      trusts = trusts_next sc m taken built exists allowed h.sound h.agrees h.pairs h.trusts;
-      pairs = pairs_next sc m taken built exists allowed h.sound h.agrees h.epochs h.trusts h.pairs;
-      serial = serial_next sc m taken built exists allowed h.sound h.agrees h.pairs h.serial;
-      refusals = refusals_next sc m taken built exists allowed h.sound h.agrees h.pairs h.serial h.refusals;
-      bounds = bounds_next sc m taken built exists allowed h.sound h.agrees h.pairs h.serial h.bounds;
-      few = few_next sc m taken built exists allowed h.agrees h.few;
+      trusts = trusts_next sc m taken built exists allowed rightly h.sound h.agrees h.pairs h.trusts;
+      pairs = pairs_next sc m taken built exists allowed rightly h.sound h.agrees h.epochs h.trusts h.pairs;
+      serial = serial_next sc m taken built exists allowed rightly h.sound h.agrees h.pairs h.serial;
+      refusals = refusals_next sc m taken built exists allowed rightly h.sound h.agrees h.pairs h.serial h.refusals;
+      bounds = bounds_next sc m taken built exists allowed rightly h.sound h.agrees h.pairs h.serial h.bounds;
+      few = few_next sc m taken built exists allowed rightly h.agrees h.few;
     }
 
 step_holds : (sc : Scenario) (m : Machine) (taken : Step) (why : Option StepError) → refusal m.state taken ≡ why → is_built sc ≡ true → IsStepOf sc taken → Holds sc m.state
@@ -94,7 +99,7 @@ shows sc w built h =
       outside = h.outside;
       agreed = facts_agreed sc w h.agrees;
       trusted = facts_trusted sc w built h.sound h.trusts;
-      caused = facts_caused sc w built h.sound h.refusals h.trusts;
+      caused = facts_caused sc w built h.sound h.refusals h.deaths h.trusts;
       serial = serial_facts sc w h.serial;
       lone = facts_lone w.facts h.lone;
       values_are = serial_values sc w built h.sound h.agrees h.serial;
@@ -113,7 +118,7 @@ has_all_commits sc steps built exist ended =
 
 -- and few mails were sent
 pub sends_few : (sc : Scenario) (steps : List Step) → is_built sc ≡ true → Each (IsStepOf sc) steps → length (after sc steps).state.mails ≤ 16 * length steps
-sends_few sc steps built exist = omega (arith, (holds_after sc steps built exist).few.mails, steps_counted sc (opening sc) steps)
+sends_few sc steps built exist = omega (arith, few_mails (after sc steps).state (holds_after sc steps built exist).few, steps_counted sc (opening sc) steps)
 
 -- ---- the same of a world that the steps give
 
@@ -132,7 +137,7 @@ pub whole_after : (sc : Scenario) (steps : List Step) (w : State) → is_built s
 whole_after sc steps w built exist e = subst (HasAllCommits sc) (sym e) (has_all_commits sc steps built exist)
 
 pub few_after : (sc : Scenario) (steps : List Step) (w : State) → is_built sc ≡ true → Each (IsStepOf sc) steps → w ≡ (after sc steps).state → HasFewMails w
-few_after sc steps w built exist e = subst HasFewMails (sym e) (holds_after sc steps built exist).few.mails
+few_after sc steps w built exist e = subst HasFewMails (sym e) (few_mails (after sc steps).state (holds_after sc steps built exist).few)
 
 -- of facts, which stand when a world is given up
 

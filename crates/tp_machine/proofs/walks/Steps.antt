@@ -13,6 +13,7 @@ use Rattle.tp_machine.specs.Parts.{Part}
 use Rattle.tp_machine.specs.server.State.{Server}
 use Rattle.tp_machine.specs.Machine.{Machine, Move, State, acts_by, coordinator_fact, coordinator_move, coordinator_submits_up, coordinator_takes_up, delivery, idle_move, is_part_submitted, is_submitted, machine_after, publishes, pushes, receipt, refusal, revokes, server_fact, server_move, server_takes_up, state_after, submission, submission_by, ticks, to_authority, to_coordinator, to_master, to_server, with_age}
 use Rattle.tp_machine.specs.Sound.{IsAdmin, IsCred, IsServer, IsStepOf, IsTxn}
+use Rattle.tp_machine.proofs.walks.ServerRows.{AreRightWaits}
 use Rattle.tp_coord.specs.Row.{coordinator_row, submit_row}
 use Rattle.tp_machine.specs.server.Row.{server_row}
 use Rattle.tp_offices.specs.Master as master
@@ -34,6 +35,10 @@ pub record WasSent (w : State) (n : ℕ) (mail : Mail) (to : Actor) : Type 0 whe
 pub record IsServerUp (w : State) (at : ServerId) (part : Part Server) (s : Server) : Type 0 where
   pub found : slice_get w.actors.servers at.0 ≡ Some part
   pub up : part.up ≡ Some s
+
+-- at each server that is up all queries that wait do so rightly
+abbrev pub WaitRightly : Scenario → State → Type 0
+WaitRightly sc w = (at : ServerId) (part : Part Server) (s : Server) → IsServerUp w at part s → AreRightWaits sc s
 
 -- a coordinator stands at its place, and is up
 pub record IsCoordinatorUp (w : State) (txn : TxnId) (part : Part Coordinator) (c : Coordinator) : Type 0 where

@@ -1,6 +1,7 @@
 -- The entry that a query finds, or the one that is made for it.
-use Rattle.std.specs.Prelude.{◌≡◌, ℕ, Option, Some, None, slice_set}
-use Rattle.tp_model.specs.Words.{Deed, QueryRequest}
+use Rattle.std.specs.Prelude.{◌≡◌, ◌++◌, ℕ, List, Option, Some, None, slice_set}
+use Rattle.tp_types.specs.Effect.{Effect}
+use Rattle.tp_model.specs.Words.{Deed, Letter, QueryRequest}
 use Rattle.tp_machine.specs.declared.server.Entry.{Entry}
 use Rattle.tp_machine.specs.server.Row.{age_of, entry_after, entry_at, new_entry}
 use Rattle.tp_machine.specs.server.State.{Server}
@@ -18,3 +19,8 @@ pub record IsNoted (old : Server) (sent : ℕ) (q : QueryRequest) (deed : Deed) 
   pub epoch_is : epoch ≡ (entry_of old sent q).epoch
   pub now_is : now
       ≡ record old { entries = slice_set old.entries q.txn.0 (Some (entry_after q (entry_of old sent q) deed)) }
+
+-- what a server did after what it did before: its state, and its letters behind the earlier ones
+pub record Continues (effect : Effect Server) (state : Server) (earlier letters : List Letter) : Type 0 where
+  pub state_is : state ≡ effect.state
+  pub letters_are : letters ≡ earlier ++ effect.reaction.letters

@@ -1,6 +1,7 @@
 -- A server as it stands before the first step.
 use Rattle.std.specs.Prelude.{length, replicate, None}
 use Rattle.tp_model.specs.Words.{Scenario, ServerId}
+use Rattle.tp_lock.specs.Rule as lock
 use Rattle.tp_store.specs.Rule as store
 use Rattle.tp_machine.specs.server.State.{Server}
 
@@ -12,4 +13,5 @@ opening sc server =
       store = store.opening sc server;
       settled = replicate (length sc.txns) None;
       entries = replicate (length sc.txns) None;
+      locks = lock.opening (length sc.items);
     }

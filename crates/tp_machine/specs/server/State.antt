@@ -1,6 +1,7 @@
 -- What a server is while it is up.
 use Rattle.std.specs.Prelude.{ℕ, List, Option}
 use Rattle.tp_model.specs.Words.{ServerId, Settled}
+use Rattle.tp_lock.specs.Table.{Table}
 use Rattle.tp_store.specs.Contents.{Contents}
 use Rattle.tp_machine.specs.declared.server.Entry.{Entry}
 
@@ -14,3 +15,5 @@ pub record Server : Type 0 where
   pub settled : List (Option Settled)
   -- the entry of each transaction of the scenario, if it has one
   pub entries : List (Option Entry)
+  -- the locks on the scenario's items
+  pub locks : Table

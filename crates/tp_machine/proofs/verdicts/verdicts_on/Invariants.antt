@@ -4,4 +4,4 @@ use Rattle.tp_machine.proofs.verdicts.verdicts_on.Given as goal
 
 -- the deeds so far have their verdicts
 abbrev pub invariant-loop-deed : goal.invariant-loop-deed
-invariant-loop-deed l = l.made ≡ map (verdict_on l.scenario l.server l.txn l.staple l.want) (take l.deed-index l.deeds)
+invariant-loop-deed g l = l.made ≡ map (verdict_on l.scenario l.server l.txn l.staple l.want) (take l.deed-index l.deeds)
