@@ -147,9 +147,7 @@ fn add_facts(facts: &mut List<Fact>, place: Place, happened: List<What>) -> Resu
     ensures ok { OnOk result (facts.new ≡ facts.old ++ facts_of place happened) }
     ensures kept { take (length facts.old) facts.new ≡ facts.old }
 {
-    let mut left = happened.into_vec();
-    while !left.is_empty() {
-        let what = left.remove(0);
+    for what in happened.into_vec() {
         facts.push(Fact { place, what })?;
     }
     Ok(())
@@ -167,9 +165,7 @@ fn post(
     ensures mails_kept { take (length mails.old) mails.new ≡ mails.old }
     ensures pending_kept { take (length pending.old) pending.new ≡ pending.old }
 {
-    let mut left = letters.into_vec();
-    while !left.is_empty() {
-        let letter = left.remove(0);
+    for letter in letters.into_vec() {
         let number = mails.len() as u64;
         mails.push(Mail {
             number,
