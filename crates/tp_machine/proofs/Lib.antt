@@ -5,6 +5,7 @@ pub mod bounds
 pub mod deaths
 pub mod epochs
 pub mod ids
+pub mod locked
 pub mod mails
 pub mod outside
 pub mod pairs

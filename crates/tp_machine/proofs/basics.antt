@@ -5,6 +5,8 @@ pub mod Flags
 pub mod Homes
 pub mod Ids
 pub mod Lists
+pub mod Held
+pub mod LockCounts
 pub mod Locks
 pub mod Logs
 pub mod Machine

@@ -2,7 +2,7 @@
 -- lists of deeds alone: that their sums are exact, how deeds follow the queries, what they read, how a store stands to the values of servers,
 -- when a commit is serial.
 -- Unsettled, Settling and Deciding say how the acts of servers and coordinators change them.
-pub mod Alone
+pub mod Clear
 pub mod Built
 pub mod Clamped
 pub mod Commits

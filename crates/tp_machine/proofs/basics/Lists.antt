@@ -1,6 +1,6 @@
 -- Laws of what holds of each member of a list or table, as the list grows or changes.
-use Rattle.std.specs.List.{list_all, range_with_len}
-use Rattle.std.proofs.Common.{Bool, List, None, Option, Some, [], arith, drop, false, filter, find, flat_map, if◌then◌else◌, length, map, refl, replicate, slice_get, slice_set, subst, suc, true, zero, ℕ, ◌++◌, ◌+◌, ◌<◌, ◌∷◌, ◌≡◌}
+use Rattle.std.specs.List.{Contains, list_all, range_with_len}
+use Rattle.std.proofs.Common.{Bool, List, None, Option, Some, [], ap, arith, drop, false, filter, find, flat_map, if◌then◌else◌, length, map, refl, replicate, slice_get, slice_index_or, slice_set, subst, suc, sym, true, zero, ℕ, ◌++◌, ◌+◌, ◌<◌, ◌∙◌, ◌∷◌, ◌≡◌}
 use Rattle.tp_types.specs.Table.{flattened}
 use Rattle.tp_machine.specs.Sound.{Each, EachAt, EachPlaced}
 
@@ -21,6 +21,25 @@ each_map P Q f step (x ∷ xs) h = (step x h.0, each_map P Q f step xs h.1)
 pub each_as : {A : Type 0} (P : A → Type 0) (Q : A → Type 0) → ((x : A) → P x → Q x) → (xs : List A) → Each P xs → Each Q xs
 each_as P Q step [] h = tt
 each_as P Q step (x ∷ xs) h = (step x h.0, each_as P Q step xs h.1)
+
+pub each_both : {A : Type 0} (P : A → Type 0) (Q : A → Type 0) (R : A → Type 0) → ((x : A) → P x → Q x → R x) → (xs : List A) → Each P xs → Each Q xs → Each R xs
+each_both P Q R step [] h k = tt
+each_both P Q R step (x ∷ xs) h k = (step x h.0 k.0, each_both P Q R step xs h.1 k.1)
+
+pub each_dropped : {A : Type 0} (P : A → Type 0) (xs : List A) → Each P xs → Each P (drop 1 xs)
+each_dropped P [] h = tt
+each_dropped P (x ∷ xs) h = h.1
+
+first_passes : {A : Type 0} (test : A → Bool) (P : A → Type 0) (y x : A) (passing : List A) → test y ≡ true → P y → (Contains passing x → (test x ≡ true) × P x) → (k : ℕ) → k < length (y ∷ passing) → slice_index_or (y ∷ passing) k x ≡ x → (test x ≡ true) × P x
+first_passes test P y x passing passes holds later zero within is = (ap test (sym is) ∙ passes, subst P is holds)
+first_passes test P y x passing passes holds later (suc k) within is = later (k, omega (arith, within), is)
+
+-- what stands among those that pass, passes, and P holds of it
+pub filtered : {A : Type 0} (test : A → Bool) (P : A → Type 0) (xs : List A) (x : A) → Contains (filter test xs) x → Each P xs → (test x ≡ true) × P x
+filtered test P [] x there h = absurd (let within = there.1 in omega (arith, within))
+filtered {A} test P (y ∷ xs) x there h =
+    by_cond (λ (passing : List A). Contains passing x → (test x ≡ true) × P x) (test y)
+    (λ passes first. first_passes test P y x (filter test xs) passes h.0 (λ later. filtered test P xs x later h.1) first.0 first.1 first.2) (λ fails later. filtered test P xs x later h.1) there
 
 pub each_append : {A : Type 0} (P : A → Type 0) (xs ys : List A) → Each P xs → Each P ys → Each P (xs ++ ys)
 each_append P [] ys h k = k

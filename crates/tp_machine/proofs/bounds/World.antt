@@ -166,7 +166,7 @@ receipt_by_server sc w built rightly sound agrees pairs serial h n mail at part 
     let effect = server_row sc s mail in
     let old : IsBoundedServer sc s = of_some (IsBoundedServer sc) part.up s up.up (h.servers at.0 part up.found).state in
     let was : ServerUpSerial sc (overlaid sc w.facts) at s = of_some (ServerUpSerial sc (overlaid sc w.facts) at) part.up s up.up (serial.servers at.0 part up.found).state in
-    let clear : RequestClear sc M s mail.letter.body = received_clear sc w built sound agrees pairs serial n mail at part s sent up was.reads.entry_places in
+    let clear : RequestClear sc M s mail.letter.body = received_clear sc w built sound agrees pairs serial n mail at part s sent up in
     let keeps = server_row_keeps sc M s mail (rightly at part s up) was.reads clear in
     let before : ServerBefore s = record { values = old.values; kept = record { writes = old.writes; settled = old.settled; entries = old.entries } } in
     let row = server_row_bounds sc M s mail (rightly at part s up) before (each_get IsBoundedMail w.mails n mail h.mails sent.sent) was.reads clear

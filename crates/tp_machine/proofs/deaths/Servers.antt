@@ -9,6 +9,7 @@ use Rattle.tp_types.specs.Table.{flattened}
 use Rattle.tp_lock.specs.Rule.{is_of_other, without_grant}
 use Rattle.tp_lock.specs.Table.{Table}
 use Rattle.tp_lock.specs.declared.entry.Asked.TheVariants as asked
+use Rattle.tp_lock.specs.declared.entry.Asked.{Asked}
 use Rattle.tp_lock.specs.declared.entry.Grant.{Grant}
 use Rattle.tp_lock.specs.declared.entry.LockEntry.{LockEntry}
 use Rattle.tp_model.specs.Authorisation.{action_of}
@@ -18,7 +19,7 @@ use Rattle.tp_model.specs.Words.body
 use Rattle.tp_model.specs.Words.{DoneReply, Fact, Letter, Mail, Query, QueryRequest, Scenario, ServerId, Settled, TxnId}
 use Rattle.tp_machine.proofs.basics.Facts.{ArePast}
 use Rattle.tp_machine.proofs.basics.Lists.{each_as, each_found, each_more, placed_emptied, placed_set, set_here}
-use Rattle.tp_machine.proofs.basics.Locks.{EachLock, released_locks, requested_locks}
+use Rattle.tp_machine.proofs.basics.Locks.{EachLock, all_added, released_locks, requested_locks}
 use Rattle.tp_machine.proofs.deaths.Fit.{Death, DoneDies, LetterDies, LockFits, done_sent}
 use Rattle.tp_machine.proofs.basics.Tables.{placed_within}
 use Rattle.tp_machine.proofs.serial_data.Lists.{set_elsewhere}
@@ -92,18 +93,19 @@ answers_kept sc facts at s mail q query entry value k h =
     ⊎_elim (λ (first : IsFirstHere s mail.sent q entry). subst (AnswersDie sc facts at) (sym first.entry_is) tt) (λ (further : IsFurther s q entry). h q.txn.0 entry further.found) k.place
 
 -- the locks once it asked, with its entry as it is then
-asked_locks : (sc : Scenario) (s : Server) (mail : Mail) (q : QueryRequest) (query : Query) (entry new : Entry) (value : ℤ) → IsAsking sc s mail q query entry value → q.txn.0 < length s.entries → new.age ≡ entry.age
+asked_locks : (sc : Scenario) (s : Server) (mail : Mail) (q : QueryRequest) (query : Query) (entry new : Entry) (value : ℤ) (given : Asked) → lock_answer s q query entry ≡ given → IsAsking sc s mail q query entry value → q.txn.0 < length s.entries → new.age ≡ entry.age
     → EachLock (LockFits sc s.entries) s.locks → EachLock (LockFits sc (slice_set s.entries q.txn.0 (Some new))) (after_asking s q query entry).locks
-asked_locks sc s mail q query entry new value k within same h =
+asked_locks sc s mail q query entry new value given e k within same h =
     let entries = slice_set s.entries q.txn.0 (Some new) in
-    requested_locks (LockFits sc entries) q.txn entry.age (item_of query) (action_of query) s.locks
+    requested_locks (LockFits sc entries) q.txn entry.age (item_of query) (action_of query) s.locks given e
     (locks_as (LockFits sc s.entries) (LockFits sc entries) s.locks (moved sc s.entries q.txn.0 new within (λ old found. same ∙ age_kept sc s mail q query entry value k old found)) h)
+    (all_added (LockFits sc entries (item_of query).0) q.txn entry.age (action_of query)
     (λ held. record {
       entry = new;
       found = ap flattened (set_here s.entries q.txn.0 (Some new) within);
       age_is = same;
       asked = record { number = q.query; query = query; asked_is = k.asked_is; item_is = refl; mode_is = refl };
-    })
+    }) given)
 
 -- ---- rows
 
@@ -161,7 +163,7 @@ server_row_dies sc facts place s mail past rightly known h =
           let within = within_for q k.said_is in
           record {
             state = record {
-              locks = asked_locks sc s mail q query entry new value k within refl h.locks;
+              locks = asked_locks sc s mail q query entry new value asked.Granted granted k within refl h.locks;
               kept = placed_set (λ (n : ℕ) (found : Entry). AnswersDie sc facts s.server found) s.entries q.txn.0 new h.kept
                   (each_more (DoneDies sc facts s.server) entry.answers _ (answers_kept sc facts s.server s mail q query entry value k h.kept) tt);
             };
@@ -172,7 +174,7 @@ server_row_dies sc facts place s mail past rightly known h =
           let new : Entry = record entry { waiting = Some q } in
           record {
             state = record {
-              locks = asked_locks sc s mail q query entry new value k (within_for q k.said_is) refl h.locks;
+              locks = asked_locks sc s mail q query entry new value asked.Waits waiting k (within_for q k.said_is) refl h.locks;
               kept = placed_set (λ (n : ℕ) (found : Entry). AnswersDie sc facts s.server found) s.entries q.txn.0 new h.kept (answers_kept sc facts s.server s mail q query entry value k h.kept);
             };
             places = length-set s.entries q.txn.0 (Some new);
@@ -184,7 +186,7 @@ server_row_dies sc facts place s mail past rightly known h =
           let death : DoneDies sc facts s.server answer = known.dying q query entry value other k dying in
           record {
             state = record {
-              locks = asked_locks sc s mail q query entry new value k (within_for q k.said_is) refl h.locks;
+              locks = asked_locks sc s mail q query entry new value (asked.Dies other) dying k (within_for q k.said_is) refl h.locks;
               kept = placed_set (λ (n : ℕ) (found : Entry). AnswersDie sc facts s.server found) s.entries q.txn.0 new h.kept
                   (each_more (DoneDies sc facts s.server) entry.answers answer (answers_kept sc facts s.server s mail q query entry value k h.kept) death);
             };

@@ -7,6 +7,8 @@ use Rattle.tp_types.specs.Effect.{Effect, ignores, sends}
 use Rattle.tp_types.specs.Table.{flattened}
 use Rattle.tp_lock.specs.Rule.{without_grant}
 use Rattle.tp_lock.specs.Table.{Table}
+use Rattle.tp_lock.specs.declared.entry.Asked.TheVariants as asked
+use Rattle.tp_lock.specs.declared.entry.Asked.{Asked}
 use Rattle.tp_lock.specs.declared.entry.Grant.{Grant}
 use Rattle.tp_lock.specs.declared.entry.LockEntry.{LockEntry}
 use Rattle.tp_model.specs.Authorisation.{action_of, policy_at}
@@ -19,7 +21,7 @@ use Rattle.tp_model.specs.Words.body
 use Rattle.tp_model.specs.Words.no
 use Rattle.tp_model.specs.Words.{Admin, AdminId, Answer, Body, CredId, DecideRequest, Deed, DoneReply, Item, ItemId, Letter, Mail, No, PrepareRequest, PushNotice, Query, QueryRequest, Scenario, ServerId, Settled, Staple, Transaction, TxnId, Version}
 use Rattle.tp_machine.proofs.basics.Lists.{each_append, each_found, each_get, each_map, each_more, placed_emptied, placed_set}
-use Rattle.tp_machine.proofs.basics.Locks.{released_locks, requested_locks, stands_in_the_way}
+use Rattle.tp_machine.proofs.basics.Locks.{all_added, released_locks, requested_locks, stands_in_the_way}
 use Rattle.tp_machine.proofs.basics.Stores.{ended_each, ended_known, kept_each, kept_known, learnt_each}
 use Rattle.tp_machine.proofs.basics.Versions.{used_by}
 use Rattle.tp_machine.proofs.ids.Valid.{IsValid, IsValidItem}
@@ -29,7 +31,7 @@ use Rattle.tp_model.specs.Deeds.{deed_of}
 use Rattle.tp_machine.specs.Sound.{AreCreds, AreSoundVerdicts, AreVersions, AreVersionsOf, AreWanted, Each, HaveOwners, IsAdmin, IsCred, IsItemOf, IsQueryOf, IsReasonOf, IsSettledOf, IsSoundBody, IsSoundDeedAt, IsSoundDone, IsSoundEntry, IsSoundAnswer, IsSoundLetter, IsSoundNo, IsSoundQuery, IsSoundRefusal, IsSoundServer, IsSoundServerRecord, IsSoundSettled, IsSoundVerdict, IsSoundWait, IsTxn, IsVersion, IsVersionOf, IsWriteOf}
 use Rattle.tp_machine.specs.declared.server.Ballot.{Ballot}
 use Rattle.tp_machine.specs.declared.server.Entry.{Entry}
-use Rattle.tp_machine.specs.server.Row.{ack_letter, after_asking, answers, asked_query, closes, completes, died_reply, dies, done_reply, entry_after, followed_by, learns, no_letter, refused_as, reply, restarted_reply, server_row, settled_as, votes_on, waits, yes_letter}
+use Rattle.tp_machine.specs.server.Row.{ack_letter, after_asking, answers, asked_query, closes, completes, died_reply, dies, done_reply, entry_after, followed_by, learns, lock_answer, no_letter, refused_as, reply, restarted_reply, server_row, settled_as, votes_on, waits, yes_letter}
 use Rattle.tp_machine.specs.server.State.{Server}
 use Rattle.tp_machine.specs.server.Verdicts.{admin_of, learnt, verdict_on, verdicts_on, version_known, version_used, with_versions}
 use Rattle.tp_store.proofs.OutsideLemmas.{first_is_least}
@@ -81,9 +83,9 @@ plain_done sc s q answer epoch m plain sound =
 
 runs_sound : (sc : Scenario) (s : Server) (q : QueryRequest) (query : Query) (entry : Entry) (value : ℤ) → IsSoundServer sc s → IsSoundQuery sc (actor.Server s.server) q
     → (is_none q.staple && is_none q.pin) ≡ true → asked_query sc q ≡ Some query → IsSoundEntry sc s.server q.txn entry → IsSoundServerEffect sc s (completes s q query entry (deed_of q.query query value))
-runs_sound sc s q query entry value h m plain asked old =
+runs_sound sc s q query entry value h m plain query_is old =
     let deed = deed_of q.query query value in
-    let same : query ≡ m.asked = same_Some query m.asked (sym asked ∙ m.asked_is) in
+    let same : query ≡ m.asked = same_Some query m.asked (sym query_is ∙ m.asked_is) in
     let at_is : m.at ≡ s.server = cc in
     let item_is : item_of m.asked ≡ item_of query = ap item_of (sym same) in
     let kept : IsItemOf sc s.server deed.item = subst (IsItemOf sc s.server) item_is (subst (λ (at : ServerId). IsItemOf sc at (item_of m.asked)) at_is m.kept) in
@@ -164,8 +166,9 @@ relocked_sound sc s effect locks owners h =
 abbrev OwnerExists : Scenario → ℕ → LockEntry → Type 0
 OwnerExists sc item lock = IsTxn sc lock.owner
 
-asked_owners : (sc : Scenario) (s : Server) (q : QueryRequest) (query : Query) (entry : Entry) → IsSoundServer sc s → IsTxn sc q.txn → HaveOwners sc (after_asking s q query entry).locks
-asked_owners sc s q query entry h exists = requested_locks (OwnerExists sc) q.txn entry.age (item_of query) (action_of query) s.locks h.locks (λ held. exists)
+asked_owners : (sc : Scenario) (s : Server) (q : QueryRequest) (query : Query) (entry : Entry) (given : Asked) → lock_answer s q query entry ≡ given → IsSoundServer sc s → IsTxn sc q.txn → HaveOwners sc (after_asking s q query entry).locks
+asked_owners sc s q query entry given e h exists =
+    requested_locks (OwnerExists sc) q.txn entry.age (item_of query) (action_of query) s.locks given e h.locks (all_added (λ (lock : LockEntry). IsTxn sc lock.owner) q.txn entry.age (action_of query) (λ held. exists) given)
 
 -- what waited runs, after what was done before
 resumes_sound : (sc : Scenario) (s : Server) (effect : Effect Server) (grant : Grant) (q : QueryRequest) (query : Query) (entry : Entry) (value : ℤ) → IsResumed sc s.server effect.state grant q query entry value → IsSoundServerEffect sc s effect
@@ -365,14 +368,14 @@ server_row_sound sc s mail valid rightly h m =
     (record {
       ignored = ignores_sound sc s h;
       ran = λ q query entry value k granted.
-          relocked_sound sc s (completes s q query entry (deed_of q.query query value)) (after_asking s q query entry).locks (asked_owners sc s q query entry h (said k.said_is).txn)
+          relocked_sound sc s (completes s q query entry (deed_of q.query query value)) (after_asking s q query entry).locks (asked_owners sc s q query entry asked.Granted granted h (said k.said_is).txn)
           (runs_sound sc s q query entry value h (said k.said_is) k.plain k.asked_is (run_entry sc s mail q query entry value h k));
       waited = λ q query entry value k waiting.
-          relocked_sound sc s (waits s q entry) (after_asking s q query entry).locks (asked_owners sc s q query entry h (said k.said_is).txn)
+          relocked_sound sc s (waits s q entry) (after_asking s q query entry).locks (asked_owners sc s q query entry asked.Waits waiting h (said k.said_is).txn)
           (waits_sound sc s q entry h (said k.said_is) k.plain (run_entry sc s mail q query entry value h k));
       died = λ q query entry value other k dying.
           let way = stands_in_the_way (OwnerExists sc) q.txn entry.age (item_of query) (action_of query) s.locks other h.locks dying in
-          relocked_sound sc s (dies s q entry other) (after_asking s q query entry).locks (asked_owners sc s q query entry h (said k.said_is).txn)
+          relocked_sound sc s (dies s q entry other) (after_asking s q query entry).locks (asked_owners sc s q query entry (asked.Dies other) dying h (said k.said_is).txn)
           (dies_sound sc s q entry other h (said k.said_is) k.plain (run_entry sc s mail q query entry value h k) (subst (IsTxn sc) way.owner_is way.is));
       restarted = λ q k. answers_sound sc s q (restarted_reply q s.epoch) h (said k.said_is).txn (restarted_sound sc s q (said k.said_is));
       answered = λ q entry given k.

@@ -2,7 +2,7 @@
 -- the store: all that it got from a server is still there, and was read from the server's values.
 use Rattle.std.specs.List.{list_any}
 use Rattle.std.specs.Option.{option_map_or}
-use Rattle.std.proofs.Common.{Bool, IfSome, List, None, Option, Some, [], ap, arith, false, find, if◌then◌else◌, is_some, length, option_and_then, option_map, refl, slice_get, subst, sym, true, ℕ, ⊎_elim, ◌&&◌, ◌<◌, ◌∙◌, ◌∷◌, ◌≡◌, ◌⊎◌}
+use Rattle.std.proofs.Common.{Bool, IfSome, List, None, Option, Some, [], ap, arith, false, find, if◌then◌else◌, inl, inr, is_some, length, option_and_then, option_map, refl, slice_get, subst, sym, true, ℕ, ⊎_elim, ◌&&◌, ◌<◌, ◌∙◌, ◌∷◌, ◌≡◌, ◌⊎◌}
 use Rattle.std.proofs.lemmas.Bool.{and_from, and_parts, false_from_ne_true, or_from}
 use Rattle.std.proofs.lemmas.Option.{same_Some}
 use Rattle.tp_model.specs.Agreement.{has_item_at}
@@ -33,7 +33,7 @@ use Rattle.tp_machine.proofs.pairs.Pair.{Held, Prepares, entry_held, got, held, 
 use Rattle.tp_machine.proofs.pairs.World.{Pairs}
 use Rattle.tp_machine.proofs.refusals.Unbooted.{Unbooted, coordinator_is}
 use Rattle.tp_machine.proofs.refusals.World.{IsAwaiting}
-use Rattle.tp_machine.proofs.serial_data.Alone.{clear_commit}
+use Rattle.tp_machine.proofs.serial_data.Clear.{HasShare, HasShares, commit_clear}
 use Rattle.tp_machine.proofs.serial_data.Commits.{commit_serial}
 use Rattle.tp_machine.proofs.serial_data.Joined.{share_at}
 use Rattle.tp_machine.proofs.serial_data.Lengths.{store_length}
@@ -42,7 +42,7 @@ use Rattle.tp_machine.proofs.serial_data.Reads.{ReadsFrom}
 use Rattle.tp_machine.proofs.serial_data.Shares.{no_share, server_there, share_reads}
 use Rattle.tp_machine.proofs.serial_data.Unsettled.{IsUnsettled}
 use Rattle.tp_machine.proofs.serial_data.World.{Serial, ServerUpSerial}
-use Rattle.tp_machine.proofs.walks.Steps.{IsCoordinatorUp, IsServerUp}
+use Rattle.tp_machine.proofs.walks.Steps.{IsServerUp}
 use Rattle.tp_machine.specs.Logs.{decided_at, decided_by, decided_in, epoch_by, settled_at, settled_by, settled_in}
 use Rattle.tp_machine.specs.Machine.{State}
 use Rattle.tp_machine.specs.Parts.{Part}
@@ -153,14 +153,6 @@ unsettled_at sc w txn declared awaiting at there agrees running = by_settled (se
 
 -- ---- what it got from a server is there
 
--- what stands in an entry was read from the server's values, which the store has
-entry_reads : (sc : Scenario) (w : State) (txn : TxnId) (at : ServerId) (deeds : List Deed) (there : IsUpAt w at) (entry : Entry) → Serial sc w → entry_at there.s txn ≡ Some entry → entry.deeds ≡ share_at sc at.0 deeds
-    → ReadsFrom (overlaid sc w.facts) (share_at sc at.0 deeds)
-entry_reads sc w txn at deeds there entry serial found same =
-    let here : ServerUpSerial sc (overlaid sc w.facts) at there.s = subst (λ (u : Option Server). IfSome u (ServerUpSerial sc (overlaid sc w.facts) at)) there.up.up (serial.servers at.0 there.part there.up.found).state in
-    share_reads sc at.0 there.s.store.values (overlaid sc w.facts) deeds (λ k item item_there home. here.values k item item_there (ap server_number home))
-    (subst (ReadsFrom there.s.store.values) same (here.reads.reads txn.0 entry found))
-
 -- the entry that the server holds
 held_entry : (w : State) (txn : TxnId) (at : ServerId) (there : IsUpAt w at) → held (pair_at w.actors txn at.0) ≡ option_map entry_held (entry_at there.s txn)
 held_entry w txn at there =
@@ -168,11 +160,11 @@ held_entry w txn at there =
     let up_is : pair.up ≡ true = ap (λ (found : Option (Part Server)). option_map_or is_part_up found false) there.up.found ∙ ap is_some there.up.up in
     held_up pair.up pair.entry pair.prepared up_is ∙ ap (option_map entry_held) (ap (option_and_then (entry_by txn)) there.up.found ∙ ap (option_and_then (entry_up txn)) there.up.up)
 
-there_reads : (sc : Scenario) (w : State) (txn : TxnId) (at : ServerId) (deeds : List Deed) (there : IsUpAt w at) (h : Held) (entry : Option Entry) → Serial sc w → entry_at there.s txn ≡ entry → option_map entry_held entry ≡ Some h
-    → h.deeds ≡ share_at sc at.0 deeds → ReadsFrom (overlaid sc w.facts) (share_at sc at.0 deeds)
-there_reads sc w txn at deeds there h None serial found e same = absurd (cc)
-there_reads sc w txn at deeds there h (Some entry) serial found e same =
-    entry_reads sc w txn at deeds there entry serial found (ap (λ (x : Held). x.deeds) (same_Some (entry_held entry) h e) ∙ same)
+there_share : (sc : Scenario) (w : State) (txn : TxnId) (at : ServerId) (deeds : List Deed) (there : IsUpAt w at) (h : Held) (entry : Option Entry) → entry_at there.s txn ≡ entry → option_map entry_held entry ≡ Some h
+    → h.deeds ≡ share_at sc at.0 deeds → HasShare sc w txn deeds at.0
+there_share sc w txn at deeds there h None found e same = absurd (cc)
+there_share sc w txn at deeds there h (Some entry) found e same =
+    record { part = there.part; s = there.s; up = there.up; entry = entry; found = found; deeds_are = ap (λ (x : Held). x.deeds) (same_Some (entry_held entry) h e) ∙ same }
 
 -- nothing of the first epoch is lost at a server that is up, while it has not settled the transaction
 none_gone : (sc : Scenario) (w : State) (txn : TxnId) (declared : Transaction) (awaiting : IsAwaiting w.actors.coordinators txn) (at : ServerId) (there : IsUpAt w at) (epoch : ℕ) → Agrees sc w → Unbooted w
@@ -189,15 +181,14 @@ none_gone sc w txn declared awaiting at there epoch agrees unbooted running kept
     let boots = (unbooted.servers at.0 there.part there.up.found).boots in
     omega (arith, less, first, own, boots)) later) gone.over
 
-kept_reads : (sc : Scenario) (w : State) (txn : TxnId) (declared : Transaction) (awaiting : IsAwaiting w.actors.coordinators txn) (at : ServerId) (there : IsUpAt w at) (kept : Option ℕ) → Agrees sc w → Pairs sc w → Serial sc w → Unbooted w
+kept_share : (sc : Scenario) (w : State) (txn : TxnId) (declared : Transaction) (awaiting : IsAwaiting w.actors.coordinators txn) (at : ServerId) (there : IsUpAt w at) (kept : Option ℕ) → Agrees sc w → Pairs sc w → Unbooted w
     → IsRunning sc w txn declared awaiting → (asker_of at.0 awaiting.c).epoch ≡ kept → Pairing (site_of sc at.0 declared) (pair_at w.actors txn at.0) (asker_of at.0 awaiting.c) kept
-    → ReadsFrom (overlaid sc w.facts) (share_at sc at.0 awaiting.c.deeds)
-kept_reads sc w txn declared awaiting at there None agrees pairs serial unbooted running is first =
+    → (share_at sc at.0 awaiting.c.deeds ≡ []) ⊎ HasShare sc w txn awaiting.c.deeds at.0
+kept_share sc w txn declared awaiting at there None agrees pairs unbooted running is first =
     let site = site_of sc at.0 declared in
     let old = asker_fits sc w txn at.0 declared awaiting pairs running.declared_is in
-    let none : got site awaiting.c.deeds ≡ [] = numbers_none (got site awaiting.c.deeds) (old.numbers_are ∙ first.none) in
-    subst (ReadsFrom (overlaid sc w.facts)) (sym (sym (got_part site awaiting.c.deeds old.runs) ∙ none)) tt
-kept_reads sc w txn declared awaiting at there (Some epoch) agrees pairs serial unbooted running is kept =
+    inl (sym (got_part site awaiting.c.deeds old.runs) ∙ numbers_none (got site awaiting.c.deeds) (old.numbers_are ∙ first.none))
+kept_share sc w txn declared awaiting at there (Some epoch) agrees pairs unbooted running is kept =
     let site = site_of sc at.0 declared in
     let pair = pair_at w.actors txn at.0 in
     let a = asker_of at.0 awaiting.c in
@@ -205,20 +196,29 @@ kept_reads sc w txn declared awaiting at there (Some epoch) agrees pairs serial 
     ⊎_elim
     (λ (t : There pair epoch (Matches site a)).
     let same : t.deeds ≡ share_at sc at.0 awaiting.c.deeds = matched site a t.deeds (λ asks. let prepares = running.prepares in cc) t.says ∙ got_part site awaiting.c.deeds old.runs in
-    there_reads sc w txn at awaiting.c.deeds there (record { epoch = epoch; deeds = t.deeds }) (entry_at there.s txn) serial refl (sym (held_entry w txn at there) ∙ t.found) same)
+    inr (there_share sc w txn at awaiting.c.deeds there (record { epoch = epoch; deeds = t.deeds }) (entry_at there.s txn) refl (sym (held_entry w txn at there) ∙ t.found) same))
     (λ (gone : IsGone pair epoch). absurd (none_gone sc w txn declared awaiting at there epoch agrees unbooted running is gone))
     kept.told
 
--- what it got from a server was read from the store; from one without an item of the transaction it got nothing
-reads_at : (sc : Scenario) (w : State) (txn : TxnId) (declared : Transaction) (awaiting : IsAwaiting w.actors.coordinators txn) (at : ServerId) (b : Bool) → has_item_at sc at txn ≡ b → IsValid sc → Agrees sc w → Pairs sc w → Serial sc w
-    → Unbooted w → IsRunning sc w txn declared awaiting → ReadsFrom (overlaid sc w.facts) (share_at sc at.0 awaiting.c.deeds)
-reads_at sc w txn declared awaiting at false item valid agrees pairs serial unbooted running =
+-- what it got from a server stands in its entry there; from one without an item of the transaction it got nothing
+shares_at : (sc : Scenario) (w : State) (txn : TxnId) (declared : Transaction) (awaiting : IsAwaiting w.actors.coordinators txn) (at : ServerId) (b : Bool) → has_item_at sc at txn ≡ b → IsValid sc → Agrees sc w → Pairs sc w → Serial sc w
+    → Unbooted w → IsRunning sc w txn declared awaiting → (share_at sc at.0 awaiting.c.deeds ≡ []) ⊎ HasShare sc w txn awaiting.c.deeds at.0
+shares_at sc w txn declared awaiting at false item valid agrees pairs serial unbooted running =
     let runs = (asker_fits sc w txn at.0 declared awaiting pairs running.declared_is).runs in
-    subst (ReadsFrom (overlaid sc w.facts)) (sym (no_share sc at.0 txn declared awaiting.c.deeds running.declared_is runs item)) tt
-reads_at sc w txn declared awaiting at true item valid agrees pairs serial unbooted running =
+    inl (no_share sc at.0 txn declared awaiting.c.deeds running.declared_is runs item)
+shares_at sc w txn declared awaiting at true item valid agrees pairs serial unbooted running =
     let there : IsUpAt w at = server_up sc w at agrees serial (server_there sc at txn valid item) in
     let a = asker_of at.0 awaiting.c in
-    kept_reads sc w txn declared awaiting at there a.epoch agrees pairs serial unbooted running refl (asker_fits sc w txn at.0 declared awaiting pairs running.declared_is).pairing
+    kept_share sc w txn declared awaiting at there a.epoch agrees pairs unbooted running refl (asker_fits sc w txn at.0 declared awaiting pairs running.declared_is).pairing
+
+-- what stands in an entry was read from the server's values, which the store has
+share_read : (sc : Scenario) (w : State) (txn : TxnId) (deeds : List Deed) (at : ℕ) → Serial sc w → (share_at sc at deeds ≡ []) ⊎ HasShare sc w txn deeds at → ReadsFrom (overlaid sc w.facts) (share_at sc at deeds)
+share_read sc w txn deeds at serial shares =
+    ⊎_elim (λ (nothing : share_at sc at deeds ≡ []). subst (ReadsFrom (overlaid sc w.facts)) (sym nothing) tt)
+    (λ (h : HasShare sc w txn deeds at).
+    let here : ServerUpSerial sc (overlaid sc w.facts) (server_number at) h.s = of_some (ServerUpSerial sc (overlaid sc w.facts) (server_number at)) h.part.up h.s h.up.up (serial.servers at h.part h.up.found).state in
+    share_reads sc at h.s.store.values (overlaid sc w.facts) deeds (λ k item item_there home. here.values k item item_there (ap server_number home))
+    (subst (ReadsFrom h.s.store.values) h.deeds_are (here.reads.reads txn.0 h.entry h.found))) shares
 
 -- ---- its run
 
@@ -228,9 +228,10 @@ pub run_now : (sc : Scenario) (w : State) (txn : TxnId) (declared : Transaction)
 run_now sc w txn declared awaiting built agrees pairs serial unbooted running =
     let valid : IsValid sc = valid_built sc built in
     let valid_txn : is_valid_txn sc declared ≡ true = each_get (λ (t : Transaction). is_valid_txn sc t ≡ true) sc.txns txn.0 declared valid.txns running.declared_is in
-    let up : IsCoordinatorUp w txn awaiting.part awaiting.c = record { found = awaiting.found; up = awaiting.up } in
     let old = asker_fits sc w txn 0 declared awaiting pairs running.declared_is in
+    let shares : HasShares sc w txn awaiting.c.deeds = λ n. shares_at sc w txn declared awaiting (server_number n) (has_item_at sc (server_number n) txn) refl valid agrees pairs serial unbooted running in
+    let none : decided_at w.actors.coordinators txn.0 ≡ None = ap (option_and_then decided_by) awaiting.found ∙ undecided_yet sc w txn awaiting agrees in
     commit_serial sc declared (IsUnsettled sc w.actors) (λ (n : ℕ). overlaid sc w.facts) (store_of sc w.facts) awaiting.c.deeds valid_txn
     (store_within sc (store_of sc w.facts) valid (store_length sc w.facts) serial.range) old.runs (old.all running.prepares)
-    (λ n. reads_at sc w txn declared awaiting (server_number n) (has_item_at sc (server_number n) txn) refl valid agrees pairs serial unbooted running) serial.store
-    (clear_commit sc w txn awaiting.part awaiting.c declared built agrees pairs up running.declared_is (undecided_yet sc w txn awaiting agrees) running.prepares)
+    (λ n. share_read sc w txn awaiting.c.deeds n serial (shares n)) serial.store
+    (commit_clear sc w txn declared awaiting.c.deeds built agrees serial running.declared_is none old.runs shares)

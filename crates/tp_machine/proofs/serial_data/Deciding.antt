@@ -221,10 +221,10 @@ preparer_of w txn at (Some part) e is = there (prepared_in txn part.log) refl is
     there None f some = absurd (cc)
     there (Some p) f some = record { part = part; found = e; p = p; prepared_is = f }
 
-preparer : (w : State) (txn : TxnId) (at : ℕ) → is_some (prepared_at w.actors.servers at txn) ≡ true → IsPreparer w txn at
+pub preparer : (w : State) (txn : TxnId) (at : ℕ) → is_some (prepared_at w.actors.servers at txn) ≡ true → IsPreparer w txn at
 preparer w txn at is = preparer_of w txn at (slice_get w.actors.servers at) refl is
 
-preparer_is : (w : State) (txn : TxnId) (at : ℕ) (h : IsPreparer w txn at) → prepared_at w.actors.servers at txn ≡ Some h.p
+pub preparer_is : (w : State) (txn : TxnId) (at : ℕ) (h : IsPreparer w txn at) → prepared_at w.actors.servers at txn ≡ Some h.p
 preparer_is w txn at h = ap (option_and_then (prepared_by txn)) h.found ∙ h.prepared_is
 
 read_up : (sc : Scenario) (w : State) (txn : TxnId) (at : ℕ) (deeds : List Deed) (h : IsPreparer w txn at) (up : Option Server) → h.part.up ≡ up → is_some up ≡ true → IfSome up (ServerUpSerial sc (overlaid sc w.facts) (record { 0 = at }))
@@ -299,13 +299,13 @@ commit_leaves sc w txn named part next declared committed own valid agrees h k r
 
 -- ---- every act
 
--- what a coordinator has done, as it is about to commit, is clear of what other commits did that are not settled
+-- what a coordinator that is about to commit has done is clear of what other commits did that are not settled
 abbrev pub IsClearCommit : Scenario → State → Coordinator → Type 0
 IsClearCommit sc w c = Each (IsClearAtHome sc (IsUnsettled sc w.actors)) c.deeds
 
 -- the act of a coordinator that is up
 pub coordinator_acts_serial : (sc : Scenario) (w : State) (txn : TxnId) (part : Part Coordinator) (c now : Coordinator) (own : List What) (append : Option Record) (letters : List Letter) → IsValid sc → Agrees sc w → Pairs sc w
-    → Serial sc w → CoordinatorActs sc w txn part c own append → (decided_in part.log ≡ None → stand_of c.phase ≡ Prepares → IsClearCommit sc w c)
+    → Serial sc w → CoordinatorActs sc w txn part c own append → ((declared : Transaction) → decided_in part.log ≡ None → IsReady sc w txn declared c.deeds → IsClearCommit sc w c)
     → MoveSerial sc w (coordinator_move w.actors txn (acts coordinator_fact own part.log (Some now) (log_with part.log append) letters))
 coordinator_acts_serial sc w txn part c now own append letters valid agrees pairs h k clear =
     subst (λ (told : List What). MoveSerial sc w (record { actors = with_coordinator w.actors txn (next_part part now append); happened = own ++ told; letters = letters }))
@@ -325,10 +325,11 @@ coordinator_acts_serial sc w txn part c now own append letters valid agrees pair
         abort_leaves sc w txn d.txn part (next_part part now (Some (log.Decided d))) why h (subst (DecidesFirst w.actors txn part (next_part part now (Some (log.Decided d)))) e (decides d first))
     by_decision d (decision.Commit committed) e first forces rests =
         let there = declared_by sc txn k.exists in
-        let r : IsReady sc w txn there.0 committed.deeds = subst (IsReady sc w txn there.0) (sym forces.deeds) (ready sc w txn part c there.0 valid pairs k.up forces.prepares there.1 rests) in
+        let own : IsReady sc w txn there.0 c.deeds = ready sc w txn part c there.0 valid pairs k.up forces.prepares there.1 rests in
+        let r : IsReady sc w txn there.0 committed.deeds = subst (IsReady sc w txn there.0) (sym forces.deeds) own in
         commit_leaves sc w txn d.txn part (next_part part now (Some (log.Decided d))) there.0 committed first.own valid agrees h
         (subst (DecidesFirst w.actors txn part (next_part part now (Some (log.Decided d)))) e (decides d first)) r
-        (subst (Each (IsClearAtHome sc (IsUnsettled sc w.actors))) (sym forces.deeds) (clear first.undecided forces.prepares))
+        (subst (Each (IsClearAtHome sc (IsUnsettled sc w.actors))) (sym forces.deeds) (clear there.0 first.undecided own))
 
     by_record : (append : Option Record) → IfSome append (IsFirst sc (IsPrepared w.actors.servers txn) txn part.log) → IfSome append (RecordOwn c) → Leaves sc w txn (next_part part now append) (coordinator_facts append)
     by_record None first forces = undecided_leaves sc w txn part now None h k.up.found refl

@@ -18,13 +18,15 @@ use Rattle.tp_machine.proofs.agreement.Steps.{begun_lawful, coordinator_lawful, 
 use Rattle.tp_machine.proofs.agreement.World.{Agrees, BodyRests}
 use Rattle.tp_machine.proofs.basics.Lists.{at_made, each_get, placed_none}
 use Rattle.tp_machine.proofs.ids.Valid.{valid_built}
+use Rattle.tp_machine.proofs.locked.World.{IsLockedServer, ServersLocked, locked_next, locked_opening}
 use Rattle.tp_machine.proofs.pairs.Actors.{BodyPairs, LetterPairs, QueryAt, asker_at, pair_at, pair_up, site_of}
 use Rattle.tp_machine.proofs.pairs.Fits.{Fits, QueryFits}
+use Rattle.tp_machine.proofs.pairs.Lists.{of_some}
 use Rattle.tp_machine.proofs.pairs.Pair.{Pair}
 use Rattle.tp_machine.proofs.pairs.Rises.{rises}
 use Rattle.tp_machine.proofs.pairs.ServerRows.{no_ballot, same_answer}
 use Rattle.tp_machine.proofs.pairs.World.{Pairs, declared_by, pair_of_up}
-use Rattle.tp_machine.proofs.serial_data.Alone.{IsAlone, alone_built, clear_commit, clear_of_others}
+use Rattle.tp_machine.proofs.serial_data.Clear.{clear_of_others, commit_ready}
 use Rattle.tp_machine.proofs.serial_data.Built.{opening_in_range}
 use Rattle.tp_machine.proofs.serial_data.Deciding.{RecordOwn, coordinator_acts_serial, coordinator_row_own}
 use Rattle.tp_machine.proofs.serial_data.Ranges.{AreTested}
@@ -88,22 +90,22 @@ voted_tested sc s kept txn a tested entry cast found ballot_is =
     by_log None e f = absurd (cc)
     by_log (Some p) e f = subst (AreTested sc) (ap (λ (v : CastVote). v.deeds) (same_Some (vote_of p) (vote_by entry cast) f)) (tested p e)
 
--- what is known of a mail to a server: of a query, of a request to prepare, and of an order to end, whose transaction is alone
-request_clear : (sc : Scenario) (w : State) (at : ServerId) (part : Part Server) (s : Server) (from : Actor) (said : Body) → IsAlone sc → length s.entries ≡ length sc.txns → IsServerUp w at part s → Pairs sc w
+-- what is known of a mail to a server: of a query, of a request to prepare, and of an order to end, whose transaction locks keep apart
+request_clear : (sc : Scenario) (w : State) (at : ServerId) (part : Part Server) (s : Server) (from : Actor) (said : Body) → IsLockedServer sc s → IsServerUp w at part s → Pairs sc w
     → Agrees sc w → Serial sc w → IsSoundBody sc (actor.Server at) said → BodyRests sc w.actors from (actor.Server at) said → BodyPairs sc (pair_at w.actors) from (actor.Server at) said
     → RequestClear sc (IsAsked sc w.actors.coordinators at) s said
-request_clear sc w at part s from (body.Query q) alone places up pairs agrees serial sound rests paired = query_rises sc w at part s q up sound pairs paired
-request_clear sc w at part s from (body.Decide d) alone places up pairs agrees serial sound rests paired = record { exists = sound.txn; clear = clear_of_others sc s at d.txn alone places rests.1.item }
-request_clear sc w at part s from (body.Prepare p) alone places up pairs agrees serial sound rests paired = record { made = rests; tested = voted_tested sc s part.log p.txn (server_agrees sc w at part s agrees up) ((serial.servers at.0 part up.found).tested p.txn); ends = record { exists = sound.txn; clear = clear_of_others sc s at p.txn alone places rests.item } }
-request_clear sc w at part s from _ alone places up pairs agrees serial sound rests paired = tt
+request_clear sc w at part s from (body.Query q) locked up pairs agrees serial sound rests paired = query_rises sc w at part s q up sound pairs paired
+request_clear sc w at part s from (body.Decide d) locked up pairs agrees serial sound rests paired = record { exists = sound.txn; clear = clear_of_others sc s d.txn locked }
+request_clear sc w at part s from (body.Prepare p) locked up pairs agrees serial sound rests paired = record { made = rests; tested = voted_tested sc s part.log p.txn (server_agrees sc w at part s agrees up) ((serial.servers at.0 part up.found).tested p.txn); ends = record { exists = sound.txn; clear = clear_of_others sc s p.txn locked } }
+request_clear sc w at part s from _ locked up pairs agrees serial sound rests paired = tt
 
 -- so it is known of a mail that was sent
 pub received_clear : (sc : Scenario) (w : State) → is_built sc ≡ true → IsSound sc w → Agrees sc w → Pairs sc w → Serial sc w → (n : ℕ) (mail : Mail) (at : ServerId) (part : Part Server) (s : Server)
-    → WasSent w n mail (actor.Server at) → IsServerUp w at part s → length s.entries ≡ length sc.txns → RequestClear sc (IsAsked sc w.actors.coordinators at) s mail.letter.body
-received_clear sc w built sound agrees pairs serial n mail at part s sent up places =
+    → WasSent w n mail (actor.Server at) → IsServerUp w at part s → RequestClear sc (IsAsked sc w.actors.coordinators at) s mail.letter.body
+received_clear sc w built sound agrees pairs serial n mail at part s sent up =
     let said : BodyPairs sc (pair_at w.actors) mail.letter.from (actor.Server at) mail.letter.body =
     subst (λ (to : Actor). BodyPairs sc (pair_at w.actors) mail.letter.from to mail.letter.body) sent.goes_to (each_get (λ (m : Mail). LetterPairs sc (pair_at w.actors) m.letter) w.mails n mail pairs.mails sent.sent) in
-    request_clear sc w at part s mail.letter.from mail.letter.body (alone_built sc built) places up pairs agrees serial (mail_sound sc w n mail (actor.Server at) sound sent)
+    request_clear sc w at part s mail.letter.from mail.letter.body (of_some (IsLockedServer sc) part.up s up.up (serial.locked at.0 part up.found)) up pairs agrees serial (mail_sound sc w n mail (actor.Server at) sound sent)
     (mail_rests sc w n mail (actor.Server at) agrees sent) said
 
 receipt_by_server : (sc : Scenario) (w : State) → is_built sc ≡ true → WaitRightly sc w → IsSound sc w → Agrees sc w → Pairs sc w → Serial sc w → (n : ℕ) (mail : Mail) (at : ServerId) (part : Part Server) (s : Server)
@@ -116,7 +118,7 @@ receipt_by_server sc w built rightly sound agrees pairs h n mail at part s sent 
       up = up.up;
       agrees = server_agrees sc w at part s agrees up;
       keeps = server_row_keeps sc (IsAsked sc w.actors.coordinators at) s mail (rightly at part s up) was.reads
-          (received_clear sc w built sound agrees pairs h n mail at part s sent up was.reads.entry_places);
+          (received_clear sc w built sound agrees pairs h n mail at part s sent up);
       rests = (server_lawful sc w rightly agrees n mail at part s sent up).rests;
     })
 
@@ -135,7 +137,7 @@ receipt_by_coordinator sc w built sound agrees pairs h n mail txn part c sent up
       fresh = subst (λ (t : TxnId). IfSome effect.reaction.append (IsFirst sc (IsPrepared w.actors.servers txn) t part.log)) own (coordinator_lawful sc w sound agrees n mail txn part c sent up).fresh;
       forces = coordinator_row_own sc c mail;
     })
-    (λ none prepares. clear_commit sc w txn part c there.0 built agrees pairs up there.1 none prepares)
+    (λ declared none r. commit_ready sc w txn part c declared built agrees h up.found none r)
 
 begun_serial : (sc : Scenario) (w : State) → is_built sc ≡ true → IsSound sc w → Agrees sc w → Pairs sc w → Serial sc w → (txn : TxnId) (part : Part Coordinator) (c : Coordinator) → IsTxn sc txn → IsCoordinatorUp w txn part c
     → is_part_submitted (Some c) ≡ false → MoveSerial sc w (coordinator_move w.actors txn (acts_by coordinator_fact (what.Submitted txn ∷ []) part.log (with_age (submit_row sc c) (length w.steps))))
@@ -151,7 +153,7 @@ begun_serial sc w built sound agrees pairs h txn part c exists up new =
       fresh = subst (λ (append : Option Record). IfSome append (IsFirst sc (IsPrepared w.actors.servers txn) txn part.log)) (sym none) tt;
       forces = subst (λ (append : Option Record). IfSome append (RecordOwn c)) (sym none) tt;
     })
-    (λ undecided prepares. clear_commit sc w txn part c there.0 built agrees pairs up there.1 undecided prepares)
+    (λ declared undecided r. commit_ready sc w txn part c declared built agrees h up.found undecided r)
 
 -- ---- steps
 
@@ -175,8 +177,8 @@ serial_cases sc w built rightly sound agrees pairs h =
 pub serial_next : (sc : Scenario) (m : Machine) (taken : Step) → is_built sc ≡ true → IsStepOf sc taken → refusal m.state taken ≡ None → WaitRightly sc m.state → IsSound sc m.state → Agrees sc m.state → Pairs sc m.state → Serial sc m.state
     → Serial sc (machine_after sc m taken).state
 serial_next sc m taken built exists allowed rightly sound agrees pairs h =
-    machine_after_by sc m (λ taken move. MoveSerial sc m.state move) (Serial sc) (serial_cases sc m.state built rightly sound agrees pairs h) agrees.coordinator_count
-    (λ taken move t. state_after_serial sc m.state taken move agrees h t) h taken exists allowed
+    machine_after_by sc m (λ taken move. MoveSerial sc m.state move) (λ w. ServersLocked sc w.actors.servers → Serial sc w) (serial_cases sc m.state built rightly sound agrees pairs h) agrees.coordinator_count
+    (λ taken move t locked. state_after_serial sc m.state taken move agrees h t locked) (λ locked. h) taken exists allowed (locked_next sc m taken exists allowed rightly sound agrees pairs h.locked)
 
 -- ---- before the first step
 
@@ -224,6 +226,7 @@ serial_opening sc built =
       servers = λ n part e. subst (λ (k : ℕ). ServerPartSerial sc (overlaid sc []) (record { 0 = k }) part) (omega arith)
           (at_made (λ (k : ℕ) (found : Part Server). ServerPartSerial sc (overlaid sc []) (record { 0 = k }) found) (λ (k : ℕ). opened_part (server.opening sc (record { 0 = k }))) 0 (length sc.servers)
           (λ k within. opening_serial sc k) n part e);
+      locked = locked_opening sc;
       up = λ n part e. at_made (λ (k : ℕ) (found : Part Server). is_some found.up ≡ true) (λ (k : ℕ). opened_part (server.opening sc (record { 0 = k }))) 0 (length sc.servers) (λ k within. refl) n part e;
       shares = λ txn at committed p d e. absurd (let none = none_decided sc txn.0 in cc);
       store = λ at. record { covered = λ item deeds v own u e. absurd (let none = none_decided sc u.txn.0 in let some = u.decided in cc); bare = λ item own none. refl };

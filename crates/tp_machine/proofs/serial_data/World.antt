@@ -21,6 +21,7 @@ use Rattle.tp_machine.proofs.agreement.World.{Agrees, FactFollows}
 use Rattle.tp_machine.proofs.basics.Facts.{ArePast, Grows, before_past, grows_with_facts}
 use Rattle.tp_machine.proofs.basics.Lists.{each_append, each_as}
 use Rattle.tp_machine.proofs.basics.Logs.{first_first}
+use Rattle.tp_machine.proofs.locked.World.{ServersLocked}
 use Rattle.tp_machine.proofs.serial_data.Commits.{IsItemAt}
 use Rattle.tp_machine.proofs.serial_data.Joined.{share_at}
 use Rattle.tp_machine.proofs.serial_data.Lists.{any_filtered, fold_as, pointwise_itself}
@@ -70,6 +71,8 @@ StoreStands sc actors values store = (at : ℕ) → StoreFits (IsItemAt sc at) (
 pub record Serial (sc : Scenario) (w : State) : Type 0 where
   -- what entries have read are the servers' values, which are those that settled commits leave
   pub servers : ServersSerial sc (overlaid sc w.facts) w.actors.servers
+  -- locks keep the deeds of transactions apart
+  pub locked : ServersLocked sc w.actors.servers
   -- each server is up, which goes when crashes are built
   pub up : ServersUp w.actors.servers
   -- servers prepare their shares of commits
@@ -234,8 +237,8 @@ overlaid_move sc w place happened agrees h =
 -- ---- a step
 
 -- a step whose move is serial leaves a world that is
-pub state_after_serial : (sc : Scenario) (w : State) (taken : Step) (move : Move) → Agrees sc w → Serial sc w → MoveSerial sc w move → Serial sc (state_after w taken move)
-state_after_serial sc w taken move agrees h t =
+pub state_after_serial : (sc : Scenario) (w : State) (taken : Step) (move : Move) → Agrees sc w → Serial sc w → MoveSerial sc w move → ServersLocked sc move.actors.servers → Serial sc (state_after w taken move)
+state_after_serial sc w taken move agrees h t locked =
     let place = length w.steps in
     let now = w.facts ++ facts_of place move.happened in
     let g : Grows w.facts now place = grows_with_facts w.facts place move.happened in
@@ -244,6 +247,7 @@ state_after_serial sc w taken move agrees h t =
     let store : store_by sc w move.happened ≡ store_of sc now = store_move sc w place move.happened in
     record {
       servers = subst (λ (store : List ℤ). ServersSerial sc store move.actors.servers) values t.servers;
+      locked = locked;
       up = t.up;
       shares = t.shares;
       store = subst (λ (left : List ℤ). StoreStands sc move.actors left (store_of sc now)) values (subst (StoreStands sc move.actors (overlaid_by sc w move.happened)) store t.store);

@@ -1,0 +1,5 @@
+-- Locks keep the deeds of transactions apart.
+pub mod Apart
+pub mod Fit
+pub mod Servers
+pub mod World
