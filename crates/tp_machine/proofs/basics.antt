@@ -11,11 +11,11 @@ pub mod Locks
 pub mod Logs
 pub mod Machine
 pub mod Opened
+pub mod Parts
 pub mod Phases
 pub mod Rounds
 pub mod Servers
 pub mod Stores
-pub mod Tables
 pub mod Verdicts
 pub mod Versions
 pub mod World

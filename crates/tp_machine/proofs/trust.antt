@@ -3,7 +3,6 @@ pub mod Acts
 pub mod Built
 pub mod Coordinator
 pub mod End
-pub mod Evaluation
 pub mod Fit
 pub mod Kept
 pub mod RoundAims

@@ -19,8 +19,8 @@ use Rattle.tp_machine.specs.Parts.{Part}
 use Rattle.tp_machine.specs.Sound.{Each, EachAt, EachPlaced}
 use Rattle.tp_coord.specs.Sums.{clamped_sum, registers_after}
 use Rattle.tp_coord.specs.State.{Coordinator}
-use Rattle.tp_machine.specs.declared.server.Entry.{Entry}
-use Rattle.tp_machine.specs.server.State.{Server}
+use Rattle.tp_server.specs.declared.server.Entry.{Entry}
+use Rattle.tp_server.specs.State.{Server}
 use Rattle.tp_store.specs.Rule.{writes_of}
 use Rattle.tp_store.specs.declared.writes.TentativeWrite.{TentativeWrite}
 

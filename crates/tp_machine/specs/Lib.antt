@@ -1,5 +1,4 @@
 pub mod Bounded
-pub mod Evaluation
 pub mod Laws
 pub mod Logs
 pub mod Machine
@@ -7,4 +6,3 @@ pub mod Parts
 pub mod Seen
 pub mod Sound
 pub mod mirrors
-pub mod server

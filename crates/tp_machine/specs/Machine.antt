@@ -12,15 +12,15 @@ use Rattle.tp_coord.specs.State.{Coordinator}
 use Rattle.tp_machine.specs.declared.error.StepError.{StepError}
 use Rattle.tp_machine.specs.declared.error.StepError.TheVariants as error
 use Rattle.tp_machine.specs.Parts.{Part}
-use Rattle.tp_machine.specs.server.State.{Server}
+use Rattle.tp_server.specs.State.{Server}
 use Rattle.tp_types.specs.Effect.{Effect}
 use Rattle.tp_coord.specs.Opened as coord
 use Rattle.tp_coord.specs.Row.{coordinator_row, is_begun, submit_row, coordinator_with_age}
 use Rattle.tp_offices.specs.Authority as office
 use Rattle.tp_offices.specs.Master as master
 use Rattle.tp_offices.specs.declared.master.Master.{Master}
-use Rattle.tp_machine.specs.server.Opened as server
-use Rattle.tp_machine.specs.server.Row.{server_row}
+use Rattle.tp_server.specs.Opened as server
+use Rattle.tp_server.specs.Row.{server_row}
 
 -- the actors with their logs, every mail ever sent, the facts and the steps
 pub record State : Type 0 where

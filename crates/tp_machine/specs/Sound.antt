@@ -24,9 +24,9 @@ use Rattle.tp_coord.specs.declared.coordinator.Phase.{Phase}
 use Rattle.tp_round.specs.declared.round.Round.{Round}
 use Rattle.tp_round.specs.declared.round.Target.{Target}
 use Rattle.tp_round.specs.declared.round.Wanted.{Wanted}
-use Rattle.tp_machine.specs.declared.server.Ballot.{Ballot}
-use Rattle.tp_machine.specs.declared.server.Entry.{Entry}
-use Rattle.tp_machine.specs.server.State.{Server}
+use Rattle.tp_server.specs.declared.server.Ballot.{Ballot}
+use Rattle.tp_server.specs.declared.server.Entry.{Entry}
+use Rattle.tp_server.specs.State.{Server}
 use Rattle.tp_offices.specs.declared.authority.Authority.{Authority}
 use Rattle.tp_offices.specs.declared.master.Master.{Master}
 use Rattle.tp_lock.specs.Table.{Table}

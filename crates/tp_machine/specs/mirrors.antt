@@ -1,4 +1,3 @@
 pub mod Acts
-pub mod Entries
 pub mod Flags
 pub mod History

@@ -2,15 +2,15 @@
 ghost use Rattle.std.specs.Prelude.{◌≡◌, ◌+◌, ◌<◌, ◌^◌, ◌∷◌, [], length, map, slice_get, true, IfOk};
 ghost use Rattle.std.specs.Option.{option_copied};
 ghost use Rattle.tp_machine.specs.Machine as machine;
-ghost use Rattle.tp_machine.specs.server.Verdicts.{HasFewRules};
+ghost use Rattle.tp_server.specs.Verdicts.{HasFewRules};
 ghost use Rattle.tp_offices.specs.Master as office;
 
 use crate::part::{Act, Part, coordinator_submits, coordinator_takes, no_act, server_takes};
-use crate::server::Server;
 use std::alloc::Global;
 use tp_coord::Coordinator;
 use tp_lock::PlainLocks;
 use tp_offices::{Authority, Master, NoMore};
+use tp_server::Server;
 use tp_types::{
     Actor, AdminId, CredId, Item, List, Mail, NoMemory, Place, Reaction, Scenario, ServerId, TxnId,
     What,

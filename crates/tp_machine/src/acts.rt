@@ -6,7 +6,7 @@ ghost use Rattle.tp_machine.specs.mirrors.Acts.{Moves, SameUp};
 ghost use Rattle.tp_machine.specs.mirrors.History.{SameHistory};
 ghost use Rattle.tp_machine.specs.Machine as machine;
 ghost use Rattle.tp_machine.specs.Seen.{IsBuiltStep, machine_of, state_of};
-ghost use Rattle.tp_machine.specs.server.Verdicts.{HasFewRules};
+ghost use Rattle.tp_server.specs.Verdicts.{HasFewRules};
 ghost use Rattle.tp_offices.specs.Master as office;
 
 use crate::actors::Actors;

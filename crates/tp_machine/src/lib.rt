@@ -5,18 +5,13 @@ mod actors;
 mod acts;
 pub mod agree;
 mod error;
-pub mod evaluation;
 mod history;
 pub mod laws;
 mod part;
-pub mod serial;
-mod server;
-mod verdicts;
 mod world;
 
 pub use actors::Actors;
 pub use error::StepError;
 pub use history::History;
 pub use part::{Act, Part};
-pub use server::{Ballot, Entry, Server};
 pub use world::World;

@@ -3,13 +3,13 @@ ghost use Rattle.std.specs.Prelude.{◌≡◌, [], ◌++◌, IfOk, OnOk};
 ghost use Rattle.std.specs.Option.{option_copied, option_map_or};
 ghost use Rattle.tp_machine.specs.mirrors.Acts.{Acts};
 ghost use Rattle.tp_machine.specs.Machine as machine;
-ghost use Rattle.tp_machine.specs.server.Verdicts.{HasFewRules};
+ghost use Rattle.tp_server.specs.Verdicts.{HasFewRules};
 
-use crate::server::Server;
 use std::alloc::Global;
 use std::marker::Model;
 use tp_coord::Coordinator;
 use tp_lock::LockTable;
+use tp_server::Server;
 use tp_types::{
     Letter, List, Mail, NoMemory, Place, Reaction, Record, Scenario, ServerId, TryClone, TxnId,
     What,

@@ -1,7 +1,7 @@
--- What of a valid scenario is built so far: at most one transaction, deferred under view; and steps that submit, publish, push, tick,
--- revoke, or deliver a mail for the first time. It widens as more is built, and then is no condition any more.
+-- What of a valid scenario is built so far: transactions that are deferred under view; and steps that submit, publish, push, tick, revoke,
+-- or deliver a mail for the first time. It widens as more is built, and then is no condition any more.
 use Rattle.std.specs.Prelude.{◌&&◌, ◌==◌, ◌++◌, ℕ, List, [], ◌∷◌, Bool, true, false, not}
-use Rattle.std.specs.List.{list_any}
+use Rattle.std.specs.List.{list_all, list_any}
 use Rattle.tp_model.specs.Words.{Level, Scenario, Scheme, Step, Transaction}
 use Rattle.tp_model.specs.Words.level
 use Rattle.tp_model.specs.Words.scheme
@@ -21,11 +21,9 @@ is_view _ = false
 abbrev pub is_plain_txn : Transaction → Bool
 is_plain_txn txn = is_deferred txn.scheme && is_view txn.level
 
--- there is at most one transaction, and it is plain
-abbrev pub has_plain_txns : List Transaction → Bool
-has_plain_txns [] = true
-has_plain_txns (txn ∷ []) = is_plain_txn txn
-has_plain_txns _ = false
+-- each transaction is plain
+abbrev pub are_plain_txns : List Transaction → Bool
+are_plain_txns txns = list_all is_plain_txn txns
 
 -- ---- steps
 
@@ -55,4 +53,4 @@ are_plain_steps delivered (taken ∷ steps) =
 -- the scenario has no form that is not built
 abbrev pub is_stage : Scenario → Bool
 is_stage scenario =
-    has_plain_txns scenario.txns && are_plain_steps [] scenario.steps
+    are_plain_txns scenario.txns && are_plain_steps [] scenario.steps

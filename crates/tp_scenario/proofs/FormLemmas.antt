@@ -1,8 +1,9 @@
 -- A scenario without a form that is not built is of the present stage.
 use Rattle.std.proofs.Common.{◌≡◌, ℕ, ◌+◌, ◌&&◌, List, [], ◌∷◌, Bool, true, false, not, if◌then◌else◌, Option, Some, None, option_map, refl}
 use Rattle.std.proofs.lemmas.Bool.{and_from}
+use Rattle.std.specs.List.{list_all}
 use Rattle.tp_model.specs.Words.{Scenario, Step, Transaction}
-use Rattle.tp_model.specs.Stage.{are_plain_steps, delivered_after, has_plain_txns, is_deferred, is_plain_step, is_plain_txn, is_stage, is_view}
+use Rattle.tp_model.specs.Stage.{are_plain_steps, are_plain_txns, delivered_after, is_deferred, is_plain_step, is_plain_txn, is_stage, is_view}
 use Rattle.tp_scenario.specs.declared.path.Key.TheVariants.{Transactions, Scheme, Level}
 use Rattle.tp_scenario.specs.declared.path.Path.TheVariants.{Field}
 use Rattle.tp_scenario.specs.declared.path.Site.{Site}
@@ -23,18 +24,20 @@ unmapped f (Some x) e = cc
 
 -- ---- transactions
 
-txn_none : (txn : Transaction) → txn_form txn ≡ None → is_plain_txn txn ≡ true
-txn_none txn e = by_tests (is_deferred txn.scheme) (is_view txn.level) e
+txn_none : (at : ℕ) (txn : Transaction) → txn_form at txn ≡ None → is_plain_txn txn ≡ true
+txn_none at txn e = by_tests (is_deferred txn.scheme) (is_view txn.level) e
   where
-    by_tests : (deferred view : Bool) → (if deferred then (if view then None else Some (At (Field Transactions 0 Level))) else Some (At (Field Transactions 0 Scheme))) ≡ None → (deferred && view) ≡ true
+    by_tests : (deferred view : Bool) → (if deferred then (if view then None else Some (At (Field Transactions at Level))) else Some (At (Field Transactions at Scheme))) ≡ None → (deferred && view) ≡ true
     by_tests true true f = refl
     by_tests true false f = absurd (cc)
     by_tests false view f = absurd (cc)
 
-txns_none : (txns : List Transaction) → txns_form txns ≡ None → has_plain_txns txns ≡ true
-txns_none [] e = refl
-txns_none (txn ∷ []) e = txn_none txn e
-txns_none (txn ∷ other ∷ txns) e = absurd (cc)
+txns_none : (at : ℕ) (txns : List Transaction) → txns_form at txns ≡ None → are_plain_txns txns ≡ true
+txns_none at [] e = refl
+txns_none at (txn ∷ txns) e =
+    and_from (is_plain_txn txn) (list_all is_plain_txn txns)
+    (txn_none at txn (first_none (txn_form at txn) (txns_form (at + 1) txns) e))
+    (txns_none (at + 1) txns (second_none (txn_form at txn) (txns_form (at + 1) txns) e))
 
 -- ---- steps
 
@@ -53,7 +56,7 @@ steps_none delivered at (taken ∷ steps) e = by_test (is_plain_step delivered t
 pub stage_of_none : (sc : Scenario) → first_form sc ≡ None → is_stage sc ≡ true
 unfolding first_form
 stage_of_none sc e =
-    let listed : listed_form sc ≡ None = second_none (txns_form sc.txns) (listed_form sc) e in
-    and_from (has_plain_txns sc.txns) (are_plain_steps [] sc.steps)
-    (txns_none sc.txns (first_none (txns_form sc.txns) (listed_form sc) e))
+    let listed : listed_form sc ≡ None = second_none (txns_form 0 sc.txns) (listed_form sc) e in
+    and_from (are_plain_txns sc.txns) (are_plain_steps [] sc.steps)
+    (txns_none 0 sc.txns (first_none (txns_form 0 sc.txns) (listed_form sc) e))
     (steps_none [] 0 sc.steps (unmapped step_site (steps_form [] 0 sc.steps) listed))

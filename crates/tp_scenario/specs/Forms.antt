@@ -6,24 +6,28 @@ use Rattle.tp_types.specs.declared.scenario.Step.{Step}
 use Rattle.tp_types.specs.declared.scenario.Transaction.{Transaction}
 use Rattle.tp_model.specs.Stage.{delivered_after, is_deferred, is_plain_step, is_view}
 use Rattle.tp_scenario.specs.declared.path.Key.TheVariants.{Transactions, Scheme, Level, Steps}
-use Rattle.tp_scenario.specs.declared.path.Path.TheVariants.{Top, Member, Field}
+use Rattle.tp_scenario.specs.declared.path.Path.TheVariants.{Member, Field}
 use Rattle.tp_scenario.specs.declared.path.Site.{Site}
 use Rattle.tp_scenario.specs.declared.path.Site.TheVariants.{At}
 
+-- the first of two
+abbrev pub or_else : Option Site → Option Site → Option Site
+or_else (Some site) later = Some site
+or_else None later = later
+
 -- ---- transactions
 
--- another scheme than deferred; another level than view
-abbrev pub txn_form : Transaction → Option Site
-txn_form txn =
+-- in the transaction with this number: another scheme than deferred; another level than view
+abbrev pub txn_form : ℕ → Transaction → Option Site
+txn_form at txn =
     if is_deferred txn.scheme
-    then (if is_view txn.level then None else Some (At (Field Transactions 0 Level)))
-    else Some (At (Field Transactions 0 Scheme))
+    then (if is_view txn.level then None else Some (At (Field Transactions at Level)))
+    else Some (At (Field Transactions at Scheme))
 
--- more than one transaction
-abbrev pub txns_form : List Transaction → Option Site
-txns_form [] = None
-txns_form (txn ∷ []) = txn_form txn
-txns_form (txn ∷ other ∷ txns) = Some (At (Top Transactions))
+-- in the first transaction that has one, where the first of all has this number
+abbrev pub txns_form : ℕ → List Transaction → Option Site
+txns_form at [] = None
+txns_form at (txn ∷ txns) = or_else (txn_form at txn) (txns_form (at + 1) txns)
 
 -- ---- steps
 
@@ -44,15 +48,10 @@ step_site at = At (Member Steps at)
 
 -- ---- the whole
 
--- the first of two
-abbrev pub or_else : Option Site → Option Site → Option Site
-or_else (Some site) later = Some site
-or_else None later = later
-
 -- a listed step that is not built
 abbrev pub listed_form : Scenario → Option Site
 listed_form sc = option_map step_site (steps_form [] 0 sc.steps)
 
 -- the first place at which a form stands that is not built
 unfoldable pub first_form : Scenario → Option Site
-first_form sc = or_else (txns_form sc.txns) (listed_form sc)
+first_form sc = or_else (txns_form 0 sc.txns) (listed_form sc)

@@ -26,31 +26,27 @@ fn is_view(level: Level) -> bool
     }
 }
 
-fn txn_form(txn: &Transaction) -> Option<Site>
-    ensures { result ≡ forms.txn_form txn.now }
+fn txn_form(at: usize, txn: &Transaction) -> Option<Site>
+    ensures { result ≡ forms.txn_form at txn.now }
 {
     if !is_deferred(txn.scheme) {
-        return Some(Site::At(Path::Field(Key::Transactions, 0, Key::Scheme)));
+        return Some(Site::At(Path::Field(Key::Transactions, at, Key::Scheme)));
     }
     if !is_view(txn.level) {
-        return Some(Site::At(Path::Field(Key::Transactions, 0, Key::Level)));
+        return Some(Site::At(Path::Field(Key::Transactions, at, Key::Level)));
     }
     None
 }
 
 fn txns_form(txns: &[Transaction]) -> Option<Site>
-    ensures { result ≡ forms.txns_form txns.now }
+    ensures { result ≡ forms.txns_form 0 txns.now }
 {
-    match txns.split_first() {
-        None => None,
-        Some((txn, others)) => {
-            if others.is_empty() {
-                txn_form(txn)
-            } else {
-                Some(Site::At(Path::Top(Key::Transactions)))
-            }
+    for (at, txn) in txns.iter().enumerate() {
+        if let Some(site) = txn_form(at, txn) {
+            return Some(site);
         }
     }
+    None
 }
 
 fn is_step_form(delivered: &IndexSet<u64>, step: Step) -> bool

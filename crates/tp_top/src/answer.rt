@@ -21,8 +21,8 @@ use std::alloc::Global;
 use tp_io::{ReadError, Source, read_to_end};
 use tp_machine::World;
 use tp_machine::agree::agreed;
-use tp_machine::serial::serial;
 use tp_scenario::{ScenarioError, read};
+use tp_serial::serial;
 use tp_types::{Fact, List, NoMemory, Scenario, Text};
 use tp_views::trusted;
 

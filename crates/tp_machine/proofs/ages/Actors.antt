@@ -16,9 +16,9 @@ use Rattle.tp_machine.specs.Sound.{Each, EachPlaced}
 use Rattle.tp_coord.specs.Row as coord
 use Rattle.tp_round.specs.declared.round.Round.{Round}
 use Rattle.tp_coord.specs.State.{Coordinator}
-use Rattle.tp_machine.specs.declared.server.Entry.{Entry}
-use Rattle.tp_machine.specs.server.Row as server
-use Rattle.tp_machine.specs.server.State.{Server}
+use Rattle.tp_server.specs.declared.server.Entry.{Entry}
+use Rattle.tp_server.specs.Row as server
+use Rattle.tp_server.specs.State.{Server}
 
 -- ---- what is said of ages
 

@@ -26,7 +26,7 @@ use Rattle.tp_coord.specs.Row.{is_begun}
 use Rattle.tp_machine.specs.declared.actors.Actors.{Actors}
 use Rattle.tp_coord.specs.State.{Coordinator}
 use Rattle.tp_machine.specs.Parts.{Part}
-use Rattle.tp_machine.specs.server.State.{Server}
+use Rattle.tp_server.specs.State.{Server}
 use Rattle.tp_machine.proofs.agreement.ServerActs.{begun_count, none_more, server_exists, submitted_told}
 use Rattle.tp_machine.proofs.agreement.Coordinator.{BodyAgrees, CoordinatorAgrees, CoordinatorLawful, DecisionRests, IsFirst, LetterAgrees, PhaseRests, RequestAgrees, SubmissionLawful, decided_begun}
 use Rattle.tp_machine.proofs.agreement.Logs.{DecidedAs, IsPrepared, IsServed, IsSettled, LogPrepared, LogsStay, WasSubmitted, decided_stays, once, prepared_open, settled_outcome, submitted_count, submitted_up}

@@ -18,7 +18,7 @@ use Rattle.tp_machine.specs.Machine.{State}
 use Rattle.tp_machine.specs.Sound.{Each}
 use Rattle.tp_coord.specs.State.{Coordinator}
 use Rattle.tp_machine.specs.Parts.{Part}
-use Rattle.tp_machine.specs.server.State.{Server}
+use Rattle.tp_server.specs.State.{Server}
 use Rattle.tp_machine.proofs.agreement.Logs.{DecidedAs, outcome_settled, settled_outcome, submitted_count}
 use Rattle.tp_machine.proofs.agreement.World.{Agrees, FactFollows, Follows, SettledRests, WhatFollows}
 use Rattle.tp_machine.proofs.basics.Facts.{any_decided, any_settled, count_decisions, count_settlements, count_submissions, decisions, said, settlements}

@@ -13,10 +13,10 @@ use Rattle.tp_machine.proofs.walks.ServerRows.{AreRightWaits, resuming, server_b
 use Rattle.tp_machine.specs.Logs.{known_in, number_of}
 use Rattle.tp_machine.specs.Machine.{log_with}
 use Rattle.tp_machine.specs.Sound.{AreVersions, AreVersionsOf, IsAdmin}
-use Rattle.tp_machine.specs.server.Opened.{opening}
-use Rattle.tp_machine.specs.server.Row.{followed_by, learns, server_row}
-use Rattle.tp_machine.specs.server.State.{Server}
-use Rattle.tp_machine.specs.server.Verdicts.{version_known, with_versions}
+use Rattle.tp_server.specs.Opened.{opening}
+use Rattle.tp_server.specs.Row.{followed_by, learns, server_row}
+use Rattle.tp_server.specs.State.{Server}
+use Rattle.tp_server.specs.Verdicts.{version_known, with_versions}
 use Rattle.tp_store.specs.Contents.{Contents}
 use Rattle.tp_store.specs.Rule.{greater, newest_in, with_version}
 

@@ -17,7 +17,7 @@ use Rattle.tp_coord.specs.Row.{is_begun}
 use Rattle.tp_machine.specs.declared.actors.Actors.{Actors}
 use Rattle.tp_coord.specs.State.{Coordinator}
 use Rattle.tp_machine.specs.Parts.{Part}
-use Rattle.tp_machine.specs.server.State.{Server}
+use Rattle.tp_server.specs.State.{Server}
 use Rattle.tp_machine.proofs.basics.Ids.{same_txn_is}
 use Rattle.tp_machine.proofs.basics.Logs.{appended, get_set, prepared_with}
 

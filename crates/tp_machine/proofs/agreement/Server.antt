@@ -20,18 +20,18 @@ use Rattle.tp_machine.proofs.agreement.Logs.{LogPrepared}
 use Rattle.tp_machine.proofs.basics.Ids.{same_txn_is}
 use Rattle.tp_machine.proofs.basics.Lists.{each_more, placed_emptied, placed_set}
 use Rattle.tp_machine.proofs.basics.Logs.{first_none, get_set, prepared_still, prepared_with, settled_still, settled_with}
-use Rattle.tp_machine.proofs.basics.Tables.{written_over}
+use Rattle.tp_server.proofs.Tables.{written_over}
 use Rattle.tp_machine.proofs.serial_data.Lists.{set_elsewhere}
 use Rattle.tp_machine.proofs.walks.ServerRows.{AreRightWaits, IsAsking, IsFirstHere, IsFurther, IsResumed, resuming, server_by, unwaiting}
 use Rattle.tp_machine.specs.Logs.{prepared_in, settled_in, voted_in, while_unsettled}
 use Rattle.tp_machine.specs.Machine.{log_with}
 use Rattle.tp_model.specs.Deeds.{deed_of}
 use Rattle.tp_machine.specs.Sound.{Each, EachPlaced}
-use Rattle.tp_machine.specs.declared.server.Ballot.{Ballot}
-use Rattle.tp_machine.specs.declared.server.Entry.{Entry}
-use Rattle.tp_machine.specs.server.Row.{ack_letter, answers, ballot_of, closes, completes, entry_after, entry_at, followed_by, is_open, learns, no_letter, prepared_record, refused_as, restarted_reply, server_row, settled_as, votes, with_entry, yes_letter}
-use Rattle.tp_machine.specs.server.State.{Server}
-use Rattle.tp_machine.specs.server.Verdicts.{learnt, verdicts_on}
+use Rattle.tp_server.specs.declared.server.Ballot.{Ballot}
+use Rattle.tp_server.specs.declared.server.Entry.{Entry}
+use Rattle.tp_server.specs.Row.{ack_letter, answers, ballot_of, closes, completes, entry_after, entry_at, followed_by, is_open, learns, no_letter, prepared_record, refused_as, restarted_reply, server_row, settled_as, votes, with_entry, yes_letter}
+use Rattle.tp_server.specs.State.{Server}
+use Rattle.tp_server.specs.Verdicts.{learnt, verdicts_on}
 
 abbrev pub IsUnsettled : List Record → ℕ → Entry → Type 0
 IsUnsettled kept n entry = settled_in (record { 0 = n }) kept ≡ None

@@ -29,7 +29,7 @@ use Rattle.tp_coord.specs.State.{Coordinator}
 use Rattle.tp_coord.specs.declared.coordinator.Phase.TheVariants as phase
 use Rattle.tp_coord.specs.declared.coordinator.Phase.{Phase}
 use Rattle.tp_machine.specs.Parts.{Part}
-use Rattle.tp_machine.specs.server.State.{Server}
+use Rattle.tp_server.specs.State.{Server}
 use Rattle.tp_machine.proofs.agreement.Coordinator.{DecisionRests, PhaseAgrees, PhaseRests, decided_begun}
 use Rattle.tp_machine.proofs.agreement.Known.{KnowsTold}
 use Rattle.tp_machine.proofs.agreement.Logs.{DecidedAs, IsAsked, IsPrepared, IsServed, IsSettled, LogPrepared, LogServed, LogsStay, Settles, WasSubmitted, logs_same, once, outcome_settled, part_stays, prepared_kept, prepared_open, prepared_voted, settled_outcome, settled_stays, settles_is, submitted_count, submitted_up}

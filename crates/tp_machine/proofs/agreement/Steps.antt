@@ -35,9 +35,9 @@ use Rattle.tp_coord.specs.Opened as coord
 use Rattle.tp_coord.specs.Row.{coordinator_row, submit_row}
 use Rattle.tp_coord.specs.State.{Coordinator}
 use Rattle.tp_machine.specs.declared.actors.Actors.{Actors}
-use Rattle.tp_machine.specs.server.Opened as server
-use Rattle.tp_machine.specs.server.Row.{server_row}
-use Rattle.tp_machine.specs.server.State.{Server}
+use Rattle.tp_server.specs.Opened as server
+use Rattle.tp_server.specs.Row.{server_row}
+use Rattle.tp_server.specs.State.{Server}
 use Rattle.tp_offices.specs.Authority as office
 use Rattle.tp_offices.specs.Master as master
 use Rattle.tp_offices.specs.declared.authority.Authority.{Authority}

@@ -18,7 +18,7 @@ use Rattle.tp_coord.specs.Opened.{servers_at}
 use Rattle.tp_machine.specs.declared.actors.Actors.{Actors}
 use Rattle.tp_coord.specs.State.{Coordinator}
 use Rattle.tp_machine.specs.Parts.{Part}
-use Rattle.tp_machine.specs.server.State.{Server}
+use Rattle.tp_server.specs.State.{Server}
 use Rattle.tp_machine.proofs.agreement.Coordinator.{CoordinatorAgrees, DecisionRests, PhaseRests}
 use Rattle.tp_machine.proofs.agreement.Known.{KnowsTold}
 use Rattle.tp_machine.proofs.agreement.Logs.{DecidedAs, HasVoted, IsAsked, IsPrepared, IsServed, IsSettled, LogsStay, decided_stays, settled_outcome, settled_stays, submitted_count, undecided_before}

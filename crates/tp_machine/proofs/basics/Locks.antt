@@ -8,7 +8,7 @@ use Rattle.tp_lock.specs.Table.{Table}
 use Rattle.tp_lock.specs.declared.entry.Asked.TheVariants as asked
 use Rattle.tp_lock.specs.declared.entry.Asked.{Asked}
 use Rattle.tp_lock.specs.declared.entry.LockEntry.{LockEntry}
-use Rattle.tp_machine.proofs.basics.Lists.{at_set, by_cond, each_found, each_more, found_passes}
+use Rattle.tp_machine.proofs.basics.Lists.{at_set, by_cond, each_as, each_found, each_more, found_passes}
 use Rattle.tp_machine.specs.Sound.{Each, EachAt}
 
 -- P holds of each item and each lock on it
@@ -18,6 +18,10 @@ EachLock P locks = EachAt (λ (item : ℕ) (entries : List LockEntry). Each (P i
 -- P holds of a lock that is held, where it holds of it while it is waited for
 abbrev pub OfMoreHeld : (LockEntry → Type 0) → Type 0
 OfMoreHeld P = (lock : LockEntry) (held : Bool) → P lock → P (record lock { held = lock.held || held })
+
+-- what holds of each lock, where it follows from what does
+pub locks_as : (P Q : ℕ → LockEntry → Type 0) (locks : Table) → ((item : ℕ) (lock : LockEntry) → P item lock → Q item lock) → EachLock P locks → EachLock Q locks
+locks_as P Q locks step h item entries found = each_as (P item) (Q item) (λ lock p. step item lock p) entries (h item entries found)
 
 -- ---- one list
 

@@ -3,7 +3,7 @@ use Rattle.std.proofs.Common.{◌≡◌, ℕ, ◌+◌, ◌++◌, [], ◌∷◌, 
 use Rattle.std.proofs.lemmas.List.FromFn.{map-range_with_len_more}
 use Rattle.tp_model.specs.Words.{Scenario}
 use Rattle.tp_coord.specs.Opened as coord
-use Rattle.tp_machine.specs.server.Opened as server
+use Rattle.tp_server.specs.Opened as server
 use Rattle.tp_machine.specs.Machine.{opened_part, opened_servers, idle_coordinators}
 
 pub opened_servers_more : (sc : Scenario) (n : ℕ) → opened_servers sc (n + 1) ≡ opened_servers sc n ++ opened_part (server.opening sc (record { 0 = n })) ∷ []

@@ -5,8 +5,8 @@ use Rattle.tp_model.specs.Words.outcome
 use Rattle.tp_model.specs.Words.query
 use Rattle.tp_model.specs.Words.{AdminId, Outcome, Query, QueryRequest, TxnId, Version}
 use Rattle.tp_machine.specs.Sound.{Each}
-use Rattle.tp_machine.specs.server.Row.{ended_store, kept_by}
-use Rattle.tp_machine.specs.server.Verdicts.{with_versions}
+use Rattle.tp_server.specs.Row.{ended_store, kept_by}
+use Rattle.tp_server.specs.Verdicts.{with_versions}
 use Rattle.tp_store.specs.Contents.{Contents}
 use Rattle.tp_store.specs.Rule.{with_version, with_writes, writes_of}
 use Rattle.tp_store.specs.Writes.{is_on, values_after, with_write}

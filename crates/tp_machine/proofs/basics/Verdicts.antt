@@ -1,8 +1,8 @@
 -- The numbers of the queries that verdicts are on, and deeds are of.
 use Rattle.std.proofs.Common.{List, [], ap, map, refl, ℕ, ◌∷◌, ◌≡◌}
 use Rattle.tp_model.specs.Words.{AdminId, Deed, Scenario, Staple, Transaction, Verdict, Version}
-use Rattle.tp_machine.specs.server.State.{Server}
-use Rattle.tp_machine.specs.server.Verdicts.{verdicts_on}
+use Rattle.tp_server.specs.State.{Server}
+use Rattle.tp_server.specs.Verdicts.{verdicts_on}
 
 abbrev pub numbers_of : List Verdict → List ℕ
 numbers_of verdicts = map (λ (verdict : Verdict). verdict.query) verdicts

@@ -8,8 +8,8 @@ use Rattle.tp_store.specs.Rule.{greater, newest_in, with_version}
 use Rattle.tp_machine.proofs.basics.Ids.{admin_number}
 use Rattle.tp_machine.proofs.basics.Lists.{each_found, found_passes}
 use Rattle.tp_machine.specs.Sound.{Each}
-use Rattle.tp_machine.specs.server.State.{Server}
-use Rattle.tp_machine.specs.server.Verdicts.{admin_of, verdict_on, version_known, version_or, version_used, with_versions}
+use Rattle.tp_server.specs.State.{Server}
+use Rattle.tp_server.specs.Verdicts.{admin_of, verdict_on, version_known, version_or, version_used, with_versions}
 
 set_most : (versions : List Version) (n m : ℕ) (new default : Version) (most : ℕ) → (unwrap_or (slice_get versions m) default).0 ≤ most → (n ≡ m → new.0 ≤ most)
     → (unwrap_or (slice_get (slice_set versions n new) m) default).0 ≤ most

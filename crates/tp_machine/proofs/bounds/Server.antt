@@ -19,9 +19,9 @@ use Rattle.tp_machine.proofs.walks.ServerRows.{AreRightWaits, IsAsking, IsFirstH
 use Rattle.tp_machine.specs.Bounded.{IsAtMost, IsBounded, IsBoundedBody, IsBoundedDeed, IsBoundedDone, IsBoundedEntry, IsBoundedNo, IsBoundedQuery, IsBoundedRecord, IsBoundedSettled, IsBoundedWrite}
 use Rattle.tp_model.specs.Deeds.{deed_of}
 use Rattle.tp_machine.specs.Sound.{Each, EachPlaced}
-use Rattle.tp_machine.specs.declared.server.Entry.{Entry}
-use Rattle.tp_machine.specs.server.Row.{closes, completes, died_reply, done_reply, entry_after, entry_at, followed_by, server_row, value_of_run, with_entry}
-use Rattle.tp_machine.specs.server.State.{Server}
+use Rattle.tp_server.specs.declared.server.Entry.{Entry}
+use Rattle.tp_server.specs.Row.{closes, completes, died_reply, done_reply, entry_after, entry_at, followed_by, server_row, value_of_run, with_entry}
+use Rattle.tp_server.specs.State.{Server}
 use Rattle.tp_store.proofs.OutsideLemmas.{first_is_least}
 use Rattle.tp_store.specs.Contents.{Contents}
 use Rattle.tp_store.specs.Laws.{IsLeastOutside}

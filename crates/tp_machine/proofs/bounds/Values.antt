@@ -15,9 +15,9 @@ use Rattle.tp_machine.proofs.serial_data.World.{Serial}
 use Rattle.tp_machine.specs.Logs.{prepared_in, settled_in}
 use Rattle.tp_machine.specs.Machine.{State}
 use Rattle.tp_machine.specs.Parts.{Part}
-use Rattle.tp_machine.specs.declared.server.Entry.{Entry}
-use Rattle.tp_machine.specs.server.Row.{entry_at}
-use Rattle.tp_machine.specs.server.State.{Server}
+use Rattle.tp_server.specs.declared.server.Entry.{Entry}
+use Rattle.tp_server.specs.Row.{entry_at}
+use Rattle.tp_server.specs.State.{Server}
 
 -- what is to be known as a server that is up acts
 pub record ActsInRange (sc : Scenario) (w : State) (at : ServerId) (part : Part Server) (s : Server) : Type 0 where

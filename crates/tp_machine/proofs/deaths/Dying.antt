@@ -21,7 +21,7 @@ use Rattle.tp_machine.proofs.deaths.Fit.{Death, LockFits}
 use Rattle.tp_machine.proofs.deaths.Told.{Told, less_from}
 use Rattle.tp_machine.specs.Machine.{State}
 use Rattle.tp_machine.specs.Sound.{IsItemOf, query_in}
-use Rattle.tp_machine.specs.declared.server.Entry.{Entry}
+use Rattle.tp_server.specs.declared.server.Entry.{Entry}
 
 -- ---- in conflict
 

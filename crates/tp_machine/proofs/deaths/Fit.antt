@@ -22,7 +22,7 @@ use Rattle.tp_machine.proofs.basics.Facts.{ArePast, Grows, before_past}
 use Rattle.tp_machine.proofs.basics.Lists.{each_found}
 use Rattle.tp_machine.proofs.deaths.Told.{find_first, less_from}
 use Rattle.tp_machine.specs.Sound.{query_in}
-use Rattle.tp_machine.specs.declared.server.Entry.{Entry}
+use Rattle.tp_server.specs.declared.server.Entry.{Entry}
 
 -- ---- locks
 

@@ -19,16 +19,16 @@ use Rattle.tp_model.specs.Words.body
 use Rattle.tp_model.specs.Words.{DoneReply, Fact, Letter, Mail, Query, QueryRequest, Scenario, ServerId, Settled, TxnId}
 use Rattle.tp_machine.proofs.basics.Facts.{ArePast}
 use Rattle.tp_machine.proofs.basics.Lists.{each_as, each_found, each_more, placed_emptied, placed_set, set_here}
-use Rattle.tp_machine.proofs.basics.Locks.{EachLock, all_added, released_locks, requested_locks}
+use Rattle.tp_machine.proofs.basics.Locks.{EachLock, all_added, locks_as, released_locks, requested_locks}
 use Rattle.tp_machine.proofs.deaths.Fit.{Death, DoneDies, LetterDies, LockFits, done_sent}
-use Rattle.tp_machine.proofs.basics.Tables.{placed_within}
+use Rattle.tp_server.proofs.Tables.{placed_within}
 use Rattle.tp_machine.proofs.serial_data.Lists.{set_elsewhere}
 use Rattle.tp_machine.proofs.walks.ServerRows.{AreRightWaits, IsAsking, IsFirstHere, IsFurther, IsResumed, resuming, server_by_locks, unwaiting, with_locks}
 use Rattle.tp_machine.specs.Sound.{Each, EachPlaced}
-use Rattle.tp_machine.specs.declared.server.Entry.{Entry}
-use Rattle.tp_machine.specs.server.Row.{ack_letter, after_asking, ballot_of, closes, died_reply, entry_after, entry_at, followed_by, lock_answer, no_letter, prepared_record, refused_as, server_row, settled_as}
-use Rattle.tp_machine.specs.server.State.{Server}
-use Rattle.tp_machine.specs.server.Verdicts.{learnt, verdicts_on}
+use Rattle.tp_server.specs.declared.server.Entry.{Entry}
+use Rattle.tp_server.specs.Row.{ack_letter, after_asking, ballot_of, closes, died_reply, entry_after, entry_at, followed_by, lock_answer, no_letter, prepared_record, refused_as, server_row, settled_as}
+use Rattle.tp_server.specs.State.{Server}
+use Rattle.tp_server.specs.Verdicts.{learnt, verdicts_on}
 
 -- ---- what is kept
 
@@ -47,9 +47,6 @@ pub record RowDies (sc : Scenario) (facts : List Fact) (place : ℕ) (s : Server
   pub letters : Each (LetterDies sc facts place) effect.reaction.letters
 
 -- ---- locks as entries change
-
-locks_as : (P Q : ℕ → LockEntry → Type 0) (locks : Table) → ((item : ℕ) (lock : LockEntry) → P item lock → Q item lock) → EachLock P locks → EachLock Q locks
-locks_as P Q locks step h item entries found = each_as (P item) (Q item) (λ lock p. step item lock p) entries (h item entries found)
 
 -- the entry of one transaction changes, and keeps its age
 moved : (sc : Scenario) (entries : List (Option Entry)) (n : ℕ) (new : Entry) → n < length entries → ((old : Entry) → flattened (slice_get entries n) ≡ Some old → new.age ≡ old.age) → (item : ℕ) (lock : LockEntry) → LockFits sc entries item lock

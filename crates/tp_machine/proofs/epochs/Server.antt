@@ -19,10 +19,10 @@ use Rattle.tp_machine.specs.Logs.{boots_in, epoch_in}
 use Rattle.tp_machine.specs.Machine.{log_with}
 use Rattle.tp_model.specs.Deeds.{deed_of}
 use Rattle.tp_machine.specs.Sound.{Each, EachPlaced}
-use Rattle.tp_machine.specs.declared.server.Entry.{Entry}
-use Rattle.tp_machine.specs.server.Row as server
-use Rattle.tp_machine.specs.server.State.{Server}
-use Rattle.tp_machine.specs.server.Verdicts.{learnt, verdicts_on}
+use Rattle.tp_server.specs.declared.server.Entry.{Entry}
+use Rattle.tp_server.specs.Row as server
+use Rattle.tp_server.specs.State.{Server}
+use Rattle.tp_server.specs.Verdicts.{learnt, verdicts_on}
 
 -- ---- what is said of epochs
 

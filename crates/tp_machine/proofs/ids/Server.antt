@@ -25,15 +25,15 @@ use Rattle.tp_machine.proofs.basics.Locks.{all_added, released_locks, requested_
 use Rattle.tp_machine.proofs.basics.Stores.{ended_each, ended_known, kept_each, kept_known, learnt_each}
 use Rattle.tp_machine.proofs.basics.Versions.{used_by}
 use Rattle.tp_machine.proofs.ids.Valid.{IsValid, IsValidItem}
-use Rattle.tp_machine.proofs.trust.Evaluation.{uses_presented}
+use Rattle.tp_server.proofs.RightVerdicts.{uses_presented}
 use Rattle.tp_machine.proofs.walks.ServerRows.{AreRightWaits, IsAsking, IsFirstHere, IsFurther, IsResumed, resuming, server_by_locks, unwaiting, with_locks}
 use Rattle.tp_model.specs.Deeds.{deed_of}
 use Rattle.tp_machine.specs.Sound.{AreCreds, AreSoundVerdicts, AreVersions, AreVersionsOf, AreWanted, Each, HaveOwners, IsAdmin, IsCred, IsItemOf, IsQueryOf, IsReasonOf, IsSettledOf, IsSoundBody, IsSoundDeedAt, IsSoundDone, IsSoundEntry, IsSoundAnswer, IsSoundLetter, IsSoundNo, IsSoundQuery, IsSoundRefusal, IsSoundServer, IsSoundServerRecord, IsSoundSettled, IsSoundVerdict, IsSoundWait, IsTxn, IsVersion, IsVersionOf, IsWriteOf}
-use Rattle.tp_machine.specs.declared.server.Ballot.{Ballot}
-use Rattle.tp_machine.specs.declared.server.Entry.{Entry}
-use Rattle.tp_machine.specs.server.Row.{ack_letter, after_asking, answers, asked_query, closes, completes, died_reply, dies, done_reply, entry_after, followed_by, learns, lock_answer, no_letter, refused_as, reply, restarted_reply, server_row, settled_as, votes_on, waits, yes_letter}
-use Rattle.tp_machine.specs.server.State.{Server}
-use Rattle.tp_machine.specs.server.Verdicts.{admin_of, learnt, verdict_on, verdicts_on, version_known, version_used, with_versions}
+use Rattle.tp_server.specs.declared.server.Ballot.{Ballot}
+use Rattle.tp_server.specs.declared.server.Entry.{Entry}
+use Rattle.tp_server.specs.Row.{ack_letter, after_asking, answers, asked_query, closes, completes, died_reply, dies, done_reply, entry_after, followed_by, learns, lock_answer, no_letter, refused_as, reply, restarted_reply, server_row, settled_as, votes_on, waits, yes_letter}
+use Rattle.tp_server.specs.State.{Server}
+use Rattle.tp_server.specs.Verdicts.{admin_of, learnt, verdict_on, verdicts_on, version_known, version_used, with_versions}
 use Rattle.tp_store.proofs.OutsideLemmas.{first_is_least}
 use Rattle.tp_store.specs.Contents.{Contents}
 use Rattle.tp_store.specs.Laws.{IsLeastOutside}

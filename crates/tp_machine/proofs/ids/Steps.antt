@@ -16,8 +16,8 @@ use Rattle.tp_coord.specs.Opened as coord
 use Rattle.tp_coord.specs.Opened.{idle}
 use Rattle.tp_coord.specs.State.{Coordinator}
 use Rattle.tp_machine.specs.declared.actors.Actors.{Actors}
-use Rattle.tp_machine.specs.server.Opened as server
-use Rattle.tp_machine.specs.server.State.{Server}
+use Rattle.tp_server.specs.Opened as server
+use Rattle.tp_server.specs.State.{Server}
 use Rattle.tp_offices.specs.declared.authority.Authority.{Authority}
 use Rattle.tp_offices.specs.declared.master.Master.{Master}
 

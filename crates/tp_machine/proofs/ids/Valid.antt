@@ -14,7 +14,7 @@ use Rattle.tp_model.specs.Words.{Admin, CredId, Item, Policy, Scenario, ServerDe
 use Rattle.tp_offices.specs.Master.{last_of, opening_of}
 use Rattle.tp_machine.specs.Sound.{AreCreds, AreVersions, AreVersionsOf, Each, IsAdmin, IsCred, IsServer, IsVersionOf, proves_each}
 use Rattle.tp_machine.proofs.basics.Facts.{each_from_all}
-use Rattle.tp_machine.specs.server.Verdicts.{HasFewRules}
+use Rattle.tp_server.specs.Verdicts.{HasFewRules}
 use Rattle.tp_machine.proofs.basics.Lists.{each_as, each_get}
 use Rattle.tp_machine.proofs.ids.Built.{deferred_built}
 

@@ -17,7 +17,7 @@ use Rattle.tp_machine.proofs.basics.Lists.{each_as}
 use Rattle.tp_machine.proofs.locked.Fit.{DeedLocked, Locked}
 use Rattle.tp_machine.proofs.serial_data.Reads.{AreClear, AreReads, IsClear}
 use Rattle.tp_machine.specs.Sound.{Each}
-use Rattle.tp_machine.specs.declared.server.Entry.{Entry}
+use Rattle.tp_server.specs.declared.server.Entry.{Entry}
 
 -- ---- two locks
 

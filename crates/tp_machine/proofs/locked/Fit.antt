@@ -14,8 +14,8 @@ use Rattle.tp_model.specs.Words.{Deed, Query, QueryRequest, Scenario, TxnId}
 use Rattle.tp_machine.proofs.basics.LockCounts.{granted_to, waiting_on}
 use Rattle.tp_machine.proofs.basics.Locks.{EachLock}
 use Rattle.tp_machine.specs.Sound.{Each, EachPlaced}
-use Rattle.tp_machine.specs.declared.server.Entry.{Entry}
-use Rattle.tp_machine.specs.server.Row.{asked_query}
+use Rattle.tp_server.specs.declared.server.Entry.{Entry}
+use Rattle.tp_server.specs.Row.{asked_query}
 
 -- the query that waits at an entry is for this item in this mode
 pub record IsWaitedFor (sc : Scenario) (entry : Entry) (item : ℕ) (mode : Action) : Type 0 where

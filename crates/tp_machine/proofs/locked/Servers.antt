@@ -24,16 +24,16 @@ use Rattle.tp_model.specs.Words.{Deed, ItemId, Mail, Query, QueryRequest, Scenar
 use Rattle.tp_machine.proofs.basics.Held.{IsGrantOf, holds_granted, holds_released, holds_requested, released_grants}
 use Rattle.tp_machine.proofs.basics.Lists.{each_as, each_both, each_dropped, each_get, each_more, filtered, placed_emptied_others, placed_set, set_here}
 use Rattle.tp_machine.proofs.basics.LockCounts.{IsHeldOf, dropped_count, first_count, granted_to, held_on, more_waiting, none_granted, none_on, not_granted, one_if, release_count, request_count, waiting_on}
-use Rattle.tp_machine.proofs.basics.Locks.{EachLock, IsAdded, released_locks, requested_locks}
-use Rattle.tp_machine.proofs.basics.Tables.{placed_within}
+use Rattle.tp_machine.proofs.basics.Locks.{EachLock, IsAdded, locks_as, released_locks, requested_locks}
+use Rattle.tp_server.proofs.Tables.{placed_within}
 use Rattle.tp_machine.proofs.locked.Fit.{DeedLocked, EntryLocked, GrantFits, IsWaitedFor, LockWaits, Locked, WaitFits}
 use Rattle.tp_machine.proofs.serial_data.Lists.{set_elsewhere}
 use Rattle.tp_machine.proofs.walks.ServerRows.{AreRightWaits, IsAsking, IsFirstHere, IsFurther, IsResumed, server_by_locks, unwaiting}
 use Rattle.tp_machine.specs.Sound.{Each, EachPlaced}
-use Rattle.tp_machine.specs.declared.server.Entry.{Entry}
-use Rattle.tp_machine.specs.server.Row.{after_asking, asked_query, ballot_of, died_reply, entry_after, entry_at, lock_answer, prepared_record, server_row}
-use Rattle.tp_machine.specs.server.State.{Server}
-use Rattle.tp_machine.specs.server.Verdicts.{learnt, verdicts_on}
+use Rattle.tp_server.specs.declared.server.Entry.{Entry}
+use Rattle.tp_server.specs.Row.{after_asking, asked_query, ballot_of, died_reply, entry_after, entry_at, lock_answer, prepared_record, server_row}
+use Rattle.tp_server.specs.State.{Server}
+use Rattle.tp_server.specs.Verdicts.{learnt, verdicts_on}
 
 -- an act of a server: its locks are kept, and there is a place for each transaction
 pub record RowLocked (sc : Scenario) (s : Server) (effect : Effect Server) : Type 0 where
@@ -93,9 +93,6 @@ grant_moved : (sc : Scenario) (entries : List (Option Entry)) (locks after : Tab
 grant_moved sc entries locks after n new within holds grant keeps h =
     let there = entry_moved sc entries n grant.owner.0 grant.item.0 h.mode h.entry new within keeps h.found h.waited in
     record { entry = there.entry; found = there.found; mode = h.mode; waited = there.waited; held = holds grant.owner h.mode grant.item h.held }
-
-locks_as : (P Q : ℕ → LockEntry → Type 0) (locks : Table) → ((item : ℕ) (lock : LockEntry) → P item lock → Q item lock) → EachLock P locks → EachLock Q locks
-locks_as P Q locks step h item entries found = each_as (P item) (Q item) (λ lock p. step item lock p) entries (h item entries found)
 
 -- a lock that is held where it is the transaction's own
 wait_moved_others : (sc : Scenario) (entries : List (Option Entry)) (n : ℕ) (new : Entry) → n < length entries → (item : ℕ) (lock : LockEntry) → IsHeldOf n lock → LockWaits sc entries item lock → LockWaits sc (slice_set entries n (Some new)) item lock

@@ -21,9 +21,9 @@ use Rattle.tp_machine.proofs.walks.Steps.{Cases, IsServerUp, WaitRightly, WasSen
 use Rattle.tp_machine.specs.Machine.{Machine, State, acts_by, log_with, machine_after, opened_part, opening_state, refusal, server_fact, server_move}
 use Rattle.tp_machine.specs.Parts.{Part}
 use Rattle.tp_machine.specs.Sound.{EachAt, IsSound, IsSoundBody, IsSoundQuery, IsStepOf}
-use Rattle.tp_machine.specs.server.Opened as server_opened
-use Rattle.tp_machine.specs.server.Row.{server_row}
-use Rattle.tp_machine.specs.server.State.{Server}
+use Rattle.tp_server.specs.Opened as server_opened
+use Rattle.tp_server.specs.Row.{server_row}
+use Rattle.tp_server.specs.State.{Server}
 
 -- ---- the invariant
 

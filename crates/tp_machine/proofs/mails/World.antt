@@ -23,9 +23,9 @@ use Rattle.tp_machine.specs.Sound.{EachAt, IsStepOf}
 use Rattle.tp_coord.specs.Opened.{idle, servers_at}
 use Rattle.tp_coord.specs.State.{Coordinator}
 use Rattle.tp_machine.specs.declared.error.StepError.{StepError}
-use Rattle.tp_machine.specs.server.Opened as server_opened
-use Rattle.tp_machine.specs.server.Row.{server_row}
-use Rattle.tp_machine.specs.server.State.{Server}
+use Rattle.tp_server.specs.Opened as server_opened
+use Rattle.tp_server.specs.Row.{server_row}
+use Rattle.tp_server.specs.State.{Server}
 use Rattle.tp_offices.specs.Authority as office
 use Rattle.tp_offices.specs.Master as master
 use Rattle.tp_offices.specs.declared.authority.Authority.{Authority}

@@ -16,9 +16,9 @@ use Rattle.tp_coord.specs.State.{Coordinator}
 use Rattle.tp_machine.specs.declared.actors.Actors.{Actors}
 use Rattle.tp_coord.specs.declared.coordinator.Phase.TheVariants as phase
 use Rattle.tp_coord.specs.declared.coordinator.Phase.{Phase}
-use Rattle.tp_machine.specs.declared.server.Entry.{Entry}
-use Rattle.tp_machine.specs.server.Row.{entry_at}
-use Rattle.tp_machine.specs.server.State.{Server}
+use Rattle.tp_server.specs.declared.server.Entry.{Entry}
+use Rattle.tp_server.specs.Row.{entry_at}
+use Rattle.tp_server.specs.State.{Server}
 
 -- ---- the coordinator
 

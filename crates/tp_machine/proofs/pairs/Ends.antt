@@ -3,8 +3,8 @@ use Rattle.std.proofs.Common.{◌≡◌, inl, inr, ⊎_elim, ◌+◌, [], true, 
 use Rattle.std.proofs.lemmas.Bool.{cases_Bool}
 use Rattle.std.proofs.lemmas.Option.{same_Some}
 use Rattle.tp_model.specs.Words.{PrepareRequest, Prepared}
-use Rattle.tp_machine.specs.declared.server.Ballot.{Ballot}
-use Rattle.tp_machine.specs.declared.server.Entry.{Entry}
+use Rattle.tp_server.specs.declared.server.Ballot.{Ballot}
+use Rattle.tp_server.specs.declared.server.Entry.{Entry}
 use Rattle.tp_machine.proofs.pairs.Fits.{AreOnAll, AskerFits, EntryFits, Fits, PrepareFits, PrepareLive, ServerFits}
 use Rattle.tp_machine.proofs.pairs.Follows.{Next, follows_lost, onward_same}
 use Rattle.tp_machine.proofs.pairs.Lists.{of_some, some_as}

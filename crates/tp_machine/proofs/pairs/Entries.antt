@@ -1,7 +1,7 @@
 -- What the server does with an entry: it makes one, keeps a query that waits, and answers one that does not run.
 use Rattle.std.proofs.Common.{◌≡◌, inl, inr, ⊎_elim, ℕ, ◌<◌, List, [], ◌∷◌, ◌++◌, length, true, false, Option, Some, None, IfSome, option_map, refl, sym, ap, subst, ◌∙◌, arith}
 use Rattle.tp_model.specs.Words.{DoneReply, QueryRequest}
-use Rattle.tp_machine.specs.declared.server.Entry.{Entry}
+use Rattle.tp_server.specs.declared.server.Entry.{Entry}
 use Rattle.tp_machine.proofs.basics.Lists.{each_more}
 use Rattle.tp_machine.proofs.pairs.Fits.{AskerFits, DoneFits, EntryFits, Fits, IsFront, IsGone, Matches, Pairing, QueryFits, ServerFits, There}
 use Rattle.tp_machine.proofs.pairs.Follows.{Follows, Next, answers_follow, done_follows, follows_lost, onward_same, query_follows}

@@ -9,8 +9,8 @@ use Rattle.tp_machine.proofs.basics.Ids.{server_number}
 use Rattle.tp_model.specs.Words.{AdminId, Answer, Deed, DoneReply, PrepareRequest, Prepared, QueryRequest, Verdict, Version, Vote}
 use Rattle.tp_model.specs.Words.answer
 use Rattle.tp_model.specs.Words.vote
-use Rattle.tp_machine.specs.declared.server.Ballot.{Ballot}
-use Rattle.tp_machine.specs.declared.server.Entry.{Entry}
+use Rattle.tp_server.specs.declared.server.Ballot.{Ballot}
+use Rattle.tp_server.specs.declared.server.Entry.{Entry}
 use Rattle.tp_machine.specs.Sound.{Each}
 use Rattle.tp_coord.specs.Sums.{asked_value}
 use Rattle.tp_machine.proofs.pairs.Lists.{answer_in}

@@ -5,7 +5,7 @@ use Rattle.std.proofs.lemmas.List.{take-append-le}
 use Rattle.std.proofs.lemmas.List.Elements.{Contains-append_left}
 use Rattle.tp_model.specs.Words.{Answer, Deed, DoneReply, PrepareRequest, QueryRequest}
 use Rattle.tp_model.specs.Words.answer
-use Rattle.tp_machine.specs.declared.server.Entry.{Entry}
+use Rattle.tp_server.specs.declared.server.Entry.{Entry}
 use Rattle.tp_machine.specs.Sound.{Each}
 use Rattle.tp_coord.specs.Sums.{asked_value}
 use Rattle.tp_machine.proofs.basics.Lists.{each_as}

@@ -4,7 +4,7 @@ use Rattle.std.proofs.Common.{◌≡◌, ⊎_elim, ℕ, ◌+◌, List, [], lengt
 use Rattle.std.proofs.lemmas.List.{take_all}
 use Rattle.tp_model.specs.Words.{Deed, DoneReply, PrepareRequest, QueryRequest}
 use Rattle.tp_coord.specs.Sums.{asked_value}
-use Rattle.tp_machine.specs.declared.server.Entry.{Entry}
+use Rattle.tp_server.specs.declared.server.Entry.{Entry}
 use Rattle.tp_model.specs.Limits.{is_empty}
 use Rattle.tp_machine.proofs.pairs.Fits.{AskerFits, Covers, DoneFits, EntryFits, Fits, Matches, Names, OneMore, Pairing, PrepareFits, PrepareLive, QueryFits, QueryLive, Tells}
 use Rattle.tp_machine.proofs.pairs.Grows.{covers_more}

@@ -3,7 +3,7 @@ use Rattle.std.proofs.Common.{◌≡◌, inr, ℕ, ◌==◌, List, [], ◌∷◌
 use Rattle.std.specs.Option.{option_map_or}
 use Rattle.std.proofs.lemmas.Bool.{true_from_ne_false}
 use Rattle.tp_model.specs.Words.{Deed, Item, PrepareRequest, Prepared, Query, QueryRequest}
-use Rattle.tp_machine.specs.declared.server.Entry.{Entry}
+use Rattle.tp_server.specs.declared.server.Entry.{Entry}
 use Rattle.tp_machine.specs.Sound.{Each}
 use Rattle.tp_model.specs.Queries.{is_at_server}
 use Rattle.tp_machine.proofs.pairs.Answered.{there_matches}

@@ -16,7 +16,7 @@ use Rattle.tp_machine.proofs.pairs.Pair.{Asker, Held, Pair, entry_held, got, hel
 use Rattle.tp_machine.proofs.pairs.Site.{Site, here, in_upto, upto, upto_here, upto_in, upto_none, upto_same}
 use Rattle.tp_machine.proofs.serial_data.Runs.{deed_at}
 use Rattle.tp_coord.specs.Sums.{asked_value}
-use Rattle.tp_machine.specs.declared.server.Entry.{Entry}
+use Rattle.tp_server.specs.declared.server.Entry.{Entry}
 
 -- ---- the numbers of an entry with a query that waits
 

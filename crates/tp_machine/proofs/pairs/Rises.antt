@@ -7,7 +7,7 @@ use Rattle.tp_machine.proofs.pairs.Lists.{answer_in, of_some}
 use Rattle.tp_machine.proofs.pairs.Pair.{Pair, entry_held, held_up, numbers}
 use Rattle.tp_machine.proofs.pairs.Site.{IsUpto, Site, here, in_upto, upto_in}
 use Rattle.tp_machine.proofs.serial_data.Tentative.{AreUpTo}
-use Rattle.tp_machine.specs.declared.server.Entry.{Entry}
+use Rattle.tp_server.specs.declared.server.Entry.{Entry}
 
 -- the numbers of an entry's deeds are not greater than that of a query which it has not answered
 unrun_upto : (s : Site) (p : Pair) (entry : Entry) (q : QueryRequest) → p.up ≡ true → p.entry ≡ Some entry → Fits s p → QueryFits s p q → answer_in q.query entry.answers ≡ None → entry.ballot ≡ None

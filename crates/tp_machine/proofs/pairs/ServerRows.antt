@@ -21,7 +21,7 @@ use Rattle.tp_machine.proofs.agreement.Steps.{same_txn_from}
 use Rattle.tp_machine.proofs.basics.Ids.{same_txn_is}
 use Rattle.tp_machine.proofs.basics.Lists.{each_as, each_found, each_more, set_here}
 use Rattle.tp_machine.proofs.basics.Logs.{appended, first_none, prepared_still, prepared_with, settled_still, settled_with}
-use Rattle.tp_machine.proofs.basics.Tables.{placed_within}
+use Rattle.tp_server.proofs.Tables.{placed_within}
 use Rattle.tp_machine.proofs.basics.Verdicts.{numbers_kept}
 use Rattle.tp_machine.proofs.epochs.Server.{boots_push}
 use Rattle.tp_machine.proofs.pairs.Actors.{AllFit, AllNext, pair_up, site_of}
@@ -44,12 +44,12 @@ use Rattle.tp_machine.specs.Machine.{log_with}
 use Rattle.tp_model.specs.Deeds.{deed_of}
 use Rattle.tp_machine.specs.Sound.{Each, IsSoundBody, IsSoundDone, IsSoundQuery, IsSoundServer}
 use Rattle.tp_coord.specs.Sums.{clamped_sum, registers_after, sum_asked}
-use Rattle.tp_machine.specs.declared.server.Ballot.{Ballot}
-use Rattle.tp_machine.specs.declared.server.Entry.{Entry}
-use Rattle.tp_machine.specs.server.Row as server
-use Rattle.tp_machine.specs.server.Row.{ack_letter, age_of, answer_to, answers, asked_query, ballot_of, casts, closes, completes, died_reply, dies, done_letter, done_reply, entry_after, entry_at, followed_by, learns, no_letter, prepared_record, refused_as, restarts, server_row, settled_as, told_of, value_of_run, waits, yes_letter}
-use Rattle.tp_machine.specs.server.State.{Server}
-use Rattle.tp_machine.specs.server.Verdicts.{learnt, verdicts_on}
+use Rattle.tp_server.specs.declared.server.Ballot.{Ballot}
+use Rattle.tp_server.specs.declared.server.Entry.{Entry}
+use Rattle.tp_server.specs.Row as server
+use Rattle.tp_server.specs.Row.{ack_letter, age_of, answer_to, answers, asked_query, ballot_of, casts, closes, completes, died_reply, dies, done_letter, done_reply, entry_after, entry_at, followed_by, learns, no_letter, prepared_record, refused_as, restarts, server_row, settled_as, told_of, value_of_run, waits, yes_letter}
+use Rattle.tp_server.specs.State.{Server}
+use Rattle.tp_server.specs.Verdicts.{learnt, verdicts_on}
 
 -- ---- an act
 

@@ -4,8 +4,8 @@ use Rattle.std.proofs.lemmas.Option.{same_Some}
 use Rattle.tp_model.specs.Words.{Deed, PrepareRequest, Prepared, QueryRequest}
 use Rattle.std.proofs.lemmas.Bool.{cases_lt}
 use Rattle.tp_machine.proofs.basics.Verdicts.{numbers_of}
-use Rattle.tp_machine.specs.declared.server.Ballot.{Ballot}
-use Rattle.tp_machine.specs.declared.server.Entry.{Entry}
+use Rattle.tp_server.specs.declared.server.Ballot.{Ballot}
+use Rattle.tp_server.specs.declared.server.Entry.{Entry}
 use Rattle.tp_machine.proofs.pairs.Entries.{down_none, settled_none}
 use Rattle.tp_machine.proofs.pairs.Fits.{AreOnAll, AskerFits, Covers, EntryFits, Fits, IsFront, IsGone, IsThere, Made, PrepareFits, PrepareLive, There, Waits}
 use Rattle.tp_machine.proofs.pairs.Follows.{Follows, Next, answers_follow, follows_lost, onward_same}
@@ -15,7 +15,7 @@ use Rattle.tp_machine.proofs.pairs.Moves.{same_entry}
 use Rattle.tp_machine.proofs.pairs.Pair.{Asker, Pair, entry_held, held, held_up, numbers, prepared_held}
 use Rattle.tp_machine.proofs.pairs.Ran.{front_covered, unanswered}
 use Rattle.tp_machine.proofs.pairs.Site.{Site, count, here_within, past_last, upto, upto_same}
-use Rattle.tp_machine.specs.server.Row.{ballot_of}
+use Rattle.tp_server.specs.Row.{ballot_of}
 
 -- ---- a request to prepare
 

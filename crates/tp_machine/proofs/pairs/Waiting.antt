@@ -13,9 +13,9 @@ use Rattle.tp_machine.proofs.walks.Steps.{IsServerUp, WaitRightly}
 use Rattle.tp_machine.specs.Machine.{State}
 use Rattle.tp_machine.specs.Parts.{Part}
 use Rattle.tp_machine.specs.Sound.{IsSound, IsSoundServerUp, IsSoundWait}
-use Rattle.tp_machine.specs.declared.server.Entry.{Entry}
-use Rattle.tp_machine.specs.server.Row.{entry_at}
-use Rattle.tp_machine.specs.server.State.{Server}
+use Rattle.tp_server.specs.declared.server.Entry.{Entry}
+use Rattle.tp_server.specs.Row.{entry_at}
+use Rattle.tp_server.specs.State.{Server}
 
 -- the query that waits at an entry
 waits_at : (sc : Scenario) (w : State) (at : ServerId) (part : Part Server) (s : Server) (n : ℕ) (entry : Entry) (waiting : Option QueryRequest) → IsServerUp w at part s → Pairs sc w → entry_at s (record { 0 = n }) ≡ Some entry

@@ -48,9 +48,9 @@ use Rattle.tp_machine.specs.Parts.{Part}
 use Rattle.tp_machine.specs.Sound.{IsItemOf, IsSound, IsSoundServer, IsSoundServerUp, IsWriteOf}
 use Rattle.tp_coord.specs.Row.{refused_by}
 use Rattle.tp_coord.specs.State.{Coordinator}
-use Rattle.tp_machine.specs.declared.server.Entry.{Entry}
-use Rattle.tp_machine.specs.server.Row.{entry_at}
-use Rattle.tp_machine.specs.server.State.{Server}
+use Rattle.tp_server.specs.declared.server.Entry.{Entry}
+use Rattle.tp_server.specs.Row.{entry_at}
+use Rattle.tp_server.specs.State.{Server}
 use Rattle.tp_store.proofs.OutsideLemmas.{first_is_least}
 use Rattle.tp_store.specs.Laws.{IsLeastOutside, are_apart}
 use Rattle.tp_store.specs.Rule.{bounds_of, first_outside_in, writes_of}

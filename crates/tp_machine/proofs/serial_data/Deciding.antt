@@ -49,7 +49,7 @@ use Rattle.tp_coord.specs.Row.{coordinator_row}
 use Rattle.tp_coord.specs.State.{Coordinator}
 use Rattle.tp_coord.specs.declared.coordinator.Phase.TheVariants as phase
 use Rattle.tp_coord.specs.declared.coordinator.Phase.{Phase}
-use Rattle.tp_machine.specs.server.State.{Server}
+use Rattle.tp_server.specs.State.{Server}
 
 -- ---- rows
 

@@ -29,7 +29,7 @@ use Rattle.tp_machine.specs.Machine.{State, ending_of, item_value, item_values, 
 use Rattle.tp_machine.specs.Parts.{Part}
 use Rattle.tp_machine.specs.Sound.{Each, IsServer, IsSound}
 use Rattle.tp_coord.specs.Opened.{servers_at}
-use Rattle.tp_machine.specs.server.State.{Server}
+use Rattle.tp_server.specs.State.{Server}
 
 -- ---- commits
 

@@ -15,7 +15,7 @@ use Rattle.tp_coord.specs.State.{Coordinator}
 use Rattle.tp_machine.specs.Parts.{Part}
 use Rattle.tp_machine.specs.Machine.{Machine, State, Move, state_after, coordinator_fact, machine_after, facts_of, server_fact, log_with, refusal}
 use Rattle.tp_coord.specs.Row.{coordinator_row, submit_row}
-use Rattle.tp_machine.specs.server.Row.{server_row}
+use Rattle.tp_server.specs.Row.{server_row}
 use Rattle.tp_machine.proofs.agreement.ServerActs.{server_facts}
 use Rattle.tp_machine.proofs.agreement.CoordinatorActs.{coordinator_facts}
 use Rattle.tp_machine.proofs.agreement.End.{each_found, member_counted}

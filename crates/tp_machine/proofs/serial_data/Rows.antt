@@ -15,7 +15,7 @@ use Rattle.tp_model.specs.Words.log
 use Rattle.tp_model.specs.Words.outcome
 use Rattle.tp_model.specs.Words.query
 use Rattle.tp_model.specs.Words.{AdminId, Body, Deed, Letter, Mail, Outcome, PrepareRequest, Prepared, PushNotice, Query, QueryRequest, Record, Scenario, ServerId, Settled, Staple, Transaction, TxnId, Version}
-use Rattle.tp_machine.proofs.basics.Tables.{written_over}
+use Rattle.tp_server.proofs.Tables.{written_over}
 use Rattle.tp_machine.proofs.basics.Ids.{same_txn_is}
 use Rattle.tp_machine.proofs.basics.Lists.{missing, placed_emptied_others, placed_set, set_here}
 use Rattle.tp_machine.proofs.basics.Logs.{Prepares}
@@ -29,11 +29,11 @@ use Rattle.tp_machine.proofs.serial_data.Tentative.{AreLast, AreUpTo, inside_tes
 use Rattle.tp_machine.proofs.walks.ServerRows.{AreRightWaits, IsAsking, IsFirstHere, IsFirstVote, IsFurther, IsLaterVote, IsResumed, IsVote, ServerCases, resuming, server_by, unwaiting}
 use Rattle.tp_model.specs.Deeds.{deed_of}
 use Rattle.tp_machine.specs.Sound.{EachPlaced}
-use Rattle.tp_machine.specs.declared.server.Ballot.{Ballot}
-use Rattle.tp_machine.specs.declared.server.Entry.{Entry}
-use Rattle.tp_machine.specs.server.Row.{ack_letter, answer_to, asked_query, closes, completes, ended_store, entry_after, entry_at, followed_by, is_open, kept_by, learns, no_letter, refused_as, reply, restarted_reply, server_row, settled_as, tentative_write, value_of_run, votes_on, with_entry, yes_letter}
-use Rattle.tp_machine.specs.server.State.{Server}
-use Rattle.tp_machine.specs.server.Verdicts.{learnt, verdicts_on, with_versions}
+use Rattle.tp_server.specs.declared.server.Ballot.{Ballot}
+use Rattle.tp_server.specs.declared.server.Entry.{Entry}
+use Rattle.tp_server.specs.Row.{ack_letter, answer_to, asked_query, closes, completes, ended_store, entry_after, entry_at, followed_by, is_open, kept_by, learns, no_letter, refused_as, reply, restarted_reply, server_row, settled_as, tentative_write, value_of_run, votes_on, with_entry, yes_letter}
+use Rattle.tp_server.specs.State.{Server}
+use Rattle.tp_server.specs.Verdicts.{learnt, verdicts_on, with_versions}
 use Rattle.tp_store.specs.Contents.{Contents}
 use Rattle.tp_store.specs.Rule.{bounds_of, read_in, writes_of}
 use Rattle.tp_store.specs.Writes.{with_write}

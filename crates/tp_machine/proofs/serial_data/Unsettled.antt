@@ -19,7 +19,7 @@ use Rattle.tp_machine.specs.Machine.{log_with}
 use Rattle.tp_machine.specs.Parts.{Part}
 use Rattle.tp_coord.specs.State.{Coordinator}
 use Rattle.tp_machine.specs.declared.actors.Actors.{Actors}
-use Rattle.tp_machine.specs.server.State.{Server}
+use Rattle.tp_server.specs.State.{Server}
 
 -- ---- what is unsettled
 

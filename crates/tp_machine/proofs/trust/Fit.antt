@@ -16,8 +16,8 @@ use Rattle.tp_machine.proofs.basics.Facts.{Grows}
 use Rattle.tp_machine.proofs.basics.Lists.{each_as}
 use Rattle.tp_machine.specs.Sound.{Each, EachPlaced, IsAdmin}
 use Rattle.tp_coord.specs.Row.{staple_of}
-use Rattle.tp_machine.specs.server.State.{Server}
-use Rattle.tp_machine.specs.server.Verdicts.{version_known}
+use Rattle.tp_server.specs.State.{Server}
+use Rattle.tp_server.specs.Verdicts.{version_known}
 use Rattle.tp_offices.specs.Authority.{revocations}
 use Rattle.tp_offices.specs.declared.authority.Authority.{Authority}
 

@@ -10,9 +10,9 @@ use Rattle.tp_machine.specs.Logs.{preparation_in, prepared_in}
 use Rattle.tp_machine.specs.Machine.{log_with}
 use Rattle.tp_machine.specs.Parts.{Part}
 use Rattle.tp_machine.specs.Sound.{Each, EachPlaced}
-use Rattle.tp_machine.specs.declared.server.Ballot.{Ballot}
-use Rattle.tp_machine.specs.declared.server.Entry.{Entry}
-use Rattle.tp_machine.specs.server.State.{Server}
+use Rattle.tp_server.specs.declared.server.Ballot.{Ballot}
+use Rattle.tp_server.specs.declared.server.Entry.{Entry}
+use Rattle.tp_server.specs.State.{Server}
 use Rattle.tp_machine.proofs.basics.Logs.{appended, prepared_either}
 use Rattle.tp_machine.proofs.basics.Lists.{each_as}
 use Rattle.tp_machine.proofs.trust.Fit.{BodyFits, Later, body_stays, maybe_stays}

@@ -20,7 +20,7 @@ use Rattle.tp_machine.proofs.basics.Stores.{ended_known, kept_known}
 use Rattle.tp_machine.proofs.basics.Versions.{known_most, learnt_most, used_by}
 use Rattle.tp_machine.proofs.ids.Server.{learnt_sound, verdict_sound}
 use Rattle.tp_machine.proofs.ids.Valid.{IsValid}
-use Rattle.tp_machine.proofs.trust.Evaluation.{evaluate_right}
+use Rattle.tp_server.proofs.RightVerdicts.{evaluate_right}
 use Rattle.tp_machine.proofs.trust.Fit.{BodyFits, IsPublished, IsRight, Right, ServerFits, StapleFits}
 use Rattle.tp_machine.proofs.trust.Kept.{AreKept, IsKept, IsTrusted, RecordKept, vote_cast}
 use Rattle.tp_machine.proofs.trust.Turns.{AimedVote, Answers, IsClosed, PrepareNow, Stamp, VoteNow, WantNow, stamp_of}
@@ -33,16 +33,16 @@ use Rattle.tp_round.specs.Judge.{is_aimed}
 use Rattle.tp_round.specs.Laws.{wanted_of}
 use Rattle.tp_round.specs.declared.round.Round.{Round}
 use Rattle.tp_machine.proofs.walks.ServerRows.{AreRightWaits, IsAsking, IsFirstHere, IsFurther, IsResumed, resuming, server_by, unwaiting}
-use Rattle.tp_machine.specs.Evaluation.{IsRightVerdict}
+use Rattle.tp_server.specs.Evaluation.{IsRightVerdict}
 use Rattle.tp_model.specs.Deeds.{deed_of}
 use Rattle.tp_machine.specs.Sound.{AreWanted, Each, IsAdmin, IsQueryAt, IsSoundBody, IsSoundDeedAt, IsSoundEntry, IsSoundServer, IsSoundVerdict, IsVersion, query_in}
 use Rattle.tp_coord.specs.declared.coordinator.Phase.TheVariants as phase
 use Rattle.tp_coord.specs.declared.coordinator.Phase.{Phase}
-use Rattle.tp_machine.specs.declared.server.Ballot.{Ballot}
-use Rattle.tp_machine.specs.declared.server.Entry.{Entry}
-use Rattle.tp_machine.specs.server.Row.{ack_letter, answers, closes, completes, died_reply, done_reply, entry_after, entry_at, followed_by, learns, no_letter, refused_as, restarted_reply, server_row, settled_as, votes_on, with_entry, yes_letter}
-use Rattle.tp_machine.specs.server.State.{Server}
-use Rattle.tp_machine.specs.server.Verdicts.{learnt, verdict_on, verdicts_on, version_known, version_or, version_used}
+use Rattle.tp_server.specs.declared.server.Ballot.{Ballot}
+use Rattle.tp_server.specs.declared.server.Entry.{Entry}
+use Rattle.tp_server.specs.Row.{ack_letter, answers, closes, completes, died_reply, done_reply, entry_after, entry_at, followed_by, learns, no_letter, refused_as, restarted_reply, server_row, settled_as, votes_on, with_entry, yes_letter}
+use Rattle.tp_server.specs.State.{Server}
+use Rattle.tp_server.specs.Verdicts.{learnt, verdict_on, verdicts_on, version_known, version_or, version_used}
 
 -- an act of a server: what it is after it, if it is up, fits; what it keeps and forced, and its letters, fit too and T of them. T is closed
 -- under answers, and is so of the mail

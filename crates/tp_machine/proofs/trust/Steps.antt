@@ -40,10 +40,10 @@ use Rattle.tp_coord.specs.Opened as coord
 use Rattle.tp_coord.specs.Opened.{idle}
 use Rattle.tp_coord.specs.Row.{begins, coordinator_row, home_of, is_begun, submit_row}
 use Rattle.tp_coord.specs.State.{Coordinator}
-use Rattle.tp_machine.specs.declared.server.Entry.{Entry}
-use Rattle.tp_machine.specs.server.Opened as server
-use Rattle.tp_machine.specs.server.Row.{server_row}
-use Rattle.tp_machine.specs.server.State.{Server}
+use Rattle.tp_server.specs.declared.server.Entry.{Entry}
+use Rattle.tp_server.specs.Opened as server
+use Rattle.tp_server.specs.Row.{server_row}
+use Rattle.tp_server.specs.State.{Server}
 use Rattle.tp_offices.specs.Authority as office
 use Rattle.tp_offices.specs.Master as master
 

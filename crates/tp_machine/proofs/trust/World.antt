@@ -21,7 +21,7 @@ use Rattle.tp_machine.specs.declared.actors.Actors.{Actors}
 use Rattle.tp_offices.specs.Master.{version_in}
 use Rattle.tp_offices.specs.declared.authority.Authority.{Authority}
 use Rattle.tp_offices.specs.declared.master.Master.{Master}
-use Rattle.tp_machine.specs.server.State.{Server}
+use Rattle.tp_server.specs.State.{Server}
 use Rattle.tp_machine.proofs.agreement.World.{Agrees}
 use Rattle.tp_machine.proofs.basics.Facts.{ArePast, before_past, count_append, grows_with_facts, new_facts_past, past_as}
 use Rattle.tp_machine.proofs.basics.Lists.{each_append, each_as}

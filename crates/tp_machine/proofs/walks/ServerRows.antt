@@ -16,14 +16,14 @@ use Rattle.tp_model.specs.Words.no
 use Rattle.tp_model.specs.Words.query
 use Rattle.tp_model.specs.Words.{Body, DecideRequest, Deed, DoneReply, Letter, Mail, No, PrepareRequest, PushNotice, Query, QueryRequest, Scenario, ServerId, Settled, Staple, Transaction, TxnId}
 use Rattle.tp_machine.proofs.basics.Lists.{by_cond, placed_emptied, placed_set}
-use Rattle.tp_machine.proofs.basics.Tables.{placed_same, set_twice, written_over}
+use Rattle.tp_server.proofs.Tables.{placed_same, set_twice, written_over}
 use Rattle.tp_model.specs.Deeds.{deed_of}
 use Rattle.tp_machine.specs.Sound.{Each, EachPlaced, HasValue}
-use Rattle.tp_machine.specs.declared.server.Ballot.{Ballot}
-use Rattle.tp_machine.specs.declared.server.Entry.{Entry}
-use Rattle.tp_machine.specs.server.Row.{ack_letter, after_asking, age_of, all_resumed, answer_to, answers, asked_query, asked_to_vote, asks, asks_query, asks_with, by_lock, closes, completes, dies, done_letter, ends, entry_after, entry_at, evaluates, followed_by, is_open, kept_by, learns, lock_answer, names_another_epoch, new_entry, no_letter, on_body, on_open_query, on_refused, on_settled_decide, on_settled_prepare, on_unlost_query, refused_as, restarts, resumed, resumes_at, resumes_query, resumes_waiting, resumes_with, server_row, settled_as, taken_from, value_of_run, votes_at, votes_in_range, votes_on, votes_with, waiting_at, waits, with_entry, yes_letter}
-use Rattle.tp_machine.specs.server.State.{Server}
-use Rattle.tp_machine.specs.server.Verdicts.{learnt, version_known}
+use Rattle.tp_server.specs.declared.server.Ballot.{Ballot}
+use Rattle.tp_server.specs.declared.server.Entry.{Entry}
+use Rattle.tp_server.specs.Row.{ack_letter, after_asking, age_of, all_resumed, answer_to, answers, asked_query, asked_to_vote, asks, asks_query, asks_with, by_lock, closes, completes, dies, done_letter, ends, entry_after, entry_at, evaluates, followed_by, is_open, kept_by, learns, lock_answer, names_another_epoch, new_entry, no_letter, on_body, on_open_query, on_refused, on_settled_decide, on_settled_prepare, on_unlost_query, refused_as, restarts, resumed, resumes_at, resumes_query, resumes_waiting, resumes_with, server_row, settled_as, taken_from, value_of_run, votes_at, votes_in_range, votes_on, votes_with, waiting_at, waits, with_entry, yes_letter}
+use Rattle.tp_server.specs.State.{Server}
+use Rattle.tp_server.specs.Verdicts.{learnt, version_known}
 use Rattle.tp_store.specs.Rule.{first_outside_in, read_in}
 
 -- ---- outcomes

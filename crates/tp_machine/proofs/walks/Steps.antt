@@ -10,12 +10,12 @@ use Rattle.tp_coord.specs.State.{Coordinator}
 use Rattle.tp_machine.specs.declared.error.StepError.{StepError}
 use Rattle.tp_machine.specs.declared.error.StepError.TheVariants as error
 use Rattle.tp_machine.specs.Parts.{Part}
-use Rattle.tp_machine.specs.server.State.{Server}
+use Rattle.tp_server.specs.State.{Server}
 use Rattle.tp_machine.specs.Machine.{Machine, Move, State, acts_by, coordinator_fact, coordinator_move, coordinator_submits_up, coordinator_takes_up, delivery, idle_move, is_part_submitted, is_submitted, machine_after, publishes, pushes, receipt, refusal, revokes, server_fact, server_move, server_takes_up, state_after, submission, submission_by, ticks, to_authority, to_coordinator, to_master, to_server, with_age}
 use Rattle.tp_machine.specs.Sound.{IsAdmin, IsCred, IsServer, IsStepOf, IsTxn}
 use Rattle.tp_machine.proofs.walks.ServerRows.{AreRightWaits}
 use Rattle.tp_coord.specs.Row.{coordinator_row, submit_row}
-use Rattle.tp_machine.specs.server.Row.{server_row}
+use Rattle.tp_server.specs.Row.{server_row}
 use Rattle.tp_offices.specs.Master as master
 use Rattle.tp_machine.proofs.basics.Logs.{set_same}
 use Rattle.tp_machine.proofs.basics.Lists.{missing}

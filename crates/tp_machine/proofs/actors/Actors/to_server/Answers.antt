@@ -1,5 +1,5 @@
 use Rattle.std.proofs.Common.{refl}
-use Rattle.tp_machine.proofs.basics.Tables.{same_up}
+use Rattle.tp_machine.proofs.basics.Parts.{same_up}
 use Rattle.tp_machine.proofs.actors.Actors.to_server.Goals as goal
 
 pub returns-in-Some-clause-up : goal.returns-in-Some-clause-up

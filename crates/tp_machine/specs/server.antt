@@ -1,4 +1,0 @@
-pub mod Opened
-pub mod Row
-pub mod State
-pub mod Verdicts

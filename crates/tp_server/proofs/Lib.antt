@@ -1,0 +1,2 @@
+pub mod RightVerdicts
+pub mod Tables

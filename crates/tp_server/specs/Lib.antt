@@ -1,0 +1,6 @@
+pub mod Evaluation
+pub mod Opened
+pub mod Row
+pub mod State
+pub mod Verdicts
+pub mod mirrors

@@ -1,0 +1,96 @@
+//! What a server does at the end of a transaction: its writes are applied or dropped, its locks are released, and what waited for them runs.
+ghost use Rattle.std.specs.Prelude.{◌≡◌, None, slice_get, IfOk};
+ghost use Rattle.tp_types.specs.Effect.{Gives};
+ghost use Rattle.tp_types.specs.Table.{flattened};
+ghost use Rattle.tp_server.specs.Row as row;
+
+use crate::server::Server;
+use std::alloc::Global;
+use tp_lock::LockTable;
+use tp_types::{
+    AckReply, Body, DecideRequest, Letter, List, NoMemory, Outcome, Reaction, Record, Scenario,
+    Settled, TxnId, ignored, sent_alone,
+};
+
+impl<L: LockTable + Drop> Server<L> {
+    pub(crate) fn on_decide(
+        &mut self,
+        alloc: Global,
+        scenario: &Scenario,
+        request: DecideRequest,
+    ) -> Result<Reaction, NoMemory>
+        ensures { IfOk result (λ reaction.
+            Gives (row.on_decide scenario.now self.old request) self.new reaction) }
+    {
+        if !self.is_open(request.txn) {
+            return self.on_settled_decide(alloc, request);
+        }
+        let settled = Settled {
+            txn: request.txn,
+            outcome: request.outcome,
+            why: None,
+        };
+        let letter = self.ack_letter(request.txn);
+        self.ends(alloc, scenario, settled, letter)
+    }
+
+    /// An order to end what may be settled already.
+    fn on_settled_decide(&self, alloc: Global, request: DecideRequest) -> Result<Reaction, NoMemory>
+        ensures { IfOk result (λ reaction.
+            Gives
+            (row.on_settled_decide self.now request
+            (flattened (slice_get self.now.settled request.txn.0)))
+            self.now reaction) }
+    {
+        match self.settled.get(request.txn.0 as usize) {
+            Some(Some(_)) => {
+                let letter = self.ack_letter(request.txn);
+                sent_alone(alloc, letter)
+            }
+            _ => Ok(ignored(alloc)),
+        }
+    }
+
+    fn ack_letter(&self, txn: TxnId) -> Letter
+        ensures { result ≡ row.ack_letter self.now txn }
+    {
+        self.reply(txn, Body::Ack(AckReply { txn }))
+    }
+
+    /// Forces how a transaction ended, ends its entry, releases its locks, and sends the letter; what waited for them goes on.
+    pub(crate) fn ends(
+        &mut self,
+        alloc: Global,
+        scenario: &Scenario,
+        settled: Settled,
+        letter: Letter,
+    ) -> Result<Reaction, NoMemory>
+        ensures { IfOk result (λ reaction.
+            Gives (row.ends scenario.now self.old settled letter) self.new reaction) }
+    {
+        let at = settled.txn.0 as usize;
+        self.end(settled.txn, settled.outcome);
+        self.settled.put(at, Some(settled));
+        self.entries.put(at, None);
+        self.locks.release(settled.txn);
+        let mut letters = List::of_one(alloc, letter)?;
+        while let Some(grant) = self.locks.take_granted() {
+            self.resumes(alloc, scenario, grant.owner, &mut letters)?;
+        }
+        Ok(Reaction {
+            append: Some(Record::Settled(settled)),
+            letters,
+        })
+    }
+
+    /// Applies what a commit has written, or drops what an abort has.
+    fn end(&mut self, txn: TxnId, outcome: Outcome)
+        ensures { self.new
+            ≡ record self.old { store = row.ended_store self.old.store txn outcome } }
+    {
+        match outcome {
+            Outcome::Commit => self.store.apply(txn),
+            Outcome::Abort => self.store.forget(txn),
+        }
+    }
+}

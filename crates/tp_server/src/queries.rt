@@ -1,0 +1,378 @@
+//! What a server does on a Query: it asks for a lock, and what has its lock runs.
+ghost use Rattle.std.specs.Prelude.{◌≡◌, Some, None, slice_set, IfOk, OnOk};
+ghost use Rattle.std.specs.Option.{option_copied};
+ghost use Rattle.tp_model.specs.Deeds as ran;
+ghost use Rattle.tp_types.specs.Effect.{Gives};
+ghost use Rattle.tp_server.specs.Row as row;
+ghost use Rattle.tp_server.specs.mirrors.Entries.{Continues, entry_of, IsNoted};
+
+use crate::server::{Entry, Server};
+use std::alloc::Global;
+use tp_lock::{Asked, LockTable};
+use tp_model::{action_of, deed_of, item_of, query_at};
+use tp_types::{
+    Answer, Body, Deed, DoneReply, Letter, List, NoMemory, Place, Query, QueryRequest, Reaction,
+    Scenario, TryClone, TxnId, ignored, sent_alone, taken, unbuilt,
+};
+
+impl<L: LockTable + Drop> Server<L> {
+    pub(crate) fn on_query(
+        &mut self,
+        alloc: Global,
+        scenario: &Scenario,
+        sent: Place,
+        request: &QueryRequest,
+    ) -> Result<Reaction, NoMemory>
+        ensures { IfOk result (λ reaction.
+            Gives (row.on_query scenario.now self.old sent request.now) self.new reaction) }
+    {
+        if !self.is_open(request.txn) {
+            return Ok(ignored(alloc));
+        }
+        let Some(entry) = self.entry_at(request.txn) else {
+            return self.on_first_query(alloc, scenario, sent, request);
+        };
+        if entry.ballot.is_some() {
+            return Ok(ignored(alloc));
+        }
+        if names_another_epoch(entry, request) {
+            return self.restarts(alloc, request);
+        }
+        if let Some(given) = answer_to(entry, request.query) {
+            let given = given.try_clone(alloc)?;
+            return self.answers(alloc, request.txn, given);
+        }
+        if entry.waiting.is_some() {
+            return Ok(ignored(alloc));
+        }
+        self.asks(alloc, scenario, sent, request)
+    }
+
+    /// A query of a transaction that has no entry.
+    fn on_first_query(
+        &mut self,
+        alloc: Global,
+        scenario: &Scenario,
+        sent: Place,
+        request: &QueryRequest,
+    ) -> Result<Reaction, NoMemory>
+        ensures { row.entry_at self.old request.now.txn ≡ None → IfOk result (λ reaction.
+            Gives (row.on_open_query scenario.now self.old sent request.now None) self.new reaction) }
+    {
+        if request.epoch.is_some() {
+            return self.restarts(alloc, request);
+        }
+        self.asks(alloc, scenario, sent, request)
+    }
+
+    /// A query asks for the lock on its item.
+    fn asks(
+        &mut self,
+        alloc: Global,
+        scenario: &Scenario,
+        sent: Place,
+        request: &QueryRequest,
+    ) -> Result<Reaction, NoMemory>
+        ensures { IfOk result (λ reaction.
+            Gives
+            (row.asks scenario.now self.old request.now
+            (entry_of self.old sent request.now))
+            self.new reaction) }
+    {
+        if request.staple.is_some() || request.pin.is_some() {
+            return Ok(unbuilt(alloc));
+        }
+        let Some(query) = asked_query(scenario, request) else {
+            return Ok(ignored(alloc));
+        };
+        let Some(value) = self.value_of_run(request, query) else {
+            return Ok(ignored(alloc));
+        };
+        let age = self.age_at(sent, request);
+        let item = item_of(query);
+        let asked = self
+            .locks
+            .request(alloc, request.txn, age, item, action_of(query))?;
+        match asked {
+            Asked::Granted => {
+                let letter = self.runs(alloc, sent, request, query, value)?;
+                sent_alone(alloc, letter)
+            }
+            Asked::Waits => self.waits(alloc, sent, request),
+            Asked::Dies { other } => self.dies(alloc, sent, request, other),
+        }
+    }
+
+    /// The place of the transaction's submission: as its entry has it, or as the request tells it.
+    fn age_at(&self, sent: Place, request: &QueryRequest) -> Place
+        ensures { result ≡ (entry_of self.now sent request.now).age }
+    {
+        match self.entry_at(request.txn) {
+            Some(entry) => entry.age,
+            None => request.age.unwrap_or(sent),
+        }
+    }
+
+    /// The query is kept until its lock is granted.
+    #[tactic(auto, using(crate::proofs::Tables::set_twice))]
+    fn waits(
+        &mut self,
+        alloc: Global,
+        sent: Place,
+        request: &QueryRequest,
+    ) -> Result<Reaction, NoMemory>
+        ensures { IfOk result (λ reaction.
+            Gives
+            (row.waits self.old request.now (entry_of self.old sent request.now))
+            self.new reaction) }
+    {
+        let mut entry = self.entry_for(alloc, sent, request);
+        entry.waiting = Some(request.try_clone(alloc)?);
+        self.entries.put(request.txn.0 as usize, Some(entry));
+        Ok(ignored(alloc))
+    }
+
+    /// An older transaction stands in the way.
+    #[tactic(auto, using(crate::proofs::Tables::set_twice))]
+    fn dies(
+        &mut self,
+        alloc: Global,
+        sent: Place,
+        request: &QueryRequest,
+        other: TxnId,
+    ) -> Result<Reaction, NoMemory>
+        ensures { IfOk result (λ reaction.
+            Gives
+            (row.dies self.old request.now (entry_of self.old sent request.now) other)
+            self.new reaction) }
+    {
+        let mut entry = self.entry_for(alloc, sent, request);
+        let epoch = entry.epoch;
+        entry.answers.push(died(request, epoch, other))?;
+        self.entries.put(request.txn.0 as usize, Some(entry));
+        let letter = self.reply(request.txn, Body::Done(died(request, epoch, other)));
+        sent_alone(alloc, letter)
+    }
+
+    fn value_of_run(&self, request: &QueryRequest, query: &Query) -> Option<i128>
+        ensures { result ≡ row.value_of_run self.now request.now query.now }
+    {
+        match query {
+            Query::Read { item, .. } => Some(self.store.read(request.txn, *item)),
+            Query::Write { .. } => request.value,
+        }
+    }
+
+    /// What the query does is kept, and answered by the letter.
+    fn runs(
+        &mut self,
+        alloc: Global,
+        sent: Place,
+        request: &QueryRequest,
+        query: &Query,
+        value: i128,
+    ) -> Result<Letter, NoMemory>
+        ensures kept { OnOk result
+            (self.new
+            ≡ row.after_run self.old request.now query.now
+            (entry_of self.old sent request.now)
+            (ran.deed_of request.now.query query.now value)) }
+        ensures letter { IfOk result (λ letter.
+            letter
+            ≡ row.done_letter self.old request.now
+            (entry_of self.old sent request.now)
+            (ran.deed_of request.now.query query.now value)) }
+    {
+        let deed = deed_of(request.query, query, value);
+        let epoch = self.notes(alloc, sent, request, deed)?;
+        self.keep(alloc, request, query, value)?;
+        Ok(self.reply(request.txn, Body::Done(done(request, epoch, deed))))
+    }
+
+    /// What waits at an owner's entry runs, and its answer is added to the letters.
+    pub(crate) fn resumes(
+        &mut self,
+        alloc: Global,
+        scenario: &Scenario,
+        owner: TxnId,
+        letters: &mut List<Letter>,
+    ) -> Result<(), NoMemory>
+        ensures { OnOk result
+            (Continues (row.resumes scenario.now self.old owner) self.new letters.old letters.new) }
+    {
+        let Some(request) = self.taken_waiting(owner) else {
+            return Ok(());
+        };
+        if self.entry_at(request.txn).is_none() {
+            return Ok(());
+        }
+        let Some(query) = asked_query(scenario, &request) else {
+            return Ok(());
+        };
+        let Some(value) = self.value_of_run(&request, query) else {
+            return Ok(());
+        };
+        let letter = self.runs(alloc, 0, &request, query, value)?;
+        letters.push(letter)
+    }
+
+    /// Takes what waits at an owner's entry.
+    #[tactic(auto, using(crate::proofs::Tables::set_twice))]
+    fn taken_waiting(&mut self, owner: TxnId) -> Option<QueryRequest>
+        ensures taken { result ≡ row.waiting_at self.old owner }
+        ensures left { self.new ≡ row.without_waiting self.old owner }
+    {
+        match taken(&mut self.entries, owner.0 as usize) {
+            None => None,
+            Some(mut entry) => {
+                let waiting = entry.waiting.take();
+                self.entries.put(owner.0 as usize, Some(entry));
+                waiting
+            }
+        }
+    }
+
+    /// Adds a deed, with its answer, to the entry of its transaction, and gives the entry's epoch.
+    #[tactic(auto, using(crate::proofs::Tables::set_twice))]
+    fn notes(
+        &mut self,
+        alloc: Global,
+        sent: Place,
+        request: &QueryRequest,
+        deed: Deed,
+    ) -> Result<u64, NoMemory>
+        ensures { IfOk result (λ epoch. IsNoted self.old sent request.now deed self.new epoch) }
+    {
+        let entry = self.entry_for(alloc, sent, request);
+        let epoch = entry.epoch;
+        let entry = after_run(entry, request, deed)?;
+        self.entries.put(request.txn.0 as usize, Some(entry));
+        Ok(epoch)
+    }
+
+    /// Takes the entry of a transaction, or makes one.
+    fn entry_for(&mut self, alloc: Global, sent: Place, request: &QueryRequest) -> Entry
+        ensures taken { result ≡ entry_of self.old sent request.now }
+        ensures left { self.new
+            ≡ record self.old { entries = slice_set self.old.entries request.now.txn.0 None } }
+    {
+        match taken(&mut self.entries, request.txn.0 as usize) {
+            Some(entry) => entry,
+            None => Entry {
+                age: request.age.unwrap_or(sent),
+                epoch: self.epoch,
+                answers: List::new(alloc),
+                waiting: None,
+                deeds: List::new(alloc),
+                ballot: None,
+            },
+        }
+    }
+
+    fn keep(
+        &mut self,
+        alloc: Global,
+        request: &QueryRequest,
+        query: &Query,
+        value: i128,
+    ) -> Result<(), NoMemory>
+        ensures { OnOk result (self.new
+            ≡ record self.old { store = row.kept_by self.old.store request.now query.now value }) }
+    {
+        match query {
+            Query::Read { .. } => Ok(()),
+            Query::Write { item, .. } => {
+                self.store
+                    .write(alloc, request.txn, request.query, *item, value)
+            }
+        }
+    }
+
+    /// What the transaction did here was lost in an earlier epoch.
+    fn restarts(&self, alloc: Global, request: &QueryRequest) -> Result<Reaction, NoMemory>
+        ensures { IfOk result (λ reaction.
+            Gives (row.restarts self.now request.now) self.now reaction) }
+    {
+        let restarted = DoneReply {
+            txn: request.txn,
+            turn: request.turn,
+            query: request.query,
+            epoch: self.epoch,
+            answer: Answer::Restarted,
+        };
+        self.answers(alloc, request.txn, restarted)
+    }
+
+    fn answers(&self, alloc: Global, txn: TxnId, given: DoneReply) -> Result<Reaction, NoMemory>
+        ensures { IfOk result (λ reaction.
+            Gives (row.answers self.now txn given) self.now reaction) }
+    {
+        let letter = self.reply(txn, Body::Done(given));
+        sent_alone(alloc, letter)
+    }
+}
+
+/// Whether the request names an epoch, and the entry was made in another.
+fn names_another_epoch(entry: &Entry, request: &QueryRequest) -> bool
+    ensures { result ≡ row.names_another_epoch request.now entry.now }
+{
+    match request.epoch {
+        None => false,
+        Some(epoch) => epoch != entry.epoch,
+    }
+}
+
+/// The answer that a query of this number was given.
+fn answer_to(entry: &Entry, number: u32) -> Option<&DoneReply>
+    ensures { option_copied result ≡ row.answer_to entry.now number }
+{
+    entry
+        .answers
+        .as_slice()
+        .iter()
+        .find(|given| given.query == number)
+}
+
+fn asked_query<'a>(scenario: &'a Scenario, request: &QueryRequest) -> Option<&'a Query>
+    ensures { option_copied result ≡ row.asked_query scenario.now request.now }
+{
+    let txn = scenario.txns.get(request.txn.0 as usize)?;
+    query_at(txn, request.query)
+}
+
+/// The entry once its query ran.
+fn after_run(mut entry: Entry, request: &QueryRequest, deed: Deed) -> Result<Entry, NoMemory>
+    ensures { IfOk result (λ made. made ≡ row.entry_after request.now entry deed) }
+{
+    let answer = done(request, entry.epoch, deed);
+    entry.answers.push(answer)?;
+    entry.deeds.push(deed)?;
+    Ok(entry)
+}
+
+fn died(request: &QueryRequest, epoch: u64, other: TxnId) -> DoneReply
+    ensures { result ≡ row.died_reply request.now epoch other }
+{
+    DoneReply {
+        txn: request.txn,
+        turn: request.turn,
+        query: request.query,
+        epoch,
+        answer: Answer::Died { other },
+    }
+}
+
+fn done(request: &QueryRequest, epoch: u64, deed: Deed) -> DoneReply
+    ensures { result ≡ row.done_reply request.now epoch deed }
+{
+    DoneReply {
+        txn: request.txn,
+        turn: request.turn,
+        query: request.query,
+        epoch,
+        answer: Answer::Ran {
+            value: deed.value,
+            verdict: None,
+        },
+    }
+}

@@ -1,0 +1,213 @@
+//! What a server does on a Prepare: it evaluates what was done, and votes.
+ghost use Rattle.std.specs.Prelude.{◌≡◌, Option, Some, None, [], ◌∷◌, slice_get, slice_set, IfOk};
+ghost use Rattle.tp_types.specs.Effect.{Gives};
+ghost use Rattle.tp_types.specs.Table.{flattened};
+ghost use Rattle.tp_server.specs.declared.server.Entry.{Entry};
+ghost use Rattle.tp_server.specs.Row as row;
+ghost use Rattle.tp_server.specs.Verdicts as verdicts;
+ghost use Rattle.tp_server.specs.Verdicts.{HasFewRules};
+
+use crate::server::{Ballot, Entry, Server};
+use crate::verdicts::verdicts_on;
+use std::alloc::Global;
+use tp_lock::LockTable;
+use tp_store::Store;
+use tp_types::{
+    AdminId, Body, Letter, List, No, NoMemory, Outcome, PrepareRequest, Prepared, Reaction, Record,
+    Scenario, Settled, TryClone, TxnId, Verdict, Version, Vote, VoteReply, forced_and_sent,
+    ignored, sent_alone, taken, unbuilt,
+};
+
+impl<L: LockTable + Drop> Server<L> {
+    pub(crate) fn on_prepare(
+        &mut self,
+        alloc: Global,
+        scenario: &Scenario,
+        request: &PrepareRequest,
+    ) -> Result<Reaction, NoMemory>
+        requires { HasFewRules scenario.now }
+        ensures { IfOk result (λ reaction.
+            Gives (row.on_prepare scenario.now self.old request.now) self.new reaction) }
+    {
+        if !self.is_open(request.txn) {
+            return self.on_settled_prepare(alloc, request);
+        }
+        let outside = self.store.first_outside(request.txn);
+        let Some(entry) = self.entry_at(request.txn) else {
+            return Ok(unbuilt(alloc));
+        };
+        if entry.epoch != request.epoch {
+            return Ok(unbuilt(alloc));
+        }
+        if let Some(cast) = &entry.ballot {
+            if cast.turn == request.turn {
+                return self.votes_again(alloc, request.txn, cast);
+            }
+            if request.turn < cast.turn {
+                return Ok(ignored(alloc));
+            }
+        } else if let Some((query, value)) = outside {
+            return self.refuses(alloc, scenario, request, No::Range { query, value });
+        }
+        self.evaluates(alloc, scenario, request)
+    }
+
+    /// Learns the versions that are wanted, evaluates what the transaction did here, and votes YES.
+    fn evaluates(
+        &mut self,
+        alloc: Global,
+        scenario: &Scenario,
+        request: &PrepareRequest,
+    ) -> Result<Reaction, NoMemory>
+        requires { HasFewRules scenario.now }
+        ensures { IfOk result (λ reaction. (entry : Entry) → row.entry_at self.old request.now.txn ≡ Some entry
+            → Gives
+            (row.evaluates scenario.now self.old request.now entry request.now.staple)
+            self.new reaction) }
+    {
+        let Some(staple) = &request.staple else {
+            return Ok(unbuilt(alloc));
+        };
+        let Some(txn) = scenario.txns.get(request.txn.0 as usize) else {
+            return Ok(ignored(alloc));
+        };
+        let want = request.want.as_slice();
+        learn(&mut self.store, want);
+        let Some(entry) = self.entry_at(request.txn) else {
+            return Ok(ignored(alloc));
+        };
+        let deeds = entry.deeds.as_slice();
+        let verdicts = verdicts_on(alloc, scenario, self, txn, staple, want, deeds)?;
+        let forced = self.prepared(alloc, request, entry, verdicts)?;
+        self.votes(alloc, forced)
+    }
+
+    /// The vote YES of a ballot.
+    fn votes_again(&self, alloc: Global, txn: TxnId, cast: &Ballot) -> Result<Reaction, NoMemory>
+        ensures { IfOk result (λ reaction.
+            reaction ≡ record { append = None; letters = row.yes_letter self.now txn cast.now ∷ [] }) }
+    {
+        let vote = VoteReply {
+            txn,
+            turn: cast.turn,
+            vote: Vote::Yes(cast.verdicts.try_clone(alloc)?),
+        };
+        let letter = self.reply(txn, Body::Vote(vote));
+        sent_alone(alloc, letter)
+    }
+
+    /// A request to prepare what is settled already: a vote NO is given again with its reason.
+    fn on_settled_prepare(
+        &self,
+        alloc: Global,
+        request: &PrepareRequest,
+    ) -> Result<Reaction, NoMemory>
+        ensures { IfOk result (λ reaction.
+            Gives
+            (row.on_settled_prepare self.now request.now
+            (flattened (slice_get self.now.settled request.now.txn.0)))
+            self.now reaction) }
+    {
+        match self.settled.get(request.txn.0 as usize) {
+            Some(Some(settled)) => match settled.why {
+                Some(why) => {
+                    let letter = self.no_letter(request, why);
+                    sent_alone(alloc, letter)
+                }
+                None => Ok(ignored(alloc)),
+            },
+            _ => Ok(ignored(alloc)),
+        }
+    }
+
+    fn no_letter(&self, request: &PrepareRequest, why: No) -> Letter
+        ensures { result ≡ row.no_letter self.now request.now why }
+    {
+        let vote = VoteReply {
+            txn: request.txn,
+            turn: request.turn,
+            vote: Vote::No(why),
+        };
+        self.reply(request.txn, Body::Vote(vote))
+    }
+
+    /// Aborts the transaction here, and votes NO.
+    fn refuses(
+        &mut self,
+        alloc: Global,
+        scenario: &Scenario,
+        request: &PrepareRequest,
+        why: No,
+    ) -> Result<Reaction, NoMemory>
+        ensures { IfOk result (λ reaction.
+            Gives (row.refuses scenario.now self.old request.now why) self.new reaction) }
+    {
+        let settled = Settled {
+            txn: request.txn,
+            outcome: Outcome::Abort,
+            why: Some(why),
+        };
+        let vote = self.no_letter(request, why);
+        self.ends(alloc, scenario, settled, vote)
+    }
+
+    fn prepared(
+        &self,
+        alloc: Global,
+        request: &PrepareRequest,
+        entry: &Entry,
+        verdicts: List<Verdict>,
+    ) -> Result<Prepared, NoMemory>
+        ensures { IfOk result (λ made.
+            made ≡ row.prepared_record self.now request.now entry.now verdicts) }
+    {
+        Ok(Prepared {
+            txn: request.txn,
+            age: entry.age,
+            epoch: entry.epoch,
+            turn: request.turn,
+            deeds: entry.deeds.try_clone(alloc)?,
+            verdicts,
+            told: self.store.known().try_clone(alloc)?,
+        })
+    }
+
+    fn votes(&mut self, alloc: Global, forced: Prepared) -> Result<Reaction, NoMemory>
+        ensures { IfOk result (λ reaction. (entry : Entry) → row.entry_at self.old forced.txn ≡ Some entry
+            → Gives (row.casts self.old forced entry) self.new reaction) }
+    {
+        let ballot = Ballot {
+            turn: forced.turn,
+            verdicts: forced.verdicts.try_clone(alloc)?,
+        };
+        cast(&mut self.entries, forced.txn.0 as usize, ballot);
+        let vote = VoteReply {
+            txn: forced.txn,
+            turn: forced.turn,
+            vote: Vote::Yes(forced.verdicts.try_clone(alloc)?),
+        };
+        let letter = self.reply(forced.txn, Body::Vote(vote));
+        forced_and_sent(alloc, Record::Prepared(forced), letter)
+    }
+}
+
+/// Learns each of these versions.
+fn learn(store: &mut Store, want: &[(AdminId, Version)])
+    ensures { store.new ≡ verdicts.with_versions store.old want.now }
+{
+    for wanted in want {
+        store.told(wanted.0, wanted.1);
+    }
+}
+
+/// Casts a vote at the entry that stands there.
+#[tactic(auto, using(crate::proofs::Tables::set_twice))]
+fn cast(entries: &mut List<Option<Entry>>, at: usize, ballot: Ballot)
+    ensures { (entry : Entry) → flattened (slice_get entries.old at) ≡ Some entry
+        → entries.new ≡ slice_set entries.old at (Some (record entry { ballot = Some ballot })) }
+{
+    if let Some(mut entry) = taken(entries, at) {
+        entry.ballot = Some(ballot);
+        entries.put(at, Some(entry));
+    }
+}
