@@ -10,7 +10,7 @@ use Rattle.tp_model.specs.Authorisation.{is_certified, is_usable, policy_at, rul
 use Rattle.tp_model.specs.Credentials.{held, held_in, is_presented, is_valid, is_valid_in, triples_in}
 use Rattle.tp_model.specs.Policies.{rule_allows}
 use Rattle.tp_model.specs.Queries.{item_of, query_at}
-use Rattle.tp_check.specs.OfHistory.{IsAt, is_checked_of, is_verdict_checked}
+use Rattle.tp_check.specs.OfHistory.{IsAt, holder_of, is_checked_of, is_verdict_checked}
 
 pub valid_there : (sc : Scenario) (place : ℕ) (facts : List Fact) (now : ℕ) (revoked : List CredId) → IsAt sc place facts now revoked
     → (cred : CredId) → is_valid_in sc.creds now revoked cred ≡ is_valid sc place facts cred
@@ -69,7 +69,7 @@ checked_where sc txn now revoked uses rule asked item policy true e =
 checked_where sc txn now revoked uses rule asked item policy false e = and-false _ ∙ sym (and-false _)
 
 checked_one : (sc : Scenario) (txn : Transaction) (now : ℕ) (revoked uses : List CredId) (rule : Option ℕ) (asked : Action) (item : List ℕ) (policy : Policy)
-    → is_checked_of sc txn now revoked rule uses asked item policy
+    → is_checked_of (holder_of sc txn now revoked) rule uses asked item policy
     ≡ (rule_proves sc txn uses rule asked item policy && list_all (is_valid_in sc.creds now revoked) uses)
 checked_one sc txn now revoked uses None asked item policy = refl
 checked_one sc txn now revoked uses (Some rule) asked item policy =
@@ -92,6 +92,6 @@ certified_there sc facts now revoked txn verdict is =
     all_both (is_presented txn) (is_valid sc verdict.place facts) verdict.uses
     ∙ ap (λ b. presented && b) (sym (all_alike (is_valid_in sc.creds now revoked) (is_valid sc verdict.place facts) (valid_there sc verdict.place facts now revoked is) verdict.uses)) in
     ap (λ b. b && presented)
-    (of_version (is_checked_of sc txn now revoked verdict.rule verdict.uses) (rule_proves sc txn verdict.uses verdict.rule) valid
+    (of_version (is_checked_of (holder_of sc txn now revoked) verdict.rule verdict.uses) (rule_proves sc txn verdict.uses verdict.rule) valid
     (checked_one sc txn now revoked verdict.uses verdict.rule) sc txn verdict.query (policy_at sc verdict.admin verdict.version))
     ∙ regrouped proves valid presented ∙ ap (λ b. proves && b) (sym usable)

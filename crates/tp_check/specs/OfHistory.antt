@@ -5,6 +5,7 @@ use Rattle.tp_model.specs.Words.{Action, CredId, Fact, Policy, Scenario, Transac
 use Rattle.tp_model.specs.Authorisation.{is_certified, policy_at, tests_version}
 use Rattle.tp_model.specs.Credentials.{clock_at, held, held_in, is_among, is_presented, is_valid, is_valid_in, revoked_at}
 use Rattle.tp_cred.specs.Certificates.{is_checked}
+use Rattle.tp_cred.specs.Holder.{Holder}
 
 -- the clock is that of the place, and those are revoked, in whatever order, that were revoked before it
 pub record IsAt (sc : Scenario) (place : ℕ) (facts : List Fact) (now : ℕ) (revoked : List CredId)
@@ -27,17 +28,26 @@ IsHeldThere =
     → (txn : Transaction)
     → held_in sc.creds txn.subject now revoked txn.creds ≡ held sc place facts txn
 
+-- the subject of a transaction, with the credentials of its scenario
+abbrev pub holder_of : Scenario → Transaction → ℕ → List CredId → Holder
+holder_of sc txn now revoked = record {
+  store = sc.creds;
+  subject = txn.subject;
+  now = now;
+  revoked = revoked;
+}
+
 -- the certificate of a rule, where a verdict names one, passes the check
-abbrev pub is_checked_of : Scenario → Transaction → ℕ → List CredId → Option ℕ → List CredId
-    → Action → List ℕ → Policy → Bool
-is_checked_of sc txn now revoked None uses asked item policy = false
-is_checked_of sc txn now revoked (Some rule) uses asked item policy =
-    is_checked policy asked item sc.creds txn.subject now revoked rule uses
+abbrev pub is_checked_of : Holder → Option ℕ → List CredId → Action → List ℕ → Policy → Bool
+is_checked_of holder None uses asked item policy = false
+is_checked_of holder (Some rule) uses asked item policy =
+    is_checked policy asked item holder rule uses
 
 -- a verdict's certificate passes the check, at its query and its version, and uses only what the transaction presents
 abbrev pub is_verdict_checked : Scenario → Transaction → ℕ → List CredId → Verdict → Bool
 is_verdict_checked sc txn now revoked verdict =
-    tests_version (is_checked_of sc txn now revoked verdict.rule verdict.uses) sc txn verdict.query
+    tests_version
+    (is_checked_of (holder_of sc txn now revoked) verdict.rule verdict.uses) sc txn verdict.query
     (policy_at sc verdict.admin verdict.version)
     && list_all (is_presented txn) verdict.uses
 

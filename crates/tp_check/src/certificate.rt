@@ -6,11 +6,11 @@ ghost use Rattle.tp_model.specs.Authorisation as authorisation;
 ghost use Rattle.tp_model.specs.Policies as policies;
 ghost use Rattle.tp_model.specs.Credentials.{is_valid_in};
 ghost use Rattle.tp_cred.specs.Certificates.{is_checked};
-ghost use Rattle.tp_cred.specs.mirrors.HeldBy.{held_by};
+ghost use Rattle.tp_cred.specs.mirrors.HeldBy.{held_by, holder_in};
 
-use tp_cred::{CredStore, Presented, shows};
+use tp_cred::{Presented, shows};
 use tp_model::{matches, rule_in};
-use tp_types::{Action, Cond, CredId, Name, Op, Policy, Rule, Value};
+use tp_types::{Action, Cond, Name, Op, Policy, Rule, Value};
 
 fn is_met(held: &Presented<'_>, issuer: &Name, attr: &Name, op: Op, wanted: &Value) -> bool
     ensures { result ≡ list_any (policies.meets issuer.now attr.now op wanted.now)
@@ -73,35 +73,21 @@ fn allows(action: Action, item: &Name, held: &Presented<'_>, policy: &Policy, nu
     }
 }
 
-fn are_valid(store: &CredStore, now: u64, revoked: &[CredId], uses: &[CredId]) -> bool
-    ensures { result ≡ list_all (is_valid_in store.now now revoked.now) uses.now }
+fn are_valid(held: &Presented<'_>) -> bool
+    ensures { result ≡ list_all (is_valid_in held.now.store.now held.now.clock held.now.revoked.now)
+        held.now.creds.now }
 {
-    uses.iter().all(|cred| store.valid(*cred, now, revoked))
+    held.creds
+        .iter()
+        .all(|cred| held.store.valid(*cred, held.clock, held.revoked))
 }
 
 /// Whether a certificate shows that the policy allows the action on the item: its rule, counted from 1, is one of the policy,
-/// matches, and is true of what the used credentials alone say of the subject, and each of these is in the store and valid. That the
-/// subject presented them is for the caller to test.
-pub fn check(
-    policy: &Policy,
-    action: Action,
-    item: &Name,
-    store: &CredStore,
-    subject: &Name,
-    now: u64,
-    revoked: &[CredId],
-    rule: u32,
-    uses: &[CredId],
-) -> bool
-    ensures { result ≡ is_checked policy.now action item.now store.now subject.now now revoked.now
-        rule uses.now }
+/// matches, and is true of what the used credentials alone say of the subject, and each of these is in the store and valid. Those
+/// used are given as those presented; that the subject presented them is for the caller to test.
+pub fn check(policy: &Policy, action: Action, item: &Name, held: &Presented<'_>, rule: u32) -> bool
+    ensures { result ≡ is_checked policy.now action item.now (holder_in held.now)
+        rule held.now.creds.now }
 {
-    let held = Presented {
-        store,
-        subject,
-        creds: uses,
-        clock: now,
-        revoked,
-    };
-    allows(action, item, &held, policy, rule) && are_valid(store, now, revoked, uses)
+    allows(action, item, held, policy, rule) && are_valid(held)
 }

@@ -7,6 +7,7 @@ use Rattle.tp_model.specs.Words.{CredId, Credential}
 use Rattle.tp_model.specs.Credentials.{held_in, is_valid_in, said_by, said_in, triple_of}
 use Rattle.tp_model.specs.Ids.{same_name}
 use Rattle.tp_model.specs.Policies.{Triple}
+use Rattle.tp_cred.specs.Holder.{Holder}
 use Rattle.tp_cred.specs.Validity.{shows_in}
 
 said_where : (test : Triple → Bool) (triple : Triple) (b : Bool) → option_map_or test (cond b (Some triple) None) false ≡ (b && test triple)
@@ -19,7 +20,8 @@ pub said : (test : Triple → Bool) (subject : List ℕ) (credential : Credentia
 said test subject credential = said_where test (said_by credential) (same_name credential.subject subject)
 
 -- what is held passes a test where a credential shows it
-pub any_held : (store : List Credential) (subject : List ℕ) (now : ℕ) (revoked creds : List CredId) (test : Triple → Bool)
-    → list_any test (held_in store subject now revoked creds) ≡ list_any (shows_in store subject now revoked test) creds
-any_held store subject now revoked creds test =
-    any_kept test (said_in store subject) (is_valid_in store now revoked) (λ cred. option_map_or test (said_in store subject cred) false) (λ cred. refl) creds
+pub any_held : (holder : Holder) (creds : List CredId) (test : Triple → Bool)
+    → list_any test (held_in holder.store holder.subject holder.now holder.revoked creds) ≡ list_any (shows_in holder test) creds
+any_held holder creds test =
+    any_kept test (said_in holder.store holder.subject) (is_valid_in holder.store holder.now holder.revoked)
+    (λ cred. option_map_or test (said_in holder.store holder.subject cred) false) (λ cred. refl) creds

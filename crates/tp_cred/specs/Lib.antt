@@ -1,4 +1,5 @@
 pub mod Certificates
+pub mod Holder
 pub mod Names
 pub mod Store
 pub mod Validity

@@ -12,13 +12,13 @@ use Rattle.tp_model.specs.Words.{Action, CredId, Policy, Rule}
 use Rattle.tp_model.specs.Authorisation.{rule_in}
 use Rattle.tp_model.specs.Ids.{same_cred}
 use Rattle.tp_model.specs.Policies.{allows, matches, rule_allows}
-use Rattle.tp_model.specs.Credentials.{held_in, is_among, is_valid_in}
+use Rattle.tp_model.specs.Credentials.{is_among}
 use Rattle.tp_cred.specs.Certificates.{is_checked}
 use Rattle.tp_cred.specs.Validity.{shows_in}
 use Rattle.tp_eval.specs.declared.policies.Certificate.{Certificate}
 use Rattle.tp_eval.specs.Taken.{certificate, certificate_of, first_certificate, once, taken_by_rule, with_cred}
 use Rattle.tp_eval.proofs.OnceLemmas.{begins_itself, begins_once}
-use Rattle.tp_eval.proofs.SoundLemmas.{Asked, Decides, is_sound, is_true_of, is_usable, same_as_itself, takes}
+use Rattle.tp_eval.proofs.SoundLemmas.{Asked, Decides, held_with, is_sound, is_true_of, is_usable, is_valid_for, same_as_itself, takes}
 
 -- ---- each once
 
@@ -85,10 +85,10 @@ all_second one other (cred ∷ creds) all =
 -- ---- a rule
 
 abbrev is_allowed_by : Asked → Action → List ℕ → Rule → List CredId → Bool
-is_allowed_by asked action item rule uses = rule_allows action item (held_in asked.store asked.subject asked.now asked.revoked uses) rule
+is_allowed_by asked action item rule uses = rule_allows action item (held_with asked uses) rule
 
 abbrev takes_rule : Asked → Action → List ℕ → Rule → Option (List CredId)
-takes_rule asked action item rule = taken_by_rule (shows_in asked.store asked.subject asked.now asked.revoked) asked.presented action item rule
+takes_rule asked action item rule = taken_by_rule (shows_in asked.holder) asked.presented action item rule
 
 rule_decides_where : (asked : Asked) (rule : Rule) (fits : Bool) → Decides asked (λ uses. fits && is_true_of asked rule.cond uses) (if_so fits (takes asked rule.cond) None)
 rule_decides_where asked rule true = is_sound asked rule.cond
@@ -125,7 +125,7 @@ rule_answers asked action item rule rules number None (Some found) decides answe
   distinct = answer.distinct;
 }
 rule_answers asked action item rule rules number (Some creds) later decides answer = record {
-  allowed = rw (decides.enough asked.presented (all_first (is_among asked.presented) (is_valid_in asked.store asked.now asked.revoked) creds decides.usable)) refl;
+  allowed = rw (decides.enough asked.presented (all_first (is_among asked.presented) (is_valid_for asked) creds decides.usable)) refl;
   at = 0;
   numbered = omega arith;
   shown = decides.enough (once [] creds) (has_all [] creds);
@@ -144,7 +144,7 @@ rules_answer asked action item (rule ∷ rules) number =
 -- ---- the policy
 
 abbrev is_checked_by : Asked → Policy → Action → List ℕ → Certificate → Bool
-is_checked_by asked policy action item found = is_checked policy action item asked.store asked.subject asked.now asked.revoked found.rule found.uses
+is_checked_by asked policy action item found = is_checked policy action item asked.holder found.rule found.uses
 
 checked : (asked : Asked) (policy : Policy) (action : Action) (item : List ℕ) (found : Certificate) → IsFirst asked action item policy.rules 1 found
     → is_checked_by asked policy action item found ≡ true
@@ -152,7 +152,7 @@ checked asked policy action item found first =
     let number : found.rule ≡ suc first.at = omega (arith, first.numbered) in
     let shows : ℕ → Bool = λ n. option_map_or (λ rule. is_allowed_by asked action item rule found.uses) (rule_in policy n) false in
     let here : shows found.rule ≡ true = ap shows number ∙ first.shown in
-    rw (here, all_second (is_among asked.presented) (is_valid_in asked.store asked.now asked.revoked) found.uses first.usable) refl
+    rw (here, all_second (is_among asked.presented) (is_valid_for asked) found.uses first.usable) refl
 
 truth_of : (asked : Asked) (policy : Policy) (action : Action) (item : List ℕ) (answer : Option Certificate) → IsAnswer asked action item policy.rules 1 answer
     → is_some answer ≡ list_any (λ rule. is_allowed_by asked action item rule asked.presented) policy.rules
@@ -160,11 +160,11 @@ truth_of asked policy action item None is = sym is
 truth_of asked policy action item (Some found) is = sym is.allowed
 
 abbrev certificate_for : Asked → Policy → Action → List ℕ → Option Certificate
-certificate_for asked policy action item = certificate policy action item asked.store asked.subject asked.presented asked.now asked.revoked
+certificate_for asked policy action item = certificate policy action item asked.holder asked.presented
 
 pub exists_where_allowed : (asked : Asked) (policy : Policy) (action : Action) (item : List ℕ)
     → is_some (certificate_for asked policy action item)
-    ≡ allows policy action item (held_in asked.store asked.subject asked.now asked.revoked asked.presented)
+    ≡ allows policy action item (held_with asked asked.presented)
 exists_where_allowed asked policy action item =
     truth_of asked policy action item (certificate_for asked policy action item) (rules_answer asked action item policy.rules 1)
 
@@ -177,7 +177,7 @@ pub presented_where : (asked : Asked) (policy : Policy) (action : Action) (item 
     → list_all (is_among asked.presented) found.uses ≡ true
 presented_where asked policy action item found e =
     let first : IsFirst asked action item policy.rules 1 found = subst (IsAnswer asked action item policy.rules 1) e (rules_answer asked action item policy.rules 1) in
-    all_first (is_among asked.presented) (is_valid_in asked.store asked.now asked.revoked) found.uses first.usable
+    all_first (is_among asked.presented) (is_valid_for asked) found.uses first.usable
 
 -- ---- an answer
 

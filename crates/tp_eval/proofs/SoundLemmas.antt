@@ -5,7 +5,7 @@ use Rattle.std.proofs.lemmas.List.Folds.{list_all-append}
 use Rattle.std.specs.List.{find, list_all, list_any}
 use Rattle.std.specs.Option.{option_map_or, option_or}
 use Rattle.std.proofs.Math.Bool.{and-false}
-use Rattle.tp_model.specs.Words.{Cond, CredId, Credential, Op, Value}
+use Rattle.tp_model.specs.Words.{Cond, CredId, Op, Value}
 use Rattle.tp_model.specs.Words.cond
 use Rattle.tp_types.specs.declared.policy.Cond.{map-Cond, roll-Cond}
 use Rattle.tp_types.specs.declared.policy.Cond.TheFolds.{fold-roll-Cond, ind-Cond}
@@ -14,6 +14,7 @@ use Rattle.tp_model.specs.Ids.{same_cred}
 use Rattle.tp_model.specs.Policies.{Triple, holds, level, meets}
 use Rattle.tp_model.proofs.ConditionLemmas.{holds_and, holds_atom, holds_or}
 use Rattle.tp_model.specs.Credentials.{held_in, is_among, is_valid_in, said_in}
+use Rattle.tp_cred.specs.Holder.{Holder}
 use Rattle.tp_cred.specs.Validity.{shows_in}
 use Rattle.tp_cred.proofs.HeldLemmas.{any_held}
 use Rattle.tp_eval.specs.Taken as taken
@@ -23,21 +24,25 @@ use Rattle.tp_eval.proofs.TakenLemmas.{taken_and, taken_atom, taken_or}
 
 -- what an evaluation is asked
 pub record Asked : Type 0 where
-  pub store : List Credential
-  pub subject : List ℕ
-  pub now : ℕ
-  pub revoked : List CredId
+  pub holder : Holder
   pub presented : List CredId
 
+-- what is held where these credentials are presented
+abbrev pub held_with : Asked → List CredId → List Triple
+held_with asked uses = held_in asked.holder.store asked.holder.subject asked.holder.now asked.holder.revoked uses
+
+abbrev pub is_valid_for : Asked → CredId → Bool
+is_valid_for asked = is_valid_in asked.holder.store asked.holder.now asked.holder.revoked
+
 abbrev pub takes : Asked → Cond → Option (List CredId)
-takes asked condition = taken (shows_in asked.store asked.subject asked.now asked.revoked) asked.presented condition
+takes asked condition = taken (shows_in asked.holder) asked.presented condition
 
 -- the condition is true of these credentials
 abbrev pub is_true_of : Asked → Cond → List CredId → Bool
-is_true_of asked condition uses = holds (held_in asked.store asked.subject asked.now asked.revoked uses) condition
+is_true_of asked condition uses = holds (held_with asked uses) condition
 
 abbrev pub is_usable : Asked → CredId → Bool
-is_usable asked cred = is_among asked.presented cred && is_valid_in asked.store asked.now asked.revoked cred
+is_usable asked cred = is_among asked.presented cred && is_valid_for asked cred
 
 -- those taken are presented and valid, and the statement is true of each list that has them
 pub record Suffices (asked : Asked) (statement : List CredId → Bool) (creds : List CredId) : Type 0 where
@@ -97,15 +102,15 @@ is_found test [] cred found = cc
 is_found test (first ∷ creds) cred found = found_at test first creds cred (test first) refl (is_found test creds cred) found
 
 atom_decides : (asked : Asked) (test : Triple → Bool) (found : Option CredId)
-    → find (shows_in asked.store asked.subject asked.now asked.revoked test) asked.presented ≡ found
-    → Decides asked (λ uses. list_any (shows_in asked.store asked.subject asked.now asked.revoked test) uses) (option_map only found)
-atom_decides asked test None e = none_found (shows_in asked.store asked.subject asked.now asked.revoked test) asked.presented e
+    → find (shows_in asked.holder test) asked.presented ≡ found
+    → Decides asked (λ uses. list_any (shows_in asked.holder test) uses) (option_map only found)
+atom_decides asked test None e = none_found (shows_in asked.holder test) asked.presented e
 atom_decides asked test (Some cred) e =
-    let here = is_found (shows_in asked.store asked.subject asked.now asked.revoked test) asked.presented cred e in
-    let valid = (and_parts (option_map_or test (said_in asked.store asked.subject cred) false) (is_valid_in asked.store asked.now asked.revoked cred) here.passes).1 in
+    let here = is_found (shows_in asked.holder test) asked.presented cred e in
+    let valid = (and_parts (option_map_or test (said_in asked.holder.store asked.holder.subject cred) false) (is_valid_for asked cred) here.passes).1 in
     record {
       usable = rw (here.among, valid) refl;
-      enough = λ uses among. passes_among (shows_in asked.store asked.subject asked.now asked.revoked test) cred uses here.passes (and_parts (is_among uses cred) true among).0;
+      enough = λ uses among. passes_among (shows_in asked.holder test) cred uses here.passes (and_parts (is_among uses cred) true among).0;
     }
 
 -- ---- members
@@ -173,34 +178,34 @@ true_is_sound : (asked : Asked) → IsSound asked cond.True
 true_is_sound asked =
     decided_by asked cond.True (λ uses. true) (Some [])
     (ap (takes asked) (sym cond.rolls-True)
-    ∙ fold-roll-Cond (Option (List CredId)) (taken.level (shows_in asked.store asked.subject asked.now asked.revoked) asked.presented) True)
+    ∙ fold-roll-Cond (Option (List CredId)) (taken.level (shows_in asked.holder) asked.presented) True)
     (λ uses. ap (λ c. is_true_of asked c uses) (sym cond.rolls-True)
-    ∙ fold-roll-Cond Bool (level (held_in asked.store asked.subject asked.now asked.revoked uses)) True)
+    ∙ fold-roll-Cond Bool (level (held_with asked uses)) True)
     (no_members_decide asked)
 
 atom_is_sound : (asked : Asked) (issuer attr : _) (op : Op) (wanted : Value) → IsSound asked (cond.Atom issuer attr op wanted)
 atom_is_sound asked issuer attr op wanted =
-    let shows = shows_in asked.store asked.subject asked.now asked.revoked (meets issuer attr op wanted) in
+    let shows = shows_in asked.holder (meets issuer attr op wanted) in
     decided_by asked (cond.Atom issuer attr op wanted) (λ uses. list_any shows uses) (option_map only (find shows asked.presented))
-    (taken_atom (shows_in asked.store asked.subject asked.now asked.revoked) asked.presented issuer attr op wanted)
-    (λ uses. holds_atom (held_in asked.store asked.subject asked.now asked.revoked uses) issuer attr op wanted
-    ∙ any_held asked.store asked.subject asked.now asked.revoked uses (meets issuer attr op wanted))
+    (taken_atom (shows_in asked.holder) asked.presented issuer attr op wanted)
+    (λ uses. holds_atom (held_with asked uses) issuer attr op wanted
+    ∙ any_held asked.holder uses (meets issuer attr op wanted))
     (atom_decides asked (meets issuer attr op wanted) (find shows asked.presented) refl)
 
 and_is_sound : (asked : Asked) (members : List ((c : Cond) × IsSound asked c)) → IsSound asked (cond.And (conditions asked members))
 and_is_sound asked members =
     decided_by asked (cond.And (conditions asked members)) (λ uses. list_all (λ c. is_true_of asked c uses) (conditions asked members))
     (taken_by_all (map (takes asked) (conditions asked members)))
-    (taken_and (shows_in asked.store asked.subject asked.now asked.revoked) asked.presented (conditions asked members))
-    (λ uses. holds_and (held_in asked.store asked.subject asked.now asked.revoked uses) (conditions asked members))
+    (taken_and (shows_in asked.holder) asked.presented (conditions asked members))
+    (λ uses. holds_and (held_with asked uses) (conditions asked members))
     (all_decide asked members)
 
 or_is_sound : (asked : Asked) (members : List ((c : Cond) × IsSound asked c)) → IsSound asked (cond.Or (conditions asked members))
 or_is_sound asked members =
     decided_by asked (cond.Or (conditions asked members)) (λ uses. list_any (λ c. is_true_of asked c uses) (conditions asked members))
     (taken_by_first (map (takes asked) (conditions asked members)))
-    (taken_or (shows_in asked.store asked.subject asked.now asked.revoked) asked.presented (conditions asked members))
-    (λ uses. holds_or (held_in asked.store asked.subject asked.now asked.revoked uses) (conditions asked members))
+    (taken_or (shows_in asked.holder) asked.presented (conditions asked members))
+    (λ uses. holds_or (held_with asked uses) (conditions asked members))
     (any_decides asked members)
 
 level_is_sound : (asked : Asked) (y : Cond-F ((c : Cond) × IsSound asked c)) → IsSound asked (roll-Cond (map-Cond ((c : Cond) × IsSound asked c) Cond (λ e. e.0) y))

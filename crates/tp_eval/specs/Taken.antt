@@ -2,11 +2,12 @@
 use Rattle.std.specs.Prelude.{ℕ, ◌+◌, List, [], ◌∷◌, ◌++◌, Bool, Option, Some, None, option_map, option_and_then, if◌then◌else◌}
 use Rattle.std.specs.List.{find}
 use Rattle.std.specs.Option.{option_or}
-use Rattle.tp_model.specs.Words.{Action, Cond, CredId, Credential, Policy, Rule}
+use Rattle.tp_model.specs.Words.{Action, Cond, CredId, Policy, Rule}
 use Rattle.tp_types.specs.declared.policy.Cond.{fold-Cond}
 use Rattle.tp_types.specs.declared.policy.Cond.TheOpen.{Cond-F, True, Atom, And, Or}
 use Rattle.tp_model.specs.Policies.{Triple, matches, meets}
 use Rattle.tp_model.specs.Credentials.{is_among}
+use Rattle.tp_cred.specs.Holder.{Holder}
 use Rattle.tp_cred.specs.Validity.{shows_in}
 use Rattle.tp_eval.specs.declared.policies.Certificate.{Certificate}
 
@@ -69,8 +70,6 @@ first_certificate takes number (rule ∷ rules) =
     (first_certificate takes (number + 1) rules)
 
 -- the certificate of the first rule that matches and is true of the valid credentials of the subject that are presented
-abbrev pub certificate : Policy → Action → List ℕ → List Credential → List ℕ → List CredId → ℕ
-    → List CredId → Option Certificate
-certificate policy asked item store subject presented now revoked =
-    first_certificate
-    (taken_by_rule (shows_in store subject now revoked) presented asked item) 1 policy.rules
+abbrev pub certificate : Policy → Action → List ℕ → Holder → List CredId → Option Certificate
+certificate policy asked item holder presented =
+    first_certificate (taken_by_rule (shows_in holder) presented asked item) 1 policy.rules

@@ -4,15 +4,16 @@ ghost use Rattle.std.specs.List.{list_all, IsDistinct};
 ghost use Rattle.std.specs.Option.{is_some};
 ghost use Rattle.tp_model.specs.Ids.{same_cred};
 ghost use Rattle.tp_model.specs.Policies as policies;
-ghost use Rattle.tp_model.specs.Credentials.{held_in, is_among};
+ghost use Rattle.tp_model.specs.Credentials.{is_among};
 ghost use Rattle.tp_cred.specs.Certificates.{is_checked};
+ghost use Rattle.tp_cred.specs.mirrors.HeldBy.{held_by, holder_in};
 ghost use Rattle.tp_eval.specs.mirrors.Gathered as gathered;
 ghost use Rattle.tp_eval.specs.Taken as taken;
 
 use crate::evidence::{Evidence, valid_of};
 use crate::gather::gather;
 use std::alloc::Global;
-use tp_cred::CredStore;
+use tp_cred::Presented;
 use tp_model::matches;
 use tp_types::{Action, CredId, List, Name, NoMemory, Policy, Rule};
 
@@ -78,8 +79,8 @@ pub fn certify(
 ) -> Result<Option<Certificate>, NoMemory>
     requires { length policy.now.rules < 2 ^ 32 }
     ensures { IfOk result (λ found.
-        found ≡ taken.certificate policy.now action item.now held.now.creds.now
-        held.now.subject.now held.now.presented.now held.now.clock held.now.revoked.now) }
+        found ≡ taken.certificate policy.now action item.now (gathered.holder_in held.now)
+        held.now.presented.now) }
 {
     let mut uses = List::new(alloc);
     let found = first_rule(held, action, item, policy.rules.as_slice(), &mut uses)?;
@@ -96,39 +97,35 @@ pub fn evaluate(
     policy: &Policy,
     action: Action,
     item: &Name,
-    store: &CredStore,
-    subject: &Name,
-    presented: &[CredId],
-    now: u64,
-    revoked: &[CredId],
+    held: &Presented<'_>,
 ) -> Result<Option<Certificate>, NoMemory>
     requires { length policy.now.rules < 2 ^ 32 }
     ensures exact { IfOk result (λ found.
-        found ≡ taken.certificate policy.now action item.now store.now subject.now presented.now
-        now revoked.now) }
+        found ≡ taken.certificate policy.now action item.now (holder_in held.now)
+        held.now.creds.now) }
     ensures truth { IfOk result (λ found.
-        is_some found ≡ policies.allows policy.now action item.now
-        (held_in store.now subject.now now revoked.now presented.now)) }
+        is_some found ≡ policies.allows policy.now action item.now (held_by held.now)) }
     ensures passes { IfOk result (λ found.
         IfSome found
         (λ certificate.
-        is_checked policy.now action item.now store.now subject.now now revoked.now
-        certificate.rule certificate.uses
+        is_checked policy.now action item.now (holder_in held.now) certificate.rule
+        certificate.uses
         ≡ true)) }
     ensures presented { IfOk result (λ found.
-        IfSome found (λ certificate. list_all (is_among presented.now) certificate.uses ≡ true)) }
+        IfSome found
+        (λ certificate. list_all (is_among held.now.creds.now) certificate.uses ≡ true)) }
     ensures each_once { IfOk result (λ found.
         IfSome found (λ certificate. IsDistinct same_cred certificate.uses)) }
 {
-    let creds = store.as_slice();
-    let valid = valid_of(alloc, creds, presented, now, revoked)?;
-    let held = Evidence {
+    let creds = held.store.as_slice();
+    let valid = valid_of(alloc, creds, held.creds, held.clock, held.revoked)?;
+    let evidence = Evidence {
         creds,
-        subject,
-        presented,
-        clock: now,
-        revoked,
+        subject: held.subject,
+        presented: held.creds,
+        clock: held.clock,
+        revoked: held.revoked,
         valid: valid.as_slice(),
     };
-    certify(alloc, &held, policy, action, item)
+    certify(alloc, &evidence, policy, action, item)
 }

@@ -4,7 +4,7 @@ use crate::made::{Card, Says, atom, ids, list, name, of_rule, policy};
 use std::process::Abort;
 use std::test::Fail;
 use tp_check::check;
-use tp_cred::CredStore;
+use tp_cred::{CredStore, Presented};
 use tp_eval::{Certificate, evaluate};
 use tp_types::{Action, Cond, CredId, List, Op, Pattern, Policy, Rule};
 
@@ -68,18 +68,14 @@ fn answer(
     let subject = name(rt, ask.subject);
     let presented = ids(rt, ask.presented);
     let revoked = ids(rt, ask.revoked);
-    evaluate(
-        rt.alloc(),
-        policy,
-        ask.action,
-        &item,
+    let held = Presented {
         store,
-        &subject,
-        presented.as_slice(),
-        ask.now,
-        revoked.as_slice(),
-    )
-    .expect(rt, "memory for a certificate")
+        subject: &subject,
+        creds: presented.as_slice(),
+        clock: ask.now,
+        revoked: revoked.as_slice(),
+    };
+    evaluate(rt.alloc(), policy, ask.action, &item, &held).expect(rt, "memory for a certificate")
 }
 
 /// The certificate is of this rule with these uses, or there is none where none is wanted.
@@ -108,17 +104,14 @@ fn passes(
     let item = name(rt, ask.item);
     let subject = name(rt, ask.subject);
     let revoked = ids(rt, ask.revoked);
-    check(
-        policy,
-        ask.action,
-        &item,
+    let held = Presented {
         store,
-        &subject,
-        ask.now,
-        revoked.as_slice(),
-        rule,
-        uses,
-    )
+        subject: &subject,
+        creds: uses,
+        clock: ask.now,
+        revoked: revoked.as_slice(),
+    };
+    check(policy, ask.action, &item, &held, rule)
 }
 
 // ---- the clinic

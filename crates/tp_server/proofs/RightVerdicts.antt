@@ -12,17 +12,14 @@ use Rattle.tp_eval.specs.declared.policies.Certificate.{Certificate}
 use Rattle.tp_eval.specs.mirrors.Gathered.{rule_of, uses_in}
 use Rattle.tp_eval.proofs.CertificateLemmas.{exists_where_allowed, passes_where, presented_where}
 use Rattle.tp_eval.proofs.SoundLemmas.{Asked}
-use Rattle.tp_check.specs.OfHistory.{IsAt, is_checked_of, is_verdict_checked}
+use Rattle.tp_check.specs.OfHistory.{IsAt, holder_of, is_checked_of, is_verdict_checked}
 use Rattle.tp_check.proofs.HistoryLemmas.{certified_there, held_there}
 use Rattle.tp_server.specs.Evaluation.{IsRightVerdict, certificate_of_item, certificate_of_query, certificate_of_version, evaluation, verdict_of}
 
 -- what an evaluation with the staple is asked
 abbrev asked_with : Scenario → Transaction → Staple → Asked
 asked_with sc txn staple = record {
-  store = sc.creds;
-  subject = txn.subject;
-  now = staple.clock;
-  revoked = staple.revoked;
+  holder = holder_of sc txn staple.clock staple.revoked;
   presented = txn.creds;
 }
 
@@ -52,7 +49,7 @@ allowed_version sc facts txn staple is number (Some policy) = allowed_query sc f
 -- ---- a certificate passes the check, and uses what is presented
 
 abbrev tests_of : Scenario → Transaction → Staple → Certificate → Action → List ℕ → Policy → Bool
-tests_of sc txn staple found = is_checked_of sc txn staple.clock staple.revoked (Some found.rule) found.uses
+tests_of sc txn staple found = is_checked_of (holder_of sc txn staple.clock staple.revoked) (Some found.rule) found.uses
 
 passes_item : (sc : Scenario) (txn : Transaction) (staple : Staple) (found : Certificate) (asked : Action) (item : Option Item) (policy : Policy)
     → certificate_of_item sc txn staple asked item policy ≡ Some found

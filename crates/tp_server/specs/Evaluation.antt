@@ -7,7 +7,7 @@ use Rattle.tp_model.specs.Queries.{item_of, query_at}
 use Rattle.tp_eval.specs.declared.policies.Certificate.{Certificate}
 use Rattle.tp_eval.specs.mirrors.Gathered.{rule_of, uses_in}
 use Rattle.tp_eval.specs.Taken.{certificate}
-use Rattle.tp_check.specs.OfHistory.{IsAt}
+use Rattle.tp_check.specs.OfHistory.{IsAt, holder_of}
 
 -- ---- the certificate, where there is such an item, such a query and such a version
 
@@ -15,7 +15,7 @@ abbrev pub certificate_of_item : Scenario → Transaction → Staple → Action 
     → Option Certificate
 certificate_of_item sc txn staple asked None policy = None
 certificate_of_item sc txn staple asked (Some item) policy =
-    certificate policy asked item.name sc.creds txn.subject txn.creds staple.clock staple.revoked
+    certificate policy asked item.name (holder_of sc txn staple.clock staple.revoked) txn.creds
 
 abbrev pub certificate_of_query : Scenario → Transaction → Staple → Option Query → Policy
     → Option Certificate

@@ -4,6 +4,7 @@ use Rattle.std.specs.Option.{option_map_or}
 use Rattle.tp_model.specs.Words.{Action, Cond, CredId, Rule}
 use Rattle.tp_model.specs.Credentials.{said_in}
 use Rattle.tp_model.specs.Policies.{Triple}
+use Rattle.tp_cred.specs.Holder.{Holder}
 use Rattle.tp_cred.specs.Validity.{shows_in}
 use Rattle.tp_eval.specs.declared.evidence.Evidence.{Evidence}
 use Rattle.tp_eval.specs.declared.policies.Certificate.{Certificate}
@@ -13,10 +14,18 @@ use Rattle.tp_eval.specs.Taken.{once, taken, taken_by_rule}
 abbrev pub says : Evidence → (Triple → Bool) → CredId → Bool
 says held test cred = option_map_or test (said_in held.creds.now held.subject.now cred) false
 
+-- of whom those presented are to speak, and when they are to be valid
+abbrev pub holder_in : Evidence → Holder
+holder_in held = record {
+  store = held.creds.now;
+  subject = held.subject.now;
+  now = held.clock;
+  revoked = held.revoked.now;
+}
+
 -- the credential is valid, and what it says of the subject passes the test
 abbrev pub shows : Evidence → (Triple → Bool) → CredId → Bool
-shows held test cred =
-    shows_in held.creds.now held.subject.now held.clock held.revoked.now test cred
+shows held test cred = shows_in (holder_in held) test cred
 
 abbrev pub takes : Evidence → Cond → Option (List CredId)
 takes held condition = taken (shows held) held.presented.now condition

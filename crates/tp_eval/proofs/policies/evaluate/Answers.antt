@@ -1,6 +1,7 @@
 use Rattle.std.proofs.Common.{◌≡◌, ◌∙◌, ap, sym, IfOk}
 use Rattle.std.proofs.lemmas.Result.{IfOk-weaker}
 use Rattle.std.specs.Option.{is_some}
+use Rattle.tp_cred.specs.mirrors.HeldBy.{holder_in}
 use Rattle.tp_eval.specs.Taken.{certificate}
 use Rattle.tp_eval.proofs.CertificateLemmas.{distinct_where, exists_where_allowed, passes_where, presented_where, some_where}
 use Rattle.tp_eval.proofs.SoundLemmas.{Asked}
@@ -8,15 +9,12 @@ use Rattle.tp_eval.proofs.policies.evaluate.Goals as goal
 
 abbrev asked_by : goal.After-drop-valid-inside → Asked
 asked_by c = record {
-  store = c.args.store.now;
-  subject = c.args.subject.now;
-  now = c.args.now;
-  revoked = c.args.revoked.now;
-  presented = c.args.presented.now;
+  holder = holder_in c.args.held.now;
+  presented = c.args.held.now.creds.now;
 }
 
 exact : (c : goal.After-drop-valid-inside) → IfOk c.certify.result
-    (λ found. found ≡ certificate c.args.policy.now c.args.action c.args.item.now c.args.store.now c.args.subject.now c.args.presented.now c.args.now c.args.revoked.now)
+    (λ found. found ≡ certificate c.args.policy.now c.args.action c.args.item.now (holder_in c.args.held.now) c.args.held.now.creds.now)
 exact c = rw c.as_slice-creds.ensures at c.certify.ensures
 
 pub returns-clause-truth : goal.returns-clause-truth
