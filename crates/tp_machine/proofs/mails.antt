@@ -1,3 +1,3 @@
--- A run sends few mails: each step at most one to each of the servers that a scenario may have.
+-- A run sends few mails: at most 16 times as many as it has steps.
 pub mod Actors
 pub mod World

@@ -28,8 +28,7 @@ HasAlwaysAllCommits =
     (sc : Scenario) (steps : List Step) → is_built sc ≡ true → Each (IsStepOf sc) steps
     → HasAllCommits sc (after sc steps).state
 
--- of every scenario that is run a list of steps that name what exists sends few mails: each step at most one to each server, of which
--- there are at most 16
+-- of every scenario that is run a list of steps that name what exists sends few mails: at most 16 times as many as it has steps
 abbrev pub SendsFewMails : Type 0
 SendsFewMails =
     (sc : Scenario) (steps : List Step) → is_built sc ≡ true → Each (IsStepOf sc) steps

@@ -11,7 +11,8 @@ pub fn histories_are_trusted()
 {}
 
 /// Of every scenario that is run, a list of steps that name what exists sends at most 16 times as many mails as it has steps: a step sends
-/// one, or one to each of the servers of a transaction, or none.
+/// one, or one to each of the servers of a transaction, or none; and where it ends a transaction, one more for each query that waited for it,
+/// whose own step sent none.
 pub fn mails_are_few()
     ensures { SendsFewMails }
 {}

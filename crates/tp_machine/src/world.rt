@@ -112,7 +112,7 @@ impl World {
         &self.history.steps
     }
 
-    /// The number of mails sent so far. A step sends at most 16.
+    /// The number of mails sent so far: at most 16 times as many as there were steps.
     pub fn mails(&self) -> u64
         ensures value { result ≡ length self.now.machine.state.mails }
         ensures few { self.now.given_up ≡ false

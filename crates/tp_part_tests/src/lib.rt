@@ -1,4 +1,4 @@
-//! The tests of parts that stand beside the machine: streams, locks, stores and offices, records, disks and logs. Their tables were
+//! The tests of parts that need no machine: streams, locks, stores and offices, records, disks and logs. Their tables were
 //! worked out by hand, typed from the formats, or recorded from another program.
 #![tactic(auto)]
 

@@ -74,7 +74,7 @@ work_is_small txns queries rounds servers t q r s =
 few_steps : (sc : Scenario) → is_built sc ≡ true → length sc.steps ≤ 100000
 few_steps sc h = count_most 0 100000 (length sc.steps) (and_parts (has_count 0 100000 sc.steps) (list_all (is_valid_step sc) sc.steps) (valid_built sc h).steps).0
 
--- a world after its listed steps has few of them, as each sends at most 16 mails
+-- a world after its listed steps has few of them, as these send at most 16 times as many mails
 pub few_undelivered : (world : Seen) (undelivered : ℕ) → is_built world.scenario ≡ true → IsListed world → (world.given_up ≡ false → undelivered ≤ 16 * length world.machine.state.steps) → undelivered < 2 ^ 32
 few_undelivered world undelivered h listed_is few =
     let done : length world.machine.state.steps ≡ length world.scenario.steps =
