@@ -1,7 +1,6 @@
 //! The authority and the master, act by act.
 use crate::small_scenario::{cred, small};
 use std::process::Abort;
-use std::test::Fail;
 use tp_offices::{Authority, Master};
 use tp_types::{
     Actor, AdminId, AskRequest, Body, Letter, Mail, ProbeRequest, PushNotice, Reaction, ServerId,
@@ -115,74 +114,116 @@ fn plays(rt: &(impl Abort + AllocGlobal), authority: &mut Authority, act: &Act) 
     }
 }
 
-#[test]
-fn tells_the_clock_and_the_revocations_in_order(rt: HostRuntime) -> Result<(), Fail> {
-    let scenario = small(&rt)?;
-    let mut authority = Authority::opened(rt.alloc(), &scenario)?;
-    for (at, done) in ACTS.iter().enumerate() {
-        let holds = plays(&rt, &mut authority, done);
-        assert!(rt; holds, "act {at}");
-    }
-    let other = authority.receive(rt.alloc(), &probed())?;
-    assert!(rt; other.letters.is_empty() && other.append.is_none());
-    Ok(())
+/// An authority of the small scenario.
+fn authority(rt: &(impl Abort + AllocGlobal)) -> Authority {
+    let scenario = small(rt).expect(rt, "memory for a scenario");
+    Authority::opened(rt.alloc(), &scenario).expect(rt, "memory for an authority")
 }
 
-#[test]
-fn tells_the_opening_versions(rt: HostRuntime) -> Result<(), Fail> {
-    let scenario = small(&rt)?;
-    let master = Master::opened(rt.alloc(), &scenario)?;
-    let reaction = master.receive(rt.alloc(), &probed())?;
-    assert!(rt; reaction.append.is_none() && reaction.letters.len() == 1);
+/// A master of the small scenario.
+fn master(rt: &(impl Abort + AllocGlobal)) -> Master {
+    let scenario = small(rt).expect(rt, "memory for a scenario");
+    Master::opened(rt.alloc(), &scenario).expect(rt, "memory for a master")
+}
+
+/// Whether a reaction is none.
+fn is_nothing(reaction: &Reaction) -> bool {
+    reaction.letters.is_empty() && reaction.append.is_none()
+}
+
+/// Whether the authority answers nothing.
+fn authority_ignores(rt: &(impl Abort + AllocGlobal), authority: &Authority, mail: &Mail) -> bool {
+    let reaction = authority
+        .receive(rt.alloc(), mail)
+        .expect(rt, "memory for a letter");
+    is_nothing(&reaction)
+}
+
+/// Whether the master answers nothing.
+fn master_ignores(rt: &(impl Abort + AllocGlobal), master: &Master, mail: &Mail) -> bool {
+    let reaction = master
+        .receive(rt.alloc(), mail)
+        .expect(rt, "memory for a letter");
+    is_nothing(&reaction)
+}
+
+/// Whether a reaction is the one letter Newest to that coordinator, with these versions.
+fn tells_newest(reaction: &Reaction, newest: &[Version]) -> bool {
+    if reaction.append.is_some() || reaction.letters.len() != 1 {
+        return false;
+    }
     let Some(letter) = reaction.letters.get(0) else {
-        return Ok(());
+        return false;
     };
     let Body::Newest(told) = &letter.body else {
-        assert!(rt; false, "another letter");
-        return Ok(());
+        return false;
     };
-    assert!(rt; told.txn == TxnId(1) && told.turn == 6);
-    assert_eq!(rt; told.newest.as_slice(), [Version(3), Version(1)].as_slice());
-    let other = master.receive(rt.alloc(), &asked())?;
-    assert!(rt; other.letters.is_empty() && other.append.is_none());
-    Ok(())
+    told.txn == TxnId(1) && told.turn == 6 && told.newest.as_slice() == newest
 }
 
-#[test]
-fn publishes_up_to_the_last_version(rt: HostRuntime) -> Result<(), Fail> {
-    let scenario = small(&rt)?;
-    let mut master = Master::opened(rt.alloc(), &scenario)?;
-    assert!(rt; matches!(master.publish(AdminId(0)), Ok(Version(4))));
-    assert!(rt; matches!(master.publish(AdminId(0)), Ok(Version(5))));
-    assert!(rt; master.publish(AdminId(0)).is_err());
-    assert!(rt; master.publish(AdminId(1)).is_err());
-    assert!(rt; master.publish(AdminId(2)).is_err());
-    assert_eq!(rt;
-        master.newest.as_slice(),
-        [Version(5), Version(1)].as_slice()
-    );
-    Ok(())
+/// Whether the master tells these versions.
+fn is_told(rt: &(impl Abort + AllocGlobal), master: &Master, newest: &[Version]) -> bool {
+    let reaction = master
+        .receive(rt.alloc(), &probed())
+        .expect(rt, "memory for a letter");
+    tells_newest(&reaction, newest)
 }
 
-#[test]
-fn pushes_the_newest_version(rt: HostRuntime) -> Result<(), Fail> {
-    let scenario = small(&rt)?;
-    let mut master = Master::opened(rt.alloc(), &scenario)?;
-    assert!(rt; master.publish(AdminId(0)).is_ok());
-    let reaction = master.push(rt.alloc(), AdminId(0), ServerId(1))?;
-    assert!(rt; reaction.append.is_none());
-    assert!(rt;
-        matches!(
+/// Whether a reaction is one letter that pushes this version of the first administrator to the second server.
+fn pushes(reaction: &Reaction, version: Version) -> bool {
+    reaction.append.is_none()
+        && matches!(
             reaction.letters.as_slice(),
             [Letter {
                 from: Actor::Master,
                 to: Actor::Server(ServerId(1)),
                 body: Body::Push(PushNotice {
                     admin: AdminId(0),
-                    version: Version(4)
+                    version: pushed,
                 }),
-            }]
+            }] if *pushed == version
         )
-    );
-    Ok(())
+}
+
+/// Whether the master pushes this version.
+fn is_pushed(rt: &(impl Abort + AllocGlobal), master: &Master, version: Version) -> bool {
+    let reaction = master
+        .push(rt.alloc(), AdminId(0), ServerId(1))
+        .expect(rt, "memory for a letter");
+    pushes(&reaction, version)
+}
+
+#[test]
+fn tells_the_clock_and_the_revocations_in_order(rt: HostRuntime) {
+    let mut authority = authority(&rt);
+    for (at, done) in ACTS.iter().enumerate() {
+        let holds = plays(&rt, &mut authority, done);
+        assert!(rt; holds, "act {at}");
+    }
+    assert!(rt; authority_ignores(&rt, &authority, &probed()));
+}
+
+#[test]
+fn tells_the_opening_versions(rt: HostRuntime) {
+    let master = master(&rt);
+    assert!(rt; is_told(&rt, &master, &[Version(3), Version(1)]));
+    assert!(rt; master_ignores(&rt, &master, &asked()));
+}
+
+#[test]
+fn publishes_up_to_the_last_version(rt: HostRuntime) {
+    let mut master = master(&rt);
+    assert!(rt; matches!(master.publish(AdminId(0)), Ok(Version(4))));
+    assert!(rt; matches!(master.publish(AdminId(0)), Ok(Version(5))));
+    assert!(rt; master.publish(AdminId(0)).is_err());
+    assert!(rt; master.publish(AdminId(1)).is_err());
+    assert!(rt; master.publish(AdminId(2)).is_err());
+    assert!(rt; is_told(&rt, &master, &[Version(5), Version(1)]));
+}
+
+#[test]
+fn pushes_the_newest_version(rt: HostRuntime) {
+    let mut master = master(&rt);
+    assert!(rt; master.publish(AdminId(0)).is_ok());
+    assert!(rt; is_pushed(&rt, &master, Version(4)));
 }
