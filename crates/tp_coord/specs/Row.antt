@@ -87,18 +87,21 @@ value_of sc c number =
     option_and_then (λ (txn : Transaction). asked_value txn c.deeds number)
     (slice_get sc.txns c.txn.0)
 
--- the request for a query
-abbrev pub query_request : Scenario → Coordinator → ServerId → ℕ → QueryRequest
-query_request sc c server number = record {
+-- the request for a query, with the value that it is asked with
+abbrev pub query_with : Coordinator → ServerId → ℕ → Option ℤ → QueryRequest
+query_with c server number value = record {
   txn = c.txn;
   turn = next_turn c;
   query = number;
   age = c.age;
   epoch = epoch_told c server;
-  value = value_of sc c number;
+  value = value;
   staple = None;
   pin = None;
 }
+
+abbrev pub query_request : Scenario → Coordinator → ServerId → ℕ → QueryRequest
+query_request sc c server number = query_with c server number (value_of sc c number)
 
 -- a query is sent to the server of its item
 abbrev pub sends_query : Scenario → Coordinator → ℕ → ServerId → Effect Coordinator

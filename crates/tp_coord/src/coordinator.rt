@@ -3,6 +3,7 @@ ghost use Rattle.std.specs.Prelude.{◌≡◌, ◌<◌, ◌^◌, ◌==◌, ◌++
 ghost use Rattle.std.specs.List.{list_all};
 ghost use Rattle.std.specs.Option.{option_copied};
 ghost use Rattle.tp_model.specs.Words.{ServerId, Verdict};
+ghost use Rattle.tp_model.specs.Words.body;
 ghost use Rattle.tp_model.specs.Words.vote;
 ghost use Rattle.tp_coord.specs.declared.coordinator.Phase.TheVariants as Phase;
 ghost use Rattle.tp_types.specs.Effect.{Gives};
@@ -190,6 +191,20 @@ impl Coordinator {
         self.turn.saturating_add(1)
     }
 
+    pub(crate) fn enters(&mut self, phase: Phase)
+        ensures { self.new ≡ record self.old { phase = phase } }
+    {
+        self.phase = phase;
+    }
+
+    /// Begins a request, whose replies the phase awaits.
+    pub(crate) fn awaits(&mut self, phase: Phase)
+        ensures { self.new ≡ record self.old { turn = row.next_turn self.old; phase = phase } }
+    {
+        self.turn = self.next_turn();
+        self.enters(phase);
+    }
+
     /// The epoch that a server has told the transaction, if it has told one.
     pub(crate) fn epoch_told(&self, server: ServerId) -> Option<u64>
         ensures { result ≡ row.epoch_told self.now server }
@@ -225,24 +240,30 @@ impl Coordinator {
         ensures { IfOk result (λ reaction.
             Gives (row.sends_query scenario.now self.old number server) self.new reaction) }
     {
-        let turn = self.next_turn();
+        let value = self.value_of(alloc, scenario, number)?;
+        let letter = self.query_letter(server, number, value);
+        self.awaits(Phase::Querying {
+            query: number,
+            staple: None,
+        });
+        sent_alone(alloc, letter)
+    }
+
+    fn query_letter(&self, server: ServerId, number: u32, value: Option<i128>) -> Letter
+        ensures { result ≡ row.request self.now server
+            (body.Query (row.query_with self.now server number value)) }
+    {
         let query = QueryRequest {
             txn: self.txn,
-            turn,
+            turn: self.next_turn(),
             query: number,
             age: self.age,
             epoch: self.epoch_told(server),
-            value: self.value_of(alloc, scenario, number)?,
+            value,
             staple: None,
             pin: None,
         };
-        let letter = self.request(server, Body::Query(query));
-        self.turn = turn;
-        self.phase = Phase::Querying {
-            query: number,
-            staple: None,
-        };
-        sent_alone(alloc, letter)
+        self.request(server, Body::Query(query))
     }
 
     /// After the query of this number the next one is asked; after the last the rounds at commit begin.

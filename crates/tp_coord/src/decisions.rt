@@ -1,5 +1,6 @@
 //! A coordinator's decision, which is forced before it is sent, and the acknowledgements of it.
-ghost use Rattle.std.specs.Prelude.{◌≡◌, ◌==◌, not, Option, None, filter, IfOk};
+ghost use Rattle.std.specs.Prelude.{◌≡◌, ◌==◌, not, Option, None, filter, IfOk, OnOk};
+ghost use Rattle.tp_coord.specs.declared.coordinator.Phase.TheVariants as Phase;
 ghost use Rattle.tp_model.specs.Words.{ServerId};
 ghost use Rattle.tp_types.specs.Effect.{Gives};
 ghost use Rattle.tp_round.specs.Replies as replies;
@@ -7,7 +8,6 @@ ghost use Rattle.tp_coord.specs.Row as row;
 
 use crate::coordinator::{Coordinator, Phase};
 use std::alloc::Global;
-use std::mem;
 use tp_round::Round;
 use tp_types::{
     Actor, Body, Cause, CommitRecord, DecideRequest, Decided, Decision, Denied, Instance, Letter,
@@ -50,10 +50,7 @@ impl Coordinator {
             Gives (row.decides self.old outcome decision) self.new reaction) }
     {
         let letters = self.decide_letters(alloc, outcome)?;
-        self.phase = Phase::Ending {
-            outcome,
-            awaited: self.servers.try_clone(alloc)?,
-        };
+        self.ends(alloc, outcome)?;
         let decided = Record::Decided(Decided {
             txn: self.txn,
             decision,
@@ -62,6 +59,16 @@ impl Coordinator {
             append: Some(decided),
             letters,
         })
+    }
+
+    /// All of the transaction's servers are to acknowledge the decision.
+    fn ends(&mut self, alloc: Global, outcome: Outcome) -> Result<(), NoMemory>
+        ensures { OnOk result
+            (self.new ≡ record self.old { phase = Phase.Ending outcome self.old.servers }) }
+    {
+        let awaited = self.servers.try_clone(alloc)?;
+        self.enters(Phase::Ending { outcome, awaited });
+        Ok(())
     }
 
     fn decide_letters(&self, alloc: Global, outcome: Outcome) -> Result<List<Letter>, NoMemory>
@@ -85,16 +92,15 @@ impl Coordinator {
         let Actor::Server(server) = from else {
             return Ok(ignored(alloc));
         };
-        match mem::replace(&mut self.phase, Phase::Idle) {
-            Phase::Ending { outcome, awaited } => {
-                let awaited = without(alloc, awaited.as_slice(), server)?;
-                self.phase = Phase::Ending { outcome, awaited };
+        match &mut self.phase {
+            Phase::Ending {
+                outcome: _,
+                awaited,
+            } => {
+                *awaited = without(alloc, awaited.as_slice(), server)?;
                 Ok(nothing(alloc))
             }
-            other => {
-                self.phase = other;
-                Ok(ignored(alloc))
-            }
+            _ => Ok(ignored(alloc)),
         }
     }
 }

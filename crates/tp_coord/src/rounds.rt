@@ -38,18 +38,22 @@ impl Coordinator {
     fn asks(&mut self, alloc: Global, round: Round) -> Result<Reaction, NoMemory>
         ensures { IfOk result (λ reaction. Gives (row.asks self.old round) self.new reaction) }
     {
-        let turn = self.next_turn();
-        let letter = Letter {
+        let letter = self.ask_letter();
+        self.awaits(Phase::Asking { round });
+        sent_alone(alloc, letter)
+    }
+
+    fn ask_letter(&self) -> Letter
+        ensures { result ≡ row.ask_letter self.now }
+    {
+        Letter {
             from: Actor::Coordinator(self.txn),
             to: Actor::Authority,
             body: Body::Ask(AskRequest {
                 txn: self.txn,
-                turn,
+                turn: self.next_turn(),
             }),
-        };
-        self.turn = turn;
-        self.phase = Phase::Asking { round };
-        sent_alone(alloc, letter)
+        }
     }
 
     fn epoch_of(&self, server: ServerId) -> u64
@@ -106,18 +110,16 @@ impl Coordinator {
         ensures { IfOk result (λ reaction.
             Gives (row.on_tell self.old self.old.phase sent tell.now) self.new reaction) }
     {
-        if tell.turn != self.turn || !matches!(self.phase, Phase::Asking { .. }) {
+        if tell.turn != self.turn {
             return Ok(ignored(alloc));
         }
-        let staple = Staple {
-            place: sent,
-            clock: tell.clock,
-            revoked: tell.revoked.try_clone(alloc)?,
-        };
         match mem::replace(&mut self.phase, Phase::Idle) {
-            Phase::Asking { round } => self.prepares(alloc, round, staple),
+            Phase::Asking { round } => {
+                let staple = staple_of(alloc, sent, tell)?;
+                self.prepares(alloc, round, staple)
+            }
             other => {
-                self.phase = other;
+                self.enters(other);
                 Ok(ignored(alloc))
             }
         }
@@ -133,8 +135,7 @@ impl Coordinator {
             Gives (row.prepares self.old round staple) self.new reaction) }
     {
         let letters = self.prepare_letters(alloc, &round, &staple)?;
-        self.turn = self.next_turn();
-        self.phase = Phase::Checking { round, staple };
+        self.awaits(Phase::Checking { round, staple });
         Ok(Reaction {
             append: None,
             letters,
@@ -156,14 +157,27 @@ impl Coordinator {
         if reply.turn != self.turn || !awaits_vote(&self.phase, server) {
             return Ok(ignored(alloc));
         }
-        let verdicts = match &reply.vote {
-            Vote::Yes(verdicts) => verdicts,
-            Vote::No(why) => return self.on_no(alloc, server, *why),
-        };
+        match &reply.vote {
+            Vote::Yes(verdicts) => self.on_yes(alloc, server, verdicts),
+            Vote::No(why) => self.on_no(alloc, server, *why),
+        }
+    }
+
+    /// A vote YES of a server that is awaited comes into its round.
+    fn on_yes(
+        &mut self,
+        alloc: Global,
+        server: ServerId,
+        verdicts: &List<Verdict>,
+    ) -> Result<Reaction, NoMemory>
+        ensures { IfOk result (λ reaction.
+            Gives (row.vote_at self.old self.old.phase server (vote.Yes verdicts.now))
+            self.new reaction) }
+    {
         match mem::replace(&mut self.phase, Phase::Idle) {
             Phase::Checking { round, staple } => self.voted(alloc, round, staple, server, verdicts),
             other => {
-                self.phase = other;
+                self.enters(other);
                 Ok(ignored(alloc))
             }
         }
@@ -194,7 +208,7 @@ impl Coordinator {
     fn awaits_more(&mut self, alloc: Global, round: Round, staple: Staple) -> Reaction
         ensures { Gives (sends (record self.old { phase = Phase.Checking round staple }) []) self.new result }
     {
-        self.phase = Phase::Checking { round, staple };
+        self.enters(Phase::Checking { round, staple });
         nothing(alloc)
     }
 
@@ -221,6 +235,17 @@ impl Coordinator {
             Judged::Update(_) => self.asks(alloc, round),
         }
     }
+}
+
+/// What the authority told, at the place where it was sent.
+fn staple_of(alloc: Global, sent: Place, tell: &TellReply) -> Result<Staple, NoMemory>
+    ensures { IfOk result (λ staple. staple ≡ row.staple_of tell.now sent) }
+{
+    Ok(Staple {
+        place: sent,
+        clock: tell.clock,
+        revoked: tell.revoked.try_clone(alloc)?,
+    })
 }
 
 /// What the last update named the server for.
