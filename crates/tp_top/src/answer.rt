@@ -9,6 +9,7 @@ ghost use Rattle.tp_model.specs.Trust.{is_trusted};
 ghost use Rattle.tp_io.specs.Whole.{TakesAtMost, input_max};
 ghost use Rattle.tp_machine.specs.Laws.{HasAllCommits, IsTrustedState};
 ghost use Rattle.tp_machine.specs.Machine.{ending_of};
+ghost use Rattle.tp_machine.specs.Seen.{start};
 ghost use Rattle.tp_top.specs.ReportText.{report_text};
 ghost use Rattle.tp_top.specs.Run.{Answers, automatic_bound};
 ghost use Rattle.tp_top.specs.mirrors.Answers.{IsListed, IsRefusal, IsReported};
@@ -86,22 +87,31 @@ fn run(alloc: Global, scenario: &Scenario) -> Result<Answer, NoMemory>
     ensures { IfOk result (IsReported scenario.now) }
 {
     let mut world = World::start(alloc, scenario)?;
-    match follow(&mut world, alloc, scenario.steps.as_slice())? {
+    run_in(alloc, &mut world, scenario)
+}
+
+/// The same in a scenario's world before its first step.
+fn run_in(alloc: Global, world: &mut World, scenario: &Scenario) -> Result<Answer, NoMemory>
+    requires built { built.is_built scenario.now ≡ true }
+    requires fresh { world.old ≡ start scenario.now }
+    ensures { IfOk result (IsReported scenario.now) }
+{
+    match follow(world, alloc, scenario.steps.as_slice())? {
         Some(refused) => Ok(Answer::Refused(step_line(alloc, scenario, refused)?)),
         None => finish(alloc, world),
     }
 }
 
 /// Does the automatic steps of a world after all of its listed ones, and prints the report.
-fn finish(alloc: Global, mut world: World) -> Result<Answer, NoMemory>
-    requires here { IsListed world }
-    ensures { IfOk result (IsReported world.scenario) }
+fn finish(alloc: Global, world: &mut World) -> Result<Answer, NoMemory>
+    requires here { IsListed world.old }
+    ensures { IfOk result (IsReported world.old.scenario) }
 {
-    let budget = budget_of(&world);
-    match drain(&mut world, alloc, budget) {
+    let budget = budget_of(world);
+    match drain(world, alloc, budget) {
         Drained::NoMemory => Err(NoMemory),
         Drained::Budget => Ok(Answer::Budget),
-        Drained::Quiet => Ok(Answer::Report(text_of(alloc, &world)?)),
+        Drained::Quiet => Ok(Answer::Report(text_of(alloc, world)?)),
     }
 }
 
