@@ -130,15 +130,15 @@ fn ending<const N: usize>(
     }
 }
 
-/// Asserts that these facts and this ending print as the text.
+/// Asserts that of the scenario these facts and this ending print as the text.
 fn assert_prints(
     rt: &(impl Abort + AllocGlobal),
-    scenario: &Scenario,
     facts: &List<Fact>,
     ending: &Ending,
     wanted: &str,
 ) {
-    let printed = print(rt.alloc(), scenario, facts, ending).expect(rt, "memory for a report");
+    let printed = print(rt.alloc(), &scenario(rt), facts, ending);
+    let printed = printed.expect(rt, "memory for a report");
     let text = std::str::from_utf8(printed.0.as_slice()).expect(rt, "a text");
     assert_eq!(*rt; text, wanted);
 }
@@ -197,35 +197,44 @@ fn instance(reading: Option<Place>, proofs: List<Verdict>) -> Instance {
     Instance { reading, proofs }
 }
 
+/// A true proof that uses no credential.
+fn plain(
+    rt: &impl AllocGlobal,
+    query: u32,
+    server: ServerId,
+    version: u32,
+    place: Place,
+) -> Verdict {
+    proof(query, server, version, place, no_items(rt))
+}
+
+/// Proofs of both queries, at these places.
+fn both(rt: &(impl Abort + AllocGlobal), first: Place, second: Place) -> Instance {
+    let first = plain(rt, 1, S0, 2, first);
+    instance(None, list(rt, [first, plain(rt, 2, S1, 2, second)]))
+}
+
 /// One proof, then two of which the first was evaluated again, then two new ones.
 fn three_instances(rt: &(impl Abort + AllocGlobal)) -> List<Instance> {
-    let first = list(rt, [proof(1, S0, 1, 3, no_items(rt))]);
-    let again = proof(1, S0, 2, 15, no_items(rt));
-    let second = list(rt, [again, proof(2, S1, 2, 9, no_items(rt))]);
-    let last = proof(1, S0, 2, 19, no_items(rt));
-    let third = list(rt, [last, proof(2, S1, 2, 19, no_items(rt))]);
-    list(
-        rt,
-        [
-            instance(None, first),
-            instance(None, second),
-            instance(None, third),
-        ],
-    )
+    let first = instance(None, list(rt, [plain(rt, 1, S0, 1, 3)]));
+    list(rt, [first, both(rt, 15, 9), both(rt, 19, 19)])
+}
+
+/// A commit on three instances, of a read and a write.
+fn read_and_written(rt: &(impl Abort + AllocGlobal)) -> What {
+    let read = deed(1, X, Action::Read, 5);
+    let deeds = list(rt, [read, deed(2, Y, Action::Write, 6)]);
+    committed(T1, 1, three_instances(rt), deeds)
 }
 
 /// A commit of proofs that were evaluated after each query, with a read.
 #[test]
 fn several_instances(rt: HostRuntime) {
-    let read = deed(1, X, Action::Read, 5);
-    let deeds = list(&rt, [read, deed(2, Y, Action::Write, 6)]);
-    let decided = fact(24, committed(T1, 1, three_instances(&rt), deeds));
     let first = fact(25, What::Settled(S0, T1, Outcome::Commit));
     let second = fact(26, What::Settled(S1, T1, Outcome::Commit));
-    let facts = list(&rt, [decided, first, second]);
+    let facts = list(&rt, [fact(24, read_and_written(&rt)), first, second]);
     assert_prints(
         &rt,
-        &scenario(&rt),
         &facts,
         &ending(&rt, 29, 28, [5, 6, 0]),
         "tpvc 1
@@ -250,20 +259,35 @@ quiet 29 28
     );
 }
 
+/// One proof of the first query, in an instance of its own.
+fn one_instance(
+    rt: &(impl Abort + AllocGlobal),
+    reading: Option<Place>,
+    proof: Verdict,
+) -> List<Instance> {
+    list(rt, [instance(reading, list(rt, [proof]))])
+}
+
+/// A commit on a proof that uses a credential.
+fn unread(rt: &(impl Abort + AllocGlobal)) -> What {
+    let one_use = proof(1, S0, 1, 1, list(rt, [C1]));
+    committed(T1, 0, one_instance(rt, None, one_use), no_items(rt))
+}
+
+/// A commit on a proof that uses two credentials, with a reading of the master and a read of the least value.
+fn read(rt: &(impl Abort + AllocGlobal)) -> What {
+    let two_uses = proof(1, S1, 2, 43, list(rt, [C1, C2]));
+    let lowest = list(rt, [deed(1, Z, Action::Read, i128::MIN)]);
+    committed(T2, 1, one_instance(rt, Some(7), two_uses), lowest)
+}
+
 /// Proofs that use credentials, a reading of the master, and values below zero and at the widest.
 #[test]
 fn readings_and_credentials(rt: HostRuntime) {
-    let one_use = list(&rt, [proof(1, S0, 1, 1, list(&rt, [C1]))]);
-    let unread = list(&rt, [instance(None, one_use)]);
-    let two_uses = list(&rt, [proof(1, S1, 2, 43, list(&rt, [C1, C2]))]);
-    let read = list(&rt, [instance(Some(7), two_uses)]);
-    let lowest = list(&rt, [deed(1, Z, Action::Read, i128::MIN)]);
-    let first = fact(7, committed(T1, 0, unread, no_items(&rt)));
-    let facts = list(&rt, [first, fact(u64::MAX, committed(T2, 1, read, lowest))]);
+    let facts = list(&rt, [fact(7, unread(&rt)), fact(u64::MAX, read(&rt))]);
     let ended = ending(&rt, 10, 8, [-1, -1_000_000_000_000_000, i128::MAX]);
     assert_prints(
         &rt,
-        &scenario(&rt),
         &facts,
         &ended,
         "tpvc 1
@@ -339,7 +363,6 @@ fn causes(rt: HostRuntime) {
     let ended = ending(&rt, 12, 10, [5, 0, 0]);
     assert_prints(
         &rt,
-        &scenario(&rt),
         &aborts(&rt),
         &ended,
         "tpvc 1
@@ -357,17 +380,25 @@ quiet 12 10
     );
 }
 
+/// The first round met a newer version.
+fn one_met(rt: &(impl Abort + AllocGlobal)) -> Cause {
+    Cause::Rounds(list(rt, [met(1, 2, 8)]))
+}
+
+/// Both rounds met newer versions.
+fn two_met(rt: &(impl Abort + AllocGlobal)) -> Cause {
+    Cause::Rounds(list(rt, [met(1, 2, 8), met(2, 3, 15)]))
+}
+
 /// Rounds that met newer versions, and a negative value.
 #[test]
 fn rounds(rt: HostRuntime) {
-    let one = fact(9, aborted(T2, Cause::Rounds(list(&rt, [met(1, 2, 8)]))));
-    let two = list(&rt, [met(1, 2, 8), met(2, 3, 15)]);
-    let below = fact(12, aborted(T2, outside(-1)));
-    let facts = list(&rt, [one, fact(16, aborted(T1, Cause::Rounds(two))), below]);
+    let one = fact(9, aborted(T2, one_met(&rt)));
+    let two = fact(16, aborted(T1, two_met(&rt)));
+    let facts = list(&rt, [one, two, fact(12, aborted(T2, outside(-1)))]);
     let ended = ending(&rt, 19, 16, [5, 0, 0]);
     assert_prints(
         &rt,
-        &scenario(&rt),
         &facts,
         &ended,
         "tpvc 1
@@ -405,7 +436,6 @@ fn each_step(rt: HostRuntime) {
     let ended = ending(&rt, 22, 16, [5, 0, 0]);
     assert_prints(
         &rt,
-        &scenario(&rt),
         &steps(&rt),
         &ended,
         "tpvc 1

@@ -1,7 +1,5 @@
 //! Top calls whose source or sinks fail. Calls that meet no fault are the cases of tp_cases.
-use std::alloc::{AllocError, Global};
-use std::str;
-use std::test::Fail;
+use std::process::Abort;
 use tp_io::{MemorySink, MemorySource};
 use tp_top::{Status, tpvc};
 use tp_types::{List, Text};
@@ -22,87 +20,121 @@ item s0 x 7
 quiet 9 8
 ";
 
-/// How a run ended, and what it wrote to out and to notes.
-#[derive(Drop)]
-struct Ended {
-    status: Status,
-    out: String,
-    notes: String,
+/// A call, with the calls of its source, of out and of notes that fail, counted from 0.
+#[derive(Clone, Copy)]
+struct Call<'a> {
+    words: &'a [&'a str],
+    input: &'a str,
+    reads: &'a [u64],
+    outs: &'a [u64],
+    lines: &'a [u64],
 }
 
-fn words(alloc: Global, spelled: &[&str]) -> Result<List<Text>, Fail> {
-    let mut made = List::new(alloc);
+/// A run that meets no fault.
+const RUN: Call = Call {
+    words: &["run"],
+    input: FIRST,
+    reads: &[],
+    outs: &[],
+    lines: &[],
+};
+
+fn bytes(rt: &(impl Abort + AllocGlobal), members: &[u8]) -> List<u8> {
+    let made = Vec::from_slice(rt.alloc(), members);
+    List::from_vec(made.ok().expect(rt, "memory for bytes"))
+}
+
+fn numbers(rt: &(impl Abort + AllocGlobal), members: &[u64]) -> List<u64> {
+    let made = Vec::from_slice(rt.alloc(), members);
+    List::from_vec(made.ok().expect(rt, "memory for numbers"))
+}
+
+fn words(rt: &(impl Abort + AllocGlobal), spelled: &[&str]) -> List<Text> {
+    let mut made = List::new(rt.alloc());
     for word in spelled {
-        let bytes = Vec::from_slice(alloc, word.as_bytes())?;
-        made.push(Text(List::from_vec(bytes)))?;
+        let text = Text(bytes(rt, word.as_bytes()));
+        made.push(text).ok().expect(rt, "memory for words");
     }
-    Ok(made)
+    made
 }
 
-/// The calls that fail, counted from 0.
-fn calls(alloc: Global, fails: &[u64]) -> Result<List<u64>, AllocError> {
-    Ok(List::from_vec(Vec::from_slice(alloc, fails)?))
+fn status_of(
+    rt: &(impl Abort + AllocGlobal),
+    call: &Call,
+    out: &mut MemorySink,
+    notes: &mut MemorySink,
+) -> Status {
+    let words = words(rt, call.words);
+    let input = bytes(rt, call.input.as_bytes());
+    let mut source = MemorySource::new(input, numbers(rt, call.reads), 100);
+    tpvc(rt.alloc(), words.as_slice(), &mut source, out, notes)
 }
 
-/// Runs with a source of pieces of at most 100 bytes and sinks of at most three, of which each fails at the calls listed.
-fn run_with(
-    alloc: Global,
-    spelled: &[&str],
-    input: &[u8],
-    fails: (&[u64], &[u64], &[u64]),
-) -> Result<Ended, Fail> {
-    let (reads, outs, lines) = fails;
-    let bytes = List::from_vec(Vec::from_slice(alloc, input)?);
-    let mut source = MemorySource::new(bytes, calls(alloc, reads)?, 100);
-    let mut out = MemorySink::new(alloc, calls(alloc, outs)?, 3);
-    let mut notes = MemorySink::new(alloc, calls(alloc, lines)?, 3);
-    let words = words(alloc, spelled)?;
-    let status = tpvc(alloc, words.as_slice(), &mut source, &mut out, &mut notes);
-    Ok(Ended {
-        status,
-        out: String::from_str(alloc, str::from_utf8(out.bytes())?)?,
-        notes: String::from_str(alloc, str::from_utf8(notes.bytes())?)?,
-    })
+/// Whether a call ends with this status, and with these texts on out and on notes. Its source gives pieces of at most 100
+/// bytes, and its sinks take at most three.
+fn ends(
+    rt: &(impl Abort + AllocGlobal),
+    call: &Call,
+    status: Status,
+    out: &[u8],
+    notes: &[u8],
+) -> bool {
+    let mut out_sink = MemorySink::new(rt.alloc(), numbers(rt, call.outs), 3);
+    let mut notes_sink = MemorySink::new(rt.alloc(), numbers(rt, call.lines), 3);
+    let is_status = status_of(rt, call, &mut out_sink, &mut notes_sink) == status;
+    let is_out = out_sink.bytes() == out;
+    let is_notes = notes_sink.bytes() == notes;
+    is_status & is_out & is_notes
 }
 
 // The input is read in three calls, and a fourth finds its end.
 #[test]
-fn a_read_fails(rt: HostRuntime) -> Result<(), Fail> {
-    for call in 0..4 {
-        let got = run_with(rt.alloc(), &["run"], FIRST.as_bytes(), (&[call], &[], &[]))?;
-        assert_eq!(rt; got.status, Status::ReadFault, "call {call}");
-        assert_eq!(rt; got.out.as_str(), "");
-        assert_eq!(rt; got.notes.as_str(), "");
+fn a_read_fails(rt: HostRuntime) {
+    for number in 0..4 {
+        let call = Call {
+            reads: &[number],
+            ..RUN
+        };
+        assert!(rt;
+            ends(&rt, &call, Status::ReadFault, b"", b""),
+            "call {number}"
+        );
     }
-    let got = run_with(rt.alloc(), &["run"], FIRST.as_bytes(), (&[4], &[], &[]))?;
-    assert_eq!(rt; got.status, Status::Done);
-    Ok(())
+    let call = Call { reads: &[4], ..RUN };
+    assert!(rt; ends(&rt, &call, Status::Done, REPORT.as_bytes(), b""));
 }
 
 // What came before a fault is not looked at, even where it is no JSON text.
 #[test]
-fn a_read_fails_in_what_is_no_json(rt: HostRuntime) -> Result<(), Fail> {
-    let got = run_with(rt.alloc(), &["run"], b"{\"admins\":[", (&[1], &[], &[]))?;
-    assert_eq!(rt; got.status, Status::ReadFault);
-    assert_eq!(rt; got.notes.as_str(), "");
-    Ok(())
+fn a_read_fails_in_what_is_no_json(rt: HostRuntime) {
+    let call = Call {
+        input: "{\"admins\":[",
+        reads: &[1],
+        ..RUN
+    };
+    assert!(rt; ends(&rt, &call, Status::ReadFault, b"", b""));
 }
 
 // The report of 166 bytes is written in 56 calls.
 #[test]
-fn a_write_of_the_report_fails(rt: HostRuntime) -> Result<(), Fail> {
-    for call in 0..56u64 {
-        let got = run_with(rt.alloc(), &["run"], FIRST.as_bytes(), (&[], &[call], &[]))?;
-        assert_eq!(rt; got.status, Status::WriteFault, "call {call}");
+fn a_write_of_the_report_fails(rt: HostRuntime) {
+    for number in 0..56u64 {
+        let call = Call {
+            outs: &[number],
+            ..RUN
+        };
+        let written = &REPORT.as_bytes()[..3 * number as usize];
         assert!(rt;
-            got.out.as_bytes() == &REPORT.as_bytes()[..3 * call as usize],
-            "call {call}"
+            ends(&rt, &call, Status::WriteFault, written, b""),
+            "call {number}"
         );
-        assert_eq!(rt; got.notes.as_str(), "");
     }
-    let got = run_with(rt.alloc(), &["run"], FIRST.as_bytes(), (&[], &[56], &[0]))?;
-    assert_eq!(rt; got.status, Status::Done);
-    Ok(())
+    let call = Call {
+        outs: &[56],
+        lines: &[0],
+        ..RUN
+    };
+    assert!(rt; ends(&rt, &call, Status::Done, REPORT.as_bytes(), b""));
 }
 
 /// Calls that end with a line on notes, with the line and the number of calls that write it.
@@ -112,16 +144,28 @@ const LINES: &[(&[&str], &str, &str, u64)] = &[
     (&["run"], "{}", "refused shape $\n", 6),
 ];
 
+/// What a sink keeps of a text where this call of it fails.
+fn written_before(text: &str, number: u64) -> &[u8] {
+    let count = number.saturating_mul(3).min(text.len() as u64);
+    text.as_bytes().split_at(count as usize).0
+}
+
 #[test]
-fn a_write_of_a_line_fails(rt: HostRuntime) -> Result<(), Fail> {
-    for (spelled, input, line, calls) in LINES {
-        for call in 0..*calls {
-            let got = run_with(rt.alloc(), *spelled, input.as_bytes(), (&[], &[0], &[call]))?;
-            assert_eq!(rt; got.status, Status::WriteFault, "{line} {call}");
-            assert_eq!(rt; got.out.as_str(), "");
-            assert_eq!(rt; got.notes.len() as u64, call.saturating_mul(3), "{line}");
-            assert!(rt; line.starts_with(got.notes.as_str()), "{line} {call}");
+fn a_write_of_a_line_fails(rt: HostRuntime) {
+    for (words, input, line, calls) in LINES {
+        for number in 0..*calls {
+            let call = Call {
+                words: *words,
+                input: *input,
+                reads: &[],
+                outs: &[0],
+                lines: &[number],
+            };
+            let written = written_before(*line, number);
+            assert!(rt;
+                ends(&rt, &call, Status::WriteFault, b"", written),
+                "{line} {number}"
+            );
         }
     }
-    Ok(())
 }
