@@ -5,3 +5,4 @@ pub mod Commands
 pub mod Entries
 pub mod Refusing
 pub mod Places
+pub mod Rests

@@ -4,8 +4,10 @@ ghost use Rattle.serde_json.specs.View.{view, items_view};
 ghost use Rattle.tp_scenario.specs.Creds as creds;
 ghost use Rattle.tp_scenario.specs.declared.path.Key.TheVariants as Key;
 ghost use Rattle.tp_scenario.specs.declared.path.Path.TheVariants as Path;
+ghost use Rattle.tp_scenario.specs.Values as values;
 ghost use Rattle.tp_scenario.specs.Values.{each};
-ghost use Rattle.tp_scenario.specs.mirrors.Gives.{Gives};
+ghost use Rattle.tp_scenario.specs.mirrors.Gives.{Gives, GivesNew};
+ghost use Rattle.tp_scenario.specs.mirrors.Rests as rests;
 
 use crate::fault::WalkError;
 use crate::names::Names;
@@ -14,7 +16,7 @@ use crate::path::{Key, Path};
 use crate::values::{count_or, items_or, name_at, new_name_at, whole_in};
 use serde_json::Value as Json;
 use std::alloc::Global;
-use tp_types::{Credential, List, Value};
+use tp_types::{Credential, List, Name, Value};
 
 /// The greatest number that is spelled: 15 digits.
 const NUMBER_MAX: i64 = 999_999_999_999_999;
@@ -61,6 +63,14 @@ fn path_of(at: usize, key: Key) -> Path
     Path::Field(Key::Credentials, at, key)
 }
 
+/// The name at a key.
+fn name_of(alloc: Global, at: usize, key: Key, fields: &Json) -> Result<Name, WalkError>
+    ensures { Gives result
+        (values.name_at (Path.Field Key.Credentials at key) (values.field key (view fields.now))) }
+{
+    name_at(alloc, path_of(at, key), field(fields, key))
+}
+
 #[tactic(auto, unfolding(crate::specs::Creds::cred_at))]
 fn cred_at<'a>(
     alloc: Global,
@@ -83,37 +93,56 @@ fn cred_at<'a>(
         names,
         field(fields, Key::Name),
     )?;
-    let issuer = name_at(alloc, path_of(at, Key::Issuer), field(fields, Key::Issuer))?;
-    let subject = name_at(
-        alloc,
-        path_of(at, Key::Subject),
-        field(fields, Key::Subject),
-    )?;
-    let attr = name_at(alloc, path_of(at, Key::Attr), field(fields, Key::Attr))?;
-    let value = value_at(alloc, path_of(at, Key::Value), field(fields, Key::Value))?;
-    let from = count_or(
+    told(alloc, at, name, fields)
+}
+
+/// The credential of this name.
+fn told(alloc: Global, at: usize, name: Name, fields: &Json) -> Result<Credential, WalkError>
+    ensures value { Gives result (rests.cred_told at name (view fields.now)) }
+    ensures named { IfOk result (λ cred. cred.name ≡ name) }
+{
+    let issuer = name_of(alloc, at, Key::Issuer, fields)?;
+    let subject = name_of(alloc, at, Key::Subject, fields)?;
+    let attr = name_of(alloc, at, Key::Attr, fields)?;
+    let mut cred = Credential {
+        name,
+        issuer,
+        subject,
+        attr,
+        value: Value::Number(0),
+        from: 0,
+        until: CLOCK_MAX,
+    };
+    read_rest(alloc, at, &mut cred, fields)?;
+    Ok(cred)
+}
+
+/// Reads what a credential has beside its names. After an error some of it may have been read.
+fn read_rest(
+    alloc: Global,
+    at: usize,
+    cred: &mut Credential,
+    fields: &Json,
+) -> Result<(), WalkError>
+    ensures value { GivesNew result cred.new (rests.cred_rest at cred.old (view fields.now)) }
+    ensures named { cred.new.name ≡ cred.old.name }
+{
+    cred.value = value_at(alloc, path_of(at, Key::Value), field(fields, Key::Value))?;
+    cred.from = count_or(
         path_of(at, Key::From),
         0,
         CLOCK_MAX,
         0,
         field(fields, Key::From),
     )?;
-    let until = count_or(
+    cred.until = count_or(
         path_of(at, Key::Until),
         0,
         CLOCK_MAX,
         CLOCK_MAX,
         field(fields, Key::Until),
     )?;
-    Ok(Credential {
-        name,
-        issuer,
-        subject,
-        attr,
-        value,
-        from,
-        until,
-    })
+    Ok(())
 }
 
 fn each_cred<'a>(

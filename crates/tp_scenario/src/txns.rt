@@ -6,8 +6,9 @@ ghost use Rattle.tp_scenario.specs.Txns as txns;
 ghost use Rattle.tp_scenario.specs.Values.{apart, each};
 ghost use Rattle.tp_scenario.specs.declared.path.Key.TheVariants as Key;
 ghost use Rattle.tp_scenario.specs.declared.path.Path.TheVariants as Path;
-ghost use Rattle.tp_scenario.specs.mirrors.Gives.{Gives};
+ghost use Rattle.tp_scenario.specs.mirrors.Gives.{Gives, GivesNew};
 ghost use Rattle.tp_scenario.specs.mirrors.Places.{creds_at};
+ghost use Rattle.tp_scenario.specs.mirrors.Rests as rests;
 
 use crate::fault::{WalkError, range_at};
 use crate::names::{Declared, Names};
@@ -229,13 +230,49 @@ fn txn_at<'a>(
         at,
         field(fields, Key::Name),
     )?;
-    let subject = name_at(
-        alloc,
-        path_of(at, Key::Subject),
-        field(fields, Key::Subject),
-    )?;
-    let scheme = scheme_at(path_of(at, Key::Scheme), field(fields, Key::Scheme))?;
-    let level = level_at(path_of(at, Key::Level), field(fields, Key::Level))?;
+    told(alloc, names, at, name, fields)
+}
+
+/// The transaction of this name.
+fn told(
+    alloc: Global,
+    names: &Declared,
+    at: usize,
+    name: Name,
+    fields: &Value,
+) -> Result<Transaction, WalkError>
+    ensures value { Gives result (rests.txn_told names.now at name (view fields.now)) }
+    ensures named { IfOk result (λ txn. txn.name ≡ name) }
+{
+    let path = path_of(at, Key::Subject);
+    let subject = name_at(alloc, path, field(fields, Key::Subject))?;
+    let mut txn = Transaction {
+        name,
+        subject,
+        scheme: Scheme::Deferred,
+        level: Level::View,
+        rounds: 8,
+        creds: List::new(alloc),
+        queries: List::new(alloc),
+    };
+    read_rest(alloc, names, at, &mut txn, fields)?;
+    Ok(txn)
+}
+
+/// Reads what a transaction has beside its names. After an error some of it may have been read.
+fn read_rest(
+    alloc: Global,
+    names: &Declared,
+    at: usize,
+    txn: &mut Transaction,
+    fields: &Value,
+) -> Result<(), WalkError>
+    ensures value { GivesNew result txn.new
+        (rests.txn_rest names.now at txn.old (view fields.now)) }
+    ensures named { txn.new.name ≡ txn.old.name }
+{
+    txn.scheme = scheme_at(path_of(at, Key::Scheme), field(fields, Key::Scheme))?;
+    txn.level = level_at(path_of(at, Key::Level), field(fields, Key::Level))?;
     let rounds = count_or(
         path_of(at, Key::Rounds),
         1,
@@ -243,17 +280,10 @@ fn txn_at<'a>(
         8,
         field(fields, Key::Rounds),
     )?;
-    let creds = presented_by(alloc, &names.creds, at, field(fields, Key::Credentials))?;
-    let queries = queries_at(alloc, &names.items, at, field(fields, Key::Queries))?;
-    Ok(Transaction {
-        name,
-        subject,
-        scheme,
-        level,
-        rounds: rounds as u32,
-        creds,
-        queries,
-    })
+    txn.rounds = rounds as u32;
+    txn.creds = presented_by(alloc, &names.creds, at, field(fields, Key::Credentials))?;
+    txn.queries = queries_at(alloc, &names.items, at, field(fields, Key::Queries))?;
+    Ok(())
 }
 
 fn each_txn<'a>(
