@@ -104,7 +104,7 @@ fn told(alloc: Global, at: usize, name: Name, fields: &Json) -> Result<Credentia
     let issuer = name_of(alloc, at, Key::Issuer, fields)?;
     let subject = name_of(alloc, at, Key::Subject, fields)?;
     let attr = name_of(alloc, at, Key::Attr, fields)?;
-    let mut cred = Credential {
+    let cred = Credential {
         name,
         issuer,
         subject,
@@ -113,6 +113,19 @@ fn told(alloc: Global, at: usize, name: Name, fields: &Json) -> Result<Credentia
         from: 0,
         until: CLOCK_MAX,
     };
+    completed(alloc, at, cred, fields)
+}
+
+/// The credential with what is told of it beside its names.
+fn completed(
+    alloc: Global,
+    at: usize,
+    mut cred: Credential,
+    fields: &Json,
+) -> Result<Credential, WalkError>
+    ensures value { Gives result (rests.cred_rest at cred (view fields.now)) }
+    ensures named { IfOk result (λ made. made.name ≡ cred.name) }
+{
     read_rest(alloc, at, &mut cred, fields)?;
     Ok(cred)
 }

@@ -11,7 +11,7 @@ ghost use Rattle.tp_scenario.specs.Reads as reads;
 ghost use Rattle.tp_scenario.specs.Reads.{Says, IsOutOfMemory, IsText, GivesValid, HasOneAnswer, IsTextOfOne, length_max};
 ghost use Rattle.tp_scenario.specs.Spelled.{HasOneSplit, ReadsQueries, SaysOneQuery, ReadsSteps, SaysOneStep, GivesQueries, GivesSteps};
 ghost use Rattle.tp_scenario.specs.Walk as walk;
-ghost use Rattle.tp_scenario.specs.mirrors.Refusing.{IsRefusal, IsTextError};
+ghost use Rattle.tp_scenario.specs.mirrors.Refusing.{IsRefusal, IsTextError, IsUnbuilt};
 
 use crate::fault::{Fault, Kind, WalkError};
 use crate::forms::first_form;
@@ -105,10 +105,20 @@ fn built(alloc: Global, scenario: Scenario) -> Result<Scenario, ScenarioError>
     ensures { IsOutOfMemory result
         ⊎ (result ≡ reads.built_or scenario (forms.first_form scenario)) }
 {
-    match first_form(alloc, &scenario) {
-        Err(NoMemory) => Err(ScenarioError::NoMemory),
-        Ok(None) => Ok(scenario),
-        Ok(Some(site)) => Err(not_yet(alloc, &site)),
+    match why_not_built(alloc, &scenario) {
+        None => Ok(scenario),
+        Some(error) => Err(error),
+    }
+}
+
+/// Why a scenario is refused though it has no fault.
+fn why_not_built(alloc: Global, scenario: &Scenario) -> Option<ScenarioError>
+    ensures { IsUnbuilt result (forms.first_form scenario.now) }
+{
+    match first_form(alloc, scenario) {
+        Err(NoMemory) => Some(ScenarioError::NoMemory),
+        Ok(None) => None,
+        Ok(Some(site)) => Some(not_yet(alloc, &site)),
     }
 }
 
