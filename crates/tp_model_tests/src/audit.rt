@@ -1,7 +1,6 @@
 //! Histories over one scenario, by tables, and the whole of a trusted one.
 use crate::made::{Card, Says, atom, credential, ids, list, name, policy};
 use std::process::Abort;
-use std::test::Fail;
 use tp_audit::{is_agreed, is_caused, is_serial, is_trusted};
 use tp_model::newest_at;
 use tp_types::{
@@ -604,26 +603,37 @@ const TRUSTED: Story = &[
     (12, Said::Settle(0, EVES, Outcome::Abort)),
 ];
 
-#[test]
-fn is_trusted_in_each_sense(rt: HostRuntime) -> Result<(), Fail> {
-    let scenario = scenario(&rt);
-    let facts = history(&rt, TRUSTED);
-    assert!(rt; is_agreed(&scenario, &facts));
-    assert!(rt; is_trusted(&scenario, &facts));
-    assert!(rt; is_caused(rt.alloc(), &scenario, &facts)?);
-    assert!(rt; is_serial(rt.alloc(), &scenario, &facts)?);
-    Ok(())
+/// Whether a history is agreed, trusted, caused and serial.
+fn judged(rt: &(impl Abort + AllocGlobal), story: Story) -> (bool, bool, bool, bool) {
+    let scenario = scenario(rt);
+    let facts = history(rt, story);
+    let caused = is_caused(rt.alloc(), &scenario, &facts).expect(rt, "memory for a store");
+    let serial = is_serial(rt.alloc(), &scenario, &facts).expect(rt, "memory for a store");
+    (
+        is_agreed(&scenario, &facts),
+        is_trusted(&scenario, &facts),
+        caused,
+        serial,
+    )
+}
+
+/// Asserts that a history is trusted in each sense.
+fn assert_trusted(rt: &(impl Abort + AllocGlobal), story: Story) {
+    let (agreed, trusted, caused, serial) = judged(rt, story);
+    assert!(rt; agreed);
+    assert!(rt; trusted);
+    assert!(rt; caused);
+    assert!(rt; serial);
 }
 
 #[test]
-fn is_trusted_without_facts(rt: HostRuntime) -> Result<(), Fail> {
-    let scenario = scenario(&rt);
-    let facts = history(&rt, &[]);
-    assert!(rt; is_agreed(&scenario, &facts));
-    assert!(rt; is_trusted(&scenario, &facts));
-    assert!(rt; is_caused(rt.alloc(), &scenario, &facts)?);
-    assert!(rt; is_serial(rt.alloc(), &scenario, &facts)?);
-    Ok(())
+fn is_trusted_in_each_sense(rt: HostRuntime) {
+    assert_trusted(&rt, TRUSTED);
+}
+
+#[test]
+fn is_trusted_without_facts(rt: HostRuntime) {
+    assert_trusted(&rt, &[]);
 }
 
 /// Two publications of HR, and one of IT.
@@ -633,20 +643,21 @@ const PUBLISHED: Story = &[
     (4, Said::Publish(HR, 6)),
 ];
 
-/// The newest version, where facts are few and the opening version is small.
-fn newest(rt: &impl Abort, admin: u32, opening: u32, facts: &List<Fact>, place: Place) -> Version {
+/// The newest version after these publications, where the opening version is small.
+fn newest(rt: &(impl Abort + AllocGlobal), admin: u32, opening: u32, place: Place) -> Version {
+    let facts = history(rt, PUBLISHED);
     assert!(rt; facts.len() < 1000 && opening < 1000);
-    newest_at(AdminId(admin), Version(opening), facts, place)
+    newest_at(AdminId(admin), Version(opening), &facts, place)
 }
 
+/// A place, and the newest version of HR there, which opens with 4.
+const NEWEST: &[(Place, u32)] = &[(0, 4), (2, 4), (3, 5), (4, 5), (5, 6)];
+
 #[test]
-fn counts_publications_before_a_place(rt: HostRuntime) -> Result<(), Fail> {
-    let facts = history(&rt, PUBLISHED);
-    for (place, version) in [(0, 4), (2, 4), (3, 5), (4, 5), (5, 6)] {
-        let found = newest(&rt, HR, 4, &facts, place);
-        assert_eq!(rt; found, Version(version));
+fn counts_publications_before_a_place(rt: HostRuntime) {
+    for (place, version) in NEWEST {
+        assert_eq!(rt; newest(&rt, HR, 4, *place), Version(*version), "at {place}");
     }
-    assert_eq!(rt; newest(&rt, IT, 1, &facts, 9), Version(2));
-    assert_eq!(rt; newest(&rt, 7, 1, &facts, 9), Version(1));
-    Ok(())
+    assert_eq!(rt; newest(&rt, IT, 1, 9), Version(2));
+    assert_eq!(rt; newest(&rt, 7, 1, 9), Version(1));
 }

@@ -1,6 +1,6 @@
 //! Each way to break agreement, and histories that keep it.
-use crate::audit::{BACK, Case, EVES, NOTHING, PAY, Said, Why, history, scenario};
-use std::test::Fail;
+use crate::audit::{BACK, Case, EVES, NOTHING, PAY, Said, Story, Why, history, scenario};
+use std::process::Abort;
 use tp_audit::{is_agreed, keeps_agreement};
 use tp_types::{Actor, Fact, List, Outcome, Scenario};
 
@@ -223,13 +223,25 @@ fn first_breach(scenario: &Scenario, facts: &List<Fact>) -> Option<usize> {
     None
 }
 
+/// The first fact of a history that does not keep agreement, and whether all agree.
+fn judged(rt: &(impl Abort + AllocGlobal), story: Story) -> (Option<usize>, bool) {
+    let scenario = scenario(rt);
+    let facts = history(rt, story);
+    (
+        first_breach(&scenario, &facts),
+        is_agreed(&scenario, &facts),
+    )
+}
+
+fn cases() -> &'static [Case] {
+    CASES
+}
+
 #[test]
-fn agrees(rt: HostRuntime) -> Result<(), Fail> {
-    let scenario = scenario(&rt);
-    for (at, (story, breach)) in CASES.iter().enumerate() {
-        let facts = history(&rt, story);
-        assert_eq!(rt; first_breach(&scenario, &facts), *breach, "case {at}");
-        assert_eq!(rt; is_agreed(&scenario, &facts), breach.is_none(), "case {at}");
+fn agrees(rt: HostRuntime) {
+    for (at, (story, breach)) in cases().iter().enumerate() {
+        let (first, agreed) = judged(&rt, story);
+        assert_eq!(rt; first, *breach, "case {at}");
+        assert_eq!(rt; agreed, breach.is_none(), "case {at}");
     }
-    Ok(())
 }

@@ -1,11 +1,10 @@
 //! Aborts whose causes a history shows, and each way in which it does not.
 use crate::audit::{
-    BACK, BOBS, Case, EVES, HR, IT, NOTHING, PAY, SURE, Said, Why, history, scenario,
+    BACK, BOBS, Case, EVES, HR, IT, NOTHING, PAY, SURE, Said, Story, Why, history, scenario,
 };
 use std::process::Abort;
-use std::test::Fail;
 use tp_audit::{is_caused, keeps_causes};
-use tp_types::{Actor, AdminId, Denied, Fact, List, ServerId, TxnId, Version};
+use tp_types::{Actor, AdminId, Denied, Fact, List, Scenario, ServerId, TxnId, Version};
 
 /// A denial of the first query at s0, under version 1 of HR.
 const DENIAL: Denied = Denied {
@@ -349,34 +348,48 @@ const CASES: &[Case] = &[
     ),
 ];
 
+/// Whether a fact of a history keeps causes.
+fn is_kept(
+    rt: &(impl Abort + AllocGlobal),
+    scenario: &Scenario,
+    facts: &List<Fact>,
+    fact: &Fact,
+) -> bool {
+    keeps_causes(rt.alloc(), scenario, facts, fact).expect(rt, "memory for a store")
+}
+
 /// The first fact that does not keep causes.
-fn first_breach(rt: &(impl Abort + AllocGlobal), facts: &List<Fact>) -> Option<usize> {
-    let scenario = scenario(rt);
+fn first_breach(
+    rt: &(impl Abort + AllocGlobal),
+    scenario: &Scenario,
+    facts: &List<Fact>,
+) -> Option<usize> {
     for (at, fact) in facts.as_slice().iter().enumerate() {
-        let kept = keeps_causes(rt.alloc(), &scenario, facts, fact).expect(
-            rt,
-            "memory for a store",
-        );
-        if !kept {
+        if !is_kept(rt, scenario, facts, fact) {
             return Some(at);
         }
     }
     None
 }
 
+/// The first fact of a history that does not keep causes, and whether all are caused.
+fn judged(rt: &(impl Abort + AllocGlobal), story: Story) -> (Option<usize>, bool) {
+    let scenario = scenario(rt);
+    let facts = history(rt, story);
+    let caused = is_caused(rt.alloc(), &scenario, &facts).expect(rt, "memory for a store");
+    (first_breach(rt, &scenario, &facts), caused)
+}
+
 /// Judges each history as a whole and fact by fact.
 pub fn decide(rt: &(impl Abort + AllocGlobal), cases: &[Case]) {
-    let scenario = scenario(rt);
     for (at, (story, breach)) in cases.iter().enumerate() {
-        let facts = history(rt, story);
-        assert_eq!(rt; first_breach(rt, &facts), *breach, "case {at}");
-        let kept = is_caused(rt.alloc(), &scenario, &facts).expect(rt, "memory for a store");
-        assert_eq!(rt; kept, breach.is_none(), "case {at}");
+        let (first, caused) = judged(rt, story);
+        assert_eq!(rt; first, *breach, "case {at}");
+        assert_eq!(rt; caused, breach.is_none(), "case {at}");
     }
 }
 
 #[test]
-fn shows_causes(rt: HostRuntime) -> Result<(), Fail> {
+fn shows_causes(rt: HostRuntime) {
     decide(&rt, CASES);
-    Ok(())
 }

@@ -4,12 +4,14 @@ use crate::audit::{
 };
 use crate::made::list;
 use std::process::Abort;
-use std::test::Fail;
 use tp_audit::{are_lone, is_serial, keeps_serial};
-use tp_types::{Action, CommitRecord, Decision, Deed, Fact, ItemId, List, TxnId, What};
+use tp_types::{Action, CommitRecord, Decision, Deed, Fact, ItemId, List, Scenario, TxnId, What};
 
-/// Commits, each with its place and its transaction, and which of them is the first that is not serial.
-type Run = (&'static [(u64, u32, &'static [Deed])], Option<usize>);
+/// Commits, each with its place and its transaction.
+type Commits = &'static [(u64, u32, &'static [Deed])];
+
+/// Commits, and which of them is the first that is not serial.
+type Run = (Commits, Option<usize>);
 
 const X_READ: Deed = Deed {
     query: 1,
@@ -280,7 +282,7 @@ const RUNS: &[Run] = &[
     (&[(5, 99, &[])], Some(0)),
 ];
 
-fn commits(rt: &(impl Abort + AllocGlobal), done: &[(u64, u32, &'static [Deed])]) -> List<Fact> {
+fn commits(rt: &(impl Abort + AllocGlobal), done: Commits) -> List<Fact> {
     let mut made = List::new(rt.alloc());
     for (place, txn, deeds) in done {
         let basis = Basis { deeds, ..NOTHING };
@@ -289,35 +291,56 @@ fn commits(rt: &(impl Abort + AllocGlobal), done: &[(u64, u32, &'static [Deed])]
     made
 }
 
+/// Whether a fact of a history keeps serial data.
+fn is_kept(
+    rt: &(impl Abort + AllocGlobal),
+    scenario: &Scenario,
+    facts: &List<Fact>,
+    fact: &Fact,
+) -> bool {
+    keeps_serial(rt.alloc(), scenario, facts, fact).expect(rt, "memory for a store")
+}
+
 /// The first fact that does not keep serial data.
-fn first_breach(rt: &(impl Abort + AllocGlobal), facts: &List<Fact>) -> Option<usize> {
-    let scenario = scenario(rt);
+fn first_breach(
+    rt: &(impl Abort + AllocGlobal),
+    scenario: &Scenario,
+    facts: &List<Fact>,
+) -> Option<usize> {
     for (at, fact) in facts.as_slice().iter().enumerate() {
-        let kept = keeps_serial(rt.alloc(), &scenario, facts, fact).expect(
-            rt,
-            "memory for a store",
-        );
-        if !kept {
+        if !is_kept(rt, scenario, facts, fact) {
             return Some(at);
         }
     }
     None
 }
 
-fn decide(rt: &(impl Abort + AllocGlobal), runs: &[Run]) {
+/// Whether all facts of a history keep serial data.
+fn are_kept(rt: &(impl Abort + AllocGlobal), scenario: &Scenario, facts: &List<Fact>) -> bool {
+    is_serial(rt.alloc(), scenario, facts).expect(rt, "memory for a store")
+}
+
+/// The first of these commits that is not serial, and whether all are.
+fn judged(rt: &(impl Abort + AllocGlobal), done: Commits) -> (Option<usize>, bool) {
     let scenario = scenario(rt);
-    for (at, (done, breach)) in runs.iter().enumerate() {
-        let facts = commits(rt, done);
-        assert_eq!(rt; first_breach(rt, &facts), *breach, "run {at}");
-        let kept = is_serial(rt.alloc(), &scenario, &facts).expect(rt, "memory for a store");
-        assert_eq!(rt; kept, breach.is_none(), "run {at}");
-    }
+    let facts = commits(rt, done);
+    (
+        first_breach(rt, &scenario, &facts),
+        are_kept(rt, &scenario, &facts),
+    )
+}
+
+fn runs() -> &'static [Run] {
+    RUNS
 }
 
 #[test]
-fn runs_each_by_itself(rt: HostRuntime) -> Result<(), Fail> {
-    decide(&rt, RUNS);
-    Ok(())
+fn runs_each_by_itself(rt: HostRuntime) {
+    for (at, (done, breach)) in runs().iter().enumerate() {
+        let (first, kept) = judged(&rt, done);
+        assert_eq!(rt; first, *breach, "run {at}");
+        assert_eq!(rt; kept, breach.is_none(), "run {at}");
+    }
 }
 
 // ---- sums past what a value can be
@@ -389,7 +412,7 @@ fn after(rt: &(impl Abort + AllocGlobal), sum: &Sum) -> List<Fact> {
 }
 
 /// Commits with their places, and whether no two have one place.
-const APART: &[(&[(u64, u32, &[Deed])], bool)] = &[
+const APART: &[(Commits, bool)] = &[
     (&[], true),
     (&[(5, PAY, PAID)], true),
     (&[(5, BACK, WENT_BACK), (4, PAY, PAID)], true),
@@ -400,22 +423,34 @@ const APART: &[(&[(u64, u32, &[Deed])], bool)] = &[
     ),
 ];
 
-#[test]
-fn stand_apart(rt: HostRuntime) {
-    for (at, (done, apart)) in APART.iter().enumerate() {
-        assert_eq!(rt; are_lone(&commits(&rt, done)), *apart, "commits {at}");
-    }
+fn stands_apart(rt: &(impl Abort + AllocGlobal), done: Commits) -> bool {
+    let facts = commits(rt, done);
+    are_lone(&facts)
 }
 
 #[test]
-fn sums_exactly(rt: HostRuntime) -> Result<(), Fail> {
-    let scenario = scenario(&rt);
-    for (at, sum) in SUMS.iter().enumerate() {
-        let facts = after(&rt, sum);
-        let second = facts.get(1).ok_or("no second commit")?;
-        let kept = keeps_serial(rt.alloc(), &scenario, &facts, second)?;
-        assert_eq!(rt; kept, sum.3, "sum {at}");
-        assert!(rt; !is_serial(rt.alloc(), &scenario, &facts)?, "sum {at}");
+fn stand_apart(rt: HostRuntime) {
+    for (at, (done, apart)) in APART.iter().enumerate() {
+        assert_eq!(rt; stands_apart(&rt, done), *apart, "commits {at}");
     }
-    Ok(())
+}
+
+/// Whether the second commit of a sum is serial, and whether both are.
+fn summed(rt: &(impl Abort + AllocGlobal), sum: &Sum) -> (bool, bool) {
+    let scenario = scenario(rt);
+    let facts = after(rt, sum);
+    let second = facts.get(1).expect(rt, "a second commit");
+    (
+        is_kept(rt, &scenario, &facts, second),
+        are_kept(rt, &scenario, &facts),
+    )
+}
+
+#[test]
+fn sums_exactly(rt: HostRuntime) {
+    for (at, sum) in SUMS.iter().enumerate() {
+        let (second, both) = summed(&rt, sum);
+        assert_eq!(rt; second, sum.3, "sum {at}");
+        assert!(rt; !both, "sum {at}");
+    }
 }

@@ -4,9 +4,8 @@ use crate::audit::{
     WRITES, scenario, tell,
 };
 use std::process::Abort;
-use std::test::Fail;
 use tp_audit::{is_trusted, keeps_trust};
-use tp_types::{Fact, List};
+use tp_types::{Fact, List, Scenario};
 
 /// A commit at 5 of a transaction that was submitted at 0, between other facts, and whether it is trusted.
 #[derive(Clone, Copy)]
@@ -48,21 +47,32 @@ fn facts(rt: &(impl Abort + AllocGlobal), trial: &Trial) -> List<Fact> {
     made
 }
 
-/// The commit alone is what keeps trust or does not.
-fn decide(rt: &(impl Abort + AllocGlobal), trials: &[Trial]) {
-    let scenario = scenario(rt);
-    for (at, trial) in trials.iter().enumerate() {
-        let facts = facts(rt, trial);
-        assert_eq!(rt; is_trusted(&scenario, &facts), trial.trusted, "trial {at}");
-        for (place, fact) in facts.as_slice().iter().enumerate() {
-            let is_commit = place == trial.before.len() + 1;
-            let kept = keeps_trust(&scenario, &facts, fact);
-            assert_eq!(rt;
-                kept,
-                trial.trusted || !is_commit,
-                "trial {at}, fact {place}"
-            );
+/// The first fact that does not keep trust as it should: the commit alone keeps it or does not.
+fn first_strange(scenario: &Scenario, facts: &List<Fact>, trial: &Trial) -> Option<usize> {
+    for (place, fact) in facts.as_slice().iter().enumerate() {
+        let is_commit = place == trial.before.len() + 1;
+        if keeps_trust(scenario, facts, fact) != (trial.trusted || !is_commit) {
+            return Some(place);
         }
+    }
+    None
+}
+
+/// Whether the history of a trial is trusted, and the first fact that does not keep trust as it should.
+fn judged(rt: &(impl Abort + AllocGlobal), trial: &Trial) -> (bool, Option<usize>) {
+    let scenario = scenario(rt);
+    let facts = facts(rt, trial);
+    (
+        is_trusted(&scenario, &facts),
+        first_strange(&scenario, &facts, trial),
+    )
+}
+
+fn decide(rt: &(impl Abort + AllocGlobal), trials: &[Trial]) {
+    for (at, trial) in trials.iter().enumerate() {
+        let (trusted, strange) = judged(rt, trial);
+        assert_eq!(rt; trusted, trial.trusted, "trial {at}");
+        assert_eq!(rt; strange, None, "trial {at}");
     }
 }
 
@@ -172,9 +182,8 @@ const DEMANDS: &[Trial] = &[
 ];
 
 #[test]
-fn demands_one_proof_of_each_query(rt: HostRuntime) -> Result<(), Fail> {
+fn demands_one_proof_of_each_query(rt: HostRuntime) {
     decide(&rt, DEMANDS);
-    Ok(())
 }
 
 // ---- proofs
@@ -385,9 +394,8 @@ const PROOFS: &[Trial] = &[
 ];
 
 #[test]
-fn wants_proofs_that_are_true(rt: HostRuntime) -> Result<(), Fail> {
+fn wants_proofs_that_are_true(rt: HostRuntime) {
     decide(&rt, PROOFS);
-    Ok(())
 }
 
 // ---- credentials
@@ -472,9 +480,8 @@ const CREDENTIALS: &[Trial] = &[
 ];
 
 #[test]
-fn wants_credentials_that_are_valid(rt: HostRuntime) -> Result<(), Fail> {
+fn wants_credentials_that_are_valid(rt: HostRuntime) {
     decide(&rt, CREDENTIALS);
-    Ok(())
 }
 
 // ---- versions
@@ -672,9 +679,8 @@ const VERSIONS: &[Trial] = &[
 ];
 
 #[test]
-fn wants_versions_that_agree(rt: HostRuntime) -> Result<(), Fail> {
+fn wants_versions_that_agree(rt: HostRuntime) {
     decide(&rt, VERSIONS);
-    Ok(())
 }
 
 // ---- readings of the master
@@ -756,7 +762,6 @@ const READINGS: &[Trial] = &[
 ];
 
 #[test]
-fn wants_readings_of_the_newest(rt: HostRuntime) -> Result<(), Fail> {
+fn wants_readings_of_the_newest(rt: HostRuntime) {
     decide(&rt, READINGS);
-    Ok(())
 }

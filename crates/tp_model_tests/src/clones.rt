@@ -31,6 +31,7 @@ fn staple(rt: &(impl Abort + AllocGlobal)) -> Staple {
     }
 }
 
+/// The body of an answer that a query may have.
 fn done(answer: Answer) -> Body {
     Body::Done(DoneReply {
         txn: T1,
@@ -41,28 +42,27 @@ fn done(answer: Answer) -> Body {
     })
 }
 
-/// The answers that a query may have.
-fn answers(rt: &(impl Abort + AllocGlobal)) -> Vec<Answer> {
-    let newer = Newer {
-        admin: AdminId(0),
-        used: Version(1),
-        found: Version(2),
-    };
-    let all = [
-        Answer::Ran {
+/// How many kinds of answers there are.
+const ANSWERS: u32 = 5;
+
+/// One answer of each kind that a query may have.
+fn answer(rt: &(impl Abort + AllocGlobal), kind: u32) -> Answer {
+    match kind {
+        0 => Answer::Ran {
             value: -7,
             verdict: Some(verdict(rt)),
         },
-        Answer::Denied {
+        1 => Answer::Denied {
             verdict: verdict(rt),
         },
-        Answer::Newer(newer),
-        Answer::Died { other: T1 },
-        Answer::Restarted,
-    ];
-    Vec::from_array(rt.alloc(), all)
-        .ok()
-        .expect(rt, "memory for answers")
+        2 => Answer::Newer(Newer {
+            admin: AdminId(0),
+            used: Version(1),
+            found: Version(2),
+        }),
+        3 => Answer::Died { other: T1 },
+        _ => Answer::Restarted,
+    }
 }
 
 fn query_request(rt: &(impl Abort + AllocGlobal)) -> QueryRequest {
@@ -123,50 +123,45 @@ fn newest_reply(rt: &(impl Abort + AllocGlobal)) -> NewestReply {
     }
 }
 
-/// One body of each kind.
-fn bodies(rt: &(impl Abort + AllocGlobal)) -> Vec<Body> {
-    let yes = VoteReply {
+fn vote(vote: Vote) -> Body {
+    Body::Vote(VoteReply {
         txn: T1,
         turn: 3,
-        vote: Vote::Yes(list(rt, [verdict(rt)])),
-    };
-    let no = VoteReply {
-        txn: T1,
-        turn: 3,
-        vote: Vote::No(No::Range { query: 1, value: 9 }),
-    };
-    let decide = DecideRequest {
-        txn: T1,
-        outcome: Outcome::Abort,
-    };
-    let push = PushNotice {
-        admin: AdminId(0),
-        version: Version(2),
-    };
-    let all = [
-        Body::Query(query_request(rt)),
-        Body::Ask(AskRequest { txn: T1, turn: 1 }),
-        Body::Tell(tell_reply(rt)),
-        Body::Validate(validate_request(rt)),
-        Body::Verdicts(verdicts_reply(rt)),
-        Body::Prepare(prepare_request(rt)),
-        Body::Vote(yes),
-        Body::Vote(no),
-        Body::Probe(ProbeRequest { txn: T1, turn: 4 }),
-        Body::Newest(newest_reply(rt)),
-        Body::Decide(decide),
-        Body::Ack(AckReply { txn: T1 }),
-        Body::Inquire(InquireRequest { txn: T1 }),
-        Body::Push(push),
-    ];
-    Vec::from_array(rt.alloc(), all)
-        .ok()
-        .expect(rt, "memory for bodies")
+        vote,
+    })
 }
 
-/// One record of each kind.
-fn records(rt: &(impl Abort + AllocGlobal)) -> Vec<Record> {
-    let prepared = Prepared {
+/// How many kinds of bodies there are but answers, where a vote is of two kinds.
+const BODIES: u32 = 14;
+
+/// One body of each kind.
+fn body(rt: &(impl Abort + AllocGlobal), kind: u32) -> Body {
+    match kind {
+        0 => Body::Query(query_request(rt)),
+        1 => Body::Ask(AskRequest { txn: T1, turn: 1 }),
+        2 => Body::Tell(tell_reply(rt)),
+        3 => Body::Validate(validate_request(rt)),
+        4 => Body::Verdicts(verdicts_reply(rt)),
+        5 => Body::Prepare(prepare_request(rt)),
+        6 => vote(Vote::Yes(list(rt, [verdict(rt)]))),
+        7 => vote(Vote::No(No::Range { query: 1, value: 9 })),
+        8 => Body::Probe(ProbeRequest { txn: T1, turn: 4 }),
+        9 => Body::Newest(newest_reply(rt)),
+        10 => Body::Decide(DecideRequest {
+            txn: T1,
+            outcome: Outcome::Abort,
+        }),
+        11 => Body::Ack(AckReply { txn: T1 }),
+        12 => Body::Inquire(InquireRequest { txn: T1 }),
+        _ => Body::Push(PushNotice {
+            admin: AdminId(0),
+            version: Version(2),
+        }),
+    }
+}
+
+fn prepared(rt: &(impl Abort + AllocGlobal)) -> Prepared {
+    Prepared {
         txn: T1,
         age: 0,
         epoch: 1,
@@ -174,30 +169,31 @@ fn records(rt: &(impl Abort + AllocGlobal)) -> Vec<Record> {
         deeds: List::new(rt.alloc()),
         verdicts: list(rt, [verdict(rt)]),
         told: list(rt, [Version(1)]),
-    };
-    let told = Told {
-        admin: AdminId(0),
-        version: Version(2),
-    };
-    let settled = Settled {
-        txn: T1,
-        outcome: Outcome::Abort,
-        why: Some(No::Restarted),
-    };
-    let decided = Decided {
-        txn: T1,
-        decision: Decision::Abort(Cause::Halted),
-    };
-    let all = [
-        Record::Boot,
-        Record::Told(told),
-        Record::Prepared(prepared),
-        Record::Settled(settled),
-        Record::Decided(decided),
-    ];
-    Vec::from_array(rt.alloc(), all)
-        .ok()
-        .expect(rt, "memory for records")
+    }
+}
+
+/// How many kinds of records there are.
+const RECORDS: u32 = 5;
+
+/// One record of each kind.
+fn record_of(rt: &(impl Abort + AllocGlobal), kind: u32) -> Record {
+    match kind {
+        0 => Record::Boot,
+        1 => Record::Told(Told {
+            admin: AdminId(0),
+            version: Version(2),
+        }),
+        2 => Record::Prepared(prepared(rt)),
+        3 => Record::Settled(Settled {
+            txn: T1,
+            outcome: Outcome::Abort,
+            why: Some(No::Restarted),
+        }),
+        _ => Record::Decided(Decided {
+            txn: T1,
+            decision: Decision::Abort(Cause::Halted),
+        }),
+    }
 }
 
 fn mail(body: Body) -> Mail {
@@ -212,28 +208,59 @@ fn mail(body: Body) -> Mail {
     }
 }
 
+fn is_cloned(rt: &(impl Abort + AllocGlobal), mail: &Mail) -> bool {
+    mail.try_clone(rt.alloc()).is_ok()
+}
+
+/// Whether the mail of a body is cloned.
+fn is_mailed_twice(rt: &(impl Abort + AllocGlobal), body: Body) -> bool {
+    let mail = mail(body);
+    is_cloned(rt, &mail)
+}
+
+/// Whether the reaction that appends a record is cloned.
+fn is_appended_twice(rt: &(impl Abort + AllocGlobal), forced: Record) -> bool {
+    let reaction = Reaction {
+        append: Some(forced),
+        letters: List::new(rt.alloc()),
+    };
+    match reaction.try_clone(rt.alloc()) {
+        Ok(_copy) => true,
+        Err(_refused) => false,
+    }
+}
+
+fn is_read_twice(rt: &(impl Abort + AllocGlobal)) -> bool {
+    let reading = Reading {
+        place: 3,
+        newest: list(rt, [Version(1)]),
+    };
+    match reading.try_clone(rt.alloc()) {
+        Ok(_copy) => true,
+        Err(_refused) => false,
+    }
+}
+
 #[test]
 fn clones_every_mail(rt: HostRuntime) {
-    for body in bodies(&rt) {
-        assert!(rt; mail(body).try_clone(rt.alloc()).is_ok());
+    for kind in 0..BODIES {
+        assert!(rt; is_mailed_twice(&rt, body(&rt, kind)), "body {kind}");
     }
-    for answer in answers(&rt) {
-        assert!(rt; mail(done(answer)).try_clone(rt.alloc()).is_ok());
+    for kind in 0..ANSWERS {
+        assert!(rt;
+            is_mailed_twice(&rt, done(answer(&rt, kind))),
+            "answer {kind}"
+        );
     }
 }
 
 #[test]
 fn clones_every_record(rt: HostRuntime) {
-    for forced in records(&rt) {
-        let reaction = Reaction {
-            append: Some(forced),
-            letters: List::new(rt.alloc()),
-        };
-        assert!(rt; reaction.try_clone(rt.alloc()).is_ok());
+    for kind in 0..RECORDS {
+        assert!(rt;
+            is_appended_twice(&rt, record_of(&rt, kind)),
+            "record {kind}"
+        );
     }
-    let reading = Reading {
-        place: 3,
-        newest: list(&rt, [Version(1)]),
-    };
-    assert!(rt; reading.try_clone(rt.alloc()).is_ok());
+    assert!(rt; is_read_twice(&rt));
 }

@@ -1,7 +1,6 @@
 //! Stores of credentials, by tables.
 use crate::made::{Card, Says, credential, ids, name};
 use std::process::Abort;
-use std::test::Fail;
 use tp_cred::{CredError, CredStore};
 use tp_types::CredId;
 
@@ -56,59 +55,85 @@ pub fn store(rt: &(impl Abort + AllocGlobal), cards: &[Card]) -> CredStore {
 
 // ---- names and subjects
 
+/// The id that a store gives a credential.
+fn id_of(rt: &(impl Abort + AllocGlobal), store: &mut CredStore, card: &Card) -> usize {
+    added(rt, store, card).expect(rt, "a new credential").0 as usize
+}
+
 #[test]
-fn gives_ids_in_order(rt: HostRuntime) -> Result<(), Fail> {
+fn gives_ids_in_order(rt: HostRuntime) {
     let mut made = CredStore::new(rt.alloc());
     assert!(rt; made.is_empty());
     for (at, card) in CLINIC.iter().enumerate() {
-        let id = added(&rt, &mut made, card).expect(&rt, "a new credential");
-        assert_eq!(rt; id.0 as usize, at);
+        assert_eq!(rt; id_of(&rt, &mut made, card), at);
     }
     assert_eq!(rt; made.len(), 3);
-    Ok(())
+}
+
+/// Whether a store refuses another credential of the name that the one of this number has.
+fn refuses(
+    rt: &(impl Abort + AllocGlobal),
+    store: &mut CredStore,
+    card: &Card,
+    number: u32,
+) -> bool {
+    let again = Card {
+        issuer: "another",
+        subject: "eve",
+        ..*card
+    };
+    let id = CredId(number);
+    added(rt, store, &again) == Err(CredError::Duplicate { id })
 }
 
 #[test]
-fn refuses_a_name_twice(rt: HostRuntime) -> Result<(), Fail> {
+fn refuses_a_name_twice(rt: HostRuntime) {
     let mut made = store(&rt, CLINIC);
     for (at, card) in CLINIC.iter().enumerate() {
-        let again = Card {
-            issuer: "another",
-            subject: "eve",
-            ..*card
-        };
-        let id = CredId(at as u32);
-        let wanted = Err(CredError::Duplicate { id });
-        assert_eq!(rt; added(&rt, &mut made, &again), wanted, "credential {at}");
+        assert!(rt; refuses(&rt, &mut made, card, at as u32), "credential {at}");
     }
     assert_eq!(rt; made.len(), 3);
-    Ok(())
+}
+
+/// Whether the clinic's credential of this number has the name.
+fn has_name(rt: &(impl Abort + AllocGlobal), number: u32, name: &str) -> bool {
+    let made = store(rt, CLINIC);
+    match made.get(CredId(number)) {
+        Some(found) => found.name.bytes() == name.as_bytes(),
+        None => false,
+    }
+}
+
+/// Whether the clinic has no credential of this number.
+fn has_none(rt: &(impl Abort + AllocGlobal), number: u32) -> bool {
+    let made = store(rt, CLINIC);
+    made.get(CredId(number)).is_none()
 }
 
 #[test]
-fn gets_by_id(rt: HostRuntime) -> Result<(), Fail> {
-    let made = store(&rt, CLINIC);
+fn gets_by_id(rt: HostRuntime) {
     for (at, card) in CLINIC.iter().enumerate() {
-        let found = made.get(CredId(at as u32)).expect(&rt, "a credential");
-        assert!(rt; found.name.bytes() == card.name.as_bytes());
+        assert!(rt; has_name(&rt, at as u32, card.name), "credential {at}");
     }
-    assert!(rt; made.get(CredId(3)).is_none());
-    assert!(rt; made.get(CredId(u32::MAX)).is_none());
-    Ok(())
+    assert!(rt; has_none(&rt, 3));
+    assert!(rt; has_none(&rt, u32::MAX));
+}
+
+/// Whether these are the clinic's credentials of a subject.
+fn are_of(rt: &(impl Abort + AllocGlobal), subject: &str, wanted: &[u32]) -> bool {
+    let made = store(rt, CLINIC);
+    let subject = name(rt, subject);
+    let found = made
+        .of_subject(rt.alloc(), &subject)
+        .expect(rt, "memory for ids");
+    found == ids(rt, wanted)
 }
 
 #[test]
-fn lists_those_of_a_subject(rt: HostRuntime) -> Result<(), Fail> {
-    let made = store(&rt, CLINIC);
-    let cases: [(&str, &[u32]); 3] = [("ann", &[0, 1]), ("bob", &[2]), ("eve", &[])];
-    for (subject, wanted) in cases {
-        let subject = name(&rt, subject);
-        let found = made
-            .of_subject(rt.alloc(), &subject)
-            .expect(&rt, "memory for ids");
-        assert!(rt; found == ids(&rt, wanted));
-    }
-    Ok(())
+fn lists_those_of_a_subject(rt: HostRuntime) {
+    assert!(rt; are_of(&rt, "ann", &[0, 1]));
+    assert!(rt; are_of(&rt, "bob", &[2]));
+    assert!(rt; are_of(&rt, "eve", &[]));
 }
 
 // ---- validity
@@ -133,13 +158,16 @@ const VALIDITY: &[(u32, u64, &[u32], bool)] = &[
     (3, 7, &[], false),
 ];
 
+/// Whether the clinic's credential of this number is valid.
+fn is_valid(rt: &(impl Abort + AllocGlobal), number: u32, now: u64, revoked: &[u32]) -> bool {
+    let made = store(rt, CLINIC);
+    let revoked = ids(rt, revoked);
+    made.valid(CredId(number), now, revoked.as_slice())
+}
+
 #[test]
-fn tells_the_valid(rt: HostRuntime) -> Result<(), Fail> {
-    let made = store(&rt, CLINIC);
+fn tells_the_valid(rt: HostRuntime) {
     for (at, (id, now, revoked, valid)) in VALIDITY.iter().enumerate() {
-        let revoked = ids(&rt, revoked);
-        let found = made.valid(CredId(*id), *now, revoked.as_slice());
-        assert_eq!(rt; found, *valid, "case {at}");
+        assert_eq!(rt; is_valid(&rt, *id, *now, revoked), *valid, "case {at}");
     }
-    Ok(())
 }

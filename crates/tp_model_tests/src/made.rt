@@ -23,10 +23,10 @@ pub struct Card {
 
 /// A list of the members of an array.
 pub fn list<T: Drop, const N: usize>(rt: &(impl Abort + AllocGlobal), members: [T; N]) -> List<T> {
-    let made = Vec::from_array(rt.alloc(), members)
-        .ok()
-        .expect(rt, "memory for a list");
-    List::from_vec(made)
+    match Vec::from_array(rt.alloc(), members) {
+        Ok(made) => List::from_vec(made),
+        Err(_) => panic!(rt; "memory for a list"),
+    }
 }
 
 pub fn name(rt: &(impl Abort + AllocGlobal), text: &str) -> Name {

@@ -1,19 +1,26 @@
 //! Tables of policy texts: what each says, how that is printed, and where a text that says none stops.
 use tp_policy_text::ParseError;
 
-/// A text, its tree, and the printed form of the tree.
-pub type Row = (&'static str, &'static str, &'static str);
+/// Stands behind each row of a table.
+pub const ROW_END: char = '\u{1e}';
 
-/// A text in two parts, of which the second begins at the first byte that cannot stand there, or is empty where more is wanted.
-pub type Cut = (&'static str, &'static str);
+/// Stands between the parts of a row.
+pub const PART_END: char = '\u{1f}';
 
-/// A text in two parts, as a Cut.
+/// A table as one text, since a constant of many texts takes long to prove.
+macro_rules! table {
+    ($(($first:literal $(, $next:literal)* $(,)?)),* $(,)?) => {
+        concat!($($first $(, '\u{1f}', $next)*, '\u{1e}'),*)
+    };
+}
+
+/// A text in two parts, as a cut.
 pub type ByteCut = (&'static [u8], &'static [u8]);
 
 // ---- what is read
 
-/// Policies.
-pub const POLICIES: &[Row] = &[
+/// Policies: a text, its tree, and the printed form of the tree.
+const POLICIES: &str = table![
     // a rule about a prefix, and the policy without rules
     (
         "allow read on bill* if (a.b=1 or a.c>=2) and a.d = x;",
@@ -135,8 +142,8 @@ pub const POLICIES: &[Row] = &[
 /// What stands before and behind the conditions of the next table, in a text and in its printed form.
 pub const HEAD: &str = "allow any on x if ";
 
-/// Conditions.
-pub const CONDITIONS: &[Row] = &[
+/// Conditions, in the same way.
+const CONDITIONS: &str = table![
     // blanks around an operator, and none
     ("a.b=1", "a.b=1", "a.b = 1"),
     ("a.b>=1", "a.b>=1", "a.b >= 1"),
@@ -339,8 +346,8 @@ pub const CONDITIONS: &[Row] = &[
 
 // ---- what is refused
 
-/// Texts that stop where their second part begins.
-pub const STOPPING: &[Cut] = &[
+/// Texts that stop where their second part begins, which is empty where more is wanted.
+const STOPPING: &str = table![
     // no rule begins so
     ("", "x"),
     ("", ";"),
@@ -614,7 +621,7 @@ pub const STOPPING: &[Cut] = &[
 ];
 
 /// Texts that stop at a byte over 127, at 0, or at another byte that no text has.
-pub const STOPPING_BYTES: &[ByteCut] = &[
+const STOPPING_BYTES: &[ByteCut] = &[
     // bytes over 127, alone and in characters of several bytes
     (b"", b"\xff"),
     (b"", b"\xef\xbb\xbfallow any on x if true;"),
@@ -640,7 +647,7 @@ pub const STOPPING_BYTES: &[ByteCut] = &[
 ];
 
 /// Texts of which the second part begins with a parenthesis that stands within sixteen others, and is the first such one.
-pub const TOO_DEEP: &[Cut] = &[
+const TOO_DEEP: &str = table![
     // with no end, and with one
     ("allow any on * if ((((((((((((((((", "("),
     ("allow any on * if ((((((((((((((((", "((("),
@@ -711,3 +718,25 @@ pub const SHORT_RULE: &str = "allow any on*if true;";
 
 /// So many of the short rule have 4,095 bytes, and 4,680 when they are printed.
 pub const SHORT_RULES: usize = 195;
+
+// ---- the tables, each behind a call, since a function that names a constant is proved over the whole of its value
+
+pub fn policies() -> &'static str {
+    POLICIES
+}
+
+pub fn conditions() -> &'static str {
+    CONDITIONS
+}
+
+pub fn stopping() -> &'static str {
+    STOPPING
+}
+
+pub fn stopping_bytes() -> &'static [ByteCut] {
+    STOPPING_BYTES
+}
+
+pub fn too_deep() -> &'static str {
+    TOO_DEEP
+}

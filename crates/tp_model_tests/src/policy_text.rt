@@ -1,13 +1,11 @@
 //! Texts of policies, read, printed and refused as the tables say.
 use crate::policy_tables::{
-    CONDITIONS, HEAD, LONGEST, LONGEST_REFUSED, MOST, POLICIES, SHORT_RULE, SHORT_RULES, STOPPING,
-    STOPPING_BYTES, TOO_DEEP,
+    HEAD, LONGEST, LONGEST_REFUSED, MOST, PART_END, ROW_END, SHORT_RULE, SHORT_RULES, conditions,
+    policies, stopping, stopping_bytes, too_deep,
 };
-use std::alloc::Global;
 use std::fmt::Write;
 use std::process::Abort;
 use std::str;
-use std::test::Fail;
 use tp_policy_text::{ParseError, parse, print, print_and_parse};
 use tp_types::{Action, Cond, Name, Op, Pattern, Policy, Rule, Value};
 
@@ -31,17 +29,20 @@ fn tree_of_beginning(length: usize) -> Option<&'static str> {
 
 // ---- trees as text
 
-fn put_name(out: &mut String, name: &Name) -> Result<(), Fail> {
-    out.push_str(str::from_utf8(name.bytes())?)?;
-    Ok(())
+fn put(rt: &impl Abort, out: &mut String, text: &str) {
+    out.push_str(text).expect(rt, "memory for a tree");
 }
 
-fn put_value(out: &mut String, value: &Value) -> Result<(), Fail> {
+fn put_name(rt: &impl Abort, out: &mut String, name: &Name) {
+    let text = str::from_utf8(name.bytes()).expect(rt, "a name of letters");
+    put(rt, out, text);
+}
+
+fn put_value(rt: &impl Abort, out: &mut String, value: &Value) {
     match value {
-        Value::Number(number) => write!(out, "{number}")?,
-        Value::Word(word) => put_name(out, word)?,
+        Value::Number(number) => write!(out, "{number}").expect(rt, "memory for a tree"),
+        Value::Word(word) => put_name(rt, out, word),
     }
-    Ok(())
 }
 
 fn op_sign(op: Op) -> &'static str {
@@ -52,53 +53,48 @@ fn op_sign(op: Op) -> &'static str {
     }
 }
 
-fn put_subject(out: &mut String, issuer: &Name, attr: &Name) -> Result<(), Fail> {
-    put_name(out, issuer)?;
-    out.push_str(".")?;
-    put_name(out, attr)
+fn put_subject(rt: &impl Abort, out: &mut String, issuer: &Name, attr: &Name) {
+    put_name(rt, out, issuer);
+    put(rt, out, ".");
+    put_name(rt, out, attr);
 }
 
 /// Puts what stands between two members, unless the first is to come.
-fn put_between(out: &mut String, is_first: bool, between: &str) -> Result<(), Fail> {
+fn put_between(rt: &impl Abort, out: &mut String, is_first: bool, between: &str) {
     if !is_first {
-        out.push_str(between)?;
+        put(rt, out, between);
     }
-    Ok(())
 }
 
 #[cycle(trees)]
-fn put_cond(out: &mut String, cond: &Cond) -> Result<(), Fail> {
+fn put_cond(rt: &impl Abort, out: &mut String, cond: &Cond) {
     match cond {
-        Cond::True => {
-            out.push_str("true")?;
-            Ok(())
-        }
+        Cond::True => put(rt, out, "true"),
         Cond::Atom {
             issuer,
             attr,
             op,
             value,
         } => {
-            put_subject(out, issuer, attr)?;
-            out.push_str(op_sign(*op))?;
-            put_value(out, value)
+            put_subject(rt, out, issuer, attr);
+            put(rt, out, op_sign(*op));
+            put_value(rt, out, value);
         }
-        Cond::And(members) => put_members(out, "and(", members.as_slice()),
-        Cond::Or(members) => put_members(out, "or(", members.as_slice()),
+        Cond::And(members) => put_members(rt, out, "and(", members.as_slice()),
+        Cond::Or(members) => put_members(rt, out, "or(", members.as_slice()),
     }
 }
 
 #[cycle(trees)]
-fn put_members(out: &mut String, joined: &str, members: &[Cond]) -> Result<(), Fail> {
-    out.push_str(joined)?;
+fn put_members(rt: &impl Abort, out: &mut String, joined: &str, members: &[Cond]) {
+    put(rt, out, joined);
     let mut is_first = true;
     for member in members {
-        put_between(out, is_first, ", ")?;
-        put_cond(out, member)?;
+        put_between(rt, out, is_first, ", ");
+        put_cond(rt, out, member);
         is_first = false;
     }
-    out.push_str(")")?;
-    Ok(())
+    put(rt, out, ")");
 }
 
 fn action_word(action: Option<Action>) -> &'static str {
@@ -109,225 +105,243 @@ fn action_word(action: Option<Action>) -> &'static str {
     }
 }
 
-fn put_pattern(out: &mut String, pattern: &Pattern) -> Result<(), Fail> {
+fn put_pattern(rt: &impl Abort, out: &mut String, pattern: &Pattern) {
     match pattern {
-        Pattern::All => {
-            out.push_str("all")?;
-            Ok(())
-        }
+        Pattern::All => put(rt, out, "all"),
         Pattern::Exact(name) => {
-            out.push_str("item ")?;
-            put_name(out, name)
+            put(rt, out, "item ");
+            put_name(rt, out, name);
         }
         Pattern::Prefix(name) => {
-            out.push_str("prefix ")?;
-            put_name(out, name)
+            put(rt, out, "prefix ");
+            put_name(rt, out, name);
         }
     }
 }
 
-fn put_rule(out: &mut String, rule: &Rule) -> Result<(), Fail> {
-    out.push_str("rule(")?;
-    out.push_str(action_word(rule.action))?;
-    out.push_str(", ")?;
-    put_pattern(out, &rule.pattern)?;
-    out.push_str(", ")?;
-    put_cond(out, &rule.cond)?;
-    out.push_str(")")?;
-    Ok(())
+fn put_rule(rt: &impl Abort, out: &mut String, rule: &Rule) {
+    put(rt, out, "rule(");
+    put(rt, out, action_word(rule.action));
+    put(rt, out, ", ");
+    put_pattern(rt, out, &rule.pattern);
+    put(rt, out, ", ");
+    put_cond(rt, out, &rule.cond);
+    put(rt, out, ")");
 }
 
 /// A policy's tree: each And and each Or with its members in parentheses.
-fn tree(alloc: Global, policy: &Policy) -> Result<String, Fail> {
-    let mut out = String::new(alloc);
+fn tree_of(rt: &(impl Abort + AllocGlobal), policy: &Policy) -> String {
+    let mut out = String::new(rt.alloc());
     let mut is_first = true;
     for rule in policy.rules.as_slice() {
-        put_between(&mut out, is_first, " ")?;
-        put_rule(&mut out, rule)?;
+        put_between(rt, &mut out, is_first, " ");
+        put_rule(rt, &mut out, rule);
         is_first = false;
     }
-    Ok(out)
+    out
 }
 
 // ---- what the calls answer
 
-/// The tree of a text.
-fn tree_of(alloc: Global, text: &[u8]) -> Result<String, Fail> {
-    let policy = parse(alloc, text)?;
-    tree(alloc, &policy)
+fn is_tree(rt: &(impl Abort + AllocGlobal), policy: &Policy, tree: &str) -> bool {
+    tree_of(rt, policy).as_str() == tree
+}
+
+/// Whether a text has this tree.
+fn has_tree(rt: &(impl Abort + AllocGlobal), text: &[u8], tree: &str) -> bool {
+    match parse(rt.alloc(), text) {
+        Ok(policy) => is_tree(rt, &policy, tree),
+        Err(_) => false,
+    }
 }
 
 /// The printed form of what a text says.
-fn printed_of(alloc: Global, text: &[u8]) -> Result<String, Fail> {
-    let policy = parse(alloc, text)?;
-    let printed = print(alloc, &policy)?;
-    Ok(String::from_str(alloc, str::from_utf8(printed.0.as_slice())?)?)
+fn printed_of(rt: &(impl Abort + AllocGlobal), text: &[u8]) -> String {
+    let policy = parse(rt.alloc(), text).expect(rt, "a policy");
+    let printed = print(rt.alloc(), &policy).expect(rt, "memory for a text");
+    let said = str::from_utf8(printed.0.as_slice()).expect(rt, "a text");
+    String::from_str(rt.alloc(), said).expect(rt, "memory for a text")
 }
 
-/// The tree of what is read again of a text that was read and printed.
-fn reread_of(alloc: Global, text: &[u8]) -> Result<String, Fail> {
-    let policy = parse(alloc, text)?;
-    tree(alloc, &print_and_parse(alloc, &policy)?)
+/// Whether this is the printed form of what a text says.
+fn is_printed_as(rt: &(impl Abort + AllocGlobal), text: &[u8], printed: &str) -> bool {
+    printed_of(rt, text).as_str() == printed
+}
+
+/// Whether what is read again of a text that was read and printed has this tree.
+fn is_reread_as(rt: &(impl Abort + AllocGlobal), text: &[u8], tree: &str) -> bool {
+    let policy = parse(rt.alloc(), text).expect(rt, "a policy");
+    match print_and_parse(rt.alloc(), &policy) {
+        Ok(again) => is_tree(rt, &again, tree),
+        Err(_) => false,
+    }
 }
 
 /// The refusal of what is printed of a text that was read.
-fn reread_refusal_of(alloc: Global, text: &[u8]) -> Result<Option<ParseError>, Fail> {
-    let policy = parse(alloc, text)?;
-    Ok(print_and_parse(alloc, &policy).err())
+fn reread_refusal_of(rt: &(impl Abort + AllocGlobal), text: &[u8]) -> Option<ParseError> {
+    let policy = parse(rt.alloc(), text).expect(rt, "a policy");
+    print_and_parse(rt.alloc(), &policy).err()
+}
+
+fn refusal(rt: &(impl Abort + AllocGlobal), text: &[u8]) -> Option<ParseError> {
+    parse(rt.alloc(), text).err()
 }
 
 /// The refusal of a text in two parts.
-fn refusal_of(alloc: Global, front: &[u8], back: &[u8]) -> Result<Option<ParseError>, Fail> {
-    let mut text = Vec::from_slice(alloc, front)?;
-    text.extend_from_slice(back)?;
-    Ok(parse(alloc, text.as_slice()).err())
+fn refusal_of(rt: &(impl Abort + AllocGlobal), front: &[u8], back: &[u8]) -> Option<ParseError> {
+    let mut text = Vec::from_slice(rt.alloc(), front).expect(rt, "memory for a text");
+    text.extend_from_slice(back).expect(rt, "memory for a text");
+    refusal(rt, text.as_slice())
 }
 
 /// The text with spaces behind it, up to so many bytes.
-fn padded(alloc: Global, text: &str, length: usize) -> Result<Vec<u8>, Fail> {
-    let mut bytes = Vec::from_slice(alloc, text.as_bytes())?;
-    bytes.resize(length, b' ')?;
-    Ok(bytes)
+fn padded(rt: &(impl Abort + AllocGlobal), text: &str, length: usize) -> Vec<u8> {
+    let mut bytes = Vec::from_slice(rt.alloc(), text.as_bytes()).expect(rt, "memory for a text");
+    bytes.resize(length, b' ').expect(rt, "memory for a text");
+    bytes
+}
+
+/// Whether a text with spaces behind it up to the most bytes has this tree.
+fn has_tree_at_most(rt: &(impl Abort + AllocGlobal), text: &str, tree: &str) -> bool {
+    let longest = padded(rt, text, MOST);
+    has_tree(rt, longest.as_slice(), tree)
+}
+
+/// The refusal of a text with spaces behind it, up to so many bytes.
+fn refusal_of_padded(
+    rt: &(impl Abort + AllocGlobal),
+    text: &str,
+    length: usize,
+) -> Option<ParseError> {
+    let bytes = padded(rt, text, length);
+    refusal(rt, bytes.as_slice())
 }
 
 /// As many short rules as fit.
-fn short_rules(alloc: Global) -> Result<Vec<u8>, Fail> {
-    let mut bytes = Vec::new(alloc);
+fn short_rules(rt: &(impl Abort + AllocGlobal)) -> Vec<u8> {
+    let mut bytes = Vec::new(rt.alloc());
     for _rule in 0..SHORT_RULES {
-        bytes.extend_from_slice(SHORT_RULE.as_bytes())?;
+        bytes
+            .extend_from_slice(SHORT_RULE.as_bytes())
+            .expect(rt, "memory for a text");
     }
-    Ok(bytes)
+    bytes
 }
 
 /// Asserts that a text has the tree and the printed form, and that the printed form has the same tree.
-fn assert_reads(
-    rt: &(impl Abort + AllocGlobal),
-    text: &str,
-    tree: &str,
-    printed: &str,
-) -> Result<(), Fail> {
-    assert_eq!(*rt;
-        tree_of(rt.alloc(), text.as_bytes())?.as_str(),
-        tree,
-        "{text}"
-    );
-    assert_eq!(*rt;
-        printed_of(rt.alloc(), text.as_bytes())?.as_str(),
-        printed,
-        "{text}"
-    );
-    assert_eq!(*rt;
-        tree_of(rt.alloc(), printed.as_bytes())?.as_str(),
-        tree,
-        "{printed}"
-    );
-    assert_eq!(*rt;
-        reread_of(rt.alloc(), text.as_bytes())?.as_str(),
-        tree,
-        "{text}"
-    );
-    Ok(())
+fn assert_reads(rt: &(impl Abort + AllocGlobal), text: &str, tree: &str, printed: &str) {
+    assert!(*rt; has_tree(rt, text.as_bytes(), tree), "{text}");
+    assert!(*rt; is_printed_as(rt, text.as_bytes(), printed), "{text}");
+    assert!(*rt; has_tree(rt, printed.as_bytes(), tree), "{printed}");
+    assert!(*rt; is_reread_as(rt, text.as_bytes(), tree), "{text}");
+}
+
+/// Asserts it of the rule that has this condition.
+fn assert_reads_rule(rt: &(impl Abort + AllocGlobal), cond: &str, tree: &str, printed: &str) {
+    let text = format!(in rt.alloc(); "{HEAD}{cond};").expect(rt, "memory for a text");
+    let tree = format!(in rt.alloc(); "rule(any, item x, {tree})").expect(rt, "memory for a tree");
+    let printed = format!(in rt.alloc(); "{HEAD}{printed};\n").expect(rt, "memory for a text");
+    assert_reads(rt, text.as_str(), tree.as_str(), printed.as_str());
+}
+
+/// Asserts that the refusal of a text is the one that is wanted.
+fn assert_refused(rt: &impl Abort, text: &str, refusal: Option<ParseError>, wanted: ParseError) {
+    assert_eq!(*rt; refusal, Some(wanted), "{text}");
 }
 
 /// Asserts that a text with spaces behind it is too long from the first byte over the most.
-fn assert_too_long(rt: &(impl Abort + AllocGlobal), text: &str) -> Result<(), Fail> {
-    let longer = padded(rt.alloc(), text, MOST + 1)?;
-    let refusal = parse(rt.alloc(), longer.as_slice()).err();
-    assert_eq!(*rt; refusal, Some(ParseError::TooLong), "{text}");
-    Ok(())
+fn assert_too_long(rt: &(impl Abort + AllocGlobal), text: &str) {
+    let refusal = refusal_of_padded(rt, text, MOST + 1);
+    assert_refused(rt, text, refusal, ParseError::TooLong);
 }
 
-/// Asserts what is said of a beginning of the two rules.
-fn assert_begins(rt: &(impl Abort + AllocGlobal), front: &[u8]) -> Result<(), Fail> {
-    let place = front.len();
-    match tree_of_beginning(place) {
-        Some(tree) => assert_eq!(*rt; tree_of(rt.alloc(), front)?.as_str(), tree, "at {place}"),
-        None => {
-            let refusal = parse(rt.alloc(), front).err();
-            assert_eq!(*rt; refusal, Some(ParseError::Syntax { place }));
-        }
+/// Whether the beginning of the two rules that has so many bytes has its tree, or stops at its end.
+fn begins(rt: &(impl Abort + AllocGlobal), length: usize) -> bool {
+    let front = TWO_RULES.as_bytes().get(..length).expect(rt, "a beginning");
+    match tree_of_beginning(length) {
+        Some(tree) => has_tree(rt, front, tree),
+        None => refusal(rt, front) == Some(ParseError::Syntax { place: length }),
     }
-    Ok(())
 }
 
-#[test]
-fn reads_and_prints(rt: HostRuntime) -> Result<(), Fail> {
-    for (text, tree, printed) in POLICIES {
-        assert_reads(&rt, text, tree, printed)?;
-    }
-    for (cond, tree, printed) in CONDITIONS {
-        let text = format!(in rt.alloc(); "{HEAD}{cond};")?;
-        let tree = format!(in rt.alloc(); "rule(any, item x, {tree})")?;
-        let printed = format!(in rt.alloc(); "{HEAD}{printed};\n")?;
-        assert_reads(&rt, text.as_str(), tree.as_str(), printed.as_str())?;
-    }
-    Ok(())
+/// The parts of a row of two.
+fn two<'a>(rt: &impl Abort, row: &'a str) -> (&'a str, &'a str) {
+    row.split_once(PART_END).expect(rt, "two parts")
+}
+
+/// The parts of a row of three.
+fn three<'a>(rt: &impl Abort, row: &'a str) -> (&'a str, &'a str, &'a str) {
+    let (first, others) = two(rt, row);
+    let (second, third) = two(rt, others);
+    (first, second, third)
 }
 
 #[test]
-fn stops_at_the_first_fault(rt: HostRuntime) -> Result<(), Fail> {
-    for (front, back) in STOPPING {
-        let refusal = refusal_of(rt.alloc(), front.as_bytes(), back.as_bytes())?;
-        let wanted = Some(ParseError::Syntax { place: front.len() });
-        assert_eq!(rt; refusal, wanted, "{front}{back}");
+fn reads_and_prints(rt: HostRuntime) {
+    for row in policies().split_terminator(ROW_END) {
+        let (text, tree, printed) = three(&rt, row);
+        assert_reads(&rt, text, tree, printed);
     }
-    for (front, back) in STOPPING_BYTES {
-        let refusal = refusal_of(rt.alloc(), front, back)?;
-        let wanted = Some(ParseError::Syntax { place: front.len() });
-        assert_eq!(rt; refusal, wanted, "{front:?} {back:?}");
+    for row in conditions().split_terminator(ROW_END) {
+        let (cond, tree, printed) = three(&rt, row);
+        assert_reads_rule(&rt, cond, tree, printed);
     }
-    Ok(())
 }
 
 #[test]
-fn stops_at_the_first_parenthesis_too_deep(rt: HostRuntime) -> Result<(), Fail> {
-    for (front, back) in TOO_DEEP {
-        let refusal = refusal_of(rt.alloc(), front.as_bytes(), back.as_bytes())?;
-        let wanted = Some(ParseError::TooDeep { place: front.len() });
-        assert_eq!(rt; refusal, wanted, "{front}{back}");
+fn stops_at_the_first_fault(rt: HostRuntime) {
+    for row in stopping().split_terminator(ROW_END) {
+        let (front, back) = two(&rt, row);
+        let refusal = refusal_of(&rt, front.as_bytes(), back.as_bytes());
+        assert_refused(&rt, row, refusal, ParseError::Syntax { place: front.len() });
     }
-    Ok(())
+    for (front, back) in stopping_bytes() {
+        let refusal = refusal_of(&rt, front, back);
+        let wanted = ParseError::Syntax { place: front.len() };
+        assert!(rt; refusal == Some(wanted), "{front:?} {back:?}");
+    }
 }
 
 #[test]
-fn bounds_the_length(rt: HostRuntime) -> Result<(), Fail> {
-    for (text, tree) in LONGEST {
-        let longest = padded(rt.alloc(), text, MOST)?;
-        assert_eq!(rt;
-            tree_of(rt.alloc(), longest.as_slice())?.as_str(),
-            *tree,
-            "{text}"
+fn stops_at_the_first_parenthesis_too_deep(rt: HostRuntime) {
+    for row in too_deep().split_terminator(ROW_END) {
+        let (front, back) = two(&rt, row);
+        let refusal = refusal_of(&rt, front.as_bytes(), back.as_bytes());
+        assert_refused(
+            &rt,
+            row,
+            refusal,
+            ParseError::TooDeep { place: front.len() },
         );
-        assert_too_long(&rt, text)?;
+    }
+}
+
+#[test]
+fn bounds_the_length(rt: HostRuntime) {
+    for (text, tree) in LONGEST {
+        assert!(rt; has_tree_at_most(&rt, text, tree), "{text}");
+        assert_too_long(&rt, text);
     }
     for (text, wanted) in LONGEST_REFUSED {
-        let longest = padded(rt.alloc(), text, MOST)?;
-        let refusal = parse(rt.alloc(), longest.as_slice()).err();
-        assert_eq!(rt; refusal, Some(*wanted), "{text}");
-        assert_too_long(&rt, text)?;
+        assert_refused(&rt, text, refusal_of_padded(&rt, text, MOST), *wanted);
+        assert_too_long(&rt, text);
     }
-    Ok(())
 }
 
 /// Rules that fit as they stand, and do not as they are printed.
 #[test]
-fn prints_more_than_it_reads(rt: HostRuntime) -> Result<(), Fail> {
-    let rules = short_rules(rt.alloc())?;
+fn prints_more_than_it_reads(rt: HostRuntime) {
+    let rules = short_rules(&rt);
     assert_eq!(rt; rules.len(), 4095);
-    assert_eq!(rt; printed_of(rt.alloc(), rules.as_slice())?.len(), 4680);
-    let refusal = reread_refusal_of(rt.alloc(), rules.as_slice())?;
-    assert_eq!(rt; refusal, Some(ParseError::TooLong));
-    Ok(())
+    assert_eq!(rt; printed_of(&rt, rules.as_slice()).len(), 4680);
+    let refusal = reread_refusal_of(&rt, rules.as_slice());
+    assert_refused(&rt, SHORT_RULE, refusal, ParseError::TooLong);
 }
 
 #[test]
-fn reads_each_beginning(rt: HostRuntime) -> Result<(), Fail> {
-    let mut front = Vec::new(rt.alloc());
-    assert_begins(&rt, front.as_slice())?;
-    for byte in TWO_RULES.as_bytes() {
-        front.push(*byte)?;
-        assert_begins(&rt, front.as_slice())?;
+fn reads_each_beginning(rt: HostRuntime) {
+    assert_eq!(rt; TWO_RULES.len(), 90);
+    for length in 0..91 {
+        assert!(rt; begins(&rt, length), "at {length}");
     }
-    assert_eq!(rt; front.len(), 90);
-    Ok(())
 }
