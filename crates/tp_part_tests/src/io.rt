@@ -1,9 +1,8 @@
 //! Sources and sinks: sizes of calls, a fault at each call, and the adapters over std.
 ghost use Rattle.std.specs.Prelude.{◌≤◌};
 
-use std::alloc::{AllocError, Global};
 use std::io::{self, ErrorKind, Read, Write};
-use std::test::Fail;
+use std::process::Abort;
 use tp_io::{
     Failed, MemorySink, MemorySource, ReadError, ReadSource, Sink, Source, StdSink, StdSource,
     SteadySink, SteadySource, WriteSink, read_to_end, write_all,
@@ -12,75 +11,99 @@ use tp_types::List;
 
 const TEXT: &[u8] = b"0123456789";
 
-fn list(alloc: Global, bytes: &[u8]) -> Result<List<u8>, AllocError> {
-    Ok(List::from_vec(Vec::from_slice(alloc, bytes)?))
+fn list(rt: &(impl Abort + AllocGlobal), bytes: &[u8]) -> List<u8> {
+    List::from_vec(Vec::from_slice(rt.alloc(), bytes).expect(rt, "memory for bytes"))
 }
 
-fn calls(alloc: Global, fails: &[u64]) -> Result<List<u64>, AllocError> {
-    Ok(List::from_vec(Vec::from_slice(alloc, fails)?))
+fn calls(rt: &(impl Abort + AllocGlobal), fails: &[u64]) -> List<u64> {
+    List::from_vec(Vec::from_slice(rt.alloc(), fails).expect(rt, "memory for calls"))
 }
 
-fn source(alloc: Global, fails: &[u64], most: usize) -> Result<MemorySource, AllocError>
+fn source(rt: &(impl Abort + AllocGlobal), fails: &[u64], most: usize) -> MemorySource
     requires { 1 ≤ most }
 {
-    Ok(MemorySource::new(list(alloc, TEXT)?, calls(alloc, fails)?, most))
+    MemorySource::new(list(rt, TEXT), calls(rt, fails), most)
+}
+
+/// All that is left of a source.
+fn read_whole(rt: &(impl Abort + AllocGlobal), source: &mut impl Source) -> List<u8> {
+    match read_to_end(rt.alloc(), source) {
+        Ok(bytes) => bytes,
+        Err(error) => panic!(rt; "{error:?}"),
+    }
+}
+
+/// How many bytes are left of a source, or how it fails.
+fn length_read(
+    rt: &(impl Abort + AllocGlobal),
+    source: &mut impl Source,
+) -> Result<usize, ReadError> {
+    match read_to_end(rt.alloc(), source) {
+        Ok(bytes) => Ok(bytes.len()),
+        Err(error) => Err(error),
+    }
+}
+
+/// What a source with a call that fails gives after it.
+fn rest_after(rt: &(impl Abort + AllocGlobal), fails: u64) -> List<u8> {
+    let mut source = source(rt, &[fails], 3);
+    assert!(rt;
+        length_read(rt, &mut source) == Err(ReadError::Fault),
+        "call {fails}"
+    );
+    read_whole(rt, &mut source)
 }
 
 /// What a sink with a call that fails keeps of the text, and whether all of it.
-fn written(alloc: Global, fails: u64, most: usize) -> Result<(bool, List<u8>), AllocError>
+fn written(rt: &(impl Abort + AllocGlobal), fails: u64, most: usize) -> (bool, List<u8>)
     requires { 1 ≤ most }
 {
-    let mut sink = MemorySink::new(alloc, calls(alloc, &[fails])?, most);
+    let mut sink = MemorySink::new(rt.alloc(), calls(rt, &[fails]), most);
     let is_whole = write_all(&mut sink, TEXT).is_ok();
-    Ok((is_whole, list(alloc, sink.bytes())?))
+    (is_whole, list(rt, sink.bytes()))
 }
 
 #[test]
-fn reads_in_calls_of_any_size(rt: HostRuntime) -> Result<(), Fail> {
-    let alloc = rt.alloc();
+fn reads_in_calls_of_any_size(rt: HostRuntime) {
     for most in [1, 3, 10, 4096] {
-        let bytes = read_to_end(alloc, &mut source(alloc, &[], most)?)?;
+        let bytes = read_whole(&rt, &mut source(&rt, &[], most));
         assert!(rt; bytes.as_slice() == TEXT, "most {most}");
     }
-    Ok(())
 }
 
 // Each call takes three bytes, and the last finds the end. A call that fails takes nothing.
 #[test]
-fn a_read_that_fails_loses_nothing(rt: HostRuntime) -> Result<(), Fail> {
-    let alloc = rt.alloc();
+fn a_read_that_fails_loses_nothing(rt: HostRuntime) {
     for (call, taken) in [(0, 0), (1, 3), (3, 9), (4, 10)] {
-        let mut source = source(alloc, &[call], 3)?;
-        let first = read_to_end(alloc, &mut source);
-        assert!(rt; first == Err(ReadError::Fault), "call {call}");
-        let rest = read_to_end(alloc, &mut source)?;
+        let rest = rest_after(&rt, call);
         assert!(rt; rest.as_slice() == &TEXT[taken..], "call {call}");
     }
-    Ok(())
 }
 
 // The fifth call is not needed, and may fail.
 #[test]
-fn a_write_that_fails_leaves_the_front(rt: HostRuntime) -> Result<(), Fail> {
-    let alloc = rt.alloc();
+fn a_write_that_fails_leaves_the_front(rt: HostRuntime) {
     for (call, count) in [(0, 0), (1, 3), (2, 6), (3, 9), (4, 10)] {
-        let (is_whole, bytes) = written(alloc, call, 3)?;
+        let (is_whole, bytes) = written(&rt, call, 3);
         assert!(rt; is_whole == (call == 4), "call {call}");
         assert!(rt; bytes.as_slice() == &TEXT[..count], "call {call}");
     }
-    Ok(())
+}
+
+/// A source of so many bytes.
+fn steady(rt: &(impl Abort + AllocGlobal), count: usize) -> SteadySource {
+    let bytes = vec![in rt.alloc(); b'x'; count].expect(rt, "memory for bytes");
+    SteadySource::new(List::from_vec(bytes))
 }
 
 // An input has at most 16 MiB. One that has more is read up to its first byte that is too much.
 #[test]
-fn an_input_may_be_too_long(rt: HostRuntime) -> Result<(), Fail> {
-    let alloc = rt.alloc();
-    let mut longest = SteadySource::new(List::from_vec(vec![in alloc; b'x'; 16_777_216]?));
-    assert_eq!(rt; read_to_end(alloc, &mut longest)?.len(), 16_777_216);
-    let mut longer = SteadySource::new(List::from_vec(vec![in alloc; b'x'; 16_777_219]?));
-    assert_eq!(rt; read_to_end(alloc, &mut longer), Err(ReadError::TooLong));
-    assert_eq!(rt; read_to_end(alloc, &mut longer)?.len(), 2);
-    Ok(())
+fn an_input_may_be_too_long(rt: HostRuntime) {
+    let mut longest = steady(&rt, 16_777_216);
+    assert_eq!(rt; length_read(&rt, &mut longest), Ok(16_777_216));
+    let mut longer = steady(&rt, 16_777_219);
+    assert_eq!(rt; length_read(&rt, &mut longer), Err(ReadError::TooLong));
+    assert_eq!(rt; length_read(&rt, &mut longer), Ok(2));
 }
 
 #[test]
@@ -107,14 +130,12 @@ impl Read for Breaks {
 }
 
 #[test]
-fn a_reader_that_fails_in_mid_stream(rt: HostRuntime) -> Result<(), Fail> {
-    let alloc = rt.alloc();
+fn a_reader_that_fails_in_mid_stream(rt: HostRuntime) {
     let (front, back) = TEXT.split_at(4);
     let broken = front.chain(Breaks { is_broken: false }).chain(back);
     let mut source = ReadSource::new(broken);
-    assert_eq!(rt; read_to_end(alloc, &mut source), Err(ReadError::Fault));
-    assert_eq!(rt; read_to_end(alloc, &mut source)?.as_slice(), back);
-    Ok(())
+    assert_eq!(rt; length_read(&rt, &mut source), Err(ReadError::Fault));
+    assert_eq!(rt; read_whole(&rt, &mut source).as_slice(), back);
 }
 
 /// A writer that takes at most three bytes a call, and at one call answers this instead.
@@ -144,27 +165,32 @@ impl Write for Stumbles<'_> {
     }
 }
 
-#[test]
-fn a_writer_that_fails_in_mid_stream(rt: HostRuntime) -> Result<(), Fail> {
-    for takes_nothing in [false, true] {
-        let mut kept = Vec::new(rt.alloc());
-        let mut sink = WriteSink::new(Stumbles {
-            kept: &mut kept,
-            calls_left: 2,
-            takes_nothing,
-        });
-        assert_eq!(rt; write_all(&mut sink, TEXT), Err(Failed));
-        assert_eq!(rt; write_all(&mut sink, b"ab"), Ok(()));
-        drop(sink);
-        assert_eq!(rt; kept.as_slice(), b"012345ab".as_slice());
-    }
-    Ok(())
+/// Writes by a sink whose writer stumbles, and answers what the writer took.
+fn kept_at_a_stumble(rt: &(impl Abort + AllocGlobal), takes_nothing: bool) -> Vec<u8> {
+    let mut kept = Vec::new(rt.alloc());
+    let mut sink = WriteSink::new(Stumbles {
+        kept: &mut kept,
+        calls_left: 2,
+        takes_nothing,
+    });
+    assert_eq!(rt; write_all(&mut sink, TEXT), Err(Failed));
+    assert_eq!(rt; write_all(&mut sink, b"ab"), Ok(()));
+    drop(sink);
+    kept
 }
 
 #[test]
-fn standard_streams(rt: HostRuntime) -> Result<(), Fail> {
+fn a_writer_that_fails_in_mid_stream(rt: HostRuntime) {
+    for takes_nothing in [false, true] {
+        let kept = kept_at_a_stumble(&rt, takes_nothing);
+        assert_eq!(rt; kept.as_slice(), b"012345ab".as_slice());
+    }
+}
+
+#[test]
+fn standard_streams(rt: HostRuntime) {
     let mut input = StdSource::new(rt.stdin());
     assert_eq!(rt; input.read(&mut []), Ok(0));
-    write_all(&mut StdSink::new(rt.stdout()), b"to standard output\n")?;
-    Ok(())
+    let written = write_all(&mut StdSink::new(rt.stdout()), b"to standard output\n");
+    assert_eq!(rt; written, Ok(()));
 }

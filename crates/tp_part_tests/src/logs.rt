@@ -1,16 +1,19 @@
 //! Logs on disks in memory.
-use crate::log_images::{Gives, IMAGES};
+use crate::log_images::{Gives, IMAGES, Image};
 use crate::record_kinds::{cases, long};
 use std::process::Abort;
-use std::test::Fail;
 use tp_device::{Disk, DiskError, MemoryDisk};
 use tp_log::{Log, LogError};
 use tp_record::encode;
 use tp_types::{List, Record};
 
+fn fresh(rt: &(impl Abort + AllocGlobal)) -> MemoryDisk {
+    MemoryDisk::fresh(rt.alloc()).expect(rt, "memory for a disk")
+}
+
 /// A disk that holds these bytes, synced.
 fn disk_of(rt: &(impl Abort + AllocGlobal), bytes: &[u8]) -> MemoryDisk {
-    let mut disk = MemoryDisk::fresh(rt.alloc()).expect(rt, "memory for a disk");
+    let mut disk = fresh(rt);
     disk.cut(0).expect(rt, "a cut");
     disk.write_at(0, bytes).expect(rt, "a write");
     disk.sync().expect(rt, "a sync");
@@ -42,6 +45,19 @@ fn opened(rt: &(impl Abort + AllocGlobal), disk: MemoryDisk) -> (Log<MemoryDisk>
     }
 }
 
+/// A log on a fresh disk, which gives no records.
+fn fresh_log(rt: &(impl Abort + AllocGlobal)) -> Log<MemoryDisk> {
+    let (log, none) = opened(rt, fresh(rt));
+    assert!(rt; none.is_empty());
+    log
+}
+
+/// How many records the log on this disk has.
+fn count_of(rt: &(impl Abort + AllocGlobal), disk: MemoryDisk) -> usize {
+    let (_, records) = opened(rt, disk);
+    records.len()
+}
+
 /// The place at which these bytes are no log, or none where they are one.
 fn fails_at(rt: &(impl Abort + AllocGlobal), bytes: &[u8]) -> Option<u64> {
     match Log::opened(rt.alloc(), disk_of(rt, bytes)) {
@@ -51,16 +67,18 @@ fn fails_at(rt: &(impl Abort + AllocGlobal), bytes: &[u8]) -> Option<u64> {
     }
 }
 
-#[test]
-fn a_log_has_the_bytes_of_the_format(rt: HostRuntime) -> Result<(), Fail> {
-    let fresh = MemoryDisk::fresh(rt.alloc()).expect(&rt, "memory for a disk");
-    let (mut log, none) = opened(&rt, fresh);
-    assert!(rt; none.is_empty());
+/// The bytes of a log of one record.
+fn bytes_of_one(rt: &(impl Abort + AllocGlobal)) -> Vec<u8> {
+    let mut log = fresh_log(rt);
     assert_eq!(rt; log.append(rt.alloc(), &Record::Boot), Ok(()));
-    let bytes = bytes_of(&rt, log.into_disk());
+    bytes_of(rt, log.into_disk())
+}
+
+#[test]
+fn a_log_has_the_bytes_of_the_format(rt: HostRuntime) {
+    let bytes = bytes_of_one(&rt);
     assert_eq!(rt; bytes.as_slice(), [1, 0, 0, 0, 1, 1, 0].as_slice());
-    let (_, one) = opened(&rt, disk_of(&rt, bytes.as_slice()));
-    assert_eq!(rt; one.len(), 1);
+    assert_eq!(rt; count_of(&rt, disk_of(&rt, bytes.as_slice())), 1);
     assert_eq!(rt; fails_at(&rt, &[1, 0, 0, 0, 1, 9, 0]), Some(1));
     let two: [u8; 13] = [1, 0, 0, 0, 1, 1, 1, 0, 0, 0, 1, 1, 0];
     for count in 0..13 {
@@ -75,105 +93,108 @@ fn a_log_has_the_bytes_of_the_format(rt: HostRuntime) -> Result<(), Fail> {
             "{count}"
         );
     }
-    let (_, both) = opened(&rt, disk_of(&rt, &two));
-    assert_eq!(rt; both.len(), 2);
-    Ok(())
+    assert_eq!(rt; count_of(&rt, disk_of(&rt, &two)), 2);
+}
+
+/// Whether an image gives what was recorded.
+fn is_as_recorded(rt: &(impl Abort + AllocGlobal), image: &Image) -> bool {
+    match image.gives {
+        Gives::NotALog(place) => fails_at(rt, image.bytes) == Some(place),
+        Gives::Bodies(bodies) => {
+            let (_, records) = opened(rt, disk_of(rt, image.bytes));
+            bodies_of(rt, &records).as_slice() == bodies
+        }
+    }
 }
 
 #[test]
-fn images_give_what_was_recorded(rt: HostRuntime) -> Result<(), Fail> {
+fn images_give_what_was_recorded(rt: HostRuntime) {
     for (number, image) in IMAGES.iter().enumerate() {
-        match image.gives {
-            Gives::NotALog(place) => {
-                assert_eq!(rt; fails_at(&rt, image.bytes), Some(place), "{number}");
-            }
-            Gives::Bodies(bodies) => {
-                let (_, records) = opened(&rt, disk_of(&rt, image.bytes));
-                assert_eq!(rt; bodies_of(&rt, &records).as_slice(), bodies, "{number}");
-            }
-        }
+        assert!(rt; is_as_recorded(&rt, image), "{number}");
     }
-    Ok(())
 }
 
 /// Crashes after so many calls of an append to a log of one record, and answers how many records are found.
 fn found_after(rt: &(impl Abort + AllocGlobal), r: &Record, calls: u32, fill: u8) -> usize {
     let (log, _) = opened(rt, disk_of(rt, &[1, 0, 0, 0, 1, 1, 0]));
     match log.crashed_in_append(rt.alloc(), r, calls, fill) {
-        Ok(disk) => {
-            let (_, records) = opened(rt, disk);
-            records.len()
-        }
+        Ok(disk) => count_of(rt, disk),
         Err(error) => panic!(rt; "{error:?}"),
     }
 }
 
-#[test]
-fn a_crash_keeps_a_record_whose_gate_is_open(rt: HostRuntime) -> Result<(), Fail> {
-    let all = cases(rt.alloc()).expect(&rt, "memory for records");
-    for case in all.as_slice() {
-        for fill in [0, 1, 90] {
-            for calls in 0..6 {
-                let kept = calls >= 4 || calls == 3 && fill == 1;
-                let wanted = if kept { 2 } else { 1 };
-                assert_eq!(rt;
-                    found_after(&rt, &case.record, calls, fill),
-                    wanted,
-                    "{calls} {fill}"
-                );
-            }
+/// Crashes in an append of a record after each of its calls, and finds it where its gate is open.
+fn is_kept_by_its_gate(rt: &(impl Abort + AllocGlobal), r: &Record) {
+    for fill in [0, 1, 90] {
+        for calls in 0..6 {
+            let kept = calls >= 4 || calls == 3 && fill == 1;
+            let wanted = if kept { 2 } else { 1 };
+            assert_eq!(rt; found_after(rt, r, calls, fill), wanted, "{calls} {fill}");
         }
     }
-    Ok(())
 }
 
 #[test]
-fn each_refused_call_is_answered(rt: HostRuntime) -> Result<(), Fail> {
-    for calls in 0..4 {
-        let fresh = MemoryDisk::fresh(rt.alloc()).expect(&rt, "memory for a disk");
-        let (mut log, _) = opened(&rt, fresh);
-        log.stop_after(calls);
-        let boot = Record::Boot;
-        assert_eq!(rt; log.append(rt.alloc(), &boot), Err(LogError::Device));
-        log.stop_after(4);
-        assert_eq!(rt; log.append(rt.alloc(), &boot), Err(LogError::Closed));
+fn a_crash_keeps_a_record_whose_gate_is_open(rt: HostRuntime) {
+    let all = cases(rt.alloc()).expect(&rt, "memory for records");
+    for case in all.as_slice() {
+        is_kept_by_its_gate(&rt, &case.record);
     }
-    for calls in 0..4 {
-        let mut fresh = MemoryDisk::fresh(rt.alloc()).expect(&rt, "memory for a disk");
-        fresh.stop_after(calls);
-        let refused = matches!(Log::opened(rt.alloc(), fresh), Err(LogError::Device));
-        assert!(rt; refused, "{calls}");
-    }
-    let mut fresh = MemoryDisk::fresh(rt.alloc()).expect(&rt, "memory for a disk");
+}
+
+/// Appends to a log whose disk refuses a call, and again when the disk takes all.
+fn appends_are_refused(rt: &(impl Abort + AllocGlobal), calls: u32) {
+    let mut log = fresh_log(rt);
+    log.stop_after(calls);
+    let boot = Record::Boot;
+    assert_eq!(rt; log.append(rt.alloc(), &boot), Err(LogError::Device));
+    log.stop_after(4);
+    assert_eq!(rt; log.append(rt.alloc(), &boot), Err(LogError::Closed));
+}
+
+/// Whether no log opens on a fresh disk that stops after so many calls.
+fn opening_is_refused(rt: &(impl Abort + AllocGlobal), calls: u32) -> bool {
+    let mut fresh = fresh(rt);
+    fresh.stop_after(calls);
+    matches!(Log::opened(rt.alloc(), fresh), Err(LogError::Device))
+}
+
+fn calls_of_a_disk_are_refused(rt: &(impl Abort + AllocGlobal)) {
+    let mut fresh = fresh(rt);
     fresh.stop_after(0);
     assert_eq!(rt; fresh.sync(), Err(DiskError::Failed));
     assert_eq!(rt; fresh.cut(0), Err(DiskError::Failed));
     assert_eq!(rt; fresh.write_at(0, &[7]), Err(DiskError::Failed));
     assert_eq!(rt; fresh.read(0, &mut [0]), Err(DiskError::Failed));
-    assert_eq!(rt; bytes_of(&rt, fresh.crashed(9)).as_slice(), [0].as_slice());
-    Ok(())
+    assert_eq!(rt; bytes_of(rt, fresh.crashed(9)).as_slice(), [0].as_slice());
 }
 
 #[test]
-fn a_body_of_one_mebibyte_fits(rt: HostRuntime) -> Result<(), Fail> {
-    let fresh = MemoryDisk::fresh(rt.alloc()).expect(&rt, "memory for a disk");
-    let (mut log, _) = opened(&rt, fresh);
+fn each_refused_call_is_answered(rt: HostRuntime) {
+    for calls in 0..4 {
+        appends_are_refused(&rt, calls);
+    }
+    for calls in 0..4 {
+        assert!(rt; opening_is_refused(&rt, calls), "{calls}");
+    }
+    calls_of_a_disk_are_refused(&rt);
+}
+
+#[test]
+fn a_body_of_one_mebibyte_fits(rt: HostRuntime) {
+    let mut log = fresh_log(&rt);
     let longest = long(rt.alloc(), 3, 262_115).expect(&rt, "memory for a record");
     let longer = long(rt.alloc(), 0, 262_134).expect(&rt, "memory for a record");
     assert_eq!(rt; log.append(rt.alloc(), &longer), Err(LogError::TooLong));
     assert_eq!(rt; log.append(rt.alloc(), &longest), Ok(()));
     assert_eq!(rt; log.disk().len(), 1_048_578);
-    Ok(())
 }
 
 #[test]
-fn a_hundred_thousand_appends_are_found_again(rt: HostRuntime) -> Result<(), Fail> {
-    let fresh = MemoryDisk::fresh(rt.alloc()).expect(&rt, "memory for a disk");
-    let (mut log, _) = opened(&rt, fresh);
+fn a_hundred_thousand_appends_are_found_again(rt: HostRuntime) {
+    let mut log = fresh_log(&rt);
     for number in 0..100_000 {
         assert_eq!(rt; log.append(rt.alloc(), &Record::Boot), Ok(()), "{number}");
     }
-    let (_, records) = opened(&rt, log.into_disk().crashed(90));
-    assert_eq!(rt; records.len(), 100_000);
-    Ok(())
+    assert_eq!(rt; count_of(&rt, log.into_disk().crashed(90)), 100_000);
 }

@@ -1,7 +1,6 @@
 //! A store, call by call.
 use crate::small_scenario::small;
 use std::process::Abort;
-use std::test::Fail;
 use tp_store::Store;
 use tp_types::{AdminId, ItemId, ServerId, TxnId, Version};
 
@@ -126,14 +125,18 @@ fn play(rt: &(impl Abort + AllocGlobal), store: &mut Store, line: &Line) -> bool
     }
 }
 
+/// A store of the small scenario.
+fn store(rt: &(impl Abort + AllocGlobal)) -> Store {
+    let scenario = small(rt).expect(rt, "memory for a scenario");
+    Store::opened(rt.alloc(), &scenario, ServerId(0)).expect(rt, "memory for a store")
+}
+
 #[test]
-fn answers_by_the_table(rt: HostRuntime) -> Result<(), Fail> {
-    let scenario = small(&rt)?;
-    let mut store = Store::opened(rt.alloc(), &scenario, ServerId(0))?;
+fn answers_by_the_table(rt: HostRuntime) {
+    let mut store = store(&rt);
     for (at, line) in LINES.iter().enumerate() {
         let holds = play(&rt, &mut store, line);
         assert!(rt; holds, "line {at}");
     }
     assert_eq!(rt; store.value(ItemId(2)), 5);
-    Ok(())
 }
