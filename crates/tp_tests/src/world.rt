@@ -63,8 +63,11 @@ fn has_both_ticks(world: &World) -> bool {
 #[test]
 fn lets_time_pass_up_to_the_last_moment(rt: HostRuntime) {
     let mut world = start(&rt);
-    assert_eq!(rt; last_moment(&rt, &mut world), Some(LAST));
-    assert!(rt; has_both_ticks(&world));
+    let stands = last_moment(&rt, &mut world);
+    let has_both = has_both_ticks(&world);
+    drop(world);
+    assert_eq!(rt; stands, Some(LAST));
+    assert!(rt; has_both);
 }
 
 fn bound_of(rt: &(impl Abort + AllocGlobal)) -> u64 {
@@ -88,5 +91,7 @@ fn next_mail_after(rt: &impl AllocGlobal, world: &mut World, budget: u64) -> Opt
 #[test]
 fn comes_to_its_budget(rt: HostRuntime) {
     let mut world = start(&rt);
-    assert_eq!(rt; next_mail_after(&rt, &mut world, 8), Some(7));
+    let mail = next_mail_after(&rt, &mut world, 8);
+    drop(world);
+    assert_eq!(rt; mail, Some(7));
 }
