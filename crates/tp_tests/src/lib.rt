@@ -1,5 +1,5 @@
-//! The tests of what stands on the machine: worlds step by step, reports of facts that no run yields yet, and top calls whose
-//! source or sinks fail. Expected values were worked out by hand. Whole runs are the cases of tp_cases.
+//! The tests of what stands on the machine: calls on a world that no scenario makes, reports of facts that no run yields yet, and
+//! top calls whose source or sinks fail. Expected values were worked out by hand. Whole runs are the cases of tp_cases.
 #![tactic(auto)]
 
 #[cfg(test)]
