@@ -13,7 +13,7 @@ use std::marker::Model;
 use tp_types::{CredId, Credential, List, Name, NoMemory};
 
 /// Why a credential was not added.
-#[derive(Clone, Copy, Debug, PartialEq, Eq)]
+#[derive(Clone, Copy, Debug, PartialEq)]
 pub enum CredError {
     /// The store has one of this name, with this id.
     Duplicate { id: CredId },

@@ -18,7 +18,7 @@ use tp_model::matches;
 use tp_types::{Action, CredId, List, Name, NoMemory, Policy, Rule};
 
 /// What shows that a policy allows an action: one of its rules, and the credentials that make its condition true.
-#[derive(Debug, Drop)]
+#[derive(Drop)]
 pub struct Certificate {
     /// The number of the rule in the policy, counted from 1.
     pub rule: u32,

@@ -2,7 +2,7 @@
 use tp_types::{Action, ItemId, Place, TxnId};
 
 /// A lock of an owner in the list of an item.
-#[derive(Clone, Copy, Debug, PartialEq, Eq)]
+#[derive(Clone, Copy, PartialEq)]
 pub struct LockEntry {
     pub owner: TxnId,
     /// The age of the owner: the smaller, the older.
@@ -13,14 +13,14 @@ pub struct LockEntry {
 }
 
 /// A lock that an owner waited for and now has.
-#[derive(Clone, Copy, Debug, PartialEq, Eq)]
+#[derive(Clone, Copy, Debug, PartialEq)]
 pub struct Grant {
     pub owner: TxnId,
     pub item: ItemId,
 }
 
 /// The answer to a request.
-#[derive(Clone, Copy, Debug, PartialEq, Eq)]
+#[derive(Clone, Copy, Debug, PartialEq)]
 pub enum Asked {
     /// The owner has the lock.
     Granted,

@@ -5,7 +5,7 @@ use tp_device::DiskError;
 use tp_types::NoMemory;
 
 /// Why a call of a log was refused.
-#[derive(Clone, Copy, Debug, PartialEq, Eq)]
+#[derive(Clone, Copy, Debug, PartialEq)]
 pub enum LogError {
     /// The disk failed, and counted a fault.
     Device,

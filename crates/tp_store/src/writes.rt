@@ -8,14 +8,14 @@ ghost use Rattle.tp_store.specs.mirrors.Places as mirror;
 use tp_types::{ItemId, List, NoMemory};
 
 /// The range of an item, both ends included.
-#[derive(Clone, Copy, Debug, PartialEq, Eq)]
+#[derive(Clone, Copy, Debug, PartialEq)]
 pub struct Bounds {
     pub min: i64,
     pub max: i64,
 }
 
 /// What an item is to be once the transaction is applied, with the number of the query that writes it.
-#[derive(Clone, Copy, Debug, PartialEq, Eq)]
+#[derive(Clone, Copy, Debug, PartialEq)]
 pub struct TentativeWrite {
     pub query: u32,
     pub item: ItemId,

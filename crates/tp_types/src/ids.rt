@@ -8,27 +8,27 @@ use std::alloc::Global;
 pub type Place = u64;
 
 /// An administrator, by its place in the scenario.
-#[derive(Clone, Copy, Debug, PartialEq, Eq)]
+#[derive(Clone, Copy, PartialEq)]
 pub struct AdminId(pub u32);
 
 /// A server, by its place in the scenario.
-#[derive(Clone, Copy, Debug, PartialEq, Eq)]
+#[derive(Clone, Copy, PartialEq)]
 pub struct ServerId(pub u32);
 
 /// An item, by its place in the scenario; items are counted over all servers.
-#[derive(Clone, Copy, Debug, PartialEq, Eq)]
+#[derive(Clone, Copy, Debug, PartialEq)]
 pub struct ItemId(pub u32);
 
 /// A transaction, by its place in the scenario. It names its coordinator too.
-#[derive(Clone, Copy, Debug, PartialEq, Eq)]
+#[derive(Clone, Copy, Debug, PartialEq)]
 pub struct TxnId(pub u32);
 
 /// A credential, by its place in the scenario.
-#[derive(Clone, Copy, Debug, PartialEq, Eq)]
+#[derive(Clone, Copy, Debug, PartialEq)]
 pub struct CredId(pub u32);
 
 /// A version of an administrator's policy. The first is 1.
-#[derive(Clone, Copy, Debug, PartialEq, Eq)]
+#[derive(Clone, Copy, Debug, PartialEq)]
 pub struct Version(pub u32);
 
 impl TryClone for AdminId {

@@ -10,6 +10,7 @@ mod number;
 mod policy;
 mod reaction;
 mod records;
+mod results;
 mod scenario;
 mod table;
 
@@ -29,6 +30,7 @@ pub use records::{
     Cause, CommitRecord, Decided, Decision, Deed, Denied, Died, Instance, Met, Newer, No,
     OutOfRange, Outcome, Prepared, Reading, Record, Settled, Staple, Told, Verdict,
 };
+pub use results::both;
 pub use scenario::{
     Actor, Admin, Credential, Cut, Item, Level, Operand, Query, Scenario, Scheme, ServerDecl, Step,
     Term, Transaction,

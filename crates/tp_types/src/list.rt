@@ -6,7 +6,7 @@ use std::marker::Model;
 use std::slice::Iter;
 
 /// No memory was to be had. What the call would have changed is as its contract says.
-#[derive(Clone, Copy, Debug, PartialEq, Eq)]
+#[derive(Clone, Copy, Debug, PartialEq)]
 pub struct NoMemory;
 
 impl From<AllocError> for NoMemory {
@@ -28,7 +28,7 @@ pub trait TryClone {
 }
 
 /// A growing list. Contracts see it as the list of its members, so a copy equals what it copies.
-#[derive(Debug, Drop)]
+#[derive(Drop)]
 pub struct List<T> {
     items: Vec<T>,
 }
@@ -180,10 +180,4 @@ impl<T: PartialEq> PartialEq for List<T> {
     fn eq(&self, other: &Self) -> bool {
         self.as_slice() == other.as_slice()
     }
-}
-
-impl<T: Eq> Eq for List<T> {
-    ghost use Rattle.std.specs.Cmp.Lexicographic.{lists_equiv};
-
-    ghost laws = { lists_equiv T.Eq.laws };
 }

@@ -4,6 +4,7 @@ ghost use Rattle.std.specs.Prelude.{◌≡◌, IfOk};
 use crate::ids::{AdminId, CredId, Place, TxnId, Version};
 use crate::list::{List, NoMemory, TryClone};
 use crate::records::{Newer, No, Outcome, Record, Staple, Verdict};
+use crate::results::both;
 use crate::scenario::Actor;
 use std::alloc::Global;
 
@@ -393,9 +394,7 @@ pub struct Reaction {
 
 impl TryClone for Reaction {
     fn try_clone(&self, alloc: Global) -> Result<Self, NoMemory> {
-        Ok(Reaction {
-            append: self.append.try_clone(alloc)?,
-            letters: self.letters.try_clone(alloc)?,
-        })
+        let (append, letters) = both(self.append.try_clone(alloc), self.letters.try_clone(alloc))?;
+        Ok(Reaction { append, letters })
     }
 }

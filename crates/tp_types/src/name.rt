@@ -12,7 +12,7 @@ use std::marker::Model;
 const NAME_MAX: usize = 32;
 
 /// A name: a lower-case letter and at most 31 lower-case letters, digits and `_`. Contracts see its bytes.
-#[derive(Debug, Drop, PartialEq, Eq)]
+#[derive(Drop, PartialEq)]
 pub struct Name {
     bytes: List<u8>,
 }
@@ -61,7 +61,7 @@ impl TryClone for Name {
 }
 
 /// Any bytes.
-#[derive(Debug, Drop, PartialEq, Eq)]
+#[derive(Drop)]
 pub struct Text(pub List<u8>);
 
 impl TryClone for Text {

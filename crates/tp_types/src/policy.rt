@@ -3,10 +3,11 @@ ghost use Rattle.std.specs.Prelude.{◌≡◌, IfOk};
 
 use crate::list::{List, NoMemory, TryClone};
 use crate::name::Name;
+use crate::results::both;
 use std::alloc::Global;
 
 /// What a query does to an item.
-#[derive(Clone, Copy, Debug, PartialEq, Eq)]
+#[derive(Clone, Copy, Debug, PartialEq)]
 pub enum Action {
     Read,
     Write,
@@ -72,12 +73,16 @@ impl TryClone for Cond {
                 attr,
                 op,
                 value,
-            } => Ok(Cond::Atom {
-                issuer: issuer.try_clone(alloc)?,
-                attr: attr.try_clone(alloc)?,
-                op: *op,
-                value: value.try_clone(alloc)?,
-            }),
+            } => {
+                let names = both(issuer.try_clone(alloc), attr.try_clone(alloc));
+                let ((issuer, attr), value) = both(names, value.try_clone(alloc))?;
+                Ok(Cond::Atom {
+                    issuer,
+                    attr,
+                    op: *op,
+                    value,
+                })
+            }
             Cond::And(members) => Ok(Cond::And(cloned(alloc, members.as_slice())?)),
             Cond::Or(members) => Ok(Cond::Or(cloned(alloc, members.as_slice())?)),
         }
@@ -123,10 +128,11 @@ pub struct Rule {
 
 impl TryClone for Rule {
     fn try_clone(&self, alloc: Global) -> Result<Self, NoMemory> {
+        let (pattern, cond) = both(self.pattern.try_clone(alloc), self.cond.try_clone(alloc))?;
         Ok(Rule {
             action: self.action,
-            pattern: self.pattern.try_clone(alloc)?,
-            cond: self.cond.try_clone(alloc)?,
+            pattern,
+            cond,
         })
     }
 }

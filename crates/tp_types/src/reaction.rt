@@ -34,9 +34,10 @@ pub fn unbuilt(alloc: Global) -> Reaction
 pub fn sent_alone(alloc: Global, letter: Letter) -> Result<Reaction, NoMemory>
     ensures { IfOk result (λ reaction. reaction ≡ record { append = None; letters = letter ∷ [] }) }
 {
+    let letters = List::of_one(alloc, letter)?;
     Ok(Reaction {
         append: None,
-        letters: List::of_one(alloc, letter)?,
+        letters,
     })
 }
 

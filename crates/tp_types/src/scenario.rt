@@ -5,6 +5,7 @@ use crate::ids::{AdminId, CredId, ItemId, ServerId, TxnId, Version};
 use crate::list::{List, NoMemory, TryClone};
 use crate::name::Name;
 use crate::policy::{Policy, Value};
+use crate::results::both;
 use std::alloc::Global;
 
 /// What an issuer says of a subject, within an interval of the clock, both ends included.
@@ -21,12 +22,18 @@ pub struct Credential {
 
 impl TryClone for Credential {
     fn try_clone(&self, alloc: Global) -> Result<Self, NoMemory> {
+        let names = both(self.name.try_clone(alloc), self.issuer.try_clone(alloc));
+        let what = both(self.attr.try_clone(alloc), self.value.try_clone(alloc));
+        let ((name, issuer), (subject, (attr, value))) = both(
+            names,
+            both(self.subject.try_clone(alloc), what),
+        )?;
         Ok(Credential {
-            name: self.name.try_clone(alloc)?,
-            issuer: self.issuer.try_clone(alloc)?,
-            subject: self.subject.try_clone(alloc)?,
-            attr: self.attr.try_clone(alloc)?,
-            value: self.value.try_clone(alloc)?,
+            name,
+            issuer,
+            subject,
+            attr,
+            value,
             from: self.from,
             until: self.until,
         })
@@ -125,14 +132,17 @@ pub struct Transaction {
 
 impl TryClone for Transaction {
     fn try_clone(&self, alloc: Global) -> Result<Self, NoMemory> {
+        let names = both(self.name.try_clone(alloc), self.subject.try_clone(alloc));
+        let lists = both(self.creds.try_clone(alloc), self.queries.try_clone(alloc));
+        let ((name, subject), (creds, queries)) = both(names, lists)?;
         Ok(Transaction {
-            name: self.name.try_clone(alloc)?,
-            subject: self.subject.try_clone(alloc)?,
+            name,
+            subject,
             scheme: self.scheme,
             level: self.level,
             rounds: self.rounds,
-            creds: self.creds.try_clone(alloc)?,
-            queries: self.queries.try_clone(alloc)?,
+            creds,
+            queries,
         })
     }
 }
@@ -148,9 +158,10 @@ pub struct Admin {
 
 impl TryClone for Admin {
     fn try_clone(&self, alloc: Global) -> Result<Self, NoMemory> {
+        let (name, library) = both(self.name.try_clone(alloc), self.library.try_clone(alloc))?;
         Ok(Admin {
-            name: self.name.try_clone(alloc)?,
-            library: self.library.try_clone(alloc)?,
+            name,
+            library,
             opening: self.opening,
         })
     }
@@ -192,11 +203,9 @@ pub struct ServerDecl {
 
 impl TryClone for ServerDecl {
     fn try_clone(&self, alloc: Global) -> Result<Self, NoMemory> {
-        Ok(ServerDecl {
-            name: self.name.try_clone(alloc)?,
-            knows: self.knows.try_clone(alloc)?,
-            items: self.items.try_clone(alloc)?,
-        })
+        let lists = both(self.knows.try_clone(alloc), self.items.try_clone(alloc));
+        let (name, (knows, items)) = both(self.name.try_clone(alloc), lists)?;
+        Ok(ServerDecl { name, knows, items })
     }
 }
 
@@ -273,17 +282,29 @@ pub struct Scenario {
 
 impl TryClone for Scenario {
     fn try_clone(&self, alloc: Global) -> Result<Self, NoMemory> {
+        let policies = both(self.admins.try_clone(alloc), self.creds.try_clone(alloc));
+        let kept = both(self.servers.try_clone(alloc), self.items.try_clone(alloc));
+        let run = both(self.txns.try_clone(alloc), self.steps.try_clone(alloc));
+        let scripts = both(
+            self.publishers.try_clone(alloc),
+            self.officers.try_clone(alloc),
+        );
+        let race = both(self.clients.try_clone(alloc), scripts);
+        let (
+            ((admins, creds), (servers, items)),
+            ((txns, steps), (clients, (publishers, officers))),
+        ) = both(both(policies, kept), both(run, race))?;
         Ok(Scenario {
-            admins: self.admins.try_clone(alloc)?,
+            admins,
             clock: self.clock,
-            creds: self.creds.try_clone(alloc)?,
-            servers: self.servers.try_clone(alloc)?,
-            items: self.items.try_clone(alloc)?,
-            txns: self.txns.try_clone(alloc)?,
-            steps: self.steps.try_clone(alloc)?,
-            clients: self.clients.try_clone(alloc)?,
-            publishers: self.publishers.try_clone(alloc)?,
-            officers: self.officers.try_clone(alloc)?,
+            creds,
+            servers,
+            items,
+            txns,
+            steps,
+            clients,
+            publishers,
+            officers,
         })
     }
 }
