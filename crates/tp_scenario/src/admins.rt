@@ -6,6 +6,7 @@ ghost use Rattle.tp_scenario.specs.Admins as admins;
 ghost use Rattle.tp_scenario.specs.Policies.{policy_answer};
 ghost use Rattle.tp_scenario.specs.Values.{each};
 ghost use Rattle.tp_scenario.specs.mirrors.Gives.{Gives};
+ghost use Rattle.tp_scenario.specs.mirrors.Rests as rests;
 
 use crate::fault::{WalkError, policy_fault_at};
 use crate::names::Names;
@@ -15,7 +16,7 @@ use crate::values::{count_or, items_at, new_name_at, text_at};
 use serde_json::Value;
 use std::alloc::Global;
 use tp_policy_text::{ParseError, parse};
-use tp_types::{Admin, List, Policy, Version};
+use tp_types::{Admin, List, Policy, Version, both};
 
 /// The answer that a policy's text has.
 fn answer_of(alloc: Global, text: &[u8]) -> Result<Policy, ParseError>
@@ -85,14 +86,22 @@ fn admin_at<'a>(
         Path::Field(Key::Admins, at, Key::Name),
         names,
         field(fields, Key::Name),
-    )?;
-    let library = policies_at(alloc, at, field(fields, Key::Policies))?;
-    let opening = opening_at(at, library.len(), field(fields, Key::Opening))?;
+    );
+    let (name, (library, opening)) = both(name, held_at(alloc, at, fields))?;
     Ok(Admin {
         name,
         library,
         opening,
     })
+}
+
+/// The policies of an administrator, and the version of them that is newest at the start.
+fn held_at(alloc: Global, at: usize, fields: &Value) -> Result<(List<Policy>, Version), WalkError>
+    ensures { Gives result (rests.admin_held at (view fields.now)) }
+{
+    let library = policies_at(alloc, at, field(fields, Key::Policies))?;
+    let opening = opening_at(at, library.len(), field(fields, Key::Opening))?;
+    Ok((library, opening))
 }
 
 /// The opening version, which is the first where none is told.

@@ -6,7 +6,7 @@ ghost use Rattle.tp_scenario.specs.declared.path.Key.TheVariants as Key;
 ghost use Rattle.tp_scenario.specs.declared.path.Path.TheVariants as Path;
 ghost use Rattle.tp_scenario.specs.Values as values;
 ghost use Rattle.tp_scenario.specs.Values.{each};
-ghost use Rattle.tp_scenario.specs.mirrors.Gives.{Gives, GivesNew};
+ghost use Rattle.tp_scenario.specs.mirrors.Gives.{Gives};
 ghost use Rattle.tp_scenario.specs.mirrors.Rests as rests;
 
 use crate::fault::WalkError;
@@ -16,7 +16,7 @@ use crate::path::{Key, Path};
 use crate::values::{count_or, items_or, name_at, new_name_at, whole_in};
 use serde_json::Value as Json;
 use std::alloc::Global;
-use tp_types::{Credential, List, Name, Value};
+use tp_types::{Credential, List, Name, Value, both};
 
 /// The greatest number that is spelled: 15 digits.
 const NUMBER_MAX: i64 = 999_999_999_999_999;
@@ -92,70 +92,45 @@ fn cred_at<'a>(
         path_of(at, Key::Name),
         names,
         field(fields, Key::Name),
-    )?;
-    told(alloc, at, name, fields)
-}
-
-/// The credential of this name.
-fn told(alloc: Global, at: usize, name: Name, fields: &Json) -> Result<Credential, WalkError>
-    ensures value { Gives result (rests.cred_told at name (view fields.now)) }
-    ensures named { IfOk result (λ cred. cred.name ≡ name) }
-{
-    let issuer = name_of(alloc, at, Key::Issuer, fields)?;
-    let subject = name_of(alloc, at, Key::Subject, fields)?;
-    let attr = name_of(alloc, at, Key::Attr, fields)?;
-    let cred = Credential {
+    );
+    let issuer = name_of(alloc, at, Key::Issuer, fields);
+    let subject = name_of(alloc, at, Key::Subject, fields);
+    let attr = name_of(alloc, at, Key::Attr, fields);
+    let value = value_at(alloc, path_of(at, Key::Value), field(fields, Key::Value));
+    let interval = interval_at(at, fields);
+    let named = both(both(name, issuer), both(subject, attr));
+    let held = both(value, interval);
+    let (((name, issuer), (subject, attr)), (value, (from, until))) = both(named, held)?;
+    Ok(Credential {
         name,
         issuer,
         subject,
         attr,
-        value: Value::Number(0),
-        from: 0,
-        until: CLOCK_MAX,
-    };
-    completed(alloc, at, cred, fields)
+        value,
+        from,
+        until,
+    })
 }
 
-/// The credential with what is told of it beside its names.
-fn completed(
-    alloc: Global,
-    at: usize,
-    mut cred: Credential,
-    fields: &Json,
-) -> Result<Credential, WalkError>
-    ensures value { Gives result (rests.cred_rest at cred (view fields.now)) }
-    ensures named { IfOk result (λ made. made.name ≡ cred.name) }
+/// The first and the last time at which a credential holds.
+fn interval_at(at: usize, fields: &Json) -> Result<(u64, u64), WalkError>
+    ensures { Gives result (rests.cred_interval at (view fields.now)) }
 {
-    read_rest(alloc, at, &mut cred, fields)?;
-    Ok(cred)
-}
-
-/// Reads what a credential has beside its names. After an error some of it may have been read.
-fn read_rest(
-    alloc: Global,
-    at: usize,
-    cred: &mut Credential,
-    fields: &Json,
-) -> Result<(), WalkError>
-    ensures value { GivesNew result cred.new (rests.cred_rest at cred.old (view fields.now)) }
-    ensures named { cred.new.name ≡ cred.old.name }
-{
-    cred.value = value_at(alloc, path_of(at, Key::Value), field(fields, Key::Value))?;
-    cred.from = count_or(
+    let from = count_or(
         path_of(at, Key::From),
         0,
         CLOCK_MAX,
         0,
         field(fields, Key::From),
     )?;
-    cred.until = count_or(
+    let until = count_or(
         path_of(at, Key::Until),
         0,
         CLOCK_MAX,
         CLOCK_MAX,
         field(fields, Key::Until),
     )?;
-    Ok(())
+    Ok((from, until))
 }
 
 fn each_cred<'a>(

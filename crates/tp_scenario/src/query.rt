@@ -107,13 +107,16 @@ fn signed_term(sign: &[u8], word: &[u8]) -> Option<Term>
     term_of(sign_of(sign)?, word)
 }
 
-fn terms_after(alloc: Global, first: Term, words: Words<'_>) -> Result<Option<List<Term>>, NoMemory>
-    ensures { IfOk result (λ found. found ≡ queries.terms_after (first ∷ []) words.entry) }
+fn terms_after(
+    alloc: Global,
+    first: Term,
+    words: &mut Words<'_>,
+) -> Result<Option<List<Term>>, NoMemory>
+    ensures { IfOk result (λ found. found ≡ queries.terms_after (first ∷ []) words.old) }
 {
     let mut made = List::of_one(alloc, first)?;
-    let mut left = words;
-    while let Some(sign) = left.next() {
-        let Some(word) = left.next() else {
+    while let Some(sign) = words.next() {
+        let Some(word) = words.next() else {
             return Ok(None);
         };
         let Some(term) = signed_term(sign, word) else {
@@ -124,8 +127,8 @@ fn terms_after(alloc: Global, first: Term, words: Words<'_>) -> Result<Option<Li
     Ok(Some(made))
 }
 
-fn sum_of(alloc: Global, mut words: Words<'_>) -> Result<Option<List<Term>>, NoMemory>
-    ensures { IfOk result (λ found. found ≡ queries.sum_of words.entry) }
+fn sum_of(alloc: Global, words: &mut Words<'_>) -> Result<Option<List<Term>>, NoMemory>
+    ensures { IfOk result (λ found. found ≡ queries.sum_of words.old) }
 {
     match words.next() {
         None => Ok(None),
@@ -149,8 +152,8 @@ fn is_write(name: &[u8], sign: &[u8]) -> bool
 }
 
 #[tactic(auto, unfolding(crate::specs::Queries::read_of))]
-fn read_of<'a>(mut words: Words<'a>) -> Option<Asked<'a>>
-    ensures { option_map asked result ≡ queries.read_of words.entry }
+fn read_of<'a>(words: &mut Words<'a>) -> Option<Asked<'a>>
+    ensures { option_map asked result ≡ queries.read_of words.old }
 {
     let item = words.next()?;
     let into = words.next()?;
@@ -165,10 +168,10 @@ fn read_of<'a>(mut words: Words<'a>) -> Option<Asked<'a>>
 fn written<'a>(
     alloc: Global,
     item: &'a [u8],
-    words: Words<'a>,
+    words: &mut Words<'a>,
 ) -> Result<Option<Asked<'a>>, NoMemory>
     ensures { IfOk result (λ found.
-        option_map asked found ≡ option_map (writes item.now) (queries.sum_of words.entry)) }
+        option_map asked found ≡ option_map (writes item.now) (queries.sum_of words.old)) }
 {
     match sum_of(alloc, words)? {
         None => Ok(None),
@@ -177,8 +180,8 @@ fn written<'a>(
 }
 
 #[tactic(auto, unfolding(crate::specs::Queries::write_of))]
-fn write_of<'a>(alloc: Global, mut words: Words<'a>) -> Result<Option<Asked<'a>>, NoMemory>
-    ensures { IfOk result (λ found. option_map asked found ≡ queries.write_of words.entry) }
+fn write_of<'a>(alloc: Global, words: &mut Words<'a>) -> Result<Option<Asked<'a>>, NoMemory>
+    ensures { IfOk result (λ found. option_map asked found ≡ queries.write_of words.old) }
 {
     let Some(item) = words.next() else {
         return Ok(None);
@@ -193,9 +196,13 @@ fn write_of<'a>(alloc: Global, mut words: Words<'a>) -> Result<Option<Asked<'a>>
     }
 }
 
-fn asked_by<'a>(alloc: Global, verb: &[u8], words: Words<'a>) -> Result<Option<Asked<'a>>, NoMemory>
+fn asked_by<'a>(
+    alloc: Global,
+    verb: &[u8],
+    words: &mut Words<'a>,
+) -> Result<Option<Asked<'a>>, NoMemory>
     ensures { IfOk result (λ found.
-        option_map asked found ≡ queries.asked_by verb.now words.entry) }
+        option_map asked found ≡ queries.asked_by verb.now words.old) }
 {
     if verb == b"read".as_slice() {
         Ok(read_of(words))
@@ -206,8 +213,8 @@ fn asked_by<'a>(alloc: Global, verb: &[u8], words: Words<'a>) -> Result<Option<A
     }
 }
 
-fn asked_in<'a>(alloc: Global, mut words: Words<'a>) -> Result<Option<Asked<'a>>, NoMemory>
-    ensures { IfOk result (λ found. option_map asked found ≡ queries.asked_in words.entry) }
+fn asked_in<'a>(alloc: Global, words: &mut Words<'a>) -> Result<Option<Asked<'a>>, NoMemory>
+    ensures { IfOk result (λ found. option_map asked found ≡ queries.asked_in words.old) }
 {
     match words.next() {
         None => Ok(None),
@@ -220,7 +227,8 @@ fn asked_in<'a>(alloc: Global, mut words: Words<'a>) -> Result<Option<Asked<'a>>
 fn asked_of(alloc: Global, text: &[u8]) -> Result<Option<Asked<'_>>, NoMemory>
     ensures { IfOk result (λ found. option_map asked found ≡ queries.asked_of text.now) }
 {
-    asked_in(alloc, Words::of(text))
+    let mut words = Words::of(text);
+    asked_in(alloc, &mut words)
 }
 
 fn count_constants(expr: &List<Term>) -> usize

@@ -8,6 +8,7 @@ ghost use Rattle.tp_scenario.specs.declared.path.Key.TheVariants as Key;
 ghost use Rattle.tp_scenario.specs.declared.path.Path.TheVariants as Path;
 ghost use Rattle.tp_scenario.specs.mirrors.Entries.{entries_view, lent};
 ghost use Rattle.tp_scenario.specs.mirrors.Gives.{Gives, GivesNew, IsKeyError, IsMovedError};
+ghost use Rattle.tp_scenario.specs.mirrors.Rests as rests;
 
 use crate::fault::{Fault, Kind, WalkError, shape_at};
 use crate::names::{Declared, Names};
@@ -16,7 +17,9 @@ use crate::path::{Key, Path, Site};
 use crate::values::{count_at, items_at, new_name_at, used_at, whole_in};
 use serde_json::{Map, Value};
 use std::alloc::{AllocError, Global};
-use tp_types::{Admin, AdminId, Item, ItemId, List, Name, NoMemory, ServerDecl, ServerId, Version};
+use tp_types::{
+    Admin, AdminId, Item, ItemId, List, Name, NoMemory, ServerDecl, ServerId, Version, both,
+};
 
 /// The greatest magnitude of an item's value or bound.
 const VALUE_MAX: i64 = 1_000_000_000_000_000;
@@ -242,12 +245,28 @@ fn item_at<'a>(
         path_of(server, at, Key::Name),
         names,
         field(fields, Key::Name),
-    )?;
+    );
     let admin = used_at(
         path_of(server, at, Key::Admin),
         admins,
         field(fields, Key::Admin),
-    )?;
+    );
+    let held = held_in(server, at, fields);
+    let ((name, admin), (min, max, value)) = both(both(name, admin), held)?;
+    Ok(Item {
+        name,
+        server: ServerId(server),
+        admin: AdminId(admin),
+        min,
+        max,
+        value,
+    })
+}
+
+/// The least and the greatest value of an item, and its value at the start.
+fn held_in(server: u32, at: usize, fields: &Value) -> Result<(i64, i64, i64), WalkError>
+    ensures { Gives result (rests.item_held server at (view fields.now)) }
+{
     let min = whole_in(
         path_of(server, at, Key::Min),
         -VALUE_MAX,
@@ -266,14 +285,7 @@ fn item_at<'a>(
         max,
         field(fields, Key::Value),
     )?;
-    Ok(Item {
-        name,
-        server: ServerId(server),
-        admin: AdminId(admin),
-        min,
-        max,
-        value,
-    })
+    Ok((min, max, value))
 }
 
 fn path_of(server: u32, at: usize, key: Key) -> Path
@@ -336,6 +348,27 @@ fn numbered(alloc: Global, first: u32, end: u32) -> Result<List<ItemId>, NoMemor
     Ok(ids)
 }
 
+/// The ids of the items of a server, which are added to those of earlier ones.
+fn ids_in<'a>(
+    alloc: Global,
+    admins: &Names<'a>,
+    names: &mut Names<'a>,
+    server: u32,
+    made: &mut List<Item>,
+    value: Option<&'a Value>,
+) -> Result<List<ItemId>, WalkError>
+    requires { names.old ≡ map servers.item_name made.old }
+    ensures value { GivesNew result made.new
+        (servers.items_in admins.now server made.old (option_map (λ v. view v.now) value.entry)) }
+    ensures ids { IfOk result (λ ids.
+        ids ≡ servers.ids_from (length made.old) (length made.new - length made.old)) }
+    ensures named { IfOk result (λ ids. names.new ≡ map servers.item_name made.new) }
+{
+    let first = names.count();
+    items_in(alloc, admins, names, server, made, value)?;
+    Ok(numbered(alloc, first, names.count())?)
+}
+
 /// The next server, whose items are added to those of earlier ones.
 #[tactic(auto, unfolding(crate::specs::Servers::server_in))]
 fn server_in<'a>(
@@ -356,7 +389,6 @@ fn server_in<'a>(
     }) }
 {
     let at = names.servers.count();
-    let first = names.items.count();
     let server = at as usize;
     let fields = object_at(
         Path::Member(Key::Servers, server),
@@ -365,24 +397,23 @@ fn server_in<'a>(
         value,
     )?;
     let path = Path::Field(Key::Servers, server, Key::Name);
-    let name = new_name_at(alloc, path, &mut names.servers, field(fields, Key::Name))?;
+    let name = new_name_at(alloc, path, &mut names.servers, field(fields, Key::Name));
     let knows = knows_at(
         alloc,
         admins,
         &names.admins,
         server,
         field(fields, Key::Knows),
-    )?;
-    let value = field(fields, Key::Items);
-    items_in(
+    );
+    let items = ids_in(
         alloc,
         &names.admins,
         &mut names.items,
         at,
         &mut served.items,
-        value,
-    )?;
-    let items = numbered(alloc, first, names.items.count())?;
+        field(fields, Key::Items),
+    );
+    let ((name, knows), items) = both(both(name, knows), items)?;
     served.servers.push(ServerDecl { name, knows, items })?;
     Ok(())
 }

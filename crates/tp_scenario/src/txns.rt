@@ -19,7 +19,7 @@ use crate::values::{count_or, items_at, items_or, name_at, new_name_at, text_at,
 use indexmap::IndexSet;
 use serde_json::Value;
 use std::alloc::Global;
-use tp_types::{CredId, Level, List, Name, NoMemory, Query, Scheme, Transaction};
+use tp_types::{CredId, Level, List, Name, NoMemory, Query, Scheme, Transaction, both};
 
 fn path_of(at: usize, key: Key) -> Path
     ensures { result ≡ Path.Field Key.Transactions at key }
@@ -122,22 +122,24 @@ fn presented_at(
     }
 }
 
+/// Adds the credentials that are presented to those before them, whose places are noted.
 fn each_presented(
-    alloc: Global,
     creds: &Names,
     at: usize,
+    seen: &mut IndexSet<u32>,
+    made: &mut List<CredId>,
     values: &[Value],
-) -> Result<List<CredId>, WalkError>
-    ensures { Gives result (each (txns.credential_in creds.now at) [] (items_view values.now)) }
+) -> Result<(), WalkError>
+    requires { made.old ≡ creds_at seen.old.keys }
+    ensures { GivesNew result made.new
+        (each (txns.credential_in creds.now at) made.old (items_view values.now)) }
 {
-    let mut made = List::new(alloc);
-    let mut seen = IndexSet::new(alloc);
     for value in values {
         let path = Path::Entry(Key::Transactions, at, Key::Credentials, made.len());
-        let cred = presented_at(path, creds, &mut seen, value)?;
+        let cred = presented_at(path, creds, seen, value)?;
         made.push(cred)?;
     }
-    Ok(made)
+    Ok(())
 }
 
 #[tactic(auto, unfolding(crate::specs::Txns::credentials_at))]
@@ -151,7 +153,10 @@ fn presented_by(
         (txns.credentials_at creds.now at (option_map (λ v. view v.now) value.entry)) }
 {
     let values = items_or(path_of(at, Key::Credentials), 256, value)?;
-    each_presented(alloc, creds, at, values)
+    let mut made = List::new(alloc);
+    let mut seen = IndexSet::new(alloc);
+    each_presented(creds, at, &mut seen, &mut made, values)?;
+    Ok(made)
 }
 
 fn each_query(
@@ -229,50 +234,35 @@ fn txn_at<'a>(
         &mut names.txns,
         at,
         field(fields, Key::Name),
-    )?;
-    told(alloc, names, at, name, fields)
-}
-
-/// The transaction of this name.
-fn told(
-    alloc: Global,
-    names: &Declared,
-    at: usize,
-    name: Name,
-    fields: &Value,
-) -> Result<Transaction, WalkError>
-    ensures value { Gives result (rests.txn_told names.now at name (view fields.now)) }
-    ensures named { IfOk result (λ txn. txn.name ≡ name) }
-{
-    let path = path_of(at, Key::Subject);
-    let subject = name_at(alloc, path, field(fields, Key::Subject))?;
-    let mut txn = Transaction {
+    );
+    let subject = name_at(
+        alloc,
+        path_of(at, Key::Subject),
+        field(fields, Key::Subject),
+    );
+    let terms = terms_at(at, fields);
+    let creds = presented_by(alloc, &names.creds, at, field(fields, Key::Credentials));
+    let queries = queries_at(alloc, &names.items, at, field(fields, Key::Queries));
+    let told = both(both(name, subject), terms);
+    let lists = both(creds, queries);
+    let (((name, subject), (scheme, level, rounds)), (creds, queries)) = both(told, lists)?;
+    Ok(Transaction {
         name,
         subject,
-        scheme: Scheme::Deferred,
-        level: Level::View,
-        rounds: 8,
-        creds: List::new(alloc),
-        queries: List::new(alloc),
-    };
-    read_rest(alloc, names, at, &mut txn, fields)?;
-    Ok(txn)
+        scheme,
+        level,
+        rounds,
+        creds,
+        queries,
+    })
 }
 
-/// Reads what a transaction has beside its names. After an error some of it may have been read.
-fn read_rest(
-    alloc: Global,
-    names: &Declared,
-    at: usize,
-    txn: &mut Transaction,
-    fields: &Value,
-) -> Result<(), WalkError>
-    ensures value { GivesNew result txn.new
-        (rests.txn_rest names.now at txn.old (view fields.now)) }
-    ensures named { txn.new.name ≡ txn.old.name }
+/// How a transaction is run: its scheme, its level, and how many rounds may meet a newer version.
+fn terms_at(at: usize, fields: &Value) -> Result<(Scheme, Level, u32), WalkError>
+    ensures { Gives result (rests.txn_terms at (view fields.now)) }
 {
-    txn.scheme = scheme_at(path_of(at, Key::Scheme), field(fields, Key::Scheme))?;
-    txn.level = level_at(path_of(at, Key::Level), field(fields, Key::Level))?;
+    let scheme = scheme_at(path_of(at, Key::Scheme), field(fields, Key::Scheme))?;
+    let level = level_at(path_of(at, Key::Level), field(fields, Key::Level))?;
     let rounds = count_or(
         path_of(at, Key::Rounds),
         1,
@@ -280,10 +270,7 @@ fn read_rest(
         8,
         field(fields, Key::Rounds),
     )?;
-    txn.rounds = rounds as u32;
-    txn.creds = presented_by(alloc, &names.creds, at, field(fields, Key::Credentials))?;
-    txn.queries = queries_at(alloc, &names.items, at, field(fields, Key::Queries))?;
-    Ok(())
+    Ok((scheme, level, rounds as u32))
 }
 
 fn each_txn<'a>(

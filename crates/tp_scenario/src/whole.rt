@@ -17,7 +17,7 @@ use crate::txns::txns_at;
 use crate::values::count_or;
 use serde_json::Value;
 use std::alloc::Global;
-use tp_types::Scenario;
+use tp_types::{Scenario, both};
 
 /// The last time of a clock at the start.
 const CLOCK_MAX: u64 = 1_000_000_000_000;
@@ -57,31 +57,31 @@ fn walked_with<'a>(
         ],
         value,
     )?;
-    let admins = admins_at(alloc, &mut names.admins, field(fields, Key::Admins))?;
+    let admins = admins_at(alloc, &mut names.admins, field(fields, Key::Admins));
     let clock = count_or(
         Path::Top(Key::Clock),
         0,
         CLOCK_MAX,
         0,
         field(fields, Key::Clock),
-    )?;
-    let creds = creds_at(alloc, &mut names.creds, field(fields, Key::Credentials))?;
-    let Served { servers, items } = servers_at(
-        alloc,
-        admins.as_slice(),
-        names,
-        field(fields, Key::Servers),
-    )?;
-    let txns = txns_at(alloc, names, field(fields, Key::Transactions))?;
-    let steps = steps_at(alloc, names, field(fields, Key::Steps))?;
-    let clients = clients_at(alloc, &names.txns, field(fields, Key::Clients))?;
+    );
+    let creds = creds_at(alloc, &mut names.creds, field(fields, Key::Credentials));
+    let ((admins, clock), creds) = both(both(admins, clock), creds)?;
+    let served = servers_at(alloc, admins.as_slice(), names, field(fields, Key::Servers))?;
+    let txns = txns_at(alloc, names, field(fields, Key::Transactions));
+    let steps = steps_at(alloc, names, field(fields, Key::Steps));
+    let clients = clients_at(alloc, &names.txns, field(fields, Key::Clients));
     let publishers = publishers_at(
         alloc,
         names,
         admins.as_slice(),
         field(fields, Key::Publishers),
-    )?;
-    let officers = officers_at(alloc, names, field(fields, Key::Officers))?;
+    );
+    let officers = officers_at(alloc, names, field(fields, Key::Officers));
+    let listed = both(txns, steps);
+    let scripts = both(clients, both(publishers, officers));
+    let ((txns, steps), (clients, (publishers, officers))) = both(listed, scripts)?;
+    let Served { servers, items } = served;
     Ok(Scenario {
         admins,
         clock,
@@ -101,5 +101,7 @@ pub(crate) fn walked(alloc: Global, value: &Value) -> Result<Scenario, WalkError
     ensures { Gives result (walk.walk_of (view value.now)) }
 {
     let mut names = no_names(alloc);
-    walked_with(alloc, &mut names, value)
+    let made = walked_with(alloc, &mut names, value);
+    drop(names);
+    made
 }

@@ -92,11 +92,10 @@ impl<'a> Words<'a> {
     }
 
     /// The one word that is left.
-    pub fn only(self) -> Option<&'a [u8]>
-        ensures { option_map (λ word. word.now) result ≡ words.only self.entry }
+    pub fn only(&mut self) -> Option<&'a [u8]>
+        ensures { option_map (λ word. word.now) result ≡ words.only self.old }
     {
-        let mut words = self;
-        let word = words.next()?;
-        if words.is_at_end() { Some(word) } else { None }
+        let word = self.next()?;
+        if self.is_at_end() { Some(word) } else { None }
     }
 }

@@ -30,7 +30,7 @@ abbrev pub IsMovedError : WalkError → WalkError → Site → Type 0
 IsMovedError result (error.Fault fault) site = IsKeyError result fault.kind site
 IsMovedError result error.NoMemory site = result ≡ error.NoMemory
 
--- the value that a walk leaves behind a reference is what is to be given
-abbrev pub GivesNew : {X : Type 0} → Result (Unit {0}) WalkError → X → Result X Fault → Type 0
+-- the value that a walk leaves behind a reference is what is to be given, whatever else it answers
+abbrev pub GivesNew : {X Y : Type 0} → Result Y WalkError → X → Result X Fault → Type 0
 GivesNew (Ok done) x walked = walked ≡ Ok x
 GivesNew (Err e) x walked = IsWalkError e walked

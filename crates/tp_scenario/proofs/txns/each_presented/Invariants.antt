@@ -1,4 +1,4 @@
-use Rattle.std.proofs.Common.{◌≡◌, [], drop}
+use Rattle.std.proofs.Common.{◌≡◌, drop}
 use Rattle.serde_json.specs.View.{items_view}
 use Rattle.tp_scenario.specs.Txns.{credential_in}
 use Rattle.tp_scenario.specs.Values.{each}
@@ -8,4 +8,4 @@ use Rattle.tp_scenario.proofs.txns.each_presented.Given as goal
 -- those made are the noted ones
 abbrev pub invariant-loop-value : goal.invariant-loop-value
 invariant-loop-value l = (l.made ≡ creds_at l.seen.keys)
-    × (each (credential_in l.creds l.at) l.made (items_view (drop l.value-index l.values)) ≡ each (credential_in l.creds l.at) [] (items_view l.values))
+    × (each (credential_in l.creds l.at) l.made (items_view (drop l.value-index l.values)) ≡ each (credential_in l.creds l.at) l.initial.made (items_view l.values))
