@@ -3,6 +3,7 @@ use Rattle.std.proofs.Common.{◌≡◌, ◌≢◌, ℕ, zero, suc, ◌+◌, ◌
 use Rattle.std.proofs.Math.Seq.{drop-cons}
 use Rattle.std.proofs.lemmas.Bool.{and_parts}
 use Rattle.std.proofs.lemmas.Bool.Decides.{Decides-int_eq}
+use Rattle.std.proofs.lemmas.List.{get_or_default}
 use Rattle.std.specs.Cmp.Lexicographic.{pointwise}
 use Rattle.std.specs.List.{fold}
 use Rattle.std.specs.Option.{option_map_or}
@@ -16,7 +17,7 @@ use Rattle.tp_audit.specs.mirrors.Programs.{deed_of, registers_after, store_afte
 use Rattle.tp_model.specs.Ids.{same_item}
 use Rattle.tp_model.specs.Limits.{is_between}
 use Rattle.tp_model.specs.Policies.{same_action}
-use Rattle.tp_model.specs.SerialRun.{are_in_range, cleared_registers, deeds_from, same_deed, serial_run, stored, stored_by}
+use Rattle.tp_model.specs.SerialRun.{are_in_range, cleared_registers, deeds_from, same_deed, serial_run, stored, stored_all, stored_by}
 
 -- a first test that fails settles the whole, and one that passes leaves it to the others
 pub stops : (first others whole : Bool) → first ≡ false → (first && others) ≡ whole → false ≡ whole
@@ -117,3 +118,21 @@ in_range_next at items store item h e =
 pub fold_turn : {A B : Type 0} (f : B → A → B) (start next whole : B) (xs : List A) (at : ℕ) (d : A) → at < length xs → next ≡ f start (get_or xs at d)
     → fold f start (drop at xs) ≡ whole → fold f next (drop (at + 1) xs) ≡ whole
 fold_turn f start next whole xs at d h e kept = rw (e, add-one) (sym (ap (fold f start) (drop-cons xs at d h)) ∙ kept)
+
+-- a turn of a serial run whose deed is the query's
+pub runs_on : (at : ℕ) (deeds : List Deed) (queries : List Query) (registers store next_registers next_store : List ℤ) (query : Query) (d : Deed) (whole : Bool)
+    → at < length deeds → at < length queries → query ≡ get_or queries at query
+    → same_deed (get_or deeds at d) (deed_of (at + 1) query registers store) ≡ true
+    → next_registers ≡ registers_after query registers store → next_store ≡ store_after query registers store
+    → runs_from at deeds queries registers store ≡ whole → runs_from (at + 1) deeds queries next_registers next_store ≡ whole
+runs_on at deeds queries registers store next_registers next_store query d whole here there q same r s h =
+    let deed = get_or deeds at d in
+    let next = runs_next at deeds queries registers store deed query here there (get_or_default deeds at d deed here) q in
+    rw (r, s) (goes_on _ _ _ same (sym next ∙ h))
+
+-- the deed leaves the store that the query leaves
+pub stores_on : (at : ℕ) (deeds : List Deed) (registers store next_store whole : List ℤ) (query : Query) (d : Deed)
+    → at < length deeds → same_deed (get_or deeds at d) (deed_of (at + 1) query registers store) ≡ true → next_store ≡ store_after query registers store
+    → stored_all store (drop at deeds) ≡ whole → stored_all next_store (drop (at + 1) deeds) ≡ whole
+stores_on at deeds registers store next_store whole query d here same s h =
+    fold_turn stored store next_store whole deeds at d here (s ∙ sym (stored_same (get_or deeds at d) (at + 1) query registers store same)) h

@@ -1,6 +1,7 @@
 //! Crashes between two places, and the servers of a transaction.
 ghost use Rattle.std.specs.Prelude.{◌≡◌};
 ghost use Rattle.tp_model.specs.Causes as causes;
+ghost use Rattle.tp_model.specs.Trust as trust;
 
 use crate::facts::has_query_on;
 use crate::trust::is_within;
@@ -34,45 +35,60 @@ fn is_coordinator_crash(txn: TxnId, fact: &Fact) -> bool
     }
 }
 
-fn is_server_crash_within(
-    at: ServerId,
+/// The time between the submission of a transaction and a place.
+#[derive(Clone, Copy)]
+struct Span<'a> {
     txn: TxnId,
-    decided: Place,
-    facts: &List<Fact>,
-    fact: &Fact,
-) -> bool
-    ensures { result ≡ causes.is_crash_within
-        (causes.is_server_actor at) txn decided facts.now fact.now }
+    end: Place,
+    facts: &'a List<Fact>,
+}
+
+fn is_in_span(span: &Span<'_>, fact: &Fact) -> bool
+    ensures { result ≡ trust.is_within span.now.txn span.now.end span.now.facts.now fact.now.place }
 {
-    is_server_crash(at, fact) && is_within(txn, decided, facts, fact.place)
+    is_within(span.txn, span.end, span.facts, fact.place)
+}
+
+fn is_server_crash_within(at: ServerId, span: &Span<'_>, fact: &Fact) -> bool
+    ensures { result ≡ causes.is_crash_within
+        (causes.is_server_actor at) span.now.txn span.now.end span.now.facts.now fact.now }
+{
+    is_server_crash(at, fact) && is_in_span(span, fact)
 }
 
 fn is_own_crash_within(
     scenario: &Scenario,
-    txn: TxnId,
-    facts: &List<Fact>,
     declared: &Transaction,
-    place: Place,
+    span: &Span<'_>,
     fact: &Fact,
 ) -> bool
     ensures { result ≡ causes.is_crash_within
-        (causes.is_own_server scenario.now declared.now) txn place facts.now fact.now }
+        (causes.is_own_server scenario.now declared.now)
+        span.now.txn span.now.end span.now.facts.now fact.now }
 {
-    is_own_crash(scenario, declared, fact) && is_within(txn, place, facts, fact.place)
+    is_own_crash(scenario, declared, fact) && is_in_span(span, fact)
 }
 
-fn is_coordinator_crash_within(txn: TxnId, decided: Place, facts: &List<Fact>, fact: &Fact) -> bool
+fn is_coordinator_crash_within(span: &Span<'_>, fact: &Fact) -> bool
     ensures { result ≡ causes.is_crash_within
-        (causes.is_coordinator_actor txn) txn decided facts.now fact.now }
+        (causes.is_coordinator_actor span.now.txn)
+        span.now.txn span.now.end span.now.facts.now fact.now }
 {
-    is_coordinator_crash(txn, fact) && is_within(txn, decided, facts, fact.place)
+    is_coordinator_crash(span.txn, fact) && is_in_span(span, fact)
 }
 
 /// The server crashed between the submission and the decision.
 pub fn server_crashed(at: ServerId, txn: TxnId, decided: Place, facts: &List<Fact>) -> bool
     ensures { result ≡ causes.crashed_within (causes.is_server_actor at) txn decided facts.now }
 {
-    facts.iter().any(|fact| is_server_crash_within(at, txn, decided, facts, fact))
+    let span = Span {
+        txn,
+        end: decided,
+        facts,
+    };
+    facts
+        .iter()
+        .any(|fact| is_server_crash_within(at, &span, fact))
 }
 
 /// A server of the transaction crashed between its submission and the place, so that work of it may be lost.
@@ -85,7 +101,12 @@ pub fn lost_work(
 ) -> bool
     ensures { result ≡ causes.lost_work scenario.now txn facts.now declared.now place }
 {
-    facts.iter().any(|fact| is_own_crash_within(scenario, txn, facts, declared, place, fact))
+    let span = Span {
+        txn,
+        end: place,
+        facts,
+    };
+    facts.iter().any(|fact| is_own_crash_within(scenario, declared, &span, fact))
 }
 
 /// The coordinator crashed between the submission and the decision.
@@ -93,7 +114,14 @@ pub fn coordinator_crashed(txn: TxnId, decided: Place, facts: &List<Fact>) -> bo
     ensures { result ≡ causes.crashed_within
         (causes.is_coordinator_actor txn) txn decided facts.now }
 {
-    facts.iter().any(|fact| is_coordinator_crash_within(txn, decided, facts, fact))
+    let span = Span {
+        txn,
+        end: decided,
+        facts,
+    };
+    facts
+        .iter()
+        .any(|fact| is_coordinator_crash_within(&span, fact))
 }
 
 /// The server is one of the transaction's.

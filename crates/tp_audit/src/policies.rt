@@ -9,53 +9,43 @@ use crate::credentials::{Held, is_valid};
 use tp_model::{matches, meets};
 use tp_types::{Action, Cond, CredId, Credential, Name, Op, Policy, Rule, Value};
 
-fn says(
-    held: &Held<'_>,
-    credential: &Credential,
-    issuer: &Name,
-    attr: &Name,
+/// What an atom of a condition asks of a credential.
+#[derive(Clone, Copy)]
+struct Atom<'a> {
+    issuer: &'a Name,
+    attr: &'a Name,
     op: Op,
-    wanted: &Value,
-) -> bool
-    ensures { result ≡ program.says
-        (policies.meets issuer.now attr.now op wanted.now) held.now credential.now }
-{
-    credential.subject == *held.subject && meets(credential, issuer, attr, op, wanted)
+    wanted: &'a Value,
 }
 
-fn is_said(
-    held: &Held<'_>,
-    cred: CredId,
-    issuer: &Name,
-    attr: &Name,
-    op: Op,
-    wanted: &Value,
-) -> bool
+fn says(held: &Held<'_>, credential: &Credential, atom: &Atom<'_>) -> bool
+    ensures { result ≡ program.says (program.meets atom.now) held.now credential.now }
+{
+    credential.subject == *held.subject
+        && meets(credential, atom.issuer, atom.attr, atom.op, atom.wanted)
+}
+
+fn is_said(held: &Held<'_>, cred: CredId, atom: &Atom<'_>) -> bool
     ensures { result ≡ option_map_or
-        (program.says (policies.meets issuer.now attr.now op wanted.now) held.now)
+        (program.says (program.meets atom.now) held.now)
         (slice_get held.now.scenario.now.creds cred.0) false }
 {
     match held.scenario.creds.get(cred.0 as usize) {
         None => false,
-        Some(credential) => says(held, credential, issuer, attr, op, wanted),
+        Some(credential) => says(held, credential, atom),
     }
 }
 
-fn shows(held: &Held<'_>, cred: CredId, issuer: &Name, attr: &Name, op: Op, wanted: &Value) -> bool
-    ensures { result ≡ program.shows
-        (policies.meets issuer.now attr.now op wanted.now) held.now cred }
+fn shows(held: &Held<'_>, cred: CredId, atom: &Atom<'_>) -> bool
+    ensures { result ≡ program.shows (program.meets atom.now) held.now cred }
 {
-    is_said(held, cred, issuer, attr, op, wanted)
-        && is_valid(held.scenario, held.place, held.facts, cred)
+    is_said(held, cred, atom) && is_valid(held.scenario, held.place, held.facts, cred)
 }
 
-fn is_met(held: &Held<'_>, issuer: &Name, attr: &Name, op: Op, wanted: &Value) -> bool
-    ensures { result ≡ list_any (policies.meets issuer.now attr.now op wanted.now)
-        (program.held_by held.now) }
+fn is_met(held: &Held<'_>, atom: &Atom<'_>) -> bool
+    ensures { result ≡ list_any (program.meets atom.now) (program.held_by held.now) }
 {
-    held.creds
-        .iter()
-        .any(|cred| shows(held, *cred, issuer, attr, op, wanted))
+    held.creds.iter().any(|cred| shows(held, *cred, atom))
 }
 
 /// The condition is true of what is held.
@@ -71,7 +61,15 @@ pub fn holds(held: &Held<'_>, cond: &Cond) -> bool
             attr,
             op,
             value,
-        } => is_met(held, issuer, attr, *op, value),
+        } => {
+            let atom = Atom {
+                issuer,
+                attr,
+                op: *op,
+                wanted: value,
+            };
+            is_met(held, &atom)
+        }
         Cond::And(members) => all_hold(held, members.as_slice()),
         Cond::Or(members) => any_holds(held, members.as_slice()),
     }

@@ -52,32 +52,40 @@ fn sum_in(alloc: Global, registers: &List<Wide>, expr: &List<Term>) -> Result<Wi
     Ok(total)
 }
 
-/// Does the query, and gives the value of its deed.
+/// The value of the query's deed.
+fn value_of(
+    alloc: Global,
+    registers: &List<Wide>,
+    store: &List<Wide>,
+    query: &Query,
+) -> Result<Wide, NoMemory>
+    ensures { IfOk result (λ made. made
+        ≡ serial.deed_value (program.deed_of 0 query.now registers.now store.now)) }
+{
+    match query {
+        Query::Read { item, into: _ } => number_at(alloc, store, item.0),
+        Query::Write { item: _, expr } => sum_in(alloc, registers, expr),
+    }
+}
+
+/// Does the query.
 fn run_query(
     alloc: Global,
     registers: &mut List<Wide>,
     store: &mut List<Wide>,
     query: &Query,
-) -> Result<Wide, NoMemory>
-    ensures value { IfOk result (λ made. made
-        ≡ serial.deed_value (program.deed_of 0 query.now registers.old store.old)) }
+) -> Result<(), NoMemory>
     ensures registers { OnOk result
         (registers.new ≡ program.registers_after query.now registers.old store.old) }
     ensures store { OnOk result
         (store.new ≡ program.store_after query.now registers.old store.old) }
 {
+    let value = value_of(alloc, registers, store, query)?;
     match query {
-        Query::Read { item, into } => {
-            let value = number_at(alloc, store, item.0)?;
-            registers.put(*into as usize, value.try_clone(alloc)?);
-            Ok(value)
-        }
-        Query::Write { item, expr } => {
-            let value = sum_in(alloc, registers, expr)?;
-            store.put(item.0 as usize, value.try_clone(alloc)?);
-            Ok(value)
-        }
+        Query::Read { item: _, into } => registers.put(*into as usize, value),
+        Query::Write { item, expr: _ } => store.put(item.0 as usize, value),
     }
+    Ok(())
 }
 
 fn widened(alloc: Global, numbers: &[i128]) -> Result<List<Wide>, NoMemory>
@@ -88,6 +96,28 @@ fn widened(alloc: Global, numbers: &[i128]) -> Result<List<Wide>, NoMemory>
         made.push(Wide::of(alloc, *number)?)?;
     }
     Ok(made)
+}
+
+/// Whether the value is that of the query of this number, where the queries are done one after another.
+fn is_value_in(
+    alloc: Global,
+    registers: &mut List<Wide>,
+    store: &mut List<Wide>,
+    queries: &[Query],
+    number: u32,
+    value: i128,
+) -> Result<bool, NoMemory>
+    ensures { IfOk result (λ same. same
+        ≡ program.has_value number value
+        (serial.deeds_from 1 queries.now registers.old store.old)) }
+{
+    for (at, query) in queries.iter().enumerate() {
+        if at + 1 == number as usize {
+            return Ok(value_of(alloc, registers, store, query)?.is(value));
+        }
+        run_query(alloc, registers, store, query)?;
+    }
+    Ok(false)
 }
 
 /// Whether the value is that of the query of this number, where the transaction runs by itself on the store.
@@ -103,11 +133,6 @@ pub fn is_run_value(
 {
     let mut values = widened(alloc, store.as_slice())?;
     let mut registers = widened(alloc, &[0; REGISTERS])?;
-    for (at, query) in txn.queries.as_slice().iter().enumerate() {
-        let done = run_query(alloc, &mut registers, &mut values, query)?;
-        if at + 1 == number as usize {
-            return Ok(done.is(value));
-        }
-    }
-    Ok(false)
+    let queries = txn.queries.as_slice();
+    is_value_in(alloc, &mut registers, &mut values, queries, number, value)
 }

@@ -1,6 +1,7 @@
 //! Trusted commits.
 ghost use Rattle.std.specs.Prelude.{◌≡◌};
 ghost use Rattle.std.specs.List.{list_all};
+ghost use Rattle.tp_audit.specs.mirrors.Programs as program;
 ghost use Rattle.tp_model.specs.Trust as trust;
 
 use crate::authorisation::is_true_verdict;
@@ -19,95 +20,61 @@ pub fn is_within(txn: TxnId, decided: Place, facts: &List<Fact>, place: Place) -
     place < decided && was_submitted(txn, place, facts)
 }
 
-fn is_trusted_proof(
-    scenario: &Scenario,
+/// A transaction that is decided at a place, beside all facts.
+#[derive(Clone, Copy)]
+struct Commit<'a> {
+    scenario: &'a Scenario,
+    facts: &'a List<Fact>,
     txn: TxnId,
-    declared: &Transaction,
-    decided: Place,
-    facts: &List<Fact>,
-    proof: &Verdict,
-) -> bool
-    ensures { result ≡ trust.is_trusted_proof scenario.now txn declared.now decided facts.now proof.now }
-{
-    is_true_verdict(scenario, facts, declared, proof)
-        && is_within(txn, decided, facts, proof.place)
-        && u128::from(proof.version.0) <= newest(scenario, proof.admin, decided, facts)
+    declared: &'a Transaction,
+    place: Place,
 }
 
-fn are_trusted_proofs(
-    scenario: &Scenario,
-    txn: TxnId,
-    declared: &Transaction,
-    decided: Place,
-    facts: &List<Fact>,
-    proofs: &List<Verdict>,
-) -> bool
-    ensures { result ≡ list_all
-        (trust.is_trusted_proof scenario.now txn declared.now decided facts.now) proofs.now }
+fn is_trusted_proof(commit: &Commit<'_>, proof: &Verdict) -> bool
+    ensures { result ≡ program.is_trusted_proof commit.now proof.now }
 {
-    proofs.iter().all(|proof| is_trusted_proof(scenario, txn, declared, decided, facts, proof))
+    is_true_verdict(commit.scenario, commit.facts, commit.declared, proof)
+        && is_within(commit.txn, commit.place, commit.facts, proof.place)
+        && u128::from(proof.version.0)
+            <= newest(commit.scenario, proof.admin, commit.place, commit.facts)
 }
 
-fn is_timely_reading(txn: TxnId, decided: Place, facts: &List<Fact>, reading: Option<Place>) -> bool
-    ensures { result ≡ trust.is_timely_reading txn decided facts.now reading }
+fn are_trusted_proofs(commit: &Commit<'_>, proofs: &List<Verdict>) -> bool
+    ensures { result ≡ list_all (program.is_trusted_proof commit.now) proofs.now }
+{
+    proofs.iter().all(|proof| is_trusted_proof(commit, proof))
+}
+
+fn is_timely_reading(commit: &Commit<'_>, reading: Option<Place>) -> bool
+    ensures { result ≡ trust.is_timely_reading commit.now.txn commit.now.place
+        commit.now.facts.now reading }
 {
     match reading {
         None => true,
-        Some(place) => is_within(txn, decided, facts, place),
+        Some(place) => is_within(commit.txn, commit.place, commit.facts, place),
     }
 }
 
-fn is_trusted_instance(
-    scenario: &Scenario,
-    txn: TxnId,
-    declared: &Transaction,
-    decided: Place,
-    facts: &List<Fact>,
-    instance: &Instance,
-) -> bool
-    ensures { result ≡ trust.is_trusted_instance scenario.now txn declared.now decided facts.now
-        instance.now }
+fn is_trusted_instance(commit: &Commit<'_>, instance: &Instance) -> bool
+    ensures { result ≡ program.is_trusted_instance commit.now instance.now }
 {
-    are_trusted_proofs(scenario, txn, declared, decided, facts, &instance.proofs)
-        && is_timely_reading(txn, decided, facts, instance.reading)
+    are_trusted_proofs(commit, &instance.proofs) && is_timely_reading(commit, instance.reading)
 }
 
-fn are_trusted_instances(
-    scenario: &Scenario,
-    txn: TxnId,
-    declared: &Transaction,
-    decided: Place,
-    facts: &List<Fact>,
-    instances: &List<Instance>,
-) -> bool
-    ensures { result ≡ list_all
-        (trust.is_trusted_instance scenario.now txn declared.now decided facts.now) instances.now }
+fn are_trusted_instances(commit: &Commit<'_>, instances: &List<Instance>) -> bool
+    ensures { result ≡ list_all (program.is_trusted_instance commit.now) instances.now }
 {
-    instances.iter().all(|instance| is_trusted_instance(
-        scenario, txn, declared, decided, facts, instance,
-    ))
+    instances
+        .iter()
+        .all(|instance| is_trusted_instance(commit, instance))
 }
 
-fn is_trusted_commit(
-    scenario: &Scenario,
-    txn: TxnId,
-    decided: Place,
-    facts: &List<Fact>,
-    committed: &CommitRecord,
-    declared: &Transaction,
-) -> bool
-    ensures { result ≡ trust.is_trusted_commit scenario.now txn decided facts.now committed.now
-        declared.now }
+fn is_trusted_commit(commit: &Commit<'_>, committed: &CommitRecord) -> bool
+    ensures { result ≡ trust.is_trusted_commit commit.now.scenario.now commit.now.txn
+        commit.now.place commit.now.facts.now committed.now commit.now.declared.now }
 {
-    meets_demand(scenario, facts, declared, committed)
-        && are_trusted_instances(
-            scenario,
-            txn,
-            declared,
-            decided,
-            facts,
-            &committed.instances,
-        )
+    meets_demand(commit.scenario, commit.facts, commit.declared, committed)
+        && are_trusted_instances(commit, &committed.instances)
 }
 
 fn is_trusted_decision(
@@ -125,7 +92,16 @@ fn is_trusted_decision(
     };
     match scenario.txns.get(txn.0 as usize) {
         None => false,
-        Some(declared) => is_trusted_commit(scenario, txn, place, facts, committed, declared),
+        Some(declared) => {
+            let commit = Commit {
+                scenario,
+                facts,
+                txn,
+                declared,
+                place,
+            };
+            is_trusted_commit(&commit, committed)
+        }
     }
 }
 

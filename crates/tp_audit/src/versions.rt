@@ -1,6 +1,7 @@
 //! Which version of an administrator's policy is the newest at a place, and when versions agree.
 ghost use Rattle.std.specs.Prelude.{◌≡◌, if◌then◌else◌, is_none};
 ghost use Rattle.std.specs.List.{list_all};
+ghost use Rattle.tp_audit.specs.mirrors.Programs as program;
 ghost use Rattle.tp_model.specs.Levels as levels;
 ghost use Rattle.tp_model.specs.Versions as versions;
 
@@ -48,35 +49,29 @@ fn is_newest_proof(scenario: &Scenario, place: Place, facts: &List<Fact>, proof:
         && proof.place < place
 }
 
-fn meets_reading(
-    scenario: &Scenario,
-    txn: &Transaction,
+/// A transaction that read the newest versions from the master at a place.
+#[derive(Clone, Copy)]
+struct MasterRead<'a> {
+    scenario: &'a Scenario,
+    txn: &'a Transaction,
     place: Place,
-    facts: &List<Fact>,
-    proof: &Verdict,
-) -> bool
-    ensures { result ≡ versions.meets_reading scenario.now txn.now place facts.now proof.now }
+    facts: &'a List<Fact>,
+}
+
+fn meets_reading(read: &MasterRead<'_>, proof: &Verdict) -> bool
+    ensures { result ≡ program.meets_reading read.now proof.now }
 {
-    if is_global(level_of(txn, proof.admin)) {
-        is_newest_proof(scenario, place, facts, proof)
+    if is_global(level_of(read.txn, proof.admin)) {
+        is_newest_proof(read.scenario, read.place, read.facts, proof)
     } else {
-        proof.place < place
+        proof.place < read.place
     }
 }
 
-fn all_meet_reading(
-    scenario: &Scenario,
-    txn: &Transaction,
-    place: Place,
-    facts: &List<Fact>,
-    proofs: &List<Verdict>,
-) -> bool
-    ensures { result ≡ list_all
-        (versions.meets_reading scenario.now txn.now place facts.now) proofs.now }
+fn all_meet_reading(read: &MasterRead<'_>, proofs: &List<Verdict>) -> bool
+    ensures { result ≡ list_all (program.meets_reading read.now) proofs.now }
 {
-    proofs
-        .iter()
-        .all(|proof| meets_reading(scenario, txn, place, facts, proof))
+    proofs.iter().all(|proof| meets_reading(read, proof))
 }
 
 fn meets_readings(
@@ -90,7 +85,15 @@ fn meets_readings(
 {
     match instance.reading {
         None => false,
-        Some(place) => all_meet_reading(scenario, txn, place, facts, &instance.proofs),
+        Some(place) => {
+            let read = MasterRead {
+                scenario,
+                txn,
+                place,
+                facts,
+            };
+            all_meet_reading(&read, &instance.proofs)
+        }
     }
 }
 
@@ -102,7 +105,8 @@ fn has_due_reading(
 ) -> bool
     ensures { result
         ≡ (if levels.reads_master scenario.now txn.now
-        then versions.meets_readings scenario.now txn.now instance.now.reading facts.now instance.now.proofs
+        then versions.meets_readings scenario.now txn.now instance.now.reading facts.now
+        instance.now.proofs
         else is_none instance.now.reading) }
 {
     if reads_master(scenario, txn) {

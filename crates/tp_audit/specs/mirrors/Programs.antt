@@ -1,17 +1,25 @@
 -- What the plain programs for the definitions speak of in their contracts.
-use Rattle.std.specs.Prelude.{ℕ, ◌^◌, ◌&&◌, List, filter, slice_get, slice_set, Bool, false, Option, Some, None, ℤ, pos, neg_ℤ, ◌+ℤ◌, ◌*ℤ◌, ◌≤ℤ◌}
+use Rattle.std.specs.Prelude.{ℕ, ◌^◌, ◌&&◌, List, filter, slice_get, slice_set, Bool, false, Option, Some, None, option_map, ℤ, pos, neg_ℤ, ◌+ℤ◌, ◌*ℤ◌, ◌≤ℤ◌}
+use Rattle.std.specs.List.{find}
 use Rattle.std.specs.Option.{option_map_or}
-use Rattle.tp_model.specs.Words.{Action, CredId, Credential, Deed, Fact, Policy, Query, Scenario, Transaction, Verdict}
+use Rattle.std.specs.Ordering.{int_eq}
+use Rattle.tp_model.specs.Words.{Action, CredId, Credential, Deed, Fact, Instance, Policy, Query, Scenario, Transaction, Verdict}
 use Rattle.tp_model.specs.Words.action
 use Rattle.tp_types.specs.declared.scenario.Query.TheVariants.{Read, Write}
 use Rattle.tp_audit.specs.declared.authorisation.Case.{Case}
 use Rattle.tp_audit.specs.declared.credentials.Held.{Held}
+use Rattle.tp_audit.specs.declared.policies.Atom.{Atom}
 use Rattle.tp_audit.specs.declared.total.Total.{Total}
+use Rattle.tp_audit.specs.declared.trust.Commit.{Commit}
+use Rattle.tp_audit.specs.declared.versions.MasterRead.{MasterRead}
 use Rattle.tp_model.specs.Authorisation.{action_of, policy_at, rule_proves, tests_version}
 use Rattle.tp_model.specs.Credentials.{is_valid, said_by, triples_in}
 use Rattle.tp_model.specs.Ids.{same_name}
+use Rattle.tp_model.specs.Policies as policies
 use Rattle.tp_model.specs.Policies.{Triple}
-use Rattle.tp_model.specs.SerialRun.{number_at, sum_in}
+use Rattle.tp_model.specs.SerialRun.{deed_value, is_deed_of, number_at, sum_in}
+use Rattle.tp_model.specs.Trust as trust
+use Rattle.tp_model.specs.Versions as versions
 
 -- ---- what is held
 
@@ -20,6 +28,10 @@ abbrev pub held_by : Held → List Triple
 held_by held =
     triples_in held.scenario.now.creds held.subject.now
     (filter (is_valid held.scenario.now held.place held.facts.now) held.creds.now)
+
+-- what a credential says meets the atom
+abbrev pub meets : Atom → Triple → Bool
+meets atom said = policies.meets atom.issuer.now atom.attr.now atom.op atom.wanted.now said
 
 -- the credential is the subject's, and what it says passes the test
 abbrev pub says : (Triple → Bool) → Held → Credential → Bool
@@ -47,6 +59,23 @@ is_proved sc facts txn verdict =
     verdict.query
     (policy_at sc verdict.admin verdict.version)
 
+-- ---- trusted commits
+
+-- the proof agrees with what was read from the master
+abbrev pub meets_reading : MasterRead → Verdict → Bool
+meets_reading read proof =
+    versions.meets_reading read.scenario.now read.txn.now read.place read.facts.now proof
+
+-- the proof is trusted by the commit
+abbrev pub is_trusted_proof : Commit → Verdict → Bool
+is_trusted_proof commit proof =
+    trust.is_trusted_proof commit.scenario.now commit.txn commit.declared.now commit.place commit.facts.now proof
+
+-- the instance is trusted by the commit
+abbrev pub is_trusted_instance : Commit → Instance → Bool
+is_trusted_instance commit instance =
+    trust.is_trusted_instance commit.scenario.now commit.txn commit.declared.now commit.place commit.facts.now instance
+
 -- ---- exact sums
 
 -- the sum that a total stands for
@@ -65,6 +94,11 @@ deed_of number (Read item into) registers store =
     record { query = number; item = item; action = action.Read; value = number_at store item.0 }
 deed_of number (Write item expr) registers store =
     record { query = number; item = item; action = action.Write; value = sum_in registers expr }
+
+-- the deed of this number among the deeds has the value
+abbrev pub has_value : ℕ → ℤ → List Deed → Bool
+has_value number value deeds =
+    option_map_or (int_eq value) (option_map deed_value (find (is_deed_of number) deeds)) false
 
 -- the registers after it
 abbrev pub registers_after : Query → List ℤ → List ℤ → List ℤ
