@@ -18,7 +18,7 @@ use tp_round::Round;
 use tp_types::{
     Actor, Answer, Body, Cause, Deed, Died, DoneReply, Instance, Letter, List, Mail, NoMemory,
     Outcome, Place, Query, QueryRequest, Reaction, Scenario, ServerId, Staple, TxnId, Verdict,
-    ignored, none_for_each, sent_alone, unbuilt,
+    both, ignored, none_for_each, sent_alone, unbuilt,
 };
 
 /// What a coordinator awaits: its whole outstanding request.
@@ -90,12 +90,14 @@ impl Coordinator {
         requires { length scenario.now.servers < 2 ^ 32 }
         ensures { IfOk result (λ made. made ≡ opened.idle scenario.now txn) }
     {
+        let told = none_for_each(alloc, scenario.servers.len());
+        let (servers, epochs) = both(servers_at(alloc, scenario, txn), told)?;
         Ok(Coordinator {
             txn,
-            servers: servers_at(alloc, scenario, txn)?,
+            servers,
             age: None,
             turn: 0,
-            epochs: none_for_each(alloc, scenario.servers.len())?,
+            epochs,
             deeds: List::new(alloc),
             gathered: List::new(alloc),
             instances: List::new(alloc),

@@ -25,7 +25,8 @@ impl Coordinator {
     pub(crate) fn commits(&mut self, alloc: Global, round: &Round) -> Result<Reaction, NoMemory>
         ensures { IfOk result (λ reaction.
             Gives
-            (row.commits self.old round.now.number (replies.by_query (replies.proofs_in round.now.targets)))
+            (row.commits self.old round.now.number
+            (replies.by_query (replies.proofs_in round.now.targets)))
             self.new reaction) }
     {
         self.instances.push(Instance {

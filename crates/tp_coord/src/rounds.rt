@@ -206,7 +206,9 @@ impl Coordinator {
 
     /// Other votes of the round are awaited.
     fn awaits_more(&mut self, alloc: Global, round: Round, staple: Staple) -> Reaction
-        ensures { Gives (sends (record self.old { phase = Phase.Checking round staple }) []) self.new result }
+        ensures { Gives
+            (sends (record self.old { phase = Phase.Checking round staple }) [])
+            self.new result }
     {
         self.enters(Phase::Checking { round, staple });
         nothing(alloc)
@@ -250,7 +252,8 @@ fn staple_of(alloc: Global, sent: Place, tell: &TellReply) -> Result<Staple, NoM
 
 /// What the last update named the server for.
 fn named_for<'a>(named: &'a [Wanted], server: ServerId) -> Option<&'a Wanted>
-    ensures { option_copied result ≡ find (λ (one : Wanted). same_server one.server server) named.now }
+    ensures { option_copied result
+        ≡ find (λ (one : Wanted). same_server one.server server) named.now }
 {
     named.iter().find(|one| one.server.0 == server.0)
 }

@@ -7,7 +7,7 @@ ghost use Rattle.tp_device.specs.declared.disk.DiskError.{DiskError};
 use tp_types::NoMemory;
 
 /// Why a call of a disk was refused.
-#[derive(Clone, Copy, Debug, PartialEq, Eq)]
+#[derive(Clone, Copy, Debug, PartialEq)]
 pub enum DiskError {
     /// The disk failed, and counted a fault.
     Failed,
@@ -76,10 +76,13 @@ pub trait Disk: Drop {
         ensures time { Passes state left_since self.old self.new };
 
     // The two ends are moments of those between them.
-    ghost counts_start: { (start disk : Self) (image : List ℕ) → MayLeave (state start) image → left_since start disk image };
+    ghost counts_start: { (start disk : Self) (image : List ℕ)
+        → MayLeave (state start) image → left_since start disk image };
 
-    ghost counts_now: { (start disk : Self) (image : List ℕ) → MayLeave (state disk) image → left_since start disk image };
+    ghost counts_now: { (start disk : Self) (image : List ℕ)
+        → MayLeave (state disk) image → left_since start disk image };
 
     // From a moment to itself there is no other.
-    ghost only_now: { (disk : Self) (image : List ℕ) → left_since disk disk image → MayLeave (state disk) image };
+    ghost only_now: { (disk : Self) (image : List ℕ)
+        → left_since disk disk image → MayLeave (state disk) image };
 }

@@ -34,7 +34,8 @@ fn behind_open_gate(rest: &[u8]) -> Option<&[u8]>
 /// The record that stands behind an open gate with a next gate, and how many bytes it takes.
 fn next_record(alloc: Global, behind: &[u8]) -> Result<Option<(Record, usize)>, NoMemory>
     ensures { IfOk result (λ found. MatchOption found (NoneStands behind.now)
-        (λ r. IsRecord r.0 × (r.1 < length behind.now) × (behind.now ≡ spelling r.0 ++ drop r.1 behind.now))) }
+        (λ r. IsRecord r.0 × (r.1 < length behind.now)
+        × (behind.now ≡ spelling r.0 ++ drop r.1 behind.now))) }
 {
     match decode(alloc, behind)? {
         None => Ok(None),

@@ -13,7 +13,7 @@ use tp_offices::{Authority, Master, NoMore};
 use tp_server::Server;
 use tp_types::{
     Actor, AdminId, CredId, Item, List, Mail, NoMemory, Place, Reaction, Scenario, ServerId, TxnId,
-    What,
+    What, both,
 };
 
 /// The table of locks that each server keeps.
@@ -37,11 +37,16 @@ impl Actors {
         requires txns { length scenario.now.txns < 2 ^ 32 }
         ensures { IfOk result (λ made. made ≡ machine.opened_actors scenario.now) }
     {
+        let servers = opened_servers(alloc, scenario);
+        let parts = both(servers, idle_coordinators(alloc, scenario));
+        let authority = Authority::opened(alloc, scenario);
+        let offices = both(authority, Master::opened(alloc, scenario));
+        let ((servers, coordinators), (authority, master)) = both(parts, offices)?;
         Ok(Actors {
-            servers: opened_servers(alloc, scenario)?,
-            coordinators: idle_coordinators(alloc, scenario)?,
-            authority: Authority::opened(alloc, scenario)?,
-            master: Master::opened(alloc, scenario)?,
+            servers,
+            coordinators,
+            authority,
+            master,
         })
     }
 

@@ -12,7 +12,7 @@ use tp_lock::LockTable;
 use tp_server::Server;
 use tp_types::{
     Letter, List, Mail, NoMemory, Place, Reaction, Record, Scenario, ServerId, TryClone, TxnId,
-    What,
+    What, both,
 };
 
 /// An actor's state, which is None while it is down, and the records of its write-ahead log.
@@ -90,8 +90,8 @@ pub fn server_takes<L: LockTable + Drop>(
         return Ok(no_act(alloc));
     };
     let Reaction { append, letters } = server.receive(alloc, scenario, mail)?;
-    let happened = server_facts(alloc, at, &append)?;
-    force(&mut part.log, append)?;
+    let happened = server_facts(alloc, at, &append);
+    let (happened, ()) = both(happened, force(&mut part.log, append))?;
     Ok(Act { happened, letters })
 }
 
@@ -111,8 +111,8 @@ pub fn coordinator_takes(
     };
     let Reaction { append, letters } = coordinator.receive(alloc, scenario, mail)?;
     let mut happened = List::new(alloc);
-    note_decision(alloc, &mut happened, &append)?;
-    force(&mut part.log, append)?;
+    let noted = note_decision(alloc, &mut happened, &append);
+    both(noted, force(&mut part.log, append))?;
     Ok(Act { happened, letters })
 }
 
@@ -137,8 +137,8 @@ pub fn coordinator_submits(
     };
     let Reaction { append, letters } = coordinator.submit(alloc, scenario)?;
     coordinator.placed(place);
-    note_decision(alloc, &mut happened, &append)?;
-    force(&mut part.log, append)?;
+    let noted = note_decision(alloc, &mut happened, &append);
+    both(noted, force(&mut part.log, append))?;
     Ok(Act { happened, letters })
 }
 

@@ -109,7 +109,8 @@ fn put_in_or(out: &mut Vec<u8>, member: &Cond) -> Result<(), NoMemory>
 #[cycle(printing)]
 fn put_and(out: &mut Vec<u8>, members: &[Cond]) -> Result<(), NoMemory>
     ensures { OnOk result
-        (out.new.items ≡ out.old.items ++ join_by (λ c. in_and (shown c)) (codes " and ") members.now) }
+        (out.new.items
+        ≡ out.old.items ++ join_by (λ c. in_and (shown c)) (codes " and ") members.now) }
 {
     let mut between: &[u8] = b"";
     for member in members {
@@ -123,7 +124,8 @@ fn put_and(out: &mut Vec<u8>, members: &[Cond]) -> Result<(), NoMemory>
 #[cycle(printing)]
 fn put_or(out: &mut Vec<u8>, members: &[Cond]) -> Result<(), NoMemory>
     ensures { OnOk result
-        (out.new.items ≡ out.old.items ++ join_by (λ c. in_or (shown c)) (codes " or ") members.now) }
+        (out.new.items
+        ≡ out.old.items ++ join_by (λ c. in_or (shown c)) (codes " or ") members.now) }
 {
     let mut between: &[u8] = b"";
     for member in members {

@@ -98,7 +98,8 @@ impl<'a> Reader<'a> {
     /// A word that was taken ends here.
     fn ends(&self, word: &[u8]) -> bool
         ensures { result
-            ≡ (readers.is_some_text word.now && not (lexis.in_word (lexis.first self.now.rest.now))) }
+            ≡ (readers.is_some_text word.now
+            && not (lexis.in_word (lexis.first self.now.rest.now))) }
     {
         !word.is_empty() && !self.is_in_word()
     }
@@ -106,7 +107,8 @@ impl<'a> Reader<'a> {
     /// The byte comes next, behind some word.
     fn comes_behind(&self, byte: u8, word: &[u8]) -> bool
         ensures { result
-            ≡ (readers.comes byte (lexis.first self.now.rest.now) && readers.is_some_text word.now) }
+            ≡ (readers.comes byte (lexis.first self.now.rest.now)
+            && readers.is_some_text word.now) }
     {
         self.comes(byte) && !word.is_empty()
     }

@@ -9,7 +9,7 @@ use crate::bytes::{Halt, Reader};
 use crate::spelled::Spelled;
 use tp_types::{
     AdminId, Cause, CommitRecord, Decided, Decision, Deed, Instance, List, No, NoMemory, Outcome,
-    Prepared, Record, Settled, Told, TxnId, Verdict, Version,
+    Prepared, Record, Settled, Told, TxnId, Verdict, Version, both,
 };
 
 impl Spelled for CommitRecord {
@@ -105,14 +105,21 @@ impl Spelled for Prepared {
 
     #[tactic(auto, unfolding(crate::specs::mirrors::Readings::prepared_at))]
     fn read_from(reader: &mut Reader<'_>) -> Result<Prepared, Halt> {
+        let txn = TxnId(u32::read_from(reader)?);
+        let age = u64::read_from(reader)?;
+        let epoch = u64::read_from(reader)?;
+        let turn = u32::read_from(reader)?;
+        let deeds = List::<Deed>::read_from(reader)?;
+        let lists = both(Ok(deeds), List::<Verdict>::read_from(reader))?;
+        let ((deeds, verdicts), told) = both(Ok(lists), List::<Version>::read_from(reader))?;
         Ok(Prepared {
-            txn: TxnId(u32::read_from(reader)?),
-            age: u64::read_from(reader)?,
-            epoch: u64::read_from(reader)?,
-            turn: u32::read_from(reader)?,
-            deeds: List::<Deed>::read_from(reader)?,
-            verdicts: List::<Verdict>::read_from(reader)?,
-            told: List::<Version>::read_from(reader)?,
+            txn,
+            age,
+            epoch,
+            turn,
+            deeds,
+            verdicts,
+            told,
         })
     }
 }

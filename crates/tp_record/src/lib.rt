@@ -55,7 +55,8 @@ pub fn decode(alloc: Global, bytes: &[u8]) -> Result<Option<(Record, usize)>, No
     ensures found { IfOk result (λ found. IfSome found (λ r. IsRecord r.0
         × (Begins bytes.now (spell.spelling r.0) × (r.1 ≡ length (spell.spelling r.0))))) }
     // A record whose spelling the bytes begin with is found.
-    ensures only { IfOk result (λ found. (r : Record) → IsRecord r → Begins bytes.now (spell.spelling r)
+    ensures only { IfOk result (λ found. (r : Record) → IsRecord r
+        → Begins bytes.now (spell.spelling r)
         → found ≡ Some (r, length (spell.spelling r))) }
     ensures none { IfOk result (λ found. IfNone found ((r : Record) → IsRecord r
         → ¬ Begins bytes.now (spell.spelling r))) }

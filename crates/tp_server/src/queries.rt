@@ -57,7 +57,9 @@ impl<L: LockTable + Drop> Server<L> {
         request: &QueryRequest,
     ) -> Result<Reaction, NoMemory>
         ensures { row.entry_at self.old request.now.txn ≡ None → IfOk result (λ reaction.
-            Gives (row.on_open_query scenario.now self.old sent request.now None) self.new reaction) }
+            Gives
+            (row.on_open_query scenario.now self.old sent request.now None)
+            self.new reaction) }
     {
         if request.epoch.is_some() {
             return self.restarts(alloc, request);

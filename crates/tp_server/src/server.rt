@@ -15,8 +15,8 @@ use tp_lock::LockTable;
 use tp_store::Store;
 use tp_types::{
     Actor, Body, Deed, DoneReply, Letter, List, Mail, NoMemory, Place, PushNotice, QueryRequest,
-    Reaction, Record, Scenario, ServerId, Settled, Told, TxnId, Verdict, ignored, none_for_each,
-    unbuilt,
+    Reaction, Record, Scenario, ServerId, Settled, Told, TxnId, Verdict, both, ignored,
+    none_for_each, unbuilt,
 };
 
 /// What a server voted YES on: the turn of the request, and its verdicts.
@@ -84,12 +84,15 @@ impl<L: LockTable + Drop> Server<L> {
         requires { L.table locks ≡ lock.opening (length scenario.now.items) }
         ensures { IfOk result (λ made. made ≡ opened.opening scenario.now server) }
     {
+        let settled = none_for_each(alloc, scenario.txns.len());
+        let tables = both(settled, none_for_each(alloc, scenario.txns.len()));
+        let (store, (settled, entries)) = both(Store::opened(alloc, scenario, server), tables)?;
         Ok(Server {
             server,
             epoch: 1,
-            store: Store::opened(alloc, scenario, server)?,
-            settled: none_for_each(alloc, scenario.txns.len())?,
-            entries: none_for_each(alloc, scenario.txns.len())?,
+            store,
+            settled,
+            entries,
             locks,
         })
     }

@@ -60,7 +60,8 @@ impl<L: LockTable + Drop> Server<L> {
         request: &PrepareRequest,
     ) -> Result<Reaction, NoMemory>
         requires { HasFewRules scenario.now }
-        ensures { IfOk result (λ reaction. (entry : Entry) → row.entry_at self.old request.now.txn ≡ Some entry
+        ensures { IfOk result (λ reaction. (entry : Entry)
+            → row.entry_at self.old request.now.txn ≡ Some entry
             → Gives
             (row.evaluates scenario.now self.old request.now entry request.now.staple)
             self.new reaction) }
@@ -85,7 +86,8 @@ impl<L: LockTable + Drop> Server<L> {
     /// The vote YES of a ballot.
     fn votes_again(&self, alloc: Global, txn: TxnId, cast: &Ballot) -> Result<Reaction, NoMemory>
         ensures { IfOk result (λ reaction.
-            reaction ≡ record { append = None; letters = row.yes_letter self.now txn cast.now ∷ [] }) }
+            reaction
+            ≡ record { append = None; letters = row.yes_letter self.now txn cast.now ∷ [] }) }
     {
         let vote = VoteReply {
             txn,
@@ -173,7 +175,8 @@ impl<L: LockTable + Drop> Server<L> {
     }
 
     fn votes(&mut self, alloc: Global, forced: Prepared) -> Result<Reaction, NoMemory>
-        ensures { IfOk result (λ reaction. (entry : Entry) → row.entry_at self.old forced.txn ≡ Some entry
+        ensures { IfOk result (λ reaction. (entry : Entry)
+            → row.entry_at self.old forced.txn ≡ Some entry
             → Gives (row.casts self.old forced entry) self.new reaction) }
     {
         let ballot = Ballot {

@@ -6,7 +6,7 @@ use crate::opening::{bounds_of, known_at_first, no_writes, opening_values};
 use crate::writes::{Bounds, TentativeWrite, apply, first_outside, keep, write_on};
 use std::alloc::Global;
 use std::marker::Model;
-use tp_types::{AdminId, ItemId, List, NoMemory, Scenario, ServerId, TxnId, Version};
+use tp_types::{AdminId, ItemId, List, NoMemory, Scenario, ServerId, TxnId, Version, both};
 
 /// Values, tentative writes and known versions. Contracts see them as lists.
 #[derive(Drop)]
@@ -30,11 +30,16 @@ impl Store {
     pub fn opened(alloc: Global, scenario: &Scenario, server: ServerId) -> Result<Store, NoMemory>
         ensures { IfOk result (λ made. made ≡ rule.opening scenario.now server) }
     {
+        let items = scenario.items.as_slice();
+        let of_items = both(bounds_of(alloc, items), opening_values(alloc, items));
+        let of_versions = known_at_first(alloc, scenario, server);
+        let others = both(of_versions, no_writes(alloc, scenario.txns.len()));
+        let ((bounds, values), (known, tentative)) = both(of_items, others)?;
         Ok(Store {
-            bounds: bounds_of(alloc, scenario.items.as_slice())?,
-            values: opening_values(alloc, scenario.items.as_slice())?,
-            known: known_at_first(alloc, scenario, server)?,
-            tentative: no_writes(alloc, scenario.txns.len())?,
+            bounds,
+            values,
+            known,
+            tentative,
         })
     }
 

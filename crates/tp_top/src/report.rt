@@ -43,7 +43,8 @@ fn put_facts(out: &mut Vec<u8>, scenario: &Scenario, facts: &List<Fact>) -> Resu
 
 fn put_servers(out: &mut Vec<u8>, scenario: &Scenario, ending: &Ending) -> Result<(), NoMemory>
     ensures { OnOk result
-        (out.new.items ≡ out.old.items ++ flat_map (server_lines scenario.now ending.now) scenario.now.servers) }
+        (out.new.items
+        ≡ out.old.items ++ flat_map (server_lines scenario.now ending.now) scenario.now.servers) }
 {
     for server in scenario.servers.as_slice() {
         put_server(out, scenario, ending, server)?;

@@ -52,7 +52,8 @@ pub fn tpvc<I: Source, O: Sink, N: Sink>(
     ensures complete { IsRun words.now → ¬ (Rose (I.faults input.old) (I.faults input.new))
         → ¬ (Rose (O.faults out.old) (O.faults out.new))
         → ¬ (Rose (N.faults notes.old) (N.faults notes.new))
-        → IfSome (I.left input.old) (λ bytes. EndsRightly bytes result (N.written notes.old) (N.written notes.new)) }
+        → IfSome (I.left input.old) (λ bytes.
+        EndsRightly bytes result (N.written notes.old) (N.written notes.new)) }
 
     // At every status at most one byte more than an input may have is read, and where the words are another command none is.
     ensures taken { TakesAtMost (input_max + 1) (I.left input.old) (I.left input.new) }

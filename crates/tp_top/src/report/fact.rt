@@ -114,7 +114,8 @@ fn put_abort(
     cause: &Cause,
 ) -> Result<(), NoMemory>
     ensures { OnOk result
-        (out.new.items ≡ out.old.items ++ decision_lines scenario.now txn (Decision.Abort cause.now)) }
+        (out.new.items
+        ≡ out.old.items ++ decision_lines scenario.now txn (Decision.Abort cause.now)) }
 {
     put(out, b"abort ")?;
     put_txn(out, scenario, txn)?;
@@ -131,7 +132,8 @@ fn put_settled(
     outcome: Outcome,
 ) -> Result<(), NoMemory>
     ensures { OnOk result
-        (out.new.items ≡ out.old.items ++ what_lines scenario.now (What.Settled server txn outcome)) }
+        (out.new.items
+        ≡ out.old.items ++ what_lines scenario.now (What.Settled server txn outcome)) }
 {
     put(out, b"settle ")?;
     put_server(out, scenario, server)?;
