@@ -6,7 +6,7 @@ use std::fs::{self, Files};
 use std::io::{self, ErrorKind};
 use tp_io::{MemorySink, MemorySource};
 use tp_top::tpvc;
-use tp_types::{List, Text};
+use tp_types::{List, Text, both};
 
 /// A line of the index: the name of a case, the length of its input where one is told, the status that it is to end with, and
 /// the words of the call.
@@ -88,14 +88,23 @@ fn input<R: Files + AllocGlobal>(rt: &R, folder: &str, case: &Case<'_>) -> io::R
 
 /// What a case wants: a whole report, or a line that says why there is none, or neither.
 fn wanted<R: Files + AllocGlobal>(rt: &R, folder: &str, case: &Case<'_>) -> io::Result<Ended> {
-    let status = String::from_str(rt.alloc(), case.status)?;
-    let mut out = Vec::new(rt.alloc());
-    let mut notes = Vec::new(rt.alloc());
-    match case.status {
-        "0" => out = file(rt, folder, case.name, "out")?,
-        "1" | "2" => notes = file(rt, folder, case.name, "err")?,
-        _ => {}
-    }
+    let alloc = rt.alloc();
+    let (out, notes) = match case.status {
+        "0" => (file(rt, folder, case.name, "out")?, Vec::new(alloc)),
+        "1" | "2" => {
+            let notes = file(rt, folder, case.name, "err")?;
+            (Vec::new(alloc), notes)
+        }
+        _ => (Vec::new(alloc), Vec::new(alloc)),
+    };
+    let status = String::from_str(alloc, case.status)?;
+    Ok(Ended { status, out, notes })
+}
+
+/// How a call with this status and these streams ended.
+fn ending_of(alloc: Global, status: u8, out: &[u8], notes: &[u8]) -> Result<Ended, AllocError> {
+    let streams = both(Vec::from_slice(alloc, out), Vec::from_slice(alloc, notes));
+    let (status, (out, notes)) = both(format!(in alloc; "{status}"), streams)?;
     Ok(Ended { status, out, notes })
 }
 
@@ -105,11 +114,13 @@ fn call(alloc: Global, words: &[Text], input: Vec<u8>) -> Result<Ended, AllocErr
     let mut out = MemorySink::new(alloc, List::new(alloc), 3);
     let mut notes = MemorySink::new(alloc, List::new(alloc), 3);
     let status = tpvc(alloc, words, &mut source, &mut out, &mut notes).number();
-    Ok(Ended {
-        status: format!(in alloc; "{status}")?,
-        out: Vec::from_slice(alloc, out.bytes())?,
-        notes: Vec::from_slice(alloc, notes.bytes())?,
-    })
+    ending_of(alloc, status, out.bytes(), notes.bytes())
+}
+
+/// How the top call ends on the input of a case.
+fn run<R: Files + AllocGlobal>(rt: &R, folder: &str, case: &Case<'_>) -> io::Result<Ended> {
+    let input = input(rt, folder, case)?;
+    Ok(call(rt.alloc(), case.words.as_slice(), input)?)
 }
 
 /// What is not as it is wanted, if something is not.
@@ -131,27 +142,41 @@ fn fault<R: Files + AllocGlobal>(
     folder: &str,
     case: &Case<'_>,
 ) -> io::Result<Option<&'static str>> {
-    let wanted = wanted(rt, folder, case)?;
-    let input = input(rt, folder, case)?;
-    let ended = call(rt.alloc(), case.words.as_slice(), input)?;
+    let (ended, wanted) = both(run(rt, folder, case), wanted(rt, folder, case))?;
     Ok(difference(&ended, &wanted))
 }
 
-fn main(rt: HostRuntime) -> io::Result<()> {
-    let (folder, index) = index(&rt)?;
+/// The name of the case of a line, where it has one, and what is not as it is wanted.
+fn tried<'a, R: Files + AllocGlobal>(
+    rt: &R,
+    folder: &str,
+    line: &'a str,
+) -> io::Result<Option<(&'a str, Option<&'static str>)>> {
+    let Some(case) = case_of(rt.alloc(), line)? else {
+        return Ok(None);
+    };
+    let why = fault(rt, folder, &case).unwrap_or(Some("no such file, no length, or no memory"));
+    Ok(Some((case.name, why)))
+}
+
+/// Tries the case of each line, and says which failed, and how many.
+fn try_all(rt: &HostRuntime, folder: &str, index: &str) -> io::Result<()> {
     let mut passed: u64 = 0;
     let mut failed: u64 = 0;
-    for line in index.as_str().lines() {
-        let Some(case) = case_of(rt.alloc(), line)? else {
-            continue;
-        };
-        match fault(&rt, folder, &case).unwrap_or(Some("no such file, no length, or no memory")) {
-            None => passed = passed.saturating_add(1),
-            Some(why) => {
+    for line in index.lines() {
+        match tried(rt, folder, line)? {
+            None => {}
+            Some((_, None)) => passed = passed.saturating_add(1),
+            Some((name, Some(why))) => {
                 failed = failed.saturating_add(1);
-                println!(rt; "{}: {why}", case.name)?;
+                println!(rt; "{name}: {why}")?;
             }
         }
     }
     println!(rt; "{passed} passed, {failed} failed")
+}
+
+fn main(rt: HostRuntime) -> io::Result<()> {
+    let (folder, index) = index(&rt)?;
+    try_all(&rt, folder, index.as_str())
 }

@@ -1,5 +1,7 @@
 //! Each way to break agreement, and histories that keep it.
-use crate::audit::{BACK, Case, EVES, NOTHING, PAY, Said, Story, Why, history, scenario};
+use crate::audit::{
+    BACK, Case, EVES, NOTHING, PAY, Said, Story, Why, assert_judged, history, scenario,
+};
 use std::process::Abort;
 use tp_audit::{is_agreed, keeps_agreement};
 use tp_types::{Actor, Fact, List, Outcome, Scenario};
@@ -227,10 +229,13 @@ fn first_breach(scenario: &Scenario, facts: &List<Fact>) -> Option<usize> {
 fn judged(rt: &(impl Abort + AllocGlobal), story: Story) -> (Option<usize>, bool) {
     let scenario = scenario(rt);
     let facts = history(rt, story);
-    (
+    let judged = (
         first_breach(&scenario, &facts),
         is_agreed(&scenario, &facts),
-    )
+    );
+    drop(facts);
+    drop(scenario);
+    judged
 }
 
 fn cases() -> &'static [Case] {
@@ -240,8 +245,6 @@ fn cases() -> &'static [Case] {
 #[test]
 fn agrees(rt: HostRuntime) {
     for (at, (story, breach)) in cases().iter().enumerate() {
-        let (first, agreed) = judged(&rt, story);
-        assert_eq!(rt; first, *breach, "case {at}");
-        assert_eq!(rt; agreed, breach.is_none(), "case {at}");
+        assert_judged(&rt, at, judged(&rt, story), *breach);
     }
 }

@@ -1,6 +1,7 @@
 //! Aborts whose causes a history shows, and each way in which it does not.
 use crate::audit::{
-    BACK, BOBS, Case, EVES, HR, IT, NOTHING, PAY, SURE, Said, Story, Why, history, scenario,
+    BACK, BOBS, Case, EVES, HR, IT, NOTHING, PAY, SURE, Said, Story, Why, assert_judged, history,
+    scenario,
 };
 use std::process::Abort;
 use tp_audit::{is_caused, keeps_causes};
@@ -25,7 +26,7 @@ const THIRD: Denied = Denied {
     ..DENIAL
 };
 
-const CASES: &[Case] = &[
+const DENIALS: &[Case] = &[
     // eve has no role, at each place between
     (
         &[
@@ -239,6 +240,14 @@ const CASES: &[Case] = &[
         ],
         None,
     ),
+];
+
+#[test]
+fn shows_denials(rt: HostRuntime) {
+    decide(&rt, DENIALS);
+}
+
+const CASES: &[Case] = &[
     // a server of it crashed between
     (
         &[
@@ -372,20 +381,28 @@ fn first_breach(
     None
 }
 
+/// Whether all facts of a history are caused.
+fn are_caused(rt: &(impl Abort + AllocGlobal), scenario: &Scenario, facts: &List<Fact>) -> bool {
+    is_caused(rt.alloc(), scenario, facts).expect(rt, "memory for a store")
+}
+
 /// The first fact of a history that does not keep causes, and whether all are caused.
 fn judged(rt: &(impl Abort + AllocGlobal), story: Story) -> (Option<usize>, bool) {
     let scenario = scenario(rt);
     let facts = history(rt, story);
-    let caused = is_caused(rt.alloc(), &scenario, &facts).expect(rt, "memory for a store");
-    (first_breach(rt, &scenario, &facts), caused)
+    let judged = (
+        first_breach(rt, &scenario, &facts),
+        are_caused(rt, &scenario, &facts),
+    );
+    drop(facts);
+    drop(scenario);
+    judged
 }
 
 /// Judges each history as a whole and fact by fact.
 pub fn decide(rt: &(impl Abort + AllocGlobal), cases: &[Case]) {
     for (at, (story, breach)) in cases.iter().enumerate() {
-        let (first, caused) = judged(rt, story);
-        assert_eq!(rt; first, *breach, "case {at}");
-        assert_eq!(rt; caused, breach.is_none(), "case {at}");
+        assert_judged(rt, at, judged(rt, story), *breach);
     }
 }
 

@@ -38,7 +38,7 @@ const LEFT_MOST: Basis = Basis {
     ..NOTHING
 };
 
-const CASES: &[Case] = &[
+const VALUES: &[Case] = &[
     // the last write of x is out of its range, and so is that of the run
     (
         &[
@@ -208,7 +208,15 @@ const CASES: &[Case] = &[
         ],
         Some(2),
     ),
-    // which is taken where a server of it crashed between the submission and the first abort
+];
+
+#[test]
+fn shows_values(rt: HostRuntime) {
+    decide(&rt, VALUES);
+}
+
+const CASES: &[Case] = &[
+    // the value of the run is taken where a server of it crashed between the submission and the first abort
     (
         &[
             (0, Said::Submit(OVER)),

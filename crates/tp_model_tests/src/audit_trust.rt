@@ -62,17 +62,20 @@ fn first_strange(scenario: &Scenario, facts: &List<Fact>, trial: &Trial) -> Opti
 fn judged(rt: &(impl Abort + AllocGlobal), trial: &Trial) -> (bool, Option<usize>) {
     let scenario = scenario(rt);
     let facts = facts(rt, trial);
-    (
+    let judged = (
         is_trusted(&scenario, &facts),
         first_strange(&scenario, &facts, trial),
-    )
+    );
+    drop(facts);
+    drop(scenario);
+    judged
 }
 
 fn decide(rt: &(impl Abort + AllocGlobal), trials: &[Trial]) {
     for (at, trial) in trials.iter().enumerate() {
         let (trusted, strange) = judged(rt, trial);
-        assert_eq!(rt; trusted, trial.trusted, "trial {at}");
-        assert_eq!(rt; strange, None, "trial {at}");
+        assert!(rt; trusted == trial.trusted, "trial {at}");
+        assert!(rt; strange.is_none(), "trial {at}");
     }
 }
 
@@ -189,7 +192,7 @@ fn demands_one_proof_of_each_query(rt: HostRuntime) {
 // ---- proofs
 
 /// PAY, with this proof of its write.
-const PROOFS: &[Trial] = &[
+const PROVERS: &[Trial] = &[
     // another server or administrator than the item's
     Trial {
         evidence: &[Evidence {
@@ -270,6 +273,14 @@ const PROOFS: &[Trial] = &[
         }],
         ..UNPAID
     },
+];
+
+#[test]
+fn wants_proofs_of_the_item_and_its_rule(rt: HostRuntime) {
+    decide(&rt, PROVERS);
+}
+
+const USES: &[Trial] = &[
     // nothing is used, more than is needed, what another subject or issuer has, what is not presented, and what is not declared
     Trial {
         evidence: &[Evidence {
@@ -362,6 +373,14 @@ const PROOFS: &[Trial] = &[
         }],
         ..UNPAID
     },
+];
+
+#[test]
+fn wants_uses_of_what_is_presented(rt: HostRuntime) {
+    decide(&rt, USES);
+}
+
+const PLACES: &[Trial] = &[
     // at the submission, just after it, just before the decision, and at it
     Trial {
         evidence: &[Evidence {
@@ -395,7 +414,7 @@ const PROOFS: &[Trial] = &[
 
 #[test]
 fn wants_proofs_that_are_true(rt: HostRuntime) {
-    decide(&rt, PROOFS);
+    decide(&rt, PLACES);
 }
 
 // ---- credentials
@@ -512,7 +531,7 @@ const MIXED: &[Evidence] = &[Evidence {
     ],
 }];
 
-const VERSIONS: &[Trial] = &[
+const PUBLISHED: &[Trial] = &[
     // published before the decision, at its place, and after it
     Trial {
         before: &[(4, Said::Publish(HR, 2))],
@@ -567,6 +586,14 @@ const VERSIONS: &[Trial] = &[
         }],
         ..UNPAID
     },
+];
+
+#[test]
+fn wants_versions_that_were_published(rt: HostRuntime) {
+    decide(&rt, PUBLISHED);
+}
+
+const VERSIONS: &[Trial] = &[
     // the third denies all, the library has no fourth, and no version is 0
     Trial {
         before: &[(1, Said::Publish(HR, 2)), (1, Said::Publish(HR, 3))],

@@ -209,13 +209,31 @@ fn mail(body: Body) -> Mail {
 }
 
 fn is_cloned(rt: &(impl Abort + AllocGlobal), mail: &Mail) -> bool {
-    mail.try_clone(rt.alloc()).is_ok()
+    match mail.try_clone(rt.alloc()) {
+        Ok(copy) => {
+            drop(copy);
+            true
+        }
+        Err(_refused) => false,
+    }
 }
 
 /// Whether the mail of a body is cloned.
 fn is_mailed_twice(rt: &(impl Abort + AllocGlobal), body: Body) -> bool {
     let mail = mail(body);
-    is_cloned(rt, &mail)
+    let cloned = is_cloned(rt, &mail);
+    drop(mail);
+    cloned
+}
+
+fn is_taken_twice(rt: &(impl Abort + AllocGlobal), reaction: &Reaction) -> bool {
+    match reaction.try_clone(rt.alloc()) {
+        Ok(copy) => {
+            drop(copy);
+            true
+        }
+        Err(_refused) => false,
+    }
 }
 
 /// Whether the reaction that appends a record is cloned.
@@ -224,10 +242,9 @@ fn is_appended_twice(rt: &(impl Abort + AllocGlobal), forced: Record) -> bool {
         append: Some(forced),
         letters: List::new(rt.alloc()),
     };
-    match reaction.try_clone(rt.alloc()) {
-        Ok(_copy) => true,
-        Err(_refused) => false,
-    }
+    let cloned = is_taken_twice(rt, &reaction);
+    drop(reaction);
+    cloned
 }
 
 fn is_read_twice(rt: &(impl Abort + AllocGlobal)) -> bool {

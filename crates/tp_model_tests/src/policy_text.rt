@@ -328,13 +328,24 @@ fn bounds_the_length(rt: HostRuntime) {
     }
 }
 
+/// How many bytes the short rules have as they stand, and as they are printed.
+fn lengths_of_short_rules(rt: &(impl Abort + AllocGlobal)) -> (usize, usize) {
+    let rules = short_rules(rt);
+    let printed = printed_of(rt, rules.as_slice());
+    (rules.len(), printed.len())
+}
+
+/// The refusal of what is printed of the short rules.
+fn refusal_of_short_rules(rt: &(impl Abort + AllocGlobal)) -> Option<ParseError> {
+    let rules = short_rules(rt);
+    reread_refusal_of(rt, rules.as_slice())
+}
+
 /// Rules that fit as they stand, and do not as they are printed.
 #[test]
 fn prints_more_than_it_reads(rt: HostRuntime) {
-    let rules = short_rules(&rt);
-    assert_eq!(rt; rules.len(), 4095);
-    assert_eq!(rt; printed_of(&rt, rules.as_slice()).len(), 4680);
-    let refusal = reread_refusal_of(&rt, rules.as_slice());
+    assert_eq!(rt; lengths_of_short_rules(&rt), (4095, 4680));
+    let refusal = refusal_of_short_rules(&rt);
     assert_refused(&rt, SHORT_RULE, refusal, ParseError::TooLong);
 }
 

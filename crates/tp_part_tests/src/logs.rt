@@ -1,5 +1,5 @@
 //! Logs on disks in memory.
-use crate::log_images::{Gives, IMAGES, Image};
+use crate::log_images::{BROKEN, EMPTY, GIVING, Image};
 use crate::record_kinds::{cases, long};
 use std::process::Abort;
 use tp_device::{Disk, DiskError, MemoryDisk};
@@ -23,6 +23,7 @@ fn disk_of(rt: &(impl Abort + AllocGlobal), bytes: &[u8]) -> MemoryDisk {
 fn bytes_of(rt: &(impl Abort + AllocGlobal), mut disk: MemoryDisk) -> Vec<u8> {
     let mut bytes = vec![in rt.alloc(); 0; disk.len() as usize].expect(rt, "memory");
     disk.read(0, &mut bytes).expect(rt, "a read");
+    drop(disk);
     bytes
 }
 
@@ -49,19 +50,27 @@ fn opened(rt: &(impl Abort + AllocGlobal), disk: MemoryDisk) -> (Log<MemoryDisk>
 fn fresh_log(rt: &(impl Abort + AllocGlobal)) -> Log<MemoryDisk> {
     let (log, none) = opened(rt, fresh(rt));
     assert!(rt; none.is_empty());
+    drop(none);
     log
 }
 
 /// How many records the log on this disk has.
 fn count_of(rt: &(impl Abort + AllocGlobal), disk: MemoryDisk) -> usize {
-    let (_, records) = opened(rt, disk);
-    records.len()
+    let (log, records) = opened(rt, disk);
+    let count = records.len();
+    drop(records);
+    drop(log);
+    count
 }
 
 /// The place at which these bytes are no log, or none where they are one.
 fn fails_at(rt: &(impl Abort + AllocGlobal), bytes: &[u8]) -> Option<u64> {
     match Log::opened(rt.alloc(), disk_of(rt, bytes)) {
-        Ok(_) => None,
+        Ok((log, records)) => {
+            drop(records);
+            drop(log);
+            None
+        }
         Err(LogError::NotALog { place }) => Some(place),
         Err(error) => panic!(rt; "{error:?}"),
     }
@@ -96,27 +105,44 @@ fn a_log_has_the_bytes_of_the_format(rt: HostRuntime) {
     assert_eq!(rt; count_of(&rt, disk_of(&rt, &two)), 2);
 }
 
-/// Whether an image gives what was recorded.
-fn is_as_recorded(rt: &(impl Abort + AllocGlobal), image: &Image) -> bool {
-    match image.gives {
-        Gives::NotALog(place) => fails_at(rt, image.bytes) == Some(place),
-        Gives::Bodies(bodies) => {
-            let (_, records) = opened(rt, disk_of(rt, image.bytes));
-            bodies_of(rt, &records).as_slice() == bodies
-        }
-    }
+/// The bodies of the records that an image gives, one after the other.
+fn bodies_in(rt: &(impl Abort + AllocGlobal), bytes: &[u8]) -> Vec<u8> {
+    let (log, records) = opened(rt, disk_of(rt, bytes));
+    let bodies = bodies_of(rt, &records);
+    drop(records);
+    drop(log);
+    bodies
+}
+
+fn gives(rt: &(impl Abort + AllocGlobal), bytes: &[u8], bodies: &[u8]) -> bool {
+    bodies_in(rt, bytes).as_slice() == bodies
 }
 
 #[test]
 fn images_give_what_was_recorded(rt: HostRuntime) {
-    for (number, image) in IMAGES.iter().enumerate() {
-        assert!(rt; is_as_recorded(&rt, image), "{number}");
+    for (number, Image { bytes, bodies }) in GIVING.iter().enumerate() {
+        assert!(rt; gives(&rt, bytes, bodies), "{number}");
+    }
+}
+
+#[test]
+fn images_without_a_record_give_nothing(rt: HostRuntime) {
+    for (number, bytes) in EMPTY.iter().enumerate() {
+        assert!(rt; gives(&rt, bytes, &[]), "{number}");
+    }
+}
+
+#[test]
+fn images_that_are_no_log_are_refused(rt: HostRuntime) {
+    for (number, (bytes, place)) in BROKEN.iter().enumerate() {
+        assert!(rt; fails_at(&rt, bytes) == Some(*place), "{number}");
     }
 }
 
 /// Crashes after so many calls of an append to a log of one record, and answers how many records are found.
 fn found_after(rt: &(impl Abort + AllocGlobal), r: &Record, calls: u32, fill: u8) -> usize {
-    let (log, _) = opened(rt, disk_of(rt, &[1, 0, 0, 0, 1, 1, 0]));
+    let (log, records) = opened(rt, disk_of(rt, &[1, 0, 0, 0, 1, 1, 0]));
+    drop(records);
     match log.crashed_in_append(rt.alloc(), r, calls, fill) {
         Ok(disk) => count_of(rt, disk),
         Err(error) => panic!(rt; "{error:?}"),
@@ -136,27 +162,44 @@ fn is_kept_by_its_gate(rt: &(impl Abort + AllocGlobal), r: &Record) {
 
 #[test]
 fn a_crash_keeps_a_record_whose_gate_is_open(rt: HostRuntime) {
-    let all = cases(rt.alloc()).expect(&rt, "memory for records");
+    let all = cases(&rt);
     for case in all.as_slice() {
         is_kept_by_its_gate(&rt, &case.record);
     }
+    drop(all);
+}
+
+/// An append to a log whose disk takes so many calls more is refused so.
+fn append_is_refused(
+    rt: &(impl Abort + AllocGlobal),
+    log: &mut Log<MemoryDisk>,
+    calls: u32,
+    error: LogError,
+) {
+    log.stop_after(calls);
+    assert_eq!(rt; log.append(rt.alloc(), &Record::Boot), Err(error));
 }
 
 /// Appends to a log whose disk refuses a call, and again when the disk takes all.
 fn appends_are_refused(rt: &(impl Abort + AllocGlobal), calls: u32) {
     let mut log = fresh_log(rt);
-    log.stop_after(calls);
-    let boot = Record::Boot;
-    assert_eq!(rt; log.append(rt.alloc(), &boot), Err(LogError::Device));
-    log.stop_after(4);
-    assert_eq!(rt; log.append(rt.alloc(), &boot), Err(LogError::Closed));
+    append_is_refused(rt, &mut log, calls, LogError::Device);
+    append_is_refused(rt, &mut log, 4, LogError::Closed);
+    drop(log);
 }
 
 /// Whether no log opens on a fresh disk that stops after so many calls.
 fn opening_is_refused(rt: &(impl Abort + AllocGlobal), calls: u32) -> bool {
     let mut fresh = fresh(rt);
     fresh.stop_after(calls);
-    matches!(Log::opened(rt.alloc(), fresh), Err(LogError::Device))
+    match Log::opened(rt.alloc(), fresh) {
+        Ok((log, records)) => {
+            drop(records);
+            drop(log);
+            false
+        }
+        Err(error) => error == LogError::Device,
+    }
 }
 
 fn calls_of_a_disk_are_refused(rt: &(impl Abort + AllocGlobal)) {
@@ -180,14 +223,26 @@ fn each_refused_call_is_answered(rt: HostRuntime) {
     calls_of_a_disk_are_refused(&rt);
 }
 
+/// Appends a vote with so many deeds and versions.
+fn appended(
+    rt: &(impl Abort + AllocGlobal),
+    log: &mut Log<MemoryDisk>,
+    deeds: usize,
+    versions: usize,
+) -> Result<(), LogError> {
+    let record = long(rt, deeds, versions);
+    let appended = log.append(rt.alloc(), &record);
+    drop(record);
+    appended
+}
+
 #[test]
 fn a_body_of_one_mebibyte_fits(rt: HostRuntime) {
     let mut log = fresh_log(&rt);
-    let longest = long(rt.alloc(), 3, 262_115).expect(&rt, "memory for a record");
-    let longer = long(rt.alloc(), 0, 262_134).expect(&rt, "memory for a record");
-    assert_eq!(rt; log.append(rt.alloc(), &longer), Err(LogError::TooLong));
-    assert_eq!(rt; log.append(rt.alloc(), &longest), Ok(()));
+    assert_eq!(rt; appended(&rt, &mut log, 0, 262_134), Err(LogError::TooLong));
+    assert_eq!(rt; appended(&rt, &mut log, 3, 262_115), Ok(()));
     assert_eq!(rt; log.disk().len(), 1_048_578);
+    drop(log);
 }
 
 #[test]

@@ -92,10 +92,14 @@ fn tells_now(
     clock: u64,
     revoked: &[u32],
 ) -> bool {
+    let mail = asked();
     let reaction = authority
-        .receive(rt.alloc(), &asked())
+        .receive(rt.alloc(), &mail)
         .expect(rt, "memory for a letter");
-    tells(&reaction, clock, revoked)
+    let tells = tells(&reaction, clock, revoked);
+    drop(reaction);
+    drop(mail);
+    tells
 }
 
 /// Does what is to be done, on a clock that is small.
@@ -116,14 +120,18 @@ fn plays(rt: &(impl Abort + AllocGlobal), authority: &mut Authority, act: &Act) 
 
 /// An authority of the small scenario.
 fn authority(rt: &(impl Abort + AllocGlobal)) -> Authority {
-    let scenario = small(rt).expect(rt, "memory for a scenario");
-    Authority::opened(rt.alloc(), &scenario).expect(rt, "memory for an authority")
+    let scenario = small(rt);
+    let authority = Authority::opened(rt.alloc(), &scenario).expect(rt, "memory for an authority");
+    drop(scenario);
+    authority
 }
 
 /// A master of the small scenario.
 fn master(rt: &(impl Abort + AllocGlobal)) -> Master {
-    let scenario = small(rt).expect(rt, "memory for a scenario");
-    Master::opened(rt.alloc(), &scenario).expect(rt, "memory for a master")
+    let scenario = small(rt);
+    let master = Master::opened(rt.alloc(), &scenario).expect(rt, "memory for a master");
+    drop(scenario);
+    master
 }
 
 /// Whether a reaction is none.
@@ -132,19 +140,25 @@ fn is_nothing(reaction: &Reaction) -> bool {
 }
 
 /// Whether the authority answers nothing.
-fn authority_ignores(rt: &(impl Abort + AllocGlobal), authority: &Authority, mail: &Mail) -> bool {
+fn authority_ignores(rt: &(impl Abort + AllocGlobal), authority: &Authority, mail: Mail) -> bool {
     let reaction = authority
-        .receive(rt.alloc(), mail)
+        .receive(rt.alloc(), &mail)
         .expect(rt, "memory for a letter");
-    is_nothing(&reaction)
+    let nothing = is_nothing(&reaction);
+    drop(reaction);
+    drop(mail);
+    nothing
 }
 
 /// Whether the master answers nothing.
-fn master_ignores(rt: &(impl Abort + AllocGlobal), master: &Master, mail: &Mail) -> bool {
+fn master_ignores(rt: &(impl Abort + AllocGlobal), master: &Master, mail: Mail) -> bool {
     let reaction = master
-        .receive(rt.alloc(), mail)
+        .receive(rt.alloc(), &mail)
         .expect(rt, "memory for a letter");
-    is_nothing(&reaction)
+    let nothing = is_nothing(&reaction);
+    drop(reaction);
+    drop(mail);
+    nothing
 }
 
 /// Whether a reaction is the one letter Newest to that coordinator, with these versions.
@@ -163,10 +177,14 @@ fn tells_newest(reaction: &Reaction, newest: &[Version]) -> bool {
 
 /// Whether the master tells these versions.
 fn is_told(rt: &(impl Abort + AllocGlobal), master: &Master, newest: &[Version]) -> bool {
+    let mail = probed();
     let reaction = master
-        .receive(rt.alloc(), &probed())
+        .receive(rt.alloc(), &mail)
         .expect(rt, "memory for a letter");
-    tells_newest(&reaction, newest)
+    let tells = tells_newest(&reaction, newest);
+    drop(reaction);
+    drop(mail);
+    tells
 }
 
 /// Whether a reaction is one letter that pushes this version of the first administrator to the second server.
@@ -190,7 +208,9 @@ fn is_pushed(rt: &(impl Abort + AllocGlobal), master: &Master, version: Version)
     let reaction = master
         .push(rt.alloc(), AdminId(0), ServerId(1))
         .expect(rt, "memory for a letter");
-    pushes(&reaction, version)
+    let pushes = pushes(&reaction, version);
+    drop(reaction);
+    pushes
 }
 
 #[test]
@@ -200,14 +220,16 @@ fn tells_the_clock_and_the_revocations_in_order(rt: HostRuntime) {
         let holds = plays(&rt, &mut authority, done);
         assert!(rt; holds, "act {at}");
     }
-    assert!(rt; authority_ignores(&rt, &authority, &probed()));
+    assert!(rt; authority_ignores(&rt, &authority, probed()));
+    drop(authority);
 }
 
 #[test]
 fn tells_the_opening_versions(rt: HostRuntime) {
     let master = master(&rt);
     assert!(rt; is_told(&rt, &master, &[Version(3), Version(1)]));
-    assert!(rt; master_ignores(&rt, &master, &asked()));
+    assert!(rt; master_ignores(&rt, &master, asked()));
+    drop(master);
 }
 
 #[test]
@@ -219,6 +241,7 @@ fn publishes_up_to_the_last_version(rt: HostRuntime) {
     assert!(rt; master.publish(AdminId(1)).is_err());
     assert!(rt; master.publish(AdminId(2)).is_err());
     assert!(rt; is_told(&rt, &master, &[Version(5), Version(1)]));
+    drop(master);
 }
 
 #[test]
@@ -226,4 +249,5 @@ fn pushes_the_newest_version(rt: HostRuntime) {
     let mut master = master(&rt);
     assert!(rt; master.publish(AdminId(0)).is_ok());
     assert!(rt; is_pushed(&rt, &master, Version(4)));
+    drop(master);
 }

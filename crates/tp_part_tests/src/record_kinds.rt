@@ -1,10 +1,11 @@
 //! A record of each kind, with its bytes.
 use crate::record_bytes;
-use std::alloc::Global;
+use crate::small_scenario::list;
+use std::process::Abort;
 use tp_types::{
     Action, AdminId, Cause, CommitRecord, CredId, Decided, Decision, Deed, Denied, Died, Instance,
-    ItemId, List, Met, Newer, No, NoMemory, OutOfRange, Outcome, Prepared, Record, ServerId,
-    Settled, Told, TxnId, Verdict, Version,
+    ItemId, List, Met, Newer, No, OutOfRange, Outcome, Prepared, Record, ServerId, Settled, Told,
+    TxnId, Verdict, Version,
 };
 
 /// A record, and the bytes that the format gives it.
@@ -35,19 +36,19 @@ fn deed(action: Action, value: i128) -> Deed {
     }
 }
 
-fn prepared(alloc: Global) -> Result<Record, NoMemory> {
-    let mut told = List::of_one(alloc, Version(8))?;
-    told.push(Version(9))?;
-    let uses = List::of_one(alloc, CredId(7))?;
-    Ok(Record::Prepared(Prepared {
+fn prepared(rt: &(impl Abort + AllocGlobal)) -> Record {
+    let uses = list(rt, [CredId(7)]);
+    let verdicts = list(rt, [verdict(Some(6), uses)]);
+    let told = list(rt, [Version(8), Version(9)]);
+    Record::Prepared(Prepared {
         txn: TxnId(1),
         age: 0x0102_0304_0506_0708,
         epoch: 2,
         turn: 3,
-        deeds: List::of_one(alloc, deed(Action::Write, 5))?,
-        verdicts: List::of_one(alloc, verdict(Some(6), uses))?,
+        deeds: list(rt, [deed(Action::Write, 5)]),
+        verdicts,
         told,
-    }))
+    })
 }
 
 fn settled(outcome: Outcome, why: Option<No>) -> Record {
@@ -65,22 +66,21 @@ fn decided(decision: Decision) -> Record {
     })
 }
 
-fn commit(alloc: Global) -> Result<Record, NoMemory> {
+fn commit(rt: &(impl Abort + AllocGlobal)) -> Record {
     let seen = Instance {
         reading: Some(9),
-        proofs: List::new(alloc),
+        proofs: list(rt, []),
     };
     let unseen = Instance {
         reading: None,
-        proofs: List::of_one(alloc, verdict(None, List::new(alloc)))?,
+        proofs: list(rt, [verdict(None, list(rt, []))]),
     };
-    let mut instances = List::of_one(alloc, seen)?;
-    instances.push(unseen)?;
-    Ok(decided(Decision::Commit(CommitRecord {
+    let instances = list(rt, [seen, unseen]);
+    decided(Decision::Commit(CommitRecord {
         rounds: 1,
         instances,
-        deeds: List::of_one(alloc, deed(Action::Read, -2))?,
-    })))
+        deeds: list(rt, [deed(Action::Read, -2)]),
+    }))
 }
 
 fn aborted(cause: Cause) -> Record {
@@ -106,14 +106,14 @@ fn died() -> Cause {
     })
 }
 
-fn rounds(alloc: Global) -> Result<Cause, NoMemory> {
+fn rounds(rt: &(impl Abort + AllocGlobal)) -> Cause {
     let met = Met {
         admin: AdminId(1),
         used: Version(2),
         newest: Version(3),
         place: 4,
     };
-    Ok(Cause::Rounds(List::of_one(alloc, met)?))
+    Cause::Rounds(list(rt, [met]))
 }
 
 fn newer() -> Cause {
@@ -132,78 +132,74 @@ fn out_of_range() -> Cause {
     })
 }
 
-fn add(cases: &mut List<Case>, bytes: &'static [u8], record: Record) -> Result<(), NoMemory> {
-    cases.push(Case { record, bytes })
-}
-
-fn add_plain(cases: &mut List<Case>) -> Result<(), NoMemory> {
-    let told = Told {
+fn told() -> Record {
+    Record::Told(Told {
         admin: AdminId(0),
         version: Version(2),
-    };
-    let range = No::Range {
-        query: 2,
-        value: -1,
-    };
-    add(cases, record_bytes::BOOT, Record::Boot)?;
-    add(cases, record_bytes::TOLD, Record::Told(told))?;
-    add(
-        cases,
-        record_bytes::SETTLED_COMMIT,
-        settled(Outcome::Commit, None),
-    )?;
-    add(
-        cases,
-        record_bytes::SETTLED_RANGE,
-        settled(Outcome::Abort, Some(range)),
-    )?;
-    add(
-        cases,
-        record_bytes::SETTLED_RESTARTED,
-        settled(Outcome::Abort, Some(No::Restarted)),
-    )
+    })
 }
 
-fn add_aborts(cases: &mut List<Case>) -> Result<(), NoMemory> {
-    add(cases, record_bytes::DENIED, aborted(denied()))?;
-    add(cases, record_bytes::OUT_OF_RANGE, aborted(out_of_range()))?;
-    add(cases, record_bytes::DIED, aborted(died()))?;
-    add(cases, record_bytes::NEWER, aborted(newer()))?;
-    let restarted = Cause::Restarted {
+fn range() -> No {
+    No::Range {
+        query: 2,
+        value: -1,
+    }
+}
+
+fn restarted() -> Cause {
+    Cause::Restarted {
         server: ServerId(2),
-    };
-    add(cases, record_bytes::RESTARTED, aborted(restarted))?;
-    add(cases, record_bytes::HALTED, aborted(Cause::Halted))
+    }
+}
+
+fn with_bytes(bytes: &'static [u8], record: Record) -> Case {
+    Case { record, bytes }
 }
 
 /// A record of each kind, of each cause and of each way to settle.
-pub fn cases(alloc: Global) -> Result<List<Case>, NoMemory> {
-    let mut cases = List::new(alloc);
-    add_plain(&mut cases)?;
-    add(&mut cases, record_bytes::PREPARED, prepared(alloc)?)?;
-    add(&mut cases, record_bytes::DECIDED_COMMIT, commit(alloc)?)?;
-    add_aborts(&mut cases)?;
-    add(&mut cases, record_bytes::ROUNDS, aborted(rounds(alloc)?))?;
-    Ok(cases)
+pub fn cases(rt: &(impl Abort + AllocGlobal)) -> List<Case> {
+    list(
+        rt,
+        [
+            with_bytes(record_bytes::BOOT, Record::Boot),
+            with_bytes(record_bytes::TOLD, told()),
+            with_bytes(record_bytes::SETTLED_COMMIT, settled(Outcome::Commit, None)),
+            with_bytes(
+                record_bytes::SETTLED_RANGE,
+                settled(Outcome::Abort, Some(range())),
+            ),
+            with_bytes(
+                record_bytes::SETTLED_RESTARTED,
+                settled(Outcome::Abort, Some(No::Restarted)),
+            ),
+            with_bytes(record_bytes::PREPARED, prepared(rt)),
+            with_bytes(record_bytes::DECIDED_COMMIT, commit(rt)),
+            with_bytes(record_bytes::DENIED, aborted(denied())),
+            with_bytes(record_bytes::OUT_OF_RANGE, aborted(out_of_range())),
+            with_bytes(record_bytes::DIED, aborted(died())),
+            with_bytes(record_bytes::NEWER, aborted(newer())),
+            with_bytes(record_bytes::RESTARTED, aborted(restarted())),
+            with_bytes(record_bytes::HALTED, aborted(Cause::Halted)),
+            with_bytes(record_bytes::ROUNDS, aborted(rounds(rt))),
+        ],
+    )
+}
+
+fn repeated<T: Copy + Drop>(rt: &(impl Abort + AllocGlobal), member: T, count: usize) -> List<T> {
+    List::from_vec(vec![in rt.alloc(); member; count].expect(rt, "memory for a list"))
 }
 
 /// A vote whose body has 41 bytes, 25 more for each deed and 4 more for each version.
-pub fn long(alloc: Global, deeds: u32, versions: u32) -> Result<Record, NoMemory> {
-    let mut written = List::new(alloc);
-    for _ in 0..deeds {
-        written.push(deed(Action::Write, 1))?;
-    }
-    let mut told = List::new(alloc);
-    for _ in 0..versions {
-        told.push(Version(1))?;
-    }
-    Ok(Record::Prepared(Prepared {
+pub fn long(rt: &(impl Abort + AllocGlobal), deeds: usize, versions: usize) -> Record {
+    let deeds = repeated(rt, deed(Action::Write, 1), deeds);
+    let told = repeated(rt, Version(1), versions);
+    Record::Prepared(Prepared {
         txn: TxnId(0),
         age: 0,
         epoch: 1,
         turn: 1,
-        deeds: written,
-        verdicts: List::new(alloc),
+        deeds,
+        verdicts: list(rt, []),
         told,
-    }))
+    })
 }

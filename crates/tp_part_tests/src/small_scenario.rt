@@ -1,9 +1,17 @@
 //! A small scenario, for stores and offices.
 use std::process::Abort;
 use tp_types::{
-    Admin, AdminId, CredId, Credential, Item, ItemId, Level, List, Name, NoMemory, Policy,
-    Scenario, Scheme, ServerDecl, ServerId, Transaction, Value, Version,
+    Admin, AdminId, CredId, Credential, Item, ItemId, Level, List, Name, Policy, Scenario, Scheme,
+    ServerDecl, ServerId, Transaction, Value, Version,
 };
+
+/// A list of the members of an array.
+pub fn list<T: Drop, const N: usize>(rt: &(impl Abort + AllocGlobal), members: [T; N]) -> List<T> {
+    match Vec::from_array(rt.alloc(), members) {
+        Ok(made) => List::from_vec(made),
+        Err(_) => panic!(rt; "memory for a list"),
+    }
+}
 
 /// A name of the scenario. All have one, since nothing goes by it.
 fn name(rt: &(impl Abort + AllocGlobal)) -> Name {
@@ -23,43 +31,41 @@ fn item(rt: &(impl Abort + AllocGlobal), min: i64, max: i64, value: i64) -> Item
     }
 }
 
-fn items(rt: &(impl Abort + AllocGlobal)) -> Result<List<Item>, NoMemory> {
-    let mut made = List::new(rt.alloc());
-    made.push(item(rt, -5, 9, 3))?;
-    made.push(item(rt, 0, 0, 0))?;
-    made.push(item(
+fn items(rt: &(impl Abort + AllocGlobal)) -> List<Item> {
+    let most = 1_000_000_000_000_000;
+    list(
         rt,
-        -1_000_000_000_000_000,
-        1_000_000_000_000_000,
-        1_000_000_000_000_000,
-    ))?;
-    Ok(made)
+        [
+            item(rt, -5, 9, 3),
+            item(rt, 0, 0, 0),
+            item(rt, -most, most, most),
+        ],
+    )
 }
 
-/// An administrator with so many versions, none of which allows anything.
-fn admin(
-    rt: &(impl Abort + AllocGlobal),
-    opening: u32,
-    versions: usize,
-) -> Result<Admin, NoMemory> {
-    let mut library = List::new(rt.alloc());
-    for _ in 0..versions {
-        library.push(Policy {
-            rules: List::new(rt.alloc()),
-        })?;
+/// A policy that allows nothing.
+fn policy(rt: &(impl Abort + AllocGlobal)) -> Policy {
+    Policy {
+        rules: list(rt, []),
     }
-    Ok(Admin {
+}
+
+/// An administrator with these versions.
+fn admin(rt: &(impl Abort + AllocGlobal), opening: u32, library: List<Policy>) -> Admin {
+    Admin {
         name: name(rt),
         library,
         opening: Version(opening),
-    })
+    }
 }
 
-fn admins(rt: &(impl Abort + AllocGlobal)) -> Result<List<Admin>, NoMemory> {
-    let mut made = List::new(rt.alloc());
-    made.push(admin(rt, 3, 5)?)?;
-    made.push(admin(rt, 1, 1)?)?;
-    Ok(made)
+fn admins(rt: &(impl Abort + AllocGlobal)) -> List<Admin> {
+    let five = list(
+        rt,
+        [policy(rt), policy(rt), policy(rt), policy(rt), policy(rt)],
+    );
+    let one = list(rt, [policy(rt)]);
+    list(rt, [admin(rt, 3, five), admin(rt, 1, one)])
 }
 
 fn credential(rt: &(impl Abort + AllocGlobal)) -> Credential {
@@ -74,64 +80,53 @@ fn credential(rt: &(impl Abort + AllocGlobal)) -> Credential {
     }
 }
 
-fn credentials(rt: &(impl Abort + AllocGlobal)) -> Result<List<Credential>, NoMemory> {
-    let mut made = List::new(rt.alloc());
-    for _cred in 0..4 {
-        made.push(credential(rt))?;
-    }
-    Ok(made)
-}
-
-fn transactions(rt: &(impl Abort + AllocGlobal)) -> Result<List<Transaction>, NoMemory> {
-    let mut made = List::new(rt.alloc());
-    for _txn in 0..2 {
-        made.push(Transaction {
-            name: name(rt),
-            subject: name(rt),
-            scheme: Scheme::Deferred,
-            level: Level::View,
-            rounds: 8,
-            creds: List::new(rt.alloc()),
-            queries: List::new(rt.alloc()),
-        })?;
-    }
-    Ok(made)
-}
-
-fn servers(rt: &(impl Abort + AllocGlobal)) -> Result<List<ServerDecl>, NoMemory> {
-    let mut knows = List::new(rt.alloc());
-    knows.push(Version(2))?;
-    knows.push(Version(1))?;
-    let mut owned = List::new(rt.alloc());
-    owned.push(ItemId(0))?;
-    owned.push(ItemId(1))?;
-    owned.push(ItemId(2))?;
-    List::of_one(
-        rt.alloc(),
-        ServerDecl {
-            name: name(rt),
-            knows,
-            items: owned,
-        },
+fn credentials(rt: &(impl Abort + AllocGlobal)) -> List<Credential> {
+    list(
+        rt,
+        [
+            credential(rt),
+            credential(rt),
+            credential(rt),
+            credential(rt),
+        ],
     )
+}
+
+fn transaction(rt: &(impl Abort + AllocGlobal)) -> Transaction {
+    Transaction {
+        name: name(rt),
+        subject: name(rt),
+        scheme: Scheme::Deferred,
+        level: Level::View,
+        rounds: 8,
+        creds: list(rt, []),
+        queries: list(rt, []),
+    }
+}
+
+fn server(rt: &(impl Abort + AllocGlobal)) -> ServerDecl {
+    let knows = list(rt, [Version(2), Version(1)]);
+    let items = list(rt, [ItemId(0), ItemId(1), ItemId(2)]);
+    let name = name(rt);
+    ServerDecl { name, knows, items }
 }
 
 /// Three items, the first from -5 to 9 with the value 3, the second always 0, the third within plus or minus 10^15, its greatest
 /// value; two transactions; four credentials; two administrators of the versions 3 and 1, of which the server knows 2 and 1. The
 /// clock stands at 7.
-pub fn small(rt: &(impl Abort + AllocGlobal)) -> Result<Scenario, NoMemory> {
-    Ok(Scenario {
-        admins: admins(rt)?,
+pub fn small(rt: &(impl Abort + AllocGlobal)) -> Scenario {
+    Scenario {
+        admins: admins(rt),
         clock: 7,
-        creds: credentials(rt)?,
-        servers: servers(rt)?,
-        items: items(rt)?,
-        txns: transactions(rt)?,
-        steps: List::new(rt.alloc()),
-        clients: List::new(rt.alloc()),
-        publishers: List::new(rt.alloc()),
-        officers: List::new(rt.alloc()),
-    })
+        creds: credentials(rt),
+        servers: list(rt, [server(rt)]),
+        items: items(rt),
+        txns: list(rt, [transaction(rt), transaction(rt)]),
+        steps: list(rt, []),
+        clients: list(rt, []),
+        publishers: list(rt, []),
+        officers: list(rt, []),
+    }
 }
 
 /// The id of a credential.

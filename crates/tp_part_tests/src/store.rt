@@ -2,7 +2,7 @@
 use crate::small_scenario::small;
 use std::process::Abort;
 use tp_store::Store;
-use tp_types::{AdminId, ItemId, ServerId, TxnId, Version};
+use tp_types::{AdminId, ItemId, Scenario, ServerId, TxnId, Version};
 
 /// A call of a store, or what a call is to answer.
 enum Line {
@@ -125,10 +125,16 @@ fn play(rt: &(impl Abort + AllocGlobal), store: &mut Store, line: &Line) -> bool
     }
 }
 
+fn opened(rt: &(impl Abort + AllocGlobal), scenario: &Scenario) -> Store {
+    Store::opened(rt.alloc(), scenario, ServerId(0)).expect(rt, "memory for a store")
+}
+
 /// A store of the small scenario.
 fn store(rt: &(impl Abort + AllocGlobal)) -> Store {
-    let scenario = small(rt).expect(rt, "memory for a scenario");
-    Store::opened(rt.alloc(), &scenario, ServerId(0)).expect(rt, "memory for a store")
+    let scenario = small(rt);
+    let store = opened(rt, &scenario);
+    drop(scenario);
+    store
 }
 
 #[test]
@@ -139,4 +145,5 @@ fn answers_by_the_table(rt: HostRuntime) {
         assert!(rt; holds, "line {at}");
     }
     assert_eq!(rt; store.value(ItemId(2)), 5);
+    drop(store);
 }

@@ -5,7 +5,7 @@ mod numbers;
 mod play;
 mod spelled;
 
-use play::Player;
+use play::{Player, Score};
 use std::alloc::Global;
 use std::fs::{self, Files};
 use std::io;
@@ -18,30 +18,31 @@ fn read<R: Files + AllocGlobal>(rt: &R, name: &str) -> io::Result<String> {
     }
 }
 
-fn played(alloc: Global, text: &str) -> Result<Player, NoMemory> {
+fn played(alloc: Global, text: &str) -> Result<Score<'_>, NoMemory> {
     let mut player = Player::new();
-    for line in text.lines() {
-        player.play(alloc, line)?;
+    player.play_all(alloc, text)
+}
+
+fn tell(rt: &HostRuntime, name: &str, text: &str) -> io::Result<()> {
+    match played(rt.alloc(), text) {
+        Ok(score) => {
+            if let Some(line) = score.broken {
+                println!(rt; "{name}: first at: {line}")?;
+            }
+            println!(rt; "{name}: {} passed, {} failed", score.passed, score.failed)
+        }
+        Err(NoMemory) => println!(rt; "{name}: no memory"),
     }
-    player.end();
-    Ok(player)
+}
+
+fn tell_of(rt: &HostRuntime, name: &str) -> io::Result<()> {
+    let text = read(rt, name)?;
+    tell(rt, name, text.as_str())
 }
 
 fn main(rt: HostRuntime) -> io::Result<()> {
     for name in ["hand.txt", "view.txt", "levels.txt"] {
-        let text = read(&rt, name)?;
-        match played(rt.alloc(), text.as_str()) {
-            Ok(player) => {
-                if let Some(line) = &player.broken {
-                    println!(rt; "{name}: first at: {line}")?;
-                }
-                println!(rt;
-                    "{name}: {} passed, {} failed",
-                    player.passed, player.failed
-                )?;
-            }
-            Err(NoMemory) => println!(rt; "{name}: no memory")?,
-        }
+        tell_of(&rt, name)?;
     }
     Ok(())
 }

@@ -14,13 +14,24 @@ pub fn numbers_of(alloc: Global, word: &str) -> Result<Vec<u32>, NoMemory> {
     Ok(numbers)
 }
 
+/// Adds a number, with this before it.
+pub fn add_number(
+    alloc: Global,
+    text: &mut String,
+    before: char,
+    number: u64,
+) -> Result<(), NoMemory> {
+    let part = format!(in alloc; "{before}{number}")?;
+    text.push_str(part.as_str())?;
+    Ok(())
+}
+
 /// Adds a word of these numbers, with a blank before it.
 pub fn add_word(alloc: Global, text: &mut String, numbers: &[u64]) -> Result<(), NoMemory> {
-    let mut before = " ";
+    let mut before = ' ';
     for number in numbers {
-        let part = format!(in alloc; "{before}{number}")?;
-        text.push_str(part.as_str())?;
-        before = "/";
+        add_number(alloc, text, before, *number)?;
+        before = '/';
     }
     Ok(())
 }

@@ -1,15 +1,12 @@
 //! A recording that is played line by line.
-use crate::numbers::numbers_of;
-use crate::spelled::{add_verdicts, judged_line, verdict_of};
+use crate::spelled::{has_judged_line, has_proofs_line, verdict_of};
 use std::alloc::Global;
 use tp_round::Round;
 use tp_types::{Level, List, NoMemory, Reading, ServerId, Verdict, Version};
 
-/// The round that is played, what is read, and what was counted.
-#[derive(Drop)]
-pub struct Player {
-    round: Option<Round>,
-    reading: Option<Reading>,
+/// What was counted.
+#[derive(Clone, Copy)]
+pub struct Score<'a> {
     /// Whether the present case went as recorded so far.
     good: bool,
     /// Cases that went as recorded.
@@ -17,7 +14,15 @@ pub struct Player {
     /// Cases that did not.
     pub failed: u64,
     /// The first line that did not go as recorded.
-    pub broken: Option<String>,
+    pub broken: Option<&'a str>,
+}
+
+/// The round that is played, what is read, and what was counted.
+#[derive(Drop)]
+pub struct Player<'a> {
+    round: Option<Round>,
+    reading: Option<Reading>,
+    score: Score<'a>,
 }
 
 fn number_of(word: &str) -> u32 {
@@ -75,6 +80,44 @@ fn verdicts_of(alloc: Global, words: &[&str]) -> Result<List<Verdict>, NoMemory>
     Ok(verdicts)
 }
 
+/// Whether the round takes a reply, or ignores it, as the line says.
+fn replies(
+    alloc: Global,
+    round: &mut Round,
+    server: ServerId,
+    kept: bool,
+    words: &[&str],
+) -> Result<bool, NoMemory> {
+    let verdicts = verdicts_of(alloc, words)?;
+    let was_awaited = round.awaits(server);
+    let was_kept = round.reply(server, verdicts);
+    Ok(was_awaited == was_kept && was_kept == kept)
+}
+
+/// Whether the round is judged as the line says.
+fn judges(
+    alloc: Global,
+    round: &mut Round,
+    reading: Option<&Reading>,
+    line: &str,
+) -> Result<bool, NoMemory> {
+    let judged = round.judge(alloc, reading)?;
+    has_judged_line(alloc, &judged, line)
+}
+
+/// Whether the round has the proofs that the line says.
+fn proves(alloc: Global, round: &Round, line: &str) -> Result<bool, NoMemory> {
+    let proofs = round.proofs(alloc)?;
+    has_proofs_line(alloc, proofs.as_slice(), line)
+}
+
+/// The round has these levels from now on.
+fn takes(alloc: Global, round: &mut Round, reads: bool, words: &[&str]) -> Result<bool, NoMemory> {
+    round.levels = levels_of(alloc, words)?;
+    round.reads = reads;
+    Ok(true)
+}
+
 /// Whether the round goes on as the line says.
 fn goes(
     alloc: Global,
@@ -85,69 +128,76 @@ fn goes(
 ) -> Result<bool, NoMemory> {
     match words {
         ["reply", server, kept, verdicts @ ..] => {
-            let verdicts = verdicts_of(alloc, verdicts)?;
             let server = ServerId(number_of(server));
-            let was_awaited = round.awaits(server);
-            let was_kept = round.reply(server, verdicts);
-            Ok(was_awaited == was_kept && was_kept == (*kept == "kept"))
+            replies(alloc, round, server, *kept == "kept", verdicts)
         }
-        ["judge", ..] => {
-            let judged = round.judge(alloc, reading)?;
-            Ok(judged_line(alloc, &judged)?.as_str() == line)
-        }
+        ["judge", ..] => judges(alloc, round, reading, line),
         ["rounds", number] => Ok(round.rounds() == number_of(number)),
-        ["proofs", ..] => {
-            let proofs = round.proofs(alloc)?;
-            let mut text = String::from_str(alloc, "proofs")?;
-            add_verdicts(alloc, &mut text, proofs.as_slice())?;
-            Ok(text.as_str() == line)
-        }
-        ["levels", reads, levels @ ..] => {
-            round.levels = levels_of(alloc, levels)?;
-            round.reads = number_of(reads) == 1;
-            Ok(true)
-        }
+        ["proofs", ..] => proves(alloc, round, line),
+        ["levels", reads, levels @ ..] => takes(alloc, round, number_of(reads) == 1, levels),
         _ => Ok(false),
     }
 }
 
-impl Player {
+impl<'a> Score<'a> {
+    /// A case ends.
+    fn end(&mut self) {
+        if self.good {
+            self.passed = self.passed.saturating_add(1);
+        } else {
+            self.failed = self.failed.saturating_add(1);
+        }
+        self.good = true;
+    }
+
+    /// A line went as recorded, or did not.
+    fn count(&mut self, line: &'a str, good: bool) {
+        if !good && self.broken.is_none() {
+            self.broken = Some(line);
+        }
+        self.good = self.good && good;
+    }
+}
+
+impl<'a> Player<'a> {
     /// A player that has played nothing.
-    pub fn new() -> Player {
+    pub fn new() -> Player<'a> {
         Player {
             round: None,
             reading: None,
-            good: true,
-            passed: 0,
-            failed: 0,
-            broken: None,
+            score: Score {
+                good: true,
+                passed: 0,
+                failed: 0,
+                broken: None,
+            },
         }
     }
 
     /// The present case ends, if there is one.
-    pub fn end(&mut self) {
+    fn end(&mut self) {
         if self.round.is_some() {
-            if self.good {
-                self.passed = self.passed.saturating_add(1);
-            } else {
-                self.failed = self.failed.saturating_add(1);
-            }
+            self.score.end();
         }
         self.round = None;
         self.reading = None;
-        self.good = true;
+        self.score.good = true;
+    }
+
+    fn start(&mut self, alloc: Global, limit: u32, words: &[&str]) -> Result<bool, NoMemory> {
+        self.round = started(alloc, limit, words)?;
+        Ok(self.round.is_some())
+    }
+
+    fn read(&mut self, alloc: Global, place: u32, words: &[&str]) -> Result<bool, NoMemory> {
+        self.reading = Some(reading_of(alloc, place, words)?);
+        Ok(true)
     }
 
     fn step(&mut self, alloc: Global, line: &str, words: &[&str]) -> Result<bool, NoMemory> {
         match words {
-            ["start", limit, targets @ ..] => {
-                self.round = started(alloc, number_of(limit), targets)?;
-                Ok(self.round.is_some())
-            }
-            ["reading", place, newest @ ..] => {
-                self.reading = Some(reading_of(alloc, number_of(place), newest)?);
-                Ok(true)
-            }
+            ["start", limit, targets @ ..] => self.start(alloc, number_of(limit), targets),
+            ["reading", place, newest @ ..] => self.read(alloc, number_of(place), newest),
             ["unread"] => {
                 self.reading = None;
                 Ok(true)
@@ -159,18 +209,27 @@ impl Player {
         }
     }
 
-    /// Plays a line.
-    pub fn play(&mut self, alloc: Global, line: &str) -> Result<(), NoMemory> {
-        let words: Vec<&str> = line.split_whitespace().collect(alloc)?;
-        if let ["case", ..] = words.as_slice() {
+    fn play_words(&mut self, alloc: Global, line: &'a str, words: &[&str]) -> Result<(), NoMemory> {
+        if let ["case", ..] = words {
             self.end();
             return Ok(());
         }
-        let good = self.step(alloc, line, words.as_slice())?;
-        if !good && self.broken.is_none() {
-            self.broken = Some(String::from_str(alloc, line)?);
-        }
-        self.good = self.good && good;
+        let good = self.step(alloc, line, words)?;
+        self.score.count(line, good);
         Ok(())
+    }
+
+    fn play(&mut self, alloc: Global, line: &'a str) -> Result<(), NoMemory> {
+        let words: Vec<&str> = line.split_whitespace().collect(alloc)?;
+        self.play_words(alloc, line, words.as_slice())
+    }
+
+    /// Plays each line of a recording.
+    pub fn play_all(&mut self, alloc: Global, text: &'a str) -> Result<Score<'a>, NoMemory> {
+        for line in text.lines() {
+            self.play(alloc, line)?;
+        }
+        self.end();
+        Ok(self.score)
     }
 }

@@ -10,7 +10,7 @@ use std::fs::{self, Files};
 use std::io;
 use tp_policy_text::ParseError;
 use tp_scenario::{ScenarioError, read};
-use tp_types::{NoMemory, Text};
+use tp_types::{NoMemory, Scenario, Text};
 
 fn table<R: Files + AllocGlobal>(rt: &R) -> io::Result<String> {
     match fs::read_to_string(rt, "cases.txt") {
@@ -29,6 +29,10 @@ fn at(alloc: Global, kind: &str, path: &Text) -> Result<String, NoMemory> {
 
 fn policy(alloc: Global, path: &Text, fault: ParseError) -> Result<String, NoMemory> {
     let line = at(alloc, "policy ", path)?;
+    policy_at(alloc, line.as_str(), fault)
+}
+
+fn policy_at(alloc: Global, line: &str, fault: ParseError) -> Result<String, NoMemory> {
     match fault {
         ParseError::TooLong => Ok(format!(in alloc; "{line} toolong 4096")?),
         ParseError::TooDeep { place } => Ok(format!(in alloc; "{line} toodeep {place}")?),
@@ -50,12 +54,16 @@ fn refusal(alloc: Global, why: &ScenarioError) -> Result<String, NoMemory> {
     }
 }
 
+fn accepted(alloc: Global, scenario: &Scenario) -> Result<String, NoMemory> {
+    match line_of(alloc, scenario)? {
+        Some(line) => Ok(line),
+        None => Ok(String::from_str(alloc, "ok, and a part is missing")?),
+    }
+}
+
 fn answer(alloc: Global, text: &str) -> Result<String, NoMemory> {
     match read(alloc, text.as_bytes()) {
-        Ok(scenario) => match line_of(alloc, &scenario)? {
-            Some(line) => Ok(line),
-            None => Ok(String::from_str(alloc, "ok, and a part is missing")?),
-        },
+        Ok(scenario) => accepted(alloc, &scenario),
         Err(why) => refusal(alloc, &why),
     }
 }
@@ -65,11 +73,11 @@ fn passes(alloc: Global, wanted: &str, text: &str) -> Result<bool, NoMemory> {
     Ok(given.as_str() == wanted)
 }
 
-fn main(rt: HostRuntime) -> io::Result<()> {
-    let table = table(&rt)?;
+/// Reads the scenario of each line, and says which was answered otherwise, and how many.
+fn try_all(rt: &HostRuntime, table: &str) -> io::Result<()> {
     let mut passed: u64 = 0;
     let mut failed: u64 = 0;
-    for (number, line) in table.as_str().lines().enumerate() {
+    for (number, line) in table.lines().enumerate() {
         let Some((wanted, text)) = line.split_once('\t') else {
             continue;
         };
@@ -82,4 +90,9 @@ fn main(rt: HostRuntime) -> io::Result<()> {
         }
     }
     println!(rt; "{passed} passed, {failed} failed")
+}
+
+fn main(rt: HostRuntime) -> io::Result<()> {
+    let table = table(&rt)?;
+    try_all(&rt, table.as_str())
 }
