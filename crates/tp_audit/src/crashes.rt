@@ -37,58 +37,59 @@ fn is_coordinator_crash(txn: TxnId, fact: &Fact) -> bool
 
 /// The time between the submission of a transaction and a place.
 #[derive(Clone, Copy)]
-struct Span<'a> {
+struct Period<'a> {
     txn: TxnId,
     end: Place,
     facts: &'a List<Fact>,
 }
 
-fn is_in_span(span: &Span<'_>, fact: &Fact) -> bool
-    ensures { result ≡ trust.is_within span.now.txn span.now.end span.now.facts.now fact.now.place }
+fn is_in_period(period: &Period<'_>, fact: &Fact) -> bool
+    ensures { result
+        ≡ trust.is_within period.now.txn period.now.end period.now.facts.now fact.now.place }
 {
-    is_within(span.txn, span.end, span.facts, fact.place)
+    is_within(period.txn, period.end, period.facts, fact.place)
 }
 
-fn is_server_crash_within(at: ServerId, span: &Span<'_>, fact: &Fact) -> bool
+fn is_server_crash_within(at: ServerId, period: &Period<'_>, fact: &Fact) -> bool
     ensures { result ≡ causes.is_crash_within
-        (causes.is_server_actor at) span.now.txn span.now.end span.now.facts.now fact.now }
+        (causes.is_server_actor at) period.now.txn period.now.end period.now.facts.now fact.now }
 {
-    is_server_crash(at, fact) && is_in_span(span, fact)
+    is_server_crash(at, fact) && is_in_period(period, fact)
 }
 
 fn is_own_crash_within(
     scenario: &Scenario,
     declared: &Transaction,
-    span: &Span<'_>,
+    period: &Period<'_>,
     fact: &Fact,
 ) -> bool
     ensures { result ≡ causes.is_crash_within
         (causes.is_own_server scenario.now declared.now)
-        span.now.txn span.now.end span.now.facts.now fact.now }
+        period.now.txn period.now.end period.now.facts.now fact.now }
 {
-    is_own_crash(scenario, declared, fact) && is_in_span(span, fact)
+    is_own_crash(scenario, declared, fact) && is_in_period(period, fact)
 }
 
-fn is_coordinator_crash_within(span: &Span<'_>, fact: &Fact) -> bool
+fn is_coordinator_crash_within(period: &Period<'_>, fact: &Fact) -> bool
     ensures { result ≡ causes.is_crash_within
-        (causes.is_coordinator_actor span.now.txn)
-        span.now.txn span.now.end span.now.facts.now fact.now }
+        (causes.is_coordinator_actor period.now.txn)
+        period.now.txn period.now.end period.now.facts.now fact.now }
 {
-    is_coordinator_crash(span.txn, fact) && is_in_span(span, fact)
+    is_coordinator_crash(period.txn, fact) && is_in_period(period, fact)
 }
 
 /// The server crashed between the submission and the decision.
 pub fn server_crashed(at: ServerId, txn: TxnId, decided: Place, facts: &List<Fact>) -> bool
     ensures { result ≡ causes.crashed_within (causes.is_server_actor at) txn decided facts.now }
 {
-    let span = Span {
+    let period = Period {
         txn,
         end: decided,
         facts,
     };
     facts
         .iter()
-        .any(|fact| is_server_crash_within(at, &span, fact))
+        .any(|fact| is_server_crash_within(at, &period, fact))
 }
 
 /// A server of the transaction crashed between its submission and the place, so that work of it may be lost.
@@ -101,12 +102,12 @@ pub fn lost_work(
 ) -> bool
     ensures { result ≡ causes.lost_work scenario.now txn facts.now declared.now place }
 {
-    let span = Span {
+    let period = Period {
         txn,
         end: place,
         facts,
     };
-    facts.iter().any(|fact| is_own_crash_within(scenario, declared, &span, fact))
+    facts.iter().any(|fact| is_own_crash_within(scenario, declared, &period, fact))
 }
 
 /// The coordinator crashed between the submission and the decision.
@@ -114,14 +115,14 @@ pub fn coordinator_crashed(txn: TxnId, decided: Place, facts: &List<Fact>) -> bo
     ensures { result ≡ causes.crashed_within
         (causes.is_coordinator_actor txn) txn decided facts.now }
 {
-    let span = Span {
+    let period = Period {
         txn,
         end: decided,
         facts,
     };
     facts
         .iter()
-        .any(|fact| is_coordinator_crash_within(&span, fact))
+        .any(|fact| is_coordinator_crash_within(&period, fact))
 }
 
 /// The server is one of the transaction's.

@@ -5,4 +5,4 @@ pub mod Commands
 pub mod Entries
 pub mod Refusing
 pub mod Places
-pub mod Rests
+pub mod Parts

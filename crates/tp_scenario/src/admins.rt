@@ -6,7 +6,7 @@ ghost use Rattle.tp_scenario.specs.Admins as admins;
 ghost use Rattle.tp_scenario.specs.Policies.{policy_answer};
 ghost use Rattle.tp_scenario.specs.Values.{each};
 ghost use Rattle.tp_scenario.specs.mirrors.Gives.{Gives};
-ghost use Rattle.tp_scenario.specs.mirrors.Rests as rests;
+ghost use Rattle.tp_scenario.specs.mirrors.Parts as parts;
 
 use crate::fault::{WalkError, policy_fault_at};
 use crate::names::Names;
@@ -87,7 +87,7 @@ fn admin_at<'a>(
         names,
         field(fields, Key::Name),
     );
-    let (name, (library, opening)) = both(name, held_at(alloc, at, fields))?;
+    let (name, (library, opening)) = both(name, library_at(alloc, at, fields))?;
     Ok(Admin {
         name,
         library,
@@ -96,8 +96,12 @@ fn admin_at<'a>(
 }
 
 /// The policies of an administrator, and the version of them that is newest at the start.
-fn held_at(alloc: Global, at: usize, fields: &Value) -> Result<(List<Policy>, Version), WalkError>
-    ensures { Gives result (rests.admin_held at (view fields.now)) }
+fn library_at(
+    alloc: Global,
+    at: usize,
+    fields: &Value,
+) -> Result<(List<Policy>, Version), WalkError>
+    ensures { Gives result (parts.library_at at (view fields.now)) }
 {
     let library = policies_at(alloc, at, field(fields, Key::Policies))?;
     let opening = opening_at(at, library.len(), field(fields, Key::Opening))?;

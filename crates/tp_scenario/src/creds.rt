@@ -7,7 +7,7 @@ ghost use Rattle.tp_scenario.specs.declared.path.Path.TheVariants as Path;
 ghost use Rattle.tp_scenario.specs.Values as values;
 ghost use Rattle.tp_scenario.specs.Values.{each};
 ghost use Rattle.tp_scenario.specs.mirrors.Gives.{Gives};
-ghost use Rattle.tp_scenario.specs.mirrors.Rests as rests;
+ghost use Rattle.tp_scenario.specs.mirrors.Parts as parts;
 
 use crate::fault::WalkError;
 use crate::names::Names;
@@ -21,7 +21,7 @@ use tp_types::{Credential, List, Name, Value, both};
 /// The greatest number that is spelled: 15 digits.
 const NUMBER_MAX: i64 = 999_999_999_999_999;
 
-/// The last time of a clock at the start.
+/// The last time that an interval may name.
 const CLOCK_MAX: u64 = 1_000_000_000_000;
 
 fn is_text(value: Option<&Json>) -> bool
@@ -114,7 +114,7 @@ fn cred_at<'a>(
 
 /// The first and the last time at which a credential holds.
 fn interval_at(at: usize, fields: &Json) -> Result<(u64, u64), WalkError>
-    ensures { Gives result (rests.cred_interval at (view fields.now)) }
+    ensures { Gives result (parts.interval_at at (view fields.now)) }
 {
     let from = count_or(
         path_of(at, Key::From),

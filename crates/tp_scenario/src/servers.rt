@@ -8,7 +8,7 @@ ghost use Rattle.tp_scenario.specs.declared.path.Key.TheVariants as Key;
 ghost use Rattle.tp_scenario.specs.declared.path.Path.TheVariants as Path;
 ghost use Rattle.tp_scenario.specs.mirrors.Entries.{entries_view, lent};
 ghost use Rattle.tp_scenario.specs.mirrors.Gives.{Gives, GivesNew, IsKeyError, IsMovedError};
-ghost use Rattle.tp_scenario.specs.mirrors.Rests as rests;
+ghost use Rattle.tp_scenario.specs.mirrors.Parts as parts;
 
 use crate::fault::{Fault, Kind, WalkError, shape_at};
 use crate::names::{Declared, Names};
@@ -251,8 +251,8 @@ fn item_at<'a>(
         admins,
         field(fields, Key::Admin),
     );
-    let held = held_in(server, at, fields);
-    let ((name, admin), (min, max, value)) = both(both(name, admin), held)?;
+    let values = bounds_and_value_at(server, at, fields);
+    let ((name, admin), (min, max, value)) = both(both(name, admin), values)?;
     Ok(Item {
         name,
         server: ServerId(server),
@@ -264,8 +264,8 @@ fn item_at<'a>(
 }
 
 /// The least and the greatest value of an item, and its value at the start.
-fn held_in(server: u32, at: usize, fields: &Value) -> Result<(i64, i64, i64), WalkError>
-    ensures { Gives result (rests.item_held server at (view fields.now)) }
+fn bounds_and_value_at(server: u32, at: usize, fields: &Value) -> Result<(i64, i64, i64), WalkError>
+    ensures { Gives result (parts.bounds_and_value_at server at (view fields.now)) }
 {
     let min = whole_in(
         path_of(server, at, Key::Min),

@@ -8,7 +8,7 @@ ghost use Rattle.tp_scenario.specs.declared.path.Key.TheVariants as Key;
 ghost use Rattle.tp_scenario.specs.declared.path.Path.TheVariants as Path;
 ghost use Rattle.tp_scenario.specs.mirrors.Gives.{Gives, GivesNew};
 ghost use Rattle.tp_scenario.specs.mirrors.Places.{creds_at};
-ghost use Rattle.tp_scenario.specs.mirrors.Rests as rests;
+ghost use Rattle.tp_scenario.specs.mirrors.Parts as parts;
 
 use crate::fault::{WalkError, range_at};
 use crate::names::{Declared, Names};
@@ -240,10 +240,10 @@ fn txn_at<'a>(
         path_of(at, Key::Subject),
         field(fields, Key::Subject),
     );
-    let terms = terms_at(at, fields);
+    let manner = manner_at(at, fields);
     let creds = presented_by(alloc, &names.creds, at, field(fields, Key::Credentials));
     let queries = queries_at(alloc, &names.items, at, field(fields, Key::Queries));
-    let told = both(both(name, subject), terms);
+    let told = both(both(name, subject), manner);
     let lists = both(creds, queries);
     let (((name, subject), (scheme, level, rounds)), (creds, queries)) = both(told, lists)?;
     Ok(Transaction {
@@ -258,8 +258,8 @@ fn txn_at<'a>(
 }
 
 /// How a transaction is run: its scheme, its level, and how many rounds may meet a newer version.
-fn terms_at(at: usize, fields: &Value) -> Result<(Scheme, Level, u32), WalkError>
-    ensures { Gives result (rests.txn_terms at (view fields.now)) }
+fn manner_at(at: usize, fields: &Value) -> Result<(Scheme, Level, u32), WalkError>
+    ensures { Gives result (parts.manner_at at (view fields.now)) }
 {
     let scheme = scheme_at(path_of(at, Key::Scheme), field(fields, Key::Scheme))?;
     let level = level_at(path_of(at, Key::Level), field(fields, Key::Level))?;

@@ -39,8 +39,8 @@ actor_name scenario Master = codes "master"
 actor_name scenario Authority = codes "authority"
 
 -- `qN SERVER`: a query, and the server that has its item
-abbrev pub query_at : Scenario → ℕ → ServerId → List ℕ
-query_at scenario query server =
+abbrev pub query_text : Scenario → ℕ → ServerId → List ℕ
+query_text scenario query server =
     codes "q" ++ decimal query ++ codes " " ++ server_name scenario server
 
 -- `ADMIN VERSION`: a version of an administrator's policy
@@ -70,13 +70,13 @@ mets_text scenario (first ∷ others) =
 -- why a transaction aborted
 abbrev pub cause_text : Scenario → Cause → List ℕ
 cause_text scenario (Denied denied) =
-    codes "denied " ++ query_at scenario denied.query denied.server ++ codes " "
+    codes "denied " ++ query_text scenario denied.query denied.server ++ codes " "
     ++ policy_text scenario denied.admin denied.version ++ at_text denied.place
 cause_text scenario (No outside) =
-    codes "no " ++ query_at scenario outside.query outside.server ++ codes " "
+    codes "no " ++ query_text scenario outside.query outside.server ++ codes " "
     ++ signed_decimal outside.value
 cause_text scenario (Died died) =
-    codes "died " ++ query_at scenario died.query died.server ++ codes " "
+    codes "died " ++ query_text scenario died.query died.server ++ codes " "
     ++ txn_name scenario died.other ++ at_text died.place
 cause_text scenario (Newer newer) =
     codes "newer " ++ policy_text scenario newer.admin newer.used ++ codes " "
@@ -102,7 +102,7 @@ uses_text scenario (first ∷ others) = flat_map (use_text scenario) (first ∷ 
 -- `proof qN SERVER ADMIN VERSION at P rule K uses C1 C2`: a proof of authorisation
 abbrev pub proof_text : Scenario → Verdict → List ℕ
 proof_text scenario proof =
-    codes "proof " ++ query_at scenario proof.query proof.server ++ codes " "
+    codes "proof " ++ query_text scenario proof.query proof.server ++ codes " "
     ++ policy_text scenario proof.admin proof.version ++ at_text proof.place ++ codes " rule "
     ++ rule_text proof.rule ++ codes " uses" ++ uses_text scenario proof.uses
 

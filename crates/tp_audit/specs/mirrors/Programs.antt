@@ -59,22 +59,26 @@ is_proved sc facts txn verdict =
     verdict.query
     (policy_at sc verdict.admin verdict.version)
 
--- ---- trusted commits
+-- ---- versions
 
 -- the proof agrees with what was read from the master
 abbrev pub meets_reading : MasterRead → Verdict → Bool
 meets_reading read proof =
     versions.meets_reading read.scenario.now read.txn.now read.place read.facts.now proof
 
--- the proof is trusted by the commit
+-- ---- trusted commits
+
+-- the commit may rest on the proof
 abbrev pub is_trusted_proof : Commit → Verdict → Bool
 is_trusted_proof commit proof =
-    trust.is_trusted_proof commit.scenario.now commit.txn commit.declared.now commit.place commit.facts.now proof
+    trust.is_trusted_proof commit.scenario.now commit.txn commit.declared.now commit.place
+    commit.facts.now proof
 
--- the instance is trusted by the commit
+-- the commit may rest on the instance
 abbrev pub is_trusted_instance : Commit → Instance → Bool
 is_trusted_instance commit instance =
-    trust.is_trusted_instance commit.scenario.now commit.txn commit.declared.now commit.place commit.facts.now instance
+    trust.is_trusted_instance commit.scenario.now commit.txn commit.declared.now commit.place
+    commit.facts.now instance
 
 -- ---- exact sums
 

@@ -3,7 +3,7 @@ ghost use Rattle.std.specs.Prelude.{◌≡◌, ◌++◌, OnOk};
 ghost use Rattle.std.specs.List.{flat_map};
 ghost use Rattle.tp_top.specs.ReportText.{cause_text, later_met_text, met_text, mets_text};
 
-use super::piece::{put, put_at, put_number, put_policy, put_query_at, put_server, put_txn};
+use super::piece::{put, put_at, put_number, put_policy, put_query, put_server, put_txn};
 use tp_types::{Cause, Denied, Died, List, Met, Newer, NoMemory, OutOfRange, Scenario, ServerId};
 
 pub(crate) fn put_cause(
@@ -29,7 +29,7 @@ fn put_denied(out: &mut Vec<u8>, scenario: &Scenario, denied: &Denied) -> Result
         (out.new.items ≡ out.old.items ++ cause_text scenario.now (Cause.Denied denied.now)) }
 {
     put(out, b"denied ")?;
-    put_query_at(out, scenario, denied.query, denied.server)?;
+    put_query(out, scenario, denied.query, denied.server)?;
     put(out, b" ")?;
     put_policy(out, scenario, denied.admin, denied.version)?;
     put_at(out, denied.place)
@@ -40,7 +40,7 @@ fn put_no(out: &mut Vec<u8>, scenario: &Scenario, outside: &OutOfRange) -> Resul
         (out.new.items ≡ out.old.items ++ cause_text scenario.now (Cause.No outside.now)) }
 {
     put(out, b"no ")?;
-    put_query_at(out, scenario, outside.query, outside.server)?;
+    put_query(out, scenario, outside.query, outside.server)?;
     put(out, b" ")?;
     put_number(out, outside.value)
 }
@@ -50,7 +50,7 @@ fn put_died(out: &mut Vec<u8>, scenario: &Scenario, died: &Died) -> Result<(), N
         (out.new.items ≡ out.old.items ++ cause_text scenario.now (Cause.Died died.now)) }
 {
     put(out, b"died ")?;
-    put_query_at(out, scenario, died.query, died.server)?;
+    put_query(out, scenario, died.query, died.server)?;
     put(out, b" ")?;
     put_txn(out, scenario, died.other)?;
     put_at(out, died.place)

@@ -3,9 +3,7 @@ ghost use Rattle.std.specs.Prelude.{◌≡◌, ◌++◌, OnOk};
 ghost use Rattle.std.specs.List.{flat_map};
 ghost use Rattle.tp_top.specs.ReportText.{action_text, commit_lines, deed_line, deed_text, instance_lines, instances_lines, proof_line, proof_text, reading_text, rule_text, use_text, uses_text};
 
-use super::piece::{
-    put, put_at, put_cred, put_item, put_number, put_policy, put_query_at, put_txn,
-};
+use super::piece::{put, put_at, put_cred, put_item, put_number, put_policy, put_query, put_txn};
 use tp_types::{
     Action, CommitRecord, CredId, Deed, Instance, List, NoMemory, Place, Scenario, TxnId, Verdict,
 };
@@ -94,7 +92,7 @@ fn put_proof_text(out: &mut Vec<u8>, scenario: &Scenario, proof: &Verdict) -> Re
     ensures { OnOk result (out.new.items ≡ out.old.items ++ proof_text scenario.now proof.now) }
 {
     put(out, b"proof ")?;
-    put_query_at(out, scenario, proof.query, proof.server)?;
+    put_query(out, scenario, proof.query, proof.server)?;
     put(out, b" ")?;
     put_policy(out, scenario, proof.admin, proof.version)?;
     put_at(out, proof.place)?;

@@ -1,7 +1,7 @@
 //! The pieces that lines are made of: bytes, numbers, and names of the scenario.
 //! An id that the scenario does not have prints as nothing.
 ghost use Rattle.std.specs.Prelude.{◌≡◌, ◌++◌, OnOk};
-ghost use Rattle.tp_top.specs.ReportText.{actor_name, admin_name, at_text, cred_name, item_name, policy_text, query_at, server_name, txn_name};
+ghost use Rattle.tp_top.specs.ReportText.{actor_name, admin_name, at_text, cred_name, item_name, policy_text, query_text, server_name, txn_name};
 
 use itoa::{Buffer, Integer};
 use tp_types::{
@@ -88,13 +88,13 @@ pub(crate) fn put_actor(
 }
 
 /// Puts a query and the server that has its item.
-pub(crate) fn put_query_at(
+pub(crate) fn put_query(
     out: &mut Vec<u8>,
     scenario: &Scenario,
     query: u32,
     server: ServerId,
 ) -> Result<(), NoMemory>
-    ensures { OnOk result (out.new.items ≡ out.old.items ++ query_at scenario.now query server) }
+    ensures { OnOk result (out.new.items ≡ out.old.items ++ query_text scenario.now query server) }
 {
     put(out, b"q")?;
     put_number(out, query)?;
