@@ -1,6 +1,6 @@
-//! Images of logs and what they give, recorded from another program that was written from the format alone. The first of each
-//! list were left by crashes at random moments of random appends, the last are a log of two records with a byte changed or with its
-//! end missing.
+//! Images of logs and what they give, recorded from another program that was written from the format alone. Those that are broken,
+//! and the last that give records or none, are a log of two records with a byte changed or with its end missing; the others were left
+//! by crashes at random moments of random appends.
 
 /// The bytes of an image, and the bodies of the records that it gives, one after the other.
 pub struct Image {
