@@ -5,7 +5,7 @@ use Rattle.std.specs.List.{range_with_len}
 use Rattle.std.specs.Option.{option_map_or}
 use Rattle.std.proofs.Math.Bool.{and-false}
 use Rattle.tp_model.specs.Words.{Fact, Instance, Scenario, Transaction, Verdict}
-use Rattle.tp_model.specs.Demand.{is_deferred_demand, is_final_instance, is_over, number_of}
+use Rattle.tp_model.specs.Demand.{is_deferred_demand, is_final_instance, is_over, query_of}
 use Rattle.tp_model.specs.Queries.{only}
 
 -- deferred asks for one instance, which is final
@@ -17,16 +17,16 @@ demand_of_only sc facts txn (instance ∷ other ∷ others) = refl
 
 -- from so many on, the proofs are numbered in order up to the count
 abbrev pub are_over : ℕ → ℕ → List Verdict → Bool
-are_over start count proofs = pointwise ◌==◌ (map number_of (drop start proofs)) (range_with_len (start + 1) (count - start))
+are_over start count proofs = pointwise ◌==◌ (map query_of (drop start proofs)) (range_with_len (start + 1) (count - start))
 
 -- lists of two lengths differ
-too_few : (start count : ℕ) (proofs : List Verdict) → length proofs ≢ count → pointwise ◌==◌ (map number_of proofs) (range_with_len start count) ≡ false
+too_few : (start count : ℕ) (proofs : List Verdict) → length proofs ≢ count → pointwise ◌==◌ (map query_of proofs) (range_with_len start count) ≡ false
 too_few start zero [] h = absurd (h refl)
 too_few start (suc count) [] h = refl
 too_few start zero (proof ∷ proofs) h = refl
 too_few start (suc count) (proof ∷ proofs) h =
     let others = too_few (start + 1) count proofs (λ e. h (ap suc e)) in
-    rw others (and-false (number_of proof == start))
+    rw others (and-false (query_of proof == start))
 
 -- more or fewer proofs than the count are not over it
 pub over_other : (count : ℕ) (proofs : List Verdict) → length proofs ≢ count → is_over count proofs ≡ false

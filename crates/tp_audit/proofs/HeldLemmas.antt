@@ -9,7 +9,7 @@ use Rattle.tp_model.specs.Words.{CredId, Credential, Fact, Scenario, Transaction
 use Rattle.tp_audit.specs.declared.credentials.Held.{Held}
 use Rattle.tp_audit.specs.mirrors.Programs.{held_by, is_proved, says, shows}
 use Rattle.tp_model.specs.Authorisation.{is_certified, is_usable, policy_at, rule_proves, tests_version}
-use Rattle.tp_model.specs.Credentials.{is_presented, is_valid, said_by, said_in, triple_of}
+use Rattle.tp_model.specs.Credentials.{is_presented, is_valid, triple_by, said_in, triple_of}
 use Rattle.tp_model.specs.Ids.{same_name}
 use Rattle.tp_model.specs.Policies.{Triple}
 
@@ -28,7 +28,7 @@ said test triple false = refl
 said_at : (test : Triple → Bool) (held : Held) (found : Option Credential)
     → option_map_or test (option_map_or (triple_of held.subject.now) found None) false ≡ option_map_or (says test held) found false
 said_at test held None = refl
-said_at test held (Some credential) = said test (said_by credential) (same_name credential.subject held.subject.now)
+said_at test held (Some credential) = said test (triple_by credential) (same_name credential.subject held.subject.now)
 
 -- what is held passes a test where a credential shows it
 pub any_held : (test : Triple → Bool) (held : Held) → list_any test (held_by held) ≡ list_any (shows test held) held.creds.now

@@ -17,7 +17,7 @@ use Rattle.tp_audit.specs.mirrors.Programs.{deed_of, registers_after, store_afte
 use Rattle.tp_model.specs.Ids.{same_item}
 use Rattle.tp_model.specs.Limits.{is_between}
 use Rattle.tp_model.specs.Policies.{same_action}
-use Rattle.tp_model.specs.SerialRun.{are_in_range, cleared_registers, deeds_from, same_deed, serial_run, stored, stored_all, stored_by}
+use Rattle.tp_model.specs.SerialRun.{are_in_range, cleared_registers, deeds_from, same_deed, serial_run, with_deed, with_deeds, with_deed_by}
 
 -- a first test that fails settles the whole, and one that passes leaves it to the others
 pub stops : (first others whole : Bool) → first ≡ false → (first && others) ≡ whole → false ≡ whole
@@ -46,17 +46,17 @@ done_action deed other h =
     let parts = and_parts ((deed.query == other.query) && same_item deed.item other.item) (same_action deed.action other.action && int_eq deed.value other.value) h in
     (and_parts (same_action deed.action other.action) (int_eq deed.value other.value) parts.1).0
 
-stored_read : (did : Action) (store : List ℤ) (deed : Deed) → same_action did action.Read ≡ true → stored_by did store deed ≡ store
+stored_read : (did : Action) (store : List ℤ) (deed : Deed) → same_action did action.Read ≡ true → with_deed_by did store deed ≡ store
 stored_read action.Read store deed h = refl
 stored_read action.Write store deed h = absurd (cc)
 
-stored_write : (did : Action) (store : List ℤ) (deed : Deed) → same_action did action.Write ≡ true → stored_by did store deed ≡ slice_set store deed.item.0 deed.value
+stored_write : (did : Action) (store : List ℤ) (deed : Deed) → same_action did action.Write ≡ true → with_deed_by did store deed ≡ slice_set store deed.item.0 deed.value
 stored_write action.Read store deed h = absurd (cc)
 stored_write action.Write store deed h = refl
 
 -- a deed that is the query's leaves the store that the query leaves
 pub stored_same : (deed : Deed) (number : ℕ) (query : Query) (registers store : List ℤ)
-    → same_deed deed (deed_of number query registers store) ≡ true → stored store deed ≡ store_after query registers store
+    → same_deed deed (deed_of number query registers store) ≡ true → with_deed store deed ≡ store_after query registers store
 stored_same deed number (Read item into) registers store h =
     stored_read deed.action store deed (done_action deed (deed_of number (Read item into) registers store) h)
 stored_same deed number (Write item expr) registers store h =
@@ -133,6 +133,6 @@ runs_on at deeds queries registers store next_registers next_store query d whole
 -- the deed leaves the store that the query leaves
 pub stores_on : (at : ℕ) (deeds : List Deed) (registers store next_store whole : List ℤ) (query : Query) (d : Deed)
     → at < length deeds → same_deed (get_or deeds at d) (deed_of (at + 1) query registers store) ≡ true → next_store ≡ store_after query registers store
-    → stored_all store (drop at deeds) ≡ whole → stored_all next_store (drop (at + 1) deeds) ≡ whole
+    → with_deeds store (drop at deeds) ≡ whole → with_deeds next_store (drop (at + 1) deeds) ≡ whole
 stores_on at deeds registers store next_store whole query d here same s h =
-    fold_turn stored store next_store whole deeds at d here (s ∙ sym (stored_same (get_or deeds at d) (at + 1) query registers store same)) h
+    fold_turn with_deed store next_store whole deeds at d here (s ∙ sym (stored_same (get_or deeds at d) (at + 1) query registers store same)) h

@@ -4,7 +4,7 @@ use Rattle.std.proofs.lemmas.Int.{ints}
 use Rattle.std.specs.Int.{w128}
 use Rattle.std.specs.Ordering.{int_eq}
 use Rattle.tp_audit.specs.mirrors.Digits.{number_above, number_of}
-use Rattle.tp_model.specs.Queries.{signed}
+use Rattle.tp_model.specs.Queries.{with_sign}
 use Rattle.tp_model.specs.SerialRun.{number_at}
 
 -- one more digit stands below the rest
@@ -19,27 +19,27 @@ digits_from [] (suc at) = refl
 digits_from (digit ∷ digits) zero = refl
 digits_from (digit ∷ digits) (suc at) = digits_from digits at
 
-carried : (minus : Bool) (carry a b c d part wraps : ℤ) → (part +ℤ (wraps *ℤ pos (2 ^ 128))) ≡ ((carry +ℤ a) +ℤ signed minus b)
-    → (part +ℤ (((wraps +ℤ c) +ℤ signed minus d) *ℤ pos (2 ^ 128))) ≡ ((carry +ℤ (a +ℤ (c *ℤ pos (2 ^ 128)))) +ℤ signed minus (b +ℤ (d *ℤ pos (2 ^ 128))))
+carried : (minus : Bool) (carry a b c d part wraps : ℤ) → (part +ℤ (wraps *ℤ pos (2 ^ 128))) ≡ ((carry +ℤ a) +ℤ with_sign minus b)
+    → (part +ℤ (((wraps +ℤ c) +ℤ with_sign minus d) *ℤ pos (2 ^ 128))) ≡ ((carry +ℤ (a +ℤ (c *ℤ pos (2 ^ 128)))) +ℤ with_sign minus (b +ℤ (d *ℤ pos (2 ^ 128))))
 carried false carry a b c d part wraps e = omega (arith, ints)
 carried true carry a b c d part wraps e = omega (arith, ints)
 
 step_from : (made one other : List ℤ) (minus : Bool) (at : ℕ) (carry part wraps : ℤ)
-    → (part +ℤ (wraps *ℤ pos (2 ^ 128))) ≡ ((carry +ℤ number_at one at) +ℤ signed minus (number_at other at))
-    → number_above (made ++ part ∷ []) ((wraps +ℤ number_of (drop (suc at) one)) +ℤ signed minus (number_of (drop (suc at) other)))
-    ≡ number_above made ((carry +ℤ number_of (drop at one)) +ℤ signed minus (number_of (drop at other)))
+    → (part +ℤ (wraps *ℤ pos (2 ^ 128))) ≡ ((carry +ℤ number_at one at) +ℤ with_sign minus (number_at other at))
+    → number_above (made ++ part ∷ []) ((wraps +ℤ number_of (drop (suc at) one)) +ℤ with_sign minus (number_of (drop (suc at) other)))
+    ≡ number_above made ((carry +ℤ number_of (drop at one)) +ℤ with_sign minus (number_of (drop at other)))
 step_from made one other minus at carry part wraps e =
-    above_more made part ((wraps +ℤ number_of (drop (suc at) one)) +ℤ signed minus (number_of (drop (suc at) other)))
+    above_more made part ((wraps +ℤ number_of (drop (suc at) one)) +ℤ with_sign minus (number_of (drop (suc at) other)))
     ∙ ap (number_above made)
     (carried minus carry (number_at one at) (number_at other at) (number_of (drop (suc at) one)) (number_of (drop (suc at) other)) part wraps e
-    ∙ ap (λ n. (carry +ℤ n) +ℤ signed minus (number_at other at +ℤ (number_of (drop (suc at) other) *ℤ pos (2 ^ 128)))) (sym (digits_from one at))
-    ∙ ap (λ n. (carry +ℤ number_of (drop at one)) +ℤ signed minus n) (sym (digits_from other at)))
+    ∙ ap (λ n. (carry +ℤ n) +ℤ with_sign minus (number_at other at +ℤ (number_of (drop (suc at) other) *ℤ pos (2 ^ 128)))) (sym (digits_from one at))
+    ∙ ap (λ n. (carry +ℤ number_of (drop at one)) +ℤ with_sign minus n) (sym (digits_from other at)))
 
 -- a column more of a sum
 pub sum_step : (made one other : List ℤ) (minus : Bool) (at : ℕ) (carry part wraps : ℤ)
-    → (part +ℤ (wraps *ℤ pos (2 ^ 128))) ≡ ((carry +ℤ number_at one at) +ℤ signed minus (number_at other at))
-    → number_above (made ++ part ∷ []) ((wraps +ℤ number_of (drop (at + 1) one)) +ℤ signed minus (number_of (drop (at + 1) other)))
-    ≡ number_above made ((carry +ℤ number_of (drop at one)) +ℤ signed minus (number_of (drop at other)))
+    → (part +ℤ (wraps *ℤ pos (2 ^ 128))) ≡ ((carry +ℤ number_at one at) +ℤ with_sign minus (number_at other at))
+    → number_above (made ++ part ∷ []) ((wraps +ℤ number_of (drop (at + 1) one)) +ℤ with_sign minus (number_of (drop (at + 1) other)))
+    ≡ number_above made ((carry +ℤ number_of (drop at one)) +ℤ with_sign minus (number_of (drop at other)))
 sum_step made one other minus at carry part wraps e = rw add-one (step_from made one other minus at carry part wraps e)
 
 pub none_left : (digits : List ℤ) (at : ℕ) → length digits ≤ at → number_of (drop at digits) ≡ pos 0
@@ -48,13 +48,13 @@ none_left [] (suc at) h = refl
 none_left (digit ∷ digits) zero h = absurd (omega arith)
 none_left (digit ∷ digits) (suc at) h = none_left digits at (omega arith)
 
-carry_alone : (minus : Bool) (carry a b : ℤ) → a ≡ pos 0 → b ≡ pos 0 → (carry +ℤ (pos 0 *ℤ pos (2 ^ 128))) ≡ ((carry +ℤ a) +ℤ signed minus b)
+carry_alone : (minus : Bool) (carry a b : ℤ) → a ≡ pos 0 → b ≡ pos 0 → (carry +ℤ (pos 0 *ℤ pos (2 ^ 128))) ≡ ((carry +ℤ a) +ℤ with_sign minus b)
 carry_alone false carry a b e f = omega (arith, ints)
 carry_alone true carry a b e f = omega (arith, ints)
 
 -- past both numbers the carry is the last digit
 pub sum_end : (made one other : List ℤ) (minus : Bool) (at : ℕ) (carry : ℤ) → length one ≤ at → length other ≤ at
-    → number_of (made ++ carry ∷ []) ≡ number_above made ((carry +ℤ number_of (drop at one)) +ℤ signed minus (number_of (drop at other)))
+    → number_of (made ++ carry ∷ []) ≡ number_above made ((carry +ℤ number_of (drop at one)) +ℤ with_sign minus (number_of (drop at other)))
 sum_end made one other minus at carry h k =
     above_more made carry (pos 0)
     ∙ ap (number_above made) (carry_alone minus carry (number_of (drop at one)) (number_of (drop at other)) (none_left one at h) (none_left other at k))

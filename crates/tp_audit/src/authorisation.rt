@@ -117,8 +117,8 @@ pub fn is_allowed(
     version: Version,
     place: Place,
 ) -> bool
-    ensures { result ≡ authorisation.is_allowed scenario.now facts.now txn.now number admin
-        version place }
+    ensures { result ≡ authorisation.is_allowed scenario.now facts.now txn.now
+        (record { query = number; admin = admin; version = version; place = place }) }
 {
     let held = Held {
         scenario,

@@ -68,8 +68,8 @@ fn is_denial(
     denied: &Denied,
 ) -> bool
     ensures { result ≡ not
-        (authorisation.is_allowed scenario.now facts.now declared.now denied.now.query
-        denied.now.admin denied.now.version denied.now.place) }
+        (authorisation.is_allowed scenario.now facts.now declared.now
+        (causes.denied_question denied.now)) }
 {
     !is_allowed(
         scenario,
@@ -147,6 +147,7 @@ fn is_shown(
             Ok(is_restart(scenario, txn, decided, facts, *server, declared))
         }
         Cause::Halted => Ok(coordinator_crashed(txn, decided, facts)),
+        // a cause that is unbuilt: a newer version, or rounds that are spent
         _ => Ok(false),
     }
 }

@@ -20,7 +20,7 @@ pub struct Held<'a> {
 }
 
 fn ticks(fact: &Fact) -> u64
-    ensures { result ≡ credentials.ticks fact.now }
+    ensures { result ≡ credentials.tick_of fact.now }
 {
     match &fact.what {
         What::Ticked(by) => *by,

@@ -3,11 +3,8 @@ ghost use Rattle.std.specs.Prelude.{◌≡◌};
 ghost use Rattle.tp_model.specs.Demand as demand;
 
 use crate::versions::is_consistent;
-use tp_model::{only, reads_master};
+use tp_model::{VIEW_ROUNDS, only, reads_master};
 use tp_types::{CommitRecord, Fact, Instance, List, Scenario, Scheme, Transaction, Verdict};
-
-/// The most rounds where the master is not read: one, and one more to bring versions together.
-const ROUNDS_BY_SERVERS: u32 = 2;
 
 #[tactic(auto, using(crate::proofs::DemandLemmas::over_other))]
 fn is_over(count: usize, proofs: &List<Verdict>) -> bool
@@ -56,7 +53,7 @@ fn most_rounds(scenario: &Scenario, txn: &Transaction) -> u32
     if reads_master(scenario, txn) {
         txn.rounds
     } else {
-        ROUNDS_BY_SERVERS
+        VIEW_ROUNDS
     }
 }
 
@@ -80,6 +77,7 @@ pub fn meets_demand(
             is_deferred_demand(scenario, facts, txn, &committed.instances)
                 && is_round_count(scenario, txn, committed.rounds)
         }
+        // a scheme that is unbuilt
         Scheme::Punctual | Scheme::Incremental | Scheme::Continuous => false,
     }
 }

@@ -7,10 +7,8 @@ ghost use Rattle.tp_model.specs.SerialRun as serial;
 
 use crate::wide::Wide;
 use std::alloc::Global;
+use tp_model::REGISTER_PLACES;
 use tp_types::{List, NoMemory, Operand, Query, Term, Transaction, TryClone};
-
-/// The registers count from 1 to 9, and the first place is not used.
-const REGISTERS: usize = 10;
 
 fn number_at(alloc: Global, numbers: &List<Wide>, place: u32) -> Result<Wide, NoMemory>
     ensures { IfOk result (λ made. made ≡ serial.number_at numbers.now place) }
@@ -132,7 +130,7 @@ pub fn is_run_value(
         ≡ option_map_or (int_eq value) (serial.run_value txn.now store.now number) false) }
 {
     let mut values = widened(alloc, store.as_slice())?;
-    let mut registers = widened(alloc, &[0; REGISTERS])?;
+    let mut registers = widened(alloc, &[0; REGISTER_PLACES])?;
     let queries = txn.queries.as_slice();
     is_value_in(alloc, &mut registers, &mut values, queries, number, value)
 }

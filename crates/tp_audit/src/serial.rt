@@ -9,13 +9,11 @@ ghost use Rattle.tp_model.specs.SerialRun as serial;
 
 use crate::total::{Total, is_total, minus, nothing, plus};
 use std::alloc::Global;
+use tp_model::REGISTER_PLACES;
 use tp_types::{
     Action, CommitRecord, Decision, Deed, Fact, Item, ItemId, List, NoMemory, Operand, Place,
     Query, Scenario, Term, Transaction, TxnId, What,
 };
-
-/// The registers count from 1 to 9, and the first place is not used.
-const REGISTERS: usize = 10;
 
 fn number_at(numbers: &[i128], place: u32) -> i128
     ensures { result ≡ serial.number_at numbers.now place }
@@ -153,12 +151,12 @@ fn follow(
 fn is_serial_run(store: &mut List<i128>, deeds: &List<Deed>, txn: &Transaction) -> bool
     ensures same { result ≡ pointwise serial.same_deed deeds.now
         (serial.serial_run txn.now store.old) }
-    ensures store { IsTrue result → store.new ≡ serial.stored_all store.old deeds.now }
+    ensures store { IsTrue result → store.new ≡ serial.with_deeds store.old deeds.now }
 {
     if deeds.len() != txn.queries.len() {
         return false;
     }
-    let mut registers = [0i128; REGISTERS];
+    let mut registers = [0i128; REGISTER_PLACES];
     for (at, query) in txn.queries.as_slice().iter().enumerate() {
         if !follow(&mut registers, store, at + 1, query, &deeds.as_slice()[at]) {
             return false;
@@ -210,7 +208,7 @@ fn opening_store(alloc: Global, scenario: &Scenario) -> Result<List<i128>, NoMem
 }
 
 fn store_deed(store: &mut List<i128>, deed: &Deed)
-    ensures { store.new ≡ serial.stored store.old deed.now }
+    ensures { store.new ≡ serial.with_deed store.old deed.now }
 {
     match deed.action {
         Action::Read => {}
@@ -219,7 +217,7 @@ fn store_deed(store: &mut List<i128>, deed: &Deed)
 }
 
 fn store_deeds(store: &mut List<i128>, deeds: &List<Deed>)
-    ensures { store.new ≡ serial.stored_all store.old deeds.now }
+    ensures { store.new ≡ serial.with_deeds store.old deeds.now }
 {
     for deed in deeds.as_slice() {
         store_deed(store, deed);
@@ -227,7 +225,7 @@ fn store_deeds(store: &mut List<i128>, deeds: &List<Deed>)
 }
 
 fn store_fact(store: &mut List<i128>, fact: &Fact)
-    ensures { store.new ≡ serial.stored_fact store.old fact.now }
+    ensures { store.new ≡ serial.with_fact store.old fact.now }
 {
     match &fact.what {
         What::Decided(_, Decision::Commit(committed)) => store_deeds(store, &committed.deeds),

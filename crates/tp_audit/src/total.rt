@@ -2,7 +2,7 @@
 ghost use Rattle.std.specs.Prelude.{◌≡◌, ℕ, ◌+◌, ◌^◌, pos, neg_ℤ, ◌+ℤ◌, ◌-ℤ◌, ◌<ℤ◌, ◌≤ℤ◌};
 ghost use Rattle.std.specs.Ordering.{int_eq};
 ghost use Rattle.tp_audit.specs.mirrors.Programs as program;
-ghost use Rattle.tp_model.specs.Queries.{signed};
+ghost use Rattle.tp_model.specs.Queries.{with_sign};
 
 /// A sum that may be past an i128: its part in that range, and how often it wrapped, counted up above and down below.
 #[derive(Clone, Copy)]
@@ -72,7 +72,7 @@ pub fn minus(total: Total, term: i128) -> Total
 
 /// The sum of a carry and of two digits, of which the second may be taken away.
 pub fn column(carry: i128, one: i128, other: i128, is_taken: bool) -> Total
-    ensures { program.value_of result ≡ (carry +ℤ one) +ℤ signed is_taken other }
+    ensures { program.value_of result ≡ (carry +ℤ one) +ℤ with_sign is_taken other }
 {
     let total = plus(plus(nothing(), carry), one);
     if is_taken {

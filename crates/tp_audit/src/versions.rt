@@ -9,7 +9,7 @@ use tp_model::{is_global, level_of, publications, reads_master};
 use tp_types::{AdminId, Fact, Instance, List, Place, Scenario, Transaction, Verdict, Version};
 
 fn opening_of(scenario: &Scenario, admin: AdminId) -> Version
-    ensures { result ≡ versions.opening_of scenario.now admin }
+    ensures { result ≡ versions.opening_version scenario.now admin }
 {
     match scenario.admins.get(admin.0 as usize) {
         None => Version(0),

@@ -2,7 +2,7 @@
 ghost use Rattle.std.specs.Prelude.{◌≡◌, length, max, pos, ◌+ℤ◌, IfOk};
 ghost use Rattle.std.specs.Ordering.{int_eq};
 ghost use Rattle.tp_audit.specs.mirrors.Digits.{number_of};
-ghost use Rattle.tp_model.specs.Queries.{signed};
+ghost use Rattle.tp_model.specs.Queries.{with_sign};
 ghost use Rattle.tp_model.specs.SerialRun.{number_at};
 
 use crate::total::{column, nothing};
@@ -52,7 +52,7 @@ fn digits_of_sum(
     minus: bool,
 ) -> Result<List<i128>, NoMemory>
     ensures { IfOk result (λ made.
-        number_of made ≡ number_of one.now +ℤ signed minus (number_of other.now)) }
+        number_of made ≡ number_of one.now +ℤ with_sign minus (number_of other.now)) }
 {
     let mut made = List::new(alloc);
     let mut total = nothing();
@@ -96,7 +96,7 @@ impl Wide {
 
     /// The sum with another number, or with its negative.
     pub fn plus(&self, alloc: Global, other: &Wide, minus: bool) -> Result<Wide, NoMemory>
-        ensures { IfOk result (λ made. made ≡ self.now +ℤ signed minus other.now) }
+        ensures { IfOk result (λ made. made ≡ self.now +ℤ with_sign minus other.now) }
     {
         Ok(Wide {
             digits: digits_of_sum(

@@ -7,7 +7,7 @@ use Rattle.std.proofs.Math.Bool.{and-false}
 use Rattle.std.proofs.lemmas.List.Elements.{filter_agree}
 use Rattle.tp_model.specs.Words.{Action, CredId, Fact, Item, Policy, Query, Scenario, Transaction, Verdict}
 use Rattle.tp_model.specs.Authorisation.{is_certified, is_usable, policy_at, rule_in, rule_proves, tests_item, tests_query, tests_version}
-use Rattle.tp_model.specs.Credentials.{held, held_in, is_presented, is_valid, is_valid_in, triples_in}
+use Rattle.tp_model.specs.Credentials.{holdings, holdings_in, is_presented, is_valid, is_valid_in, triples_in}
 use Rattle.tp_model.specs.Policies.{rule_allows}
 use Rattle.tp_model.specs.Queries.{item_of, query_at}
 use Rattle.tp_check.specs.OfHistory.{IsAt, holder_of, is_checked_of, is_verdict_checked}
@@ -30,7 +30,7 @@ all_both one other [] = refl
 all_both one other (x ∷ xs) = both_first (one x) (other x) (list_all one xs) (list_all other xs) (list_all (λ y. one y && other y) xs) (all_both one other xs)
 
 pub held_there : (sc : Scenario) (place : ℕ) (facts : List Fact) (now : ℕ) (revoked : List CredId) → IsAt sc place facts now revoked
-    → (txn : Transaction) → held_in sc.creds txn.subject now revoked txn.creds ≡ held sc place facts txn
+    → (txn : Transaction) → holdings_in sc.creds txn.subject now revoked txn.creds ≡ holdings sc place facts txn
 held_there sc place facts now revoked is txn =
     ap (triples_in sc.creds txn.subject) (filter_agree (is_valid_in sc.creds now revoked) (is_valid sc place facts) (valid_there sc place facts now revoked is) txn.creds)
 
@@ -61,7 +61,7 @@ of_version one other b same sc txn number (Some policy) = of_query one other b s
 
 checked_where : (sc : Scenario) (txn : Transaction) (now : ℕ) (revoked uses : List CredId) (rule : ℕ) (asked : Action) (item : List ℕ) (policy : Policy) (valid : Bool)
     → list_all (is_valid_in sc.creds now revoked) uses ≡ valid
-    → (option_map_or (rule_allows asked item (held_in sc.creds txn.subject now revoked uses)) (rule_in policy rule) false && valid)
+    → (option_map_or (rule_allows asked item (holdings_in sc.creds txn.subject now revoked uses)) (rule_in policy rule) false && valid)
     ≡ (rule_proves sc txn uses (Some rule) asked item policy && valid)
 checked_where sc txn now revoked uses rule asked item policy true e =
     ap (λ creds. option_map_or (rule_allows asked item (triples_in sc.creds txn.subject creds)) (rule_in policy rule) false && true)

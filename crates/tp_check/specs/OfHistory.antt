@@ -3,7 +3,7 @@ use Rattle.std.specs.Prelude.{◌≡◌, ℕ, ◌&&◌, List, Bool, false, Optio
 use Rattle.std.specs.List.{list_all}
 use Rattle.tp_model.specs.Words.{Action, CredId, Fact, Policy, Scenario, Transaction, Verdict}
 use Rattle.tp_model.specs.Authorisation.{is_certified, policy_at, tests_version}
-use Rattle.tp_model.specs.Credentials.{clock_at, held, held_in, is_among, is_presented, is_valid, is_valid_in, revoked_at}
+use Rattle.tp_model.specs.Credentials.{clock_at, holdings, holdings_in, is_among, is_presented, is_valid, is_valid_in, revoked_at}
 use Rattle.tp_cred.specs.Certificates.{is_checked}
 use Rattle.tp_cred.specs.Holder.{Holder}
 
@@ -26,7 +26,7 @@ IsHeldThere =
     (sc : Scenario) (place : ℕ) (facts : List Fact) (now : ℕ) (revoked : List CredId)
     → IsAt sc place facts now revoked
     → (txn : Transaction)
-    → held_in sc.creds txn.subject now revoked txn.creds ≡ held sc place facts txn
+    → holdings_in sc.creds txn.subject now revoked txn.creds ≡ holdings sc place facts txn
 
 -- the subject of a transaction, with the credentials of its scenario
 abbrev pub holder_of : Scenario → Transaction → ℕ → List CredId → Holder

@@ -1,10 +1,9 @@
 -- A coordinator's rows: what it does when its transaction is submitted, and on receipt of a mail. A reply is used only in
 -- the phase that awaits it, with the present turn, and once from each server; otherwise nothing happens.
 use Rattle.std.specs.List.{find}
-use Rattle.std.specs.Option.{option_map_or}
-use Rattle.std.specs.Prelude.{Bool, List, None, Option, Some, [], false, filter, if◌then◌else◌, map, min, not, option_and_then, option_map, slice_get, slice_set, true, unwrap_or, ℕ, ℤ, ◌&&◌, ◌++◌, ◌+◌, ◌-◌, ◌==◌, ◌^◌, ◌∷◌}
+use Rattle.std.specs.Option.{option_flatten, option_map_or}
+use Rattle.std.specs.Prelude.{Bool, List, None, Option, Some, [], false, filter, if◌then◌else◌, map, not, option_and_then, option_map, slice_get, slice_set, true, unwrap_or, ℕ, ℤ, ◌&&◌, ◌++◌, ◌==◌, ◌∷◌}
 use Rattle.tp_types.specs.Effect.{Effect, ignores, logs, sends, unbuilt}
-use Rattle.tp_types.specs.Table.{flattened}
 use Rattle.tp_types.specs.declared.records.Outcome.TheVariants.{Abort, Commit}
 use Rattle.tp_model.specs.Queries.{item_of, query_at}
 use Rattle.tp_model.specs.Ids.{same_server}
@@ -17,6 +16,7 @@ use Rattle.tp_model.specs.Words.log
 use Rattle.tp_model.specs.Words.no
 use Rattle.tp_model.specs.Words.vote
 use Rattle.tp_model.specs.Words.{Actor, AdminId, Answer, Body, Cause, CommitRecord, Decision, Denied, Died, DoneReply, Instance, Item, ItemId, Letter, Mail, No, OutOfRange, Outcome, PrepareRequest, Query, QueryRequest, Scenario, ServerId, Staple, TellReply, Transaction, TxnId, Verdict, Version, Vote, VoteReply}
+use Rattle.tp_model.specs.Limits.{next_count, view_rounds}
 use Rattle.tp_model.specs.Deeds.{deed_of}
 use Rattle.tp_coord.specs.Sums.{asked_value}
 use Rattle.tp_coord.specs.State.{Coordinator}
@@ -32,7 +32,7 @@ use Rattle.tp_round.specs.declared.round.Wanted.{Wanted}
 
 -- the turn of the next request; at the greatest number it stays
 abbrev pub next_turn : Coordinator → ℕ
-next_turn c = min (c.turn + 1) (2 ^ 32 - 1)
+next_turn c = next_count c.turn
 
 -- a letter to a server
 abbrev pub request : Coordinator → ServerId → Body → Letter
@@ -46,8 +46,8 @@ abbrev pub requests : Coordinator → Body → List ServerId → List Letter
 requests c said servers = map (λ (server : ServerId). request c server said) servers
 
 -- a query of the transaction by its number
-abbrev pub query_of : Scenario → Coordinator → ℕ → Option Query
-query_of sc c number =
+abbrev pub own_query : Scenario → Coordinator → ℕ → Option Query
+own_query sc c number =
     option_and_then (λ (txn : Transaction). query_at txn number) (slice_get sc.txns c.txn.0)
 
 -- the server of an item
@@ -79,7 +79,7 @@ aborts c why = decides c Abort (decision.Abort why)
 
 -- the epoch that a server has told the transaction, if it has told one
 abbrev pub epoch_told : Coordinator → ServerId → Option ℕ
-epoch_told c server = flattened (slice_get c.epochs server.0)
+epoch_told c server = option_flatten (slice_get c.epochs server.0)
 
 -- the value that a query is asked with: a write's sum over what was read
 abbrev pub value_of : Scenario → Coordinator → ℕ → Option ℤ
@@ -111,7 +111,7 @@ sends_query sc c number server =
 
 -- the server of the transaction's query of this number
 abbrev pub home_of : Scenario → Coordinator → ℕ → Option ServerId
-home_of sc c number = option_and_then (server_of sc) (query_of sc c number)
+home_of sc c number = option_and_then (server_of sc) (own_query sc c number)
 
 -- ---- Submit
 
@@ -148,7 +148,7 @@ asks c round = sends (record c { turn = next_turn c; phase = phase.Asking round 
 
 -- the first round at commit, of all of the transaction's servers. No master is read, and under view consistency two rounds are enough
 abbrev pub commit_round : Coordinator → Round
-commit_round c = first_round c.servers 2 [] false
+commit_round c = first_round c.servers view_rounds [] false
 
 -- a coordinator with the deed of a query that ran, and the epoch of its server
 abbrev pub with_deed : Coordinator → ServerId → DoneReply → Query → ℤ → Coordinator
@@ -160,7 +160,7 @@ with_deed c server done query value =
 
 -- the number after a query's; at the greatest number it stays
 abbrev pub next_number : ℕ → ℕ
-next_number number = min (number + 1) (2 ^ 32 - 1)
+next_number number = next_count number
 
 -- the query of this number is asked, or where there is none the rounds at commit begin
 abbrev pub asks_next : Scenario → Coordinator → ℕ → Option ServerId → Effect Coordinator
@@ -176,22 +176,30 @@ abbrev pub died_for : ServerId → DoneReply → TxnId → ℕ → Died
 died_for server done other sent =
     record { query = done.query; server = server; other = other; place = sent }
 
+-- the reply that is awaited: where it was sent, the server that was asked, and the query that it answers
+pub record QueryReply : Type 0 where
+  pub sent : ℕ
+  pub server : ServerId
+  pub done : DoneReply
+  pub query : Query
+
 -- by the answer: what ran is kept, and the transaction goes on; where an older one stood in the way it aborts. Another answer that ends
 -- the transaction is not built
-abbrev pub on_answer : Scenario → Coordinator → ℕ → ServerId → DoneReply → Query → Answer
-    → Effect Coordinator
-on_answer sc c sent server done query (answer.Ran value None) =
-    goes_on sc (with_deed c server done query value) done.query
-on_answer sc c sent server done query (answer.Died other) =
-    aborts c (cause.Died (died_for server done other sent))
-on_answer sc c sent server done query _ = unbuilt c
+abbrev pub on_answer : Scenario → Coordinator → QueryReply → Answer → Effect Coordinator
+on_answer sc c reply (answer.Ran value None) =
+    goes_on sc (with_deed c reply.server reply.done reply.query value) reply.done.query
+on_answer sc c reply (answer.Died other) =
+    aborts c (cause.Died (died_for reply.server reply.done other reply.sent))
+on_answer sc c reply _ = unbuilt c
 
 -- the reply to a query, from the server that was asked
 abbrev pub on_done_from : Scenario → Coordinator → ℕ → Actor → DoneReply → Query → Option ServerId
     → Effect Coordinator
 on_done_from sc c sent from done query None = ignores c
 on_done_from sc c sent from done query (Some server) =
-    if is_from from server then on_answer sc c sent server done query done.answer else ignores c
+    if is_from from server
+    then on_answer sc c (record { sent = sent; server = server; done = done; query = query }) done.answer
+    else ignores c
 
 abbrev pub on_done_of_query : Scenario → Coordinator → ℕ → Actor → DoneReply → Option Query
     → Effect Coordinator
@@ -213,7 +221,7 @@ abbrev pub on_done : Scenario → Coordinator → Phase → ℕ → Actor → Do
 on_done sc c awaited sent from done =
     if awaits_query c awaited done
     then (if is_plain awaited
-    then on_done_of_query sc c sent from done (query_of sc c done.query)
+    then on_done_of_query sc c sent from done (own_query sc c done.query)
     else unbuilt c)
     else ignores c
 
@@ -245,12 +253,12 @@ prepare_letter c round staple server =
 abbrev pub staple_of : TellReply → ℕ → Staple
 staple_of tell sent = record { place = sent; clock = tell.clock; revoked = tell.revoked }
 
-abbrev pub server_in : Target → ServerId
-server_in target = target.server
+abbrev pub server_of_target : Target → ServerId
+server_of_target target = target.server
 
 -- the servers of a round whose replies are awaited
 abbrev pub awaited_in : Round → List ServerId
-awaited_in round = map server_in (filter is_missing round.targets)
+awaited_in round = map server_of_target (filter is_missing round.targets)
 
 -- each awaited server is asked to prepare with the staple, at the versions that are wanted of it
 abbrev pub prepares : Coordinator → Round → Staple → Effect Coordinator
@@ -292,14 +300,14 @@ denied_by verdict =
       place = verdict.place;
     }
 
--- by what is judged of the replies: a missing one is awaited, true proofs of one version each commit, a false one denies, and servers that
--- are out of date are asked again
+-- by what is judged of the replies: a missing one is awaited, servers that are out of date are asked again as long as rounds are left, a
+-- false proof denies, and true proofs of one version each commit
 abbrev pub on_judged : Coordinator → Round → Staple → Judged → Effect Coordinator
 on_judged c round staple judged.Waiting = sends (record c { phase = phase.Checking round staple }) []
-on_judged c round staple judged.AllTrue = commits c round.number (by_query (proofs_in round.targets))
-on_judged c round staple (judged.False verdict) = aborts c (cause.Denied (denied_by verdict))
 on_judged c round staple (judged.Spent mets) = aborts c (cause.Rounds mets)
 on_judged c round staple (judged.Update named) = asks c (after_judgement round None)
+on_judged c round staple (judged.False verdict) = aborts c (cause.Denied (denied_by verdict))
+on_judged c round staple judged.AllTrue = commits c round.number (by_query (proofs_in round.targets))
 
 -- a round with one more reply is judged
 abbrev pub on_reply : Coordinator → Round → Staple → Effect Coordinator

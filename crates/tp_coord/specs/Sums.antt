@@ -28,11 +28,11 @@ registers_after txn deeds = registers_from txn.queries deeds cleared_registers
 -- ---- sums
 
 -- the nearest number that an i128 holds
-abbrev pub clamped : ℤ → ℤ
-clamped total = saturate_signed w128 total
+abbrev pub in_128_bits : ℤ → ℤ
+in_128_bits total = saturate_signed w128 total
 
 abbrev pub add_clamped : List ℤ → ℤ → Term → ℤ
-add_clamped registers total term = clamped (total +ℤ term_in registers term)
+add_clamped registers total term = in_128_bits (total +ℤ term_in registers term)
 
 -- the value of a sum, each step of it held in an i128
 abbrev pub clamped_sum : List ℤ → List Term → ℤ

@@ -159,7 +159,7 @@ impl Coordinator {
     }
 
     fn query_of<'a>(&self, scenario: &'a Scenario, number: u32) -> Option<&'a Query>
-        ensures { option_copied result ≡ row.query_of scenario.now self.now number }
+        ensures { option_copied result ≡ row.own_query scenario.now self.now number }
     {
         match scenario.txns.get(self.txn.0 as usize) {
             None => None,
@@ -325,7 +325,9 @@ impl Coordinator {
         query: &Query,
     ) -> Result<Reaction, NoMemory>
         ensures { IfOk result (λ reaction.
-            Gives (row.on_answer scenario.now self.old sent server done.now query.now
+            Gives
+            (row.on_answer scenario.now self.old
+            (record { sent = sent; server = server; done = done.now; query = query.now })
             done.now.answer)
             self.new reaction) }
     {

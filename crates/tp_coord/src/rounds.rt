@@ -1,5 +1,5 @@
 //! A coordinator's rounds of validation: the authority is asked, then the servers are to prepare, and their votes are judged.
-ghost use Rattle.std.specs.Prelude.{◌≡◌, Option, Some, None, [], map, IfOk};
+ghost use Rattle.std.specs.Prelude.{◌≡◌, Option, Some, None, [], map, IfOk, OnOk};
 ghost use Rattle.std.specs.List.{find};
 ghost use Rattle.std.specs.Option.{option_copied};
 ghost use Rattle.tp_model.specs.Ids.{same_server};
@@ -14,15 +14,13 @@ use crate::coordinator::{Coordinator, Phase};
 use crate::decisions::denied_by;
 use std::alloc::Global;
 use std::mem;
+use tp_model::VIEW_ROUNDS;
 use tp_round::{Judged, Round, Wanted};
 use tp_types::{
     Actor, AdminId, AskRequest, Body, Cause, Letter, Level, List, No, NoMemory, OutOfRange, Place,
     PrepareRequest, Reaction, ServerId, Staple, TellReply, TryClone, Verdict, Version, Vote,
     VoteReply, ignored, nothing, sent_alone, unbuilt,
 };
-
-/// Under view consistency two rounds bring all servers to one version.
-const VIEW_ROUNDS: u32 = 2;
 
 impl Coordinator {
     /// All queries ran: the first round at commit, of all of the transaction's servers.
@@ -228,15 +226,31 @@ impl Coordinator {
             self.new reaction) }
     {
         let mut round = round;
-        round.reply(server, verdicts.try_clone(alloc)?);
-        match round.judge(alloc, None)? {
+        match judged_with(alloc, &mut round, server, verdicts)? {
             Judged::Waiting => Ok(self.awaits_more(alloc, round, staple)),
-            Judged::AllTrue => self.commits(alloc, &round),
-            Judged::False { verdict } => self.aborts(alloc, Cause::Denied(denied_by(&verdict))),
             Judged::Spent(mets) => self.aborts(alloc, Cause::Rounds(mets)),
             Judged::Update(_) => self.asks(alloc, round),
+            Judged::False { verdict } => self.aborts(alloc, Cause::Denied(denied_by(&verdict))),
+            Judged::AllTrue => self.commits(alloc, &round),
         }
     }
+}
+
+/// A reply comes into its round, which is judged with it.
+fn judged_with(
+    alloc: Global,
+    round: &mut Round,
+    server: ServerId,
+    verdicts: &List<Verdict>,
+) -> Result<Judged, NoMemory>
+    ensures answer { IfOk result (λ judged.
+        judged ≡ judge.judge (judge.after_reply round.old server verdicts.now) None) }
+    ensures next { OnOk result
+        (round.new ≡ judge.after_judgement (judge.after_reply round.old server verdicts.now) None) }
+{
+    let verdicts = verdicts.try_clone(alloc)?;
+    round.reply(server, verdicts);
+    round.judge(alloc, None)
 }
 
 /// What the authority told, at the place where it was sent.

@@ -4,16 +4,13 @@ ghost use Rattle.tp_coord.specs.Sums as sums;
 ghost use Rattle.tp_model.specs.SerialRun as run;
 
 use std::alloc::Global;
-use tp_model::query_at;
+use tp_model::{REGISTER_PLACES, query_at};
 use tp_types::{Deed, List, NoMemory, Operand, Query, Term, Transaction};
-
-/// The registers count from 1 to 9, and the first place is not used.
-const REGISTERS: usize = 10;
 
 fn cleared_registers(alloc: Global) -> Result<List<i128>, NoMemory>
     ensures { IfOk result (λ made. made ≡ run.cleared_registers) }
 {
-    Ok(List::from_vec(vec![in alloc; 0; REGISTERS]?))
+    Ok(List::from_vec(vec![in alloc; 0; REGISTER_PLACES]?))
 }
 
 /// The registers once a transaction's first queries have done these deeds.

@@ -91,16 +91,16 @@ pub data Call : Type 0 where
   Sync : Call
 
 -- A refusal of memory changes nothing, and a sync answers none. A sync that failed changes nothing
-abbrev pub Effect : Call → DiskState → Result (Unit {0}) DiskError → DiskState → Type 0
-Effect (Write at piece) old (Ok _) new = new ≡ after_write at piece old
-Effect (Write at piece) old (Err errors.Failed) new = MayHaveWritten at (length piece) old new
-Effect (Write at piece) old (Err errors.NoMemory) new = new ≡ old
-Effect (Cut len) old (Ok _) new = new ≡ after_cut len old
-Effect (Cut len) old (Err errors.Failed) new = MayHaveCut len old new
-Effect (Cut len) old (Err errors.NoMemory) new = new ≡ old
-Effect Sync old (Ok _) new = new ≡ after_sync old
-Effect Sync old (Err errors.Failed) new = new ≡ old
-Effect Sync old (Err errors.NoMemory) new = ⊥
+abbrev pub CallEffect : Call → DiskState → Result (Unit {0}) DiskError → DiskState → Type 0
+CallEffect (Write at piece) old (Ok _) new = new ≡ after_write at piece old
+CallEffect (Write at piece) old (Err errors.Failed) new = MayHaveWritten at (length piece) old new
+CallEffect (Write at piece) old (Err errors.NoMemory) new = new ≡ old
+CallEffect (Cut len) old (Ok _) new = new ≡ after_cut len old
+CallEffect (Cut len) old (Err errors.Failed) new = MayHaveCut len old new
+CallEffect (Cut len) old (Err errors.NoMemory) new = new ≡ old
+CallEffect Sync old (Ok _) new = new ≡ after_sync old
+CallEffect Sync old (Err errors.Failed) new = new ≡ old
+CallEffect Sync old (Err errors.NoMemory) new = ⊥
 
 -- ---- moments
 

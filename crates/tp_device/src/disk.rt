@@ -1,6 +1,6 @@
 //! Disks, as a log sees them.
 ghost use Rattle.std.specs.Prelude.{◌≡◌, ◌≤◌, ℕ, List, Result, length, IfOk, IsErrOf};
-ghost use Rattle.tp_device.specs.Disks.{Call, Cut, DiskState, Effect, MayLeave, Passes, ReadsAt, Sync, Write};
+ghost use Rattle.tp_device.specs.Disks.{Call, Cut, DiskState, CallEffect, MayLeave, Passes, ReadsAt, Sync, Write};
 ghost use Rattle.tp_device.specs.Faults.{HasCause};
 ghost use Rattle.tp_device.specs.declared.disk.DiskError.{DiskError};
 
@@ -55,7 +55,7 @@ pub trait Disk: Drop {
     /// Writes over what is there, and past the end. Until the next sync a crash may leave any bytes there.
     fn write_at(&mut self, at: u64, piece: &[u8]) -> Result<(), DiskError>
         requires { at ≤ length (state self.old).seen }
-        ensures effect { Effect (Write at piece.now) (state self.old) result (state self.new) }
+        ensures effect { CallEffect (Write at piece.now) (state self.old) result (state self.new) }
         ensures call { does self.old (Write at piece.now) result self.new }
         ensures cause { HasCause (faults self.old) (faults self.new) result }
         ensures time { Passes state left_since self.old self.new };
@@ -63,14 +63,14 @@ pub trait Disk: Drop {
     /// Keeps so many bytes. Until the next sync a crash may leave more.
     fn cut(&mut self, len: u64) -> Result<(), DiskError>
         requires { len ≤ length (state self.old).seen }
-        ensures effect { Effect (Cut len) (state self.old) result (state self.new) }
+        ensures effect { CallEffect (Cut len) (state self.old) result (state self.new) }
         ensures call { does self.old (Cut len) result self.new }
         ensures cause { HasCause (faults self.old) (faults self.new) result }
         ensures time { Passes state left_since self.old self.new };
 
     /// After it a crash leaves what a read gives. Where it fails nothing more counts as synced.
     fn sync(&mut self) -> Result<(), DiskError>
-        ensures effect { Effect Sync (state self.old) result (state self.new) }
+        ensures effect { CallEffect Sync (state self.old) result (state self.new) }
         ensures call { does self.old Sync result self.new }
         ensures cause { HasCause (faults self.old) (faults self.new) result }
         ensures time { Passes state left_since self.old self.new };

@@ -2,7 +2,7 @@
 ghost use Rattle.std.specs.Prelude.{◌≡◌, ◌≤◌, ◌<◌, ◌⊎◌, ◌++◌, ℕ, List, length, Some, None, drop, take, min, OnOk, OnErr, IfOk, IsErrOf};
 ghost use Rattle.std.proofs.Common.{inl, inr, ⊎_elim};
 ghost use Rattle.tp_device.specs.Disks as disks;
-ghost use Rattle.tp_device.specs.Disks.{Cut, Effect, MayLeave, Passes, ReadsAt, Sync, Write};
+ghost use Rattle.tp_device.specs.Disks.{Cut, CallEffect, MayLeave, Passes, ReadsAt, Sync, Write};
 ghost use Rattle.tp_types.specs.Faults.{one_more};
 ghost use Rattle.tp_device.specs.Faults.{HasCause};
 ghost use Rattle.tp_device.specs.Memory as memory;
@@ -108,7 +108,8 @@ impl Model for MemoryDisk {
       faults = m.fuse.faults;
     } };
 
-    ghost invariant = { λ m. (m.least ≤ length m.content.items) × (length m.content.items ≤ m.greatest) };
+    ghost invariant = { λ m.
+        (m.least ≤ length m.content.items) × (length m.content.items ≤ m.greatest) };
 }
 
 impl MemoryDisk {
@@ -205,7 +206,7 @@ impl Disk for MemoryDisk {
 
     fn write_at(&mut self, at: u64, piece: &[u8]) -> Result<(), DiskError>
         requires { at ≤ length self.old.disk.seen }
-        ensures effect { Effect (Write at piece.now) self.old.disk result self.new.disk }
+        ensures effect { CallEffect (Write at piece.now) self.old.disk result self.new.disk }
         ensures call { memory.does self.old (Write at piece.now) result self.new }
         ensures cause { HasCause self.old.faults self.new.faults result }
         ensures time { Passes memory.disk_of memory.left_at_ends self.old self.new }
@@ -227,7 +228,7 @@ impl Disk for MemoryDisk {
 
     fn cut(&mut self, len: u64) -> Result<(), DiskError>
         requires { len ≤ length self.old.disk.seen }
-        ensures effect { Effect (Cut len) self.old.disk result self.new.disk }
+        ensures effect { CallEffect (Cut len) self.old.disk result self.new.disk }
         ensures call { memory.does self.old (Cut len) result self.new }
         ensures cause { HasCause self.old.faults self.new.faults result }
         ensures time { Passes memory.disk_of memory.left_at_ends self.old self.new }
@@ -241,7 +242,7 @@ impl Disk for MemoryDisk {
     }
 
     fn sync(&mut self) -> Result<(), DiskError>
-        ensures effect { Effect Sync self.old.disk result self.new.disk }
+        ensures effect { CallEffect Sync self.old.disk result self.new.disk }
         ensures call { memory.does self.old Sync result self.new }
         ensures cause { HasCause self.old.faults self.new.faults result }
         ensures time { Passes memory.disk_of memory.left_at_ends self.old self.new }

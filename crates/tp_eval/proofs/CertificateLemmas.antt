@@ -16,7 +16,7 @@ use Rattle.tp_model.specs.Credentials.{is_among}
 use Rattle.tp_cred.specs.Certificates.{is_checked}
 use Rattle.tp_cred.specs.Validity.{shows_in}
 use Rattle.tp_eval.specs.declared.policies.Certificate.{Certificate}
-use Rattle.tp_eval.specs.Taken.{certificate, certificate_of, first_certificate, once, taken_by_rule, with_cred}
+use Rattle.tp_eval.specs.Uses.{certificate, certificate_of, first_certificate, once, uses_of_rule, with_cred}
 use Rattle.tp_eval.proofs.OnceLemmas.{begins_itself, begins_once}
 use Rattle.tp_eval.proofs.SoundLemmas.{Asked, Decides, held_with, is_sound, is_true_of, is_usable, is_valid_for, same_as_itself, takes}
 
@@ -88,7 +88,7 @@ abbrev is_allowed_by : Asked → Action → List ℕ → Rule → List CredId �
 is_allowed_by asked action item rule uses = rule_allows action item (held_with asked uses) rule
 
 abbrev takes_rule : Asked → Action → List ℕ → Rule → Option (List CredId)
-takes_rule asked action item rule = taken_by_rule (shows_in asked.holder) asked.presented action item rule
+takes_rule asked action item rule = uses_of_rule (shows_in asked.holder) asked.presented action item rule
 
 rule_decides_where : (asked : Asked) (rule : Rule) (fits : Bool) → Decides asked (λ uses. fits && is_true_of asked rule.cond uses) (if_so fits (takes asked rule.cond) None)
 rule_decides_where asked rule true = is_sound asked rule.cond

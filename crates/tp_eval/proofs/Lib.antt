@@ -2,4 +2,4 @@ pub mod CertificateLemmas
 pub mod FoundLemmas
 pub mod OnceLemmas
 pub mod SoundLemmas
-pub mod TakenLemmas
+pub mod UsesLemmas

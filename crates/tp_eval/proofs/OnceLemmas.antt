@@ -6,7 +6,7 @@ use Rattle.tp_model.specs.Words.{Cond, CredId}
 use Rattle.tp_model.specs.Credentials.{is_among}
 use Rattle.tp_eval.specs.declared.evidence.Evidence.{Evidence}
 use Rattle.tp_eval.specs.mirrors.Gathered.{gathered, takes}
-use Rattle.tp_eval.specs.Taken.{once, taken_by_all, with_cred}
+use Rattle.tp_eval.specs.Uses.{once, uses_of_all, with_cred}
 
 -- adding one list after another is adding both
 pub once_both : (uses first others : List CredId) → once (once uses first) others ≡ once uses (first ++ others)
@@ -77,17 +77,17 @@ first_where_some (Some creds) others some = refl
 
 -- the members that are left decide, and what was there stands in front
 pub record AllSoFar (held : Evidence) (members : List Cond) (start : List CredId) (at : ℕ) (uses : List CredId) : Type 0 where
-  pub truth : is_some (taken_by_all (map (takes held) (drop at members))) ≡ is_some (taken_by_all (map (takes held) members))
-  pub added : left_by start uses (taken_by_all (map (takes held) (drop at members))) ≡ gathered start (taken_by_all (map (takes held) members))
+  pub truth : is_some (uses_of_all (map (takes held) (drop at members))) ≡ is_some (uses_of_all (map (takes held) members))
+  pub added : left_by start uses (uses_of_all (map (takes held) (drop at members))) ≡ gathered start (uses_of_all (map (takes held) members))
   pub front : Begins start uses
 
 pub all_go_on : (held : Evidence) (members : List Cond) (start uses now : List CredId) (at : ℕ) (member : Cond) → at < length members
     → member ≡ get_or members at member → is_some (takes held member) ≡ true → now ≡ gathered uses (takes held member)
     → AllSoFar held members start at uses → AllSoFar held members start (at + 1) now
 all_go_on held members start uses now at member lt here some added so =
-    let others = taken_by_all (map (takes held) (drop (at + 1) members)) in
+    let others = uses_of_all (map (takes held) (drop (at + 1) members)) in
     let left : drop at members ≡ member ∷ drop (at + 1) members = rw add-one (drop-cons members at member lt ∙ ap (λ first. first ∷ drop (suc at) members) (sym here)) in
-    let next : taken_by_all (map (takes held) (drop at members)) ≡ and_others (takes held member) others = ap (λ rest. taken_by_all (map (takes held) rest)) left in
+    let next : uses_of_all (map (takes held) (drop at members)) ≡ and_others (takes held member) others = ap (λ rest. uses_of_all (map (takes held) rest)) left in
     record {
       truth = sym (goes_on_where (takes held member) others some) ∙ ap is_some (sym next) ∙ so.truth;
       added = ap (λ list. left_by start list others) added ∙ sym (goes_on start uses (takes held member) others some) ∙ ap (left_by start uses) (sym next) ∙ so.added;

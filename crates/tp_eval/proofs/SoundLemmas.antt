@@ -13,14 +13,14 @@ use Rattle.tp_types.specs.declared.policy.Cond.TheOpen.{Cond-F, True, Atom, And,
 use Rattle.tp_model.specs.Ids.{same_cred}
 use Rattle.tp_model.specs.Policies.{Triple, holds, level, meets}
 use Rattle.tp_model.proofs.ConditionLemmas.{holds_and, holds_atom, holds_or}
-use Rattle.tp_model.specs.Credentials.{held_in, is_among, is_valid_in, said_in}
+use Rattle.tp_model.specs.Credentials.{holdings_in, is_among, is_valid_in, said_in}
 use Rattle.tp_cred.specs.Holder.{Holder}
 use Rattle.tp_cred.specs.Validity.{shows_in}
 use Rattle.tp_cred.proofs.HeldLemmas.{any_held}
-use Rattle.tp_eval.specs.Taken as taken
-use Rattle.tp_eval.specs.Taken.{only, taken, taken_by_all, taken_by_first}
+use Rattle.tp_eval.specs.Uses as evaluation
+use Rattle.tp_eval.specs.Uses.{only, uses_of, uses_of_all, uses_of_first}
 use Rattle.tp_eval.proofs.OnceLemmas.{and_others}
-use Rattle.tp_eval.proofs.TakenLemmas.{taken_and, taken_atom, taken_or}
+use Rattle.tp_eval.proofs.UsesLemmas.{taken_and, taken_atom, taken_or}
 
 -- what an evaluation is asked
 pub record Asked : Type 0 where
@@ -29,13 +29,13 @@ pub record Asked : Type 0 where
 
 -- what is held where these credentials are presented
 abbrev pub held_with : Asked → List CredId → List Triple
-held_with asked uses = held_in asked.holder.store asked.holder.subject asked.holder.now asked.holder.revoked uses
+held_with asked uses = holdings_in asked.holder.store asked.holder.subject asked.holder.now asked.holder.revoked uses
 
 abbrev pub is_valid_for : Asked → CredId → Bool
 is_valid_for asked = is_valid_in asked.holder.store asked.holder.now asked.holder.revoked
 
 abbrev pub takes : Asked → Cond → Option (List CredId)
-takes asked condition = taken (shows_in asked.holder) asked.presented condition
+takes asked condition = uses_of (shows_in asked.holder) asked.presented condition
 
 -- the condition is true of these credentials
 abbrev pub is_true_of : Asked → Cond → List CredId → Bool
@@ -148,37 +148,37 @@ abbrev conditions : (asked : Asked) → List ((c : Cond) × IsSound asked c) →
 conditions asked members = map (λ e. e.0) members
 
 all_decide : (asked : Asked) (members : List ((c : Cond) × IsSound asked c))
-    → Decides asked (λ uses. list_all (λ c. is_true_of asked c uses) (conditions asked members)) (taken_by_all (map (takes asked) (conditions asked members)))
+    → Decides asked (λ uses. list_all (λ c. is_true_of asked c uses) (conditions asked members)) (uses_of_all (map (takes asked) (conditions asked members)))
 all_decide asked [] = no_members_decide asked
 all_decide asked (member ∷ members) =
     and_decides asked (is_true_of asked member.0) (λ uses. list_all (λ c. is_true_of asked c uses) (conditions asked members))
-    (takes asked member.0) (taken_by_all (map (takes asked) (conditions asked members))) member.1 (all_decide asked members)
+    (takes asked member.0) (uses_of_all (map (takes asked) (conditions asked members))) member.1 (all_decide asked members)
 
 any_decides : (asked : Asked) (members : List ((c : Cond) × IsSound asked c))
-    → Decides asked (λ uses. list_any (λ c. is_true_of asked c uses) (conditions asked members)) (taken_by_first (map (takes asked) (conditions asked members)))
+    → Decides asked (λ uses. list_any (λ c. is_true_of asked c uses) (conditions asked members)) (uses_of_first (map (takes asked) (conditions asked members)))
 any_decides asked [] = refl
 any_decides asked (member ∷ members) =
     or_decides asked (is_true_of asked member.0) (λ uses. list_any (λ c. is_true_of asked c uses) (conditions asked members))
-    (takes asked member.0) (taken_by_first (map (takes asked) (conditions asked members))) member.1 (any_decides asked members)
+    (takes asked member.0) (uses_of_first (map (takes asked) (conditions asked members))) member.1 (any_decides asked members)
 
 -- a statement that is the same of each list is decided by the same
-alike : (asked : Asked) (one other : List CredId → Bool) (taken : Option (List CredId)) → ((uses : List CredId) → other uses ≡ one uses)
-    → Decides asked one taken → Decides asked other taken
+alike : (asked : Asked) (one other : List CredId → Bool) (found : Option (List CredId)) → ((uses : List CredId) → other uses ≡ one uses)
+    → Decides asked one found → Decides asked other found
 alike asked one other None same decides = same asked.presented ∙ decides
 alike asked one other (Some creds) same decides = record { usable = decides.usable; enough = λ uses among. same uses ∙ decides.enough uses among }
 
 -- ---- a condition
 
-decided_by : (asked : Asked) (condition : Cond) (statement : List CredId → Bool) (taken : Option (List CredId)) → takes asked condition ≡ taken
-    → ((uses : List CredId) → is_true_of asked condition uses ≡ statement uses) → Decides asked statement taken → IsSound asked condition
-decided_by asked condition statement taken e same decides =
-    subst (Decides asked (is_true_of asked condition)) (sym e) (alike asked statement (is_true_of asked condition) taken same decides)
+decided_by : (asked : Asked) (condition : Cond) (statement : List CredId → Bool) (found : Option (List CredId)) → takes asked condition ≡ found
+    → ((uses : List CredId) → is_true_of asked condition uses ≡ statement uses) → Decides asked statement found → IsSound asked condition
+decided_by asked condition statement found e same decides =
+    subst (Decides asked (is_true_of asked condition)) (sym e) (alike asked statement (is_true_of asked condition) found same decides)
 
 true_is_sound : (asked : Asked) → IsSound asked cond.True
 true_is_sound asked =
     decided_by asked cond.True (λ uses. true) (Some [])
     (ap (takes asked) (sym cond.rolls-True)
-    ∙ fold-roll-Cond (Option (List CredId)) (taken.level (shows_in asked.holder) asked.presented) True)
+    ∙ fold-roll-Cond (Option (List CredId)) (evaluation.level (shows_in asked.holder) asked.presented) True)
     (λ uses. ap (λ c. is_true_of asked c uses) (sym cond.rolls-True)
     ∙ fold-roll-Cond Bool (level (held_with asked uses)) True)
     (no_members_decide asked)
@@ -195,7 +195,7 @@ atom_is_sound asked issuer attr op wanted =
 and_is_sound : (asked : Asked) (members : List ((c : Cond) × IsSound asked c)) → IsSound asked (cond.And (conditions asked members))
 and_is_sound asked members =
     decided_by asked (cond.And (conditions asked members)) (λ uses. list_all (λ c. is_true_of asked c uses) (conditions asked members))
-    (taken_by_all (map (takes asked) (conditions asked members)))
+    (uses_of_all (map (takes asked) (conditions asked members)))
     (taken_and (shows_in asked.holder) asked.presented (conditions asked members))
     (λ uses. holds_and (held_with asked uses) (conditions asked members))
     (all_decide asked members)
@@ -203,7 +203,7 @@ and_is_sound asked members =
 or_is_sound : (asked : Asked) (members : List ((c : Cond) × IsSound asked c)) → IsSound asked (cond.Or (conditions asked members))
 or_is_sound asked members =
     decided_by asked (cond.Or (conditions asked members)) (λ uses. list_any (λ c. is_true_of asked c uses) (conditions asked members))
-    (taken_by_first (map (takes asked) (conditions asked members)))
+    (uses_of_first (map (takes asked) (conditions asked members)))
     (taken_or (shows_in asked.holder) asked.presented (conditions asked members))
     (λ uses. holds_or (held_with asked uses) (conditions asked members))
     (any_decides asked members)

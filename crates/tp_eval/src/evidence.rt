@@ -21,7 +21,8 @@ pub struct Evidence<'a> {
     pub revoked: &'a [CredId],
     /// Those presented that are valid, in the same order.
     pub valid: &'a [CredId],
-    ghost filtered: { valid.now ≡ filter (validity.is_valid_in creds.now clock revoked.now) presented.now },
+    ghost filtered: { valid.now
+        ≡ filter (validity.is_valid_in creds.now clock revoked.now) presented.now },
 }
 
 /// Those of the presented credentials that are valid, in their order.

@@ -5,14 +5,14 @@ ghost use Rattle.std.specs.Option.{is_some};
 ghost use Rattle.tp_model.specs.Policies.{meets};
 ghost use Rattle.tp_eval.specs.mirrors.Gathered as mirror;
 ghost use Rattle.tp_eval.specs.mirrors.Gathered.{gathered, takes};
-ghost use Rattle.tp_eval.specs.Taken as taken;
+ghost use Rattle.tp_eval.specs.Uses as evaluation;
 
 use crate::evidence::Evidence;
 use tp_cred::{is_among, says};
 use tp_types::{Cond, CredId, List, Name, NoMemory, Op, Value};
 
 fn add_once(uses: &mut List<CredId>, cred: CredId) -> Result<(), NoMemory>
-    ensures { IfOk result (λ _. uses.new ≡ taken.with_cred uses.old cred) }
+    ensures { IfOk result (λ _. uses.new ≡ evaluation.with_cred uses.old cred) }
 {
     if !is_among(uses.as_slice(), cred) {
         uses.push(cred)?;
@@ -79,7 +79,7 @@ fn gather_atom(
         (mirror.shows held.now (meets issuer.now attr.now op wanted.now)) held.now.presented.now)) }
     ensures added { IfOk result (λ _.
         uses.new ≡ gathered uses.old
-        (option_map taken.only
+        (option_map evaluation.only
         (find (mirror.shows held.now (meets issuer.now attr.now op wanted.now))
         held.now.presented.now))) }
 {
@@ -95,7 +95,7 @@ fn gather_atom(
 /// Whether the condition is true of what is held. Where it is, the credentials that make it so are added, each once; where
 /// it is not, the list stays.
 #[cycle(evaluation)]
-#[tactic(auto, using(crate::proofs::TakenLemmas::taken_atom, crate::proofs::TakenLemmas::taken_and, crate::proofs::TakenLemmas::taken_or))]
+#[tactic(auto, using(crate::proofs::UsesLemmas::taken_atom, crate::proofs::UsesLemmas::taken_and, crate::proofs::UsesLemmas::taken_or))]
 pub fn gather(held: &Evidence<'_>, cond: &Cond, uses: &mut List<CredId>) -> Result<bool, NoMemory>
     ensures truth { IfOk result (λ found. found ≡ is_some (takes held.now cond.now)) }
     ensures added { IfOk result (λ _. uses.new ≡ gathered uses.old (takes held.now cond.now)) }
@@ -120,9 +120,10 @@ fn gather_all(
     uses: &mut List<CredId>,
 ) -> Result<bool, NoMemory>
     ensures truth { IfOk result (λ found.
-        found ≡ is_some (taken.taken_by_all (map (takes held.now) members.now))) }
+        found ≡ is_some (evaluation.uses_of_all (map (takes held.now) members.now))) }
     ensures added { IfOk result (λ _.
-        uses.new ≡ gathered uses.old (taken.taken_by_all (map (takes held.now) members.now))) }
+        uses.new ≡ gathered uses.old
+        (evaluation.uses_of_all (map (takes held.now) members.now))) }
 {
     let before = uses.len();
     for member in members {
@@ -141,9 +142,10 @@ fn gather_first(
     uses: &mut List<CredId>,
 ) -> Result<bool, NoMemory>
     ensures truth { IfOk result (λ found.
-        found ≡ is_some (taken.taken_by_first (map (takes held.now) members.now))) }
+        found ≡ is_some (evaluation.uses_of_first (map (takes held.now) members.now))) }
     ensures added { IfOk result (λ _.
-        uses.new ≡ gathered uses.old (taken.taken_by_first (map (takes held.now) members.now))) }
+        uses.new ≡ gathered uses.old
+        (evaluation.uses_of_first (map (takes held.now) members.now))) }
 {
     for member in members {
         if gather(held, member, uses)? {

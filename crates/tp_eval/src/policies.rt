@@ -8,7 +8,7 @@ ghost use Rattle.tp_model.specs.Credentials.{is_among};
 ghost use Rattle.tp_cred.specs.Certificates.{is_checked};
 ghost use Rattle.tp_cred.specs.mirrors.HeldBy.{held_by, holder_in};
 ghost use Rattle.tp_eval.specs.mirrors.Gathered as gathered;
-ghost use Rattle.tp_eval.specs.Taken as taken;
+ghost use Rattle.tp_eval.specs.Uses as evaluation;
 
 use crate::evidence::{Evidence, valid_of};
 use crate::gather::gather;
@@ -55,11 +55,13 @@ fn first_rule(
     requires empty { uses.old ≡ [] }
     requires few { length rules.now < 2 ^ 32 }
     ensures number { IfOk result (λ found.
-        found ≡ option_map gathered.rule_of
-        (taken.first_certificate (gathered.takes_by_rule held.now action item.now) 1 rules.now)) }
+        found ≡ option_map evaluation.rule_number
+        (evaluation.first_certificate
+        (gathered.takes_by_rule held.now action item.now) 1 rules.now)) }
     ensures uses { IfOk result (λ _.
-        uses.new ≡ gathered.uses_in
-        (taken.first_certificate (gathered.takes_by_rule held.now action item.now) 1 rules.now)) }
+        uses.new ≡ evaluation.uses_in
+        (evaluation.first_certificate
+        (gathered.takes_by_rule held.now action item.now) 1 rules.now)) }
 {
     for (before, rule) in rules.iter().enumerate() {
         if gather_rule(held, action, item, rule, uses)? {
@@ -79,7 +81,7 @@ pub fn certify(
 ) -> Result<Option<Certificate>, NoMemory>
     requires { length policy.now.rules < 2 ^ 32 }
     ensures { IfOk result (λ found.
-        found ≡ taken.certificate policy.now action item.now (gathered.holder_in held.now)
+        found ≡ evaluation.certificate policy.now action item.now (gathered.holder_in held.now)
         held.now.presented.now) }
 {
     let mut uses = List::new(alloc);
@@ -101,7 +103,7 @@ pub fn evaluate(
 ) -> Result<Option<Certificate>, NoMemory>
     requires { length policy.now.rules < 2 ^ 32 }
     ensures exact { IfOk result (λ found.
-        found ≡ taken.certificate policy.now action item.now (holder_in held.now)
+        found ≡ evaluation.certificate policy.now action item.now (holder_in held.now)
         held.now.creds.now) }
     ensures truth { IfOk result (λ found.
         is_some found ≡ policies.allows policy.now action item.now (held_by held.now)) }

@@ -3,13 +3,13 @@ use Rattle.std.specs.Prelude.{ℕ, ◌==◌, ◌||◌, nat_lt, List, length, Boo
 use Rattle.std.specs.Coded.{Coded, code_by, coded×, coded_ℕ}
 
 -- a reader or a writer, and how many faults it has met
-pub record Counting (X : Type 0) : Type 0 where
+pub record Counter (X : Type 0) : Type 0 where
   pub inner : X
   pub faults : ℕ
 
 -- it is stored as the pair of its fields
-abbrev pub counting_code : {X : Type 0} → Coded X → Coded (Counting X)
-counting_code {X} code =
+abbrev pub counter_code : {X : Type 0} → Coded X → Coded (Counter X)
+counter_code {X} code =
     code_by (X × ℕ) (coded× code coded_ℕ) (λ c. (c.inner, c.faults))
     (λ p. record { inner = p.0; faults = p.1 }) (λ _. refl)
 

@@ -22,11 +22,11 @@ pub struct ReadSource<R> {
 }
 
 impl<R> Model for ReadSource<R> {
-    ghost use Rattle.tp_io.specs.Adapters.{Counting, counting_code};
+    ghost use Rattle.tp_io.specs.Adapters.{Counter, counter_code};
 
-    ghost Value = { Counting R };
+    ghost Value = { Counter R };
 
-    ghost coded = { counting_code R.code };
+    ghost coded = { counter_code R.code };
 
     ghost view = { λ s. record { inner = s.reader; faults = s.faults } };
 }
@@ -83,11 +83,11 @@ pub struct WriteSink<W> {
 }
 
 impl<W> Model for WriteSink<W> {
-    ghost use Rattle.tp_io.specs.Adapters.{Counting, counting_code};
+    ghost use Rattle.tp_io.specs.Adapters.{Counter, counter_code};
 
-    ghost Value = { Counting W };
+    ghost Value = { Counter W };
 
-    ghost coded = { counting_code W.code };
+    ghost coded = { counter_code W.code };
 
     ghost view = { λ s. record { inner = s.writer; faults = s.faults } };
 }

@@ -79,7 +79,7 @@ pub fn read_to_end<I: Source>(alloc: Global, source: &mut I) -> Result<List<u8>,
     ensures fault { IsErrOf result ReadError.Fault
         → Rose (I.faults source.old) (I.faults source.new) }
     ensures later { I.faults source.old ≤ I.faults source.new }
-    ensures told { ReadsAll (I.left source.old) result }
+    ensures all { ReadsAll (I.left source.old) result }
 {
     let mut bytes = Vec::new(alloc);
     while bytes.len() <= INPUT_MAX {

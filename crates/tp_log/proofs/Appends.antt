@@ -2,7 +2,7 @@
 use Rattle.std.proofs.Common.{◌≡◌, ◌≢◌, inl, inr, ⊎_elim, ℕ, ◌+◌, ◌≤◌, List, [], ◌∷◌, ◌++◌, drop, length, Result, Ok, Err, refl, sym, ap, subst, ◌∙◌, arith}
 use Rattle.std.proofs.lemmas.List.{append-nil, ext_get_or, length-append}
 use Rattle.tp_types.specs.declared.records.Record.{Record}
-use Rattle.tp_device.specs.Disks.{Call, DiskState, Effect, LeavesOnly, MayLeave, Sync, Write, after_sync, after_write, clean_state}
+use Rattle.tp_device.specs.Disks.{Call, DiskState, CallEffect, LeavesOnly, MayLeave, Sync, Write, after_sync, after_write, clean_state}
 use Rattle.tp_types.specs.Faults.{Rose}
 use Rattle.tp_device.specs.declared.disk.DiskError.{DiskError}
 use Rattle.tp_device.specs.declared.disk.DiskError.TheVariants as errors
@@ -95,7 +95,7 @@ module _ {D : Type 0} (state : D → DiskState) (left_since : D → D → List �
         -- the first call was refused
         after_first : (old new : D) (e : DiskError) → state old ≡ clean_state base → Step state left_since does faults (Write (n + 1) piece) old (Err e) new → After old (Err e) new
         after_first old new errors.Failed was step =
-            let may = subst (λ (s : DiskState). Effect (Write (n + 1) piece) s (Err errors.Failed) (state new)) was step.effect in
+            let may = subst (λ (s : DiskState). CallEffect (Write (n + 1) piece) s (Err errors.Failed) (state new)) was step.effect in
             let so = so_start old (closed_images old was) in
             record {
               so = so_next old old new (Write (n + 1) piece) (Err errors.Failed) so step
@@ -138,7 +138,7 @@ module _ {D : Type 0} (state : D → DiskState) (left_since : D → D → List �
         -- the write of the gate was refused
         after_third : (old mid new : D) (e : DiskError) → state mid ≡ clean_state (blocks rs ++ g ∷ behind) → So old mid → Step state left_since does faults (Write n (1 ∷ [])) mid (Err e) new → After old (Err e) new
         after_third old mid new errors.Failed was so step =
-            let may = subst (λ (s : DiskState). Effect (Write n (1 ∷ [])) s (Err errors.Failed) (state new)) was step.effect in
+            let may = subst (λ (s : DiskState). CallEffect (Write n (1 ∷ [])) s (Err errors.Failed) (state new)) was step.effect in
             record {
               so = so_next old mid new (Write n (1 ∷ [])) (Err errors.Failed) so step
                   (λ image left. near_gate rs are g shut r is rest image (near_failed (blocks rs ++ g ∷ behind) n 1 (state new) image may left));

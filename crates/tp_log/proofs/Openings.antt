@@ -1,6 +1,6 @@
 -- What opening a log does to its disk, from the calls that it made.
 use Rattle.std.proofs.Common.{◌≡◌, inl, inr, ⊎_elim, ℕ, ◌<◌, ◌≤◌, List, [], ◌∷◌, drop, length, Result, Ok, Err, refl, sym, ap, subst, ◌∙◌, arith}
-use Rattle.tp_device.specs.Disks.{Call, DiskState, Effect, LeavesOnly, MayLeave, Sync, Write, after_sync, after_write, clean_state}
+use Rattle.tp_device.specs.Disks.{Call, DiskState, CallEffect, LeavesOnly, MayLeave, Sync, Write, after_sync, after_write, clean_state}
 use Rattle.tp_types.specs.Faults.{Rose}
 use Rattle.tp_device.specs.declared.disk.DiskError.{DiskError}
 use Rattle.tp_device.specs.declared.disk.DiskError.TheVariants as errors
@@ -57,7 +57,7 @@ module _ {D : Type 0} (state : D → DiskState) (left_since : D → D → List �
   gate_wrote : (seen image : List ℕ) → length seen ≤ 1 → MayLeave (after_write 0 (0 ∷ []) (clean_state seen)) image → length image ≤ 1
   gate_wrote seen image few left = omega (arith, few, left.no_longer)
 
-  gate_failed : (seen image : List ℕ) (now : DiskState) → length seen ≤ 1 → Effect (Write 0 (0 ∷ [])) (clean_state seen) (Err errors.Failed) now → MayLeave now image → length image ≤ 1
+  gate_failed : (seen image : List ℕ) (now : DiskState) → length seen ≤ 1 → CallEffect (Write 0 (0 ∷ [])) (clean_state seen) (Err errors.Failed) now → MayLeave now image → length image ≤ 1
   gate_failed seen image now few may left = omega (arith, few, (may.crash image left).no_longer)
 
   gate_settled : (seen : List ℕ) → length seen ≤ 1 → after_sync (after_write 0 (0 ∷ []) (clean_state seen)) ≡ clean_state (0 ∷ [])
@@ -80,7 +80,7 @@ module _ {D : Type 0} (state : D → DiskState) (left_since : D → D → List �
 
     far_write_failed : (new : D) → IsStep (Write 0 (0 ∷ [])) then (Err errors.Failed) new → Far old new
     far_write_failed new step =
-        let may = subst (λ (s : DiskState). Effect (Write 0 (0 ∷ [])) s (Err errors.Failed) (state new)) at step.effect in
+        let may = subst (λ (s : DiskState). CallEffect (Write 0 (0 ∷ [])) s (Err errors.Failed) (state new)) at step.effect in
         far_step old then new (Write 0 (0 ∷ [])) (Err errors.Failed) far step
         (λ image left. small_left (state old) image few (gate_failed (state old).seen image (state new) few may left))
 

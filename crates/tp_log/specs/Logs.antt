@@ -107,13 +107,13 @@ module _ {D : Type 0} (state : D → DiskState) (does : D → Call → Result (U
     pub calls : (new ≡ old) ⊎ Halts old r new
     pub kept : (records : List Record) → Keeps state old records → Keeps state new records
 
-  abbrev pub Appended : LogState D → Record → Result (Unit {0}) LogError → LogState D → Type 0
-  Appended old r (Ok _) new = Adds old r new
-  Appended old r (Err errors.Device) new = Fails old r new
-  Appended old r (Err errors.NoMemory) new = Stays old r new
-  Appended old r (Err errors.Closed) new = (old.closed ≡ true) × (new ≡ old)
-  Appended old r (Err errors.TooLong) new = (old.closed ≡ false) × (body_max < length (spelling r)) × (new ≡ old)
-  Appended old r (Err (errors.NotALog place)) new = ⊥
+  abbrev pub AppendEffect : LogState D → Record → Result (Unit {0}) LogError → LogState D → Type 0
+  AppendEffect old r (Ok _) new = Adds old r new
+  AppendEffect old r (Err errors.Device) new = Fails old r new
+  AppendEffect old r (Err errors.NoMemory) new = Stays old r new
+  AppendEffect old r (Err errors.Closed) new = (old.closed ≡ true) × (new ≡ old)
+  AppendEffect old r (Err errors.TooLong) new = (old.closed ≡ false) × (body_max < length (spelling r)) × (new ≡ old)
+  AppendEffect old r (Err (errors.NotALog place)) new = ⊥
 
 -- ---- a crash within an append
 

@@ -37,7 +37,7 @@ impl<D: Disk> Log<D> {
     ghost use Rattle.tp_types.specs.declared.records.Record.{Record};
     ghost use Rattle.tp_device.specs.Disks.{LeavesOnly, MayLeave};
     ghost use Rattle.tp_log.specs.Images.{FailsAt, Gives};
-    ghost use Rattle.tp_log.specs.Logs.{Appended, GivesEither, Keeps, MayKeep};
+    ghost use Rattle.tp_log.specs.Logs.{AppendEffect, GivesEither, Keeps, MayKeep};
     ghost use Rattle.tp_log.specs.Openings.{GivesUp, Opens};
     ghost use Rattle.tp_log.specs.Refusals.{IfNotALog};
 
@@ -83,7 +83,7 @@ impl<D: Disk> Log<D> {
     /// Adds a record with four calls of the disk: the body and a closed gate behind it, a sync, the gate before it,
     /// and a sync. The room for the bytes is taken before the first.
     pub fn append(&mut self, alloc: Global, r: &Record) -> Result<(), LogError>
-        ensures answer { Appended D.state D.does D.faults self.old r.now result self.new }
+        ensures answer { AppendEffect D.state D.does D.faults self.old r.now result self.new }
         // A crash at any moment of the call leaves the records from before it, with the new one or without.
         ensures any_moment { (records : List Record) → Keeps D.state self.old records
             → LeavesOnly D.left_since self.old.disk self.new.disk (GivesEither records r.now) }

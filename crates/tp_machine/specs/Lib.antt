@@ -3,6 +3,6 @@ pub mod Laws
 pub mod Logs
 pub mod Machine
 pub mod Parts
-pub mod Seen
+pub mod WorldView
 pub mod Sound
 pub mod mirrors

@@ -1,9 +1,9 @@
 -- What a log says: look-ups on the list of its records. Nothing else reads a log.
 use Rattle.std.specs.Prelude.{ℕ, max, ◌+◌, ◌||◌, List, [], ◌∷◌, slice_get, Bool, false, Option, Some, None, is_some, option_and_then, if◌then◌else◌}
-use Rattle.std.specs.Option.{option_map_or}
+use Rattle.std.specs.Option.{option_map_or, option_or}
+use Rattle.tp_round.specs.Judge.{version_number}
 use Rattle.tp_model.specs.Words.{AdminId, Decision, Prepared, Record, Settled, TxnId, Version}
 use Rattle.tp_model.specs.Words.log
-use Rattle.tp_model.specs.Facts.{first_of}
 use Rattle.tp_model.specs.Ids.{same_admin, same_txn}
 use Rattle.tp_coord.specs.State.{Coordinator}
 use Rattle.tp_machine.specs.Parts.{Part}
@@ -18,7 +18,7 @@ decision_in _ = None
 -- the first decision
 abbrev pub decided_in : List Record → Option Decision
 decided_in [] = None
-decided_in (first ∷ kept) = first_of (decision_in first) (decided_in kept)
+decided_in (first ∷ kept) = option_or (decision_in first) (decided_in kept)
 
 -- ---- a server's log
 
@@ -29,7 +29,7 @@ settlement_in txn _ = None
 -- how the transaction was settled first
 abbrev pub settled_in : TxnId → List Record → Option Settled
 settled_in txn [] = None
-settled_in txn (first ∷ kept) = first_of (settlement_in txn first) (settled_in txn kept)
+settled_in txn (first ∷ kept) = option_or (settlement_in txn first) (settled_in txn kept)
 
 abbrev pub preparation_in : TxnId → Record → Option Prepared
 preparation_in txn (log.Prepared p) = if same_txn p.txn txn then Some p else None
@@ -38,7 +38,7 @@ preparation_in txn _ = None
 -- the transaction's last vote YES
 abbrev pub voted_in : TxnId → List Record → Option Prepared
 voted_in txn [] = None
-voted_in txn (first ∷ kept) = first_of (voted_in txn kept) (preparation_in txn first)
+voted_in txn (first ∷ kept) = option_or (voted_in txn kept) (preparation_in txn first)
 
 abbrev pub while_unsettled : Option Settled → Option Prepared → Option Prepared
 while_unsettled None voted = voted
@@ -65,13 +65,10 @@ boots_in (first ∷ kept) = boots_in kept
 abbrev pub epoch_in : List Record → ℕ
 epoch_in kept = boots_in kept + 1
 
-abbrev pub number_of : Version → ℕ
-number_of version = version.0
-
 -- the number of the version of an administrator that a record tells; 0 where it tells none
 abbrev pub told_in : AdminId → Record → ℕ
 told_in admin (log.Told t) = if same_admin t.admin admin then t.version.0 else 0
-told_in admin (log.Prepared p) = option_map_or number_of (slice_get p.told admin.0) 0
+told_in admin (log.Prepared p) = option_map_or version_number (slice_get p.told admin.0) 0
 told_in admin _ = 0
 
 -- the greatest that is told of an administrator, or the first where no record tells a greater

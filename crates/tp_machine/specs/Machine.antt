@@ -1,5 +1,5 @@
 -- The cluster as a machine: its state, what a step does to it, and the state after a list of steps.
-use Rattle.std.specs.Prelude.{ℕ, ◌+◌, ◌-◌, ◌^◌, ◌==◌, List, [], ◌∷◌, ◌++◌, length, map, filter, drop, slice_get, slice_set, Bool, true, false, not, Option, Some, None, is_some, is_none, nat_lt, unwrap_or, ℤ, if◌then◌else◌}
+use Rattle.std.specs.Prelude.{ℕ, ◌+◌, ◌-◌, ◌==◌, List, [], ◌∷◌, ◌++◌, length, map, filter, drop, slice_get, slice_set, Bool, true, false, not, Option, Some, None, is_some, is_none, nat_lt, unwrap_or, ℤ, if◌then◌else◌}
 use Rattle.std.specs.List.{flat_map, range_with_len}
 use Rattle.std.specs.Option.{option_map_or}
 use Rattle.tp_model.specs.Words.{Actor, AdminId, CredId, Ending, Fact, Item, Letter, Mail, Record, Scenario, ServerId, Step, TxnId, What}
@@ -235,7 +235,7 @@ revokes actors cred =
 abbrev pub publishes : Actors → AdminId → Move
 publishes actors admin =
     record {
-      actors = record actors { master = master.published admin actors.master };
+      actors = record actors { master = master.after_publication admin actors.master };
       happened = what.Published admin (master.next_of actors.master admin) ∷ [];
       letters = [];
     }
@@ -266,7 +266,11 @@ with_new before after undelivered =
 abbrev pub does : Machine → Step → Move → Machine
 does m taken move = with_new m.state (state_after m.state taken move) m.undelivered
 
--- the machine after a step that is not refused. Other steps are not built, and change nothing
+-- a step that is not built changes nothing so far
+abbrev pub unbuilt_step : Machine → Machine
+unbuilt_step m = m
+
+-- the machine after a step that is not refused
 abbrev pub machine_after : Scenario → Machine → Step → Machine
 machine_after sc m (step.Submit txn) =
     does m (step.Submit txn) (submission sc m.state.actors txn (length m.state.steps))
@@ -285,7 +289,7 @@ machine_after sc m (step.Push admin server) =
     does m (step.Push admin server) (pushes m.state.actors admin server)
 machine_after sc m (step.Tick by) = does m (step.Tick by) (ticks m.state.actors by)
 machine_after sc m (step.Revoke cred) = does m (step.Revoke cred) (revokes m.state.actors cred)
-machine_after sc m _ = m
+machine_after sc m _ = unbuilt_step m
 
 -- a coordinator that is down was submitted before
 abbrev pub is_part_submitted : Option Coordinator → Bool
@@ -306,9 +310,9 @@ missing_mail mails mail =
 abbrev pub none_left : Master → AdminId → Option StepError
 none_left held admin = if master.has_more held admin then None else Some (error.NoMore admin)
 
--- a clock that would reach 2^63
+-- a clock that would reach its end
 abbrev pub too_late : ℕ → ℕ → Option StepError
-too_late clock by = if nat_lt (clock + by) (2 ^ 63) then None else Some (error.TooLate clock)
+too_late clock by = if nat_lt (clock + by) office.clock_end then None else Some (error.TooLate clock)
 
 -- why a step is refused, if it is
 abbrev pub refusal : State → Step → Option StepError
@@ -377,11 +381,15 @@ is_down actors (actor.Coordinator txn) =
     option_map_or is_part_down (slice_get actors.coordinators txn.0) false
 is_down actors _ = false
 
+-- what a server that is down holds is not built, so the opening value is shown so far
+abbrev pub unbuilt_value : ℤ → ℤ
+unbuilt_value opening = opening
+
 abbrev pub value_up : Option Server → ℕ → ℤ → ℤ
-value_up None item opening = opening
+value_up None item opening = unbuilt_value opening
 value_up (Some s) item opening = unwrap_or (slice_get s.store.values item) opening
 
--- the value of an item at its server; what a server that is down holds is not built
+-- the value of an item at its server
 abbrev pub item_value : List (Part Server) → ℕ → Item → ℤ
 item_value servers item declared =
     option_map_or (λ (part : Part Server). value_up part.up item declared.value)

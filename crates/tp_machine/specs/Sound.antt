@@ -1,6 +1,6 @@
 -- What is asked of each mail, record and fact of a world: that all they name exists, and that their values are bounded.
 use Rattle.std.specs.Prelude.{Bool, IfSome, List, Option, Some, [], false, is_some, length, option_and_then, option_map, slice_get, true, ℕ, ℤ, ◌<◌, ◌∷◌, ◌≡◌, ◌≤◌, is_none, ◌&&◌}
-use Rattle.tp_types.specs.Table.{flattened}
+use Rattle.std.specs.Option.{option_flatten}
 use Rattle.tp_model.specs.Queries.{item_of, query_at}
 use Rattle.tp_model.specs.Words.actor
 use Rattle.tp_model.specs.Words.answer
@@ -44,7 +44,7 @@ Each P (x ∷ xs) = P x × Each P xs
 -- P holds of each place of a table that is not empty, and what stands there
 abbrev pub EachPlaced : {A : Type 0} → (ℕ → A → Type 0) → List (Option A) → Type 0
 EachPlaced {A} P table =
-    (n : ℕ) (found : A) → flattened (slice_get table n) ≡ Some found → P n found
+    (n : ℕ) (found : A) → option_flatten (slice_get table n) ≡ Some found → P n found
 
 -- P holds of each place of a list, and its member
 abbrev pub EachAt : {A : Type 0} → (ℕ → A → Type 0) → List A → Type 0

@@ -3,6 +3,7 @@ ghost use Rattle.std.specs.Prelude.{◌≡◌, ◌+◌, ◌<◌, ◌^◌, ◌∷
 ghost use Rattle.std.specs.Option.{option_copied};
 ghost use Rattle.tp_machine.specs.Machine as machine;
 ghost use Rattle.tp_server.specs.Verdicts.{HasFewRules};
+ghost use Rattle.tp_offices.specs.Authority.{clock_end};
 ghost use Rattle.tp_offices.specs.Master as office;
 
 use crate::part::{Act, Part, coordinator_submits, coordinator_takes, no_act, server_takes};
@@ -186,7 +187,7 @@ impl Actors {
 
     /// The clock moves.
     pub fn tick(&mut self, alloc: Global, by: u64) -> Result<Act, NoMemory>
-        requires { self.old.authority.clock + by < 2 ^ 63 }
+        requires { self.old.authority.clock + by < clock_end }
         ensures ok { IfOk result (λ act. Moves (machine.ticks self.old by) self.new act) }
         ensures up { SameUp self.old self.new }
     {
@@ -260,6 +261,7 @@ fn value_up(up: Option<&Server<Locks>>, at: usize, opening: i128) -> i128
     ensures { result ≡ machine.value_up (option_copied up.entry) at opening }
 {
     match up {
+        // what a server that is down holds is unbuilt
         None => opening,
         Some(server) => server.value(at).unwrap_or(opening),
     }

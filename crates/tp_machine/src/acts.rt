@@ -1,12 +1,13 @@
 //! What a step does to the actors and the history.
-ghost use Rattle.std.specs.Prelude.{◌≡◌, ◌+◌, ◌<◌, ◌^◌, length, true, Some, None, slice_get, IfOk, OnOk, OnErr};
+ghost use Rattle.std.specs.Prelude.{◌≡◌, ◌+◌, ◌<◌, length, true, Some, None, slice_get, IfOk, OnOk, OnErr};
 ghost use Rattle.std.specs.Option.{option_copied};
 ghost use Rattle.tp_model.specs.Words.step;
 ghost use Rattle.tp_machine.specs.mirrors.Acts.{Moves, SameUp};
 ghost use Rattle.tp_machine.specs.mirrors.History.{SameHistory};
 ghost use Rattle.tp_machine.specs.Machine as machine;
-ghost use Rattle.tp_machine.specs.Seen.{IsBuiltStep, machine_of, state_of};
+ghost use Rattle.tp_machine.specs.WorldView.{IsBuiltStep, machine_of, state_of};
 ghost use Rattle.tp_server.specs.Verdicts.{HasFewRules};
+ghost use Rattle.tp_offices.specs.Authority.{clock_end};
 ghost use Rattle.tp_offices.specs.Master as office;
 
 use crate::actors::Actors;
@@ -15,7 +16,7 @@ use crate::history::History;
 use crate::part::{Act, no_act};
 use std::alloc::Global;
 use tp_coord::Coordinator;
-use tp_offices::Master;
+use tp_offices::{CLOCK_END, Master};
 use tp_types::{AdminId, CredId, Mail, NoMemory, Scenario, ServerId, Step, TxnId};
 
 /// Whether a transaction was submitted.
@@ -82,7 +83,7 @@ fn too_late(clock: u64, by: u64) -> Option<StepError>
     ensures { result ≡ machine.too_late clock by }
 {
     match clock.checked_add(by) {
-        Some(sum) if sum < 1 << 63 => None,
+        Some(sum) if sum < CLOCK_END => None,
         _ => Some(StepError::TooLate { clock }),
     }
 }
@@ -111,6 +112,7 @@ pub fn act(
         Step::Push { admin, server } => push(actors, history, alloc, admin, server),
         Step::Tick { by } => tick(actors, history, alloc, by),
         Step::Revoke { cred } => revoke(actors, history, alloc, cred),
+        // a step that is unbuilt: a crash, a boot, a timer
         _ => Ok(()),
     }
 }
@@ -191,7 +193,7 @@ fn push(
 }
 
 fn tick(actors: &mut Actors, history: &mut History, alloc: Global, by: u64) -> Result<(), NoMemory>
-    requires { actors.old.authority.clock + by < 2 ^ 63 }
+    requires { actors.old.authority.clock + by < clock_end }
     ensures ok { OnOk result
         (machine_of actors.new history.new
         ≡ machine.does (machine_of actors.old history.old) (step.Tick by)

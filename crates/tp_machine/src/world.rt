@@ -2,10 +2,10 @@
 ghost use Rattle.std.specs.Prelude.{◌≡◌, ◌≢◌, ℕ, ◌==◌, ◌<◌, ◌≤◌, ◌*◌, length, true, false, Some, None, IfOk, IfErr, IfSome, OnOk, OnErr, IsErrOf, IsErr, slice_get};
 ghost use Rattle.std.specs.List.{list_any};
 ghost use Rattle.tp_model.specs.Built as built;
-ghost use Rattle.tp_model.specs.SerialRun.{overlaid, store_of};
+ghost use Rattle.tp_model.specs.SerialRun.{overlay, store_of};
 ghost use Rattle.tp_model.specs.TrustedHistory.{have_ended};
 ghost use Rattle.tp_machine.specs.declared.error.StepError.{StepError};
-ghost use Rattle.tp_machine.specs.Seen.{start, IsReached, IsBuiltStep, HasItsFacts, IsTrustedSoFar, Does, Refuses, GivesUp};
+ghost use Rattle.tp_machine.specs.WorldView.{start, IsReached, IsBuiltStep, HasItsFacts, IsTrustedSoFar, Does, Refuses, GivesUp};
 ghost use Rattle.tp_machine.specs.Machine as machine;
 ghost use Rattle.tp_machine.specs.Bounded.{AreBounded};
 ghost use Rattle.tp_machine.specs.Sound.{Each, IsSound, IsStepOf};
@@ -32,15 +32,23 @@ pub struct World {
 impl Model for World {
     ghost use Rattle.std.specs.Coded.{codes};
     ghost use Rattle.tp_types.specs.contracts.policy.Cond as cond;
-    ghost use Rattle.tp_machine.specs.Seen.{Seen, IsWorld, machine_of};
+    ghost use Rattle.tp_machine.specs.WorldView.{WorldView, IsWorld, machine_of};
 
-    ghost Value = { Seen };
+    ghost Value = { WorldView };
 
     ghost coded = { Prim.hlevel (codes, cond.the_row.coded) };
 
-    ghost view = { λ w. record { scenario = w.scenario; given_up = w.given_up; machine = machine_of w.actors w.history } };
+    ghost view = { λ w. record {
+      scenario = w.scenario;
+      given_up = w.given_up;
+      machine = machine_of w.actors w.history;
+    } };
 
-    ghost invariant = { λ w. IsWorld (record { scenario = w.scenario; given_up = w.given_up; machine = machine_of w.actors w.history }) };
+    ghost invariant = { λ w. IsWorld (record {
+      scenario = w.scenario;
+      given_up = w.given_up;
+      machine = machine_of w.actors w.history;
+    }) };
 }
 
 impl World {
@@ -63,7 +71,7 @@ impl World {
     pub fn step(&mut self, alloc: Global, taken: &Step) -> Result<(), StepError>
         requires built { IsBuiltStep taken.now }
         requires ids { IsStepOf self.old.scenario taken.now }
-        ensures done { OnOk result (Does self.old self.new taken.now) }
+        ensures ok { OnOk result (Does self.old self.new taken.now) }
         ensures refused { IfErr result (λ why.
             why ≢ StepError.NoMemory → Refuses self.old self.new taken.now why) }
         ensures memory { IsErrOf result StepError.NoMemory → GivesUp self.old self.new }
@@ -94,7 +102,7 @@ impl World {
         ensures value { result.now ≡ self.now.machine.state.facts }
         ensures reached { IsReached self.now }
         ensures named { Each (IsStepOf self.now.scenario) self.now.machine.state.steps }
-        ensures told { HasItsFacts self.now }
+        ensures of_steps { HasItsFacts self.now }
         ensures built { built.is_built self.now.scenario ≡ true }
         ensures so_far { self.now.given_up ≡ false → IsTrustedSoFar self.now }
         ensures sound { self.now.given_up ≡ false
@@ -180,7 +188,7 @@ impl World {
         ensures value { IfOk result (λ ending.
             ending ≡ machine.ending_of self.now.scenario self.now.machine.state) }
         ensures overlaid { IfOk result (λ ending.
-            ending.values ≡ overlaid self.now.scenario self.now.machine.state.facts) }
+            ending.values ≡ overlay self.now.scenario self.now.machine.state.facts) }
         ensures whole { IfOk result (λ ending.
             have_ended self.now.scenario self.now.machine.state.facts 0 self.now.scenario.txns
             ≡ true

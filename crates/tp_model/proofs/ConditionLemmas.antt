@@ -1,12 +1,10 @@
 -- One level of a condition at a time.
 use Rattle.std.proofs.Common.{◌≡◌, Bool, ◌&&◌, ◌||◌, List, [], ◌∷◌, map, refl, ap, sym, ◌∙◌}
 use Rattle.std.specs.List.{list_all, list_any}
-use Rattle.tp_types.specs.declared.policy.Cond.{Cond}
+use Rattle.tp_model.specs.Words.{Cond, Op, Value}
+use Rattle.tp_model.specs.Words.cond
 use Rattle.tp_types.specs.declared.policy.Cond.TheOpen.{Atom, And, Or}
 use Rattle.tp_types.specs.declared.policy.Cond.TheFolds.{fold-roll-Cond}
-use Rattle.tp_types.specs.declared.policy.Cond.TheVariants as cond
-use Rattle.tp_types.specs.declared.policy.Op.{Op}
-use Rattle.tp_types.specs.declared.policy.Value.{Value}
 use Rattle.tp_model.specs.Policies.{Triple, holds, is_met, level, meets}
 
 all_members : (test : Cond → Bool) (members : List Cond) → list_all is_met (map test members) ≡ list_all test members

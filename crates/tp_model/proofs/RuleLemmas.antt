@@ -4,11 +4,11 @@ use Rattle.std.proofs.lemmas.Bool.{and_parts}
 use Rattle.std.proofs.lemmas.Bool.Decides.{nat_tests}
 use Rattle.std.specs.List.{list_all}
 use Rattle.tp_types.proofs.ListLemmas.{three_parts}
-use Rattle.tp_types.specs.declared.scenario.Scenario.{Scenario}
+use Rattle.tp_model.specs.Words.{Scenario}
 use Rattle.tp_model.specs.Built.{is_built}
-use Rattle.tp_model.specs.Limits.{has_count, is_from_to}
+use Rattle.tp_model.specs.Limits.{clock_limit, has_count, is_from_to}
 use Rattle.tp_model.specs.Stage.{are_plain_steps, are_plain_txns, is_stage}
-use Rattle.tp_model.specs.Valid.{IsValid, are_distinct, are_valid_from, is_valid_txn, same_server_name, same_txn_name, are_valid_admins, are_valid_clients, are_valid_creds, are_valid_items, are_valid_officers, are_valid_publishers, are_valid_servers, are_valid_steps, are_valid_txns, clock_limit, has_valid_data, has_valid_policies, has_valid_scripts, is_valid}
+use Rattle.tp_model.specs.Valid.{IsValid, are_distinct, are_valid_from, is_valid_txn, same_server_name, same_txn_name, are_valid_admins, are_valid_clients, are_valid_creds, are_valid_items, are_valid_officers, are_valid_publishers, are_valid_servers, are_valid_steps, are_valid_txns, has_valid_data, has_valid_policies, has_valid_scripts, is_valid}
 
 -- what a valid scenario keeps
 pub rules_of : (sc : Scenario) → is_valid sc ≡ true → IsValid sc

@@ -16,7 +16,7 @@ use Rattle.tp_model.specs.Words.{Deed, Operand, Query, Scenario, Term, Transacti
 use Rattle.tp_types.specs.declared.scenario.Operand.TheVariants.{Constant, Register}
 use Rattle.tp_types.specs.declared.scenario.Query.TheVariants.{Read, Write}
 use Rattle.tp_model.specs.Limits.{has_count, int_le, is_between, is_from_to, is_value, number_limit, value_limit}
-use Rattle.tp_model.specs.Queries.{signed}
+use Rattle.tp_model.specs.Queries.{with_sign}
 use Rattle.tp_model.specs.SerialRun.{add_term, cleared_registers, deeds_from, deed_value, is_deed_of, number_at, operand_in, run_value, serial_run, sum_in, term_in}
 use Rattle.tp_model.specs.Valid.{begins_well, has_valid_creds, is_item, is_name_of_server, is_valid_operand, is_valid_query, is_valid_sum, is_valid_term, is_valid_txn}
 
@@ -101,22 +101,22 @@ set_within bound (number ∷ numbers) (suc place) z all h = (all.0, set_within b
 
 -- ---- sums
 
-operand_within : (bound : ℕ) (registers : List ℤ) (operand : Operand) → 10 ^ 15 ≤ bound → is_valid_operand operand ≡ true → AllByRecursion (IsWithin bound) registers
+pub operand_within : (bound : ℕ) (registers : List ℤ) (operand : Operand) → 10 ^ 15 ≤ bound → is_valid_operand operand ≡ true → AllByRecursion (IsWithin bound) registers
     → IsWithin bound (operand_in registers operand)
 operand_within bound registers (Constant c) h e all =
     between_within bound (pos 0) number_limit c (zero_within bound) (record { low = omega (arith, ints); high = omega (arith, ints) }) e
 operand_within bound registers (Register r) h e all = number_within bound registers r all
 
-signed_within : (bound : ℕ) (minus : Bool) (z : ℤ) → IsWithin bound z → IsWithin bound (signed minus z)
+pub signed_within : (bound : ℕ) (minus : Bool) (z : ℤ) → IsWithin bound z → IsWithin bound (with_sign minus z)
 signed_within bound false z h = h
 signed_within bound true z h = record { low = omega (arith, ints); high = omega (arith, ints) }
 
 -- how far from 0 a sum may be, where each term adds at most the bound
-abbrev grown : ℕ → ℕ → List Term → ℕ
+abbrev pub grown : ℕ → ℕ → List Term → ℕ
 grown bound so_far [] = so_far
 grown bound so_far (term ∷ terms) = grown bound (so_far + bound) terms
 
-five_terms : (bound : ℕ) (terms : List Term) → length terms ≤ 5 → grown bound 0 terms ≤ 5 * bound
+pub five_terms : (bound : ℕ) (terms : List Term) → length terms ≤ 5 → grown bound 0 terms ≤ 5 * bound
 five_terms bound [] h = omega arith
 five_terms bound (a ∷ []) h = omega arith
 five_terms bound (a ∷ b ∷ []) h = omega arith
@@ -125,8 +125,8 @@ five_terms bound (a ∷ b ∷ c ∷ d ∷ []) h = omega arith
 five_terms bound (a ∷ b ∷ c ∷ d ∷ e ∷ []) h = omega arith
 five_terms bound (a ∷ b ∷ c ∷ d ∷ e ∷ f ∷ terms) h = absurd (omega arith)
 
-added : (so_far bound : ℕ) (total z : ℤ) → IsWithin so_far total → IsWithin bound z → IsWithin (so_far + bound) (total +ℤ z)
-added so_far bound total z h k = record { low = omega (arith, ints); high = omega (arith, ints) }
+pub added_within : (so_far bound : ℕ) (total z : ℤ) → IsWithin so_far total → IsWithin bound z → IsWithin (so_far + bound) (total +ℤ z)
+added_within so_far bound total z h k = record { low = omega (arith, ints); high = omega (arith, ints) }
 
 terms_within : (bound : ℕ) (registers : List ℤ) (terms : List Term) (total : ℤ) (so_far : ℕ) → 10 ^ 15 ≤ bound → list_all is_valid_term terms ≡ true → AllByRecursion (IsWithin bound) registers
     → IsWithin so_far total → IsWithin (grown bound so_far terms) (fold (add_term registers) total terms)
@@ -134,9 +134,9 @@ terms_within bound registers [] total so_far least valid all h = h
 terms_within bound registers (term ∷ terms) total so_far least valid all h =
     let parts = and_parts (is_valid_term term) (list_all is_valid_term terms) valid in
     let one = signed_within bound term.minus (operand_in registers term.operand) (operand_within bound registers term.operand least parts.0 all) in
-    terms_within bound registers terms (total +ℤ term_in registers term) (so_far + bound) least parts.1 all (added so_far bound total (term_in registers term) h one)
+    terms_within bound registers terms (total +ℤ term_in registers term) (so_far + bound) least parts.1 all (added_within so_far bound total (term_in registers term) h one)
 
-few_terms : (expr : List Term) → has_count 1 5 expr ≡ true → length expr ≤ 5
+pub few_terms : (expr : List Term) → has_count 1 5 expr ≡ true → length expr ≤ 5
 few_terms expr e = grind (arith, nat_tests)
 
 -- a sum over registers that are within a bound is within five times the bound

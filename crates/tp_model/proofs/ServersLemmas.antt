@@ -1,8 +1,7 @@
 -- One turn of the walk over a scenario's servers.
 use Rattle.std.proofs.Common.{◌≡◌, suc, ℕ, ◌+◌, ◌-◌, ◌<◌, List, ◌∷◌, if◌then◌else◌, refl, arith}
 use Rattle.std.specs.List.{list_any}
-use Rattle.tp_types.specs.declared.scenario.Scenario.{Scenario}
-use Rattle.tp_types.specs.declared.scenario.Query.{Query}
+use Rattle.tp_model.specs.Words.{Query, Scenario}
 use Rattle.tp_model.specs.Queries.{servers_from, is_at_server}
 
 -- from a server before the end the walk looks at it and goes on from the next

@@ -11,7 +11,7 @@ use Rattle.tp_model.specs.Words.decision
 use Rattle.tp_model.specs.Words.what
 use Rattle.tp_model.specs.Facts.{before, is_earlier}
 use Rattle.tp_model.specs.Limits.{has_count, is_between, is_value}
-use Rattle.tp_model.specs.SerialRun.{are_in_range, is_serial, is_serial_commit, keeps_serial, keeps_serial_what, opening_store, opening_value, same_deed, serial_run, store_at, stored, stored_all, stored_by, stored_fact, stored_what}
+use Rattle.tp_model.specs.SerialRun.{are_in_range, is_serial, is_serial_commit, keeps_serial, keeps_serial_what, opening_store, opening_value, same_deed, serial_run, store_at, with_deed, with_deeds, with_deed_by, with_fact, with_what}
 use Rattle.tp_model.specs.Valid.{IsValid, are_by_server, are_distinct, has_valid_bounds, has_valid_range, is_admin, is_server, is_valid_item, is_valid_txn, same_item_name, same_txn_name}
 use Rattle.tp_model.proofs.RunBounds.{IsWithin, between_within, bound_after, run_within_most, value_within}
 
@@ -49,13 +49,13 @@ mixes_set [] (value ∷ store) others place z h = absurd h
 mixes_set (item ∷ items) [] others place z h = absurd h
 mixes_set (item ∷ items) (value ∷ store) [] place z h = absurd h
 
-mixes_deed : (items : List Item) (store others : List ℤ) (deed : Deed) (kind : Action) → Mixes items store others → Mixes items (stored_by kind store deed) (stored_by kind others deed)
+mixes_deed : (items : List Item) (store others : List ℤ) (deed : Deed) (kind : Action) → Mixes items store others → Mixes items (with_deed_by kind store deed) (with_deed_by kind others deed)
 mixes_deed items store others deed action.Read h = h
 mixes_deed items store others deed action.Write h = mixes_set items store others deed.item.0 deed.value h
 
-mixes_deeds : (items : List Item) (deeds : List Deed) (store others : List ℤ) → Mixes items store others → Mixes items (stored_all store deeds) (stored_all others deeds)
+mixes_deeds : (items : List Item) (deeds : List Deed) (store others : List ℤ) → Mixes items store others → Mixes items (with_deeds store deeds) (with_deeds others deeds)
 mixes_deeds items [] store others h = h
-mixes_deeds items (deed ∷ deeds) store others h = mixes_deeds items deeds (stored store deed) (stored others deed) (mixes_deed items store others deed deed.action h)
+mixes_deeds items (deed ∷ deeds) store others h = mixes_deeds items deeds (with_deed store deed) (with_deed others deed) (mixes_deed items store others deed deed.action h)
 
 one_fits : (item : Item) (value other : ℤ) → IsInRange item value → (other ≡ value) ⊎ IsInRange item other → IsInRange item other
 one_fits item value other h (inl e) = ap (is_between item.min item.max) e ∙ h
@@ -72,10 +72,10 @@ mixes_end (item ∷ items) [] others h e = absurd h
 mixes_end (item ∷ items) (value ∷ store) [] h e = absurd h
 
 -- deeds that leave a first store in range leave every store in range that was so before
-deeds_fit : (items : List Item) (deeds : List Deed) (store others : List ℤ) → length store ≡ length items → are_in_range items (stored_all store deeds) ≡ true → FitsItems items others
-    → FitsItems items (stored_all others deeds)
+deeds_fit : (items : List Item) (deeds : List Deed) (store others : List ℤ) → length store ≡ length items → are_in_range items (with_deeds store deeds) ≡ true → FitsItems items others
+    → FitsItems items (with_deeds others deeds)
 deeds_fit items deeds store others e ends h =
-    mixes_end items (stored_all store deeds) (stored_all others deeds) (mixes_deeds items deeds store others (mixes_fitting items store others e h)) ends
+    mixes_end items (with_deeds store deeds) (with_deeds others deeds) (mixes_deeds items deeds store others (mixes_fitting items store others e h)) ends
 
 -- ---- lengths
 
@@ -85,22 +85,22 @@ length_set [] (suc place) z = refl
 length_set (value ∷ store) zero z = refl
 length_set (value ∷ store) (suc place) z = ap suc (length_set store place z)
 
-length_deed : (store : List ℤ) (deed : Deed) (kind : Action) → length (stored_by kind store deed) ≡ length store
+length_deed : (store : List ℤ) (deed : Deed) (kind : Action) → length (with_deed_by kind store deed) ≡ length store
 length_deed store deed action.Read = refl
 length_deed store deed action.Write = length_set store deed.item.0 deed.value
 
-length_deeds : (deeds : List Deed) (store : List ℤ) → length (stored_all store deeds) ≡ length store
+length_deeds : (deeds : List Deed) (store : List ℤ) → length (with_deeds store deeds) ≡ length store
 length_deeds [] store = refl
-length_deeds (deed ∷ deeds) store = length_deeds deeds (stored store deed) ∙ length_deed store deed deed.action
+length_deeds (deed ∷ deeds) store = length_deeds deeds (with_deed store deed) ∙ length_deed store deed deed.action
 
-length_what : (store : List ℤ) (w : What) → length (stored_what store w) ≡ length store
+length_what : (store : List ℤ) (w : What) → length (with_what store w) ≡ length store
 length_what store (what.Decided txn (decision.Commit committed)) = length_deeds committed.deeds store
 length_what store (what.Decided txn (decision.Abort why)) = refl
 length_what store _ = refl
 
-length_facts : (facts : List Fact) (store : List ℤ) → length (fold stored_fact store facts) ≡ length store
+length_facts : (facts : List Fact) (store : List ℤ) → length (fold with_fact store facts) ≡ length store
 length_facts [] store = refl
-length_facts (fact ∷ facts) store = length_facts facts (stored_fact store fact) ∙ length_what store fact.what
+length_facts (fact ∷ facts) store = length_facts facts (with_fact store fact) ∙ length_what store fact.what
 
 length_opening : (items : List Item) → length (map opening_value items) ≡ length items
 length_opening [] = refl
@@ -123,28 +123,28 @@ opening_fits sc (item ∷ items) e =
     ((and_parts (has_valid_bounds item) (is_between item.min item.max item.value) range).1, opening_fits sc items parts.1)
 
 commit_in_range : (sc : Scenario) (store : List ℤ) (committed : CommitRecord) (found : Option Transaction) → option_map_or (is_serial_commit sc store committed) found false ≡ true
-    → are_in_range sc.items (stored_all store committed.deeds) ≡ true
+    → are_in_range sc.items (with_deeds store committed.deeds) ≡ true
 commit_in_range sc store committed None e = absurd (cc)
-commit_in_range sc store committed (Some txn) e = (and_parts (pointwise same_deed committed.deeds (serial_run txn store)) (are_in_range sc.items (stored_all store committed.deeds)) e).1
+commit_in_range sc store committed (Some txn) e = (and_parts (pointwise same_deed committed.deeds (serial_run txn store)) (are_in_range sc.items (with_deeds store committed.deeds)) e).1
 
-what_fits : (sc : Scenario) (facts : List Fact) (place : ℕ) (store : List ℤ) (w : What) → keeps_serial_what sc facts place w ≡ true → FitsItems sc.items store → FitsItems sc.items (stored_what store w)
+what_fits : (sc : Scenario) (facts : List Fact) (place : ℕ) (store : List ℤ) (w : What) → keeps_serial_what sc facts place w ≡ true → FitsItems sc.items store → FitsItems sc.items (with_what store w)
 what_fits sc facts place store (what.Decided txn (decision.Commit committed)) e h =
     let first = store_at sc place facts in
     deeds_fit sc.items committed.deeds first store (length_store sc place facts) (commit_in_range sc first committed (slice_get sc.txns txn.0) e) h
 what_fits sc facts place store (what.Decided txn (decision.Abort why)) e h = h
 what_fits sc facts place store _ e h = h
 
-one_more : (items : List Item) (fact : Fact) (rest : List Fact) (store : List ℤ) (here : Bool) → FitsItems items (fold stored_fact (stored_fact store fact) rest)
-    → FitsItems items (fold stored_fact store rest) → FitsItems items (fold stored_fact store (cond here (fact ∷ rest) rest))
+one_more : (items : List Item) (fact : Fact) (rest : List Fact) (store : List ℤ) (here : Bool) → FitsItems items (fold with_fact (with_fact store fact) rest)
+    → FitsItems items (fold with_fact store rest) → FitsItems items (fold with_fact store (cond here (fact ∷ rest) rest))
 one_more items fact rest store true h k = h
 one_more items fact rest store false h k = k
 
 facts_fit : (sc : Scenario) (facts some : List Fact) (place : ℕ) (store : List ℤ) → list_all (keeps_serial sc facts) some ≡ true → FitsItems sc.items store
-    → FitsItems sc.items (fold stored_fact store (before place some))
+    → FitsItems sc.items (fold with_fact store (before place some))
 facts_fit sc facts [] place store e h = h
 facts_fit sc facts (fact ∷ some) place store e h =
     let parts = and_parts (keeps_serial sc facts fact) (list_all (keeps_serial sc facts) some) e in
-    let with = facts_fit sc facts some place (stored_fact store fact) parts.1 (what_fits sc facts fact.place store fact.what parts.0 h) in
+    let with = facts_fit sc facts some place (with_fact store fact) parts.1 (what_fits sc facts fact.place store fact.what parts.0 h) in
     one_more sc.items fact (before place some) store (is_earlier place fact) with (facts_fit sc facts some place store parts.1 h)
 
 -- in a serial history the store at each place has each item in its range

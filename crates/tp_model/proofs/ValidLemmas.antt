@@ -1,8 +1,7 @@
 -- Rules of scenarios, as loops test them.
 use Rattle.std.proofs.Common.{◌≡◌, ◌≢◌, suc, false, List, [], ◌∷◌, length, refl, ap}
 use Rattle.std.proofs.Math.Bool.{and-false}
-use Rattle.tp_types.specs.declared.ids.Version.{Version}
-use Rattle.tp_types.specs.declared.scenario.Admin.{Admin}
+use Rattle.tp_model.specs.Words.{Admin, Version}
 use Rattle.tp_model.specs.Valid.{are_known, is_known}
 
 -- more or fewer versions than administrators are not known

@@ -2,15 +2,9 @@
 use Rattle.std.specs.Prelude.{ℕ, ◌+◌, ◌&&◌, List, [], ◌∷◌, slice_get, take, Bool, true, false, not}
 use Rattle.std.specs.List.{list_any}
 use Rattle.std.specs.Option.{option_map_or}
-use Rattle.tp_types.specs.declared.fact.Fact.{Fact}
-use Rattle.tp_types.specs.declared.fact.What.{What}
-use Rattle.tp_types.specs.declared.fact.What.TheVariants as what
-use Rattle.tp_types.specs.declared.ids.ServerId.{ServerId}
-use Rattle.tp_types.specs.declared.ids.TxnId.{TxnId}
-use Rattle.tp_types.specs.declared.records.Outcome.{Outcome}
-use Rattle.tp_types.specs.declared.records.Outcome.TheVariants as outcome
-use Rattle.tp_types.specs.declared.scenario.Scenario.{Scenario}
-use Rattle.tp_types.specs.declared.scenario.Transaction.{Transaction}
+use Rattle.tp_model.specs.Words.{Fact, Outcome, Scenario, ServerId, Transaction, TxnId, What}
+use Rattle.tp_model.specs.Words.outcome
+use Rattle.tp_model.specs.Words.what
 use Rattle.tp_model.specs.Facts.{before, is_decided_as, is_decision, is_settlement, is_submission, was_submitted}
 use Rattle.tp_model.specs.Queries.{is_at_server}
 

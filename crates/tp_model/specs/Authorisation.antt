@@ -2,23 +2,10 @@
 use Rattle.std.specs.Prelude.{ℕ, zero, suc, ◌&&◌, List, slice_get, Bool, false, Option, Some, None, option_and_then}
 use Rattle.std.specs.List.{list_all}
 use Rattle.std.specs.Option.{option_map_or}
-use Rattle.tp_types.specs.declared.fact.Fact.{Fact}
-use Rattle.tp_types.specs.declared.ids.AdminId.{AdminId}
-use Rattle.tp_types.specs.declared.ids.CredId.{CredId}
-use Rattle.tp_types.specs.declared.ids.ServerId.{ServerId}
-use Rattle.tp_types.specs.declared.ids.Version.{Version}
-use Rattle.tp_types.specs.declared.policy.Action.{Action}
-use Rattle.tp_types.specs.declared.policy.Action.TheVariants as action
-use Rattle.tp_types.specs.declared.policy.Policy.{Policy}
-use Rattle.tp_types.specs.declared.policy.Rule.{Rule}
-use Rattle.tp_types.specs.declared.records.Verdict.{Verdict}
-use Rattle.tp_types.specs.declared.scenario.Admin.{Admin}
-use Rattle.tp_types.specs.declared.scenario.Item.{Item}
-use Rattle.tp_types.specs.declared.scenario.Query.{Query}
+use Rattle.tp_model.specs.Words.{Action, Admin, AdminId, CredId, Fact, Item, Policy, Query, Rule, Scenario, ServerId, Transaction, Verdict, Version}
+use Rattle.tp_model.specs.Words.action
 use Rattle.tp_types.specs.declared.scenario.Query.TheVariants.{Read, Write}
-use Rattle.tp_types.specs.declared.scenario.Scenario.{Scenario}
-use Rattle.tp_types.specs.declared.scenario.Transaction.{Transaction}
-use Rattle.tp_model.specs.Credentials.{held, is_presented, is_valid, triples_in}
+use Rattle.tp_model.specs.Credentials.{holdings, is_presented, is_valid, triples_in}
 use Rattle.tp_model.specs.Ids.{same_admin, same_server}
 use Rattle.tp_model.specs.Policies.{allows, holds, matches}
 use Rattle.tp_model.specs.Queries.{item_of, query_at}
@@ -45,12 +32,12 @@ is_own_query sc txn number at admin =
 -- ---- the policy
 
 -- a version of a library; versions count from 1
-abbrev pub version_in : List Policy → ℕ → Option Policy
-version_in library zero = None
-version_in library (suc before) = slice_get library before
+abbrev pub library_version : List Policy → ℕ → Option Policy
+library_version library zero = None
+library_version library (suc before) = slice_get library before
 
 abbrev pub version_of : ℕ → Admin → Option Policy
-version_of version declared = version_in declared.library version
+version_of version declared = library_version declared.library version
 
 -- a version of an administrator's policy, where its library has it
 abbrev pub policy_at : Scenario → AdminId → Version → Option Policy
@@ -73,12 +60,30 @@ tests_version test sc txn number (Some policy) = tests_query test sc (query_at t
 
 abbrev pub allows_held : Scenario → ℕ → List Fact → Transaction → Action → List ℕ → Policy → Bool
 allows_held sc place facts txn asked item policy =
-    allows policy asked item (held sc place facts txn)
+    allows policy asked item (holdings sc place facts txn)
+
+-- which query of a transaction is judged, by which version of which administrator's policy, and at which place
+pub record Question : Type 0 where
+  pub query : ℕ
+  pub admin : AdminId
+  pub version : Version
+  pub place : ℕ
 
 -- the version of the administrator's policy allows the query, on what the transaction holds at the place
-abbrev pub is_allowed : Scenario → List Fact → Transaction → ℕ → AdminId → Version → ℕ → Bool
-is_allowed sc facts txn number admin version place =
-    tests_version (allows_held sc place facts txn) sc txn number (policy_at sc admin version)
+abbrev pub is_allowed : Scenario → List Fact → Transaction → Question → Bool
+is_allowed sc facts txn asked =
+    tests_version (allows_held sc asked.place facts txn) sc txn asked.query
+    (policy_at sc asked.admin asked.version)
+
+-- what a verdict answers
+abbrev pub question_of : Verdict → Question
+question_of verdict =
+    record {
+      query = verdict.query;
+      admin = verdict.admin;
+      version = verdict.version;
+      place = verdict.place;
+    }
 
 -- ---- the certificate
 
@@ -114,5 +119,5 @@ is_certified sc facts txn verdict =
 abbrev pub is_true_verdict : Scenario → List Fact → Transaction → Verdict → Bool
 is_true_verdict sc facts txn verdict =
     is_own_query sc txn verdict.query verdict.server verdict.admin
-    && is_allowed sc facts txn verdict.query verdict.admin verdict.version verdict.place
+    && is_allowed sc facts txn (question_of verdict)
     && is_certified sc facts txn verdict

@@ -1,6 +1,6 @@
 -- Scenarios that are run so far.
 use Rattle.std.specs.Prelude.{◌&&◌, Bool}
-use Rattle.tp_types.specs.declared.scenario.Scenario.{Scenario}
+use Rattle.tp_model.specs.Words.{Scenario}
 use Rattle.tp_model.specs.Stage.{is_stage}
 use Rattle.tp_model.specs.Valid.{is_valid}
 

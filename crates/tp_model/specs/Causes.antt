@@ -5,29 +5,15 @@ use Rattle.std.specs.Prelude.{ℕ, ◌&&◌, ◌||◌, nat_le, List, [], drop, s
 use Rattle.std.specs.List.{find, list_all, list_any}
 use Rattle.std.specs.Option.{option_map_or}
 use Rattle.std.specs.Ordering.{int_eq}
-use Rattle.tp_types.specs.declared.fact.Fact.{Fact}
-use Rattle.tp_types.specs.declared.fact.What.{What}
-use Rattle.tp_types.specs.declared.fact.What.TheVariants as what
-use Rattle.tp_types.specs.declared.ids.ItemId.{ItemId}
-use Rattle.tp_types.specs.declared.ids.ServerId.{ServerId}
-use Rattle.tp_types.specs.declared.ids.TxnId.{TxnId}
-use Rattle.tp_types.specs.declared.records.Cause.{Cause}
-use Rattle.tp_types.specs.declared.records.Cause.TheVariants as cause
-use Rattle.tp_types.specs.declared.records.Decision.TheVariants as decision
-use Rattle.tp_types.specs.declared.records.Denied.{Denied}
-use Rattle.tp_types.specs.declared.records.Died.{Died}
-use Rattle.tp_types.specs.declared.records.OutOfRange.{OutOfRange}
-use Rattle.tp_types.specs.declared.records.Outcome.TheVariants as outcome
-use Rattle.tp_types.specs.declared.scenario.Actor.{Actor}
-use Rattle.tp_types.specs.declared.scenario.Actor.TheVariants as actor
-use Rattle.tp_types.specs.declared.scenario.Item.{Item}
-use Rattle.tp_types.specs.declared.scenario.Query.{Query}
+use Rattle.tp_model.specs.Words.{Actor, Cause, Denied, Died, Fact, Item, ItemId, OutOfRange, Query, Scenario, Scheme, ServerId, Transaction, TxnId, What}
+use Rattle.tp_model.specs.Words.actor
+use Rattle.tp_model.specs.Words.cause
+use Rattle.tp_model.specs.Words.decision
+use Rattle.tp_model.specs.Words.outcome
+use Rattle.tp_model.specs.Words.scheme
+use Rattle.tp_model.specs.Words.what
 use Rattle.tp_types.specs.declared.scenario.Query.TheVariants.{Read, Write}
-use Rattle.tp_types.specs.declared.scenario.Scenario.{Scenario}
-use Rattle.tp_types.specs.declared.scenario.Scheme.{Scheme}
-use Rattle.tp_types.specs.declared.scenario.Scheme.TheVariants as scheme
-use Rattle.tp_types.specs.declared.scenario.Transaction.{Transaction}
-use Rattle.tp_model.specs.Authorisation.{is_allowed, is_own_query, policy_at}
+use Rattle.tp_model.specs.Authorisation.{Question, is_allowed, is_own_query, policy_at}
 use Rattle.tp_model.specs.Facts.{before, is_settled_as, is_settlement, is_submission, same_outcome}
 use Rattle.tp_model.specs.Ids.{same_item, same_server, same_txn}
 use Rattle.tp_model.specs.Levels.{is_global, level_of}
@@ -56,13 +42,23 @@ is_denied_version sc decided facts txn denied =
     && (not (is_bound_to_newest txn denied)
     || nat_le (newest sc denied.admin denied.place facts) denied.version.0)
 
+-- what a denial answers
+abbrev pub denied_question : Denied → Question
+denied_question denied =
+    record {
+      query = denied.query;
+      admin = denied.admin;
+      version = denied.version;
+      place = denied.place;
+    }
+
 -- the policy does not allow the query, on what the transaction held at a place between submission and decision
 abbrev pub is_denied : Scenario → TxnId → ℕ → List Fact → Denied → Transaction → Bool
 is_denied sc txn decided facts denied declared =
     is_own_query sc declared denied.query denied.server denied.admin
     && is_within txn decided facts denied.place
     && is_denied_version sc decided facts declared denied
-    && not (is_allowed sc facts declared denied.query denied.admin denied.version denied.place)
+    && not (is_allowed sc facts declared (denied_question denied))
 
 -- ---- restarted and halted
 
@@ -221,6 +217,10 @@ is_older_conflict sc txn decided facts died declared =
 
 -- ---- all causes
 
+-- a cause that is not built has no row, and what has no row is not shown
+abbrev pub unbuilt_cause : Bool
+unbuilt_cause = false
+
 -- the history shows the cause of an abort that was decided at the place
 abbrev pub is_shown : Scenario → TxnId → ℕ → List Fact → Cause → Transaction → Bool
 is_shown sc txn decided facts (cause.Denied denied) declared =
@@ -233,7 +233,7 @@ is_shown sc txn decided facts (cause.Restarted at) declared =
     is_server_of sc at declared && crashed_within (is_server_actor at) txn decided facts
 is_shown sc txn decided facts cause.Halted declared =
     crashed_within (is_coordinator_actor txn) txn decided facts
-is_shown sc txn decided facts _ declared = false
+is_shown sc txn decided facts _ declared = unbuilt_cause
 
 abbrev pub keeps_causes_what : Scenario → List Fact → ℕ → What → Bool
 keeps_causes_what sc facts place (what.Decided txn (decision.Abort why)) =

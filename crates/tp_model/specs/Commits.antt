@@ -1,10 +1,9 @@
 -- Commits stand apart: no two have one place, so that one of any two is before the other.
 use Rattle.std.specs.Prelude.{ℕ, ◌==◌, ◌&&◌, List, Bool, true, false, is_some}
 use Rattle.std.specs.List.{count_by, list_all}
-use Rattle.tp_types.specs.declared.fact.Fact.{Fact}
-use Rattle.tp_types.specs.declared.fact.What.{What}
-use Rattle.tp_types.specs.declared.fact.What.TheVariants as what
-use Rattle.tp_types.specs.declared.records.Decision.TheVariants as decision
+use Rattle.tp_model.specs.Words.{Fact, What}
+use Rattle.tp_model.specs.Words.decision
+use Rattle.tp_model.specs.Words.what
 use Rattle.tp_model.specs.Facts.{record_of}
 
 abbrev pub is_commit_what : What → Bool

@@ -3,13 +3,8 @@
 use Rattle.std.specs.Prelude.{ℕ, ◌+◌, ◌&&◌, nat_le, List, filter, slice_get, Bool, false, not, Option, Some, None, if◌then◌else◌}
 use Rattle.std.specs.List.{filter_map, list_any, sum_by}
 use Rattle.std.specs.Option.{option_map_or}
-use Rattle.tp_types.specs.declared.fact.Fact.{Fact}
-use Rattle.tp_types.specs.declared.fact.What.{What}
-use Rattle.tp_types.specs.declared.fact.What.TheVariants as what
-use Rattle.tp_types.specs.declared.ids.CredId.{CredId}
-use Rattle.tp_types.specs.declared.scenario.Credential.{Credential}
-use Rattle.tp_types.specs.declared.scenario.Scenario.{Scenario}
-use Rattle.tp_types.specs.declared.scenario.Transaction.{Transaction}
+use Rattle.tp_model.specs.Words.{CredId, Credential, Fact, Scenario, Transaction, What}
+use Rattle.tp_model.specs.Words.what
 use Rattle.tp_model.specs.Facts.{before}
 use Rattle.tp_model.specs.Ids.{same_cred, same_name}
 use Rattle.tp_model.specs.Policies.{Triple}
@@ -30,8 +25,8 @@ is_valid_in creds clock revoked cred =
     option_map_or (is_current clock) (slice_get creds cred.0) false && not (is_among revoked cred)
 
 -- what a credential says
-abbrev pub said_by : Credential → Triple
-said_by credential = record {
+abbrev pub triple_by : Credential → Triple
+triple_by credential = record {
   issuer = credential.issuer;
   attr = credential.attr;
   value = credential.value;
@@ -40,7 +35,7 @@ said_by credential = record {
 -- what a credential says of a subject; one of another subject says nothing
 abbrev pub triple_of : List ℕ → Credential → Option Triple
 triple_of subject credential =
-    if same_name credential.subject subject then Some (said_by credential) else None
+    if same_name credential.subject subject then Some (triple_by credential) else None
 
 abbrev pub said_in : List Credential → List ℕ → CredId → Option Triple
 said_in creds subject cred = option_map_or (triple_of subject) (slice_get creds cred.0) None
@@ -50,8 +45,8 @@ abbrev pub triples_in : List Credential → List ℕ → List CredId → List Tr
 triples_in creds subject used = filter_map (said_in creds subject) used
 
 -- what a subject holds: what those of the credentials say of it that it presents and that are valid
-abbrev pub held_in : List Credential → List ℕ → ℕ → List CredId → List CredId → List Triple
-held_in creds subject clock revoked presented =
+abbrev pub holdings_in : List Credential → List ℕ → ℕ → List CredId → List CredId → List Triple
+holdings_in creds subject clock revoked presented =
     triples_in creds subject (filter (is_valid_in creds clock revoked) presented)
 
 -- the transaction presents the credential
@@ -60,17 +55,17 @@ is_presented txn cred = is_among txn.creds cred
 
 -- ---- at a place of a history
 
-abbrev pub ticks_what : What → ℕ
-ticks_what (what.Ticked by) = by
-ticks_what _ = 0
+abbrev pub tick_of_what : What → ℕ
+tick_of_what (what.Ticked by) = by
+tick_of_what _ = 0
 
 -- by how much a fact moves the clock
-abbrev pub ticks : Fact → ℕ
-ticks fact = ticks_what fact.what
+abbrev pub tick_of : Fact → ℕ
+tick_of fact = tick_of_what fact.what
 
 -- the clock at a place: the opening clock and all ticks before it
 abbrev pub clock_at : Scenario → ℕ → List Fact → ℕ
-clock_at sc place facts = sc.clock + sum_by ticks (before place facts)
+clock_at sc place facts = sc.clock + sum_by tick_of (before place facts)
 
 abbrev pub revoked_what : What → Option CredId
 revoked_what (what.Revoked cred) = Some cred
@@ -89,6 +84,6 @@ is_valid sc place facts cred =
     is_valid_in sc.creds (clock_at sc place facts) (revoked_at place facts) cred
 
 -- what a transaction holds at a place
-abbrev pub held : Scenario → ℕ → List Fact → Transaction → List Triple
-held sc place facts txn =
-    held_in sc.creds txn.subject (clock_at sc place facts) (revoked_at place facts) txn.creds
+abbrev pub holdings : Scenario → ℕ → List Fact → Transaction → List Triple
+holdings sc place facts txn =
+    holdings_in sc.creds txn.subject (clock_at sc place facts) (revoked_at place facts) txn.creds

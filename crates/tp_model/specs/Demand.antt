@@ -3,23 +3,19 @@
 use Rattle.std.specs.Prelude.{ℕ, ◌==◌, ◌&&◌, nat_le, List, [], ◌∷◌, length, map, Bool, false, if◌then◌else◌}
 use Rattle.std.specs.Cmp.Lexicographic.{pointwise}
 use Rattle.std.specs.List.{range_with_len}
-use Rattle.tp_types.specs.declared.fact.Fact.{Fact}
-use Rattle.tp_types.specs.declared.records.CommitRecord.{CommitRecord}
-use Rattle.tp_types.specs.declared.records.Instance.{Instance}
-use Rattle.tp_types.specs.declared.records.Verdict.{Verdict}
-use Rattle.tp_types.specs.declared.scenario.Scenario.{Scenario}
-use Rattle.tp_types.specs.declared.scenario.Scheme.{Scheme}
-use Rattle.tp_types.specs.declared.scenario.Scheme.TheVariants as scheme
-use Rattle.tp_types.specs.declared.scenario.Transaction.{Transaction}
+use Rattle.tp_model.specs.Words.{CommitRecord, Fact, Instance, Scenario, Scheme, Transaction, Verdict}
+use Rattle.tp_model.specs.Limits.{view_rounds}
+use Rattle.tp_model.specs.Words.scheme
 use Rattle.tp_model.specs.Levels.{reads_master}
 use Rattle.tp_model.specs.Versions.{is_consistent}
 
-abbrev pub number_of : Verdict → ℕ
-number_of verdict = verdict.query
+-- the query of a proof, by its number
+abbrev pub query_of : Verdict → ℕ
+query_of verdict = verdict.query
 
 -- exactly one proof for each of the first queries, in order
 abbrev pub is_over : ℕ → List Verdict → Bool
-is_over count proofs = pointwise ◌==◌ (map number_of proofs) (range_with_len 1 count)
+is_over count proofs = pointwise ◌==◌ (map query_of proofs) (range_with_len 1 count)
 
 -- one instance over all queries, which is consistent
 abbrev pub is_final_instance : Scenario → List Fact → Transaction → Instance → Bool
@@ -33,16 +29,20 @@ is_deferred_demand sc facts txn _ = false
 
 -- as many rounds as the master may be read in, where it is read; else one, and one more to bring versions together
 abbrev pub most_rounds : Scenario → Transaction → ℕ
-most_rounds sc txn = if reads_master sc txn then txn.rounds else 2
+most_rounds sc txn = if reads_master sc txn then txn.rounds else view_rounds
 
 -- so many rounds of evaluation at commit are at least one and at most the most
 abbrev pub is_round_count : Scenario → Transaction → ℕ → Bool
 is_round_count sc txn rounds = nat_le 1 rounds && nat_le rounds (most_rounds sc txn)
 
+-- a scheme that is not built has no row, and what has no row is not met
+abbrev pub unbuilt_demand : Bool
+unbuilt_demand = false
+
 abbrev pub meets_scheme : Scheme → Scenario → List Fact → Transaction → CommitRecord → Bool
 meets_scheme scheme.Deferred sc facts txn committed =
     is_deferred_demand sc facts txn committed.instances && is_round_count sc txn committed.rounds
-meets_scheme _ sc facts txn committed = false
+meets_scheme _ sc facts txn committed = unbuilt_demand
 
 -- the commit is what the transaction's scheme demands
 abbrev pub meets_demand : Scenario → List Fact → Transaction → CommitRecord → Bool

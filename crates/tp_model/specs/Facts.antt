@@ -1,16 +1,11 @@
 -- What a list of facts tells of a transaction. Facts stand in the order in which they came, and several may have one place.
 use Rattle.std.specs.Prelude.{ℕ, ◌&&◌, nat_lt, List, [], ◌∷◌, filter, Bool, true, false, Option, Some, None, if◌then◌else◌}
 use Rattle.std.specs.List.{list_any}
-use Rattle.tp_types.specs.declared.fact.Fact.{Fact}
-use Rattle.tp_types.specs.declared.fact.What.{What}
-use Rattle.tp_types.specs.declared.fact.What.TheVariants as what
-use Rattle.tp_types.specs.declared.ids.ServerId.{ServerId}
-use Rattle.tp_types.specs.declared.ids.TxnId.{TxnId}
-use Rattle.tp_types.specs.declared.records.CommitRecord.{CommitRecord}
-use Rattle.tp_types.specs.declared.records.Decision.{Decision}
-use Rattle.tp_types.specs.declared.records.Decision.TheVariants as decision
-use Rattle.tp_types.specs.declared.records.Outcome.{Outcome}
-use Rattle.tp_types.specs.declared.records.Outcome.TheVariants as outcome
+use Rattle.std.specs.Option.{option_or}
+use Rattle.tp_model.specs.Words.{CommitRecord, Decision, Fact, Outcome, ServerId, TxnId, What}
+use Rattle.tp_model.specs.Words.decision
+use Rattle.tp_model.specs.Words.outcome
+use Rattle.tp_model.specs.Words.what
 use Rattle.tp_model.specs.Ids.{same_server, same_txn}
 
 -- ---- places
@@ -90,10 +85,6 @@ is_settled_as at txn ended fact = is_settled_what at txn ended fact.what
 abbrev pub was_submitted : TxnId → ℕ → List Fact → Bool
 was_submitted txn place facts = list_any (is_submission txn) (before place facts)
 
-abbrev pub first_of : {A : Type 0} → Option A → Option A → Option A
-first_of None later = later
-first_of (Some found) later = Some found
-
 -- the record of a commit of the transaction
 abbrev pub commit_in_what : TxnId → What → Option CommitRecord
 commit_in_what txn (what.Decided other decided) =
@@ -103,4 +94,4 @@ commit_in_what txn _ = None
 -- the record of the transaction's first commit
 abbrev pub commit_of : TxnId → List Fact → Option CommitRecord
 commit_of txn [] = None
-commit_of txn (fact ∷ facts) = first_of (commit_in_what txn fact.what) (commit_of txn facts)
+commit_of txn (fact ∷ facts) = option_or (commit_in_what txn fact.what) (commit_of txn facts)

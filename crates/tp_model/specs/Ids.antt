@@ -1,11 +1,7 @@
 -- Equal ids, and equal names.
 use Rattle.std.specs.Prelude.{ℕ, ◌==◌, List, Bool}
 use Rattle.std.specs.Cmp.Lexicographic.{pointwise}
-use Rattle.tp_types.specs.declared.ids.AdminId.{AdminId}
-use Rattle.tp_types.specs.declared.ids.CredId.{CredId}
-use Rattle.tp_types.specs.declared.ids.ItemId.{ItemId}
-use Rattle.tp_types.specs.declared.ids.ServerId.{ServerId}
-use Rattle.tp_types.specs.declared.ids.TxnId.{TxnId}
+use Rattle.tp_model.specs.Words.{AdminId, CredId, ItemId, ServerId, TxnId}
 
 abbrev pub same_admin : AdminId → AdminId → Bool
 same_admin one other = one.0 == other.0

@@ -2,13 +2,8 @@
 use Rattle.std.specs.Prelude.{slice_get, Bool, true, false}
 use Rattle.std.specs.List.{list_any}
 use Rattle.std.specs.Option.{option_map_or}
-use Rattle.tp_types.specs.declared.ids.AdminId.{AdminId}
-use Rattle.tp_types.specs.declared.scenario.Item.{Item}
-use Rattle.tp_types.specs.declared.scenario.Level.{Level}
+use Rattle.tp_model.specs.Words.{AdminId, Item, Level, Query, Scenario, Transaction}
 use Rattle.tp_types.specs.declared.scenario.Level.TheVariants.{Global}
-use Rattle.tp_types.specs.declared.scenario.Query.{Query}
-use Rattle.tp_types.specs.declared.scenario.Scenario.{Scenario}
-use Rattle.tp_types.specs.declared.scenario.Transaction.{Transaction}
 use Rattle.tp_model.specs.Queries.{item_of}
 
 abbrev pub is_global : Level → Bool

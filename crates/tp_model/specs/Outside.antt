@@ -1,23 +1,20 @@
 -- What comes from outside: the facts that the steps say by themselves, each at its step's place.
 use Rattle.std.specs.Prelude.{◌≡◌, ℕ, ◌+◌, ◌&&◌, nat_le, List, [], ◌∷◌, ◌++◌, filter, length, Bool, true, false}
 use Rattle.std.specs.List.{list_all}
-use Rattle.tp_types.specs.declared.fact.Fact.{Fact}
-use Rattle.tp_types.specs.declared.fact.What.{What}
-use Rattle.tp_types.specs.declared.fact.What.TheVariants as what
-use Rattle.tp_types.specs.declared.scenario.Scenario.{Scenario}
-use Rattle.tp_types.specs.declared.scenario.Step.{Step}
-use Rattle.tp_types.specs.declared.scenario.Step.TheVariants as step
+use Rattle.tp_model.specs.Words.{Fact, Scenario, Step, What}
+use Rattle.tp_model.specs.Words.step
+use Rattle.tp_model.specs.Words.what
 use Rattle.tp_model.specs.Facts.{is_earlier}
 use Rattle.tp_model.specs.Versions.{newest}
 
-abbrev pub is_outside_what : What → Bool
-is_outside_what (what.Decided txn decided) = false
-is_outside_what (what.Settled at txn ended) = false
-is_outside_what _ = true
+abbrev pub is_from_outside_what : What → Bool
+is_from_outside_what (what.Decided txn decided) = false
+is_from_outside_what (what.Settled at txn ended) = false
+is_from_outside_what _ = true
 
 -- the fact is said by a step, and not by an actor's log
-abbrev pub is_outside : Fact → Bool
-is_outside fact = is_outside_what fact.what
+abbrev pub is_from_outside : Fact → Bool
+is_from_outside fact = is_from_outside_what fact.what
 
 -- what a step says at its place. A publication has the version after the newest there
 abbrev pub said_by : Scenario → List Fact → ℕ → Step → List What
@@ -48,6 +45,6 @@ rises_from place (fact ∷ facts) = nat_le place fact.place && rises_from fact.p
 
 -- the facts from outside are exactly what the steps say; no fact's place is before that of an earlier one, and each is a step's
 pub record IsOutside (sc : Scenario) (steps : List Step) (facts : List Fact) : Type 0 where
-  pub said : filter is_outside facts ≡ said_from sc facts 0 steps
+  pub said : filter is_from_outside facts ≡ said_from sc facts 0 steps
   pub rising : rises_from 0 facts ≡ true
   pub within : list_all (is_earlier (length steps)) facts ≡ true

@@ -3,17 +3,12 @@
 use Rattle.std.specs.Prelude.{ℕ, ◌==◌, ◌&&◌, List, Bool, true, false, Option, Some, None}
 use Rattle.std.specs.List.{list_all, list_any, starts_with}
 use Rattle.std.specs.Ordering.{int_eq}
-use Rattle.tp_types.specs.declared.policy.Action.{Action}
-use Rattle.tp_types.specs.declared.policy.Action.TheVariants as action
+use Rattle.tp_model.specs.Words.{Action, Op, Pattern, Policy, Rule, Value}
+use Rattle.tp_model.specs.Words.action
 use Rattle.tp_types.specs.declared.policy.Cond.{Cond, fold-Cond}
 use Rattle.tp_types.specs.declared.policy.Cond.TheOpen.{Cond-F, True, Atom, And, Or}
-use Rattle.tp_types.specs.declared.policy.Op.{Op}
 use Rattle.tp_types.specs.declared.policy.Op.TheVariants.{Equal, AtLeast, AtMost}
-use Rattle.tp_types.specs.declared.policy.Pattern.{Pattern}
 use Rattle.tp_types.specs.declared.policy.Pattern.TheVariants.{All, Exact, Prefix}
-use Rattle.tp_types.specs.declared.policy.Policy.{Policy}
-use Rattle.tp_types.specs.declared.policy.Rule.{Rule}
-use Rattle.tp_types.specs.declared.policy.Value.{Value}
 use Rattle.tp_types.specs.declared.policy.Value.TheVariants.{Number, Word}
 use Rattle.tp_model.specs.Ids.{same_name}
 use Rattle.tp_model.specs.Limits.{int_le}

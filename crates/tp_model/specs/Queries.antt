@@ -2,12 +2,7 @@
 use Rattle.std.specs.Prelude.{ℕ, ◌+◌, ◌==◌, List, [], ◌∷◌, length, slice_get, Bool, true, false, Option, Some, None, ℤ, neg_ℤ, if◌then◌else◌, zero, suc}
 use Rattle.std.specs.List.{list_any}
 use Rattle.std.specs.Option.{option_map_or}
-use Rattle.tp_types.specs.declared.ids.ItemId.{ItemId}
-use Rattle.tp_types.specs.declared.ids.ServerId.{ServerId}
-use Rattle.tp_types.specs.declared.scenario.Scenario.{Scenario}
-use Rattle.tp_types.specs.declared.scenario.Item.{Item}
-use Rattle.tp_types.specs.declared.scenario.Transaction.{Transaction}
-use Rattle.tp_types.specs.declared.scenario.Query.{Query}
+use Rattle.tp_model.specs.Words.{Item, ItemId, Query, Scenario, ServerId, Transaction}
 use Rattle.tp_types.specs.declared.scenario.Query.TheVariants.{Read, Write}
 
 -- the member of a list that has exactly one
@@ -26,9 +21,9 @@ abbrev pub query_at : Transaction → ℕ → Option Query
 query_at txn zero = None
 query_at txn (suc before) = slice_get txn.queries before
 
-abbrev pub signed : Bool → ℤ → ℤ
-signed false x = x
-signed true x = neg_ℤ x
+abbrev pub with_sign : Bool → ℤ → ℤ
+with_sign false x = x
+with_sign true x = neg_ℤ x
 
 -- the query is on an item of this server
 abbrev pub is_at_server : Scenario → ℕ → Query → Bool

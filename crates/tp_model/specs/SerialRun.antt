@@ -4,29 +4,18 @@ use Rattle.std.specs.Cmp.Lexicographic.{pointwise}
 use Rattle.std.specs.List.{find, list_all}
 use Rattle.std.specs.Option.{option_map_or}
 use Rattle.std.specs.Ordering.{int_eq}
-use Rattle.tp_types.specs.declared.fact.Fact.{Fact}
-use Rattle.tp_types.specs.declared.fact.What.{What}
-use Rattle.tp_types.specs.declared.fact.What.TheVariants as what
-use Rattle.tp_types.specs.declared.ids.ServerId.{ServerId}
-use Rattle.tp_types.specs.declared.policy.Action.{Action}
-use Rattle.tp_types.specs.declared.policy.Action.TheVariants as action
-use Rattle.tp_types.specs.declared.records.CommitRecord.{CommitRecord}
-use Rattle.tp_types.specs.declared.records.Decision.TheVariants as decision
-use Rattle.tp_types.specs.declared.records.Deed.{Deed}
-use Rattle.tp_types.specs.declared.records.Outcome.TheVariants as outcome
-use Rattle.tp_types.specs.declared.scenario.Item.{Item}
-use Rattle.tp_types.specs.declared.scenario.Operand.{Operand}
+use Rattle.tp_model.specs.Words.{Action, CommitRecord, Deed, Fact, Item, Operand, Query, Scenario, ServerId, Term, Transaction, What}
+use Rattle.tp_model.specs.Words.action
+use Rattle.tp_model.specs.Words.decision
+use Rattle.tp_model.specs.Words.outcome
+use Rattle.tp_model.specs.Words.what
 use Rattle.tp_types.specs.declared.scenario.Operand.TheVariants.{Constant, Register}
-use Rattle.tp_types.specs.declared.scenario.Query.{Query}
 use Rattle.tp_types.specs.declared.scenario.Query.TheVariants.{Read, Write}
-use Rattle.tp_types.specs.declared.scenario.Scenario.{Scenario}
-use Rattle.tp_types.specs.declared.scenario.Term.{Term}
-use Rattle.tp_types.specs.declared.scenario.Transaction.{Transaction}
 use Rattle.tp_model.specs.Facts.{before, commit_of}
 use Rattle.tp_model.specs.Ids.{same_item, same_server}
 use Rattle.tp_model.specs.Limits.{is_between}
 use Rattle.tp_model.specs.Policies.{same_action}
-use Rattle.tp_model.specs.Queries.{signed}
+use Rattle.tp_model.specs.Queries.{with_sign}
 
 -- ---- what a transaction does by itself
 
@@ -44,7 +33,7 @@ operand_in registers (Register r) = number_at registers r
 
 -- what a term adds
 abbrev pub term_in : List ℤ → Term → ℤ
-term_in registers term = signed term.minus (operand_in registers term.operand)
+term_in registers term = with_sign term.minus (operand_in registers term.operand)
 
 abbrev pub add_term : List ℤ → ℤ → Term → ℤ
 add_term registers total term = total +ℤ term_in registers term
@@ -81,16 +70,16 @@ run_value txn store number = option_map deed_value (find (is_deed_of number) (se
 -- ---- the store
 
 -- the store after a deed; reads change nothing
-abbrev pub stored_by : Action → List ℤ → Deed → List ℤ
-stored_by action.Read store deed = store
-stored_by action.Write store deed = slice_set store deed.item.0 deed.value
+abbrev pub with_deed_by : Action → List ℤ → Deed → List ℤ
+with_deed_by action.Read store deed = store
+with_deed_by action.Write store deed = slice_set store deed.item.0 deed.value
 
-abbrev pub stored : List ℤ → Deed → List ℤ
-stored store deed = stored_by deed.action store deed
+abbrev pub with_deed : List ℤ → Deed → List ℤ
+with_deed store deed = with_deed_by deed.action store deed
 
 -- the store after deeds
-abbrev pub stored_all : List ℤ → List Deed → List ℤ
-stored_all store deeds = fold stored store deeds
+abbrev pub with_deeds : List ℤ → List Deed → List ℤ
+with_deeds store deeds = fold with_deed store deeds
 
 abbrev pub opening_value : Item → ℤ
 opening_value item = item.value
@@ -99,16 +88,16 @@ opening_value item = item.value
 abbrev pub opening_store : Scenario → List ℤ
 opening_store sc = map opening_value sc.items
 
-abbrev pub stored_what : List ℤ → What → List ℤ
-stored_what store (what.Decided txn (decision.Commit committed)) = stored_all store committed.deeds
-stored_what store _ = store
+abbrev pub with_what : List ℤ → What → List ℤ
+with_what store (what.Decided txn (decision.Commit committed)) = with_deeds store committed.deeds
+with_what store _ = store
 
-abbrev pub stored_fact : List ℤ → Fact → List ℤ
-stored_fact store fact = stored_what store fact.what
+abbrev pub with_fact : List ℤ → Fact → List ℤ
+with_fact store fact = with_what store fact.what
 
 -- the store after facts: the opening values, and then each commit's writes in order
 abbrev pub store_of : Scenario → List Fact → List ℤ
-store_of sc facts = fold stored_fact (opening_store sc) facts
+store_of sc facts = fold with_fact (opening_store sc) facts
 
 -- the store before a place
 abbrev pub store_at : Scenario → ℕ → List Fact → List ℤ
@@ -131,7 +120,7 @@ are_in_range (item ∷ items) (value ∷ store) =
 abbrev pub is_serial_commit : Scenario → List ℤ → CommitRecord → Transaction → Bool
 is_serial_commit sc store committed txn =
     pointwise same_deed committed.deeds (serial_run txn store)
-    && are_in_range sc.items (stored_all store committed.deeds)
+    && are_in_range sc.items (with_deeds store committed.deeds)
 
 abbrev pub keeps_serial_what : Scenario → List Fact → ℕ → What → Bool
 keeps_serial_what sc facts place (what.Decided txn (decision.Commit committed)) =
@@ -150,25 +139,25 @@ is_serial sc facts = list_all (keeps_serial sc facts) facts
 -- ---- what servers have settled
 
 -- a write is overlaid at the server of its item
-abbrev pub overlaid_at : Scenario → ServerId → List ℤ → Deed → List ℤ
-overlaid_at sc at store deed =
+abbrev pub overlay_at : Scenario → ServerId → List ℤ → Deed → List ℤ
+overlay_at sc at store deed =
     if option_map_or (λ (item : Item). same_server item.server at) (slice_get sc.items deed.item.0) false
-    then stored store deed
+    then with_deed store deed
     else store
 
-abbrev pub overlaid_deeds : Scenario → ServerId → List ℤ → Option CommitRecord → List ℤ
-overlaid_deeds sc at store None = store
-overlaid_deeds sc at store (Some committed) = fold (overlaid_at sc at) store committed.deeds
+abbrev pub overlay_deeds : Scenario → ServerId → List ℤ → Option CommitRecord → List ℤ
+overlay_deeds sc at store None = store
+overlay_deeds sc at store (Some committed) = fold (overlay_at sc at) store committed.deeds
 
 -- where a server settles a commit, the commit's writes at that server are overlaid
-abbrev pub overlaid_what : Scenario → List Fact → List ℤ → What → List ℤ
-overlaid_what sc facts store (what.Settled at txn outcome.Commit) =
-    overlaid_deeds sc at store (commit_of txn facts)
-overlaid_what sc facts store _ = store
+abbrev pub overlay_what : Scenario → List Fact → List ℤ → What → List ℤ
+overlay_what sc facts store (what.Settled at txn outcome.Commit) =
+    overlay_deeds sc at store (commit_of txn facts)
+overlay_what sc facts store _ = store
 
-abbrev pub overlaid_fact : Scenario → List Fact → List ℤ → Fact → List ℤ
-overlaid_fact sc facts store fact = overlaid_what sc facts store fact.what
+abbrev pub overlay_fact : Scenario → List Fact → List ℤ → Fact → List ℤ
+overlay_fact sc facts store fact = overlay_what sc facts store fact.what
 
 -- each item's opening value, overlaid by the writes of the commits that its server has settled, in the order of settling
-abbrev pub overlaid : Scenario → List Fact → List ℤ
-overlaid sc facts = fold (overlaid_fact sc facts) (opening_store sc) facts
+abbrev pub overlay : Scenario → List Fact → List ℤ
+overlay sc facts = fold (overlay_fact sc facts) (opening_store sc) facts

@@ -2,16 +2,9 @@
 use Rattle.std.specs.Prelude.{ℕ, ◌&&◌, nat_le, nat_lt, List, slice_get, Bool, true, false, Option, Some, None}
 use Rattle.std.specs.List.{list_all}
 use Rattle.std.specs.Option.{option_map_or}
-use Rattle.tp_types.specs.declared.fact.Fact.{Fact}
-use Rattle.tp_types.specs.declared.fact.What.{What}
-use Rattle.tp_types.specs.declared.fact.What.TheVariants as what
-use Rattle.tp_types.specs.declared.ids.TxnId.{TxnId}
-use Rattle.tp_types.specs.declared.records.CommitRecord.{CommitRecord}
-use Rattle.tp_types.specs.declared.records.Decision.TheVariants as decision
-use Rattle.tp_types.specs.declared.records.Instance.{Instance}
-use Rattle.tp_types.specs.declared.records.Verdict.{Verdict}
-use Rattle.tp_types.specs.declared.scenario.Scenario.{Scenario}
-use Rattle.tp_types.specs.declared.scenario.Transaction.{Transaction}
+use Rattle.tp_model.specs.Words.{CommitRecord, Fact, Instance, Scenario, Transaction, TxnId, Verdict, What}
+use Rattle.tp_model.specs.Words.decision
+use Rattle.tp_model.specs.Words.what
 use Rattle.tp_model.specs.Authorisation.{is_true_verdict}
 use Rattle.tp_model.specs.Demand.{meets_demand}
 use Rattle.tp_model.specs.Facts.{was_submitted}

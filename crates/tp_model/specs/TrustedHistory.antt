@@ -1,22 +1,15 @@
 -- The trusted history: all that the report of a run shows, at any moment and at a quiet end.
 use Rattle.std.specs.Prelude.{◌≡◌, ℕ, ◌+◌, ◌&&◌, ◌||◌, List, [], ◌∷◌, length, Bool, true, ℤ}
 use Rattle.std.specs.List.{list_all, list_any}
-use Rattle.tp_types.specs.declared.fact.Ending.{Ending}
-use Rattle.tp_types.specs.declared.fact.Fact.{Fact}
-use Rattle.tp_types.specs.declared.ids.ServerId.{ServerId}
-use Rattle.tp_types.specs.declared.ids.TxnId.{TxnId}
-use Rattle.tp_types.specs.declared.records.Outcome.{Outcome}
-use Rattle.tp_types.specs.declared.records.Outcome.TheVariants as outcome
-use Rattle.tp_types.specs.declared.scenario.Scenario.{Scenario}
-use Rattle.tp_types.specs.declared.scenario.Step.{Step}
-use Rattle.tp_types.specs.declared.scenario.Transaction.{Transaction}
+use Rattle.tp_model.specs.Words.{Ending, Fact, Outcome, Scenario, ServerId, Step, Transaction, TxnId}
+use Rattle.tp_model.specs.Words.outcome
 use Rattle.tp_model.specs.Agreement.{is_agreed}
 use Rattle.tp_model.specs.Causes.{is_caused}
 use Rattle.tp_model.specs.Commits.{are_lone}
 use Rattle.tp_model.specs.Facts.{is_decided_as, is_settled_as, is_submission}
 use Rattle.tp_model.specs.Outside.{IsOutside}
 use Rattle.tp_model.specs.Queries.{servers_of}
-use Rattle.tp_model.specs.SerialRun.{is_serial, overlaid, store_of}
+use Rattle.tp_model.specs.SerialRun.{is_serial, overlay, store_of}
 use Rattle.tp_model.specs.Trust.{is_trusted}
 
 -- ---- at any moment
@@ -31,7 +24,7 @@ pub record TrustedSoFar (sc : Scenario) (steps : List Step) (facts : List Fact) 
   pub caused : is_caused sc facts ≡ true
   pub serial : is_serial sc facts ≡ true
   pub lone : are_lone facts ≡ true
-  pub values_are : values ≡ overlaid sc facts
+  pub values_are : values ≡ overlay sc facts
 
 -- ---- at a quiet end
 

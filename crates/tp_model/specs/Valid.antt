@@ -4,33 +4,14 @@ use Rattle.std.specs.Prelude.{◌≡◌, ℕ, ◌+◌, ◌^◌, ◌==◌, ◌&&�
 use Rattle.std.specs.Cmp.Lexicographic.{pointwise}
 use Rattle.std.specs.List.{count_by, list_all, list_any, sum_by}
 use Rattle.std.specs.Option.{option_map_or}
-use Rattle.tp_types.specs.declared.ids.AdminId.{AdminId}
-use Rattle.tp_types.specs.declared.ids.CredId.{CredId}
-use Rattle.tp_types.specs.declared.ids.ItemId.{ItemId}
-use Rattle.tp_types.specs.declared.ids.ServerId.{ServerId}
-use Rattle.tp_types.specs.declared.ids.TxnId.{TxnId}
-use Rattle.tp_types.specs.declared.ids.Version.{Version}
-use Rattle.tp_types.specs.declared.policy.Policy.{Policy}
-use Rattle.tp_types.specs.declared.policy.Value.{Value}
+use Rattle.tp_model.specs.Words.{Actor, Admin, AdminId, CredId, Credential, Cut, Item, ItemId, Operand, Policy, Query, Scenario, ServerDecl, ServerId, Step, Term, Transaction, TxnId, Value, Version}
+use Rattle.tp_model.specs.Words.actor
+use Rattle.tp_model.specs.Words.step
 use Rattle.tp_types.specs.declared.policy.Value.TheVariants.{Number, Word}
-use Rattle.tp_types.specs.declared.scenario.Actor.{Actor}
-use Rattle.tp_types.specs.declared.scenario.Actor.TheVariants as actor
-use Rattle.tp_types.specs.declared.scenario.Admin.{Admin}
-use Rattle.tp_types.specs.declared.scenario.Credential.{Credential}
-use Rattle.tp_types.specs.declared.scenario.Cut.{Cut}
-use Rattle.tp_types.specs.declared.scenario.Item.{Item}
-use Rattle.tp_types.specs.declared.scenario.Operand.{Operand}
 use Rattle.tp_types.specs.declared.scenario.Operand.TheVariants.{Constant, Register}
-use Rattle.tp_types.specs.declared.scenario.Query.{Query}
 use Rattle.tp_types.specs.declared.scenario.Query.TheVariants.{Read, Write}
-use Rattle.tp_types.specs.declared.scenario.Scenario.{Scenario}
-use Rattle.tp_types.specs.declared.scenario.ServerDecl.{ServerDecl}
-use Rattle.tp_types.specs.declared.scenario.Step.{Step}
-use Rattle.tp_types.specs.declared.scenario.Step.TheVariants as step
-use Rattle.tp_types.specs.declared.scenario.Term.{Term}
-use Rattle.tp_types.specs.declared.scenario.Transaction.{Transaction}
 use Rattle.tp_model.specs.Ids.{same_admin, same_cred, same_item, same_name, same_txn}
-use Rattle.tp_model.specs.Limits.{has_count, is_between, is_value, is_from_to, number_limit}
+use Rattle.tp_model.specs.Limits.{admins_limit, calls_limit, clients_limit, clock_limit, creds_limit, has_count, is_between, is_from_to, is_value, items_limit, number_limit, officers_limit, publishers_limit, queries_limit, registers_limit, rounds_limit, rules_limit, servers_limit, steps_limit, terms_limit, tick_limit, txns_limit, versions_limit}
 
 -- ---- what exists
 
@@ -60,12 +41,12 @@ are_distinct same (x ∷ xs) = not (list_any (same x) xs) && are_distinct same x
 
 -- a policy has no more rules than a text of 4,096 bytes
 abbrev pub is_valid_policy : Policy → Bool
-is_valid_policy policy = nat_le (length policy.rules) 4096
+is_valid_policy policy = nat_le (length policy.rules) rules_limit
 
 -- 1 to 64 versions, and the opening version is one of them
 abbrev pub is_valid_admin : Admin → Bool
 is_valid_admin admin =
-    has_count 1 64 admin.library && list_all is_valid_policy admin.library
+    has_count 1 versions_limit admin.library && list_all is_valid_policy admin.library
     && is_from_to 1 (length admin.library) admin.opening.0
 
 abbrev pub same_admin_name : Admin → Admin → Bool
@@ -74,13 +55,9 @@ same_admin_name one other = same_name one.name other.name
 -- 1 to 16 administrators, whose names are apart
 abbrev pub are_valid_admins : List Admin → Bool
 are_valid_admins admins =
-    has_count 1 16 admins && list_all is_valid_admin admins && are_distinct same_admin_name admins
+    has_count 1 admins_limit admins && list_all is_valid_admin admins && are_distinct same_admin_name admins
 
 -- ---- credentials
-
--- clocks end at 10^12
-abbrev pub clock_limit : ℕ
-clock_limit = 10 ^ 12
 
 -- a number has at most 15 digits
 abbrev pub is_valid_value : Value → Bool
@@ -97,7 +74,7 @@ same_cred_name one other = same_name one.name other.name
 -- at most 256 credentials, whose names are apart
 abbrev pub are_valid_creds : List Credential → Bool
 are_valid_creds creds =
-    has_count 0 256 creds && list_all is_valid_cred creds && are_distinct same_cred_name creds
+    has_count 0 creds_limit creds && list_all is_valid_cred creds && are_distinct same_cred_name creds
 
 -- ---- servers and items
 
@@ -122,7 +99,7 @@ owned_from at number (item ∷ items) =
 -- the server of this number knows versions as it may, and lists just its own items, in order of number; they are at most 64
 abbrev pub is_valid_server : Scenario → ℕ → ServerDecl → Bool
 is_valid_server sc at server =
-    are_known sc.admins server.knows && has_count 0 64 server.items
+    are_known sc.admins server.knows && has_count 0 items_limit server.items
     && pointwise same_item server.items (owned_from at 0 sc.items)
 
 -- so do all servers, the first having this number
@@ -137,7 +114,7 @@ same_server_name one other = same_name one.name other.name
 -- 1 to 16 servers, whose names are apart
 abbrev pub are_valid_servers : Scenario → Bool
 are_valid_servers sc =
-    has_count 1 16 sc.servers && are_valid_from sc 0 sc.servers
+    has_count 1 servers_limit sc.servers && are_valid_from sc 0 sc.servers
     && are_distinct same_server_name sc.servers
 
 -- the item's bounds are within the limits
@@ -170,7 +147,7 @@ are_valid_items sc =
 
 -- registers count from 1 to 9
 abbrev pub is_register : ℕ → Bool
-is_register register = is_from_to 1 9 register
+is_register register = is_from_to 1 registers_limit register
 
 abbrev pub is_valid_operand : Operand → Bool
 is_valid_operand (Constant c) = is_between (pos 0) number_limit c
@@ -194,7 +171,7 @@ begins_well (term ∷ terms) = not term.minus || has_constant term
 -- a sum has 1 to 5 terms, at most one of them a constant
 abbrev pub is_valid_sum : List Term → Bool
 is_valid_sum expr =
-    has_count 1 5 expr && list_all is_valid_term expr && begins_well expr
+    has_count 1 terms_limit expr && list_all is_valid_term expr && begins_well expr
     && nat_le (count_by has_constant expr) 1
 
 abbrev pub is_valid_query : Scenario → Query → Bool
@@ -207,13 +184,13 @@ is_name_of_server txn server = same_name txn.name server.name
 -- the credentials that it presents exist and are apart
 abbrev pub has_valid_creds : Scenario → Transaction → Bool
 has_valid_creds sc txn =
-    has_count 0 256 txn.creds && list_all (is_cred sc) txn.creds && are_distinct same_cred txn.creds
+    has_count 0 creds_limit txn.creds && list_all (is_cred sc) txn.creds && are_distinct same_cred txn.creds
 
 -- 1 to 16 queries, a round limit of 1 to 16, and no server's name
 abbrev pub is_valid_txn : Scenario → Transaction → Bool
 is_valid_txn sc txn =
-    has_valid_creds sc txn && is_from_to 1 16 txn.rounds
-    && (has_count 1 16 txn.queries && list_all (is_valid_query sc) txn.queries
+    has_valid_creds sc txn && is_from_to 1 rounds_limit txn.rounds
+    && (has_count 1 queries_limit txn.queries && list_all (is_valid_query sc) txn.queries
     && not (list_any (is_name_of_server txn) sc.servers))
 
 abbrev pub same_txn_name : Transaction → Transaction → Bool
@@ -222,7 +199,7 @@ same_txn_name one other = same_name one.name other.name
 -- at most 128 transactions, whose names are apart
 abbrev pub are_valid_txns : Scenario → Bool
 are_valid_txns sc =
-    has_count 0 128 sc.txns && list_all (is_valid_txn sc) sc.txns
+    has_count 0 txns_limit sc.txns && list_all (is_valid_txn sc) sc.txns
     && are_distinct same_txn_name sc.txns
 
 -- ---- steps
@@ -239,14 +216,14 @@ is_number number = nat_lt number (10 ^ 15)
 
 -- an append has four device calls
 abbrev pub is_valid_cut : Cut → Bool
-is_valid_cut cut = is_number cut.mail && nat_le cut.calls 4
+is_valid_cut cut = is_number cut.mail && nat_le cut.calls calls_limit
 
 abbrev pub is_valid_step : Scenario → Step → Bool
 is_valid_step sc (step.Submit txn) = is_txn sc txn
 is_valid_step sc (step.Publish admin) = is_admin sc admin
 is_valid_step sc (step.Push admin server) = is_admin sc admin && is_server sc server
 is_valid_step sc (step.Revoke cred) = is_cred sc cred
-is_valid_step sc (step.Tick by) = is_from_to 1 1000000 by
+is_valid_step sc (step.Tick by) = is_from_to 1 tick_limit by
 is_valid_step sc (step.Deliver mail) = is_number mail
 is_valid_step sc (step.Lose mail) = is_number mail
 is_valid_step sc (step.Crash who cut) = may_crash sc who && option_map_or is_valid_cut cut true
@@ -255,7 +232,7 @@ is_valid_step sc (step.Timer txn) = is_txn sc txn
 
 -- at most 100,000 steps are listed
 abbrev pub are_valid_steps : Scenario → List Step → Bool
-are_valid_steps sc steps = has_count 0 100000 steps && list_all (is_valid_step sc) steps
+are_valid_steps sc steps = has_count 0 steps_limit steps && list_all (is_valid_step sc) steps
 
 -- ---- the scripts of a race
 
@@ -276,7 +253,7 @@ are_submitted_once clients number (txn ∷ txns) =
 -- at most 16 clients, which submit no transaction twice
 abbrev pub are_valid_clients : Scenario → Bool
 are_valid_clients sc =
-    has_count 0 16 sc.clients && list_all (is_script_of_txns sc) sc.clients
+    has_count 0 clients_limit sc.clients && list_all (is_script_of_txns sc) sc.clients
     && are_submitted_once sc.clients 0 sc.txns
 
 -- a publisher publishes and pushes
@@ -308,7 +285,7 @@ have_versions_left publishers number (admin ∷ admins) =
 -- at most 8 publishers
 abbrev pub are_valid_publishers : Scenario → Bool
 are_valid_publishers sc =
-    has_count 0 8 sc.publishers && list_all (is_publisher_script sc) sc.publishers
+    has_count 0 publishers_limit sc.publishers && list_all (is_publisher_script sc) sc.publishers
     && have_versions_left sc.publishers 0 sc.admins
 
 -- an officer moves the clock and revokes
@@ -322,7 +299,7 @@ is_officer_script sc script = list_all is_officer_step script && are_valid_steps
 
 -- at most 8 officers
 abbrev pub are_valid_officers : Scenario → Bool
-are_valid_officers sc = has_count 0 8 sc.officers && list_all (is_officer_script sc) sc.officers
+are_valid_officers sc = has_count 0 officers_limit sc.officers && list_all (is_officer_script sc) sc.officers
 
 -- ---- the whole
 

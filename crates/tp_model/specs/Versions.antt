@@ -1,16 +1,8 @@
 -- Which version of an administrator's policy is the newest at a place, and when versions agree.
 use Rattle.std.specs.Prelude.{ℕ, ◌+◌, ◌==◌, ◌&&◌, nat_lt, List, slice_get, Bool, true, false, Option, Some, None, is_none, option_map, unwrap_or, if◌then◌else◌}
 use Rattle.std.specs.List.{count_by, list_all}
-use Rattle.tp_types.specs.declared.fact.Fact.{Fact}
-use Rattle.tp_types.specs.declared.fact.What.{What}
-use Rattle.tp_types.specs.declared.fact.What.TheVariants as what
-use Rattle.tp_types.specs.declared.ids.AdminId.{AdminId}
-use Rattle.tp_types.specs.declared.ids.Version.{Version}
-use Rattle.tp_types.specs.declared.records.Instance.{Instance}
-use Rattle.tp_types.specs.declared.records.Verdict.{Verdict}
-use Rattle.tp_types.specs.declared.scenario.Admin.{Admin}
-use Rattle.tp_types.specs.declared.scenario.Scenario.{Scenario}
-use Rattle.tp_types.specs.declared.scenario.Transaction.{Transaction}
+use Rattle.tp_model.specs.Words.{Admin, AdminId, Fact, Instance, Scenario, Transaction, Verdict, Version, What}
+use Rattle.tp_model.specs.Words.what
 use Rattle.tp_model.specs.Facts.{before}
 use Rattle.tp_model.specs.Ids.{same_admin}
 use Rattle.tp_model.specs.Levels.{is_global, level_of, reads_master}
@@ -29,15 +21,15 @@ newest_at admin opening place facts =
     record { 0 = opening.0 + count_by (is_publication admin) (before place facts) }
 
 -- the version with which an administrator begins
-abbrev pub opening_of : Scenario → AdminId → Version
-opening_of sc admin =
+abbrev pub opening_version : Scenario → AdminId → Version
+opening_version sc admin =
     unwrap_or (option_map (λ (declared : Admin). declared.opening) (slice_get sc.admins admin.0)) (record {
       0 = 0;
     })
 
 -- the newest version of an administrator of the scenario
 abbrev pub newest : Scenario → AdminId → ℕ → List Fact → ℕ
-newest sc admin place facts = (newest_at admin (opening_of sc admin) place facts).0
+newest sc admin place facts = (newest_at admin (opening_version sc admin) place facts).0
 
 -- two proofs of one administrator have one version
 abbrev pub have_one_version : Verdict → Verdict → Bool

@@ -58,7 +58,7 @@ fn satisfies(op: Op, wanted: &Value, found: &Value) -> bool
 /// What the credential says is of the issuer and the attribute, and satisfies the comparison. Whose it is plays no part.
 pub fn meets(credential: &Credential, issuer: &Name, attr: &Name, op: Op, wanted: &Value) -> bool
     ensures { result ≡ policies.meets issuer.now attr.now op wanted.now
-        (credentials.said_by credential.now) }
+        (credentials.triple_by credential.now) }
 {
     credential.issuer == *issuer
         && credential.attr == *attr
@@ -102,7 +102,7 @@ pub fn rule_in(policy: &Policy, number: u32) -> Option<&Rule>
 }
 
 fn version_in(library: &List<Policy>, version: u32) -> Option<&Policy>
-    ensures { option_copied result ≡ authorisation.version_in library.now version }
+    ensures { option_copied result ≡ authorisation.library_version library.now version }
 {
     if version == 0 {
         return None;

@@ -307,12 +307,10 @@ fn first_breach(
     scenario: &Scenario,
     facts: &List<Fact>,
 ) -> Option<usize> {
-    for (at, fact) in facts.as_slice().iter().enumerate() {
-        if !is_kept(rt, scenario, facts, fact) {
-            return Some(at);
-        }
-    }
-    None
+    facts
+        .as_slice()
+        .iter()
+        .position(|fact| !is_kept(rt, scenario, facts, fact))
 }
 
 /// Whether all facts of a history keep serial data.

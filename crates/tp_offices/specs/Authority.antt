@@ -1,5 +1,5 @@
 -- The authority's row, and what moves its clock and its revocations.
-use Rattle.std.specs.Prelude.{ℕ, ◌+◌, List, [], ◌∷◌, length, replicate, slice_set, Option, Some, None}
+use Rattle.std.specs.Prelude.{ℕ, ◌+◌, ◌^◌, List, [], ◌∷◌, length, replicate, slice_set, Option, Some, None}
 use Rattle.std.specs.List.{filter_map}
 use Rattle.tp_model.specs.Words.{AskRequest, Body, CredId, Mail, Scenario}
 use Rattle.tp_model.specs.Words.actor
@@ -10,6 +10,10 @@ use Rattle.tp_offices.specs.declared.authority.Authority.{Authority}
 -- the authority as it stands before the first step: the opening clock, and nothing revoked
 abbrev pub opening : Scenario → Authority
 opening sc = record { clock = sc.clock; revoked = replicate (length sc.creds) None }
+
+-- a clock stays below this
+abbrev pub clock_end : ℕ
+clock_end = 2 ^ 63
 
 -- the clock is moved
 abbrev pub after_tick : ℕ → Authority → Authority

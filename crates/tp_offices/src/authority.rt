@@ -1,5 +1,5 @@
 //! The authority: the clock, and which credentials are revoked.
-ghost use Rattle.std.specs.Prelude.{◌≡◌, ◌+◌, ◌^◌, ◌<◌, ◌++◌, IfOk};
+ghost use Rattle.std.specs.Prelude.{◌≡◌, ◌+◌, ◌<◌, ◌++◌, IfOk};
 ghost use Rattle.std.specs.Option.{option_to_list};
 ghost use Rattle.tp_types.specs.Effect.{Gives};
 ghost use Rattle.tp_offices.specs.Authority as office;
@@ -9,6 +9,9 @@ use tp_types::{
     Actor, AskRequest, Body, CredId, Letter, List, Mail, NoMemory, Reaction, Scenario, TellReply,
     ignored, none_for_each, sent_alone,
 };
+
+/// A clock stays below this, in ticks.
+pub const CLOCK_END: u64 = 1 << 63;
 
 /// The authority's state.
 #[derive(Drop)]
@@ -32,7 +35,7 @@ impl Authority {
 
     /// Moves the clock.
     pub fn tick(&mut self, by: u64)
-        requires { self.old.clock + by < 2 ^ 63 }
+        requires { self.old.clock + by < office.clock_end }
         ensures { self.new ≡ office.after_tick by self.old }
     {
         self.clock += by;

@@ -4,5 +4,5 @@
 mod authority;
 mod master;
 
-pub use authority::Authority;
+pub use authority::{Authority, CLOCK_END};
 pub use master::{Master, NoMore};

@@ -45,7 +45,7 @@ impl Master {
     pub fn publish(&mut self, admin: AdminId) -> Result<Version, NoMore>
         ensures version { IfOk result (λ version. version ≡ office.next_of self.old admin) }
         ensures more { OnOk result (office.has_more self.old admin ≡ true) }
-        ensures done { OnOk result (self.new ≡ office.published admin self.old) }
+        ensures ok { OnOk result (self.new ≡ office.after_publication admin self.old) }
         ensures none { OnErr result (office.has_more self.old admin ≡ false) }
         ensures unchanged { OnErr result (self.new ≡ self.old) }
     {
@@ -110,7 +110,7 @@ impl Master {
 }
 
 fn opening_versions(alloc: Global, admins: &[Admin]) -> Result<List<Version>, NoMemory>
-    ensures { IfOk result (λ made. made ≡ map office.opening_of admins.now) }
+    ensures { IfOk result (λ made. made ≡ map office.opening_in admins.now) }
 {
     let mut made = List::new(alloc);
     for admin in admins {
@@ -130,7 +130,7 @@ fn last_versions(alloc: Global, admins: &[Admin]) -> Result<List<Version>, NoMem
 }
 
 fn version_in(versions: &List<Version>, admin: AdminId) -> Version
-    ensures { result ≡ office.version_in versions.now admin }
+    ensures { result ≡ office.version_for versions.now admin }
 {
     versions
         .get(admin.0 as usize)

@@ -5,7 +5,7 @@ use Rattle.tp_types.specs.declared.policy.Policy.{Policy}
 use Rattle.tp_policy_text.specs.declared.halt.Stop.{Stop}
 use Rattle.tp_policy_text.specs.declared.parsing.ParseError.{ParseError}
 use Rattle.tp_policy_text.specs.declared.parsing.ParseError.TheVariants as refusal
-use Rattle.tp_policy_text.specs.Parses.{Answers, refused}
+use Rattle.tp_policy_text.specs.Parses.{Answers, refusal_of}
 use Rattle.tp_policy_text.specs.mirrors.Readers.{policy_at}
 use Rattle.tp_policy_text.proofs.Answering.{answers_read, answers_stop, only_read, only_stop}
 
@@ -22,7 +22,7 @@ by_outcome text t (Ok policy) fits h =
 by_outcome text t (Err why) fits h =
     let short : length text < length text + 1 = omega arith in
     record {
-      answer = Err (refused why (length text - length t));
+      answer = Err (refusal_of why (length text - length t));
       is = answers_stop (length text + 1) text t why fits short h;
       only = only_stop (length text + 1) text t why fits short h;
     }

@@ -10,7 +10,7 @@ use Rattle.tp_policy_text.specs.declared.parsing.ParseError.{ParseError}
 use Rattle.tp_policy_text.specs.declared.parsing.ParseError.TheVariants as refusal
 use Rattle.tp_policy_text.specs.Grammar.{AnyCond, AreRules, Begins, IsCond, IsWithin, Spells, SpellsBy, SpellsWithin, Stops}
 use Rattle.tp_policy_text.specs.Lexis.{skip}
-use Rattle.tp_policy_text.specs.Parses.{Answers, StandsTooDeep, StopsAtPlace, refused}
+use Rattle.tp_policy_text.specs.Parses.{Answers, StandsTooDeep, StopsAtPlace, refusal_of}
 use Rattle.tp_policy_text.specs.Printed.{IsOfGrammar}
 use Rattle.tp_policy_text.specs.mirrors.Readers.{policy_at}
 use Rattle.tp_policy_text.specs.mirrors.Readings.{Reading, read, stopped}
@@ -50,7 +50,7 @@ not_spent n d text t why short h e = never_spent n d text t short (h ∙ ap (λ 
 pub answers_read : (n : ℕ) (text t : List ℕ) (p : Policy) → length text ≤ 4096 → policy_at n 16 text ≡ read p t → Answers text (Ok p)
 answers_read n text t p fits h = (fits, says_within n 16 p text t h)
 
-pub answers_stop : (n : ℕ) (text t : List ℕ) (why : Stop) → length text ≤ 4096 → length text < n → policy_at n 16 text ≡ stopped why t → Answers text (Err (refused why (length text - length t)))
+pub answers_stop : (n : ℕ) (text t : List ℕ) (why : Stop) → length text ≤ 4096 → length text < n → policy_at n 16 text ≡ stopped why t → Answers text (Err (refusal_of why (length text - length t)))
 answers_stop n text t stop.Deep fits short h =
     let k = too_deep_at n 16 text t h in (fits, record { before = k.before; is = k.deep; place_is = place_of text k.before t k.parts })
 answers_stop n text t stop.Syntax fits short h =
@@ -106,12 +106,12 @@ never_both text deep_place stop_place deep other =
 
 -- a text at which the reader stops
 pub only_stop : (n : ℕ) (text t : List ℕ) (why : Stop) → length text ≤ 4096 → length text < n → policy_at n 16 text ≡ stopped why t
-    → (a : Result Policy ParseError) → Answers text a → Err (refused why (length text - length t)) ≡ a
+    → (a : Result Policy ParseError) → Answers text a → Err (refusal_of why (length text - length t)) ≡ a
 only_stop n text t why fits short h (Ok q) (_, k) = absurd (not_stopped q why [] t (sym (reads_within n 16 q text short k) ∙ h))
 only_stop n text t why fits short h (Err refusal.TooLong) k = absurd (too_long text fits k)
 only_stop n text t why fits short h (Err (refusal.TooDeep place)) (_, k) =
     let same = same_why why stop.Deep t (40 ∷ k.is.rest) (sym h ∙ deep_is n 16 text k.before k.is short) in
-    ap (λ w. Err (refused w (length text - length t))) same.0
+    ap (λ w. Err (refusal_of w (length text - length t))) same.0
     ∙ ap (λ (m : ℕ). Err (refusal.TooDeep m)) (place_of text k.before t (k.is.parts ∙ ap (λ l. k.before ++ l) (sym same.1)) ∙ sym k.place_is)
 only_stop n text t stop.Syntax fits short h (Err (refusal.Syntax place)) (_, k) =
     let here = stops_at n 16 text t h in

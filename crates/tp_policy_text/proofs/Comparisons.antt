@@ -9,7 +9,7 @@ use Rattle.tp_types.specs.declared.policy.Op.TheVariants as op
 use Rattle.tp_types.specs.declared.policy.Value.{Value}
 use Rattle.tp_types.specs.declared.policy.Value.TheVariants as value
 use Rattle.tp_types.specs.Spelling.{is_digit, is_letter, is_number}
-use Rattle.tp_policy_text.specs.Grammar.{Int, IsAtom, IsCompared, IsInt, IsValue, Named}
+use Rattle.tp_policy_text.specs.Grammar.{Int, IsAtom, IsCompared, IsInt, IsValue, IsWholeName}
 use Rattle.tp_policy_text.specs.Lexis.{Token, Word, first}
 use Rattle.tp_policy_text.specs.mirrors.Readers.{Compared, Head, atom_at, atom_of, begins_int, both, comes, compared_at, head_at, int_at, name_at, sign_at, value_at, with_number, with_op}
 use Rattle.tp_policy_text.specs.mirrors.Readings.{choice, mapped}
@@ -31,7 +31,7 @@ abbrev Numbers : Language Value
 Numbers = Image value.Number Int
 
 abbrev Names : Language Value
-Names = Image value.Word Named
+Names = Image value.Word IsWholeName
 
 value_says : (v : Value) (s t : List ℕ) → Either Numbers Names v s t → IsValue v s t
 value_says v s t (inl h) = subst (λ w. IsValue w s t) (sym h.is) h.says
@@ -65,7 +65,7 @@ letter_begins byte e = by_int (begins_int (Some byte)) refl
     by_int false e2 = refl
     by_int true e2 = absurd (wrong byte e e2)
 
-named_begins : (name s t : List ℕ) → Named name s t → begins_int (first s) ≡ false
+named_begins : (name s t : List ℕ) → IsWholeName name s t → begins_int (first s) ≡ false
 named_begins name s t h =
     let at = name_begins true name [] s t h.spelled (subst (λ l. Token true l s t) (sym (append-nil name)) h.word) in
     ap begins_int at.1.0 ∙ letter_begins at.0 at.1.1
@@ -75,7 +75,7 @@ value_exact d n =
     retell (Either Numbers Names) (Either Numbers Names) IsValue IsValue any_next any_next d d n n value_at
     (choice_exact begins_int (λ s. mapped value.Number (int_at s)) (λ s. mapped value.Word (name_at s)) Numbers Numbers Names Names any_next d d n
     (mapped_exact value.Number Int Int any_next d d n int_at (int_exact d n))
-    (mapped_exact value.Word Named Named any_next d d n name_at (name_exact d n))
+    (mapped_exact value.Word IsWholeName IsWholeName any_next d d n name_at (name_exact d n))
     (record {
       one = λ s t a h. int_begins h.value s t h.says;
       two = λ s t a h. named_begins h.value s t h.says;

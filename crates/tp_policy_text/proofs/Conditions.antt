@@ -7,7 +7,7 @@ use Rattle.tp_types.specs.declared.policy.Cond.TheVariants as cond
 use Rattle.tp_types.specs.Spelling.{is_letter}
 use Rattle.tp_policy_text.specs.declared.halt.Stop.{Stop}
 use Rattle.tp_policy_text.specs.declared.halt.Stop.TheVariants as stop
-use Rattle.tp_policy_text.specs.Grammar.{AnyCond, IsAtom, IsCond, IsConj, IsDisj, IsInParentheses, IsPart, Joined, and_of, or_of}
+use Rattle.tp_policy_text.specs.Grammar.{AnyCond, IsAtom, IsCond, IsConj, IsDisj, IsInParentheses, IsMember, AreJoined, and_of, or_of}
 use Rattle.tp_policy_text.specs.Lexis.{Token, count, first, is_blank}
 use Rattle.tp_policy_text.specs.mirrors.Readers.{atom_at, both, comes, cond_at, conj_at, disj_at, earlier, in_parentheses, joined_at, more_of, part_at, second, sign_at, word_at}
 use Rattle.tp_policy_text.specs.mirrors.Readings.{Reader, Reading, is_open, stopped}
@@ -25,7 +25,7 @@ use Rattle.tp_policy_text.proofs.Tokens.{Says, plain_token, token_exact}
 
 -- ---- one or more, with a word between
 
-joined_wider : {A : Type 0} (word : List ℕ) (L W : Language A) → ((s t : List ℕ) (a : A) → L a s t → W a s t) → (xs : List A) (s t : List ℕ) → Joined word L xs s t → Joined word W xs s t
+joined_wider : {A : Type 0} (word : List ℕ) (L W : Language A) → ((s t : List ℕ) (a : A) → L a s t → W a s t) → (xs : List A) (s t : List ℕ) → AreJoined word L xs s t → AreJoined word W xs s t
 joined_wider word L W wide [] s t h = h
 joined_wider word L W wide (x ∷ xs) s t (inl h) = inl (h.0, wide s t x h.1)
 joined_wider word L W wide (x ∷ xs) s t (inr h) = inr (h.0, h.1, wide s h.0 x h.2, h.3, joined_wider word L W wide xs h.1 t h.4)
@@ -113,18 +113,18 @@ more_fits {A = A} byte V F d begins allows same = record {
 }
 
 abbrev Following : {A : Type 0} → List ℕ → Language A → Language (List A)
-Following {A = A} word L = Both second (Says true word (tt {0})) (Joined word L)
+Following {A = A} word L = Both second (Says true word (tt {0})) (AreJoined word L)
 
-linked_joined : {A : Type 0} (byte : ℕ) (word : List ℕ) (L : Language A) (xs : List A) (s t : List ℕ) → Linked (more_of byte) L (Following word L) xs s t → Joined word L xs s t
+linked_joined : {A : Type 0} (byte : ℕ) (word : List ℕ) (L : Language A) (xs : List A) (s t : List ℕ) → Linked (more_of byte) L (Following word L) xs s t → AreJoined word L xs s t
 linked_joined byte word L xs s t (inl h) =
-    subst (λ l. Joined word L l s t) (sym (more_ends byte h.value (first t) xs h.ends).1) (inl (refl, h.one))
+    subst (λ l. AreJoined word L l s t) (sym (more_ends byte h.value (first t) xs h.ends).1) (inl (refl, h.one))
 linked_joined {A = A} byte word L xs s t (inr h) =
     let goes = more_goes byte h.value (first h.between) h.with_more h.goes in
-    subst (λ l. Joined word L l s t) (sym (h.is ∙ (ap (λ (g : List A → List A). g h.more) (sym goes) ∙ ap (λ l. h.value ∷ l) h.two.is)))
+    subst (λ l. AreJoined word L l s t) (sym (h.is ∙ (ap (λ (g : List A → List A). g h.more) (sym goes) ∙ ap (λ l. h.value ∷ l) h.two.is)))
     (inr (h.between, h.two.between, h.one, h.two.one.1, h.two.two))
 
 joined_linked : {A : Type 0} (byte : ℕ) (others : List ℕ) (L : Language A) (xs : List A) (s t : List ℕ) → (byte == byte) ≡ true → comes byte (first t) ≡ false
-    → Joined (byte ∷ others) L xs s t → Linked (more_of byte) L (Following (byte ∷ others) L) xs s t
+    → AreJoined (byte ∷ others) L xs s t → Linked (more_of byte) L (Following (byte ∷ others) L) xs s t
 joined_linked byte others L [] s t same over h = absurd (h)
 joined_linked {A = A} byte others L (x ∷ xs) s t same over (inl h) = inl (record {
   value = x;
@@ -144,9 +144,9 @@ joined_linked byte others L (x ∷ xs) s t same over (inr h) = inr (record {
 
 pub joined_exact : {A : Type 0} (byte : ℕ) (others : List ℕ) (L W : Language A) (F : Option ℕ → Bool) (d N : ℕ) (r : Reader A) → Exact L W F d d N r
     → is_blank byte ≡ false → count 40 (byte ∷ others) ≡ 0 → count 41 (byte ∷ others) ≡ 0 → F (Some byte) ≡ true → (byte == byte) ≡ true → (n : ℕ) → n ≤ N
-    → Exact (Joined (byte ∷ others) L) (Joined (byte ∷ others) W) (not_joined F byte) d d n (joined_at n byte (byte ∷ others) r)
+    → Exact (AreJoined (byte ∷ others) L) (AreJoined (byte ∷ others) W) (not_joined F byte) d d n (joined_at n byte (byte ∷ others) r)
 joined_exact {A = A} byte others L W F d N r R tight opens closes allows same zero fewer =
-    spent_exact (Joined (byte ∷ others) L) (Joined (byte ∷ others) W) (not_joined F byte) d
+    spent_exact (AreJoined (byte ∷ others) L) (AreJoined (byte ∷ others) W) (not_joined F byte) d
     (record {
       byte = R.some.byte;
       others = R.some.others;
@@ -157,13 +157,13 @@ joined_exact {A = A} byte others L W F d N r R tight opens closes allows same ze
     (λ s t xs h. joined_wider (byte ∷ others) L W R.wide xs s t h)
 joined_exact {A = A} byte others L W F d N r R tight opens closes allows same (suc n) fewer =
     retell (Linked (more_of byte) L (Following (byte ∷ others) L)) (Linked (more_of byte) W (Following (byte ∷ others) W))
-    (Joined (byte ∷ others) L) (Joined (byte ∷ others) W) (not_joined F byte) (not_joined F byte) d d (suc n) (suc n)
+    (AreJoined (byte ∷ others) L) (AreJoined (byte ∷ others) W) (not_joined F byte) (not_joined F byte) d d (suc n) (suc n)
     (joined_at (suc n) byte (byte ∷ others) r)
     (link_exact (more_of byte) r (both second (word_at (byte ∷ others) (tt {0})) (joined_at n byte (byte ∷ others) r)) L W
     (Following (byte ∷ others) L) (Following (byte ∷ others) W) F (not_joined F byte) (not_joined F byte) d d d (suc n) n
     (narrowed L W F F d d N (suc n) r R (λ o may. may) fewer)
     (both_exact second (word_at (byte ∷ others) (tt {0})) (joined_at n byte (byte ∷ others) r) (Says true (byte ∷ others) (tt {0})) (Says true (byte ∷ others) (tt {0}))
-    (Joined (byte ∷ others) L) (Joined (byte ∷ others) W) any_next (not_joined F byte) d d d n
+    (AreJoined (byte ∷ others) L) (AreJoined (byte ∷ others) W) any_next (not_joined F byte) d d d n
     (plain_token true byte others (tt {0}) any_next d n tight opens closes)
     (joined_exact byte others L W F d N r R tight opens closes allows same n (omega (arith, fewer)))
     (λ b m t h. refl))
@@ -258,12 +258,12 @@ atom_begins c s t (inr h) =
 parentheses_begin : (I : Language Cond) (c : Cond) (s t : List ℕ) → IsInParentheses I c s t → is_open (first s) ≡ true
 parentheses_begin I c s t h = ap is_open (token_begins false 40 [] s h.opened h.opens)
 
-part_wider : (I J : Language Cond) → ((s t : List ℕ) (c : Cond) → I c s t → J c s t) → (s t : List ℕ) (c : Cond) → IsPart I c s t → IsPart J c s t
+part_wider : (I J : Language Cond) → ((s t : List ℕ) (c : Cond) → I c s t → J c s t) → (s t : List ℕ) (c : Cond) → IsMember I c s t → IsMember J c s t
 part_wider I J wide s t c (inl h) = inl (parentheses_wider I J wide c s t h)
 part_wider I J wide s t c (inr h) = inr h
 
 conj_wider : (I J : Language Cond) → ((s t : List ℕ) (c : Cond) → I c s t → J c s t) → (s t : List ℕ) (c : Cond) → IsConj I c s t → IsConj J c s t
-conj_wider I J wide s t c (members, is, h) = (members, is, joined_wider (codes "and") (IsPart I) (IsPart J) (part_wider I J wide) members s t h)
+conj_wider I J wide s t c (members, is, h) = (members, is, joined_wider (codes "and") (IsMember I) (IsMember J) (part_wider I J wide) members s t h)
 
 disj_wider : (I J : Language Cond) → ((s t : List ℕ) (c : Cond) → I c s t → J c s t) → (s t : List ℕ) (c : Cond) → IsDisj I c s t → IsDisj J c s t
 disj_wider I J wide s t c (members, is, h) = (members, is, joined_wider (codes "or") (IsConj I) (IsConj J) (conj_wider I J wide) members s t h)
@@ -285,9 +285,9 @@ some_parentheses = record {
   };
 }
 
-no_parts_exact : (n : ℕ) (inner : Reader Cond) → Exact (IsPart (IsCond 0)) (IsPart AnyCond) not_dot 0 0 n (part_at 0 inner)
+no_parts_exact : (n : ℕ) (inner : Reader Cond) → Exact (IsMember (IsCond 0)) (IsMember AnyCond) not_dot 0 0 n (part_at 0 inner)
 no_parts_exact n inner =
-    retell IsAtom (Either (IsInParentheses AnyCond) IsAtom) (IsPart (IsCond 0)) (IsPart AnyCond) not_dot not_dot 0 0 n n (part_at 0 inner)
+    retell IsAtom (Either (IsInParentheses AnyCond) IsAtom) (IsMember (IsCond 0)) (IsMember AnyCond) not_dot not_dot 0 0 n n (part_at 0 inner)
     (unopened_exact atom_at IsAtom IsAtom (IsInParentheses AnyCond) not_dot n (atom_exact 0 n)
     (record { opened = λ s t c h. parentheses_begin AnyCond c s t h; other = λ s t c h. atom_begins c s t h; some = some_parentheses }))
     (record {
@@ -300,12 +300,12 @@ no_parts_exact n inner =
     })
     (omega (arith))
   where
-    from : (s t : List ℕ) (c : Cond) → IsPart (IsCond 0) c s t → IsAtom c s t
+    from : (s t : List ℕ) (c : Cond) → IsMember (IsCond 0) c s t → IsAtom c s t
     from s t c (inl h) = absurd (h.inner)
     from s t c (inr h) = h
 
 parts_exact : (d n : ℕ) (F : Option ℕ → Bool) (inner : Reader Cond) → Exact (IsCond (suc d)) AnyCond F d d n inner → F (Some 41) ≡ true
-    → Exact (IsPart (IsCond (suc d))) (IsPart AnyCond) not_dot (suc d) (suc d) n (part_at (suc d) inner)
+    → Exact (IsMember (IsCond (suc d))) (IsMember AnyCond) not_dot (suc d) (suc d) n (part_at (suc d) inner)
 parts_exact d n F inner R allows =
     choice_exact is_open (in_parentheses inner) atom_at (IsInParentheses (IsCond (suc d))) (IsInParentheses AnyCond) IsAtom IsAtom not_dot (suc d) (suc d) n
     (parentheses_exact (IsCond (suc d)) AnyCond F d n inner R allows)
@@ -320,18 +320,18 @@ after_conj = not_joined not_dot 97
 abbrev pub after_cond : Option ℕ → Bool
 after_cond = not_joined after_conj 111
 
-image_conj : (I : Language Cond) (s t : List ℕ) (c : Cond) → Image and_of (Joined (codes "and") (IsPart I)) c s t → IsConj I c s t
+image_conj : (I : Language Cond) (s t : List ℕ) (c : Cond) → Image and_of (AreJoined (codes "and") (IsMember I)) c s t → IsConj I c s t
 image_conj I s t c h = (h.value, h.is, h.says)
 
-conj_image : (I : Language Cond) (s t : List ℕ) (c : Cond) → IsConj I c s t → Image and_of (Joined (codes "and") (IsPart I)) c s t
+conj_image : (I : Language Cond) (s t : List ℕ) (c : Cond) → IsConj I c s t → Image and_of (AreJoined (codes "and") (IsMember I)) c s t
 conj_image I s t c (members, is, h) = record { value = members; is = is; says = h }
 
-conj_exact : (I : Language Cond) (d n : ℕ) (inner : Reader Cond) → ((s t : List ℕ) (c : Cond) → I c s t → AnyCond c s t) → Exact (IsPart I) (IsPart AnyCond) not_dot d d n (part_at d inner)
+conj_exact : (I : Language Cond) (d n : ℕ) (inner : Reader Cond) → ((s t : List ℕ) (c : Cond) → I c s t → AnyCond c s t) → Exact (IsMember I) (IsMember AnyCond) not_dot d d n (part_at d inner)
     → Exact (IsConj I) (IsConj AnyCond) after_conj d d n (conj_at n d inner)
 conj_exact I d n inner wide R =
-    retell (Image and_of (Joined (codes "and") (IsPart I))) (Image and_of (Joined (codes "and") (IsPart AnyCond))) (IsConj I) (IsConj AnyCond) after_conj after_conj d d n n (conj_at n d inner)
-    (mapped_exact and_of (Joined (codes "and") (IsPart I)) (Joined (codes "and") (IsPart AnyCond)) after_conj d d n (joined_at n 97 (codes "and") (part_at d inner))
-    (joined_exact 97 (110 ∷ 100 ∷ []) (IsPart I) (IsPart AnyCond) not_dot d n (part_at d inner) R refl refl refl refl refl n (omega (arith))))
+    retell (Image and_of (AreJoined (codes "and") (IsMember I))) (Image and_of (AreJoined (codes "and") (IsMember AnyCond))) (IsConj I) (IsConj AnyCond) after_conj after_conj d d n n (conj_at n d inner)
+    (mapped_exact and_of (AreJoined (codes "and") (IsMember I)) (AreJoined (codes "and") (IsMember AnyCond)) after_conj d d n (joined_at n 97 (codes "and") (part_at d inner))
+    (joined_exact 97 (110 ∷ 100 ∷ []) (IsMember I) (IsMember AnyCond) not_dot d n (part_at d inner) R refl refl refl refl refl n (omega (arith))))
     (record {
       to = image_conj I;
       from = λ s t c may h. conj_image I s t c h;
@@ -342,10 +342,10 @@ conj_exact I d n inner wide R =
     })
     (omega (arith))
 
-image_disj : (I : Language Cond) (s t : List ℕ) (c : Cond) → Image or_of (Joined (codes "or") (IsConj I)) c s t → IsDisj I c s t
+image_disj : (I : Language Cond) (s t : List ℕ) (c : Cond) → Image or_of (AreJoined (codes "or") (IsConj I)) c s t → IsDisj I c s t
 image_disj I s t c h = (h.value, h.is, h.says)
 
-disj_image : (I : Language Cond) (s t : List ℕ) (c : Cond) → IsDisj I c s t → Image or_of (Joined (codes "or") (IsConj I)) c s t
+disj_image : (I : Language Cond) (s t : List ℕ) (c : Cond) → IsDisj I c s t → Image or_of (AreJoined (codes "or") (IsConj I)) c s t
 disj_image I s t c (members, is, h) = record { value = members; is = is; says = h }
 
 any_disj : (s t : List ℕ) (c : Cond) → AnyCond c s t → IsDisj AnyCond c s t
@@ -363,7 +363,7 @@ deeper (suc d) (suc e) le s t c h = disj_wider (IsCond d) (IsCond e) (deeper d e
 abbrev Grows : {A : Type 0} → (ℕ → Language A) → Type 0
 Grows {A = A} L = (d e : ℕ) → d ≤ e → (s t : List ℕ) (a : A) → L d a s t → L e a s t
 
-joined_common : {A : Type 0} (word : List ℕ) (L : ℕ → Language A) → Grows L → (xs : List A) (s t : List ℕ) → Joined word (λ a s t. (n : ℕ) × L n a s t) xs s t → (n : ℕ) × Joined word (L n) xs s t
+joined_common : {A : Type 0} (word : List ℕ) (L : ℕ → Language A) → Grows L → (xs : List A) (s t : List ℕ) → AreJoined word (λ a s t. (n : ℕ) × L n a s t) xs s t → (n : ℕ) × AreJoined word (L n) xs s t
 joined_common word L grows [] s t h = absurd (h)
 joined_common word L grows (x ∷ xs) s t (inl h) = (h.1.0, inl (h.0, h.1.1))
 joined_common word L grows (x ∷ xs) s t (inr (between, after, one, and, others)) =
@@ -378,20 +378,20 @@ joined_common word L grows (x ∷ xs) s t (inr (between, after, one, and, others
       ),
     )
 
-parts_grow : Grows (λ n. IsPart (IsCond n))
+parts_grow : Grows (λ n. IsMember (IsCond n))
 parts_grow d e le s t c h = part_wider (IsCond d) (IsCond e) (deeper d e le) s t c h
 
 conjs_grow : Grows (λ n. IsConj (IsCond n))
 conjs_grow d e le s t c h = conj_wider (IsCond d) (IsCond e) (deeper d e le) s t c h
 
-part_common : (s t : List ℕ) (c : Cond) → IsPart AnyCond c s t → (n : ℕ) × IsPart (IsCond n) c s t
+part_common : (s t : List ℕ) (c : Cond) → IsMember AnyCond c s t → (n : ℕ) × IsMember (IsCond n) c s t
 part_common s t c (inl h) = (h.inner.0, inl (record { opened = h.opened; closed = h.closed; opens = h.opens; inner = h.inner.1; closes = h.closes }))
 part_common s t c (inr h) = (0, inr h)
 
 conj_common : (s t : List ℕ) (c : Cond) → IsConj AnyCond c s t → (n : ℕ) × IsConj (IsCond n) c s t
 conj_common s t c (members, is, h) =
-    let all = joined_common (codes "and") (λ n. IsPart (IsCond n)) parts_grow members s t
-    (joined_wider (codes "and") (IsPart AnyCond) (λ c s t. (n : ℕ) × IsPart (IsCond n) c s t) part_common members s t h) in
+    let all = joined_common (codes "and") (λ n. IsMember (IsCond n)) parts_grow members s t
+    (joined_wider (codes "and") (IsMember AnyCond) (λ c s t. (n : ℕ) × IsMember (IsCond n) c s t) part_common members s t h) in
     (all.0, (members, is, all.1))
 
 disj_any : (s t : List ℕ) (c : Cond) → IsDisj AnyCond c s t → AnyCond c s t
@@ -400,10 +400,10 @@ disj_any s t c (members, is, h) =
     (joined_wider (codes "or") (IsConj AnyCond) (λ c s t. (n : ℕ) × IsConj (IsCond n) c s t) conj_common members s t h) in
     (suc all.0, (members, is, all.1))
 
-disj_exact : (d n : ℕ) (inner : Reader Cond) → Exact (IsPart (IsCond d)) (IsPart AnyCond) not_dot d d n (part_at d inner) → Exact (IsCond (suc d)) AnyCond after_cond d d n (disj_at n d inner)
+disj_exact : (d n : ℕ) (inner : Reader Cond) → Exact (IsMember (IsCond d)) (IsMember AnyCond) not_dot d d n (part_at d inner) → Exact (IsCond (suc d)) AnyCond after_cond d d n (disj_at n d inner)
 disj_exact d n inner R =
-    retell (Image or_of (Joined (codes "or") (IsConj (IsCond d)))) (Image or_of (Joined (codes "or") (IsConj AnyCond))) (IsCond (suc d)) AnyCond after_cond after_cond d d n n (disj_at n d inner)
-    (mapped_exact or_of (Joined (codes "or") (IsConj (IsCond d))) (Joined (codes "or") (IsConj AnyCond)) after_cond d d n (joined_at n 111 (codes "or") (conj_at n d inner))
+    retell (Image or_of (AreJoined (codes "or") (IsConj (IsCond d)))) (Image or_of (AreJoined (codes "or") (IsConj AnyCond))) (IsCond (suc d)) AnyCond after_cond after_cond d d n n (disj_at n d inner)
+    (mapped_exact or_of (AreJoined (codes "or") (IsConj (IsCond d))) (AreJoined (codes "or") (IsConj AnyCond)) after_cond d d n (joined_at n 111 (codes "or") (conj_at n d inner))
     (joined_exact 111 (114 ∷ []) (IsConj (IsCond d)) (IsConj AnyCond) after_conj d n (conj_at n d inner) (conj_exact (IsCond d) d n inner (any_of d) R) refl refl refl refl refl n (omega (arith))))
     (record {
       to = image_disj (IsCond d);
@@ -415,6 +415,6 @@ disj_exact d n inner R =
     })
     (omega (arith))
 
-pub cond_exact : (turns d : ℕ) → Exact (IsCond (suc d)) AnyCond after_cond d d turns (cond_at turns d)
-cond_exact turns zero = disj_exact 0 turns (stopped stop.Deep) (no_parts_exact turns (stopped stop.Deep))
-cond_exact turns (suc d) = disj_exact (suc d) turns (cond_at turns d) (parts_exact d turns after_cond (cond_at turns d) (cond_exact turns d) refl)
+pub cond_exact : (fuel d : ℕ) → Exact (IsCond (suc d)) AnyCond after_cond d d fuel (cond_at fuel d)
+cond_exact fuel zero = disj_exact 0 fuel (stopped stop.Deep) (no_parts_exact fuel (stopped stop.Deep))
+cond_exact fuel (suc d) = disj_exact (suc d) fuel (cond_at fuel d) (parts_exact d fuel after_cond (cond_at fuel d) (cond_exact fuel d) refl)

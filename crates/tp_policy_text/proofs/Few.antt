@@ -32,37 +32,37 @@ no_value {A = A} b why s t e = wrong (ap (λ (w : Reading A). w.outcome) e)
     wrong e2 = absurd (cc)
 
 -- a rule takes some of the text
-rule_shortens : (turns d : ℕ) (s m : List ℕ) (rule : Rule) → rule_at turns d s ≡ read rule m → length m < length s
-rule_shortens turns d s m rule e = by_front ((rule_exact turns d).front s).before (((rule_exact turns d).front s).parts ∙ ap (λ (w : Reading Rule). ((rule_exact turns d).front s).before ++ w.left) e)
+rule_shortens : (fuel d : ℕ) (s m : List ℕ) (rule : Rule) → rule_at fuel d s ≡ read rule m → length m < length s
+rule_shortens fuel d s m rule e = by_front ((rule_exact fuel d).front s).before (((rule_exact fuel d).front s).parts ∙ ap (λ (w : Reading Rule). ((rule_exact fuel d).front s).before ++ w.left) e)
   where
     by_front : (before : List ℕ) → s ≡ before ++ m → length m < length s
-    by_front [] parts = absurd ((rule_exact turns d).solid m rule (sym (ap (rule_at turns d) parts) ∙ e))
+    by_front [] parts = absurd ((rule_exact fuel d).solid m rule (sym (ap (rule_at fuel d) parts) ∙ e))
     by_front (byte ∷ before) parts = let sum = ap length parts in let all = length-append before m in omega (arith, sum, all)
 
-rules_few : (n turns d : ℕ) (s t : List ℕ) (rules : List Rule) → rules_at n turns d s ≡ read rules t → length rules ≤ length s
-rules_few zero turns d s t rules e = absurd (no_value rules stop.Spent s t e)
-rules_few (suc n) turns d s t rules e = by_rule (λ m others h. rules_few n turns d m t others h) (rule_at turns d s).outcome (rule_at turns d s).left refl e
+rules_few : (n fuel d : ℕ) (s t : List ℕ) (rules : List Rule) → rules_at n fuel d s ≡ read rules t → length rules ≤ length s
+rules_few zero fuel d s t rules e = absurd (no_value rules stop.Spent s t e)
+rules_few (suc n) fuel d s t rules e = by_rule (λ m others h. rules_few n fuel d m t others h) (rule_at fuel d s).outcome (rule_at fuel d s).left refl e
   where
     -- after a rule
     behind : Rule → List ℕ → Bool → Reading (List Rule)
-    behind rule m on = pick (rules_at n turns d) (if on then inr (λ others. rule ∷ others) else inl (rule ∷ [])) m
+    behind rule m on = pick (rules_at n fuel d) (if on then inr (λ others. rule ∷ others) else inl (rule ∷ [])) m
 
-    more : ((m : List ℕ) (others : List Rule) → rules_at n turns d m ≡ read others t → length others ≤ length m) → (rule : Rule) (m : List ℕ) → length m < length s
-        → (o : Result (List Rule) Stop) (l : List ℕ) → rules_at n turns d m ≡ left_at o l → mapped (λ others. rule ∷ others) (left_at o l) ≡ read rules t → length rules ≤ length s
+    more : ((m : List ℕ) (others : List Rule) → rules_at n fuel d m ≡ read others t → length others ≤ length m) → (rule : Rule) (m : List ℕ) → length m < length s
+        → (o : Result (List Rule) Stop) (l : List ℕ) → rules_at n fuel d m ≡ left_at o l → mapped (λ others. rule ∷ others) (left_at o l) ≡ read rules t → length rules ≤ length s
     more later rule m shorter (Ok others) l ran k =
         let fewer = later m others (ran ∙ ap (λ x. read others x) (ap (λ (w : Reading (List Rule)). w.left) k)) in
         let whole = ap length (same_value (rule ∷ others) rules l t k) in
         omega (arith, fewer, whole, shorter)
     more later rule m shorter (Err why) l ran k = absurd (no_value rules why l t k)
 
-    by_next : ((m : List ℕ) (others : List Rule) → rules_at n turns d m ≡ read others t → length others ≤ length m) → (rule : Rule) (m : List ℕ) → length m < length s
+    by_next : ((m : List ℕ) (others : List Rule) → rules_at n fuel d m ≡ read others t → length others ≤ length m) → (rule : Rule) (m : List ℕ) → length m < length s
         → (b : Bool) → behind rule m b ≡ read rules t → length rules ≤ length s
-    by_next later rule m shorter true k = more later rule m shorter (rules_at n turns d m).outcome (rules_at n turns d m).left refl k
+    by_next later rule m shorter true k = more later rule m shorter (rules_at n fuel d m).outcome (rules_at n fuel d m).left refl k
     by_next later rule m shorter false k = let one = ap length (same_value (rule ∷ []) rules m t k) in omega (arith, one, shorter)
 
-    by_rule : ((m : List ℕ) (others : List Rule) → rules_at n turns d m ≡ read others t → length others ≤ length m) → (o : Result Rule Stop) (m : List ℕ) → rule_at turns d s ≡ left_at o m
-        → go_on (λ a l. pick (rules_at n turns d) (more_of 97 a (first l)) l) o m ≡ read rules t → length rules ≤ length s
-    by_rule later (Ok rule) m ran k = by_next later rule m (rule_shortens turns d s m rule ran) (comes 97 (first m)) k
+    by_rule : ((m : List ℕ) (others : List Rule) → rules_at n fuel d m ≡ read others t → length others ≤ length m) → (o : Result Rule Stop) (m : List ℕ) → rule_at fuel d s ≡ left_at o m
+        → go_on (λ a l. pick (rules_at n fuel d) (more_of 97 a (first l)) l) o m ≡ read rules t → length rules ≤ length s
+    by_rule later (Ok rule) m ran k = by_next later rule m (rule_shortens fuel d s m rule ran) (comes 97 (first m)) k
     by_rule later (Err why) m ran k = absurd (no_value rules why m t k)
 
 pub read_few : (n d : ℕ) (text t : List ℕ) (p : Policy) → policy_at n d text ≡ read p t → length p.rules ≤ length text

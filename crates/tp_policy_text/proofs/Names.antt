@@ -6,8 +6,8 @@ use Rattle.std.proofs.lemmas.List.{append-nil, append_assoc, length-append}
 use Rattle.std.proofs.lemmas.List.Folds.{list_all-append}
 use Rattle.std.proofs.lemmas.Option.{cond_some}
 use Rattle.tp_types.proofs.ListLemmas.{all_push}
-use Rattle.tp_types.specs.Spelling.{IsName, is_letter, is_part}
-use Rattle.tp_policy_text.specs.Grammar.{Named}
+use Rattle.tp_types.specs.Spelling.{IsName, is_letter, is_name_byte}
+use Rattle.tp_policy_text.specs.Grammar.{IsWholeName}
 use Rattle.tp_policy_text.specs.Lexis.{count, first, in_word}
 use Rattle.tp_policy_text.specs.mirrors.Readers.{goes_on, is_some_text, name_at, name_end, name_step}
 use Rattle.tp_policy_text.specs.mirrors.Readings.{ended, machine, read}
@@ -34,30 +34,30 @@ IsSoFar (byte ∷ others) = IsName (byte ∷ others)
 pub record NameParts (head : ℕ) (others : List ℕ) : Type 0 where
   pub letter : is_letter head ≡ true
   pub short : length others < 32
-  pub parts : list_all is_part others ≡ true
+  pub parts : list_all is_name_byte others ≡ true
 
 pub name_parts : (head : ℕ) (others : List ℕ) → IsName (head ∷ others) → NameParts head others
 name_parts head others h =
-    let one = and_parts (is_letter head && nat_lt (length others) 32) (list_all is_part others) h in
+    let one = and_parts (is_letter head && nat_lt (length others) 32) (list_all is_name_byte others) h in
     let two = and_parts (is_letter head) (nat_lt (length others) 32) one.0 in
     record { letter = two.0; short = ltb-true (length others) 32 two.1; parts = one.1 }
 
 pub name_of_parts : (head : ℕ) (others : List ℕ) → NameParts head others → IsName (head ∷ others)
 name_of_parts head others h =
-    and_from (is_letter head && nat_lt (length others) 32) (list_all is_part others)
+    and_from (is_letter head && nat_lt (length others) 32) (list_all is_name_byte others)
     (and_from (is_letter head) (nat_lt (length others) 32) h.letter (lt-ltb (length others) 32 h.short)) h.parts
 
 one_more : (name : List ℕ) (byte : ℕ) → IsSoFar name → goes_on name byte ≡ true → IsSoFar (name ++ byte ∷ [])
 one_more [] byte h e = name_of_parts byte [] (record { letter = e; short = omega (arith); parts = refl })
 one_more (head ∷ others) byte h e =
     let was = name_parts head others h in
-    let may = and_parts (is_part byte) (nat_lt (length others) 31) e in
+    let may = and_parts (is_name_byte byte) (nat_lt (length others) 31) e in
     let sum = length-append others (byte ∷ []) in
     let less = ltb-true (length others) 31 may.1 in
     name_of_parts head (others ++ byte ∷ []) (record {
       letter = was.letter;
       short = omega (arith, sum, less);
-      parts = all_push is_part others byte was.parts may.0;
+      parts = all_push is_name_byte others byte was.parts may.0;
     })
 
 pub record Named_on (name text last : List ℕ) : Type 0 where
@@ -78,10 +78,10 @@ may_go_on : (name text : List ℕ) (byte : ℕ) → IsName (name ++ (byte ∷ te
 may_go_on [] text byte h = (name_parts byte text h).letter
 may_go_on (head ∷ others) text byte h =
     let was = name_parts head (others ++ (byte ∷ text)) h in
-    let halves = and_parts (list_all is_part others) (list_all is_part (byte ∷ text)) (sym (list_all-append is_part others (byte ∷ text)) ∙ was.parts) in
+    let halves = and_parts (list_all is_name_byte others) (list_all is_name_byte (byte ∷ text)) (sym (list_all-append is_name_byte others (byte ∷ text)) ∙ was.parts) in
     let sum = length-append others (byte ∷ text) in
     let short = was.short in
-    and_from (is_part byte) (nat_lt (length others) 31) (and_parts (is_part byte) (list_all is_part text) halves.1).0
+    and_from (is_name_byte byte) (nat_lt (length others) 31) (and_parts (is_name_byte byte) (list_all is_name_byte text) halves.1).0
     (lt-ltb (length others) 31 (omega (arith, sum, short)))
 
 pub names_go : (name text : List ℕ) → IsName (name ++ text) → Goes name_step name text (name ++ text)
@@ -94,16 +94,16 @@ names_go name (byte ∷ text) h =
     )
 
 -- what is no part of a word does not go on with a name
-letter_part : (byte : ℕ) → is_part byte ≡ false → is_letter byte ≡ false
+letter_part : (byte : ℕ) → is_name_byte byte ≡ false → is_letter byte ≡ false
 letter_part byte e = by_letter (is_letter byte) refl
   where
     by_letter : (b : Bool) → is_letter byte ≡ b → b ≡ false
     by_letter false e2 = refl
     by_letter true e2 = let both = sym (ap (λ (b : Bool). b || (nat_le 48 byte && nat_le byte 57) || (byte == 95)) e2) ∙ e in absurd (cc)
 
-pub no_further : (name : List ℕ) (byte : ℕ) → is_part byte ≡ false → name_step name byte ≡ None
+pub no_further : (name : List ℕ) (byte : ℕ) → is_name_byte byte ≡ false → name_step name byte ≡ None
 no_further [] byte e = give_none (is_letter byte) (byte ∷ []) (letter_part byte e)
-no_further (head ∷ others) byte e = give_none (is_part byte && nat_lt (length others) 31) (head ∷ (others ++ byte ∷ [])) (and_left (is_part byte) (nat_lt (length others) 31) e)
+no_further (head ∷ others) byte e = give_none (is_name_byte byte && nat_lt (length others) 31) (head ∷ (others ++ byte ∷ [])) (and_left (is_name_byte byte) (nat_lt (length others) 31) e)
 
 pub no_next_name : (name : List ℕ) (o : Option ℕ) → in_word o ≡ false → next_of name_step name o ≡ None
 no_next_name name None e = refl
@@ -204,7 +204,7 @@ pub some_of_name : (name : List ℕ) → IsName name → is_some_text name ≡ t
 some_of_name [] h = absurd (cc)
 some_of_name (head ∷ others) h = refl
 
-leaf_named : (name s t : List ℕ) → IsLeaf name_step name_end [] name s t → Named name s t
+leaf_named : (name s t : List ℕ) → IsLeaf name_step name_end [] name s t → IsWholeName name s t
 leaf_named name s t h =
     let over = name_ended h.last (first h.after) name h.ends in
     let on = names_of [] h.text h.last h.goes in
@@ -214,7 +214,7 @@ leaf_named name s t h =
       word = record { after = h.after; begins = h.parts ∙ ap (λ l. l ++ h.after) text_is; is_apart = over.1; left_is = h.left };
     }
 
-named_leaf : (name s t : List ℕ) → Named name s t → IsLeaf name_step name_end [] name s t
+named_leaf : (name s t : List ℕ) → IsWholeName name s t → IsLeaf name_step name_end [] name s t
 named_leaf name s t h = record {
   text = name;
   after = h.word.after;
@@ -226,9 +226,9 @@ named_leaf name s t h = record {
   left = h.word.left_is;
 }
 
-pub name_exact : (d n : ℕ) → Exact Named Named any_next d d n name_at
+pub name_exact : (d n : ℕ) → Exact IsWholeName IsWholeName any_next d d n name_at
 name_exact d n =
-    retell (IsLeaf name_step name_end []) (IsLeaf name_step name_end []) Named Named any_next any_next d d n n name_at
+    retell (IsLeaf name_step name_end []) (IsLeaf name_step name_end []) IsWholeName IsWholeName any_next any_next d d n n name_at
     (leaf_exact name_step name_end [] d d n (name_sound d))
     (record {
       to = λ s t a h. leaf_named a s t h;

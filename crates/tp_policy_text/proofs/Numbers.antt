@@ -7,7 +7,7 @@ use Rattle.std.proofs.lemmas.List.{append-nil, append_assoc, length-append}
 use Rattle.std.proofs.lemmas.List.Folds.{list_all-append}
 use Rattle.std.proofs.lemmas.Option.{cond_some, same_Some}
 use Rattle.tp_types.proofs.ListLemmas.{all_push}
-use Rattle.tp_types.specs.Spelling.{is_digit, is_number, is_part, spelled_from}
+use Rattle.tp_types.specs.Spelling.{is_digit, is_number, is_name_byte, spelled_from}
 use Rattle.tp_policy_text.specs.Grammar.{Int, IsInt}
 use Rattle.tp_policy_text.specs.Lexis.{first, in_word}
 use Rattle.tp_policy_text.specs.mirrors.Readers.{Digits, int_at, int_end, int_of, int_step, is_some_text, takes_digit}
@@ -243,14 +243,14 @@ no_sign : (d : Digits) (byte : ℕ) → is_digit byte ≡ false → (byte == 45)
 no_sign d byte e other =
     no_step d.negative d.digits byte e (and_left ((byte == 45) && not d.negative) (not (is_some_text d.digits)) (and_left (byte == 45) (not d.negative) other))
 
-digit_is_part : (byte : ℕ) → is_part byte ≡ false → is_digit byte ≡ false
+digit_is_part : (byte : ℕ) → is_name_byte byte ≡ false → is_digit byte ≡ false
 digit_is_part byte e = by_digit (is_digit byte) refl
   where
     by_digit : (b : Bool) → is_digit byte ≡ b → b ≡ false
     by_digit false e2 = refl
     by_digit true e2 = absurd (wrong byte (digit_bounds byte e2).0 (digit_bounds byte e2).1 e)
       where
-        wrong : (n : ℕ) → 48 ≤ n → n ≤ 57 → is_part n ≡ false → ⊥
+        wrong : (n : ℕ) → 48 ≤ n → n ≤ 57 → is_name_byte n ≡ false → ⊥
         wrong n low high e3 = grind (arith, nat_tests)
 
 no_next_digit : (negative : Bool) (digits : List ℕ) (o : Option ℕ) → is_some_text digits ≡ true → in_word o ≡ false → next_of int_step (state_of negative digits) o ≡ None

@@ -6,7 +6,7 @@ use Rattle.std.proofs.lemmas.List.{append-nil, append_assoc}
 use Rattle.tp_types.specs.declared.policy.Pattern.{Pattern}
 use Rattle.tp_types.specs.declared.policy.Pattern.TheVariants as pattern
 use Rattle.tp_types.specs.Spelling.{IsName, is_letter}
-use Rattle.tp_policy_text.specs.Grammar.{IsPattern, IsPrefix, Named}
+use Rattle.tp_policy_text.specs.Grammar.{IsPattern, IsPrefix, IsWholeName}
 use Rattle.tp_policy_text.specs.Lexis.{Token, first, in_word, is_blank, skip}
 use Rattle.tp_policy_text.specs.mirrors.Readers.{Starred, comes, goes_on, pattern_at, sign_at, is_some_text, name_step, starred_at, starred_end, starred_step, unstarred}
 use Rattle.tp_policy_text.specs.mirrors.Readings.{ended, machine, read}
@@ -27,7 +27,7 @@ with_star name = record { name = name; starred = true }
 -- an exact name or a prefix
 abbrev pub IsStarred : Pattern → List ℕ → List ℕ → Type 0
 IsStarred pattern.All s t = ⊥
-IsStarred (pattern.Exact name) s t = Named name s t
+IsStarred (pattern.Exact name) s t = IsWholeName name s t
 IsStarred (pattern.Prefix name) s t = IsPrefix name s t
 
 pub given_name : (name : List ℕ) (byte : ℕ) (next : List ℕ) → name_step name byte ≡ Some next → name ++ byte ∷ [] ≡ next

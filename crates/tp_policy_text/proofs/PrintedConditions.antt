@@ -7,9 +7,9 @@ use Rattle.tp_types.specs.declared.policy.Cond.{Cond, map-Cond, roll-Cond}
 use Rattle.tp_types.specs.declared.policy.Cond.TheOpen.{Cond-F, True, Atom, And, Or}
 use Rattle.tp_types.specs.declared.policy.Cond.TheFolds.{ind-Cond}
 use Rattle.tp_types.specs.declared.policy.Cond.TheVariants as cond
-use Rattle.tp_policy_text.specs.Grammar.{AnyCond, IsAtom, IsCond, IsConj, IsPart, Joined}
+use Rattle.tp_policy_text.specs.Grammar.{AnyCond, IsAtom, IsCond, IsConj, IsMember, AreJoined}
 use Rattle.tp_policy_text.specs.Lexis.{first, in_word, skip}
-use Rattle.tp_policy_text.specs.Printed.{can_be_cond, cond_text, enclosed, in_and, in_or, shown}
+use Rattle.tp_policy_text.specs.Printed.{can_be_cond, cond_text, in_parentheses, in_and, in_or, kind_and_text}
 use Rattle.tp_policy_text.proofs.Exact.{Language}
 use Rattle.tp_policy_text.proofs.PrintLemmas.{and_and, and_atom, and_or, and_true, can_be_and, can_be_atom, can_be_or, or_and, or_atom, or_or, or_true, text_and, text_atom, text_or, text_true}
 use Rattle.tp_policy_text.proofs.PrintedAtoms.{Prints, atom_prints, true_prints}
@@ -29,10 +29,10 @@ regroup : (one word two others r : List ℕ) → (one ++ ((spaced word ++ two) +
 regroup one word two others r = simp append_assoc
 
 joined_says : {A : Type 0} (L : Language A) (word : List ℕ) (f : A → List ℕ) → ((s : List ℕ) → IsTight (word ++ s)) → (x : A) (xs : List A) → AllPrint L f (x ∷ xs)
-    → (r : List ℕ) → in_word (first r) ≡ false → Joined word L (x ∷ xs) ((f x ++ flat_map (λ y. spaced word ++ f y) xs) ++ r) (skip r)
+    → (r : List ℕ) → in_word (first r) ≡ false → AreJoined word L (x ∷ xs) ((f x ++ flat_map (λ y. spaced word ++ f y) xs) ++ r) (skip r)
 joined_says L word f tight x [] all r free = inl (refl, subst (λ s. L x (s ++ r) (skip r)) (sym (append-nil (f x))) (all.0.says r free))
 joined_says {A = A} L word f tight x (y ∷ ys) all r free =
-    subst (λ s. Joined word L (x ∷ y ∷ ys) s (skip r)) (sym whole)
+    subst (λ s. AreJoined word L (x ∷ y ∷ ys) s (skip r)) (sym whole)
     (inr (
       word ++ (32 ∷ later),
       later,
@@ -51,7 +51,7 @@ joined_says {A = A} L word f tight x (y ∷ ys) all r free =
     whole = regroup (f x) word (f y) (flat_map (λ z. spaced word ++ f z) ys) r
 
 joined_prints : {A : Type 0} (L : Language A) (word : List ℕ) (f : A → List ℕ) → ((s : List ℕ) → IsTight (word ++ s)) → (x : A) (xs : List A) → AllPrint L f (x ∷ xs)
-    → Prints (Joined word L) (x ∷ xs) (join_by f (spaced word) (x ∷ xs))
+    → Prints (AreJoined word L) (x ∷ xs) (join_by f (spaced word) (x ∷ xs))
 joined_prints L word f tight x xs all = record {
   tight = λ r. subst IsTight (sym (append_assoc (f x) (flat_map (λ y. spaced word ++ f y) xs) r)) (all.0.tight (flat_map (λ y. spaced word ++ f y) xs ++ r));
   says = joined_says L word f tight x xs all;
@@ -59,16 +59,16 @@ joined_prints L word f tight x xs all = record {
 
 -- ---- one level
 
-part_of_atom : (I : Language Cond) (c : Cond) (text : List ℕ) → Prints IsAtom c text → Prints (IsPart I) c text
+part_of_atom : (I : Language Cond) (c : Cond) (text : List ℕ) → Prints IsAtom c text → Prints (IsMember I) c text
 part_of_atom I c text h = record { tight = h.tight; says = λ r free. inr (h.says r free) }
 
-conj_of_part : (I : Language Cond) (c : Cond) (text : List ℕ) → Prints (IsPart I) c text → Prints (IsConj I) c text
+conj_of_part : (I : Language Cond) (c : Cond) (text : List ℕ) → Prints (IsMember I) c text → Prints (IsConj I) c text
 conj_of_part I c text h = record { tight = h.tight; says = λ r free. (c ∷ [], refl, inl (refl, h.says r free)) }
 
 cond_of_conj : (d : ℕ) (c : Cond) (text : List ℕ) → Prints (IsConj (IsCond d)) c text → Prints (IsCond (suc d)) c text
 cond_of_conj d c text h = record { tight = h.tight; says = λ r free. (c ∷ [], refl, inl (refl, h.says r free)) }
 
-part_of_inner : (I : Language Cond) (c : Cond) (text : List ℕ) → Prints I c text → Prints (IsPart I) c (enclosed text)
+part_of_inner : (I : Language Cond) (c : Cond) (text : List ℕ) → Prints I c text → Prints (IsMember I) c (in_parentheses text)
 part_of_inner I c text h = record {
   tight = λ r. refl;
   says = λ r free. inl (record {
@@ -84,8 +84,8 @@ part_of_inner I c text h = record {
 
 -- how a condition is printed as a member of an And, as one of an Or, and by itself
 record SaidAt (d : ℕ) (c : Cond) : Type 0 where
-  pub part : Prints (IsPart (IsCond d)) c (in_and (shown c))
-  pub conj : Prints (IsConj (IsCond d)) c (in_or (shown c))
+  pub part : Prints (IsMember (IsCond d)) c (in_and (kind_and_text c))
+  pub conj : Prints (IsConj (IsCond d)) c (in_or (kind_and_text c))
   pub whole : Prints (IsCond (suc d)) c (cond_text c)
 
 -- at each depth but the first few
@@ -96,11 +96,11 @@ abbrev IsSaid : Cond → Type 0
 IsSaid c = can_be_cond c ≡ true → Said c
 
 -- an atom or true
-said_atom : (c : Cond) → Prints IsAtom c (cond_text c) → in_and (shown c) ≡ cond_text c → in_or (shown c) ≡ cond_text c → Said c
+said_atom : (c : Cond) → Prints IsAtom c (cond_text c) → in_and (kind_and_text c) ≡ cond_text c → in_or (kind_and_text c) ≡ cond_text c → Said c
 said_atom c h and_is or_is = (
   0,
   λ d le. record {
-    part = subst (λ l. Prints (IsPart (IsCond d)) c l) (sym and_is) (part_of_atom (IsCond d) c (cond_text c) h);
+    part = subst (λ l. Prints (IsMember (IsCond d)) c l) (sym and_is) (part_of_atom (IsCond d) c (cond_text c) h);
     conj = subst (λ l. Prints (IsConj (IsCond d)) c l) (sym or_is) (conj_of_part (IsCond d) c (cond_text c) (part_of_atom (IsCond d) c (cond_text c) h));
     whole = cond_of_conj d c (cond_text c) (conj_of_part (IsCond d) c (cond_text c) (part_of_atom (IsCond d) c (cond_text c) h));
   },
@@ -118,23 +118,23 @@ all_said (m ∷ ms) h =
     let others = all_said ms tests.1 in
     (one.0 + others.0, λ d le. (one.1 d (omega (arith, le)), others.1 d (omega (arith, le))))
 
-parts_of : (d : ℕ) (cs : List Cond) → AllSaidAt d cs → AllPrint (IsPart (IsCond d)) (λ c. in_and (shown c)) cs
+parts_of : (d : ℕ) (cs : List Cond) → AllSaidAt d cs → AllPrint (IsMember (IsCond d)) (λ c. in_and (kind_and_text c)) cs
 parts_of d [] all = tt
 parts_of d (c ∷ cs) all = (all.0.part, parts_of d cs all.1)
 
-conjs_of : (d : ℕ) (cs : List Cond) → AllSaidAt d cs → AllPrint (IsConj (IsCond d)) (λ c. in_or (shown c)) cs
+conjs_of : (d : ℕ) (cs : List Cond) → AllSaidAt d cs → AllPrint (IsConj (IsCond d)) (λ c. in_or (kind_and_text c)) cs
 conjs_of d [] all = tt
 conjs_of d (c ∷ cs) all = (all.0.conj, conjs_of d cs all.1)
 
 conj_of_many : (d : ℕ) (c k : Cond) (cs : List Cond) → AllSaidAt d (c ∷ k ∷ cs) → Prints (IsConj (IsCond d)) (cond.And (c ∷ k ∷ cs)) (cond_text (cond.And (c ∷ k ∷ cs)))
 conj_of_many d c k cs all =
-    let joined = joined_prints (IsPart (IsCond d)) (codes "and") (λ m. in_and (shown m)) (λ s. refl) c (k ∷ cs) (parts_of d (c ∷ k ∷ cs) all) in
+    let joined = joined_prints (IsMember (IsCond d)) (codes "and") (λ m. in_and (kind_and_text m)) (λ s. refl) c (k ∷ cs) (parts_of d (c ∷ k ∷ cs) all) in
     subst (λ l. Prints (IsConj (IsCond d)) (cond.And (c ∷ k ∷ cs)) l) (sym (text_and (c ∷ k ∷ cs)))
     (record { tight = joined.tight; says = λ r free. (c ∷ k ∷ cs, refl, joined.says r free) })
 
 cond_of_many : (d : ℕ) (c k : Cond) (cs : List Cond) → AllSaidAt d (c ∷ k ∷ cs) → Prints (IsCond (suc d)) (cond.Or (c ∷ k ∷ cs)) (cond_text (cond.Or (c ∷ k ∷ cs)))
 cond_of_many d c k cs all =
-    let joined = joined_prints (IsConj (IsCond d)) (codes "or") (λ m. in_or (shown m)) (λ s. refl) c (k ∷ cs) (conjs_of d (c ∷ k ∷ cs) all) in
+    let joined = joined_prints (IsConj (IsCond d)) (codes "or") (λ m. in_or (kind_and_text m)) (λ s. refl) c (k ∷ cs) (conjs_of d (c ∷ k ∷ cs) all) in
     subst (λ l. Prints (IsCond (suc d)) (cond.Or (c ∷ k ∷ cs)) l) (sym (text_or (c ∷ k ∷ cs)))
     (record { tight = joined.tight; says = λ r free. (c ∷ k ∷ cs, refl, joined.says r free) })
 
@@ -149,7 +149,7 @@ said_and (c ∷ k ∷ cs) many all = (suc all.0, λ d le. at d le)
         let conj = conj_of_many (suc d) c k cs (all.1 (suc d) (omega (arith, le))) in
         let inner = cond_of_conj d (cond.And (c ∷ k ∷ cs)) (cond_text (cond.And (c ∷ k ∷ cs))) (conj_of_many d c k cs (all.1 d (omega (arith, le)))) in
         record {
-          part = subst (λ l. Prints (IsPart (IsCond (suc d))) (cond.And (c ∷ k ∷ cs)) l) (sym (and_and (c ∷ k ∷ cs))) (part_of_inner (IsCond (suc d)) (cond.And (c ∷ k ∷ cs)) (cond_text (cond.And (c ∷ k ∷ cs))) inner);
+          part = subst (λ l. Prints (IsMember (IsCond (suc d))) (cond.And (c ∷ k ∷ cs)) l) (sym (and_and (c ∷ k ∷ cs))) (part_of_inner (IsCond (suc d)) (cond.And (c ∷ k ∷ cs)) (cond_text (cond.And (c ∷ k ∷ cs))) inner);
           conj = subst (λ l. Prints (IsConj (IsCond (suc d))) (cond.And (c ∷ k ∷ cs)) l) (sym (or_and (c ∷ k ∷ cs))) conj;
           whole = cond_of_conj (suc d) (cond.And (c ∷ k ∷ cs)) (cond_text (cond.And (c ∷ k ∷ cs))) conj;
         }
@@ -165,8 +165,8 @@ said_or (c ∷ k ∷ cs) many all = (suc all.0, λ d le. at d le)
         let inner = cond_of_many d c k cs (all.1 d (omega (arith, le))) in
         let part = part_of_inner (IsCond (suc d)) (cond.Or (c ∷ k ∷ cs)) (cond_text (cond.Or (c ∷ k ∷ cs))) inner in
         record {
-          part = subst (λ l. Prints (IsPart (IsCond (suc d))) (cond.Or (c ∷ k ∷ cs)) l) (sym (and_or (c ∷ k ∷ cs))) part;
-          conj = subst (λ l. Prints (IsConj (IsCond (suc d))) (cond.Or (c ∷ k ∷ cs)) l) (sym (or_or (c ∷ k ∷ cs))) (conj_of_part (IsCond (suc d)) (cond.Or (c ∷ k ∷ cs)) (enclosed (cond_text (cond.Or (c ∷ k ∷ cs)))) part);
+          part = subst (λ l. Prints (IsMember (IsCond (suc d))) (cond.Or (c ∷ k ∷ cs)) l) (sym (and_or (c ∷ k ∷ cs))) part;
+          conj = subst (λ l. Prints (IsConj (IsCond (suc d))) (cond.Or (c ∷ k ∷ cs)) l) (sym (or_or (c ∷ k ∷ cs))) (conj_of_part (IsCond (suc d)) (cond.Or (c ∷ k ∷ cs)) (in_parentheses (cond_text (cond.Or (c ∷ k ∷ cs)))) part);
           whole = cond_of_many (suc d) c k cs (all.1 (suc d) (omega (arith, le)));
         }
 

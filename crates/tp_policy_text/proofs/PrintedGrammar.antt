@@ -13,7 +13,7 @@ use Rattle.tp_types.specs.declared.policy.Rule.{Rule}
 use Rattle.tp_types.specs.declared.policy.Value.{Value}
 use Rattle.tp_types.specs.declared.policy.Value.TheVariants as value
 use Rattle.tp_types.specs.Spelling.{is_name}
-use Rattle.tp_policy_text.specs.Grammar.{AnyCond, AreRules, IsAtom, IsCompared, IsCond, IsConj, IsDisj, IsPart, IsPattern, IsValue, Joined, Spells, and_of, or_of}
+use Rattle.tp_policy_text.specs.Grammar.{AnyCond, AreRules, IsAtom, IsCompared, IsCond, IsConj, IsDisj, IsMember, IsPattern, IsValue, AreJoined, Spells, and_of, or_of}
 use Rattle.tp_policy_text.specs.Lexis.{skip}
 use Rattle.tp_policy_text.specs.Printed.{IsOfGrammar, can_be_cond, can_be_pattern, can_be_rule, can_be_value, can_compare}
 use Rattle.tp_policy_text.proofs.Exact.{Language}
@@ -42,7 +42,7 @@ atom_can_be c s t (inr h) =
 
 -- ---- members
 
-joined_can_be : (word : List ℕ) (L : Language Cond) → ((c : Cond) (s t : List ℕ) → L c s t → can_be_cond c ≡ true) → (members : List Cond) (s t : List ℕ) → Joined word L members s t → list_all can_be_cond members ≡ true
+joined_can_be : (word : List ℕ) (L : Language Cond) → ((c : Cond) (s t : List ℕ) → L c s t → can_be_cond c ≡ true) → (members : List Cond) (s t : List ℕ) → AreJoined word L members s t → list_all can_be_cond members ≡ true
 joined_can_be word L each [] s t h = absurd (h)
 joined_can_be word L each (c ∷ cs) s t (inl h) =
     and_from (can_be_cond c) (list_all can_be_cond cs) (each c s t h.1) (ap (list_all can_be_cond) h.0)
@@ -54,14 +54,14 @@ two_or_more n = grind (arith, nat_tests)
 
 -- I is what stands in parentheses
 module _ (I : Language Cond) (each : (c : Cond) (s t : List ℕ) → I c s t → can_be_cond c ≡ true) where
-  part_can_be : (c : Cond) (s t : List ℕ) → IsPart I c s t → can_be_cond c ≡ true
+  part_can_be : (c : Cond) (s t : List ℕ) → IsMember I c s t → can_be_cond c ≡ true
   part_can_be c s t (inl h) = each c h.opened h.closed h.inner
   part_can_be c s t (inr h) = atom_can_be c s t h
 
   conj_can_be : (c : Cond) (s t : List ℕ) → IsConj I c s t → can_be_cond c ≡ true
-  conj_can_be c s t (members, is, h) = by_members members is (joined_can_be (codes "and") (IsPart I) part_can_be members s t h) h
+  conj_can_be c s t (members, is, h) = by_members members is (joined_can_be (codes "and") (IsMember I) part_can_be members s t h) h
     where
-      by_members : (cs : List Cond) → c ≡ and_of cs → list_all can_be_cond cs ≡ true → Joined (codes "and") (IsPart I) cs s t → can_be_cond c ≡ true
+      by_members : (cs : List Cond) → c ≡ and_of cs → list_all can_be_cond cs ≡ true → AreJoined (codes "and") (IsMember I) cs s t → can_be_cond c ≡ true
       by_members [] e all j = absurd (j)
       by_members (m ∷ []) e all j = ap can_be_cond e ∙ (and_parts (can_be_cond m) true all).0
       by_members (m ∷ k ∷ cs) e all j = ap can_be_cond e ∙ (can_be_and (m ∷ k ∷ cs) ∙ and_from (nat_le 2 (length (m ∷ k ∷ cs))) (list_all can_be_cond (m ∷ k ∷ cs)) (two_or_more (length cs)) all)
@@ -69,7 +69,7 @@ module _ (I : Language Cond) (each : (c : Cond) (s t : List ℕ) → I c s t →
   disj_can_be : (c : Cond) (s t : List ℕ) → IsDisj I c s t → can_be_cond c ≡ true
   disj_can_be c s t (members, is, h) = by_members members is (joined_can_be (codes "or") (IsConj I) conj_can_be members s t h) h
     where
-      by_members : (cs : List Cond) → c ≡ or_of cs → list_all can_be_cond cs ≡ true → Joined (codes "or") (IsConj I) cs s t → can_be_cond c ≡ true
+      by_members : (cs : List Cond) → c ≡ or_of cs → list_all can_be_cond cs ≡ true → AreJoined (codes "or") (IsConj I) cs s t → can_be_cond c ≡ true
       by_members [] e all j = absurd (j)
       by_members (m ∷ []) e all j = ap can_be_cond e ∙ (and_parts (can_be_cond m) true all).0
       by_members (m ∷ k ∷ cs) e all j = ap can_be_cond e ∙ (can_be_or (m ∷ k ∷ cs) ∙ and_from (nat_le 2 (length (m ∷ k ∷ cs))) (list_all can_be_cond (m ∷ k ∷ cs)) (two_or_more (length cs)) all)

@@ -10,7 +10,7 @@ use Rattle.tp_types.specs.declared.policy.Policy.{Policy}
 use Rattle.tp_types.specs.declared.policy.Rule.{Rule}
 use Rattle.tp_policy_text.specs.Grammar.{AnyCond, AreRules, IsAction, IsPattern, IsRule, Spells}
 use Rattle.tp_policy_text.specs.Lexis.{skip}
-use Rattle.tp_policy_text.specs.Printed.{IsOfGrammar, action_text, can_be_cond, can_be_pattern, can_be_rule, cond_text, pattern_text, printed, rule_line}
+use Rattle.tp_policy_text.specs.Printed.{IsOfGrammar, action_text, can_be_cond, can_be_pattern, can_be_rule, cond_text, pattern_text, policy_text, rule_line}
 use Rattle.tp_policy_text.proofs.PrintedAtoms.{Prints, name_tight, word_says}
 use Rattle.tp_policy_text.proofs.PrintedConditions.{cond_prints}
 
@@ -79,5 +79,5 @@ rules_say (rule ∷ rules) h =
     (skip (flat_map rule_line rules), rule_says rule tests.0 (flat_map rule_line rules), rules_say rules tests.1)
 
 -- the printed form of a policy says it
-pub printed_spells : (policy : Policy) → IsOfGrammar policy → Spells policy (printed policy)
+pub printed_spells : (policy : Policy) → IsOfGrammar policy → Spells policy (policy_text policy)
 printed_spells policy h = rules_say policy.rules h

@@ -97,36 +97,36 @@ turn_goes {A = A} byte word r n m made s mid after whole a less turned one on h 
 -- ---- one turn of rules
 
 abbrev pub Ruled : ℕ → ℕ → ℕ → List Rule → List ℕ → Reading (List Rule) → Type 0
-Ruled turns depth n made s whole = with_front made (rules_at n turns depth s) ≡ whole
+Ruled fuel depth n made s whole = with_front made (rules_at n fuel depth s) ≡ whole
 
 -- a rule, and then more rules or the end
 abbrev after_rule : ℕ → ℕ → ℕ → Reading Rule → Reading (List Rule)
-after_rule turns depth n one = seq one (λ b l. pick (rules_at n turns depth) (more_of 97 b (first l)) l)
+after_rule fuel depth n one = seq one (λ b l. pick (rules_at n fuel depth) (more_of 97 b (first l)) l)
 
 -- the same, by the byte that comes next
 abbrev behind_rule : ℕ → ℕ → ℕ → Rule → List ℕ → Bool → Reading (List Rule)
-behind_rule turns depth n rule mid on = pick (rules_at n turns depth) (if on then inr (λ others. rule ∷ others) else inl (rule ∷ [])) mid
+behind_rule fuel depth n rule mid on = pick (rules_at n fuel depth) (if on then inr (λ others. rule ∷ others) else inl (rule ∷ [])) mid
 
-rule_turned : (turns depth m : ℕ) (made : List Rule) (s : List ℕ) (whole : Reading (List Rule)) → m < turns → Ruled turns depth (turns - m) made s whole
-    → with_front made (after_rule turns depth (turns - (m + 1)) (rule_at turns depth s)) ≡ whole
-rule_turned turns depth m made s whole less turned = sym (ap (λ k. with_front made (rules_at k turns depth s)) (before turns m less)) ∙ turned
+rule_turned : (fuel depth m : ℕ) (made : List Rule) (s : List ℕ) (whole : Reading (List Rule)) → m < fuel → Ruled fuel depth (fuel - m) made s whole
+    → with_front made (after_rule fuel depth (fuel - (m + 1)) (rule_at fuel depth s)) ≡ whole
+rule_turned fuel depth m made s whole less turned = sym (ap (λ k. with_front made (rules_at k fuel depth s)) (before fuel m less)) ∙ turned
 
-pub rule_stops : (turns depth m : ℕ) (made : List Rule) (s mid : List ℕ) (whole : Reading (List Rule)) (halt : Halt) → m < turns → Ruled turns depth (turns - m) made s whole
-    → Gives {A = Rule} (Err halt) mid (rule_at turns depth s) → Gives {A = List Rule} (Err halt) mid whole
-rule_stops turns depth m made s mid whole why.NoMemory less turned h = tt
-rule_stops turns depth m made s mid whole (why.Stopped stop) less turned h =
-    sym (rule_turned turns depth m made s whole less turned) ∙ ap (λ x. with_front made (after_rule turns depth (turns - (m + 1)) x)) h
+pub rule_stops : (fuel depth m : ℕ) (made : List Rule) (s mid : List ℕ) (whole : Reading (List Rule)) (halt : Halt) → m < fuel → Ruled fuel depth (fuel - m) made s whole
+    → Gives {A = Rule} (Err halt) mid (rule_at fuel depth s) → Gives {A = List Rule} (Err halt) mid whole
+rule_stops fuel depth m made s mid whole why.NoMemory less turned h = tt
+rule_stops fuel depth m made s mid whole (why.Stopped stop) less turned h =
+    sym (rule_turned fuel depth m made s whole less turned) ∙ ap (λ x. with_front made (after_rule fuel depth (fuel - (m + 1)) x)) h
 
-pub rule_ends : (turns depth m : ℕ) (made : List Rule) (s mid : List ℕ) (whole : Reading (List Rule)) (rule : Rule) → m < turns → Ruled turns depth (turns - m) made s whole
-    → rule_at turns depth s ≡ read rule mid → comes 97 (first mid) ≡ false → whole ≡ read (made ++ rule ∷ []) mid
-rule_ends turns depth m made s mid whole rule less turned one over =
-    sym (rule_turned turns depth m made s whole less turned) ∙ ap (λ x. with_front made (after_rule turns depth (turns - (m + 1)) x)) one
-    ∙ ap (λ on. with_front made (behind_rule turns depth (turns - (m + 1)) rule mid on)) over
+pub rule_ends : (fuel depth m : ℕ) (made : List Rule) (s mid : List ℕ) (whole : Reading (List Rule)) (rule : Rule) → m < fuel → Ruled fuel depth (fuel - m) made s whole
+    → rule_at fuel depth s ≡ read rule mid → comes 97 (first mid) ≡ false → whole ≡ read (made ++ rule ∷ []) mid
+rule_ends fuel depth m made s mid whole rule less turned one over =
+    sym (rule_turned fuel depth m made s whole less turned) ∙ ap (λ x. with_front made (after_rule fuel depth (fuel - (m + 1)) x)) one
+    ∙ ap (λ on. with_front made (behind_rule fuel depth (fuel - (m + 1)) rule mid on)) over
 
-pub rule_goes : (turns depth m : ℕ) (made : List Rule) (s mid : List ℕ) (whole : Reading (List Rule)) (rule : Rule) → m < turns → Ruled turns depth (turns - m) made s whole
-    → rule_at turns depth s ≡ read rule mid → comes 97 (first mid) ≡ true → Ruled turns depth (turns - (m + 1)) (made ++ rule ∷ []) mid whole
-rule_goes turns depth m made s mid whole rule less turned one on =
-    more_members made rule (rules_at (turns - (m + 1)) turns depth mid)
-    ∙ ap (λ b. with_front made (behind_rule turns depth (turns - (m + 1)) rule mid b)) (sym on)
-    ∙ sym (ap (λ x. with_front made (after_rule turns depth (turns - (m + 1)) x)) one)
-    ∙ rule_turned turns depth m made s whole less turned
+pub rule_goes : (fuel depth m : ℕ) (made : List Rule) (s mid : List ℕ) (whole : Reading (List Rule)) (rule : Rule) → m < fuel → Ruled fuel depth (fuel - m) made s whole
+    → rule_at fuel depth s ≡ read rule mid → comes 97 (first mid) ≡ true → Ruled fuel depth (fuel - (m + 1)) (made ++ rule ∷ []) mid whole
+rule_goes fuel depth m made s mid whole rule less turned one on =
+    more_members made rule (rules_at (fuel - (m + 1)) fuel depth mid)
+    ∙ ap (λ b. with_front made (behind_rule fuel depth (fuel - (m + 1)) rule mid b)) (sym on)
+    ∙ sym (ap (λ x. with_front made (after_rule fuel depth (fuel - (m + 1)) x)) one)
+    ∙ rule_turned fuel depth m made s whole less turned

@@ -164,24 +164,24 @@ rule_wider C D wide s t rule h = record {
   ends = h.ends;
 }
 
-pub rule_exact : (turns d : ℕ) → Exact (IsRule (IsCond (suc d))) (IsRule AnyCond) any_next d d turns (rule_at turns d)
-rule_exact turns d =
-    retell (Allows (IsCond (suc d))) (Allows AnyCond) (IsRule (IsCond (suc d))) (IsRule AnyCond) any_next any_next d d turns turns (rule_at turns d)
-    (both_exact second (word_at (codes "allow") (tt {0})) (both rule_of action_at (both second (word_at (codes "on") (tt {0})) (permitted_at turns d)))
-    (Says true (codes "allow") (tt {0})) (Says true (codes "allow") (tt {0})) (Both rule_of IsAction (Ons (IsCond (suc d)))) (Both rule_of IsAction (Ons AnyCond)) any_next any_next d d d turns
-    (plain_token true 97 (108 ∷ 108 ∷ 111 ∷ 119 ∷ []) (tt {0}) any_next d turns refl refl refl)
-    (both_exact rule_of action_at (both second (word_at (codes "on") (tt {0})) (permitted_at turns d)) IsAction IsAction (Ons (IsCond (suc d))) (Ons AnyCond) any_next any_next d d d turns
-    (action_exact d turns)
-    (both_exact second (word_at (codes "on") (tt {0})) (permitted_at turns d) (Says true (codes "on") (tt {0})) (Says true (codes "on") (tt {0})) (Permits (IsCond (suc d))) (Permits AnyCond) any_next any_next d d d turns
-    (plain_token true 111 (110 ∷ []) (tt {0}) any_next d turns refl refl refl)
-    (both_exact permitted pattern_at (both second (word_at (codes "if") (tt {0})) (both earlier (cond_at turns d) (sign_at (codes ";") (tt {0})))) IsPattern IsPattern (Ifs (IsCond (suc d))) (Ifs AnyCond) not_star any_next d d d turns
-    (pattern_exact d turns)
-    (both_exact second (word_at (codes "if") (tt {0})) (both earlier (cond_at turns d) (sign_at (codes ";") (tt {0}))) (Says true (codes "if") (tt {0})) (Says true (codes "if") (tt {0}))
-    (Both earlier (IsCond (suc d)) (Says false (codes ";") (tt {0}))) (Both earlier AnyCond (Says false (codes ";") (tt {0}))) any_next any_next d d d turns
-    (plain_token true 105 (102 ∷ []) (tt {0}) any_next d turns refl refl refl)
-    (both_exact earlier (cond_at turns d) (sign_at (codes ";") (tt {0})) (IsCond (suc d)) AnyCond (Says false (codes ";") (tt {0})) (Says false (codes ";") (tt {0})) after_cond any_next d d d turns
-    (cond_exact turns d)
-    (plain_token false 59 [] (tt {0}) any_next d turns refl refl refl)
+pub rule_exact : (fuel d : ℕ) → Exact (IsRule (IsCond (suc d))) (IsRule AnyCond) any_next d d fuel (rule_at fuel d)
+rule_exact fuel d =
+    retell (Allows (IsCond (suc d))) (Allows AnyCond) (IsRule (IsCond (suc d))) (IsRule AnyCond) any_next any_next d d fuel fuel (rule_at fuel d)
+    (both_exact second (word_at (codes "allow") (tt {0})) (both rule_of action_at (both second (word_at (codes "on") (tt {0})) (permitted_at fuel d)))
+    (Says true (codes "allow") (tt {0})) (Says true (codes "allow") (tt {0})) (Both rule_of IsAction (Ons (IsCond (suc d)))) (Both rule_of IsAction (Ons AnyCond)) any_next any_next d d d fuel
+    (plain_token true 97 (108 ∷ 108 ∷ 111 ∷ 119 ∷ []) (tt {0}) any_next d fuel refl refl refl)
+    (both_exact rule_of action_at (both second (word_at (codes "on") (tt {0})) (permitted_at fuel d)) IsAction IsAction (Ons (IsCond (suc d))) (Ons AnyCond) any_next any_next d d d fuel
+    (action_exact d fuel)
+    (both_exact second (word_at (codes "on") (tt {0})) (permitted_at fuel d) (Says true (codes "on") (tt {0})) (Says true (codes "on") (tt {0})) (Permits (IsCond (suc d))) (Permits AnyCond) any_next any_next d d d fuel
+    (plain_token true 111 (110 ∷ []) (tt {0}) any_next d fuel refl refl refl)
+    (both_exact permitted pattern_at (both second (word_at (codes "if") (tt {0})) (both earlier (cond_at fuel d) (sign_at (codes ";") (tt {0})))) IsPattern IsPattern (Ifs (IsCond (suc d))) (Ifs AnyCond) not_star any_next d d d fuel
+    (pattern_exact d fuel)
+    (both_exact second (word_at (codes "if") (tt {0})) (both earlier (cond_at fuel d) (sign_at (codes ";") (tt {0}))) (Says true (codes "if") (tt {0})) (Says true (codes "if") (tt {0}))
+    (Both earlier (IsCond (suc d)) (Says false (codes ";") (tt {0}))) (Both earlier AnyCond (Says false (codes ";") (tt {0}))) any_next any_next d d d fuel
+    (plain_token true 105 (102 ∷ []) (tt {0}) any_next d fuel refl refl refl)
+    (both_exact earlier (cond_at fuel d) (sign_at (codes ";") (tt {0})) (IsCond (suc d)) AnyCond (Says false (codes ";") (tt {0})) (Says false (codes ";") (tt {0})) after_cond any_next d d d fuel
+    (cond_exact fuel d)
+    (plain_token false 59 [] (tt {0}) any_next d fuel refl refl refl)
     (λ b m t h. ap after_cond (token_begins false 59 [] m t h.1)))
     (λ b m t h. refl))
     (λ b m t h. ap not_star (token_begins true 105 (102 ∷ []) m h.between h.one.1)))
@@ -246,23 +246,23 @@ many_linked C (rule ∷ rules) s t over (inr h) = inr (record {
   is = refl;
 })
 
-pub rules_exact : (turns d : ℕ) (left : ℕ) → left ≤ turns → Exact (Many (IsCond (suc d))) (Many AnyCond) after_rules d d left (rules_at left turns d)
-rules_exact turns d zero fewer =
+pub rules_exact : (fuel d : ℕ) (left : ℕ) → left ≤ fuel → Exact (Many (IsCond (suc d))) (Many AnyCond) after_rules d d left (rules_at left fuel d)
+rules_exact fuel d zero fewer =
     spent_exact (Many (IsCond (suc d))) (Many AnyCond) after_rules d
     (record {
-      byte = (rule_exact turns d).some.byte;
-      others = (rule_exact turns d).some.others;
-      value = (rule_exact turns d).some.value ∷ [];
-      tight = (rule_exact turns d).some.tight;
-      ends = λ u may. inl (refl, (rule_exact turns d).some.ends u may);
+      byte = (rule_exact fuel d).some.byte;
+      others = (rule_exact fuel d).some.others;
+      value = (rule_exact fuel d).some.value ∷ [];
+      tight = (rule_exact fuel d).some.tight;
+      ends = λ u may. inl (refl, (rule_exact fuel d).some.ends u may);
     })
     (λ s t rules h. many_wider (IsCond (suc d)) AnyCond (any_of (suc d)) rules s t h)
-rules_exact turns d (suc left) fewer =
+rules_exact fuel d (suc left) fewer =
     retell (Linked (more_of 97) (IsRule (IsCond (suc d))) (Many (IsCond (suc d)))) (Linked (more_of 97) (IsRule AnyCond) (Many AnyCond))
-    (Many (IsCond (suc d))) (Many AnyCond) after_rules after_rules d d (suc left) (suc left) (rules_at (suc left) turns d)
-    (link_exact (more_of 97) (rule_at turns d) (rules_at left turns d) (IsRule (IsCond (suc d))) (IsRule AnyCond) (Many (IsCond (suc d))) (Many AnyCond) any_next after_rules after_rules d d d (suc left) left
-    (narrowed (IsRule (IsCond (suc d))) (IsRule AnyCond) any_next any_next d d turns (suc left) (rule_at turns d) (rule_exact turns d) (λ o may. may) fewer)
-    (rules_exact turns d left (omega (arith, fewer)))
+    (Many (IsCond (suc d))) (Many AnyCond) after_rules after_rules d d (suc left) (suc left) (rules_at (suc left) fuel d)
+    (link_exact (more_of 97) (rule_at fuel d) (rules_at left fuel d) (IsRule (IsCond (suc d))) (IsRule AnyCond) (Many (IsCond (suc d))) (Many AnyCond) any_next after_rules after_rules d d d (suc left) left
+    (narrowed (IsRule (IsCond (suc d))) (IsRule AnyCond) any_next any_next d d fuel (suc left) (rule_at fuel d) (rule_exact fuel d) (λ o may. may) fewer)
+    (rules_exact fuel d left (omega (arith, fewer)))
     (more_fits 97 (Many AnyCond) any_next d (λ b m t h. many_begins AnyCond b m t h) refl refl)
     (omega (arith)))
     (record {

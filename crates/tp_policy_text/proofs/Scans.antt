@@ -12,7 +12,7 @@ use Rattle.tp_policy_text.specs.declared.halt.Stop.{Stop}
 use Rattle.tp_policy_text.specs.declared.reader.Claim.{Claim}
 use Rattle.tp_types.specs.declared.policy.Pattern.{Pattern}
 use Rattle.tp_types.specs.declared.policy.Pattern.TheVariants as pattern
-use Rattle.tp_types.specs.Spelling.{IsName, is_digit, is_letter, is_part}
+use Rattle.tp_types.specs.Spelling.{IsName, is_digit, is_letter, is_name_byte}
 use Rattle.tp_policy_text.specs.Lexis.{first, skip}
 use Rattle.tp_policy_text.specs.mirrors.Readers.{Digits, Head, atom_at, atom_of, compared_at, Starred, attr_step, comes, issuer_step, unstarred, goes_on, head_at, same_text, head_of, int_at, name_at, starred_at, head_end, head_step, int_end, int_step, is_some_text, name_end, name_step, starred_end, starred_step, takes_digit}
 use Rattle.tp_policy_text.specs.mirrors.Readings.{Reader, Reading, carried, ended, go_on, machine, mapped, pick, read, seq, taken}
@@ -115,8 +115,8 @@ follows_goes (head ∷ others) byte = by_number (length others)
     other : (n : ℕ) → (suc n == 0) ≡ false
     other n = grind (arith, nat_tests)
 
-    by_number : (n : ℕ) → follows (suc n) byte ≡ (is_part byte && nat_lt n 31)
-    by_number n = ap (λ (b : Bool). if b then is_letter byte else is_part byte && nat_lt (suc n) 32) (other n) ∙ ap (λ (b : Bool). is_part byte && b) (less n)
+    by_number : (n : ℕ) → follows (suc n) byte ≡ (is_name_byte byte && nat_lt n 31)
+    by_number n = ap (λ (b : Bool). if b then is_letter byte else is_name_byte byte && nat_lt (suc n) 32) (other n) ∙ ap (λ (b : Bool). is_name_byte byte && b) (less n)
 
 name_on : (name : List ℕ) (byte : ℕ) → follows (length name) byte ≡ true → name_step name byte ≡ Some (name ++ byte ∷ [])
 name_on name byte e = give (goes_on name byte) (name ++ byte ∷ []) (sym (follows_goes name byte) ∙ e)
@@ -145,16 +145,16 @@ front_is_name s some = name_of_some (name_front s) some (reach_goes name_step (�
 -- ---- what an atom begins with
 
 -- the byte is no part of a name, and so no such byte goes on with one
-no_sign : (sign byte count : ℕ) → is_part sign ≡ false → is_letter sign ≡ false → follows count byte ≡ true → (byte == sign) ≡ false
+no_sign : (sign byte count : ℕ) → is_name_byte sign ≡ false → is_letter sign ≡ false → follows count byte ≡ true → (byte == sign) ≡ false
 no_sign sign byte count part letter e = by_same (byte == sign) refl
   where
-    wrong : (b : Bool) → (if b then is_letter sign else is_part sign && nat_lt count 32) ≡ true → ⊥
+    wrong : (b : Bool) → (if b then is_letter sign else is_name_byte sign && nat_lt count 32) ≡ true → ⊥
     wrong true h = absurd (no_true (is_letter sign) letter h)
       where
         no_true : (c : Bool) → c ≡ false → c ≡ true → ⊥
         no_true false f g = absurd (cc)
         no_true true f g = absurd (cc)
-    wrong false h = absurd (no_true (is_part sign) part (and_parts (is_part sign) (nat_lt count 32) h).0)
+    wrong false h = absurd (no_true (is_name_byte sign) part (and_parts (is_name_byte sign) (nat_lt count 32) h).0)
       where
         no_true : (c : Bool) → c ≡ false → c ≡ true → ⊥
         no_true false f g = absurd (cc)
@@ -232,7 +232,7 @@ pattern_goes name (byte ∷ others) h = by_star ((byte == 42) && is_some_text na
     next b = if b then Some (record { name = name; starred = true }) else unstarred (name_step name byte)
 
     here : Reading Pattern
-    here = ended (if is_some_text name && not (is_part byte) then Some (pattern.Exact name) else None) (byte ∷ others)
+    here = ended (if is_some_text name && not (is_name_byte byte) then Some (pattern.Exact name) else None) (byte ∷ others)
 
     chosen : Bool → Reading Pattern
     chosen b = if b then read (pattern.Prefix name) (skip others) else here

@@ -348,7 +348,7 @@ says_within n d p text t h = by_text (skip text) refl
         let found = rules_at n n d (byte ∷ others) in
         by_outcome (byte ∷ others) found.left found.outcome here refl (sym (at_some n d text byte others found.outcome found.left here refl) ∙ h)
 
--- a reader with more turns than the text has bytes is never spent
+-- a reader with more fuel than the text has bytes is never spent
 pub never_spent : (n d : ℕ) (text t : List ℕ) → length text < n → policy_at n d text ≡ stopped stop.Spent t → ⊥
 never_spent n d text t short h = by_text (skip text) refl
   where

@@ -40,7 +40,7 @@ pub record Int (z : ℤ) (before left : List ℕ) : Type 0 where
   pub word : Word text before left
 
 -- a name stands as a word does
-pub record Named (name before left : List ℕ) : Type 0 where
+pub record IsWholeName (name before left : List ℕ) : Type 0 where
   pub spelled : IsName name
   pub word : Word name before left
 
@@ -55,7 +55,7 @@ pub record Claim (issuer attr before left : List ℕ) : Type 0 where
 -- an integer or a name
 abbrev pub IsValue : Value → List ℕ → List ℕ → Type 0
 IsValue (value.Number z) before left = Int z before left
-IsValue (value.Word name) before left = Named name before left
+IsValue (value.Word name) before left = IsWholeName name before left
 
 -- `=` takes either, and the others an integer
 abbrev pub IsCompared : Op → Value → List ℕ → List ℕ → Type 0
@@ -86,13 +86,13 @@ IsAtom c before left =
 -- ---- conditions
 
 -- one or more, with a word between two of them
-abbrev pub Joined : {A : Type 0} → List ℕ → (A → List ℕ → List ℕ → Type 0) → List A → List ℕ
+abbrev pub AreJoined : {A : Type 0} → List ℕ → (A → List ℕ → List ℕ → Type 0) → List A → List ℕ
     → List ℕ → Type 0
-Joined word P [] before left = ⊥
-Joined word P (x ∷ xs) before left =
+AreJoined word P [] before left = ⊥
+AreJoined word P (x ∷ xs) before left =
     ((xs ≡ []) × P x before left)
     ⊎ ((between : List ℕ) × (after : List ℕ) × P x before between × Word word between after
-    × Joined word P xs after left)
+    × AreJoined word P xs after left)
 
 -- one member is itself
 abbrev pub and_of : List Cond → Cond
@@ -112,19 +112,19 @@ pub record IsInParentheses (I : Cond → List ℕ → List ℕ → Type 0) (c : 
   pub inner : I c opened closed
   pub closes : Sign (codes ")") closed left
 
-abbrev pub IsPart : (Cond → List ℕ → List ℕ → Type 0) → Cond → List ℕ → List ℕ → Type 0
-IsPart I c before left = IsInParentheses I c before left ⊎ IsAtom c before left
+abbrev pub IsMember : (Cond → List ℕ → List ℕ → Type 0) → Cond → List ℕ → List ℕ → Type 0
+IsMember I c before left = IsInParentheses I c before left ⊎ IsAtom c before left
 
 -- parts joined by `and`
 abbrev pub IsConj : (Cond → List ℕ → List ℕ → Type 0) → Cond → List ℕ → List ℕ → Type 0
 IsConj I c before left =
     (members : List Cond) × (c ≡ and_of members)
-    × Joined (codes "and") (IsPart I) members before left
+    × AreJoined (codes "and") (IsMember I) members before left
 
 -- conjunctions joined by `or`
 abbrev pub IsDisj : (Cond → List ℕ → List ℕ → Type 0) → Cond → List ℕ → List ℕ → Type 0
 IsDisj I c before left =
-    (members : List Cond) × (c ≡ or_of members) × Joined (codes "or") (IsConj I) members before left
+    (members : List Cond) × (c ≡ or_of members) × AreJoined (codes "or") (IsConj I) members before left
 
 -- a condition with fewer parentheses within one another than the number
 abbrev pub IsCond : ℕ → Cond → List ℕ → List ℕ → Type 0
@@ -149,7 +149,7 @@ pub record IsPrefix (name before left : List ℕ) : Type 0 where
 
 abbrev pub IsPattern : Pattern → List ℕ → List ℕ → Type 0
 IsPattern pattern.All before left = Sign (codes "*") before left
-IsPattern (pattern.Exact name) before left = Named name before left
+IsPattern (pattern.Exact name) before left = IsWholeName name before left
 IsPattern (pattern.Prefix name) before left = IsPrefix name before left
 
 -- allow ACTION on PATTERN if CONDITION ;

@@ -1,6 +1,6 @@
 -- Tokens of the policy language: what they are made of, and what may stand between them.
 use Rattle.std.specs.Prelude.{◌≡◌, ℕ, ◌+◌, ◌==◌, ◌&&◌, ◌||◌, List, [], ◌∷◌, ◌++◌, Bool, true, false, Option, Some, None, if◌then◌else◌}
-use Rattle.tp_types.specs.Spelling.{is_part}
+use Rattle.tp_types.specs.Spelling.{is_name_byte}
 
 -- space, tab, line feed or carriage return
 abbrev pub is_blank : ℕ → Bool
@@ -23,7 +23,7 @@ count byte (other ∷ others) = (if other == byte then 1 else 0) + count byte ot
 -- a letter, a digit or `_` comes next
 abbrev pub in_word : Option ℕ → Bool
 in_word None = false
-in_word (Some byte) = is_part byte
+in_word (Some byte) = is_name_byte byte
 
 -- a text begins with the token, and what is left begins with the next one: the blanks after a token go with it. A token that ends with
 -- a letter, a digit or `_` stands apart from any other that begins with one

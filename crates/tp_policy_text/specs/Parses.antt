@@ -41,10 +41,10 @@ abbrev pub IsOutOfMemory : Result Policy ParseError → Type 0
 IsOutOfMemory result = result ≡ Err refusal.NoMemory
 
 -- the refusal at a place where a reader stops; no reader of a whole text is spent
-abbrev pub refused : Stop → ℕ → ParseError
-refused stop.Deep place = refusal.TooDeep place
-refused stop.Syntax place = refusal.Syntax place
-refused stop.Spent place = refusal.TooLong
+abbrev pub refusal_of : Stop → ℕ → ParseError
+refusal_of stop.Deep place = refusal.TooDeep place
+refusal_of stop.Syntax place = refusal.Syntax place
+refusal_of stop.Spent place = refusal.TooLong
 
 -- every text has an answer
 abbrev pub HasAnswer : Type 0

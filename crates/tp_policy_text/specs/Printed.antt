@@ -40,52 +40,52 @@ pub data Kind : Type 0 where
   disjunction : Kind
 
 -- a condition's text, and whether it is an And, an Or, or neither
-pub record Shown : Type 0 where
+pub record CondText : Type 0 where
   pub kind : Kind
   pub text : List ℕ
 
-abbrev pub enclosed : List ℕ → List ℕ
-enclosed text = codes "(" ++ text ++ codes ")"
+abbrev pub in_parentheses : List ℕ → List ℕ
+in_parentheses text = codes "(" ++ text ++ codes ")"
 
 -- a member of an And stands in parentheses where it is an And or an Or
 abbrev pub within_and : Kind → List ℕ → List ℕ
 within_and plain text = text
-within_and conjunction text = enclosed text
-within_and disjunction text = enclosed text
+within_and conjunction text = in_parentheses text
+within_and disjunction text = in_parentheses text
 
 -- a member of an Or stands in parentheses where it is an Or
 abbrev pub within_or : Kind → List ℕ → List ℕ
 within_or plain text = text
 within_or conjunction text = text
-within_or disjunction text = enclosed text
+within_or disjunction text = in_parentheses text
 
-abbrev pub in_and : Shown → List ℕ
+abbrev pub in_and : CondText → List ℕ
 in_and member = within_and member.kind member.text
 
-abbrev pub in_or : Shown → List ℕ
+abbrev pub in_or : CondText → List ℕ
 in_or member = within_or member.kind member.text
 
 -- one level of a condition, whose members are shown
-abbrev pub shown_level : Cond-F Shown → Shown
-shown_level True = record { kind = plain; text = codes "true" }
-shown_level (Atom issuer attr compares wanted) = record {
+abbrev pub level_text : Cond-F CondText → CondText
+level_text True = record { kind = plain; text = codes "true" }
+level_text (Atom issuer attr compares wanted) = record {
   kind = plain;
   text = atom_text issuer attr compares wanted;
 }
-shown_level (And members) = record {
+level_text (And members) = record {
   kind = conjunction;
   text = join_by in_and (codes " and ") members;
 }
-shown_level (Or members) = record {
+level_text (Or members) = record {
   kind = disjunction;
   text = join_by in_or (codes " or ") members;
 }
 
-abbrev pub shown : Cond → Shown
-shown c = fold-Cond Shown shown_level c
+abbrev pub kind_and_text : Cond → CondText
+kind_and_text c = fold-Cond CondText level_text c
 
 abbrev pub cond_text : Cond → List ℕ
-cond_text c = (shown c).text
+cond_text c = (kind_and_text c).text
 
 -- ---- rules
 
@@ -105,8 +105,8 @@ rule_line rule =
     ++ codes " if " ++ cond_text rule.cond ++ codes ";\n"
 
 -- the rules in their order, each on a line of its own
-abbrev pub printed : Policy → List ℕ
-printed policy = flat_map rule_line policy.rules
+abbrev pub policy_text : Policy → List ℕ
+policy_text policy = flat_map rule_line policy.rules
 
 -- ---- what the grammar can say
 

@@ -10,7 +10,7 @@ pub enum Stop {
     Deep,
     /// No text of the grammar goes on so.
     Syntax,
-    /// The reader's turns are spent.
+    /// The reader's fuel is spent.
     Spent,
 }
 

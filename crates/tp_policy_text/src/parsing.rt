@@ -42,7 +42,7 @@ impl From<NoMemory> for ParseError {
 
 fn refused(stop: Stop, place: usize) -> ParseError
     requires { stop ≢ Stop.Spent }
-    ensures { result ≡ parses.refused stop place }
+    ensures { result ≡ parses.refusal_of stop place }
 {
     match stop {
         Stop::Deep => ParseError::TooDeep { place },

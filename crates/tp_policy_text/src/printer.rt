@@ -3,7 +3,7 @@ ghost use Rattle.std.specs.Prelude.{◌≡◌, ◌≤◌, ◌↔◌, ◌++◌, L
 ghost use Rattle.std.specs.List.{flat_map, join_by};
 ghost use Rattle.tp_policy_text.specs.Grammar.{IsWithin, Spells};
 ghost use Rattle.tp_policy_text.specs.Parses.{Answers, depth_max, length_max};
-ghost use Rattle.tp_policy_text.specs.Printed.{IsOfGrammar, action_text, atom_text, cond_text, enclosed, in_and, in_or, op_text, pattern_text, printed, rule_line, shown, value_text};
+ghost use Rattle.tp_policy_text.specs.Printed.{IsOfGrammar, action_text, atom_text, cond_text, in_parentheses, in_and, in_or, op_text, pattern_text, policy_text, rule_line, kind_and_text, value_text};
 
 use itoa::Buffer;
 use std::alloc::Global;
@@ -75,7 +75,7 @@ fn put_cond(out: &mut Vec<u8>, cond: &Cond) -> Result<(), NoMemory>
 /// Puts a condition in parentheses.
 #[cycle(printing)]
 fn put_enclosed(out: &mut Vec<u8>, cond: &Cond) -> Result<(), NoMemory>
-    ensures { OnOk result (out.new.items ≡ out.old.items ++ enclosed (cond_text cond.now)) }
+    ensures { OnOk result (out.new.items ≡ out.old.items ++ in_parentheses (cond_text cond.now)) }
 {
     put(out, b"(")?;
     put_cond(out, cond)?;
@@ -86,7 +86,7 @@ fn put_enclosed(out: &mut Vec<u8>, cond: &Cond) -> Result<(), NoMemory>
 #[cycle(printing)]
 #[tactic(auto, using(crate::proofs::PrintLemmas::and_true, crate::proofs::PrintLemmas::and_atom, crate::proofs::PrintLemmas::and_and, crate::proofs::PrintLemmas::and_or))]
 fn put_in_and(out: &mut Vec<u8>, member: &Cond) -> Result<(), NoMemory>
-    ensures { OnOk result (out.new.items ≡ out.old.items ++ in_and (shown member.now)) }
+    ensures { OnOk result (out.new.items ≡ out.old.items ++ in_and (kind_and_text member.now)) }
 {
     match member {
         Cond::And(_) | Cond::Or(_) => put_enclosed(out, member),
@@ -98,7 +98,7 @@ fn put_in_and(out: &mut Vec<u8>, member: &Cond) -> Result<(), NoMemory>
 #[cycle(printing)]
 #[tactic(auto, using(crate::proofs::PrintLemmas::or_true, crate::proofs::PrintLemmas::or_atom, crate::proofs::PrintLemmas::or_and, crate::proofs::PrintLemmas::or_or))]
 fn put_in_or(out: &mut Vec<u8>, member: &Cond) -> Result<(), NoMemory>
-    ensures { OnOk result (out.new.items ≡ out.old.items ++ in_or (shown member.now)) }
+    ensures { OnOk result (out.new.items ≡ out.old.items ++ in_or (kind_and_text member.now)) }
 {
     match member {
         Cond::Or(_) => put_enclosed(out, member),
@@ -110,7 +110,7 @@ fn put_in_or(out: &mut Vec<u8>, member: &Cond) -> Result<(), NoMemory>
 fn put_and(out: &mut Vec<u8>, members: &[Cond]) -> Result<(), NoMemory>
     ensures { OnOk result
         (out.new.items
-        ≡ out.old.items ++ join_by (λ c. in_and (shown c)) (codes " and ") members.now) }
+        ≡ out.old.items ++ join_by (λ c. in_and (kind_and_text c)) (codes " and ") members.now) }
 {
     let mut between: &[u8] = b"";
     for member in members {
@@ -125,7 +125,7 @@ fn put_and(out: &mut Vec<u8>, members: &[Cond]) -> Result<(), NoMemory>
 fn put_or(out: &mut Vec<u8>, members: &[Cond]) -> Result<(), NoMemory>
     ensures { OnOk result
         (out.new.items
-        ≡ out.old.items ++ join_by (λ c. in_or (shown c)) (codes " or ") members.now) }
+        ≡ out.old.items ++ join_by (λ c. in_or (kind_and_text c)) (codes " or ") members.now) }
 {
     let mut between: &[u8] = b"";
     for member in members {
@@ -183,7 +183,7 @@ fn put_rules(out: &mut Vec<u8>, rules: &[Rule]) -> Result<(), NoMemory>
 /// The policy's printed form: each rule on a line of its own, with parentheses only where a member would be read otherwise without.
 pub fn print(alloc: Global, policy: &Policy) -> Result<Text, NoMemory>
     requires { IsOfGrammar policy.now }
-    ensures printed { IfOk result (λ text. text.0 ≡ printed policy.now) }
+    ensures printed { IfOk result (λ text. text.0 ≡ policy_text policy.now) }
     ensures spelled { IfOk result (λ text. Spells policy.now text.0) }
     ensures alone { IfOk result (λ text.
         (other : Policy) → Spells other text.0 → other ≡ policy.now) }
@@ -196,12 +196,13 @@ pub fn print(alloc: Global, policy: &Policy) -> Result<Text, NoMemory>
 /// The printed form of a policy says it, also within the limits of a text where it is within them; a text says one policy at most;
 /// and what a text says can be printed.
 pub fn printed_is_exact()
-    ensures spelled { (policy : Policy) → IsOfGrammar policy → Spells policy (printed policy) }
+    ensures spelled { (policy : Policy) → IsOfGrammar policy → Spells policy (policy_text policy) }
     ensures alone { (one other : Policy) (text : List ℕ) → Spells one text → Spells other text
         → one ≡ other }
-    ensures within { (policy : Policy) → IsOfGrammar policy → length (printed policy) ≤ length_max
-        → IsWithin depth_max (printed policy)
-        → Answers (printed policy) (Ok policy) }
+    ensures within { (policy : Policy) → IsOfGrammar policy
+        → length (policy_text policy) ≤ length_max
+        → IsWithin depth_max (policy_text policy)
+        → Answers (policy_text policy) (Ok policy) }
     ensures of_grammar { (policy : Policy) (text : List ℕ) → Spells policy text
         → IsOfGrammar policy }
 {}

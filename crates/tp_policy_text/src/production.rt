@@ -47,22 +47,22 @@ struct Permitted {
 impl<'a> Reader<'a> {
     /// A condition, in which so many parentheses may stand within one another.
     #[cycle(reading)]
-    fn cond(&mut self, turns: usize, depth: usize) -> Result<Cond, Halt>
-        ensures { Gives result self.new.rest.now (readers.cond_at turns depth self.old.rest.now) }
+    fn cond(&mut self, fuel: usize, depth: usize) -> Result<Cond, Halt>
+        ensures { Gives result self.new.rest.now (readers.cond_at fuel depth self.old.rest.now) }
     {
-        Ok(or_of(self.conjs(turns, depth)?))
+        Ok(or_of(self.conjs(fuel, depth)?))
     }
 
     /// Conjunctions, with `or` between two of them.
     #[cycle(reading)]
-    fn conjs(&mut self, turns: usize, depth: usize) -> Result<List<Cond>, Halt>
+    fn conjs(&mut self, fuel: usize, depth: usize) -> Result<List<Cond>, Halt>
         ensures { Gives result self.new.rest.now
-            (readers.joined_at turns 111 (codes "or")
-            (readers.conj_at turns depth (readers.inner_at turns depth)) self.old.rest.now) }
+            (readers.joined_at fuel 111 (codes "or")
+            (readers.conj_at fuel depth (readers.inner_at fuel depth)) self.old.rest.now) }
     {
         let mut members = List::new(self.alloc);
-        for _turn in 0..turns {
-            members.push(self.conj(turns, depth)?)?;
+        for _turn in 0..fuel {
+            members.push(self.conj(fuel, depth)?)?;
             if !self.comes(b'o') {
                 return Ok(members);
             }
@@ -73,23 +73,23 @@ impl<'a> Reader<'a> {
 
     /// Parts joined by `and`.
     #[cycle(reading)]
-    fn conj(&mut self, turns: usize, depth: usize) -> Result<Cond, Halt>
+    fn conj(&mut self, fuel: usize, depth: usize) -> Result<Cond, Halt>
         ensures { Gives result self.new.rest.now
-            (readers.conj_at turns depth (readers.inner_at turns depth) self.old.rest.now) }
+            (readers.conj_at fuel depth (readers.inner_at fuel depth) self.old.rest.now) }
     {
-        Ok(and_of(self.parts(turns, depth)?))
+        Ok(and_of(self.parts(fuel, depth)?))
     }
 
     /// Parts, with `and` between two of them.
     #[cycle(reading)]
-    fn parts(&mut self, turns: usize, depth: usize) -> Result<List<Cond>, Halt>
+    fn parts(&mut self, fuel: usize, depth: usize) -> Result<List<Cond>, Halt>
         ensures { Gives result self.new.rest.now
-            (readers.joined_at turns 97 (codes "and")
-            (readers.part_at depth (readers.inner_at turns depth)) self.old.rest.now) }
+            (readers.joined_at fuel 97 (codes "and")
+            (readers.part_at depth (readers.inner_at fuel depth)) self.old.rest.now) }
     {
         let mut members = List::new(self.alloc);
-        for _turn in 0..turns {
-            members.push(self.part(turns, depth)?)?;
+        for _turn in 0..fuel {
+            members.push(self.part(fuel, depth)?)?;
             if !self.comes(b'a') {
                 return Ok(members);
             }
@@ -100,9 +100,9 @@ impl<'a> Reader<'a> {
 
     /// A condition in parentheses, or an atom.
     #[cycle(reading)]
-    fn part(&mut self, turns: usize, depth: usize) -> Result<Cond, Halt>
+    fn part(&mut self, fuel: usize, depth: usize) -> Result<Cond, Halt>
         ensures { Gives result self.new.rest.now
-            (readers.part_at depth (readers.inner_at turns depth) self.old.rest.now) }
+            (readers.part_at depth (readers.inner_at fuel depth) self.old.rest.now) }
     {
         if !self.comes(b'(') {
             return self.atom();
@@ -111,7 +111,7 @@ impl<'a> Reader<'a> {
             return Err(Halt::Stopped(Stop::Deep));
         }
         self.token(b"(", false, ())?;
-        let inner = self.cond(turns, depth - 1)?;
+        let inner = self.cond(fuel, depth - 1)?;
         self.token(b")", false, ())?;
         Ok(inner)
     }
@@ -140,25 +140,25 @@ impl<'a> Reader<'a> {
     }
 
     /// What a rule says behind its `on`.
-    fn permitted(&mut self, turns: usize, depth: usize) -> Result<Permitted, Halt>
+    fn permitted(&mut self, fuel: usize, depth: usize) -> Result<Permitted, Halt>
         ensures { Gives result self.new.rest.now
-            (readers.permitted_at turns depth self.old.rest.now) }
+            (readers.permitted_at fuel depth self.old.rest.now) }
     {
         let pattern = self.pattern()?;
         self.token(b"if", true, ())?;
-        let cond = self.cond(turns, depth)?;
+        let cond = self.cond(fuel, depth)?;
         self.token(b";", false, ())?;
         Ok(Permitted { pattern, cond })
     }
 
     /// A rule.
-    fn rule(&mut self, turns: usize, depth: usize) -> Result<Rule, Halt>
-        ensures { Gives result self.new.rest.now (readers.rule_at turns depth self.old.rest.now) }
+    fn rule(&mut self, fuel: usize, depth: usize) -> Result<Rule, Halt>
+        ensures { Gives result self.new.rest.now (readers.rule_at fuel depth self.old.rest.now) }
     {
         self.token(b"allow", true, ())?;
         let action = self.action()?;
         self.token(b"on", true, ())?;
-        let permitted = self.permitted(turns, depth)?;
+        let permitted = self.permitted(fuel, depth)?;
         Ok(Rule {
             action,
             pattern: permitted.pattern,
@@ -166,14 +166,14 @@ impl<'a> Reader<'a> {
         })
     }
 
-    /// One rule or more, in at most so many turns.
-    fn rules(&mut self, turns: usize, depth: usize) -> Result<List<Rule>, Halt>
+    /// One rule or more, with so much fuel.
+    fn rules(&mut self, fuel: usize, depth: usize) -> Result<List<Rule>, Halt>
         ensures { Gives result self.new.rest.now
-            (readers.rules_at turns turns depth self.old.rest.now) }
+            (readers.rules_at fuel fuel depth self.old.rest.now) }
     {
         let mut rules = List::new(self.alloc);
-        for _turn in 0..turns {
-            rules.push(self.rule(turns, depth)?)?;
+        for _turn in 0..fuel {
+            rules.push(self.rule(fuel, depth)?)?;
             if !self.comes(RULE_FIRST) {
                 return Ok(rules);
             }
@@ -182,11 +182,11 @@ impl<'a> Reader<'a> {
     }
 
     /// Rules up to the end of the text.
-    fn some_rules(&mut self, turns: usize, depth: usize) -> Result<Policy, Halt>
+    fn some_rules(&mut self, fuel: usize, depth: usize) -> Result<Policy, Halt>
         ensures { Gives result self.new.rest.now
-            (readers.rules_only turns depth self.old.rest.now) }
+            (readers.rules_only fuel depth self.old.rest.now) }
     {
-        let rules = self.rules(turns, depth)?;
+        let rules = self.rules(fuel, depth)?;
         if !self.rest.is_empty() {
             return Err(Halt::Stopped(Stop::Syntax));
         }
@@ -194,8 +194,8 @@ impl<'a> Reader<'a> {
     }
 
     /// A whole text.
-    pub(crate) fn policy(&mut self, turns: usize, depth: usize) -> Result<Policy, Halt>
-        ensures { Gives result self.new.rest.now (readers.policy_at turns depth self.old.rest.now) }
+    pub(crate) fn policy(&mut self, fuel: usize, depth: usize) -> Result<Policy, Halt>
+        ensures { Gives result self.new.rest.now (readers.policy_at fuel depth self.old.rest.now) }
     {
         self.skip_blanks();
         if self.rest.is_empty() {
@@ -203,6 +203,6 @@ impl<'a> Reader<'a> {
                 rules: List::new(self.alloc),
             });
         }
-        self.some_rules(turns, depth)
+        self.some_rules(fuel, depth)
     }
 }

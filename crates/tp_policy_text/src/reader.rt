@@ -8,9 +8,9 @@ ghost use Rattle.tp_policy_text.specs.mirrors.Readings.{mapped};
 ghost use Rattle.tp_policy_text.specs.mirrors.Scans as scans;
 
 use crate::halt::{Halt, Stop};
-use crate::scan::{after_blanks, digit_reach, is_digit, is_part, name_reach, number_of};
+use crate::scan::{after_blanks, digit_reach, name_reach, number_of};
 use std::alloc::Global;
-use tp_types::{Cond, Name, Op, Pattern, Value};
+use tp_types::{Cond, Name, Op, Pattern, Value, is_digit, is_name_byte};
 
 /// A text that is being read. A token is taken with the blanks behind it.
 #[derive(Drop)]
@@ -51,7 +51,7 @@ impl<'a> Reader<'a> {
     {
         match self.rest.split_first() {
             None => false,
-            Some((next, _)) => is_part(*next),
+            Some((next, _)) => is_name_byte(*next),
         }
     }
 

@@ -2,7 +2,7 @@
 ghost use Rattle.std.specs.Prelude.{◌≡◌, ◌⊎◌, ◌≤◌, length, Ok};
 ghost use Rattle.tp_policy_text.specs.Grammar.{IsWithin};
 ghost use Rattle.tp_policy_text.specs.Parses.{Answers, IsOutOfMemory, depth_max, length_max};
-ghost use Rattle.tp_policy_text.specs.Printed.{IsOfGrammar, printed};
+ghost use Rattle.tp_policy_text.specs.Printed.{IsOfGrammar, policy_text};
 
 use crate::parsing::{ParseError, parse};
 use crate::printer::print;
@@ -12,9 +12,9 @@ use tp_types::Policy;
 /// Prints the policy and reads its printed form. Where that is within the limits of a text, it gives the policy again.
 pub fn print_and_parse(alloc: Global, policy: &Policy) -> Result<Policy, ParseError>
     requires { IsOfGrammar policy.now }
-    ensures answer { IsOutOfMemory result ⊎ Answers (printed policy.now) result }
-    ensures same { length (printed policy.now) ≤ length_max
-        → IsWithin depth_max (printed policy.now)
+    ensures answer { IsOutOfMemory result ⊎ Answers (policy_text policy.now) result }
+    ensures same { length (policy_text policy.now) ≤ length_max
+        → IsWithin depth_max (policy_text policy.now)
         → IsOutOfMemory result ⊎ (result ≡ Ok policy.now) }
 {
     let text = print(alloc, policy)?;

@@ -5,36 +5,13 @@ ghost use Rattle.tp_types.specs.Spelling as spelling;
 ghost use Rattle.tp_policy_text.specs.Lexis as lexis;
 ghost use Rattle.tp_policy_text.specs.mirrors.Scans as scans;
 
-/// The most bytes of a name.
-const NAME_MAX: usize = 32;
-
-/// The most digits of a number.
-const DIGITS_MAX: usize = 15;
+use tp_types::{DIGITS_MAX, NAME_MAX, is_digit, is_letter, is_name_byte};
 
 /// A space, a tab, a line feed or a carriage return.
 fn is_blank(byte: u8) -> bool
     ensures { result ≡ lexis.is_blank byte }
 {
     byte == b' ' || byte == b'\t' || byte == b'\n' || byte == b'\r'
-}
-
-fn is_letter(byte: u8) -> bool
-    ensures { result ≡ spelling.is_letter byte }
-{
-    b'a' <= byte && byte <= b'z'
-}
-
-pub(crate) fn is_digit(byte: u8) -> bool
-    ensures { result ≡ spelling.is_digit byte }
-{
-    b'0' <= byte && byte <= b'9'
-}
-
-/// A lower-case letter, a digit or `_`.
-pub(crate) fn is_part(byte: u8) -> bool
-    ensures { result ≡ spelling.is_part byte }
-{
-    is_letter(byte) || b'0' <= byte && byte <= b'9' || byte == b'_'
 }
 
 /// What is left after the blanks in front.
@@ -56,7 +33,7 @@ fn follows(count: usize, byte: u8) -> bool
     if count == 0 {
         is_letter(byte)
     } else {
-        is_part(byte) && count < NAME_MAX
+        is_name_byte(byte) && count < NAME_MAX
     }
 }
 

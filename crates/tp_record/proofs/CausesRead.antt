@@ -7,32 +7,32 @@ use Rattle.tp_record.specs.mirrors.Readings.{◌>>=◌, byte_at, mapped}
 use Rattle.tp_types.specs.declared.records.Cause.{Cause}
 use Rattle.tp_types.specs.declared.records.Cause.TheVariants as causes
 use Rattle.tp_record.proofs.PartsRead.{exact_met, exact_version}
-use Rattle.tp_record.specs.Spelling.{denied, out_of_range, died, newer, cause}
+use Rattle.tp_record.specs.Spelling.{denied_bytes, out_of_range_bytes, died_bytes, newer_bytes, cause}
 use Rattle.tp_record.specs.Ranges.{IsDenied, IsOutOfRange, IsDied, IsNewer, IsCause}
 use Rattle.tp_record.specs.mirrors.Readings.{denied_at, out_of_range_at, died_at, newer_at, cause_at, cause_of}
 
-pub exact_denied : Exact denied IsDenied denied_at
+pub exact_denied : Exact denied_bytes IsDenied denied_at
 unfolding denied_at
 exact_denied =
     exact_as _ _ _ (λ p. record { query = p.0; server = record { 0 = p.1.0 }; admin = record { 0 = p.1.1.0 }; version = p.1.1.1.0; place = p.1.1.1.1 })
     (λ d. (d.query, (d.server.0, (d.admin.0, (d.version, d.place))))) (λ a. refl) (λ d. refl)
     (pair exact_short (pair exact_short (pair exact_short (pair exact_version exact_long))))
 
-pub exact_out_of_range : Exact out_of_range IsOutOfRange out_of_range_at
+pub exact_out_of_range : Exact out_of_range_bytes IsOutOfRange out_of_range_at
 unfolding out_of_range_at
 exact_out_of_range =
     exact_as _ _ _ (λ p. record { query = p.0; server = record { 0 = p.1.0 }; value = p.1.1 })
     (λ d. (d.query, (d.server.0, d.value))) (λ a. refl) (λ d. refl)
     (pair exact_short (pair exact_short exact_value))
 
-pub exact_died : Exact died IsDied died_at
+pub exact_died : Exact died_bytes IsDied died_at
 unfolding died_at
 exact_died =
     exact_as _ _ _ (λ p. record { query = p.0; server = record { 0 = p.1.0 }; other = record { 0 = p.1.1.0 }; place = p.1.1.1 })
     (λ d. (d.query, (d.server.0, (d.other.0, d.place)))) (λ a. refl) (λ d. refl)
     (pair exact_short (pair exact_short (pair exact_short exact_long)))
 
-pub exact_newer : Exact newer IsNewer newer_at
+pub exact_newer : Exact newer_bytes IsNewer newer_at
 unfolding newer_at
 exact_newer =
     exact_as _ _ _ (λ p. record { admin = record { 0 = p.0 }; used = p.1.0; found = p.1.1 })

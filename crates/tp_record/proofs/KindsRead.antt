@@ -10,7 +10,7 @@ use Rattle.tp_types.specs.declared.records.Record.{Record}
 use Rattle.tp_types.specs.declared.records.Record.TheVariants as kinds
 use Rattle.tp_record.proofs.PartsRead.{exact_deed, exact_instance, exact_no, exact_outcome, exact_verdict, exact_version}
 use Rattle.tp_record.proofs.CausesRead.{exact_cause}
-use Rattle.tp_record.specs.Spelling.{commit, decision, told, prepared, settled, decided, content}
+use Rattle.tp_record.specs.Spelling.{commit, decision, told_bytes, prepared_bytes, settled_bytes, decided_bytes, content}
 use Rattle.tp_record.specs.Ranges.{IsCommit, IsDecision, IsTold, IsPrepared, IsSettled, IsDecided, IsInRange}
 use Rattle.tp_record.specs.mirrors.Readings.{commit_at, decision_at, decision_of, told_at, prepared_at, settled_at, decided_at, content_at, content_of}
 
@@ -39,28 +39,28 @@ exact_decision = exact_tagged decision IsDecision decision_of takes_tag again_ta
     solid_tag (decisions.Commit d) = omega arith
     solid_tag (decisions.Abort d) = omega arith
 
-pub exact_told : Exact told IsTold told_at
+pub exact_told : Exact told_bytes IsTold told_at
 unfolding told_at
 exact_told =
     exact_as _ _ _ (λ p. record { admin = record { 0 = p.0 }; version = p.1 })
     (λ d. (d.admin.0, d.version)) (λ a. refl) (λ d. refl)
     (pair exact_short exact_version)
 
-pub exact_prepared : Exact prepared IsPrepared prepared_at
+pub exact_prepared : Exact prepared_bytes IsPrepared prepared_at
 unfolding prepared_at
 exact_prepared =
     exact_as _ _ _ (λ p. record { txn = record { 0 = p.0 }; age = p.1.0; epoch = p.1.1.0; turn = p.1.1.1.0; deeds = p.1.1.1.1.0; verdicts = p.1.1.1.1.1.0; told = p.1.1.1.1.1.1 })
     (λ d. (d.txn.0, (d.age, (d.epoch, (d.turn, (d.deeds, (d.verdicts, d.told))))))) (λ a. refl) (λ d. refl)
     (pair exact_short (pair exact_long (pair exact_long (pair exact_short (pair (exact_list _ _ _ exact_deed) (pair (exact_list _ _ _ exact_verdict) (exact_list _ _ _ exact_version)))))))
 
-pub exact_settled : Exact settled IsSettled settled_at
+pub exact_settled : Exact settled_bytes IsSettled settled_at
 unfolding settled_at
 exact_settled =
     exact_as _ _ _ (λ p. record { txn = record { 0 = p.0 }; outcome = p.1.0; why = p.1.1 })
     (λ d. (d.txn.0, (d.outcome, d.why))) (λ a. refl) (λ d. refl)
     (pair exact_short (pair exact_outcome (exact_option _ _ _ exact_no)))
 
-pub exact_decided : Exact decided IsDecided decided_at
+pub exact_decided : Exact decided_bytes IsDecided decided_at
 unfolding decided_at
 exact_decided =
     exact_as _ _ _ (λ p. record { txn = record { 0 = p.0 }; decision = p.1 })

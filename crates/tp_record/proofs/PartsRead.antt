@@ -10,7 +10,7 @@ use Rattle.tp_types.specs.declared.records.Outcome.{Outcome}
 use Rattle.tp_types.specs.declared.records.Outcome.TheVariants as outcomes
 use Rattle.tp_types.specs.declared.records.No.{No}
 use Rattle.tp_types.specs.declared.records.No.TheVariants as noes
-use Rattle.tp_record.specs.Spelling.{action, outcome, credential, version, deed, verdict, instance, no, met}
+use Rattle.tp_record.specs.Spelling.{action, outcome, credential, version, deed, verdict, instance, no, met_bytes}
 use Rattle.tp_record.specs.Ranges.{IsAction, IsOutcome, IsCredential, IsVersion, IsDeed, IsVerdict, IsInstance, IsNo, IsMet}
 use Rattle.tp_record.specs.mirrors.Readings.{action_at, action_of, outcome_at, outcome_of, credential_at, version_at, deed_at, verdict_at, instance_at, no_at, no_of, met_at}
 
@@ -97,7 +97,7 @@ exact_no = exact_tagged no IsNo no_of takes_tag again_tag solid_tag
     solid_tag (noes.Range query z) = omega arith
     solid_tag noes.Restarted = omega arith
 
-pub exact_met : Exact met IsMet met_at
+pub exact_met : Exact met_bytes IsMet met_at
 unfolding met_at
 exact_met =
     exact_as _ _ _ (λ p. record { admin = record { 0 = p.0 }; used = p.1.0; newest = p.1.1.0; place = p.1.1.1 })

@@ -86,30 +86,30 @@ abbrev pub no : No → List ℕ
 no (noes.Range query z) = 0 ∷ short query ++ value z
 no noes.Restarted = 1 ∷ []
 
-abbrev pub met : Met → List ℕ
-met m = short m.admin.0 ++ (version m.used ++ (version m.newest ++ long m.place))
+abbrev pub met_bytes : Met → List ℕ
+met_bytes m = short m.admin.0 ++ (version m.used ++ (version m.newest ++ long m.place))
 
 -- ---- why a transaction aborted
 
-abbrev pub denied : Denied → List ℕ
-denied d =
+abbrev pub denied_bytes : Denied → List ℕ
+denied_bytes d =
     short d.query ++ (short d.server.0 ++ (short d.admin.0 ++ (version d.version ++ long d.place)))
 
-abbrev pub out_of_range : OutOfRange → List ℕ
-out_of_range o = short o.query ++ (short o.server.0 ++ value o.value)
+abbrev pub out_of_range_bytes : OutOfRange → List ℕ
+out_of_range_bytes o = short o.query ++ (short o.server.0 ++ value o.value)
 
-abbrev pub died : Died → List ℕ
-died d = short d.query ++ (short d.server.0 ++ (short d.other.0 ++ long d.place))
+abbrev pub died_bytes : Died → List ℕ
+died_bytes d = short d.query ++ (short d.server.0 ++ (short d.other.0 ++ long d.place))
 
-abbrev pub newer : Newer → List ℕ
-newer n = short n.admin.0 ++ (version n.used ++ version n.found)
+abbrev pub newer_bytes : Newer → List ℕ
+newer_bytes n = short n.admin.0 ++ (version n.used ++ version n.found)
 
 abbrev pub cause : Cause → List ℕ
-cause (causes.Denied d) = 1 ∷ denied d
-cause (causes.No o) = 2 ∷ out_of_range o
-cause (causes.Died d) = 3 ∷ died d
-cause (causes.Newer n) = 4 ∷ newer n
-cause (causes.Rounds ms) = 5 ∷ list met ms
+cause (causes.Denied d) = 1 ∷ denied_bytes d
+cause (causes.No o) = 2 ∷ out_of_range_bytes o
+cause (causes.Died d) = 3 ∷ died_bytes d
+cause (causes.Newer n) = 4 ∷ newer_bytes n
+cause (causes.Rounds ms) = 5 ∷ list met_bytes ms
 cause (causes.Restarted server) = 6 ∷ short server.0
 cause causes.Halted = 7 ∷ []
 
@@ -122,29 +122,29 @@ abbrev pub decision : Decision → List ℕ
 decision (decisions.Commit c) = 0 ∷ commit c
 decision (decisions.Abort c) = 1 ∷ cause c
 
-abbrev pub told : Told → List ℕ
-told t = short t.admin.0 ++ version t.version
+abbrev pub told_bytes : Told → List ℕ
+told_bytes t = short t.admin.0 ++ version t.version
 
-abbrev pub prepared : Prepared → List ℕ
-prepared p =
+abbrev pub prepared_bytes : Prepared → List ℕ
+prepared_bytes p =
     short p.txn.0
     ++ (long p.age
     ++ (long p.epoch
     ++ (short p.turn ++ (list deed p.deeds ++ (list verdict p.verdicts ++ list version p.told)))))
 
-abbrev pub settled : Settled → List ℕ
-settled s = short s.txn.0 ++ (outcome s.outcome ++ option no s.why)
+abbrev pub settled_bytes : Settled → List ℕ
+settled_bytes s = short s.txn.0 ++ (outcome s.outcome ++ option no s.why)
 
-abbrev pub decided : Decided → List ℕ
-decided d = short d.txn.0 ++ decision d.decision
+abbrev pub decided_bytes : Decided → List ℕ
+decided_bytes d = short d.txn.0 ++ decision d.decision
 
 -- the kind, and what a record of the kind says
 abbrev pub content : Record → List ℕ
 content kinds.Boot = 1 ∷ []
-content (kinds.Told t) = 2 ∷ told t
-content (kinds.Prepared p) = 3 ∷ prepared p
-content (kinds.Settled s) = 4 ∷ settled s
-content (kinds.Decided d) = 5 ∷ decided d
+content (kinds.Told t) = 2 ∷ told_bytes t
+content (kinds.Prepared p) = 3 ∷ prepared_bytes p
+content (kinds.Settled s) = 4 ∷ settled_bytes s
+content (kinds.Decided d) = 5 ∷ decided_bytes d
 
 -- a body: how many bytes the content has, and the content
 abbrev pub spelling : Record → List ℕ

@@ -12,7 +12,7 @@ use tp_types::{
 };
 
 impl Spelled for Denied {
-    ghost spelling = { spell.denied };
+    ghost spelling = { spell.denied_bytes };
 
     ghost in_range = { ranges.IsDenied };
 
@@ -39,7 +39,7 @@ impl Spelled for Denied {
 }
 
 impl Spelled for OutOfRange {
-    ghost spelling = { spell.out_of_range };
+    ghost spelling = { spell.out_of_range_bytes };
 
     ghost in_range = { ranges.IsOutOfRange };
 
@@ -62,7 +62,7 @@ impl Spelled for OutOfRange {
 }
 
 impl Spelled for Died {
-    ghost spelling = { spell.died };
+    ghost spelling = { spell.died_bytes };
 
     ghost in_range = { ranges.IsDied };
 
@@ -87,7 +87,7 @@ impl Spelled for Died {
 }
 
 impl Spelled for Newer {
-    ghost spelling = { spell.newer };
+    ghost spelling = { spell.newer_bytes };
 
     ghost in_range = { ranges.IsNewer };
 

@@ -66,7 +66,7 @@ impl Spelled for Decision {
 }
 
 impl Spelled for Told {
-    ghost spelling = { spell.told };
+    ghost spelling = { spell.told_bytes };
 
     ghost in_range = { ranges.IsTold };
 
@@ -87,7 +87,7 @@ impl Spelled for Told {
 }
 
 impl Spelled for Prepared {
-    ghost spelling = { spell.prepared };
+    ghost spelling = { spell.prepared_bytes };
 
     ghost in_range = { ranges.IsPrepared };
 
@@ -125,7 +125,7 @@ impl Spelled for Prepared {
 }
 
 impl Spelled for Settled {
-    ghost spelling = { spell.settled };
+    ghost spelling = { spell.settled_bytes };
 
     ghost in_range = { ranges.IsSettled };
 
@@ -148,7 +148,7 @@ impl Spelled for Settled {
 }
 
 impl Spelled for Decided {
-    ghost spelling = { spell.decided };
+    ghost spelling = { spell.decided_bytes };
 
     ghost in_range = { ranges.IsDecided };
 

@@ -208,7 +208,7 @@ impl Spelled for No {
 }
 
 impl Spelled for Met {
-    ghost spelling = { spell.met };
+    ghost spelling = { spell.met_bytes };
 
     ghost in_range = { ranges.IsMet };
 

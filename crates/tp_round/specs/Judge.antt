@@ -1,8 +1,9 @@
 -- What a round is, and what is judged of its replies.
-use Rattle.std.specs.Prelude.{ℕ, ◌+◌, ◌-◌, ◌^◌, ◌==◌, ◌&&◌, ◌||◌, List, [], ◌∷◌, ◌++◌, length, map, filter, find, min, slice_get, Bool, false, not, nat_lt, Option, Some, None, option_map, option_to_list, if◌then◌else◌}
+use Rattle.std.specs.Prelude.{ℕ, ◌==◌, ◌&&◌, ◌||◌, List, [], ◌∷◌, ◌++◌, length, map, filter, find, slice_get, Bool, false, not, nat_lt, Option, Some, None, option_map, option_to_list, if◌then◌else◌}
 use Rattle.std.specs.List.{list_any}
 use Rattle.std.specs.Option.{is_none, is_some, option_map_or}
 use Rattle.tp_model.specs.Words.{AdminId, Level, Met, Reading, ServerId, Verdict, Version}
+use Rattle.tp_model.specs.Limits.{next_count}
 use Rattle.tp_model.specs.Ids.{same_admin, same_server}
 use Rattle.tp_model.specs.Levels.{is_global}
 use Rattle.tp_round.specs.declared.round.Judged.{Judged}
@@ -169,7 +170,7 @@ judge round reading =
 
 -- the number of the next round; the greatest stays
 abbrev pub next_number : Round → ℕ
-next_number round = min (round.number + 1) (2 ^ 32 - 1)
+next_number round = next_count round.number
 
 -- the next round: the replies of the servers that are out of date are awaited, and the others stay
 abbrev pub next_round : Round → List (AdminId × Version) → List Wanted → List Met → Round

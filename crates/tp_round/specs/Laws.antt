@@ -3,6 +3,7 @@ use Rattle.std.specs.Prelude.{◌≡◌, ℕ, ◌&&◌, ◌≤◌, ◌==◌, Lis
 use Rattle.std.specs.List.{list_all, list_any, range_with_len}
 use Rattle.std.specs.Option.{is_none}
 use Rattle.tp_model.specs.Words.{AdminId, Level, Met, Reading, ServerId, Verdict, Version}
+use Rattle.tp_model.specs.Demand.{query_of}
 use Rattle.tp_model.specs.Ids.{same_admin, same_server}
 use Rattle.tp_model.specs.Levels.{is_global}
 use Rattle.tp_model.specs.Versions.{is_one_version}
@@ -30,12 +31,12 @@ is_behind round reading server =
 abbrev pub is_for : AdminId → AdminId × Version → Bool
 is_for admin one = same_admin one.0 admin
 
-abbrev pub version_in : AdminId × Version → ℕ
-version_in one = one.1.0
+abbrev pub want_number : AdminId × Version → ℕ
+want_number one = one.1.0
 
 -- the version that is wanted of an administrator, if any is
 abbrev pub wanted_of : List (AdminId × Version) → AdminId → Option ℕ
-wanted_of want admin = option_map version_in (find (is_for admin) want)
+wanted_of want admin = option_map want_number (find (is_for admin) want)
 
 -- the server is named, and of it the target of each administrator is wanted of which it has a proof, and of no other
 pub record IsNamed (round : Round) (reading : Option Reading) (server : Target) (named : Wanted)
@@ -209,9 +210,6 @@ abbrev pub HasOneForEach : ℕ → List Verdict → Type 0
 HasOneForEach count proofs =
     (query : ℕ) → 1 ≤ query → query ≤ 16
     → length (filter (is_at_query query) proofs) ≡ (if nat_le query count then 1 else 0)
-
-abbrev pub query_of : Verdict → ℕ
-query_of verdict = verdict.query
 
 -- where there is one proof of each query up to a number, the proofs are of just these queries, in order
 abbrev pub GoesByQuery : Type 0

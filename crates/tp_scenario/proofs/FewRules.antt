@@ -1,9 +1,9 @@
 -- A policy's text is short, so it says few rules.
 use Rattle.std.proofs.Common.{◌≡◌, ℕ, ◌+◌, ◌-◌, ◌<◌, ◌≤◌, List, length, Result, Ok, Err, refl, ap, arith}
-use Rattle.tp_types.specs.declared.policy.Policy.{Policy}
+use Rattle.tp_model.specs.Words.{Policy}
 use Rattle.tp_policy_text.specs.declared.halt.Stop.{Stop}
 use Rattle.tp_policy_text.specs.declared.parsing.ParseError.{ParseError}
-use Rattle.tp_policy_text.specs.Parses.{Answers, refused}
+use Rattle.tp_policy_text.specs.Parses.{Answers, refusal_of}
 use Rattle.tp_policy_text.specs.mirrors.Readers.{policy_at}
 use Rattle.tp_policy_text.proofs.AnswerLaws.{has_one}
 use Rattle.tp_policy_text.proofs.Answering.{answers_read, answers_stop}
@@ -23,7 +23,7 @@ by_outcome text t policy (Ok given) fits says h =
     omega (arith, few, fits, rules)
 by_outcome text t policy (Err why) fits says h =
     let short : length text < length text + 1 = omega arith in
-    absurd (cc (has_one text (Err (refused why (length text - length t))) (Ok policy) (answers_stop (length text + 1) text t why fits short h) says))
+    absurd (cc (has_one text (Err (refusal_of why (length text - length t))) (Ok policy) (answers_stop (length text + 1) text t why fits short h) says))
 
 pub few_rules : (text : List ℕ) (policy : Policy) → Answers text (Ok policy) → length policy.rules ≤ 4096
 unfolding as_answer

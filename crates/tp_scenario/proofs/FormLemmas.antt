@@ -8,13 +8,14 @@ use Rattle.tp_scenario.specs.declared.path.Key.TheVariants.{Transactions, Scheme
 use Rattle.tp_scenario.specs.declared.path.Path.TheVariants.{Field}
 use Rattle.tp_scenario.specs.declared.path.Site.{Site}
 use Rattle.tp_scenario.specs.declared.path.Site.TheVariants.{At}
-use Rattle.tp_scenario.specs.Forms.{first_form, listed_form, or_else, step_site, steps_form, txn_form, txns_form}
+use Rattle.std.specs.Option.{option_or}
+use Rattle.tp_scenario.specs.Forms.{first_form, listed_form, step_site, steps_form, txn_form, txns_form}
 
-first_none : (one other : Option Site) → or_else one other ≡ None → one ≡ None
+first_none : (one other : Option Site) → option_or one other ≡ None → one ≡ None
 first_none None other e = refl
 first_none (Some site) other e = cc
 
-second_none : (one other : Option Site) → or_else one other ≡ None → other ≡ None
+second_none : (one other : Option Site) → option_or one other ≡ None → other ≡ None
 second_none None other e = e
 second_none (Some site) other e = cc
 

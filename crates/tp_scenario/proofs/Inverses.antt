@@ -11,7 +11,8 @@ use Rattle.tp_scenario.specs.declared.fault.Fault.{Fault}
 use Rattle.tp_scenario.specs.declared.path.Path.{Path}
 use Rattle.tp_scenario.specs.Chain.{◌>>=◌}
 use Rattle.tp_scenario.specs.Faults.{range}
-use Rattle.tp_scenario.specs.Names.{Names, is_same, place_of}
+use Rattle.tp_model.specs.Ids.{same_name}
+use Rattle.tp_scenario.specs.Names.{Names, place_of}
 use Rattle.tp_scenario.specs.Values.{apart, array_at, count_at, count_or, count_or_range, each, item_count, items_at, items_or, items_or_range, name_at, new_name_at, place_at, place_or_unknown, through, whole_at, whole_in, within}
 use Rattle.tp_scenario.proofs.GrowingLists.{any_made, distinct_more, place_within}
 
@@ -79,7 +80,7 @@ new_name_ok path names value name e = let text = then_ok (name_at path value) _ 
 
 pub used_ok : (path : Path) (names : Names) (name : List ℕ) (place : ℕ) → place_or_unknown path names name ≡ Ok place → place < length names
 unfolding place_or_unknown
-used_ok path names name place e = place_within (λ (other : List ℕ). is_same other name) names place (ok_or_ok _ _ _ e)
+used_ok path names name place e = place_within (λ (other : List ℕ). same_name other name) names place (ok_or_ok _ _ _ e)
 
 pub used_at_ok : (path : Path) (names : Names) (value : Option Data) (place : ℕ) → place_at path names value ≡ Ok place → place < length names
 unfolding place_at
@@ -87,10 +88,10 @@ used_at_ok path names value place e = let text = then_ok (name_at path value) _ 
 
 -- names stay apart
 pub named_apart : {A : Type 0} (name_of : A → List ℕ) (made : List A) (x : A) → place_of (name_of x) (map name_of made) ≡ None
-    → are_distinct (λ one other. is_same (name_of one) (name_of other)) made ≡ true → are_distinct (λ one other. is_same (name_of one) (name_of other)) (made ++ x ∷ []) ≡ true
+    → are_distinct (λ one other. same_name (name_of one) (name_of other)) made ≡ true → are_distinct (λ one other. same_name (name_of one) (name_of other)) (made ++ x ∷ []) ≡ true
 named_apart name_of made x new apart_before =
-    distinct_more (λ one other. is_same (name_of one) (name_of other)) made x
-    (sym (any_made name_of (λ (other : List ℕ). is_same other (name_of x)) made) ∙ none_passes (λ (other : List ℕ). is_same other (name_of x)) (map name_of made) new)
+    distinct_more (λ one other. same_name (name_of one) (name_of other)) made x
+    (sym (any_made name_of (λ (other : List ℕ). same_name other (name_of x)) made) ∙ none_passes (λ (other : List ℕ). same_name other (name_of x)) (map name_of made) new)
     apart_before
 
 -- ---- arrays

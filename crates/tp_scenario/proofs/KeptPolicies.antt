@@ -5,19 +5,15 @@ use Rattle.std.proofs.lemmas.Bool.{and_from, le-leb}
 use Rattle.std.proofs.lemmas.Bool.Decides.{nat_tests}
 use Rattle.tp_types.proofs.ListLemmas.{all_push}
 use Rattle.serde_json.specs.Data.{Data}
-use Rattle.tp_types.specs.declared.ids.Version.{Version}
-use Rattle.tp_types.specs.declared.policy.Policy.{Policy}
-use Rattle.tp_types.specs.declared.policy.Value.{Value}
+use Rattle.tp_model.specs.Words.{Admin, Credential, Policy, Value, Version}
 use Rattle.tp_types.specs.declared.policy.Value.TheVariants.{Number, Word}
-use Rattle.tp_types.specs.declared.scenario.Admin.{Admin}
-use Rattle.tp_types.specs.declared.scenario.Credential.{Credential}
 use Rattle.tp_policy_text.specs.declared.parsing.ParseError.{ParseError}
-use Rattle.tp_model.specs.Limits.{has_count, is_from_to, number_limit}
-use Rattle.tp_model.specs.Valid.{are_distinct, are_valid_admins, are_valid_creds, clock_limit, is_valid_admin, is_valid_cred, is_valid_policy, is_valid_value, same_admin_name, same_cred_name}
+use Rattle.tp_model.specs.Limits.{clock_limit, has_count, is_from_to, number_limit}
+use Rattle.tp_model.specs.Valid.{are_distinct, are_valid_admins, are_valid_creds, is_valid_admin, is_valid_cred, is_valid_policy, is_valid_value, same_admin_name, same_cred_name}
 use Rattle.tp_scenario.specs.declared.path.Key.TheVariants.{Admins, Attr, Credentials, From, Issuer, Name, Opening, Policies, Subject, Until, Value as ValueKey}
 use Rattle.tp_scenario.specs.declared.path.Path.{Path}
 use Rattle.tp_scenario.specs.declared.path.Path.TheVariants.{Field, Member}
-use Rattle.tp_scenario.specs.Admins.{admin_at, admin_in, admin_name, admins_at, opening_at, policies_at, policy_at, policy_in, said}
+use Rattle.tp_scenario.specs.Admins.{admin_at, admin_in, admin_name, admins_at, opening_at, policies_at, policy_text_at, policy_in, policy_or_fault}
 use Rattle.tp_scenario.specs.Creds.{cred_at, cred_in, cred_name, creds_at, is_text, number_at, value_at, word_at}
 use Rattle.tp_scenario.specs.Names.{Names, place_of}
 use Rattle.tp_policy_text.specs.Parses.{Answers}
@@ -28,11 +24,11 @@ use Rattle.tp_scenario.proofs.Inverses.{count_or_ok, each_count, each_keeps, ite
 
 -- ---- administrators
 
-policy_kept : (path : Path) (d : Data) (policy : Policy) → policy_at path d ≡ Ok policy → is_valid_policy policy ≡ true
-unfolding policy_at
+policy_kept : (path : Path) (d : Data) (policy : Policy) → policy_text_at path d ≡ Ok policy → is_valid_policy policy ≡ true
+unfolding policy_text_at
 policy_kept path d policy e = let text = then_ok (text_at path (Some d)) _ _ e in by_answer text.0 (policy_answer text.0) (policy_answer_is text.0) text.2
   where
-    by_answer : (text : List ℕ) (answer : Result Policy ParseError) → Answers text answer → said path answer ≡ Ok policy → is_valid_policy policy ≡ true
+    by_answer : (text : List ℕ) (answer : Result Policy ParseError) → Answers text answer → policy_or_fault path answer ≡ Ok policy → is_valid_policy policy ≡ true
     by_answer text (Ok given) says h = subst (λ (p : Policy). is_valid_policy p ≡ true) (ok_same given policy h) (le-leb _ _ (few_rules text given says))
     by_answer text (Err why) says h = absurd (cc)
 

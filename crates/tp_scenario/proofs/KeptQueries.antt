@@ -11,18 +11,18 @@ use Rattle.tp_types.proofs.ListLemmas.{all_push}
 use Rattle.serde_json.specs.Data.{Data}
 use Rattle.tp_types.specs.Spelling.{is_number as is_number_text, number_of, spelled_from}
 use Rattle.tp_types.specs.declared.scenario.Operand.TheVariants.{Register}
-use Rattle.tp_types.specs.declared.scenario.Query.{Query}
-use Rattle.tp_types.specs.declared.scenario.Scenario.{Scenario}
-use Rattle.tp_types.specs.declared.scenario.Term.{Term}
+use Rattle.tp_model.specs.Words.{Query, Scenario, Term}
 use Rattle.tp_policy_text.proofs.PrintedNumbers.{int_short}
 use Rattle.tp_model.specs.Limits.{is_between, is_from_to, number_limit}
 use Rattle.tp_model.specs.Valid.{begins_well, has_constant, is_number, is_register, is_valid_query, is_valid_sum, is_valid_term}
 use Rattle.tp_scenario.specs.declared.path.Path.{Path}
 use Rattle.tp_scenario.specs.Faults.{range, shape}
-use Rattle.tp_scenario.specs.Names.{Names, is_same}
+use Rattle.tp_model.specs.Ids.{same_name}
+use Rattle.tp_scenario.specs.Names.{Names}
 use Rattle.tp_scenario.specs.Queries.{Asked, reads, writes, asked_in, asked_of, constant_term, first_term, is_register_digit, is_short, query_at, query_for, read_from, read_of, register_of, sign_of, signed_term, sum_of, term_at, term_of, terms_after, write_of, write_to}
 use Rattle.tp_scenario.specs.Values.{text_at}
-use Rattle.tp_scenario.specs.Words.{only, words_of}
+use Rattle.tp_model.specs.Queries.{only}
+use Rattle.tp_scenario.specs.Words.{words_of}
 use Rattle.tp_scenario.proofs.Inverses.{ok_or_ok, ok_same, then_ok, used_ok}
 
 -- ---- options
@@ -152,13 +152,13 @@ asked_kept text asked e = by_words (words_of text) e
     by_write verb words true h = write_kept words asked h
     by_write verb words false h = absurd (cc)
 
-    by_read : (verb : List ℕ) (words : List (List ℕ)) (b : Bool) → (if b then read_of words else (if is_same verb (codes "write") then write_of words else None)) ≡ Some asked → IsAskedWell asked
+    by_read : (verb : List ℕ) (words : List (List ℕ)) (b : Bool) → (if b then read_of words else (if same_name verb (codes "write") then write_of words else None)) ≡ Some asked → IsAskedWell asked
     by_read verb words true h = read_kept words asked h
-    by_read verb words false h = by_write verb words (is_same verb (codes "write")) h
+    by_read verb words false h = by_write verb words (same_name verb (codes "write")) h
 
     by_words : (words : List (List ℕ)) → asked_in words ≡ Some asked → IsAskedWell asked
     by_words [] h = absurd (cc)
-    by_words (verb ∷ words) h = by_read verb words (is_same verb (codes "read")) h
+    by_words (verb ∷ words) h = by_read verb words (same_name verb (codes "read")) h
 
 -- ---- queries
 

@@ -5,10 +5,9 @@ use Rattle.std.proofs.lemmas.Bool.{and_parts, and_from}
 use Rattle.std.proofs.lemmas.Bool.Decides.{nat_tests}
 use Rattle.std.proofs.lemmas.List.{length-map}
 use Rattle.serde_json.specs.Data.{Data}
-use Rattle.tp_types.specs.declared.scenario.Admin.{Admin}
-use Rattle.tp_types.specs.declared.scenario.Scenario.{Scenario}
-use Rattle.tp_model.specs.Limits.{is_from_to}
-use Rattle.tp_model.specs.Valid.{IsValid, are_valid_admins, are_valid_items, are_valid_servers, clock_limit, has_valid_data, has_valid_policies, is_valid, is_valid_admin}
+use Rattle.tp_model.specs.Words.{Admin, Scenario}
+use Rattle.tp_model.specs.Limits.{clock_limit, is_from_to}
+use Rattle.tp_model.specs.Valid.{IsValid, are_valid_admins, are_valid_items, are_valid_servers, has_valid_data, has_valid_policies, is_valid, is_valid_admin}
 use Rattle.tp_scenario.specs.declared.path.Key.TheVariants.{Admins, Clients, Clock, Credentials, Officers, Publishers, Servers, Steps, Transactions}
 use Rattle.tp_scenario.specs.declared.path.Path.TheVariants.{Top, Whole}
 use Rattle.tp_scenario.specs.Admins.{admin_name, admins_at}

@@ -9,15 +9,10 @@ use Rattle.std.proofs.lemmas.List.{length-append}
 use Rattle.std.proofs.lemmas.List.Sums.{sum_by_push, sum_by-cons}
 use Rattle.tp_types.proofs.ListLemmas.{all_push}
 use Rattle.serde_json.specs.Data.{Data}
-use Rattle.tp_types.specs.declared.ids.AdminId.{AdminId}
-use Rattle.tp_types.specs.declared.ids.TxnId.{TxnId}
-use Rattle.tp_types.specs.declared.scenario.Admin.{Admin}
-use Rattle.tp_types.specs.declared.scenario.Scenario.{Scenario}
-use Rattle.tp_types.specs.declared.scenario.Step.{Step}
-use Rattle.tp_types.specs.declared.scenario.Step.TheVariants as step
-use Rattle.tp_types.specs.declared.scenario.Transaction.{Transaction}
+use Rattle.tp_model.specs.Words.{Admin, AdminId, Scenario, Step, Transaction, TxnId}
+use Rattle.tp_model.specs.Words.step
 use Rattle.tp_model.specs.Ids.{same_txn}
-use Rattle.tp_model.specs.Limits.{has_count, is_from_to}
+use Rattle.tp_model.specs.Limits.{has_count, is_from_to, steps_limit, tick_limit}
 use Rattle.tp_model.specs.Valid.{are_submitted_once, are_valid_clients, are_valid_officers, are_valid_publishers, have_versions_left, is_officer_script, is_officer_step, is_publication_of, is_publisher_script, is_publisher_step, is_script_of_txns, is_txn, is_valid_admin, is_valid_step, publications_of, submissions_of}
 use Rattle.tp_scenario.specs.declared.command.CountVerb.TheVariants as counting
 use Rattle.tp_scenario.specs.declared.command.NameVerb.TheVariants as verb
@@ -305,7 +300,7 @@ official_made : (path : Path) (names : Declared) (command : Command) (made : Ste
 unfolding named_step counted_step
 official_made path names (of_name verb.Revoke name) made h e = let place = then_ok (place_or_unknown path names.creds name) _ _ e in subst (λ (s : Step). is_officer_step s ≡ true) (ok_same (step.Revoke (record { 0 = place.0 })) made place.2) refl
 official_made path names (by_number counting.Tick number) made h e =
-    subst (λ (s : Step). is_officer_step s ≡ true) (test_ok (is_from_to 1 1000000 number) (step.Tick number) made _ e).1 refl
+    subst (λ (s : Step). is_officer_step s ≡ true) (test_ok (is_from_to 1 tick_limit number) (step.Tick number) made _ e).1 refl
 official_made path names (push admin server) made h e = absurd (cc)
 official_made path names (of_name verb.Submit name) made h e = absurd (cc)
 official_made path names (of_name verb.Publish name) made h e = absurd (cc)
@@ -334,7 +329,7 @@ officer_kept sc names earlier d script of_sc e =
     let here = official_kept sc _ names value x of_sc h in
     (all_push is_officer_step made x before.0 here.0, all_push (is_valid_step sc) made x before.1 here.1))
     steps.0 [] script (refl, refl) steps.2 in
-    and_from _ _ all.0 (and_from _ _ (each_count (official_step_in names (length earlier)) 0 100000 steps.0 script (items_ok _ 0 100000 (Some d) steps.0 steps.1) steps.2) all.1)
+    and_from _ _ all.0 (and_from _ _ (each_count (official_step_in names (length earlier)) 0 steps_limit steps.0 script (items_ok _ 0 steps_limit (Some d) steps.0 steps.1) steps.2) all.1)
 
 pub officers_kept : (sc : Scenario) (names : Declared) (value : Option Data) → IsNamesOf sc names → officers_at names value ≡ Ok sc.officers → are_valid_officers sc ≡ true
 unfolding officers_at

@@ -11,12 +11,7 @@ use Rattle.std.proofs.lemmas.List.{length-append, length-map, append_assoc, appe
 use Rattle.tp_types.proofs.ListLemmas.{all_push}
 use Rattle.serde_json.specs.Data.{Data, Items, Members, no_members, member}
 use Rattle.serde_json.specs.Find.{as_object}
-use Rattle.tp_types.specs.declared.ids.ItemId.{ItemId}
-use Rattle.tp_types.specs.declared.ids.Version.{Version}
-use Rattle.tp_types.specs.declared.scenario.Admin.{Admin}
-use Rattle.tp_types.specs.declared.scenario.Item.{Item}
-use Rattle.tp_types.specs.declared.scenario.Scenario.{Scenario}
-use Rattle.tp_types.specs.declared.scenario.ServerDecl.{ServerDecl}
+use Rattle.tp_model.specs.Words.{Admin, Item, ItemId, Scenario, ServerDecl, Version}
 use Rattle.tp_model.specs.Ids.{same_item}
 use Rattle.tp_model.specs.Limits.{has_count, is_between, is_from_to, int_le, value_limit}
 use Rattle.tp_model.specs.Valid.{are_by_server, are_distinct, are_known, are_valid_from, has_valid_range, is_known, is_valid_admin, owned_from, same_item_name, same_server_name}
@@ -28,7 +23,7 @@ use Rattle.tp_scenario.specs.declared.servers.Served.{Served}
 use Rattle.tp_scenario.specs.Admins.{admin_name}
 use Rattle.tp_scenario.specs.Faults.{shape}
 use Rattle.tp_scenario.specs.Names.{Names, place_of}
-use Rattle.tp_scenario.specs.Servers.{ids_from, item_at, item_in, item_name, items_in, key_at, known_at, known_from, knows_at, nothing_served, opening, opening_of, server_in, server_name, servers_at, version_at, with_site}
+use Rattle.tp_scenario.specs.Servers.{ids_from, item_at, item_in, item_name, items_in, key_at, known_at, known_from, knows_at, nothing_served, opening, opening_number, server_in, server_name, servers_at, version_at, with_site}
 use Rattle.tp_scenario.specs.Values.{each, item_count, object_at}
 use Rattle.tp_scenario.proofs.GrowingLists.{all_weaker}
 use Rattle.tp_scenario.proofs.Inverses.{count_ok, each_keeps, each_length, items_ok, named_apart, new_name_ok, ok_same, then_ok, through_count, used_at_ok, whole_ok}
@@ -47,7 +42,7 @@ openings_known (admin ∷ admins) valid =
     at_opening count version h = grind (arith, nat_tests)
 
 -- another version that an administrator had by the opening
-set_known : (admins : List Admin) (versions : List Version) (place : ℕ) (version : Version) → are_known admins versions ≡ true → is_from_to 1 (opening_of admins place) version.0 ≡ true
+set_known : (admins : List Admin) (versions : List Version) (place : ℕ) (version : Version) → are_known admins versions ≡ true → is_from_to 1 (opening_number admins place) version.0 ≡ true
     → are_known admins (slice_set versions place version) ≡ true
 set_known [] [] place version known here = known
 set_known [] (other ∷ versions) place version known here = absurd (cc)
@@ -73,7 +68,7 @@ known_kept : (admins : List Admin) (server : ℕ) (versions more : List Version)
 unfolding known_at
 known_kept admins server versions more text d known e =
     let place = then_ok (key_at (map admin_name admins) server text) _ _ e in
-    let version = then_ok (version_at server text (opening_of admins place.0) d) _ _ place.2 in
+    let version = then_ok (version_at server text (opening_number admins place.0) d) _ _ place.2 in
     subst (λ (vs : List Version). are_known admins vs ≡ true) (ok_same _ more version.2)
     (set_known admins versions place.0 version.0 known (version_kept server text _ d version.0 version.1))
 

@@ -6,12 +6,10 @@ use Rattle.std.proofs.lemmas.Option.{same_Some}
 use Rattle.tp_types.proofs.ListLemmas.{all_push}
 use Rattle.serde_json.specs.Data.{Data}
 use Rattle.tp_types.specs.Spelling.{number_of}
-use Rattle.tp_types.specs.declared.scenario.Actor.{Actor}
-use Rattle.tp_types.specs.declared.scenario.Actor.TheVariants as actor
-use Rattle.tp_types.specs.declared.scenario.Scenario.{Scenario}
-use Rattle.tp_types.specs.declared.scenario.Step.{Step}
-use Rattle.tp_types.specs.declared.scenario.Step.TheVariants as step
-use Rattle.tp_model.specs.Limits.{is_from_to}
+use Rattle.tp_model.specs.Words.{Actor, Scenario, Step}
+use Rattle.tp_model.specs.Words.actor
+use Rattle.tp_model.specs.Words.step
+use Rattle.tp_model.specs.Limits.{is_empty, is_from_to, steps_limit, tick_limit}
 use Rattle.tp_model.specs.Valid.{are_valid_steps, is_number, is_valid_step, may_crash}
 use Rattle.tp_scenario.specs.declared.command.CountVerb.{CountVerb}
 use Rattle.tp_scenario.specs.declared.command.CountVerb.TheVariants as counting
@@ -20,10 +18,12 @@ use Rattle.tp_scenario.specs.declared.command.NameVerb.TheVariants as verb
 use Rattle.tp_scenario.specs.declared.names.Declared.{Declared}
 use Rattle.tp_scenario.specs.declared.path.Path.{Path}
 use Rattle.tp_scenario.specs.Faults.{range, shape}
-use Rattle.tp_scenario.specs.Names.{is_same, place_of}
+use Rattle.tp_model.specs.Ids.{same_name}
+use Rattle.tp_scenario.specs.Names.{place_of}
 use Rattle.tp_scenario.specs.Steps.{Command, of_name, by_number, push, cut, actor_at, actor_or, by_verb, calls_of, command_at, command_by, command_in, command_of, coordinator_at, count_verb, command_by_count_or, counted_step, crash_of, cut_or_range, cut_step, fill_of, cut_with_fill, is_cut, mail_of, name_verb, named_step, one_name, one_number, push_of, push_step, push_to, cut_in_mail, step_at, step_for, step_in, steps_at}
 use Rattle.tp_scenario.specs.Values.{text_at}
-use Rattle.tp_scenario.specs.Words.{is_end, only, words_of}
+use Rattle.tp_model.specs.Queries.{only}
+use Rattle.tp_scenario.specs.Words.{words_of}
 use Rattle.tp_scenario.proofs.GrowingLists.{place_within}
 use Rattle.tp_scenario.proofs.Inverses.{each_count, each_keeps, items_or_ok, ok_or_ok, ok_same, test_ok, then_ok, used_ok}
 use Rattle.tp_scenario.proofs.KeptQueries.{map_some, number_small, test_some, then_some}
@@ -79,7 +79,7 @@ mail_kept name (key ∷ mail ∷ words) command e = by_mail (number_of mail) ref
 crash_kept : (words : List (List ℕ)) (command : Command) → crash_of words ≡ Some command → IsCommandWell command
 unfolding crash_of
 crash_kept [] command e = absurd (cc)
-crash_kept (name ∷ words) command e = by_end (is_end words) (test_some _ _ command e).1
+crash_kept (name ∷ words) command e = by_end (is_empty words) (test_some _ _ command e).1
   where
     by_end : (b : Bool) → (if b then Some (of_name verb.Crash name) else mail_of name words) ≡ Some command → IsCommandWell command
     by_end true h = subst IsCommandWell (same_Some _ command h) tt
@@ -114,7 +114,7 @@ command_kept text command e = by_words (words_of text) e
 
     by_words : (words : List (List ℕ)) → command_in words ≡ Some command → IsCommandWell command
     by_words [] h = absurd (cc)
-    by_words (word ∷ words) h = by_push word words (is_same word (codes "push")) h
+    by_words (word ∷ words) h = by_push word words (same_name word (codes "push")) h
 
 -- ---- steps
 
@@ -125,7 +125,7 @@ actor_kept sc path names name who of_sc e = by_place (place_of name names.server
     by_place : (place : Option ℕ) → place_of name names.servers ≡ place → actor_or path names name place ≡ Ok who → may_crash sc who ≡ true
     by_place (Some place) p h =
         subst (λ (a : Actor). may_crash sc a ≡ true) (ok_same (actor.Server (record { 0 = place })) who h)
-        (within place (length names.servers) _ (place_within (λ (other : List ℕ). is_same other name) names.servers place p) of_sc.servers)
+        (within place (length names.servers) _ (place_within (λ (other : List ℕ). same_name other name) names.servers place p) of_sc.servers)
     by_place None p h =
         let place = then_ok _ _ _ h in
         subst (λ (a : Actor). may_crash sc a ≡ true) (ok_same (actor.Coordinator (record { 0 = place.0 })) who place.2)
@@ -155,7 +155,7 @@ named_valid sc path names verb.Timer name made of_sc e =
 counted_valid : (sc : Scenario) (path : Path) (verb : CountVerb) (number : ℕ) (made : Step) → is_number number ≡ true → counted_step path verb number ≡ Ok made → is_valid_step sc made ≡ true
 unfolding counted_step
 counted_valid sc path counting.Tick number made small e =
-    let got = test_ok (is_from_to 1 1000000 number) (step.Tick number) made _ e in
+    let got = test_ok (is_from_to 1 tick_limit number) (step.Tick number) made _ e in
     subst (λ (s : Step). is_valid_step sc s ≡ true) got.1 got.0
 counted_valid sc path counting.Deliver number made small e = subst (λ (s : Step). is_valid_step sc s ≡ true) (ok_same (step.Deliver number) made e) small
 counted_valid sc path counting.Lose number made small e = subst (λ (s : Step). is_valid_step sc s ≡ true) (ok_same (step.Lose number) made e) small
@@ -199,6 +199,6 @@ pub steps_kept : (sc : Scenario) (names : Declared) (value : Option Data) (steps
 unfolding steps_at
 steps_kept sc names value steps of_sc e =
     let values = then_ok _ _ _ e in
-    and_from _ _ (each_count (step_in names) 0 100000 values.0 steps (items_or_ok _ 100000 value values.0 values.1) values.2)
+    and_from _ _ (each_count (step_in names) 0 steps_limit values.0 steps (items_or_ok _ steps_limit value values.0 values.1) values.2)
     (each_keeps (step_in names) (λ made. list_all (is_valid_step sc) made ≡ true) (λ made x d before h. all_push (is_valid_step sc) made x before (step_kept sc names _ d x of_sc h))
     values.0 [] steps refl values.2)

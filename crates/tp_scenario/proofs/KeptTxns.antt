@@ -4,19 +4,15 @@ use Rattle.std.specs.List.{list_all, list_any}
 use Rattle.std.proofs.lemmas.Bool.{and_from, lt-ltb, not_from_false}
 use Rattle.tp_types.proofs.ListLemmas.{all_push, none_passes}
 use Rattle.serde_json.specs.Data.{Data}
-use Rattle.tp_types.specs.declared.ids.CredId.{CredId}
-use Rattle.tp_types.specs.declared.scenario.Query.{Query}
-use Rattle.tp_types.specs.declared.scenario.Scenario.{Scenario}
-use Rattle.tp_types.specs.declared.scenario.ServerDecl.{ServerDecl}
-use Rattle.tp_types.specs.declared.scenario.Transaction.{Transaction}
-use Rattle.tp_model.specs.Ids.{same_cred}
+use Rattle.tp_model.specs.Words.{CredId, Query, Scenario, ServerDecl, Transaction}
+use Rattle.tp_model.specs.Ids.{same_cred, same_name}
 use Rattle.tp_model.specs.Limits.{has_count}
 use Rattle.tp_model.specs.Valid.{are_distinct, are_valid_txns, is_cred, is_valid_query, is_valid_txn, same_txn_name}
 use Rattle.tp_scenario.specs.declared.names.Declared.{Declared}
 use Rattle.tp_scenario.specs.declared.path.Key.TheVariants.{Credentials, Level as LevelKey, Name, Queries, Rounds, Scheme as SchemeKey, Subject, Transactions}
 use Rattle.tp_scenario.specs.declared.path.Path.{Path}
 use Rattle.tp_scenario.specs.declared.path.Path.TheVariants.{Field, Member}
-use Rattle.tp_scenario.specs.Names.{Names, is_same, place_of}
+use Rattle.tp_scenario.specs.Names.{Names, place_of}
 use Rattle.tp_scenario.specs.Servers.{server_name}
 use Rattle.tp_scenario.specs.Txns.{credential_at, credential_in, credentials_at, level_at, queries_at, query_in, scheme_at, txn_at, txn_in, txn_name, txn_name_at, txns_at}
 use Rattle.tp_scenario.specs.Values.{field, name_at, object_at}
@@ -65,14 +61,14 @@ pub record IsNewTxn (sc : Scenario) (names : Names) (txn : Transaction) : Type 0
   pub new : place_of txn.name names ≡ None
 
 name_kept : (sc : Scenario) (txns : Names) (at : ℕ) (value : Option Data) (name : List ℕ) → txn_name_at (map server_name sc.servers) txns at value ≡ Ok name
-    → (place_of name txns ≡ None) × (list_any (λ (server : ServerDecl). is_same name server.name) sc.servers ≡ false)
+    → (place_of name txns ≡ None) × (list_any (λ (server : ServerDecl). same_name name server.name) sc.servers ≡ false)
 unfolding txn_name_at
 name_kept sc txns at value name e =
     let first = then_ok _ _ _ e in
     let other = apart_ok _ (map server_name sc.servers) first.0 name first.2 in (
       subst (λ (n : List ℕ). place_of n txns ≡ None) other.0 (new_name_ok _ txns value first.0 first.1),
-      any_agrees (λ (server : ServerDecl). is_same name server.name) (λ (server : ServerDecl). is_same server.name name) (λ server. same_turned name server.name) sc.servers
-          ∙ (sym (any_made server_name (λ (server : List ℕ). is_same server name) sc.servers) ∙ none_passes (λ (server : List ℕ). is_same server name) (map server_name sc.servers) other.1),
+      any_agrees (λ (server : ServerDecl). same_name name server.name) (λ (server : ServerDecl). same_name server.name name) (λ server. same_turned name server.name) sc.servers
+          ∙ (sym (any_made server_name (λ (server : List ℕ). same_name server name) sc.servers) ∙ none_passes (λ (server : List ℕ). same_name server name) (map server_name sc.servers) other.1),
     )
 
 txn_kept : (sc : Scenario) (names : Declared) (at : ℕ) (d : Data) (txn : Transaction) → names.servers ≡ map server_name sc.servers → length names.creds ≡ length sc.creds → length names.items ≡ length sc.items

@@ -4,9 +4,10 @@ use Rattle.std.specs.Prelude.{length, nat_lt, option_and_then}
 use Rattle.std.specs.List.{list_all}
 use Rattle.std.proofs.lemmas.Bool.{and_parts, and_from, cases_Bool, not-true}
 use Rattle.std.proofs.lemmas.Bool.Decides.{nat_tests}
-use Rattle.tp_types.specs.Spelling.{is_digit, is_letter, is_name, is_number, is_part, number_of}
+use Rattle.tp_types.specs.Spelling.{is_digit, is_letter, is_name, is_number, is_name_byte, number_of}
 use Rattle.tp_scenario.specs.Steps.{one_name, one_number}
-use Rattle.tp_scenario.specs.Words.{as_name, is_no_space, is_space, only, with_byte, with_space, words_of}
+use Rattle.tp_model.specs.Queries.{only}
+use Rattle.tp_scenario.specs.Words.{as_name, is_no_space, is_space, with_byte, with_space, words_of}
 use Rattle.tp_scenario.proofs.WordLemmas.{HasFirst, byte_words, has_first, no_words, space_words}
 
 -- bytes of which none is a space are one word
@@ -49,7 +50,7 @@ read_last {A = A} read solid text = by_only (only (words_of text)) refl
     by_only None e = by_read (read text) refl e
     by_only (Some word) e = ap read (only_whole text word e)
 
-part_is_no_space : (byte : ℕ) → is_part byte ≡ true → is_no_space byte ≡ true
+part_is_no_space : (byte : ℕ) → is_name_byte byte ≡ true → is_no_space byte ≡ true
 part_is_no_space byte h = grind (arith, nat_tests)
 
 letter_is_no_space : (byte : ℕ) → is_letter byte ≡ true → is_no_space byte ≡ true
@@ -67,9 +68,9 @@ solid_by test solid (byte ∷ bytes) all =
 solid_name : (text : List ℕ) → is_name text ≡ true → list_all is_no_space text ≡ true
 solid_name [] h = absurd (cc)
 solid_name (first ∷ others) h =
-    let outer = and_parts _ (list_all is_part others) h in
+    let outer = and_parts _ (list_all is_name_byte others) h in
     let inner = and_parts (is_letter first) _ outer.0 in
-    and_from _ _ (letter_is_no_space first inner.0) (solid_by is_part part_is_no_space others outer.1)
+    and_from _ _ (letter_is_no_space first inner.0) (solid_by is_name_byte part_is_no_space others outer.1)
 
 solid_named : (text name : List ℕ) → as_name text ≡ Some name → list_all is_no_space text ≡ true
 solid_named text name e = elim (cases_Bool (is_name text)) [

@@ -6,17 +6,18 @@ use Rattle.std.specs.Cmp.Lexicographic.{pointwise}
 use Rattle.std.proofs.lemmas.Bool.Decides.{nat_tests}
 use Rattle.std.proofs.lemmas.List.{length-map, map-append}
 use denote.Ref.{Bor}
-use Rattle.tp_scenario.specs.Names.{is_same, place_of, with_name}
+use Rattle.tp_model.specs.Ids.{same_name}
+use Rattle.tp_scenario.specs.Names.{place_of, with_name}
 use Rattle.tp_scenario.specs.mirrors.Texts.{texts}
 
 pub turned : (n m : ℕ) → (n == m) ≡ (m == n)
 turned n m = grind (arith, nat_tests)
 
-pub same_turned : (one other : List ℕ) → is_same one other ≡ is_same other one
+pub same_turned : (one other : List ℕ) → same_name one other ≡ same_name other one
 same_turned [] [] = refl
 same_turned [] (byte ∷ bytes) = refl
 same_turned (byte ∷ bytes) [] = refl
-same_turned (byte ∷ bytes) (next ∷ others) = ap (λ (b : Bool). b && is_same bytes others) (turned byte next) ∙ ap (λ (b : Bool). (next == byte) && b) (same_turned bytes others)
+same_turned (byte ∷ bytes) (next ∷ others) = ap (λ (b : Bool). b && same_name bytes others) (turned byte next) ∙ ap (λ (b : Bool). (next == byte) && b) (same_turned bytes others)
 
 -- the first place that passes, by tests that agree
 reach_over : {A B : Type 0} (make : A → B) (test : A → Bool) (other : B → Bool) → ((x : A) → test x ≡ other (make x)) → (xs : List A) → position_or_len test xs ≡ position_or_len other (map make xs)
@@ -33,7 +34,7 @@ any_place test (x ∷ xs) = grind (arith, nat_tests, any_place test xs)
 -- a name is found at its place
 pub place_found : (name : List ℕ) (names : List (Bor (List ℕ))) → position (λ (other : Bor (List ℕ)). pointwise ◌==◌ name other.now) names ≡ place_of name (texts names)
 place_found name names =
-    place_over (λ (other : Bor (List ℕ)). other.now) (λ (other : Bor (List ℕ)). pointwise ◌==◌ name other.now) (λ (other : List ℕ). is_same other name) (λ other. same_turned name other.now) names
+    place_over (λ (other : Bor (List ℕ)). other.now) (λ (other : Bor (List ℕ)). pointwise ◌==◌ name other.now) (λ (other : List ℕ). same_name other name) (λ other. same_turned name other.now) names
 
 -- and is there if it has one
 pub name_found : (name : List ℕ) (names : List (Bor (List ℕ))) → list_any (λ (other : Bor (List ℕ)). pointwise ◌==◌ name other.now) names ≡ is_some (place_of name (texts names))

@@ -4,7 +4,7 @@ use Rattle.std.specs.Prelude.{IfOk}
 use Rattle.std.proofs.lemmas.Bool.{and_from}
 use Rattle.serde_json.specs.Data.{Data}
 use Rattle.serde_json.specs.Read.{read}
-use Rattle.tp_types.specs.declared.scenario.Scenario.{Scenario}
+use Rattle.tp_model.specs.Words.{Scenario}
 use Rattle.tp_model.specs.Built.{is_built}
 use Rattle.tp_model.specs.Valid.{is_valid}
 use Rattle.tp_scenario.specs.declared.fault.Fault.{Fault}

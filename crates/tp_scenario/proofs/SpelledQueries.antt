@@ -8,19 +8,19 @@ use Rattle.std.proofs.lemmas.Bool.Decides.{nat_tests}
 use Rattle.std.proofs.lemmas.List.{append_assoc, append-nil}
 use Rattle.std.proofs.lemmas.Option.{same_Some}
 use Rattle.tp_types.specs.Spelling.{is_digit, is_name, is_number, number_of, spelled_from}
-use Rattle.tp_types.specs.declared.scenario.Operand.{Operand}
+use Rattle.tp_model.specs.Words.{Operand, Term}
 use Rattle.tp_types.specs.declared.scenario.Operand.TheVariants.{Constant, Register}
-use Rattle.tp_types.specs.declared.scenario.Term.{Term}
-use Rattle.tp_scenario.specs.Names.{is_same}
+use Rattle.tp_model.specs.Ids.{same_name}
 use Rattle.tp_scenario.specs.Queries.{Asked, reads, writes, asked_in, asked_of, constant_term, first_term, is_register_digit, read_of, register_of, sign_of, signed_term, sum_of, term_at, term_of, terms_after, write_of}
 use Rattle.tp_scenario.specs.Spelled.{SaysQuery, SpellTerms, SpellsFirst, SpellsNumber, SpellsOperand, SpellsRegister, SpellsSum, sign}
-use Rattle.tp_scenario.specs.Words.{is_filled, only, words_of}
+use Rattle.tp_model.specs.Queries.{only}
+use Rattle.tp_scenario.specs.Words.{is_filled, words_of}
 use Rattle.tp_scenario.proofs.KeptQueries.{map_some, test_some, then_some}
 use Rattle.tp_scenario.proofs.SpelledWords.{split_so, words_so}
 
 -- ---- tests
 
-pub same_bytes : (one other : List ℕ) → is_same one other ≡ true → one ≡ other
+pub same_bytes : (one other : List ℕ) → same_name one other ≡ true → one ≡ other
 same_bytes one other e = (bytes_decides one other).0 e
 
 pub test_passes : {A : Type 0} (test : Bool) (found : Option A) → test ≡ true → (if test then found else None) ≡ found
@@ -187,9 +187,9 @@ so_first word term (inr (minus, h)) =
 
 sign_so : (word : List ℕ) (minus : Bool) → sign_of word ≡ Some minus → word ≡ sign minus
 unfolding sign_of
-sign_so word minus e = elim (cases_Bool (is_same word (codes "+"))) [
-  | inl plus ↦ subst (λ (m : Bool). word ≡ sign m) (same_Some false minus (subst (λ (b : Bool). (if b then Some false else (if is_same word (codes "-") then Some true else None)) ≡ Some minus) plus e)) (same_bytes word (codes "+") plus)
-  | inr other ↦ let got = test_some (is_same word (codes "-")) (Some true) minus (subst (λ (b : Bool). (if b then Some false else (if is_same word (codes "-") then Some true else None)) ≡ Some minus) other e) in
+sign_so word minus e = elim (cases_Bool (same_name word (codes "+"))) [
+  | inl plus ↦ subst (λ (m : Bool). word ≡ sign m) (same_Some false minus (subst (λ (b : Bool). (if b then Some false else (if same_name word (codes "-") then Some true else None)) ≡ Some minus) plus e)) (same_bytes word (codes "+") plus)
+  | inr other ↦ let got = test_some (same_name word (codes "-")) (Some true) minus (subst (λ (b : Bool). (if b then Some false else (if same_name word (codes "-") then Some true else None)) ≡ Some minus) other e) in
       subst (λ (m : Bool). word ≡ sign m) (same_Some true minus got.1) (same_bytes word (codes "-") got.0)
 ]
 
@@ -270,8 +270,8 @@ unfolding read_of
 read_so text [] asked split e = absurd (cc)
 read_so text (name ∷ []) asked split e = absurd (cc)
 read_so text (name ∷ into ∷ words) asked split e =
-    let got = test_some (is_name name && is_same into (codes "into")) _ asked e in
-    let parts = and_parts (is_name name) (is_same into (codes "into")) got.0 in
+    let got = test_some (is_name name && same_name into (codes "into")) _ asked e in
+    let parts = and_parts (is_name name) (same_name into (codes "into")) got.0 in
     let number = map_some (reads name) (option_and_then register_of (only words)) asked got.1 in
     let word = then_some register_of (only words) number.0 number.1 in
     let register = register_so word.0 number.0 word.2 in
@@ -285,8 +285,8 @@ unfolding write_of
 write_so text [] asked split e = absurd (cc)
 write_so text (name ∷ []) asked split e = absurd (cc)
 write_so text (name ∷ mark ∷ words) asked split e =
-    let got = test_some (is_name name && is_same mark (codes ":=")) _ asked e in
-    let parts = and_parts (is_name name) (is_same mark (codes ":=")) got.0 in
+    let got = test_some (is_name name && same_name mark (codes ":=")) _ asked e in
+    let parts = and_parts (is_name name) (same_name mark (codes ":=")) got.0 in
     let expr = map_some (writes name) (sum_of words) asked got.1 in
     let sum = sum_so words expr.0 expr.1 in
     let whole : words_of text ≡ codes "write" ∷ name ∷ codes ":=" ∷ words = split ∙ ap (λ (w : List ℕ). codes "write" ∷ name ∷ w ∷ words) (same_bytes mark (codes ":=") parts.1) in
@@ -295,14 +295,14 @@ write_so text (name ∷ mark ∷ words) asked split e =
 
 in_words_so : (text : List ℕ) (words : List (List ℕ)) (asked : Asked) → words_of text ≡ words → asked_in words ≡ Some asked → SaysQuery asked text
 in_words_so text [] asked split e = absurd (cc)
-in_words_so text (verb ∷ words) asked split e = elim (cases_Bool (is_same verb (codes "read"))) [
+in_words_so text (verb ∷ words) asked split e = elim (cases_Bool (same_name verb (codes "read"))) [
   | inl here ↦ read_so text words asked (split ∙ ap (λ (w : List ℕ). w ∷ words) (same_bytes verb (codes "read") here)) (subst by_read here e)
-  | inr other ↦ let got = test_some (is_same verb (codes "write")) (write_of words) asked (subst by_read other e) in
+  | inr other ↦ let got = test_some (same_name verb (codes "write")) (write_of words) asked (subst by_read other e) in
       write_so text words asked (split ∙ ap (λ (w : List ℕ). w ∷ words) (same_bytes verb (codes "write") got.0)) got.1
 ]
   where
     by_read : Bool → Type 0
-    by_read b = (if b then read_of words else (if is_same verb (codes "write") then write_of words else None)) ≡ Some asked
+    by_read b = (if b then read_of words else (if same_name verb (codes "write") then write_of words else None)) ≡ Some asked
 
 pub query_so : (text : List ℕ) (asked : Asked) → asked_of text ≡ Some asked → SaysQuery asked text
 unfolding asked_of
@@ -312,10 +312,10 @@ pub so_query : (text : List ℕ) (asked : Asked) → SaysQuery asked text → as
 unfolding asked_of read_of write_of
 so_query text (reads item register) (name, (word, spelled, words)) =
     ap asked_in (split_so (codes "read" ∷ item ∷ codes "into" ∷ word ∷ []) text words).split
-    ∙ (test_passes (is_name item && is_same (codes "into") (codes "into")) (option_map (reads item) (register_of word)) (and_from _ _ name refl) ∙ ap (option_map (reads item)) (so_register word register spelled))
+    ∙ (test_passes (is_name item && same_name (codes "into") (codes "into")) (option_map (reads item) (register_of word)) (and_from _ _ name refl) ∙ ap (option_map (reads item)) (so_register word register spelled))
 so_query text (writes item expr) (name, (sum, spelled, words)) =
     ap asked_in (split_so (codes "write" ∷ item ∷ codes ":=" ∷ sum) text words).split
-    ∙ (test_passes (is_name item && is_same (codes ":=") (codes ":=")) (option_map (writes item) (sum_of sum)) (and_from _ _ name refl) ∙ ap (option_map (writes item)) (so_sum expr sum spelled))
+    ∙ (test_passes (is_name item && same_name (codes ":=") (codes ":=")) (option_map (writes item) (sum_of sum)) (and_from _ _ name refl) ∙ ap (option_map (writes item)) (so_sum expr sum spelled))
 
 pub one_query : (text : List ℕ) (one other : Asked) → SaysQuery one text → SaysQuery other text → one ≡ other
 one_query text one other a b = same_Some one other (sym (so_query text one a) ∙ so_query text other b)

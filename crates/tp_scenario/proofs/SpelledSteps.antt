@@ -7,10 +7,12 @@ use Rattle.tp_scenario.specs.declared.command.CountVerb.{CountVerb}
 use Rattle.tp_scenario.specs.declared.command.CountVerb.TheVariants as counting
 use Rattle.tp_scenario.specs.declared.command.NameVerb.{NameVerb}
 use Rattle.tp_scenario.specs.declared.command.NameVerb.TheVariants as verb
-use Rattle.tp_scenario.specs.Names.{is_same}
+use Rattle.tp_model.specs.Ids.{same_name}
 use Rattle.tp_scenario.specs.Spelled.{SaysStep, SpellsNumber, counting_word, naming_word}
 use Rattle.tp_scenario.specs.Steps.{Command, of_name, by_number, push, cut, by_verb, calls_of, command_by, command_in, command_of, count_verb, command_by_count_or, crash_of, crash_by_name, fill_of, cut_with_fill, mail_of, name_verb, one_name, one_number, push_of, push_to, cut_in_mail}
-use Rattle.tp_scenario.specs.Words.{as_name, is_end, is_filled, only, words_of}
+use Rattle.tp_model.specs.Limits.{is_empty}
+use Rattle.tp_model.specs.Queries.{only}
+use Rattle.tp_scenario.specs.Words.{as_name, is_filled, words_of}
 use Rattle.tp_scenario.proofs.KeptQueries.{map_some, test_some, then_some}
 use Rattle.tp_scenario.proofs.SpelledQueries.{name_filled, number_filled, number_so, only_one, same_bytes, so_number, test_passes}
 use Rattle.tp_scenario.proofs.SpelledWords.{split_so, words_so}
@@ -25,24 +27,24 @@ either false found other a P e first second = second e
 naming_so : (word : List ℕ) (kind : NameVerb) → name_verb word ≡ Some kind → word ≡ naming_word kind
 unfolding name_verb
 naming_so word kind e =
-    either (is_same word (codes "submit")) _ _ kind _ e (λ t h. is_word (codes "submit") verb.Submit t h refl)
-    (λ e2. either (is_same word (codes "publish")) _ _ kind _ e2 (λ t h. is_word (codes "publish") verb.Publish t h refl)
-    (λ e3. either (is_same word (codes "revoke")) _ _ kind _ e3 (λ t h. is_word (codes "revoke") verb.Revoke t h refl)
-    (λ e4. either (is_same word (codes "crash")) _ _ kind _ e4 (λ t h. is_word (codes "crash") verb.Crash t h refl)
-    (λ e5. either (is_same word (codes "boot")) _ _ kind _ e5 (λ t h. is_word (codes "boot") verb.Boot t h refl)
-    (λ e6. let got = test_some (is_same word (codes "timer")) (Some verb.Timer) kind e6 in is_word (codes "timer") verb.Timer got.0 got.1 refl)))))
+    either (same_name word (codes "submit")) _ _ kind _ e (λ t h. is_word (codes "submit") verb.Submit t h refl)
+    (λ e2. either (same_name word (codes "publish")) _ _ kind _ e2 (λ t h. is_word (codes "publish") verb.Publish t h refl)
+    (λ e3. either (same_name word (codes "revoke")) _ _ kind _ e3 (λ t h. is_word (codes "revoke") verb.Revoke t h refl)
+    (λ e4. either (same_name word (codes "crash")) _ _ kind _ e4 (λ t h. is_word (codes "crash") verb.Crash t h refl)
+    (λ e5. either (same_name word (codes "boot")) _ _ kind _ e5 (λ t h. is_word (codes "boot") verb.Boot t h refl)
+    (λ e6. let got = test_some (same_name word (codes "timer")) (Some verb.Timer) kind e6 in is_word (codes "timer") verb.Timer got.0 got.1 refl)))))
   where
-    is_word : (text : List ℕ) (given : NameVerb) → is_same word text ≡ true → Some given ≡ Some kind → text ≡ naming_word given → word ≡ naming_word kind
+    is_word : (text : List ℕ) (given : NameVerb) → same_name word text ≡ true → Some given ≡ Some kind → text ≡ naming_word given → word ≡ naming_word kind
     is_word text given t h spelled = same_bytes word text t ∙ (spelled ∙ ap naming_word (same_Some given kind h))
 
 counting_so : (word : List ℕ) (kind : CountVerb) → count_verb word ≡ Some kind → word ≡ counting_word kind
 unfolding count_verb
 counting_so word kind e =
-    either (is_same word (codes "tick")) _ _ kind _ e (λ t h. is_word (codes "tick") counting.Tick t h refl)
-    (λ e2. either (is_same word (codes "deliver")) _ _ kind _ e2 (λ t h. is_word (codes "deliver") counting.Deliver t h refl)
-    (λ e3. let got = test_some (is_same word (codes "lose")) (Some counting.Lose) kind e3 in is_word (codes "lose") counting.Lose got.0 got.1 refl))
+    either (same_name word (codes "tick")) _ _ kind _ e (λ t h. is_word (codes "tick") counting.Tick t h refl)
+    (λ e2. either (same_name word (codes "deliver")) _ _ kind _ e2 (λ t h. is_word (codes "deliver") counting.Deliver t h refl)
+    (λ e3. let got = test_some (same_name word (codes "lose")) (Some counting.Lose) kind e3 in is_word (codes "lose") counting.Lose got.0 got.1 refl))
   where
-    is_word : (text : List ℕ) (given : CountVerb) → is_same word text ≡ true → Some given ≡ Some kind → text ≡ counting_word given → word ≡ counting_word kind
+    is_word : (text : List ℕ) (given : CountVerb) → same_name word text ≡ true → Some given ≡ Some kind → text ≡ counting_word given → word ≡ counting_word kind
     is_word text given t h spelled = same_bytes word text t ∙ (spelled ∙ ap counting_word (same_Some given kind h))
 
 naming_filled : (kind : NameVerb) → is_filled (naming_word kind) ≡ true
@@ -122,7 +124,7 @@ fill_so : (words : List (List ℕ)) (fill : ℕ) → fill_of words ≡ Some fill
 unfolding fill_of
 fill_so [] fill e = absurd (cc)
 fill_so (key ∷ words) fill e =
-    let got = test_some (is_same key (codes "fill")) (one_number words) fill e in
+    let got = test_some (same_name key (codes "fill")) (one_number words) fill e in
     let one = one_number_so words fill got.1 in
     record {
       word = one.word;
@@ -145,7 +147,7 @@ unfolding calls_of
 calls_so name mail [] command e = absurd (cc)
 calls_so name mail (key ∷ []) command e = absurd (cc)
 calls_so name mail (key ∷ calls ∷ words) command e =
-    let got = test_some (is_same key (codes "at")) (cut_with_fill name mail calls (fill_of words)) command e in
+    let got = test_some (same_name key (codes "at")) (cut_with_fill name mail calls (fill_of words)) command e in
     by_fill (same_bytes key (codes "at") got.0) (fill_of words) refl got.1
   where
     by_fill : key ≡ codes "at" → (fill : Option ℕ) → fill_of words ≡ fill → cut_with_fill name mail calls fill ≡ Some command → IsCalls name mail command (key ∷ calls ∷ words)
@@ -169,7 +171,7 @@ unfolding mail_of
 mail_so text name [] command spelled split e = absurd (cc)
 mail_so text name (key ∷ []) command spelled split e = absurd (cc)
 mail_so text name (key ∷ mail ∷ words) command spelled split e =
-    let got = test_some (is_same key (codes "in")) (cut_in_mail name (number_of mail) words) command e in
+    let got = test_some (same_name key (codes "in")) (cut_in_mail name (number_of mail) words) command e in
     by_mail (same_bytes key (codes "in") got.0) (number_of mail) refl got.1
   where
     by_mail : key ≡ codes "in" → (number : Option ℕ) → number_of mail ≡ number → cut_in_mail name number words ≡ Some command → SaysStep command text
@@ -194,7 +196,7 @@ mail_so text name (key ∷ mail ∷ words) command spelled split e =
           },
         )
 
-end_of : (words : List (List ℕ)) → is_end words ≡ true → words ≡ []
+end_of : (words : List (List ℕ)) → is_empty words ≡ true → words ≡ []
 end_of [] e = refl
 end_of (word ∷ words) e = absurd (cc)
 
@@ -203,7 +205,7 @@ unfolding crash_of
 crash_so text [] command split e = absurd (cc)
 crash_so text (name ∷ words) command split e =
     let got = test_some (is_name name) (crash_by_name name words) command e in
-    either (is_end words) (Some (of_name verb.Crash name)) (mail_of name words) command (SaysStep command text) got.1
+    either (is_empty words) (Some (of_name verb.Crash name)) (mail_of name words) command (SaysStep command text) got.1
     (λ t h.
     let whole : words_of text ≡ codes "crash" ∷ name ∷ [] = split ∙ ap (λ (ws : List (List ℕ)). codes "crash" ∷ name ∷ ws) (end_of words t) in
     let all = and_from _ _ refl (and_from _ _ (name_filled name got.0) refl) in
@@ -236,7 +238,7 @@ in_words_so : (text : List ℕ) (words : List (List ℕ)) (command : Command) �
 unfolding command_by
 in_words_so text [] command split e = absurd (cc)
 in_words_so text (word ∷ words) command split e =
-    either (is_same word (codes "push")) (push_of words) (command_by_count_or (count_verb word) (name_verb word) words) command (SaysStep command text) e
+    either (same_name word (codes "push")) (push_of words) (command_by_count_or (count_verb word) (name_verb word) words) command (SaysStep command text) e
     (λ t h. push_so text words command (split ∙ ap (λ (w : List ℕ). w ∷ words) (same_bytes word (codes "push") t)) h)
     (λ h. other_so text word words command (count_verb word) (name_verb word) refl refl split h)
 

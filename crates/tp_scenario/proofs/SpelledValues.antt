@@ -3,14 +3,11 @@ use Rattle.std.proofs.Common.{◌≡◌, ◌↔◌, ℕ, Bool, true, false, List
 use Rattle.std.specs.Prelude.{ok_or}
 use Rattle.serde_json.specs.Data.{Data}
 use Rattle.serde_json.specs.Find.{as_str}
-use Rattle.tp_types.specs.declared.scenario.Actor.{Actor}
-use Rattle.tp_types.specs.declared.scenario.Actor.TheVariants as actor
-use Rattle.tp_types.specs.declared.scenario.Query.{Query}
+use Rattle.tp_model.specs.Words.{Actor, Query, Step, Term}
+use Rattle.tp_model.specs.Words.actor
+use Rattle.tp_model.specs.Words.step
 use Rattle.tp_types.specs.declared.scenario.Query.TheVariants.{Read, Write}
-use Rattle.tp_types.specs.declared.scenario.Step.{Step}
-use Rattle.tp_types.specs.declared.scenario.Step.TheVariants as step
-use Rattle.tp_types.specs.declared.scenario.Term.{Term}
-use Rattle.tp_model.specs.Limits.{is_from_to}
+use Rattle.tp_model.specs.Limits.{is_from_to, tick_limit}
 use Rattle.tp_scenario.specs.declared.command.CountVerb.TheVariants as counting
 use Rattle.tp_scenario.specs.declared.command.NameVerb.{NameVerb}
 use Rattle.tp_scenario.specs.declared.command.NameVerb.TheVariants as verb
@@ -143,7 +140,7 @@ command_so : (path : Path) (names : Declared) (command : Command) (made : Step) 
 unfolding counted_step push_step cut_step
 command_so path names (of_name kind name) made text says e = named_step_so path names kind name made text says e
 command_so path names (by_number counting.Tick number) made text says e =
-    let got = test_ok (is_from_to 1 1000000 number) (step.Tick number) made (range path) e in
+    let got = test_ok (is_from_to 1 tick_limit number) (step.Tick number) made (range path) e in
     subst (λ (s : Step). IsStep names s text) got.1 (got.0, says)
 command_so path names (by_number counting.Deliver number) made text says e = subst (λ (s : Step). IsStep names s text) (ok_same (step.Deliver number) made e) says
 command_so path names (by_number counting.Lose number) made text says e = subst (λ (s : Step). IsStep names s text) (ok_same (step.Lose number) made e) says
@@ -194,7 +191,7 @@ so_command path names (step.Revoke cred) text (name, place, says) = record {
   says = says;
   gives = ap (λ (r : Result ℕ Fault). r >>= λ p. Ok (step.Revoke (record { 0 = p }))) (so_place path names.creds name cred.0 place);
 }
-so_command path names (step.Tick by) text (within, says) = record { command = by_number counting.Tick by; says = says; gives = passes (is_from_to 1 1000000 by) (Ok (step.Tick by)) (range path) within }
+so_command path names (step.Tick by) text (within, says) = record { command = by_number counting.Tick by; says = says; gives = passes (is_from_to 1 tick_limit by) (Ok (step.Tick by)) (range path) within }
 so_command path names (step.Deliver mail) text says = record { command = by_number counting.Deliver mail; says = says; gives = refl }
 so_command path names (step.Lose mail) text says = record { command = by_number counting.Lose mail; says = says; gives = refl }
 so_command path names (step.Crash who None) text (name, is_actor, says) = record {

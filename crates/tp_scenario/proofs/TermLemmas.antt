@@ -1,7 +1,7 @@
 -- The terms of a sum, taken one by one.
 use Rattle.std.proofs.Common.{◌≡◌, ℕ, List, [], ◌∷◌, ◌++◌, Some, sym, ap, ◌∙◌}
 use Rattle.std.specs.Prelude.{option_and_then}
-use Rattle.tp_types.specs.declared.scenario.Term.{Term}
+use Rattle.tp_model.specs.Words.{Term}
 use Rattle.tp_scenario.specs.Queries.{signed_term, terms_after}
 
 -- a sign and its term are taken

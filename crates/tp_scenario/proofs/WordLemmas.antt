@@ -1,7 +1,8 @@
 -- The words of a text, taken one by one.
 use Rattle.std.proofs.Common.{◌≡◌, inl, inr, ℕ, suc, Bool, true, false, List, [], ◌∷◌, take, drop, refl, sym, ap, ◌∙◌, if◌then◌else◌}
 use Rattle.std.proofs.lemmas.Bool.{cases_Bool}
-use Rattle.tp_scenario.specs.Words.{behind_word, is_end, is_space, reach, skip_spaces, with_byte, with_space, words_behind, words_of}
+use Rattle.tp_model.specs.Limits.{is_empty}
+use Rattle.tp_scenario.specs.Words.{behind_word, is_space, reach, skip_spaces, with_byte, with_space, words_behind, words_of}
 
 -- the first word, and the others
 pub record HasFirst (words : List (List ℕ)) : Type 0 where
@@ -66,5 +67,5 @@ word_taken (byte ∷ bytes) = by_space byte bytes (is_space byte) refl (word_tak
     by_space byte bytes true here h = space_words byte bytes here ∙ (skipped_words bytes ∙ ap (λ (b : Bool). [] ∷ words_of (if b then skip_spaces bytes else byte ∷ bytes)) (sym here))
     by_space byte bytes false other h = byte_words byte bytes other ∙ ap (with_byte byte) h
 
-pub some_left : (text : List ℕ) → is_end (words_of text) ≡ false
-some_left text = let first = has_first text in ap is_end first.parts
+pub some_left : (text : List ℕ) → is_empty (words_of text) ≡ false
+some_left text = let first = has_first text in ap is_empty first.parts

@@ -4,9 +4,8 @@ use Rattle.serde_json.specs.Data.{Data}
 use Rattle.serde_json.specs.Find.{as_str}
 use Rattle.tp_types.specs.declared.policy.Value.{Value as CredValue}
 use Rattle.tp_types.specs.declared.policy.Value.TheVariants.{Number, Word}
-use Rattle.tp_types.specs.declared.scenario.Credential.{Credential}
-use Rattle.tp_model.specs.Limits.{number_limit}
-use Rattle.tp_model.specs.Valid.{clock_limit}
+use Rattle.tp_model.specs.Words.{Credential}
+use Rattle.tp_model.specs.Limits.{clock_limit, creds_limit, number_limit}
 use Rattle.tp_scenario.specs.declared.fault.Fault.{Fault}
 use Rattle.tp_scenario.specs.declared.path.Key.TheVariants.{Credentials, Name, Issuer, Subject, Attr, Value, From, Until}
 use Rattle.tp_scenario.specs.declared.path.Path.{Path}
@@ -63,5 +62,5 @@ cred_in made d = cred_at (map cred_name made) (length made) d
 -- at most 256 credentials
 unfoldable pub creds_at : Option Data → Result (List Credential) Fault
 creds_at value = do
-  creds ← items_or (Top Credentials) 256 value
+  creds ← items_or (Top Credentials) creds_limit value
   each cred_in [] creds

@@ -1,19 +1,13 @@
 -- Forms of a scenario that are not built yet, in the order in which the scenario is read. This list shrinks as more is built, and ends
 -- with it.
 use Rattle.std.specs.Prelude.{ℕ, ◌+◌, List, [], ◌∷◌, Bool, not, if◌then◌else◌, Option, Some, None, option_map}
-use Rattle.tp_types.specs.declared.scenario.Scenario.{Scenario}
-use Rattle.tp_types.specs.declared.scenario.Step.{Step}
-use Rattle.tp_types.specs.declared.scenario.Transaction.{Transaction}
+use Rattle.std.specs.Option.{option_or}
+use Rattle.tp_model.specs.Words.{Scenario, Step, Transaction}
 use Rattle.tp_model.specs.Stage.{delivered_after, is_deferred, is_plain_step, is_view}
 use Rattle.tp_scenario.specs.declared.path.Key.TheVariants.{Transactions, Scheme, Level, Steps}
 use Rattle.tp_scenario.specs.declared.path.Path.TheVariants.{Member, Field}
 use Rattle.tp_scenario.specs.declared.path.Site.{Site}
 use Rattle.tp_scenario.specs.declared.path.Site.TheVariants.{At}
-
--- the first of two
-abbrev pub or_else : Option Site → Option Site → Option Site
-or_else (Some site) later = Some site
-or_else None later = later
 
 -- ---- transactions
 
@@ -27,7 +21,7 @@ txn_form at txn =
 -- in the first transaction that has one, where the first of all has this number
 abbrev pub txns_form : ℕ → List Transaction → Option Site
 txns_form at [] = None
-txns_form at (txn ∷ txns) = or_else (txn_form at txn) (txns_form (at + 1) txns)
+txns_form at (txn ∷ txns) = option_or (txn_form at txn) (txns_form (at + 1) txns)
 
 -- ---- steps
 
@@ -54,4 +48,4 @@ listed_form sc = option_map step_site (steps_form [] 0 sc.steps)
 
 -- the first place at which a form stands that is not built
 unfoldable pub first_form : Scenario → Option Site
-first_form sc = or_else (txns_form 0 sc.txns) (listed_form sc)
+first_form sc = option_or (txns_form 0 sc.txns) (listed_form sc)

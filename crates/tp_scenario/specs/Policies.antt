@@ -1,6 +1,6 @@
 -- The one answer that a policy's text has.
 use Rattle.std.specs.Prelude.{ℕ, List, Result}
-use Rattle.tp_types.specs.declared.policy.Policy.{Policy}
+use Rattle.tp_model.specs.Words.{Policy}
 use Rattle.tp_policy_text.specs.declared.parsing.ParseError.{ParseError}
 use Rattle.tp_policy_text.specs.Parses.{Answers}
 use Rattle.tp_policy_text.proofs.AnswerLaws.{has_answer}

@@ -4,18 +4,19 @@ use Rattle.std.specs.List.{count_by}
 use Rattle.serde_json.specs.Data.{Data}
 use Rattle.tp_types.specs.Spelling.{is_name, number_of}
 use Rattle.tp_types.specs.declared.scenario.Operand.TheVariants.{Constant, Register}
-use Rattle.tp_types.specs.declared.scenario.Query.{Query}
+use Rattle.tp_model.specs.Words.{Query, Term}
 use Rattle.tp_types.specs.declared.scenario.Query.TheVariants.{Read, Write}
-use Rattle.tp_types.specs.declared.scenario.Term.{Term}
-use Rattle.tp_model.specs.Limits.{is_from_to}
+use Rattle.tp_model.specs.Limits.{is_from_to, terms_limit}
 use Rattle.tp_model.specs.Valid.{has_constant}
 use Rattle.tp_scenario.specs.declared.fault.Fault.{Fault}
 use Rattle.tp_scenario.specs.declared.path.Path.{Path}
 use Rattle.tp_scenario.specs.Chain.{◌>>=◌}
 use Rattle.tp_scenario.specs.Faults.{range, shape}
-use Rattle.tp_scenario.specs.Names.{Names, is_same}
+use Rattle.tp_model.specs.Ids.{same_name}
+use Rattle.tp_scenario.specs.Names.{Names}
 use Rattle.tp_scenario.specs.Values.{place_or_unknown, text_at}
-use Rattle.tp_scenario.specs.Words.{only, words_of}
+use Rattle.tp_model.specs.Queries.{only}
+use Rattle.tp_scenario.specs.Words.{words_of}
 
 -- ---- terms
 
@@ -52,8 +53,8 @@ first_term (byte ∷ bytes) =
 -- a sign: `-` takes the next term away
 unfoldable pub sign_of : List ℕ → Option Bool
 sign_of word =
-    if is_same word (codes "+") then Some false
-    else (if is_same word (codes "-") then Some true else None)
+    if same_name word (codes "+") then Some false
+    else (if same_name word (codes "-") then Some true else None)
 
 -- a sign, and the term behind it
 unfoldable pub signed_term : List ℕ → List ℕ → Option Term
@@ -81,21 +82,21 @@ unfoldable pub read_of : List (List ℕ) → Option Asked
 read_of [] = None
 read_of (name ∷ []) = None
 read_of (name ∷ into ∷ words) =
-    if is_name name && is_same into (codes "into")
+    if is_name name && same_name into (codes "into")
     then option_map (reads name) (option_and_then register_of (only words))
     else None
 
 -- `ITEM := TERM` and further terms
 unfoldable pub write_of : List (List ℕ) → Option Asked
 write_of (name ∷ sign ∷ words) =
-    if is_name name && is_same sign (codes ":=") then option_map (writes name) (sum_of words)
+    if is_name name && same_name sign (codes ":=") then option_map (writes name) (sum_of words)
     else None
 write_of _ = None
 
 abbrev pub asked_by : List ℕ → List (List ℕ) → Option Asked
 asked_by verb words =
-    if is_same verb (codes "read") then read_of words
-    else (if is_same verb (codes "write") then write_of words else None)
+    if same_name verb (codes "read") then read_of words
+    else (if same_name verb (codes "write") then write_of words else None)
 
 abbrev pub asked_in : List (List ℕ) → Option Asked
 asked_in [] = None
@@ -109,7 +110,7 @@ asked_of text = asked_in (words_of text)
 
 -- at most five terms, and at most one constant
 abbrev pub is_short : List Term → Bool
-is_short expr = nat_le (length expr) 5 && nat_le (count_by has_constant expr) 1
+is_short expr = nat_le (length expr) terms_limit && nat_le (count_by has_constant expr) 1
 
 unfoldable pub read_from : Path → Names → List ℕ → ℕ → Result Query Fault
 read_from path items name register = do

@@ -3,10 +3,9 @@ use Rattle.std.specs.Prelude.{ℕ, zero, suc, ◌-◌, ◌||◌, List, [], ◌�
 use Rattle.std.specs.List.{list_any}
 use Rattle.std.specs.Option.{option_map_or}
 use Rattle.serde_json.specs.Data.{Data}
-use Rattle.tp_types.specs.declared.ids.TxnId.{TxnId}
-use Rattle.tp_types.specs.declared.scenario.Admin.{Admin}
-use Rattle.tp_types.specs.declared.scenario.Step.{Step}
-use Rattle.tp_types.specs.declared.scenario.Step.TheVariants as step
+use Rattle.tp_model.specs.Words.{Admin, Step, TxnId}
+use Rattle.tp_model.specs.Limits.{clients_limit, officers_limit, publishers_limit, steps_limit}
+use Rattle.tp_model.specs.Words.step
 use Rattle.tp_model.specs.Ids.{same_txn}
 use Rattle.tp_scenario.specs.declared.command.CountVerb.TheVariants.{Tick}
 use Rattle.tp_scenario.specs.declared.command.NameVerb.TheVariants.{Publish, Revoke}
@@ -53,7 +52,7 @@ client_at txns earlier d = do
 -- at most 16 clients
 unfoldable pub clients_at : Names → Option Data → Result (List (List TxnId)) Fault
 clients_at txns value = do
-  scripts ← items_or (Top Clients) 16 value
+  scripts ← items_or (Top Clients) clients_limit value
   each (client_at txns) [] scripts
 
 -- ---- publishers
@@ -106,7 +105,7 @@ versions_left admin = length admin.library - admin.opening.0
 
 unfoldable pub publishing_from : Declared → List Admin → Option Data → Result Publishing Fault
 publishing_from names admins value = do
-  scripts ← items_or (Top Publishers) 8 value
+  scripts ← items_or (Top Publishers) publishers_limit value
   through (publisher_at names) (record { scripts = []; left = map versions_left admins }) scripts
 
 -- at most 8 publishers, who publish no more versions together than are left
@@ -135,11 +134,11 @@ official_step_in names at made d = official_step_at (Line Officers at (length ma
 
 unfoldable pub officer_at : Declared → List (List Step) → Data → Result (List Step) Fault
 officer_at names earlier d = do
-  steps ← items_at (Member Officers (length earlier)) 0 100000 (Some d)
+  steps ← items_at (Member Officers (length earlier)) 0 steps_limit (Some d)
   each (official_step_in names (length earlier)) [] steps
 
 -- at most 8 officers
 unfoldable pub officers_at : Declared → Option Data → Result (List (List Step)) Fault
 officers_at names value = do
-  scripts ← items_or (Top Officers) 8 value
+  scripts ← items_or (Top Officers) officers_limit value
   each (officer_at names) [] scripts

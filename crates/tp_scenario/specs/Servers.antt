@@ -4,12 +4,8 @@ use Rattle.std.specs.Option.{option_map_or}
 use Rattle.serde_json.specs.Data.{Data, Members, no_members, member}
 use Rattle.serde_json.specs.Find.{as_object}
 use Rattle.tp_types.specs.Spelling.{is_name}
-use Rattle.tp_types.specs.declared.ids.ItemId.{ItemId}
-use Rattle.tp_types.specs.declared.ids.Version.{Version}
-use Rattle.tp_types.specs.declared.scenario.Admin.{Admin}
-use Rattle.tp_types.specs.declared.scenario.Item.{Item}
-use Rattle.tp_types.specs.declared.scenario.ServerDecl.{ServerDecl}
-use Rattle.tp_model.specs.Limits.{value_limit}
+use Rattle.tp_model.specs.Words.{Admin, Item, ItemId, ServerDecl, Version}
+use Rattle.tp_model.specs.Limits.{items_limit, servers_limit, value_limit}
 use Rattle.tp_scenario.specs.declared.fault.Fault.{Fault}
 use Rattle.tp_scenario.specs.declared.fault.Kind.TheVariants as kind
 use Rattle.tp_scenario.specs.declared.path.Key.TheVariants.{Servers, Name, Knows, Items as ItemsKey, Admin as AdminKey, Min, Max, Value}
@@ -40,8 +36,8 @@ version_at server text opening d =
     with_site (key_site server text) (count_at Whole 1 opening (Some d))
     >>= λ count. Ok (record { 0 = count })
 
-abbrev pub opening_of : List Admin → ℕ → ℕ
-opening_of admins place = option_map_or (λ admin. admin.opening.0) (slice_get admins place) 0
+abbrev pub opening_number : List Admin → ℕ → ℕ
+opening_number admins place = option_map_or (λ admin. admin.opening.0) (slice_get admins place) 0
 
 -- a key names an administrator
 unfoldable pub key_at : Names → ℕ → List ℕ → Result ℕ Fault
@@ -53,7 +49,7 @@ unfoldable pub known_at : List Admin → ℕ → List Version → List ℕ → D
     → Result (List Version) Fault
 known_at admins server versions text d = do
   place ← key_at (map admin_name admins) server text
-  version ← version_at server text (opening_of admins place) d
+  version ← version_at server text (opening_number admins place) d
   Ok (slice_set versions place version)
 
 -- the keys in byte order
@@ -118,7 +114,7 @@ server_name server = server.name
 -- the items of a server after those of earlier ones, at most 64
 unfoldable pub items_in : Names → ℕ → List Item → Option Data → Result (List Item) Fault
 items_in admins server items value = do
-  values ← items_at (Field Servers server ItemsKey) 0 64 value
+  values ← items_at (Field Servers server ItemsKey) 0 items_limit value
   each (item_in admins server (length items)) items values
 
 -- the next server and its items
@@ -147,5 +143,5 @@ nothing_served = record { servers = []; items = [] }
 -- 1 to 16 servers
 unfoldable pub servers_at : List Admin → Option Data → Result Served Fault
 servers_at admins value = do
-  servers ← items_at (Top Servers) 1 16 value
+  servers ← items_at (Top Servers) 1 servers_limit value
   through (server_in admins) nothing_served servers

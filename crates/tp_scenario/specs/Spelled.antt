@@ -5,16 +5,12 @@ use Rattle.std.specs.List.{list_all}
 use Rattle.serde_json.specs.Data.{Data}
 use Rattle.serde_json.specs.Find.{as_str}
 use Rattle.tp_types.specs.Spelling.{IsName, is_number, spelled_from}
-use Rattle.tp_types.specs.declared.scenario.Actor.{Actor}
-use Rattle.tp_types.specs.declared.scenario.Actor.TheVariants as actor
-use Rattle.tp_types.specs.declared.scenario.Operand.{Operand}
+use Rattle.tp_model.specs.Words.{Actor, Operand, Query, Step, Term}
+use Rattle.tp_model.specs.Words.actor
+use Rattle.tp_model.specs.Words.step
 use Rattle.tp_types.specs.declared.scenario.Operand.TheVariants.{Constant, Register}
-use Rattle.tp_types.specs.declared.scenario.Query.{Query}
 use Rattle.tp_types.specs.declared.scenario.Query.TheVariants.{Read, Write}
-use Rattle.tp_types.specs.declared.scenario.Step.{Step}
-use Rattle.tp_types.specs.declared.scenario.Step.TheVariants as step
-use Rattle.tp_types.specs.declared.scenario.Term.{Term}
-use Rattle.tp_model.specs.Limits.{is_from_to}
+use Rattle.tp_model.specs.Limits.{is_from_to, registers_limit, tick_limit}
 use Rattle.tp_scenario.specs.declared.command.CountVerb.{CountVerb}
 use Rattle.tp_scenario.specs.declared.command.CountVerb.TheVariants as counting
 use Rattle.tp_scenario.specs.declared.command.NameVerb.{NameVerb}
@@ -57,7 +53,7 @@ pub record SpellsNumber (number : ℕ) (word : List ℕ) : Type 0 where
 -- the word is `r` and a digit from 1 to 9
 pub record SpellsRegister (register : ℕ) (word : List ℕ) : Type 0 where
   pub least : 1 ≤ register
-  pub most : register ≤ 9
+  pub most : register ≤ registers_limit
   pub word_is : word ≡ codes "r" ++ (48 + register) ∷ []
 
 -- ---- sums
@@ -183,7 +179,7 @@ IsStep names (step.Revoke cred) text =
     (name : List ℕ) × (place_of name names.creds ≡ Some cred.0)
     × SaysStep (of_name verb.Revoke name) text
 IsStep names (step.Tick by) text =
-    (is_from_to 1 1000000 by ≡ true) × SaysStep (by_number counting.Tick by) text
+    (is_from_to 1 tick_limit by ≡ true) × SaysStep (by_number counting.Tick by) text
 IsStep names (step.Deliver mail) text = SaysStep (by_number counting.Deliver mail) text
 IsStep names (step.Lose mail) text = SaysStep (by_number counting.Lose mail) text
 IsStep names (step.Crash who None) text =

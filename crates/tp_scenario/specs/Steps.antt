@@ -2,11 +2,10 @@
 use Rattle.std.specs.Prelude.{ℕ, ◌&&◌, nat_le, List, [], ◌∷◌, length, Bool, if◌then◌else◌, Option, Some, None, option_map, option_and_then, Result, Ok, Err, ok_or, codes}
 use Rattle.serde_json.specs.Data.{Data}
 use Rattle.tp_types.specs.Spelling.{is_name, number_of}
-use Rattle.tp_types.specs.declared.scenario.Actor.{Actor}
-use Rattle.tp_types.specs.declared.scenario.Actor.TheVariants as actor
-use Rattle.tp_types.specs.declared.scenario.Step.{Step}
-use Rattle.tp_types.specs.declared.scenario.Step.TheVariants as step
-use Rattle.tp_model.specs.Limits.{is_from_to}
+use Rattle.tp_model.specs.Words.{Actor, Step}
+use Rattle.tp_model.specs.Words.actor
+use Rattle.tp_model.specs.Words.step
+use Rattle.tp_model.specs.Limits.{calls_limit, is_empty, is_from_to, steps_limit, tick_limit}
 use Rattle.tp_scenario.specs.declared.fault.Fault.{Fault}
 use Rattle.tp_scenario.specs.declared.names.Declared.{Declared}
 use Rattle.tp_scenario.specs.declared.path.Key.TheVariants.{Steps}
@@ -18,9 +17,11 @@ use Rattle.tp_scenario.specs.declared.command.NameVerb.{NameVerb}
 use Rattle.tp_scenario.specs.declared.command.NameVerb.TheVariants as verb
 use Rattle.tp_scenario.specs.Chain.{◌>>=◌}
 use Rattle.tp_scenario.specs.Faults.{range, shape}
-use Rattle.tp_scenario.specs.Names.{is_same, place_of}
+use Rattle.tp_model.specs.Ids.{same_name}
+use Rattle.tp_scenario.specs.Names.{place_of}
 use Rattle.tp_scenario.specs.Values.{each, items_or, place_or_unknown, text_at}
-use Rattle.tp_scenario.specs.Words.{as_name, is_end, only, words_of}
+use Rattle.tp_model.specs.Queries.{only}
+use Rattle.tp_scenario.specs.Words.{as_name, words_of}
 
 -- ---- steps as they are spelled
 
@@ -33,19 +34,19 @@ pub data Command : Type 0 where
 -- the verbs that a name follows
 unfoldable pub name_verb : List ℕ → Option NameVerb
 name_verb word =
-    if is_same word (codes "submit") then Some verb.Submit
-    else (if is_same word (codes "publish") then Some verb.Publish
-    else (if is_same word (codes "revoke") then Some verb.Revoke
-    else (if is_same word (codes "crash") then Some verb.Crash
-    else (if is_same word (codes "boot") then Some verb.Boot
-    else (if is_same word (codes "timer") then Some verb.Timer else None)))))
+    if same_name word (codes "submit") then Some verb.Submit
+    else (if same_name word (codes "publish") then Some verb.Publish
+    else (if same_name word (codes "revoke") then Some verb.Revoke
+    else (if same_name word (codes "crash") then Some verb.Crash
+    else (if same_name word (codes "boot") then Some verb.Boot
+    else (if same_name word (codes "timer") then Some verb.Timer else None)))))
 
 -- the verbs that a number follows
 unfoldable pub count_verb : List ℕ → Option CountVerb
 count_verb word =
-    if is_same word (codes "tick") then Some counting.Tick
-    else (if is_same word (codes "deliver") then Some counting.Deliver
-    else (if is_same word (codes "lose") then Some counting.Lose else None))
+    if same_name word (codes "tick") then Some counting.Tick
+    else (if same_name word (codes "deliver") then Some counting.Deliver
+    else (if same_name word (codes "lose") then Some counting.Lose else None))
 
 -- exactly one word, which is spelled as a name
 abbrev pub one_name : List (List ℕ) → Option (List ℕ)
@@ -67,7 +68,7 @@ push_of (admin ∷ words) = push_to admin (one_name words)
 -- `fill F`
 unfoldable pub fill_of : List (List ℕ) → Option ℕ
 fill_of [] = None
-fill_of (key ∷ words) = if is_same key (codes "fill") then one_number words else None
+fill_of (key ∷ words) = if same_name key (codes "fill") then one_number words else None
 
 -- `at C fill F`
 abbrev pub cut_with_fill : List ℕ → ℕ → List ℕ → Option ℕ → Option Command
@@ -78,7 +79,7 @@ unfoldable pub calls_of : List ℕ → ℕ → List (List ℕ) → Option Comman
 calls_of name mail [] = None
 calls_of name mail (key ∷ []) = None
 calls_of name mail (key ∷ calls ∷ words) =
-    if is_same key (codes "at") then cut_with_fill name mail calls (fill_of words) else None
+    if same_name key (codes "at") then cut_with_fill name mail calls (fill_of words) else None
 
 -- `in K at C fill F`
 abbrev pub cut_in_mail : List ℕ → Option ℕ → List (List ℕ) → Option Command
@@ -89,12 +90,12 @@ unfoldable pub mail_of : List ℕ → List (List ℕ) → Option Command
 mail_of name [] = None
 mail_of name (key ∷ []) = None
 mail_of name (key ∷ mail ∷ words) =
-    if is_same key (codes "in") then cut_in_mail name (number_of mail) words else None
+    if same_name key (codes "in") then cut_in_mail name (number_of mail) words else None
 
 -- `ACTOR`, or `ACTOR in K at C fill F`
 abbrev pub crash_by_name : List ℕ → List (List ℕ) → Option Command
 crash_by_name name words =
-    if is_end words then Some (of_name verb.Crash name) else mail_of name words
+    if is_empty words then Some (of_name verb.Crash name) else mail_of name words
 
 unfoldable pub crash_of : List (List ℕ) → Option Command
 crash_of [] = None
@@ -115,7 +116,7 @@ command_by_count_or None other words = command_by_name other words
 
 unfoldable pub command_by : List ℕ → List (List ℕ) → Option Command
 command_by word words =
-    if is_same word (codes "push") then push_of words
+    if same_name word (codes "push") then push_of words
     else command_by_count_or (count_verb word) (name_verb word) words
 
 abbrev pub command_in : List (List ℕ) → Option Command
@@ -170,7 +171,7 @@ named_step path names verb.Timer name = do
 -- the step of a verb and a number: the clock moves by 1 to 1,000,000
 unfoldable pub counted_step : Path → CountVerb → ℕ → Result Step Fault
 counted_step path counting.Tick number =
-    if is_from_to 1 1000000 number then Ok (step.Tick number) else Err (range path)
+    if is_from_to 1 tick_limit number then Ok (step.Tick number) else Err (range path)
 counted_step path counting.Deliver number = Ok (step.Deliver number)
 counted_step path counting.Lose number = Ok (step.Lose number)
 
@@ -182,7 +183,7 @@ push_step path names admin server = do
 
 -- an append has four device calls, and a fill is a byte
 abbrev pub is_cut : ℕ → ℕ → Bool
-is_cut calls fill = nat_le calls 4 && nat_le fill 255
+is_cut calls fill = nat_le calls calls_limit && nat_le fill 255
 
 unfoldable pub cut_step : Path → Declared → List ℕ → ℕ → ℕ → ℕ → Result Step Fault
 cut_step path names name mail calls fill = do
@@ -211,5 +212,5 @@ step_in names made d = step_at names (Member Steps (length made)) d
 -- at most 100,000 steps are listed
 unfoldable pub steps_at : Declared → Option Data → Result (List Step) Fault
 steps_at names value = do
-  steps ← items_or (Top Steps) 100000 value
+  steps ← items_or (Top Steps) steps_limit value
   each (step_in names) [] steps

@@ -10,7 +10,8 @@ use Rattle.tp_scenario.specs.declared.path.Key.{Key}
 use Rattle.tp_scenario.specs.declared.path.Path.{Path}
 use Rattle.tp_scenario.specs.Chain.{◌>>=◌}
 use Rattle.tp_scenario.specs.Faults.{shape, range, unknown}
-use Rattle.tp_scenario.specs.Names.{Names, is_same, place_of}
+use Rattle.tp_model.specs.Ids.{same_name}
+use Rattle.tp_scenario.specs.Names.{Names, place_of}
 use Rattle.tp_scenario.specs.Paths.{key_text}
 
 -- ---- objects
@@ -23,7 +24,7 @@ abbrev pub has : Data → Key → Bool
 has d key = is_some (field key d)
 
 abbrev pub is_spelled : List ℕ → Key → Bool
-is_spelled text key = is_same text (key_text key)
+is_spelled text key = same_name text (key_text key)
 
 -- the text is one of these keys
 abbrev pub is_key : List Key → List ℕ → Bool
@@ -40,15 +41,15 @@ has_only keys (Some members) = have_keys keys members
 
 -- an object that has no other key than the needed ones and these, and every needed one
 unfoldable pub object_at : Path → List Key → List Key → Data → Result Data Fault
-object_at path needed others d =
-    if has_only (needed ++ others) (as_object d) && list_all (has d) needed then Ok d
+object_at path present_at others d =
+    if has_only (present_at ++ others) (as_object d) && list_all (has d) present_at then Ok d
     else Err (shape path)
 
 -- ---- values that are there or not
 
 -- the value that is needed; after the test of its object none is missing
-unfoldable pub needed : Path → Option Data → Result Data Fault
-needed path value = ok_or value (shape path)
+unfoldable pub present_at : Path → Option Data → Result Data Fault
+present_at path value = ok_or value (shape path)
 
 -- a text
 unfoldable pub text_at : Path → Option Data → Result (List ℕ) Fault

@@ -2,11 +2,8 @@
 -- next one.
 use Rattle.std.specs.Prelude.{List, [], ◌∷◌, Result, Ok, map}
 use Rattle.serde_json.specs.Data.{Data}
-use Rattle.tp_types.specs.declared.scenario.Admin.{Admin}
-use Rattle.tp_types.specs.declared.scenario.Credential.{Credential}
-use Rattle.tp_types.specs.declared.scenario.Scenario.{Scenario}
-use Rattle.tp_types.specs.declared.scenario.Transaction.{Transaction}
-use Rattle.tp_model.specs.Valid.{clock_limit}
+use Rattle.tp_model.specs.Words.{Admin, Credential, Scenario, Transaction}
+use Rattle.tp_model.specs.Limits.{clock_limit}
 use Rattle.tp_scenario.specs.declared.fault.Fault.{Fault}
 use Rattle.tp_scenario.specs.declared.names.Declared.{Declared}
 use Rattle.tp_scenario.specs.declared.path.Key.TheVariants.{Admins, Clock, Credentials, Servers, Transactions, Steps, Clients, Publishers, Officers}

@@ -1,5 +1,7 @@
 -- Texts of words: one or more spaces stand between two words, and none at the ends.
 use Rattle.std.specs.Prelude.{ℕ, suc, ◌==◌, List, [], ◌∷◌, Bool, true, false, not, if◌then◌else◌, Option, Some, None}
+use Rattle.tp_model.specs.Queries.{only}
+use Rattle.tp_model.specs.Limits.{is_empty}
 use Rattle.tp_types.specs.Spelling.{is_name}
 
 abbrev pub is_space : ℕ → Bool
@@ -43,16 +45,6 @@ skip_spaces (byte ∷ bytes) = if is_space byte then skip_spaces bytes else byte
 -- the word, where it is spelled as a name
 abbrev pub as_name : List ℕ → Option (List ℕ)
 as_name word = if is_name word then Some word else None
-
-abbrev pub is_end : List (List ℕ) → Bool
-is_end [] = true
-is_end (word ∷ words) = false
-
--- the one word that there is; nothing where there is none, or another
-abbrev pub only : List (List ℕ) → Option (List ℕ)
-only [] = None
-only (word ∷ []) = Some word
-only (word ∷ other ∷ words) = None
 
 -- what stands behind a word: nothing, or what stands behind some spaces
 abbrev pub behind_word : List ℕ → Option (List ℕ)

@@ -15,6 +15,7 @@ use crate::path::{Key, Path};
 use crate::values::{count_or, items_at, new_name_at, text_at};
 use serde_json::Value;
 use std::alloc::Global;
+use tp_model::{ADMINS_MAX, VERSIONS_MAX};
 use tp_policy_text::{ParseError, parse};
 use tp_types::{Admin, List, Policy, Version, both};
 
@@ -26,7 +27,7 @@ fn answer_of(alloc: Global, text: &[u8]) -> Result<Policy, ParseError>
 }
 
 fn policy_said(alloc: Global, path: Path, text: &[u8]) -> Result<Policy, WalkError>
-    ensures { Gives result (admins.said path (policy_answer text.now)) }
+    ensures { Gives result (admins.policy_or_fault path (policy_answer text.now)) }
 {
     match answer_of(alloc, text) {
         Ok(policy) => Ok(policy),
@@ -35,9 +36,9 @@ fn policy_said(alloc: Global, path: Path, text: &[u8]) -> Result<Policy, WalkErr
     }
 }
 
-#[tactic(auto, unfolding(crate::specs::Admins::policy_at))]
+#[tactic(auto, unfolding(crate::specs::Admins::policy_text_at))]
 fn policy_at(alloc: Global, path: Path, value: &Value) -> Result<Policy, WalkError>
-    ensures { Gives result (admins.policy_at path (view value.now)) }
+    ensures { Gives result (admins.policy_text_at path (view value.now)) }
 {
     let text = text_at(path, Some(value))?;
     policy_said(alloc, path, text)
@@ -61,7 +62,12 @@ fn policies_at(alloc: Global, at: usize, value: Option<&Value>) -> Result<List<P
         (admins.policies_at at (option_map (λ v. view v.now) value.entry)) }
     ensures few { IfOk result (λ made. length made ≤ 64) }
 {
-    let texts = items_at(Path::Field(Key::Admins, at, Key::Policies), 1, 64, value)?;
+    let texts = items_at(
+        Path::Field(Key::Admins, at, Key::Policies),
+        1,
+        VERSIONS_MAX,
+        value,
+    )?;
     each_policy(alloc, at, texts)
 }
 
@@ -146,6 +152,6 @@ pub(crate) fn admins_at<'a>(
     ensures value { Gives result (admins.admins_at (option_map (λ v. view v.now) value.entry)) }
     ensures named { IfOk result (λ made. names.new ≡ map admins.admin_name made) }
 {
-    let values = items_at(Path::Top(Key::Admins), 1, 16, value)?;
+    let values = items_at(Path::Top(Key::Admins), 1, ADMINS_MAX, value)?;
     each_admin(alloc, names, values)
 }

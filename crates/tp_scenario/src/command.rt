@@ -8,11 +8,10 @@ ghost use Rattle.tp_scenario.specs.mirrors.Gives.{GivesAs};
 
 use crate::fault::{WalkError, shape_at};
 use crate::path::Path;
-use crate::spelling::is_name;
 use crate::values::text_at;
 use crate::words::Words;
 use serde_json::Value;
-use tp_types::number_of;
+use tp_types::{is_name, number_of};
 
 /// A verb that a name follows.
 #[derive(Clone, Copy)]

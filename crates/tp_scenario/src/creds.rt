@@ -16,13 +16,8 @@ use crate::path::{Key, Path};
 use crate::values::{count_or, items_or, name_at, new_name_at, whole_in};
 use serde_json::Value as Json;
 use std::alloc::Global;
+use tp_model::{CLOCK_MAX, CREDS_MAX, NUMBER_MAX};
 use tp_types::{Credential, List, Name, Value, both};
-
-/// The greatest number that is spelled: 15 digits.
-const NUMBER_MAX: i64 = 999_999_999_999_999;
-
-/// The last time that an interval may name.
-const CLOCK_MAX: u64 = 1_000_000_000_000;
 
 fn is_text(value: Option<&Json>) -> bool
     ensures { result ≡ creds.is_text (option_map (λ v. view v.now) value.entry) }
@@ -160,6 +155,6 @@ pub(crate) fn creds_at<'a>(
     ensures value { Gives result (creds.creds_at (option_map (λ v. view v.now) value.entry)) }
     ensures named { IfOk result (λ made. names.new ≡ map creds.cred_name made) }
 {
-    let values = items_or(Path::Top(Key::Credentials), 256, value)?;
+    let values = items_or(Path::Top(Key::Credentials), CREDS_MAX, value)?;
     each_cred(alloc, names, values)
 }

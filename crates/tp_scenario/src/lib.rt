@@ -13,7 +13,6 @@ mod path;
 mod query;
 mod scripts;
 mod servers;
-mod spelling;
 mod steps;
 mod txns;
 mod values;

@@ -1,7 +1,7 @@
 //! The text of a query.
 ghost use Rattle.std.specs.Prelude.{◌≡◌, ◌∷◌, [], ◌&&◌, codes, option_map, IfOk};
 ghost use Rattle.tp_types.specs.Spelling.{is_name as is_name_text};
-ghost use Rattle.tp_scenario.specs.Names.{is_same};
+ghost use Rattle.tp_model.specs.Ids.{same_name};
 ghost use Rattle.tp_scenario.specs.Queries.{writes};
 ghost use Rattle.std.specs.List.{count_by};
 ghost use Rattle.serde_json.specs.View.{view};
@@ -13,12 +13,12 @@ ghost use Rattle.tp_scenario.specs.mirrors.Gives.{Gives};
 use crate::fault::{WalkError, range_at, shape_at};
 use crate::names::Names;
 use crate::path::Path;
-use crate::spelling::is_name;
 use crate::values::{text_at, used};
 use crate::words::Words;
 use serde_json::Value;
 use std::alloc::Global;
-use tp_types::{ItemId, List, NoMemory, Operand, Query, Term, number_of};
+use tp_model::TERMS_MAX;
+use tp_types::{ItemId, List, NoMemory, Operand, Query, Term, is_name, number_of};
 
 /// A query as it is spelled, with the name of its item.
 #[derive(Drop)]
@@ -140,13 +140,13 @@ fn sum_of(alloc: Global, words: &mut Words<'_>) -> Result<Option<List<Term>>, No
 }
 
 fn is_read(name: &[u8], into: &[u8]) -> bool
-    ensures { result ≡ (is_name_text name.now && is_same into.now (codes "into")) }
+    ensures { result ≡ (is_name_text name.now && same_name into.now (codes "into")) }
 {
     is_name(name) && into == b"into".as_slice()
 }
 
 fn is_write(name: &[u8], sign: &[u8]) -> bool
-    ensures { result ≡ (is_name_text name.now && is_same sign.now (codes ":=")) }
+    ensures { result ≡ (is_name_text name.now && same_name sign.now (codes ":=")) }
 {
     is_name(name) && sign == b":=".as_slice()
 }
@@ -249,7 +249,7 @@ fn is_constant(term: Term) -> bool
 fn is_short(expr: &List<Term>) -> bool
     ensures { result ≡ queries.is_short expr.now }
 {
-    expr.len() <= 5 && count_constants(expr) <= 1
+    expr.len() <= TERMS_MAX && count_constants(expr) <= 1
 }
 
 #[tactic(auto, unfolding(crate::specs::Queries::read_from))]

@@ -17,6 +17,7 @@ use crate::steps::step_for;
 use crate::values::{array_at, items_at, items_or, used_at};
 use serde_json::Value;
 use std::alloc::Global;
+use tp_model::{CLIENTS_MAX, OFFICERS_MAX, PUBLISHERS_MAX, STEPS_MAX};
 use tp_types::{Admin, List, NoMemory, Step, TxnId};
 
 /// The script of a publisher so far, and how many versions are left of each administrator.
@@ -128,7 +129,7 @@ pub(crate) fn clients_at(
     ensures { Gives result
         (scripts.clients_at txns.now (option_map (λ v. view v.now) value.entry)) }
 {
-    let values = items_or(Path::Top(Key::Clients), 16, value)?;
+    let values = items_or(Path::Top(Key::Clients), CLIENTS_MAX, value)?;
     each_client(alloc, txns, values)
 }
 
@@ -204,7 +205,7 @@ fn officer_at(
     ensures { Gives result (scripts.officer_at names.now earlier.now (view value.now)) }
 {
     let path = Path::Member(Key::Officers, earlier.len());
-    let values = items_at(path, 0, 100_000, Some(value))?;
+    let values = items_at(path, 0, STEPS_MAX, Some(value))?;
     each_official(alloc, names, earlier.len(), values)
 }
 
@@ -233,7 +234,7 @@ pub(crate) fn officers_at(
     ensures { Gives result
         (scripts.officers_at names.now (option_map (λ v. view v.now) value.entry)) }
 {
-    let values = items_or(Path::Top(Key::Officers), 8, value)?;
+    let values = items_or(Path::Top(Key::Officers), OFFICERS_MAX, value)?;
     each_officer(alloc, names, values)
 }
 
@@ -378,7 +379,7 @@ fn publishing_from(
     ensures { Gives result
         (scripts.publishing_from names.now admins.now (option_map (λ v. view v.now) value.entry)) }
 {
-    let values = items_or(Path::Top(Key::Publishers), 8, value)?;
+    let values = items_or(Path::Top(Key::Publishers), PUBLISHERS_MAX, value)?;
     let left = versions_left(alloc, admins)?;
     each_publisher(alloc, names, left, values)
 }

@@ -17,12 +17,10 @@ use crate::path::{Key, Path, Site};
 use crate::values::{count_at, items_at, new_name_at, used_at, whole_in};
 use serde_json::{Map, Value};
 use std::alloc::{AllocError, Global};
+use tp_model::{ITEMS_MAX, SERVERS_MAX, VALUE_MAX};
 use tp_types::{
     Admin, AdminId, Item, ItemId, List, Name, NoMemory, ServerDecl, ServerId, Version, both,
 };
-
-/// The greatest magnitude of an item's value or bound.
-const VALUE_MAX: i64 = 1_000_000_000_000_000;
 
 /// Servers, and the items of all of them.
 #[derive(Drop)]
@@ -90,7 +88,7 @@ fn key_at(alloc: Global, names: &Names, server: usize, key: &[u8]) -> Result<u32
 }
 
 fn opening_of(admins: &[Admin], place: u32) -> u32
-    ensures { result ≡ servers.opening_of admins.now place }
+    ensures { result ≡ servers.opening_number admins.now place }
 {
     match admins.get(place as usize) {
         None => 0,
@@ -333,7 +331,7 @@ fn items_in<'a>(
     ensures named { OnOk result (names.new ≡ map servers.item_name made.new) }
 {
     let path = Path::Field(Key::Servers, server as usize, Key::Items);
-    let values = items_at(path, 0, 64, value)?;
+    let values = items_at(path, 0, ITEMS_MAX, value)?;
     each_item(alloc, admins, names, server, made, values)
 }
 
@@ -466,6 +464,6 @@ pub(crate) fn servers_at<'a>(
           items = map servers.item_name served.items;
         }) }
 {
-    let values = items_at(Path::Top(Key::Servers), 1, 16, value)?;
+    let values = items_at(Path::Top(Key::Servers), 1, SERVERS_MAX, value)?;
     each_server(alloc, admins, names, values)
 }

@@ -14,6 +14,7 @@ use crate::path::{Key, Path};
 use crate::values::{items_or, used};
 use serde_json::Value;
 use std::alloc::Global;
+use tp_model::{CALLS_MAX, STEPS_MAX, TICK_MAX};
 use tp_types::{Actor, AdminId, CredId, Cut, List, ServerId, Step, TxnId};
 
 #[tactic(auto, unfolding(crate::specs::Steps::coordinator_at))]
@@ -68,9 +69,9 @@ fn named_step(path: Path, names: &Declared, verb: NameVerb, name: &[u8]) -> Resu
 }
 
 fn is_tick(by: u64) -> bool
-    ensures { result ≡ limits.is_from_to 1 1000000 by }
+    ensures { result ≡ limits.is_from_to 1 limits.tick_limit by }
 {
-    1 <= by && by <= 1_000_000
+    1 <= by && by <= TICK_MAX
 }
 
 #[tactic(auto, unfolding(crate::specs::Steps::counted_step))]
@@ -123,7 +124,7 @@ fn cut_or_range(
 ) -> Result<Step, WalkError>
     ensures { Gives result (steps.cut_or_range path names.now name.now mail calls fill) }
 {
-    if calls > 4 || fill > 255 {
+    if calls > u64::from(CALLS_MAX) || fill > 255 {
         return Err(range_at(path));
     }
     let cut = Cut {
@@ -181,6 +182,6 @@ pub(crate) fn steps_at(
 ) -> Result<List<Step>, WalkError>
     ensures { Gives result (steps.steps_at names.now (option_map (λ v. view v.now) value.entry)) }
 {
-    let values = items_or(Path::Top(Key::Steps), 100_000, value)?;
+    let values = items_or(Path::Top(Key::Steps), STEPS_MAX, value)?;
     each_step(alloc, names, values)
 }

@@ -19,6 +19,7 @@ use crate::values::{count_or, items_at, items_or, name_at, new_name_at, text_at,
 use indexmap::IndexSet;
 use serde_json::Value;
 use std::alloc::Global;
+use tp_model::{CREDS_MAX, QUERIES_MAX, ROUNDS_MAX, TXNS_MAX};
 use tp_types::{CredId, Level, List, Name, NoMemory, Query, Scheme, Transaction, both};
 
 fn path_of(at: usize, key: Key) -> Path
@@ -152,7 +153,7 @@ fn presented_by(
     ensures { Gives result
         (txns.credentials_at creds.now at (option_map (λ v. view v.now) value.entry)) }
 {
-    let values = items_or(path_of(at, Key::Credentials), 256, value)?;
+    let values = items_or(path_of(at, Key::Credentials), CREDS_MAX, value)?;
     let mut made = List::new(alloc);
     let mut seen = IndexSet::new(alloc);
     each_presented(creds, at, &mut seen, &mut made, values)?;
@@ -186,7 +187,7 @@ fn queries_at(
     ensures { Gives result
         (txns.queries_at items.now at (option_map (λ v. view v.now) value.entry)) }
 {
-    let values = items_at(path_of(at, Key::Queries), 1, 16, value)?;
+    let values = items_at(path_of(at, Key::Queries), 1, QUERIES_MAX, value)?;
     each_query(alloc, items, at, values)
 }
 
@@ -266,7 +267,7 @@ fn manner_at(at: usize, fields: &Value) -> Result<(Scheme, Level, u32), WalkErro
     let rounds = count_or(
         path_of(at, Key::Rounds),
         1,
-        16,
+        ROUNDS_MAX as u64,
         8,
         field(fields, Key::Rounds),
     )?;
@@ -303,6 +304,6 @@ pub(crate) fn txns_at<'a>(
     ensures named { IfOk result (λ made.
         names.new ≡ record names.old { txns = map txns.txn_name made }) }
 {
-    let values = items_at(Path::Top(Key::Transactions), 0, 128, value)?;
+    let values = items_at(Path::Top(Key::Transactions), 0, TXNS_MAX, value)?;
     each_txn(alloc, names, values)
 }

@@ -8,16 +8,15 @@ ghost use Rattle.tp_scenario.specs.mirrors.Gives.{Gives, GivesAs};
 use crate::fault::{WalkError, range_at, shape_at, unknown_at};
 use crate::names::Names;
 use crate::path::Path;
-use crate::spelling::is_name;
 use serde_json::Value;
 use std::alloc::Global;
-use tp_types::Name;
+use tp_types::{Name, is_name};
 
 /// A value that is needed.
-#[tactic(auto, unfolding(crate::specs::Values::needed))]
+#[tactic(auto, unfolding(crate::specs::Values::present_at))]
 pub(crate) fn needed(path: Path, value: Option<&Value>) -> Result<&Value, WalkError>
     ensures { GivesAs result (λ v. view v.now)
-        (values.needed path (option_map (λ v. view v.now) value.entry)) }
+        (values.present_at path (option_map (λ v. view v.now) value.entry)) }
 {
     value.ok_or(shape_at(path))
 }

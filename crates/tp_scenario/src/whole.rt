@@ -1,8 +1,11 @@
 //! The whole scenario.
-ghost use Rattle.std.specs.Prelude.{◌≡◌};
+ghost use Rattle.std.specs.Prelude.{◌≡◌, ◌∷◌, []};
 ghost use Rattle.serde_json.specs.View.{view};
+ghost use Rattle.tp_scenario.specs.Values.{object_at};
 ghost use Rattle.tp_scenario.specs.Walk as walk;
-ghost use Rattle.tp_scenario.specs.mirrors.Gives.{Gives};
+ghost use Rattle.tp_scenario.specs.declared.path.Key.TheVariants as Key;
+ghost use Rattle.tp_scenario.specs.declared.path.Path.TheVariants as Path;
+ghost use Rattle.tp_scenario.specs.mirrors.Gives.{Gives, GivesAs};
 
 use crate::admins::admins_at;
 use crate::creds::creds_at;
@@ -17,10 +20,8 @@ use crate::txns::txns_at;
 use crate::values::count_or;
 use serde_json::Value;
 use std::alloc::Global;
+use tp_model::CLOCK_MAX;
 use tp_types::{Scenario, both};
-
-/// The last time of a clock at the start.
-const CLOCK_MAX: u64 = 1_000_000_000_000;
 
 fn no_names<'a>(alloc: Global) -> Declared<'a>
     ensures { result ≡ walk.no_names }
@@ -34,17 +35,15 @@ fn no_names<'a>(alloc: Global) -> Declared<'a>
     }
 }
 
-/// The scenario that a value is, or the first fault in it. What it declares is added to the names, of which there are none so far.
-#[tactic(auto, unfolding(crate::specs::Walk::walk_of))]
-fn walked_with<'a>(
-    alloc: Global,
-    names: &mut Declared<'a>,
-    value: &'a Value,
-) -> Result<Scenario, WalkError>
-    requires { names.old ≡ walk.no_names }
-    ensures { Gives result (walk.walk_of (view value.now)) }
+/// The object that a scenario is, with its keys.
+fn fields_of(value: &Value) -> Result<&Value, WalkError>
+    ensures { GivesAs result (λ v. view v.now)
+        (object_at Path.Whole
+        (Key.Admins ∷ Key.Servers ∷ Key.Transactions ∷ [])
+        (Key.Clock ∷ Key.Credentials ∷ Key.Steps ∷ Key.Clients ∷ Key.Publishers ∷ Key.Officers ∷ [])
+        (view value.now)) }
 {
-    let fields = object_at(
+    object_at(
         Path::Whole,
         &[Key::Admins, Key::Servers, Key::Transactions],
         &[
@@ -56,15 +55,23 @@ fn walked_with<'a>(
             Key::Officers,
         ],
         value,
-    )?;
+    )
+}
+
+/// The scenario that a value is, or the first fault in it. What it declares is added to the names, of which there are none so far.
+#[tactic(auto, unfolding(crate::specs::Walk::walk_of))]
+fn walked_with<'a>(
+    alloc: Global,
+    names: &mut Declared<'a>,
+    value: &'a Value,
+) -> Result<Scenario, WalkError>
+    requires { names.old ≡ walk.no_names }
+    ensures { Gives result (walk.walk_of (view value.now)) }
+{
+    let fields = fields_of(value)?;
     let admins = admins_at(alloc, &mut names.admins, field(fields, Key::Admins));
-    let clock = count_or(
-        Path::Top(Key::Clock),
-        0,
-        CLOCK_MAX,
-        0,
-        field(fields, Key::Clock),
-    );
+    let clock = field(fields, Key::Clock);
+    let clock = count_or(Path::Top(Key::Clock), 0, CLOCK_MAX, 0, clock);
     let creds = creds_at(alloc, &mut names.creds, field(fields, Key::Credentials));
     let ((admins, clock), creds) = both(both(admins, clock), creds)?;
     let served = servers_at(alloc, admins.as_slice(), names, field(fields, Key::Servers))?;

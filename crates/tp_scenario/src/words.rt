@@ -1,5 +1,7 @@
 //! The words of a text, one after another.
 ghost use Rattle.std.specs.Prelude.{◌≡◌, ◌≤◌, ◌∷◌, [], length, option_map, IfSome, IfNone};
+ghost use Rattle.tp_model.specs.Limits.{is_empty};
+ghost use Rattle.tp_model.specs.Queries.{only};
 ghost use Rattle.tp_scenario.specs.Words as words;
 ghost use Rattle.tp_scenario.specs.mirrors.Texts.{words_left};
 
@@ -79,7 +81,7 @@ impl<'a> Words<'a> {
     /// No word is left.
     #[tactic(auto, using(crate::proofs::WordLemmas::some_left))]
     pub fn is_at_end(&self) -> bool
-        ensures { result ≡ words.is_end self.now }
+        ensures { result ≡ is_empty self.now }
     {
         self.rest.is_none()
     }
@@ -93,7 +95,7 @@ impl<'a> Words<'a> {
 
     /// The one word that is left.
     pub fn only(&mut self) -> Option<&'a [u8]>
-        ensures { option_map (λ word. word.now) result ≡ words.only self.old }
+        ensures { option_map (λ word. word.now) result ≡ only self.old }
     {
         let word = self.next()?;
         if self.is_at_end() { Some(word) } else { None }

@@ -4,12 +4,12 @@ use Rattle.std.specs.List.{list_all}
 use Rattle.std.specs.Option.{is_some}
 use Rattle.std.proofs.Math.Bool.{and-false, and-true}
 use Rattle.tp_model.specs.Words.{Action, AdminId, Fact, Item, Policy, Query, Scenario, ServerId, Staple, Transaction, Verdict, Version}
-use Rattle.tp_model.specs.Authorisation.{action_of, allows_held, is_allowed, is_certified, is_own_query, policy_at, tests_item, tests_query, tests_version}
+use Rattle.tp_model.specs.Authorisation.{action_of, allows_held, is_allowed, is_certified, is_own_query, policy_at, question_of, tests_item, tests_query, tests_version}
 use Rattle.tp_model.specs.Credentials.{is_presented}
 use Rattle.tp_model.specs.Policies.{allows}
 use Rattle.tp_model.specs.Queries.{item_of, query_at}
 use Rattle.tp_eval.specs.declared.policies.Certificate.{Certificate}
-use Rattle.tp_eval.specs.mirrors.Gathered.{rule_of, uses_in}
+use Rattle.tp_eval.specs.Uses.{rule_number, uses_in}
 use Rattle.tp_eval.proofs.CertificateLemmas.{exists_where_allowed, passes_where, presented_where}
 use Rattle.tp_eval.proofs.SoundLemmas.{Asked}
 use Rattle.tp_check.specs.OfHistory.{IsAt, holder_of, is_checked_of, is_verdict_checked}
@@ -77,7 +77,7 @@ uses_presented sc txn staple number policy None e = refl
 uses_presented sc txn staple number policy (Some found) e = (passes_version sc txn staple found number policy e).1
 
 checked_where : (sc : Scenario) (txn : Transaction) (staple : Staple) (server : ServerId) (number : ℕ) (admin : AdminId) (version : Version) (answer : Option Certificate)
-    → certificate_of_version sc txn staple number (policy_at sc admin version) ≡ answer → is_some (option_map rule_of answer) ≡ true
+    → certificate_of_version sc txn staple number (policy_at sc admin version) ≡ answer → is_some (option_map rule_number answer) ≡ true
     → is_verdict_checked sc txn staple.clock staple.revoked (verdict_of server number admin version staple.place answer) ≡ true
 checked_where sc txn staple server number admin version None e has_rule = cc
 checked_where sc txn staple server number admin version (Some found) e has_rule =
@@ -86,7 +86,7 @@ checked_where sc txn staple server number admin version (Some found) e has_rule 
 
 -- ---- the verdict
 
-has_rule_where : (answer : Option Certificate) → is_some (option_map rule_of answer) ≡ is_some answer
+has_rule_where : (answer : Option Certificate) → is_some (option_map rule_number answer) ≡ is_some answer
 has_rule_where None = refl
 has_rule_where (Some found) = refl
 
@@ -99,13 +99,13 @@ pub evaluate_right : (sc : Scenario) (facts : List Fact) (txn : Transaction) (st
 evaluate_right sc facts txn staple server number admin version is =
     let answer : Option Certificate = certificate_of_version sc txn staple number (policy_at sc admin version) in
     let verdict : Verdict = evaluation sc txn staple server number admin version in
-    let fits : is_allowed sc facts txn number admin version staple.place ≡ is_some (option_map rule_of answer) =
+    let fits : is_allowed sc facts txn (question_of verdict) ≡ is_some (option_map rule_number answer) =
     allowed_version sc facts txn staple is number (policy_at sc admin version) ∙ sym (has_rule_where answer) in
-    let proved : is_some (option_map rule_of answer) ≡ true → is_certified sc facts txn verdict ≡ true =
+    let proved : is_some (option_map rule_number answer) ≡ true → is_certified sc facts txn verdict ≡ true =
     λ has_rule. sym (certified_there sc facts staple.clock staple.revoked txn verdict is) ∙ checked_where sc txn staple server number admin version answer refl has_rule in
     record {
       fits = fits;
       proved = proved;
-      true_where = true_by (is_own_query sc txn number server admin) (is_allowed sc facts txn number admin version staple.place) (is_certified sc facts txn verdict)
-          (is_some (option_map rule_of answer)) fits proved;
+      true_where = true_by (is_own_query sc txn number server admin) (is_allowed sc facts txn (question_of verdict)) (is_certified sc facts txn verdict)
+          (is_some (option_map rule_number answer)) fits proved;
     }

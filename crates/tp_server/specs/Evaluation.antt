@@ -2,11 +2,11 @@
 use Rattle.std.specs.Prelude.{◌≡◌, ℕ, ◌&&◌, List, true, Option, Some, None, option_map, slice_get}
 use Rattle.std.specs.Option.{is_some}
 use Rattle.tp_model.specs.Words.{Action, AdminId, Fact, Item, Policy, Query, Scenario, ServerId, Staple, Transaction, Verdict, Version}
-use Rattle.tp_model.specs.Authorisation.{action_of, is_allowed, is_certified, is_own_query, is_true_verdict, policy_at}
+use Rattle.tp_model.specs.Authorisation.{action_of, is_allowed, is_certified, is_own_query, is_true_verdict, policy_at, question_of}
 use Rattle.tp_model.specs.Queries.{item_of, query_at}
 use Rattle.tp_eval.specs.declared.policies.Certificate.{Certificate}
-use Rattle.tp_eval.specs.mirrors.Gathered.{rule_of, uses_in}
-use Rattle.tp_eval.specs.Taken.{certificate}
+use Rattle.tp_eval.specs.Uses.{rule_number, uses_in}
+use Rattle.tp_eval.specs.Uses.{certificate}
 use Rattle.tp_check.specs.OfHistory.{IsAt, holder_of}
 
 -- ---- the certificate, where there is such an item, such a query and such a version
@@ -41,7 +41,7 @@ verdict_of server number admin version place found =
       admin = admin;
       version = version;
       place = place;
-      rule = option_map rule_of found;
+      rule = option_map rule_number found;
       uses = uses_in found;
     }
 
@@ -57,7 +57,7 @@ evaluation sc txn staple server number admin version =
 -- certificate is then good there, and it is a true verdict exactly where it has a rule and is of a query at its server
 pub record IsRightVerdict (sc : Scenario) (facts : List Fact) (txn : Transaction)
     (verdict : Verdict) : Type 0 where
-  pub fits : is_allowed sc facts txn verdict.query verdict.admin verdict.version verdict.place
+  pub fits : is_allowed sc facts txn (question_of verdict)
       ≡ is_some verdict.rule
   pub proved : is_some verdict.rule ≡ true → is_certified sc facts txn verdict ≡ true
   pub true_where : is_true_verdict sc facts txn verdict

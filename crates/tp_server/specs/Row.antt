@@ -1,10 +1,9 @@
 -- A server's row: what it does on receipt of a mail. The first case that fits is done.
 use Rattle.std.specs.List.{find}
-use Rattle.std.specs.Option.{option_map_or}
-use Rattle.std.specs.Prelude.{Bool, List, None, Option, Some, [], false, if◌then◌else◌, is_none, nat_lt, option_and_then, option_map, slice_get, slice_set, unwrap_or, ℕ, ℤ, ◌&&◌, ◌++◌, ◌==◌, ◌∷◌}
-use Rattle.std.proofs.Common.{is_some, not}
+use Rattle.std.specs.Option.{option_flatten, option_map_or}
+use Rattle.std.specs.Prelude.{Bool, List, None, Option, Some, [], false, if◌then◌else◌, is_none, is_some, nat_lt, not, option_and_then, option_map, slice_get, slice_set, unwrap_or, ℕ, ℤ, ◌&&◌, ◌++◌, ◌==◌, ◌∷◌}
 use Rattle.tp_types.specs.Effect.{Effect, ignores, logs, sends, unbuilt}
-use Rattle.tp_types.specs.Table.{flattened, is_unset}
+use Rattle.tp_types.specs.Table.{is_unset}
 use Rattle.tp_types.specs.declared.records.Outcome.TheVariants.{Abort, Commit}
 use Rattle.tp_types.specs.declared.scenario.Query.TheVariants.{Read, Write}
 use Rattle.tp_lock.specs.Rule.{after_release, after_request, answer_at, without_grant}
@@ -24,7 +23,7 @@ use Rattle.tp_model.specs.Deeds.{deed_of}
 use Rattle.tp_server.specs.declared.server.Ballot.{Ballot}
 use Rattle.tp_server.specs.declared.server.Entry.{Entry}
 use Rattle.tp_server.specs.State.{Server}
-use Rattle.tp_server.specs.Verdicts.{learnt, verdicts_on, version_known}
+use Rattle.tp_server.specs.Verdicts.{with_wants, verdicts_on, version_known}
 use Rattle.tp_store.specs.Contents.{Contents}
 use Rattle.tp_store.specs.Rule.{after_apply, after_forget, after_write, first_outside_in, read_in, with_version}
 use Rattle.tp_store.specs.declared.writes.TentativeWrite.{TentativeWrite}
@@ -35,7 +34,7 @@ is_open s txn = is_unset (slice_get s.settled txn.0)
 
 -- the entry of a transaction
 abbrev pub entry_at : Server → TxnId → Option Entry
-entry_at s txn = flattened (slice_get s.entries txn.0)
+entry_at s txn = option_flatten (slice_get s.entries txn.0)
 
 abbrev pub with_entry : Server → TxnId → Option Entry → Server
 with_entry s txn entry = record s { entries = slice_set s.entries txn.0 entry }
@@ -119,7 +118,7 @@ completes s q query entry deed =
 
 -- the query is kept until its lock is granted
 abbrev pub waits : Server → QueryRequest → Entry → Effect Server
-waits s q entry = ignores (with_entry s q.txn (Some (record entry { waiting = Some q })))
+waits s q entry = sends (with_entry s q.txn (Some (record entry { waiting = Some q }))) []
 
 -- the answer where an older transaction stands in the way
 abbrev pub died_reply : QueryRequest → ℕ → TxnId → DoneReply
@@ -268,7 +267,7 @@ votes_on sc s p entry staple txn =
 abbrev pub votes_with : Scenario → Server → PrepareRequest → Entry → Staple → Option Transaction
     → Effect Server
 votes_with sc s p entry staple None = ignores s
-votes_with sc s p entry staple (Some txn) = votes_on sc (learnt s p.want) p entry staple txn
+votes_with sc s p entry staple (Some txn) = votes_on sc (with_wants s p.want) p entry staple txn
 
 -- with a staple each deed is evaluated and voted on; without one there are to be no verdicts
 abbrev pub evaluates : Scenario → Server → PrepareRequest → Entry → Option Staple → Effect Server
@@ -339,19 +338,19 @@ followed_by first further = record {
 abbrev pub taken_from : Server → Server
 taken_from s = record s { locks = without_grant s.locks }
 
-abbrev pub resumed : Scenario → Effect Server → Grant → Effect Server
-resumed sc effect grant =
+abbrev pub after_grant : Scenario → Effect Server → Grant → Effect Server
+after_grant sc effect grant =
     followed_by effect (resumes sc (taken_from effect.state) grant.owner)
 
 -- each grant is taken in its order
-abbrev pub all_resumed : Scenario → List Grant → Effect Server → Effect Server
-all_resumed sc [] effect = effect
-all_resumed sc (grant ∷ grants) effect = all_resumed sc grants (resumed sc effect grant)
+abbrev pub after_grants : Scenario → List Grant → Effect Server → Effect Server
+after_grants sc [] effect = effect
+after_grants sc (grant ∷ grants) effect = after_grants sc grants (after_grant sc effect grant)
 
 -- what waited for the locks of the transaction goes on once it has ended
 abbrev pub ends : Scenario → Server → Settled → Letter → Effect Server
 ends sc s settled letter =
-    all_resumed sc (after_release settled.txn s.locks).grants (closes s settled letter)
+    after_grants sc (after_release settled.txn s.locks).grants (closes s settled letter)
 
 -- ---- a vote NO
 
@@ -404,7 +403,7 @@ on_settled_prepare s p (Some settled) = on_refused s p settled.why
 abbrev pub on_prepare : Scenario → Server → PrepareRequest → Effect Server
 on_prepare sc s p =
     if is_open s p.txn then asked_to_vote sc s p (entry_at s p.txn)
-    else on_settled_prepare s p (flattened (slice_get s.settled p.txn.0))
+    else on_settled_prepare s p (option_flatten (slice_get s.settled p.txn.0))
 
 -- ---- Decide
 
@@ -427,7 +426,7 @@ on_settled_decide s d None = ignores s
 abbrev pub on_decide : Scenario → Server → DecideRequest → Effect Server
 on_decide sc s d =
     if is_open s d.txn then settles sc s d
-    else on_settled_decide s d (flattened (slice_get s.settled d.txn.0))
+    else on_settled_decide s d (option_flatten (slice_get s.settled d.txn.0))
 
 -- ---- Push
 

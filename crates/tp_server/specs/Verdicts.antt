@@ -26,8 +26,8 @@ with_versions store [] = store
 with_versions store (wanted ∷ want) = with_versions (with_version store wanted.0 wanted.1) want
 
 -- the server once it has learnt each of these versions
-abbrev pub learnt : Server → List (AdminId × Version) → Server
-learnt s want = record s { store = with_versions s.store want }
+abbrev pub with_wants : Server → List (AdminId × Version) → Server
+with_wants s want = record s { store = with_versions s.store want }
 
 abbrev pub version_or : Option ℕ → Version → Version
 version_or None known = known

@@ -1,7 +1,7 @@
 //! What a server does at the end of a transaction: its writes are applied or dropped, its locks are released, and what waited for them runs.
 ghost use Rattle.std.specs.Prelude.{◌≡◌, None, slice_get, IfOk};
 ghost use Rattle.tp_types.specs.Effect.{Gives};
-ghost use Rattle.tp_types.specs.Table.{flattened};
+ghost use Rattle.std.specs.Option.{option_flatten};
 ghost use Rattle.tp_server.specs.Row as row;
 
 use crate::server::Server;
@@ -39,7 +39,7 @@ impl<L: LockTable + Drop> Server<L> {
         ensures { IfOk result (λ reaction.
             Gives
             (row.on_settled_decide self.now request
-            (flattened (slice_get self.now.settled request.txn.0)))
+            (option_flatten (slice_get self.now.settled request.txn.0)))
             self.now reaction) }
     {
         match self.settled.get(request.txn.0 as usize) {

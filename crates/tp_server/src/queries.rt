@@ -12,7 +12,7 @@ use tp_lock::{Asked, LockTable};
 use tp_model::{action_of, deed_of, item_of, query_at};
 use tp_types::{
     Answer, Body, Deed, DoneReply, Letter, List, NoMemory, Place, Query, QueryRequest, Reaction,
-    Scenario, TryClone, TxnId, ignored, sent_alone, taken, unbuilt,
+    Scenario, TryClone, TxnId, ignored, nothing, sent_alone, take_at, unbuilt,
 };
 
 impl<L: LockTable + Drop> Server<L> {
@@ -128,10 +128,11 @@ impl<L: LockTable + Drop> Server<L> {
             (row.waits self.old request.now (entry_of self.old sent request.now))
             self.new reaction) }
     {
+        let waiting = request.try_clone(alloc)?;
         let mut entry = self.entry_for(alloc, sent, request);
-        entry.waiting = Some(request.try_clone(alloc)?);
+        entry.waiting = Some(waiting);
         self.entries.put(request.txn.0 as usize, Some(entry));
-        Ok(ignored(alloc))
+        Ok(nothing(alloc))
     }
 
     /// An older transaction stands in the way.
@@ -150,8 +151,9 @@ impl<L: LockTable + Drop> Server<L> {
     {
         let mut entry = self.entry_for(alloc, sent, request);
         let epoch = entry.epoch;
-        entry.answers.push(died(request, epoch, other))?;
+        let noted = entry.answers.push(died(request, epoch, other));
         self.entries.put(request.txn.0 as usize, Some(entry));
+        noted?;
         let letter = self.reply(request.txn, Body::Done(died(request, epoch, other)));
         sent_alone(alloc, letter)
     }
@@ -205,16 +207,35 @@ impl<L: LockTable + Drop> Server<L> {
         let Some(request) = self.taken_waiting(owner) else {
             return Ok(());
         };
+        let resumed = self.resumes_at(alloc, scenario, &request, letters);
+        drop(request);
+        resumed
+    }
+
+    /// A query that waited runs, where its transaction has an entry.
+    fn resumes_at(
+        &mut self,
+        alloc: Global,
+        scenario: &Scenario,
+        request: &QueryRequest,
+        letters: &mut List<Letter>,
+    ) -> Result<(), NoMemory>
+        ensures { OnOk result
+            (Continues
+            (row.resumes_at scenario.now self.old request.now
+            (row.entry_at self.old request.now.txn))
+            self.new letters.old letters.new) }
+    {
         if self.entry_at(request.txn).is_none() {
             return Ok(());
         }
-        let Some(query) = asked_query(scenario, &request) else {
+        let Some(query) = asked_query(scenario, request) else {
             return Ok(());
         };
-        let Some(value) = self.value_of_run(&request, query) else {
+        let Some(value) = self.value_of_run(request, query) else {
             return Ok(());
         };
-        let letter = self.runs(alloc, 0, &request, query, value)?;
+        let letter = self.runs(alloc, 0, request, query, value)?;
         letters.push(letter)
     }
 
@@ -224,7 +245,7 @@ impl<L: LockTable + Drop> Server<L> {
         ensures taken { result ≡ row.waiting_at self.old owner }
         ensures left { self.new ≡ row.without_waiting self.old owner }
     {
-        match taken(&mut self.entries, owner.0 as usize) {
+        match take_at(&mut self.entries, owner.0 as usize) {
             None => None,
             Some(mut entry) => {
                 let waiting = entry.waiting.take();
@@ -245,10 +266,11 @@ impl<L: LockTable + Drop> Server<L> {
     ) -> Result<u64, NoMemory>
         ensures { IfOk result (λ epoch. IsNoted self.old sent request.now deed self.new epoch) }
     {
-        let entry = self.entry_for(alloc, sent, request);
+        let mut entry = self.entry_for(alloc, sent, request);
         let epoch = entry.epoch;
-        let entry = after_run(entry, request, deed)?;
+        let noted = adds_run(&mut entry, request, deed);
         self.entries.put(request.txn.0 as usize, Some(entry));
+        noted?;
         Ok(epoch)
     }
 
@@ -258,7 +280,7 @@ impl<L: LockTable + Drop> Server<L> {
         ensures left { self.new
             ≡ record self.old { entries = slice_set self.old.entries request.now.txn.0 None } }
     {
-        match taken(&mut self.entries, request.txn.0 as usize) {
+        match take_at(&mut self.entries, request.txn.0 as usize) {
             Some(entry) => entry,
             None => Entry {
                 age: request.age.unwrap_or(sent),
@@ -342,14 +364,13 @@ fn asked_query<'a>(scenario: &'a Scenario, request: &QueryRequest) -> Option<&'a
     query_at(txn, request.query)
 }
 
-/// The entry once its query ran.
-fn after_run(mut entry: Entry, request: &QueryRequest, deed: Deed) -> Result<Entry, NoMemory>
-    ensures { IfOk result (λ made. made ≡ row.entry_after request.now entry deed) }
+/// Adds to an entry that its query ran.
+fn adds_run(entry: &mut Entry, request: &QueryRequest, deed: Deed) -> Result<(), NoMemory>
+    ensures { OnOk result (entry.new ≡ row.entry_after request.now entry.old deed) }
 {
     let answer = done(request, entry.epoch, deed);
     entry.answers.push(answer)?;
-    entry.deeds.push(deed)?;
-    Ok(entry)
+    entry.deeds.push(deed)
 }
 
 fn died(request: &QueryRequest, epoch: u64, other: TxnId) -> DoneReply

@@ -1,9 +1,8 @@
 //! A server: what it does on receipt of a mail.
 ghost use Rattle.std.specs.Prelude.{◌≡◌, Option, Some, None, [], ◌∷◌, length, map, slice_get, IfOk};
-ghost use Rattle.std.specs.Option.{option_copied};
+ghost use Rattle.std.specs.Option.{option_copied, option_flatten};
 ghost use Rattle.tp_server.specs.declared.server.Entry.{Entry};
 ghost use Rattle.tp_types.specs.Effect.{Gives};
-ghost use Rattle.tp_types.specs.Table.{flattened};
 ghost use Rattle.tp_server.specs.Row as row;
 ghost use Rattle.tp_server.specs.Opened as opened;
 ghost use Rattle.tp_server.specs.Verdicts.{HasFewRules};

@@ -1,7 +1,7 @@
 //! What a server does on a Prepare: it evaluates what was done, and votes.
 ghost use Rattle.std.specs.Prelude.{◌≡◌, Option, Some, None, [], ◌∷◌, slice_get, slice_set, IfOk};
 ghost use Rattle.tp_types.specs.Effect.{Gives};
-ghost use Rattle.tp_types.specs.Table.{flattened};
+ghost use Rattle.std.specs.Option.{option_flatten};
 ghost use Rattle.tp_server.specs.declared.server.Entry.{Entry};
 ghost use Rattle.tp_server.specs.Row as row;
 ghost use Rattle.tp_server.specs.Verdicts as verdicts;
@@ -14,8 +14,8 @@ use tp_lock::LockTable;
 use tp_store::Store;
 use tp_types::{
     AdminId, Body, Letter, List, No, NoMemory, Outcome, PrepareRequest, Prepared, Reaction, Record,
-    Scenario, Settled, TryClone, TxnId, Verdict, Version, Vote, VoteReply, forced_and_sent,
-    ignored, sent_alone, taken, unbuilt,
+    Scenario, Settled, TryClone, TxnId, Verdict, Version, Vote, VoteReply, both, forced_and_sent,
+    ignored, sent_alone, take_at, unbuilt,
 };
 
 impl<L: LockTable + Drop> Server<L> {
@@ -107,7 +107,7 @@ impl<L: LockTable + Drop> Server<L> {
         ensures { IfOk result (λ reaction.
             Gives
             (row.on_settled_prepare self.now request.now
-            (flattened (slice_get self.now.settled request.now.txn.0)))
+            (option_flatten (slice_get self.now.settled request.now.txn.0)))
             self.now reaction) }
     {
         match self.settled.get(request.txn.0 as usize) {
@@ -163,14 +163,20 @@ impl<L: LockTable + Drop> Server<L> {
         ensures { IfOk result (λ made.
             made ≡ row.prepared_record self.now request.now entry.now verdicts) }
     {
+        let deeds = entry.deeds.try_clone(alloc);
+        let told = self.store.known().try_clone(alloc);
+        let Ok((deeds, told)) = both(deeds, told) else {
+            drop(verdicts);
+            return Err(NoMemory);
+        };
         Ok(Prepared {
             txn: request.txn,
             age: entry.age,
             epoch: entry.epoch,
             turn: request.turn,
-            deeds: entry.deeds.try_clone(alloc)?,
+            deeds,
             verdicts,
-            told: self.store.known().try_clone(alloc)?,
+            told,
         })
     }
 
@@ -179,15 +185,20 @@ impl<L: LockTable + Drop> Server<L> {
             → row.entry_at self.old forced.txn ≡ Some entry
             → Gives (row.casts self.old forced entry) self.new reaction) }
     {
+        let sent = forced.verdicts.try_clone(alloc);
+        let Ok((kept, sent)) = both(forced.verdicts.try_clone(alloc), sent) else {
+            drop(forced);
+            return Err(NoMemory);
+        };
         let ballot = Ballot {
             turn: forced.turn,
-            verdicts: forced.verdicts.try_clone(alloc)?,
+            verdicts: kept,
         };
         cast(&mut self.entries, forced.txn.0 as usize, ballot);
         let vote = VoteReply {
             txn: forced.txn,
             turn: forced.turn,
-            vote: Vote::Yes(forced.verdicts.try_clone(alloc)?),
+            vote: Vote::Yes(sent),
         };
         let letter = self.reply(forced.txn, Body::Vote(vote));
         forced_and_sent(alloc, Record::Prepared(forced), letter)
@@ -206,10 +217,10 @@ fn learn(store: &mut Store, want: &[(AdminId, Version)])
 /// Casts a vote at the entry that stands there.
 #[tactic(auto, using(crate::proofs::Tables::set_twice))]
 fn cast(entries: &mut List<Option<Entry>>, at: usize, ballot: Ballot)
-    ensures { (entry : Entry) → flattened (slice_get entries.old at) ≡ Some entry
+    ensures { (entry : Entry) → option_flatten (slice_get entries.old at) ≡ Some entry
         → entries.new ≡ slice_set entries.old at (Some (record entry { ballot = Some ballot })) }
 {
-    if let Some(mut entry) = taken(entries, at) {
+    if let Some(mut entry) = take_at(entries, at) {
         entry.ballot = Some(ballot);
         entries.put(at, Some(entry));
     }

@@ -22,7 +22,12 @@ impl Model for Store {
 
     ghost Value = { Contents };
 
-    ghost view = { λ s. record { bounds = s.bounds; values = s.values; known = s.known; tentative = s.tentative } };
+    ghost view = { λ s. record {
+      bounds = s.bounds;
+      values = s.values;
+      known = s.known;
+      tentative = s.tentative;
+    } };
 }
 
 impl Store {

@@ -8,16 +8,16 @@ use Rattle.tp_model.specs.Words.{Scenario, Step}
 use Rattle.tp_machine.specs.declared.error.StepError.{StepError}
 use Rattle.tp_machine.specs.declared.error.StepError.TheVariants as error
 use Rattle.tp_machine.specs.Machine.{Machine, after_step, after_steps, machine_after, refusal}
-use Rattle.tp_machine.specs.Seen.{Does, GivesUp, Refuses, Seen}
+use Rattle.tp_machine.specs.WorldView.{Does, GivesUp, Refuses, WorldView}
 use Rattle.tp_machine.proofs.basics.Machine.{after_steps-snoc}
-use Rattle.tp_top.specs.Auto.{Drains, IsSpent, Stops, automatic_from, next_of, stepped, steps_of}
+use Rattle.tp_top.specs.Auto.{Drains, IsSpent, Stops, automatic_from, next_of, world_after, steps_of}
 
 -- ---- lists
 
 pub take_more : {A : Type 0} (k : ℕ) (xs : List A) (y : A) (ys : List A) → drop k xs ≡ y ∷ ys → take (k + 1) xs ≡ take k xs ++ y ∷ []
 take_more k xs y ys e = take-add k 1 xs ∙ ap (λ d. take k xs ++ take 1 d) e
 
-drop_more : {A : Type 0} (k : ℕ) (xs : List A) (y : A) (ys : List A) → drop k xs ≡ y ∷ ys → drop (k + 1) xs ≡ ys
+pub drop_more : {A : Type 0} (k : ℕ) (xs : List A) (y : A) (ys : List A) → drop k xs ≡ y ∷ ys → drop (k + 1) xs ≡ ys
 drop_more k xs y ys e = sym (drop-drop 1 k xs) ∙ ap (drop 1) e
 
 within_more : {A : Type 0} (k : ℕ) (xs : List A) (y : A) (ys : List A) → drop k xs ≡ y ∷ ys → k < length xs
@@ -45,27 +45,27 @@ automatic-none sc (suc left) m e =
 -- ---- the drain
 
 -- so many of the automatic steps of the old world are done
-pub record SoFar (old new : Seen) (budget count : ℕ) : Type 0 where
+pub record SoFar (old new : WorldView) (budget count : ℕ) : Type 0 where
   pub was_up : old.given_up ≡ false
   pub within : count ≤ length (steps_of old budget)
-  pub now : new ≡ stepped old (take count (steps_of old budget))
+  pub now : new ≡ world_after old (take count (steps_of old budget))
   pub rest : drop count (steps_of old budget) ≡ automatic_from old.scenario (budget - count) 0 new.machine
 
-pub so_far_none : (old : Seen) (budget : ℕ) → old.given_up ≡ false → SoFar old old budget 0
+pub so_far_none : (old : WorldView) (budget : ℕ) → old.given_up ≡ false → SoFar old old budget 0
 so_far_none old budget up =
     let left : budget ≡ budget - 0 = omega arith in
     record { was_up = up; within = omega arith; now = refl; rest = ap (λ n. automatic_from old.scenario n 0 old.machine) left }
 
-same_scenario : (old new : Seen) (budget count : ℕ) → SoFar old new budget count → new.scenario ≡ old.scenario
-same_scenario old new budget count so = ap (λ (w : Seen). w.scenario) so.now
+same_scenario : (old new : WorldView) (budget count : ℕ) → SoFar old new budget count → new.scenario ≡ old.scenario
+same_scenario old new budget count so = ap (λ (w : WorldView). w.scenario) so.now
 
-next_here : (old new : Seen) (budget count : ℕ) (next : Option Step) → SoFar old new budget count
+next_here : (old new : WorldView) (budget count : ℕ) (next : Option Step) → SoFar old new budget count
     → next ≡ next_of new.scenario new.machine 0 → next_of old.scenario new.machine 0 ≡ next
 next_here old new budget count next so e =
     sym (e ∙ ap (λ (sc : Scenario). next_of sc new.machine 0) (same_scenario old new budget count so))
 
 -- what is left begins with the next step
-rest_more : (old mid : Seen) (budget count : ℕ) (taken : Step) → SoFar old mid budget count → count < budget
+rest_more : (old mid : WorldView) (budget count : ℕ) (taken : Step) → SoFar old mid budget count → count < budget
     → Some taken ≡ next_of mid.scenario mid.machine 0 → refusal mid.machine.state taken ≡ None
     → drop count (steps_of old budget) ≡ taken ∷ automatic_from old.scenario (budget - (count + 1)) 0 (machine_after old.scenario mid.machine taken)
 rest_more old mid budget count taken so more e ok =
@@ -74,58 +74,58 @@ rest_more old mid budget count taken so more e ok =
     ∙ automatic-some old.scenario (budget - (count + 1)) mid.machine taken (next_here old mid budget count (Some taken) so e) ok)
 
 -- the world after one step more
-with_step : Seen → Step → Seen
+with_step : WorldView → Step → WorldView
 with_step world taken = record world { machine = machine_after world.scenario world.machine taken }
 
-stepped-snoc : (world : Seen) (steps : List Step) (taken : Step) → refusal (stepped world steps).machine.state taken ≡ None
-    → stepped world (steps ++ taken ∷ []) ≡ with_step (stepped world steps) taken
+world_after-snoc : (world : WorldView) (steps : List Step) (taken : Step) → refusal (world_after world steps).machine.state taken ≡ None
+    → world_after world (steps ++ taken ∷ []) ≡ with_step (world_after world steps) taken
 unfolding with_step
-stepped-snoc world steps taken ok =
+world_after-snoc world steps taken ok =
     ap (λ (m : Machine). record world { machine = m })
     (after_steps-snoc world.scenario world.machine steps taken
     ∙ after_allowed world.scenario (after_steps world.scenario world.machine steps) taken ok)
 
 -- one step more
-pub so_far_more : (old mid new : Seen) (budget count : ℕ) (taken : Step) → SoFar old mid budget count → count < budget
+pub so_far_more : (old mid new : WorldView) (budget count : ℕ) (taken : Step) → SoFar old mid budget count → count < budget
     → Some taken ≡ next_of mid.scenario mid.machine 0 → Does mid new taken → SoFar old new budget (count + 1)
 unfolding with_step
 so_far_more old mid new budget count taken so more e did =
     let all = steps_of old budget in
     let ok = did.not_refused in
     let rest = rest_more old mid budget count taken so more e ok in
-    let before : refusal (stepped old (take count all)).machine.state taken ≡ None =
-    subst (λ (w : Seen). refusal w.machine.state taken ≡ None) so.now ok in
+    let before : refusal (world_after old (take count all)).machine.state taken ≡ None =
+    subst (λ (w : WorldView). refusal w.machine.state taken ≡ None) so.now ok in
     let machine : new.machine ≡ machine_after old.scenario mid.machine taken =
-    ap (λ (w : Seen). w.machine) did.now ∙ ap (λ (sc : Scenario). machine_after sc mid.machine taken) (same_scenario old mid budget count so) in
+    ap (λ (w : WorldView). w.machine) did.now ∙ ap (λ (sc : Scenario). machine_after sc mid.machine taken) (same_scenario old mid budget count so) in
     record {
       was_up = so.was_up;
       within = omega (arith, within_more count all taken _ rest);
-      now = did.now ∙ (ap (λ (w : Seen). with_step w taken) so.now
-          ∙ (sym (stepped-snoc old (take count all) taken before) ∙ ap (stepped old) (sym (take_more count all taken _ rest))));
+      now = did.now ∙ (ap (λ (w : WorldView). with_step w taken) so.now
+          ∙ (sym (world_after-snoc old (take count all) taken before) ∙ ap (world_after old) (sym (take_more count all taken _ rest))));
       rest = drop_more count all taken _ rest ∙ ap (automatic_from old.scenario (budget - (count + 1)) 0) (sym machine);
     }
 
 -- all are done where no step is left
-drains_all : (old new : Seen) (budget count : ℕ) → SoFar old new budget count → drop count (steps_of old budget) ≡ [] → Drains old new budget
+drains_all : (old new : WorldView) (budget count : ℕ) → SoFar old new budget count → drop count (steps_of old budget) ≡ [] → Drains old new budget
 drains_all old new budget count so e =
-    record { was_up = so.was_up; now = so.now ∙ ap (stepped old) (take_all count (steps_of old budget) (none_more count (steps_of old budget) e)) }
+    record { was_up = so.was_up; now = so.now ∙ ap (world_after old) (take_all count (steps_of old budget) (none_more count (steps_of old budget) e)) }
 
 -- the world is quiet
-pub drains_quiet : (old new : Seen) (budget count : ℕ) → SoFar old new budget count → None ≡ next_of new.scenario new.machine 0 → Drains old new budget
+pub drains_quiet : (old new : WorldView) (budget count : ℕ) → SoFar old new budget count → None ≡ next_of new.scenario new.machine 0 → Drains old new budget
 drains_quiet old new budget count so e =
     drains_all old new budget count so
     (so.rest ∙ automatic-none old.scenario (budget - count) new.machine (next_here old new budget count None so e))
 
 -- the budget is spent
-rest_spent : (old new : Seen) (budget : ℕ) → SoFar old new budget budget → drop budget (steps_of old budget) ≡ []
+rest_spent : (old new : WorldView) (budget : ℕ) → SoFar old new budget budget → drop budget (steps_of old budget) ≡ []
 rest_spent old new budget so =
     let left : budget - budget ≡ 0 = omega arith in
     so.rest ∙ ap (λ n. automatic_from old.scenario n 0 new.machine) left
 
-pub drains_spent : (old new : Seen) (budget : ℕ) → SoFar old new budget budget → Drains old new budget
+pub drains_spent : (old new : WorldView) (budget : ℕ) → SoFar old new budget budget → Drains old new budget
 drains_spent old new budget so = drains_all old new budget budget so (rest_spent old new budget so)
 
-pub is_spent : (old new : Seen) (budget : ℕ) (taken : Step) → SoFar old new budget budget → Some taken ≡ next_of new.scenario new.machine 0
+pub is_spent : (old new : WorldView) (budget : ℕ) (taken : Step) → SoFar old new budget budget → Some taken ≡ next_of new.scenario new.machine 0
     → IsSpent old new budget
 is_spent old new budget taken so e =
     record {
@@ -134,17 +134,17 @@ is_spent old new budget taken so e =
     }
 
 -- memory is refused in the next step
-pub stops : (old mid new : Seen) (budget count : ℕ) (taken : Step) → SoFar old mid budget count → count < budget
+pub stops : (old mid new : WorldView) (budget count : ℕ) (taken : Step) → SoFar old mid budget count → count < budget
     → Some taken ≡ next_of mid.scenario mid.machine 0 → refusal mid.machine.state taken ≡ None → GivesUp mid new → Stops old new budget
 stops old mid new budget count taken so more e ok gave =
     record {
       count = count;
       within = within_more count (steps_of old budget) taken _ (rest_more old mid budget count taken so more e ok);
-      gave_up = subst (λ (w : Seen). GivesUp w new) so.now gave;
+      gave_up = subst (λ (w : WorldView). GivesUp w new) so.now gave;
     }
 
 -- a step that is not refused fails only for want of memory
-pub gives_up : (old new : Seen) (taken : Step) (why : StepError) → refusal old.machine.state taken ≡ None
+pub gives_up : (old new : WorldView) (taken : Step) (why : StepError) → refusal old.machine.state taken ≡ None
     → (why ≢ error.NoMemory → Refuses old new taken why) → (IsErrOf {T = Unit {0}} (Err why) error.NoMemory → GivesUp old new) → GivesUp old new
 gives_up old new taken (error.NoSuchMail mail mails) ok refused memory =
     let r = refused (λ h. cc) in

@@ -5,13 +5,13 @@ use Rattle.std.proofs.lemmas.Bool.{and_parts}
 use Rattle.std.proofs.lemmas.Nat.{mul-le}
 use Rattle.tp_types.proofs.ListLemmas.{three_parts}
 use Rattle.tp_model.specs.Words.{Scenario, Transaction}
-use Rattle.tp_model.specs.Limits.{has_count, is_from_to}
+use Rattle.tp_model.specs.Limits.{has_count, is_from_to, steps_limit}
 use Rattle.tp_model.specs.Valid.{are_distinct, has_valid_creds, is_name_of_server, is_valid_query, is_valid_step, is_valid_txn, same_txn_name}
 use Rattle.tp_model.specs.Built.{is_built}
 use Rattle.tp_model.proofs.RuleLemmas.{count_most, few_servers, few_txns, valid_built}
 use Rattle.tp_machine.specs.Machine.{Machine}
-use Rattle.tp_machine.specs.Seen.{Seen}
-use Rattle.tp_top.specs.Auto.{most_queries, most_rounds}
+use Rattle.tp_machine.specs.WorldView.{WorldView}
+use Rattle.tp_top.specs.Auto.{most_queries, greatest_rounds}
 use Rattle.tp_top.specs.mirrors.Answers.{IsListed}
 use Rattle.tp_top.proofs.TrustedRun.{listed_steps}
 
@@ -57,7 +57,7 @@ pub most_queries_built : (sc : Scenario) → is_built sc ≡ true → most_queri
 most_queries_built sc h = fold_queries sc sc.txns 0 (txns_valid sc h) (omega arith)
 
 -- nor a greater round limit
-pub most_rounds_built : (sc : Scenario) → is_built sc ≡ true → most_rounds sc.txns ≤ 16
+pub most_rounds_built : (sc : Scenario) → is_built sc ≡ true → greatest_rounds sc.txns ≤ 16
 most_rounds_built sc h = fold_rounds sc sc.txns 2 (txns_valid sc h) (omega arith)
 
 -- within the limits of a scenario the product fits 32 bits
@@ -72,10 +72,10 @@ work_is_small txns queries rounds servers t q r s =
 -- ---- the undelivered mails after the listed steps
 
 few_steps : (sc : Scenario) → is_built sc ≡ true → length sc.steps ≤ 100000
-few_steps sc h = count_most 0 100000 (length sc.steps) (and_parts (has_count 0 100000 sc.steps) (list_all (is_valid_step sc) sc.steps) (valid_built sc h).steps).0
+few_steps sc h = count_most 0 steps_limit (length sc.steps) (and_parts (has_count 0 steps_limit sc.steps) (list_all (is_valid_step sc) sc.steps) (valid_built sc h).steps).0
 
 -- a world after its listed steps has few of them, as these send at most 16 times as many mails
-pub few_undelivered : (world : Seen) (undelivered : ℕ) → is_built world.scenario ≡ true → IsListed world → (world.given_up ≡ false → undelivered ≤ 16 * length world.machine.state.steps) → undelivered < 2 ^ 32
+pub few_undelivered : (world : WorldView) (undelivered : ℕ) → is_built world.scenario ≡ true → IsListed world → (world.given_up ≡ false → undelivered ≤ 16 * length world.machine.state.steps) → undelivered < 2 ^ 32
 few_undelivered world undelivered h listed_is few =
     let done : length world.machine.state.steps ≡ length world.scenario.steps =
     ap (λ (m : Machine). length m.state.steps) listed_is.now ∙ ap length (listed_steps world.scenario h listed_is.lawful) in

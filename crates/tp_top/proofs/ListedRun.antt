@@ -1,41 +1,37 @@
 -- The listed steps: they name what exists, are of kinds that are built, and where none is refused all are done.
-use Rattle.std.proofs.Common.{◌≡◌, ℕ, ◌+◌, ◌<◌, List, [], ◌∷◌, ◌++◌, drop, take, nat_lt, true, false, Option, Some, None, refl, sym, ap, subst, ◌∙◌, arith}
+use Rattle.std.proofs.Common.{◌≡◌, ℕ, ◌+◌, List, [], ◌∷◌, ◌++◌, drop, take, true, false, Option, Some, None, refl, sym, ap, subst, ◌∙◌}
 use Rattle.std.specs.List.{list_all}
-use Rattle.std.proofs.lemmas.Bool.{and_parts}
-use Rattle.std.proofs.lemmas.Bool.Decides.{nat_tests}
-use Rattle.std.proofs.lemmas.List.{drop-drop}
+use Rattle.std.proofs.lemmas.Bool.{and_parts, ltb-true}
+use Rattle.std.proofs.lemmas.Option.{none-some}
 use Rattle.tp_model.specs.Words.{Scenario, Step}
 use Rattle.tp_model.specs.Words.step
 use Rattle.tp_model.specs.Built.{is_built}
-use Rattle.tp_model.specs.Limits.{has_count}
+use Rattle.tp_model.specs.Limits.{has_count, steps_limit}
 use Rattle.tp_model.specs.Stage.{are_plain_steps, delivered_after, is_plain_step}
 use Rattle.tp_model.specs.Valid.{is_admin, is_server, is_valid_step}
 use Rattle.tp_model.proofs.RuleLemmas.{stage_built, valid_built}
 use Rattle.tp_machine.specs.declared.error.StepError.{StepError}
 use Rattle.tp_machine.specs.Machine.{Machine, after_steps, machine_after, refusal}
-use Rattle.tp_machine.specs.Seen.{Does, IsBuiltStep, Refuses, Seen}
+use Rattle.tp_machine.specs.WorldView.{Does, IsBuiltStep, Refuses, WorldView}
 use Rattle.tp_machine.specs.Sound.{Each, IsStepOf}
 use Rattle.tp_machine.proofs.basics.Machine.{after_steps-snoc}
-use Rattle.tp_top.proofs.AutoLemmas.{after_allowed, take_more}
+use Rattle.tp_top.proofs.AutoLemmas.{after_allowed, drop_more, take_more}
 use Rattle.tp_top.specs.declared.listed.StepRefusal.{StepRefusal}
-use Rattle.tp_top.specs.Auto.{stepped}
+use Rattle.tp_top.specs.Auto.{world_after}
 use Rattle.tp_top.specs.Listed.{refused_from, refused_or}
 use Rattle.tp_top.specs.mirrors.Answers.{Follows}
 
 -- ---- each listed step
 
-low_is : (n count : ℕ) → nat_lt n count ≡ true → n < count
-low_is n count h = grind (arith, nat_tests)
-
 -- a plain step of a valid scenario names what exists
 plain_exists : (sc : Scenario) (delivered : List ℕ) (taken : Step) → is_valid_step sc taken ≡ true → is_plain_step delivered taken ≡ true → IsStepOf sc taken
-plain_exists sc delivered (step.Submit txn) valid plain = low_is _ _ valid
+plain_exists sc delivered (step.Submit txn) valid plain = ltb-true _ _ valid
 plain_exists sc delivered (step.Tick by) valid plain = tt
-plain_exists sc delivered (step.Revoke cred) valid plain = low_is _ _ valid
+plain_exists sc delivered (step.Revoke cred) valid plain = ltb-true _ _ valid
 plain_exists sc delivered (step.Deliver mail) valid plain = tt
-plain_exists sc delivered (step.Publish admin) valid plain = low_is _ _ valid
+plain_exists sc delivered (step.Publish admin) valid plain = ltb-true _ _ valid
 plain_exists sc delivered (step.Push admin server) valid plain =
-    let parts = and_parts (is_admin sc admin) (is_server sc server) valid in (low_is _ _ parts.0, low_is _ _ parts.1)
+    let parts = and_parts (is_admin sc admin) (is_server sc server) valid in (ltb-true _ _ parts.0, ltb-true _ _ parts.1)
 plain_exists sc delivered (step.Lose mail) valid plain = absurd (cc)
 plain_exists sc delivered (step.Crash who cut) valid plain = absurd (cc)
 plain_exists sc delivered (step.Boot who) valid plain = absurd (cc)
@@ -69,7 +65,7 @@ all_kinds delivered (taken ∷ steps) plain =
 
 pub listed_exist : (sc : Scenario) → is_built sc ≡ true → Each (IsStepOf sc) sc.steps
 listed_exist sc built =
-    all_exist sc [] sc.steps (and_parts (has_count 0 100000 sc.steps) (list_all (is_valid_step sc) sc.steps) (valid_built sc built).steps).1 (stage_built sc built).steps
+    all_exist sc [] sc.steps (and_parts (has_count 0 steps_limit sc.steps) (list_all (is_valid_step sc) sc.steps) (valid_built sc built).steps).1 (stage_built sc built).steps
 
 pub listed_kinds : (sc : Scenario) → is_built sc ≡ true → Each IsBuiltStep sc.steps
 listed_kinds sc built = all_kinds [] sc.steps (stage_built sc built).steps
@@ -93,12 +89,12 @@ none_refused sc m at taken steps e =
 -- ---- how far the steps were followed
 
 -- so many of the steps are done, and what is refused is sought among the rest
-pub record Followed (old new : Seen) (steps : List Step) (count : ℕ) : Type 0 where
+pub record Followed (old new : WorldView) (steps : List Step) (count : ℕ) : Type 0 where
   pub up : new.given_up ≡ false
-  pub now : new ≡ stepped old (take count steps)
+  pub now : new ≡ world_after old (take count steps)
   pub rest : refused_from old.scenario old.machine 0 steps ≡ refused_from old.scenario new.machine count (drop count steps)
 
-pub followed_none : (old : Seen) (steps : List Step) → old.given_up ≡ false → Followed old old steps 0
+pub followed_none : (old : WorldView) (steps : List Step) → old.given_up ≡ false → Followed old old steps 0
 followed_none old steps up = record { up = up; now = refl; rest = refl }
 
 refused_allowed : (sc : Scenario) (m : Machine) (at : ℕ) (taken : Step) (steps : List Step) → refusal m.state taken ≡ None
@@ -109,52 +105,46 @@ refused_here : (sc : Scenario) (m : Machine) (at : ℕ) (taken : Step) (steps : 
     → refused_from sc m at (taken ∷ steps) ≡ Some (record { at = at; why = why })
 refused_here sc m at taken steps why e = ap (λ (w : Option StepError). refused_or w at (refused_from sc (machine_after sc m taken) (at + 1) steps)) e
 
-drop_one : {A : Type 0} (k : ℕ) (xs : List A) (y : A) (ys : List A) → drop k xs ≡ y ∷ ys → drop (k + 1) xs ≡ ys
-drop_one k xs y ys e = sym (drop-drop 1 k xs) ∙ ap (drop 1) e
+scenario_kept : (old new : WorldView) (steps : List Step) (count : ℕ) → Followed old new steps count → new.scenario ≡ old.scenario
+scenario_kept old new steps count f = ap (λ (w : WorldView). w.scenario) f.now
 
-scenario_kept : (old new : Seen) (steps : List Step) (count : ℕ) → Followed old new steps count → new.scenario ≡ old.scenario
-scenario_kept old new steps count f = ap (λ (w : Seen). w.scenario) f.now
-
-stepped_one : (old mid new : Seen) (done : List Step) (taken : Step) → mid ≡ stepped old done → Does mid new taken → new ≡ stepped old (done ++ taken ∷ [])
+stepped_one : (old mid new : WorldView) (done : List Step) (taken : Step) → mid ≡ world_after old done → Does mid new taken → new ≡ world_after old (done ++ taken ∷ [])
 stepped_one old mid new done taken e did =
-    let allowed : refusal (stepped old done).machine.state taken ≡ None = subst (λ (w : Seen). refusal w.machine.state taken ≡ None) e did.not_refused in
+    let allowed : refusal (world_after old done).machine.state taken ≡ None = subst (λ (w : WorldView). refusal w.machine.state taken ≡ None) e did.not_refused in
     did.now
-    ∙ (ap (λ (w : Seen). record w { machine = machine_after w.scenario w.machine taken }) e
+    ∙ (ap (λ (w : WorldView). record w { machine = machine_after w.scenario w.machine taken }) e
     ∙ ap (λ (m : Machine). record old { machine = m })
     (sym (after_steps-snoc old.scenario old.machine done taken ∙ after_allowed old.scenario (after_steps old.scenario old.machine done) taken allowed)))
 
 -- one step more is done
-pub followed_more : (old mid new : Seen) (steps : List Step) (count : ℕ) (taken : Step) (others : List Step) → Followed old mid steps count → drop count steps ≡ taken ∷ others → Does mid new taken
+pub followed_more : (old mid new : WorldView) (steps : List Step) (count : ℕ) (taken : Step) (others : List Step) → Followed old mid steps count → drop count steps ≡ taken ∷ others → Does mid new taken
     → Followed old new steps (count + 1)
 followed_more old mid new steps count taken others f e did =
     let machine : new.machine ≡ machine_after old.scenario mid.machine taken =
-    ap (λ (w : Seen). w.machine) did.now ∙ ap (λ (sc : Scenario). machine_after sc mid.machine taken) (scenario_kept old mid steps count f) in
+    ap (λ (w : WorldView). w.machine) did.now ∙ ap (λ (sc : Scenario). machine_after sc mid.machine taken) (scenario_kept old mid steps count f) in
     record {
-      up = ap (λ (w : Seen). w.given_up) did.now ∙ did.was_up;
-      now = stepped_one old mid new (take count steps) taken f.now did ∙ ap (stepped old) (sym (take_more count steps taken others e));
+      up = ap (λ (w : WorldView). w.given_up) did.now ∙ did.was_up;
+      now = stepped_one old mid new (take count steps) taken f.now did ∙ ap (world_after old) (sym (take_more count steps taken others e));
       rest = f.rest
           ∙ (ap (refused_from old.scenario mid.machine count) e
           ∙ (refused_allowed old.scenario mid.machine count taken others did.not_refused
           ∙ (ap (λ (m : Machine). refused_from old.scenario m (count + 1) others) (sym machine)
-          ∙ ap (refused_from old.scenario new.machine (count + 1)) (sym (drop_one count steps taken others e)))));
+          ∙ ap (refused_from old.scenario new.machine (count + 1)) (sym (drop_more count steps taken others e)))));
     }
 
-absent_some : {A : Type 0} (x : A) → Some x ≡ None → ⊥
-absent_some x e = cc
-
 -- the next step is refused
-pub follows_refused : (old mid new : Seen) (steps : List Step) (count : ℕ) (taken : Step) (others : List Step) (why : StepError) → Followed old mid steps count → drop count steps ≡ taken ∷ others
+pub follows_refused : (old mid new : WorldView) (steps : List Step) (count : ℕ) (taken : Step) (others : List Step) (why : StepError) → Followed old mid steps count → drop count steps ≡ taken ∷ others
     → Refuses mid new taken why → Follows old new steps (Some (record { at = count; why = why }))
 follows_refused old mid new steps count taken others why f e r =
     record {
       first = sym (f.rest ∙ (ap (refused_from old.scenario mid.machine count) e ∙ refused_here old.scenario mid.machine count taken others why r.reason));
-      done = λ none. absurd (absent_some (record { at = count; why = why }) none);
+      done = λ none. absurd (none-some (record { at = count; why = why }) (sym none));
     }
 
 -- all are done
-pub follows_all : (old new : Seen) (steps : List Step) (count : ℕ) → Followed old new steps count → drop count steps ≡ [] → take count steps ≡ steps → Follows old new steps None
+pub follows_all : (old new : WorldView) (steps : List Step) (count : ℕ) → Followed old new steps count → drop count steps ≡ [] → take count steps ≡ steps → Follows old new steps None
 follows_all old new steps count f none all =
     record {
       first = sym (f.rest ∙ ap (refused_from old.scenario new.machine count) none);
-      done = λ _. f.now ∙ ap (stepped old) all;
+      done = λ _. f.now ∙ ap (world_after old) all;
     }

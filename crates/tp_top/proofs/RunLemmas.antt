@@ -11,7 +11,7 @@ use Rattle.tp_top.specs.declared.answer.Answer.TheVariants as answer
 use Rattle.tp_top.specs.Auto.{automatic_from, next_of}
 use Rattle.tp_top.specs.mirrors.Answers.{IsRefusal, IsReported}
 use Rattle.tp_scenario.specs.Reads.{IsOutOfMemory}
-use Rattle.tp_top.specs.Run.{Answers, IsInputRefused, Reads, TakesAll, automatic_bound, listed}
+use Rattle.tp_top.specs.Run.{Answers, IsInputRefused, Reads, TakesAll, automatic_bound, after_listed}
 
 length-next : (sc : Scenario) (left cursor : ℕ) (m : Machine) (next : Option Step)
     → ((taken : Step) → length (automatic_from sc left cursor (after_step sc m taken)) ≤ left)
@@ -36,7 +36,7 @@ answers_reported old new faults faults' bytes sc (answer.Report text) taken buil
       reads = reads;
       lawful = h.lawful;
       quiet = h.quiet;
-      within = length-automatic_from sc (automatic_bound sc) 0 (listed sc);
+      within = length-automatic_from sc (automatic_bound sc) 0 (after_listed sc);
       trusted = trusted_run sc built h.lawful h.so_far h.whole;
       text_is = h.text_is;
     }

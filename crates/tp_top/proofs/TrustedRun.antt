@@ -1,5 +1,5 @@
 -- The history of a whole run is trusted: the invariants of every world, and the end of the one run.
-use Rattle.std.proofs.Common.{◌≡◌, ℕ, zero, suc, ◌+◌, ◌-◌, ◌<◌, ◌≤◌, ◌==◌, List, [], ◌∷◌, ◌++◌, length, find, cond, nat_lt, slice_get, Bool, true, false, not, Option, Some, None, option_map, if◌then◌else◌, refl, sym, ap, subst, ◌∙◌, arith}
+use Rattle.std.proofs.Common.{◌≡◌, ℕ, zero, suc, ◌+◌, ◌-◌, ◌<◌, ◌≤◌, ◌==◌, List, [], ◌∷◌, ◌++◌, length, find, cond, nat_lt, slice_get, Bool, true, false, not, Option, Some, None, option_map, if◌then◌else◌, refl, sym, ap, subst, ◌∙◌, arith, append_assoc}
 use Rattle.std.specs.List.{range_with_len}
 use Rattle.std.proofs.lemmas.Bool.Decides.{nat_tests}
 use Rattle.std.proofs.lemmas.List.{append_assoc, append-nil, length-append}
@@ -13,13 +13,13 @@ use Rattle.tp_machine.specs.declared.error.StepError.{StepError}
 use Rattle.tp_machine.specs.declared.error.StepError.TheVariants as error
 use Rattle.tp_machine.specs.Laws.{HasAllCommits, IsTrustedState}
 use Rattle.tp_machine.specs.Machine.{Machine, Move, State, after, after_step, after_steps, delivery, ending_of, idle_move, is_submitted, machine_after, mails_of, opening, publishes, pushes, refusal, revokes, state_after, submission, ticks, with_new, without_number}
-use Rattle.tp_machine.specs.Seen.{IsBuiltStep}
+use Rattle.tp_machine.specs.WorldView.{IsBuiltStep}
 use Rattle.tp_machine.specs.Sound.{Each, IsStepOf, IsTxn}
 use Rattle.tp_machine.proofs.basics.Machine.{steps_next}
 use Rattle.tp_machine.proofs.basics.Lists.{each_append, each_as, each_filter, each_map}
 use Rattle.tp_top.specs.Auto.{automatic_from, lowest_unsubmitted, next_by, next_of, txns_of}
 use Rattle.tp_top.specs.Listed.{refused_from}
-use Rattle.tp_top.specs.Run.{all_steps, automatic, automatic_bound, final, first_refused, listed}
+use Rattle.tp_top.specs.Run.{all_steps, automatic, automatic_bound, final, first_refused, after_listed}
 use Rattle.tp_top.proofs.AutoLemmas.{after_allowed, automatic-none, automatic-some}
 use Rattle.tp_top.proofs.ListedRun.{listed_exist, listed_kinds, none_refused}
 
@@ -117,17 +117,13 @@ record AreDone (sc : Scenario) (m : Machine) (steps : List Step) : Type 0 where
   pub exist : Each (IsStepOf sc) steps
   pub steps_are : (after_steps sc m steps).state.steps ≡ m.state.steps ++ steps
 
-append_one : {A : Type 0} (xs : List A) (x : A) (ys : List A) → (xs ++ x ∷ []) ++ ys ≡ xs ++ x ∷ ys
-append_one [] x ys = refl
-append_one (first ∷ xs) x ys = ap (λ zs. first ∷ zs) (append_one xs x ys)
-
 -- one step and the rest
 done_first : (sc : Scenario) (m : Machine) (taken : Step) (others : List Step) → IsDone sc m taken → AreDone sc (machine_after sc m taken) others → AreDone sc m (taken ∷ others)
 done_first sc m taken others d rest =
     record {
       exist = (d.exists, rest.exist);
       steps_are = ap (λ (k : Machine). (after_steps sc k others).state.steps) (after_allowed sc m taken d.allowed)
-          ∙ (rest.steps_are ∙ (ap (λ (steps : List Step). steps ++ others) (steps_next sc m taken d.kind) ∙ append_one m.state.steps taken others));
+          ∙ (rest.steps_are ∙ (ap (λ (steps : List Step). steps ++ others) (steps_next sc m taken d.kind) ∙ append_assoc m.state.steps (taken ∷ []) others));
     }
 
 by_next : (sc : Scenario) (left : ℕ) (m : Machine) (next : Option Step) → next_of sc m 0 ≡ next → AreSent m → ((k : Machine) → AreSent k → AreDone sc k (automatic_from sc left 0 k))
@@ -170,7 +166,7 @@ listed_done sc m at (taken ∷ steps) exist kinds none =
     (listed_done sc (machine_after sc m taken) (at + 1) steps exist.1 kinds.1 n.rest)
 
 -- the machine then has exactly these steps
-pub listed_steps : (sc : Scenario) → is_built sc ≡ true → first_refused sc ≡ None → (listed sc).state.steps ≡ sc.steps
+pub listed_steps : (sc : Scenario) → is_built sc ≡ true → first_refused sc ≡ None → (after_listed sc).state.steps ≡ sc.steps
 listed_steps sc built lawful = (listed_done sc (opening sc) 0 sc.steps (listed_exist sc built) (listed_kinds sc built) lawful).steps_are
 
 -- and the undelivered mails after them were sent
@@ -186,7 +182,7 @@ all_done : (sc : Scenario) → is_built sc ≡ true → first_refused sc ≡ Non
 all_done sc built lawful =
     done_after sc (opening sc) sc.steps (automatic sc)
     (listed_done sc (opening sc) 0 sc.steps (listed_exist sc built) (listed_kinds sc built) lawful)
-    (automatic_done sc (automatic_bound sc) (listed sc) (listed_sent sc (opening sc) 0 sc.steps lawful tt))
+    (automatic_done sc (automatic_bound sc) (after_listed sc) (listed_sent sc (opening sc) 0 sc.steps lawful tt))
 
 steps_of : (sc : Scenario) → is_built sc ≡ true → first_refused sc ≡ None → (final sc).state.steps ≡ all_steps sc
 steps_of sc built lawful = ap (λ (m : Machine). m.state.steps) (final_after sc) ∙ (all_done sc built lawful).steps_are

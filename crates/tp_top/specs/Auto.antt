@@ -6,7 +6,7 @@ use Rattle.tp_model.specs.Words.{Scenario, Step, Transaction, TxnId}
 use Rattle.tp_model.specs.Words.step
 use Rattle.tp_machine.specs.declared.actors.Actors.{Actors}
 use Rattle.tp_machine.specs.Machine.{Machine, after_step, after_steps, is_submitted}
-use Rattle.tp_machine.specs.Seen.{GivesUp, Seen}
+use Rattle.tp_machine.specs.WorldView.{GivesUp, WorldView}
 
 -- ---- which step is next
 
@@ -48,28 +48,28 @@ automatic_steps sc count m = automatic_from sc count 0 m
 -- ---- what a drain does
 
 -- the automatic steps of a world, at most so many
-abbrev pub steps_of : Seen → ℕ → List Step
+abbrev pub steps_of : WorldView → ℕ → List Step
 steps_of world budget = automatic_steps world.scenario budget world.machine
 
 -- the world after these steps
-abbrev pub stepped : Seen → List Step → Seen
-stepped world taken = record world { machine = after_steps world.scenario world.machine taken }
+abbrev pub world_after : WorldView → List Step → WorldView
+world_after world taken = record world { machine = after_steps world.scenario world.machine taken }
 
 -- the world, which was not given up, did at most so many automatic steps
-pub record Drains (old new : Seen) (budget : ℕ) : Type 0 where
+pub record Drains (old new : WorldView) (budget : ℕ) : Type 0 where
   pub was_up : old.given_up ≡ false
-  pub now : new ≡ stepped old (steps_of old budget)
+  pub now : new ≡ world_after old (steps_of old budget)
 
 -- it did just so many, and is not quiet
-pub record IsSpent (old new : Seen) (budget : ℕ) : Type 0 where
+pub record IsSpent (old new : WorldView) (budget : ℕ) : Type 0 where
   pub all : length (steps_of old budget) ≡ budget
   pub goes_on : is_quiet new.scenario new.machine ≡ false
 
 -- memory was refused in one of those steps, after the ones before it were done
-pub record Stops (old new : Seen) (budget : ℕ) : Type 0 where
+pub record Stops (old new : WorldView) (budget : ℕ) : Type 0 where
   pub count : ℕ
   pub within : count < length (steps_of old budget)
-  pub gave_up : GivesUp (stepped old (take count (steps_of old budget))) new
+  pub gave_up : GivesUp (world_after old (take count (steps_of old budget))) new
 
 -- ---- how many steps are allowed
 
@@ -78,8 +78,8 @@ abbrev pub most_queries : List Transaction → ℕ
 most_queries txns = fold (λ (most : ℕ) (txn : Transaction). max most (length txn.queries)) 0 txns
 
 -- the greatest round limit, at least 2
-abbrev pub most_rounds : List Transaction → ℕ
-most_rounds txns = fold (λ (most : ℕ) (txn : Transaction). max most txn.rounds) 2 txns
+abbrev pub greatest_rounds : List Transaction → ℕ
+greatest_rounds txns = fold (λ (most : ℕ) (txn : Transaction). max most txn.rounds) 2 txns
 
 -- the bound in numbers
 abbrev pub bound_by : ℕ → ℕ → ℕ → ℕ → ℕ → ℕ
@@ -94,5 +94,5 @@ bound_by txns queries rounds servers undelivered =
 -- how many automatic steps a run allows, from so many undelivered mails on
 abbrev pub bound : Scenario → ℕ → ℕ
 bound sc undelivered =
-    bound_by (length sc.txns) (most_queries sc.txns) (most_rounds sc.txns)
+    bound_by (length sc.txns) (most_queries sc.txns) (greatest_rounds sc.txns)
     (length sc.servers) undelivered

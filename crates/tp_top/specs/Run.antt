@@ -28,18 +28,18 @@ abbrev pub first_refused : Scenario → Option StepRefusal
 first_refused sc = refused_from sc (opening sc) 0 sc.steps
 
 -- the world after the listed steps, where none is refused
-abbrev pub listed : Scenario → Machine
-listed sc = after sc sc.steps
+abbrev pub after_listed : Scenario → Machine
+after_listed sc = after sc sc.steps
 
 -- ---- the automatic steps
 
 -- the bound on the automatic steps after them
 abbrev pub automatic_bound : Scenario → ℕ
-automatic_bound sc = bound sc (length (listed sc).undelivered)
+automatic_bound sc = bound sc (length (after_listed sc).undelivered)
 
 -- the automatic steps after them
 abbrev pub automatic : Scenario → List Step
-automatic sc = automatic_steps sc (automatic_bound sc) (listed sc)
+automatic sc = automatic_steps sc (automatic_bound sc) (after_listed sc)
 
 -- the listed steps, and the automatic ones after them
 abbrev pub all_steps : Scenario → List Step
@@ -47,7 +47,7 @@ all_steps sc = sc.steps ++ automatic sc
 
 -- the world after all of them
 abbrev pub final : Scenario → Machine
-final sc = after_steps sc (listed sc) (automatic sc)
+final sc = after_steps sc (after_listed sc) (automatic sc)
 
 -- the report of that world
 abbrev pub report_of : Scenario → List ℕ

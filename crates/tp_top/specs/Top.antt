@@ -28,12 +28,12 @@ pub record Call : Type 0 where
   pub notes : Stream
 
 -- nothing was written
-abbrev pub Untouched : Stream → Type 0
-Untouched sink = Appends sink.old sink.new []
+abbrev pub IsUntouched : Stream → Type 0
+IsUntouched sink = Appends sink.old sink.new []
 
 -- the count of faults rose
-abbrev pub Failed : Stream → Type 0
-Failed stream = Rose stream.faults_old stream.faults_new
+abbrev pub HasFailed : Stream → Type 0
+HasFailed stream = Rose stream.faults_old stream.faults_new
 
 -- the input was read whole as a scenario whose run comes to rest, and exactly its report was written
 pub record WritesReport (input out : Stream) : Type 0 where
@@ -52,19 +52,19 @@ pub record FailsInReport (input out : Stream) : Type 0 where
   pub text : List ℕ
   pub runs : RunsTo input.old input.new text
   pub front : AppendsFront out.old out.new text
-  pub rose : Failed out
+  pub rose : HasFailed out
 
 -- the line of a refusal was to be written, and the sink failed after a part of it
 pub record FailsInRefusal (input notes : Stream) : Type 0 where
   pub line : List ℕ
   pub cause : HasRefusal input.old input.new line
   pub front : AppendsFront notes.old notes.new line
-  pub rose : Failed notes
+  pub rose : HasFailed notes
 
 -- the line on usage was to be written, and the sink failed after a part of it
 pub record FailsInUsage (notes : Stream) : Type 0 where
   pub front : AppendsFront notes.old notes.new usage_line
-  pub rose : Failed notes
+  pub rose : HasFailed notes
 
 -- ---- at each status
 
@@ -72,57 +72,57 @@ pub record FailsInUsage (notes : Stream) : Type 0 where
 pub record IsDone (call : Call) : Type 0 where
   pub words_are : IsRun call.words
   pub report : WritesReport call.input call.out
-  pub notes_kept : Untouched call.notes
+  pub notes_kept : IsUntouched call.notes
 
 -- the words are the one word run, the refusal was written to notes, and nothing to out
 pub record IsRefused (call : Call) : Type 0 where
   pub words_are : IsRun call.words
   pub refusal : WritesRefusal call.input call.notes
-  pub out_kept : Untouched call.out
+  pub out_kept : IsUntouched call.out
 
 -- the words are another command, the line on usage was written to notes, and nothing to out
 pub record IsUsage (call : Call) : Type 0 where
   pub no_command : ¬ (IsRun call.words)
   pub written : Appends call.notes.old call.notes.new usage_line
-  pub out_kept : Untouched call.out
+  pub out_kept : IsUntouched call.out
 
 -- the words are the one word run, the input failed after a part of it, and nothing was written
 pub record IsReadFault (call : Call) : Type 0 where
   pub words_are : IsRun call.words
-  pub rose : Failed call.input
+  pub rose : HasFailed call.input
   pub taken : TakesAtMost (input_max + 1) call.input.old call.input.new
-  pub out_kept : Untouched call.out
-  pub notes_kept : Untouched call.notes
+  pub out_kept : IsUntouched call.out
+  pub notes_kept : IsUntouched call.notes
 
 -- the words are the one word run, the automatic steps came to their bound, and nothing was written
 pub record IsBudget (call : Call) : Type 0 where
   pub words_are : IsRun call.words
   pub runs_out : RunsOut call.input.old call.input.new
-  pub out_kept : Untouched call.out
-  pub notes_kept : Untouched call.notes
+  pub out_kept : IsUntouched call.out
+  pub notes_kept : IsUntouched call.notes
 
 -- nothing was written
 pub record IsNoMemory (call : Call) : Type 0 where
-  pub out_kept : Untouched call.out
-  pub notes_kept : Untouched call.notes
+  pub out_kept : IsUntouched call.out
+  pub notes_kept : IsUntouched call.notes
 
 -- out failed in the report, and notes were kept
 pub record IsOutFault (call : Call) : Type 0 where
   pub words_are : IsRun call.words
   pub report : FailsInReport call.input call.out
-  pub notes_kept : Untouched call.notes
+  pub notes_kept : IsUntouched call.notes
 
 -- notes failed in the line of a refusal, and out was kept
 pub record IsRefusalFault (call : Call) : Type 0 where
   pub words_are : IsRun call.words
   pub refusal : FailsInRefusal call.input call.notes
-  pub out_kept : Untouched call.out
+  pub out_kept : IsUntouched call.out
 
 -- notes failed in the line on usage, and out was kept
 pub record IsUsageFault (call : Call) : Type 0 where
   pub no_command : ¬ (IsRun call.words)
   pub usage : FailsInUsage call.notes
-  pub out_kept : Untouched call.out
+  pub out_kept : IsUntouched call.out
 
 -- what a call was, by its status
 abbrev pub EndsWith : Status → Call → Type 0

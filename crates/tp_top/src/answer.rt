@@ -9,7 +9,7 @@ ghost use Rattle.tp_model.specs.Trust.{is_trusted};
 ghost use Rattle.tp_io.specs.Whole.{TakesAtMost, input_max};
 ghost use Rattle.tp_machine.specs.Laws.{HasAllCommits, IsTrustedState};
 ghost use Rattle.tp_machine.specs.Machine.{ending_of};
-ghost use Rattle.tp_machine.specs.Seen.{start};
+ghost use Rattle.tp_machine.specs.WorldView.{start};
 ghost use Rattle.tp_top.specs.ReportText.{report_text};
 ghost use Rattle.tp_top.specs.Run.{Answers, automatic_bound};
 ghost use Rattle.tp_top.specs.mirrors.Answers.{IsListed, IsRefusal, IsReported};
@@ -55,7 +55,11 @@ pub fn answer_to<I: Source>(alloc: Global, input: &mut I) -> Answer
         Ok(bytes) => match read(alloc, bytes.as_slice()) {
             Err(ScenarioError::NoMemory) => Answer::NoMemory,
             Err(why) => refused(alloc, &why),
-            Ok(scenario) => reported(alloc, &scenario),
+            Ok(scenario) => {
+                let answer = reported(alloc, &scenario);
+                drop(scenario);
+                answer
+            }
         },
     }
 }
@@ -87,7 +91,9 @@ fn run(alloc: Global, scenario: &Scenario) -> Result<Answer, NoMemory>
     ensures { IfOk result (IsReported scenario.now) }
 {
     let mut world = World::start(alloc, scenario)?;
-    run_in(alloc, &mut world, scenario)
+    let answer = run_in(alloc, &mut world, scenario);
+    drop(world);
+    answer
 }
 
 /// The same in a scenario's world before its first step.

@@ -2,7 +2,7 @@
 ghost use Rattle.std.specs.Prelude.{◌≡◌, ◌≢◌, ◌<◌, ◌≤◌, ◌^◌, true, false, None, length, IfSome};
 ghost use Rattle.tp_model.specs.Built as built;
 ghost use Rattle.tp_machine.specs.Machine.{is_submitted, refusal};
-ghost use Rattle.tp_machine.specs.Seen.{IsBuiltStep};
+ghost use Rattle.tp_machine.specs.WorldView.{IsBuiltStep};
 ghost use Rattle.tp_machine.specs.Sound.{IsStepOf};
 ghost use Rattle.tp_top.specs.Auto as automatic;
 ghost use Rattle.tp_top.specs.Auto.{Drains, IsSpent, Stops, is_quiet, lowest_unsubmitted, next_of};
@@ -39,7 +39,7 @@ fn lowest_unsubmitted(world: &World) -> Option<TxnId>
 /// the lowest transaction that is not submitted is submitted. The cursor is where a timer will be looked for first.
 pub fn next(world: &World, cursor: u32) -> Option<Step>
     ensures value { result ≡ next_of world.now.scenario world.now.machine cursor }
-    ensures taken { IfSome result IsBuiltStep }
+    ensures built { IfSome result IsBuiltStep }
     ensures ids { IfSome result (IsStepOf world.now.scenario) }
     ensures allowed { IfSome result (λ step. refusal world.now.machine.state step ≡ None) }
 {
@@ -89,7 +89,7 @@ fn most_queries(txns: &[Transaction]) -> u64
 
 /// The greatest round limit, at least 2.
 fn most_rounds(txns: &[Transaction]) -> u64
-    ensures { result ≡ automatic.most_rounds txns.now }
+    ensures { result ≡ automatic.greatest_rounds txns.now }
 {
     txns.iter()
         .fold(2, |most, txn| most.max(u64::from(txn.rounds)))

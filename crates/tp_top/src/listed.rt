@@ -1,6 +1,6 @@
 //! The listed steps: they are done in order, until one is refused.
 ghost use Rattle.std.specs.Prelude.{◌≡◌, false, IfOk};
-ghost use Rattle.tp_machine.specs.Seen.{IsBuiltStep};
+ghost use Rattle.tp_machine.specs.WorldView.{IsBuiltStep};
 ghost use Rattle.tp_machine.specs.Sound.{Each, IsStepOf};
 ghost use Rattle.tp_top.specs.mirrors.Answers.{Follows};
 

@@ -13,13 +13,13 @@ abbrev pub is_digit : ℕ → Bool
 is_digit byte = nat_le 48 byte && nat_le byte 57
 
 -- a lower-case letter, a digit or `_`
-abbrev pub is_part : ℕ → Bool
-is_part byte = is_letter byte || is_digit byte || (byte == 95)
+abbrev pub is_name_byte : ℕ → Bool
+is_name_byte byte = is_letter byte || is_digit byte || (byte == 95)
 
--- a name begins with a letter, goes on with parts, and has at most 32 bytes
+-- a name begins with a letter, goes on with these bytes, and has at most 32 bytes
 abbrev pub is_name : List ℕ → Bool
 is_name [] = false
-is_name (first ∷ others) = is_letter first && nat_lt (length others) 32 && list_all is_part others
+is_name (first ∷ others) = is_letter first && nat_lt (length others) 32 && list_all is_name_byte others
 
 abbrev pub IsName : List ℕ → Type 0
 IsName bytes = IsTrue (is_name bytes)

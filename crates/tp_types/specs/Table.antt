@@ -5,8 +5,3 @@ use Rattle.std.specs.Prelude.{Bool, true, false, Option, Some, None}
 abbrev pub is_unset : {A : Type 0} → Option (Option A) → Bool
 is_unset (Some None) = true
 is_unset _ = false
-
--- what stands at the place, if it is there and not empty
-abbrev pub flattened : {A : Type 0} → Option (Option A) → Option A
-flattened None = None
-flattened (Some found) = found

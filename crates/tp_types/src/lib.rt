@@ -12,6 +12,7 @@ mod reaction;
 mod records;
 mod results;
 mod scenario;
+mod spelling;
 mod table;
 
 pub use fact::{Ending, Fact, What};
@@ -22,7 +23,7 @@ pub use mail::{
     NewestReply, PrepareRequest, ProbeRequest, PushNotice, QueryRequest, Reaction, TellReply,
     ValidateRequest, VerdictsReply, Vote, VoteReply,
 };
-pub use name::{Name, Text};
+pub use name::{Name, Text, is_name};
 pub use number::number_of;
 pub use policy::{Action, Cond, Op, Pattern, Policy, Rule, Value};
 pub use reaction::{forced_and_sent, ignored, nothing, sent_alone, unbuilt};
@@ -35,4 +36,5 @@ pub use scenario::{
     Actor, Admin, Credential, Cut, Item, Level, Operand, Query, Scenario, Scheme, ServerDecl, Step,
     Term, Transaction,
 };
-pub use table::{none_for_each, taken};
+pub use spelling::{DIGITS_MAX, NAME_MAX, is_digit, is_letter, is_name_byte};
+pub use table::{none_for_each, take_at};

@@ -5,11 +5,9 @@ ghost use Rattle.tp_types.specs.Spelling.{IsName};
 ghost use Rattle.std.specs.List.{list_all};
 
 use crate::list::{List, NoMemory, TryClone};
+use crate::spelling::{NAME_MAX, is_letter, is_name_byte};
 use std::alloc::Global;
 use std::marker::Model;
-
-/// The most bytes of a name.
-const NAME_MAX: usize = 32;
 
 /// A name: a lower-case letter and at most 31 lower-case letters, digits and `_`. Contracts see its bytes.
 #[derive(Drop, PartialEq)]
@@ -44,6 +42,7 @@ impl Name {
         Ok(Some(Name { bytes: copied }))
     }
 
+    /// The name's bytes, as it is spelled.
     pub fn bytes(&self) -> &[u8]
         ensures value { result.now ≡ self.now }
         ensures spelled { IsName self.now }
@@ -76,22 +75,10 @@ fn copied_bytes(alloc: Global, bytes: &[u8]) -> Result<List<u8>, NoMemory>
     Ok(List::from_vec(Vec::from_slice(alloc, bytes)?))
 }
 
-fn is_letter(byte: u8) -> bool
-    ensures { result ≡ spelling.is_letter byte }
+fn are_name_bytes(bytes: &[u8]) -> bool
+    ensures { result ≡ list_all spelling.is_name_byte bytes.now }
 {
-    b'a' <= byte && byte <= b'z'
-}
-
-fn is_part(byte: u8) -> bool
-    ensures { result ≡ spelling.is_part byte }
-{
-    is_letter(byte) || b'0' <= byte && byte <= b'9' || byte == b'_'
-}
-
-fn are_parts(bytes: &[u8]) -> bool
-    ensures { result ≡ list_all spelling.is_part bytes.now }
-{
-    bytes.iter().all(|byte| is_part(*byte))
+    bytes.iter().all(|byte| is_name_byte(*byte))
 }
 
 /// Whether the bytes are spelled as a name.
@@ -101,7 +88,7 @@ pub fn is_name(bytes: &[u8]) -> bool
     match bytes.split_first() {
         None => false,
         Some((first, others)) => {
-            is_letter(*first) && others.len() < NAME_MAX && are_parts(others)
+            is_letter(*first) && others.len() < NAME_MAX && are_name_bytes(others)
         }
     }
 }

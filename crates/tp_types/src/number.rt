@@ -3,14 +3,7 @@ ghost use Rattle.std.specs.Prelude.{◌≡◌, ◌^◌, ◌<◌, ◌≤◌, leng
 ghost use Rattle.std.specs.List.{list_all};
 ghost use Rattle.tp_types.specs.Spelling as spelling;
 
-/// The most digits of a number.
-const DIGITS_MAX: usize = 15;
-
-fn is_digit(byte: u8) -> bool
-    ensures { result ≡ spelling.is_digit byte }
-{
-    b'0' <= byte && byte <= b'9'
-}
+use crate::spelling::{DIGITS_MAX, is_digit};
 
 fn are_digits(bytes: &[u8]) -> bool
     ensures { result ≡ list_all spelling.is_digit bytes.now }

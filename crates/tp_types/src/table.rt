@@ -1,6 +1,6 @@
 //! Tables with a place for each number.
 ghost use Rattle.std.specs.Prelude.{◌≡◌, None, replicate, slice_get, slice_set, IfOk};
-ghost use Rattle.tp_types.specs.Table.{flattened};
+ghost use Rattle.std.specs.Option.{option_flatten};
 
 use crate::list::{List, NoMemory};
 use std::alloc::Global;
@@ -17,8 +17,8 @@ pub fn none_for_each<T: Drop>(alloc: Global, count: usize) -> Result<List<Option
 }
 
 /// Takes what stands at a place, and leaves the place empty.
-pub fn taken<T: Drop>(places: &mut List<Option<T>>, at: usize) -> Option<T>
-    ensures value { result ≡ flattened (slice_get places.old at) }
+pub fn take_at<T: Drop>(places: &mut List<Option<T>>, at: usize) -> Option<T>
+    ensures value { result ≡ option_flatten (slice_get places.old at) }
     ensures left { places.new ≡ slice_set places.old at None }
 {
     match places.get_mut(at) {

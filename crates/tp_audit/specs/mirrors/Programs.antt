@@ -13,7 +13,7 @@ use Rattle.tp_audit.specs.declared.total.Total.{Total}
 use Rattle.tp_audit.specs.declared.trust.Commit.{Commit}
 use Rattle.tp_audit.specs.declared.versions.MasterRead.{MasterRead}
 use Rattle.tp_model.specs.Authorisation.{action_of, policy_at, rule_proves, tests_version}
-use Rattle.tp_model.specs.Credentials.{is_valid, said_by, triples_in}
+use Rattle.tp_model.specs.Credentials.{is_valid, triple_by, triples_in}
 use Rattle.tp_model.specs.Ids.{same_name}
 use Rattle.tp_model.specs.Policies as policies
 use Rattle.tp_model.specs.Policies.{Triple}
@@ -36,7 +36,7 @@ meets atom said = policies.meets atom.issuer.now atom.attr.now atom.op atom.want
 -- the credential is the subject's, and what it says passes the test
 abbrev pub says : (Triple → Bool) → Held → Credential → Bool
 says test held credential =
-    same_name credential.subject held.subject.now && test (said_by credential)
+    same_name credential.subject held.subject.now && test (triple_by credential)
 
 -- the credential of this number is the subject's, is valid at the place, and what it says passes the test
 abbrev pub shows : (Triple → Bool) → Held → CredId → Bool

@@ -2,7 +2,7 @@
 use Rattle.std.specs.Prelude.{List, Bool}
 use Rattle.tp_model.specs.Words.{CredId}
 use Rattle.tp_model.specs.Policies.{Triple}
-use Rattle.tp_model.specs.Credentials.{held_in}
+use Rattle.tp_model.specs.Credentials.{holdings_in}
 use Rattle.tp_cred.specs.declared.presented.Presented.{Presented}
 use Rattle.tp_cred.specs.Holder.{Holder}
 use Rattle.tp_cred.specs.Validity.{shows_in}
@@ -17,7 +17,7 @@ holder_in held = record {
 }
 
 abbrev pub held_by : Presented → List Triple
-held_by held = held_in held.store.now held.subject.now held.clock held.revoked.now held.creds.now
+held_by held = holdings_in held.store.now held.subject.now held.clock held.revoked.now held.creds.now
 
 abbrev pub shows : Presented → (Triple → Bool) → CredId → Bool
 shows held test cred = shows_in (holder_in held) test cred

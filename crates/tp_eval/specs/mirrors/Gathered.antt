@@ -1,5 +1,5 @@
 -- What the programs of an evaluation speak of in their contracts.
-use Rattle.std.specs.Prelude.{ℕ, List, [], Bool, false, Option, Some, None}
+use Rattle.std.specs.Prelude.{ℕ, List, Bool, false, Option, Some, None}
 use Rattle.std.specs.Option.{option_map_or}
 use Rattle.tp_model.specs.Words.{Action, Cond, CredId, Rule}
 use Rattle.tp_model.specs.Credentials.{said_in}
@@ -7,8 +7,7 @@ use Rattle.tp_model.specs.Policies.{Triple}
 use Rattle.tp_cred.specs.Holder.{Holder}
 use Rattle.tp_cred.specs.Validity.{shows_in}
 use Rattle.tp_eval.specs.declared.evidence.Evidence.{Evidence}
-use Rattle.tp_eval.specs.declared.policies.Certificate.{Certificate}
-use Rattle.tp_eval.specs.Taken.{once, taken, taken_by_rule}
+use Rattle.tp_eval.specs.Uses.{once, uses_of, uses_of_rule}
 
 -- what the credential says of the subject passes the test
 abbrev pub says : Evidence → (Triple → Bool) → CredId → Bool
@@ -28,19 +27,12 @@ abbrev pub shows : Evidence → (Triple → Bool) → CredId → Bool
 shows held test cred = shows_in (holder_in held) test cred
 
 abbrev pub takes : Evidence → Cond → Option (List CredId)
-takes held condition = taken (shows held) held.presented.now condition
+takes held condition = uses_of (shows held) held.presented.now condition
 
 abbrev pub takes_by_rule : Evidence → Action → List ℕ → Rule → Option (List CredId)
-takes_by_rule held asked item rule = taken_by_rule (shows held) held.presented.now asked item rule
+takes_by_rule held asked item rule = uses_of_rule (shows held) held.presented.now asked item rule
 
 -- a list after what was taken was added, each once; where nothing makes the condition true it stays
 abbrev pub gathered : List CredId → Option (List CredId) → List CredId
 gathered uses None = uses
 gathered uses (Some creds) = once uses creds
-
-abbrev pub rule_of : Certificate → ℕ
-rule_of certificate = certificate.rule
-
-abbrev pub uses_in : Option Certificate → List CredId
-uses_in None = []
-uses_in (Some certificate) = certificate.uses

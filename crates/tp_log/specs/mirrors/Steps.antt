@@ -1,6 +1,6 @@
 -- Several calls of a disk, one after the other, with all that the disk says of each.
 use Rattle.std.specs.Prelude.{◌≡◌, ◌⊎◌, ℕ, ◌+◌, List, [], ◌∷◌, Result, Ok, Err}
-use Rattle.tp_device.specs.Disks.{Call, Sync, Write, DiskState, Effect, Passes}
+use Rattle.tp_device.specs.Disks.{Call, Sync, Write, DiskState, CallEffect, Passes}
 use Rattle.tp_device.specs.Faults.{HasCause}
 use Rattle.tp_device.specs.declared.disk.DiskError.{DiskError}
 
@@ -10,7 +10,7 @@ forced_calls gate bytes = Write (gate + 1) bytes ∷ Sync ∷ Write gate (1 ∷ 
 
 module _ {D : Type 0} (state : D → DiskState) (left_since : D → D → List ℕ → Type 0) (does : D → Call → Result (Unit {0}) DiskError → D → Type 0) (faults : D → ℕ) where
   pub record Step (call : Call) (old : D) (result : Result (Unit {0}) DiskError) (new : D) : Type 0 where
-    pub effect : Effect call (state old) result (state new)
+    pub effect : CallEffect call (state old) result (state new)
     pub call_is : does old call result new
     pub cause : HasCause (faults old) (faults new) result
     pub time : Passes state left_since old new

@@ -1,5 +1,5 @@
 -- Ages over every list of steps: the age of an entry, of what is prepared and of a coordinator is the place of the submission.
-use Rattle.std.proofs.Common.{IfSome, List, None, Option, Some, [], ap, is_some, length, refl, slice_get, subst, suc, sym, zero, ℕ, ◌++◌, ◌+◌, ◌∙◌, ◌∷◌, ◌≡◌}
+use Rattle.std.proofs.Common.{IfSome, List, None, Option, Some, [], ap, is_some, length, refl, slice_get, subst, suc, sym, zero, ℕ, ◌++◌, ◌∙◌, ◌∷◌, ◌≡◌}
 use Rattle.tp_types.specs.Effect.{Effect}
 use Rattle.tp_model.specs.Words.body
 use Rattle.tp_model.specs.Words.step
@@ -8,6 +8,7 @@ use Rattle.tp_model.specs.Words.{Body, Letter, Mail, Prepared, Record, Scenario,
 use Rattle.tp_machine.proofs.ages.Actors.{BodyAged, CoordinatorAged, CoordinatorAges, EntryAged, LetterAged, PreparedAged, RecordAged, SubmissionAges, coordinator_row_ages, server_row_ages, submit_row_ages}
 use Rattle.tp_machine.proofs.agreement.Steps.{own_txn}
 use Rattle.tp_machine.proofs.agreement.World.{Agrees}
+use Rattle.tp_machine.proofs.basics.Facts.{each_new_mail}
 use Rattle.tp_machine.proofs.basics.Lists.{at_made, at_set, each_append, each_as, each_get, placed_none}
 use Rattle.tp_machine.proofs.basics.Logs.{prepared_grown}
 use Rattle.tp_machine.proofs.walks.Steps.{Cases, IsCoordinatorUp, WaitRightly, machine_after_by}
@@ -106,17 +107,13 @@ pub record MoveAges (w : State) (taken : Step) (move : Move) : Type 0 where
   pub actors_are : AreAged (Now w taken) move.actors w.mails
   pub letters : Each (LetterAged (Now w taken) (length w.steps)) move.letters
 
-new_mails_aged : (A : TxnId → ℕ → Type 0) (sent number : ℕ) (letters : List Letter) → Each (LetterAged A sent) letters → Each (MailAged A) (mails_of sent number letters)
-new_mails_aged A sent number [] h = tt
-new_mails_aged A sent number (letter ∷ letters) h = (h.0, new_mails_aged A sent (number + 1) letters h.1)
-
 state_after_ages : (w : State) (taken : Step) (move : Move) → MoveAges w taken move → Ages (state_after w taken move)
 state_after_ages w taken move t =
     record {
       servers = t.actors_are.servers;
       coordinators = t.actors_are.coordinators;
       sent = each_append (MailAged (Now w taken)) w.mails (mails_of (length w.steps) (length w.mails) move.letters) t.actors_are.sent
-          (new_mails_aged (Now w taken) (length w.steps) (length w.mails) move.letters t.letters);
+          (each_new_mail (LetterAged (Now w taken)) (length w.steps) (length w.mails) move.letters t.letters);
     }
 
 -- ---- acts
@@ -228,7 +225,7 @@ ages_cases sc w rightly sound h =
       authority_told = λ n mail sent. record { actors_are = ages_now w (step.Deliver n) h; letters = tells_no_age (Now w (step.Deliver n)) (length w.steps) w.actors.authority mail.letter.body };
       master_told = λ n mail sent. record { actors_are = ages_now w (step.Deliver n) h; letters = newest_no_age (Now w (step.Deliver n)) (length w.steps) w.actors.master mail.letter.body };
       published = λ admin exists more.
-          let now = master.published admin w.actors.master in
+          let now = master.after_publication admin w.actors.master in
           offices_ages w (step.Publish admin) w.actors.authority now (what.Published admin (master.next_of w.actors.master admin) ∷ []) h;
       pushed = λ admin server exists there. record { actors_are = ages_now w (step.Push admin server) h; letters = (tt, tt) };
       ticked = λ by. offices_ages w (step.Tick by) (office.after_tick by w.actors.authority) w.actors.master (what.Ticked by ∷ []) h;

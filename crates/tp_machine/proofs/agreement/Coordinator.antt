@@ -1,15 +1,15 @@
 -- Agreement, the coordinator's rows: a decision is forced once, before it is sent, and what is sent is what was decided. Votes and
 -- acknowledgements are counted by what servers have prepared and settled.
 use Rattle.std.specs.List.{list_any}
-use Rattle.std.specs.Option.{option_map_or}
-use Rattle.std.proofs.Common.{Bool, IfSome, List, None, Option, Some, [], ap, arith, cond, false, is_some, length, map, not, option_and_then, option_map, refl, slice_get, subst, suc, sym, true, zero, ℕ, ◌+◌, ◌==◌, ◌||◌, ◌∙◌, ◌∷◌, ◌≡◌}
-use Rattle.std.proofs.lemmas.Bool.{or_left}
+use Rattle.std.specs.Option.{option_map_or, option_or}
+use Rattle.std.proofs.Common.{Bool, IfSome, List, None, Option, Some, [], ap, cond, false, is_some, length, map, not, option_and_then, option_map, refl, slice_get, subst, suc, sym, true, zero, ℕ, ◌+◌, ◌==◌, ◌||◌, ◌∙◌, ◌∷◌, ◌≡◌}
+use Rattle.std.proofs.lemmas.Bool.{or_left, or_parts}
 use Rattle.std.proofs.lemmas.Map.Keys.{any_passes_from_place}
 use Rattle.std.proofs.lemmas.Option.{same_Some}
 use Rattle.tp_types.proofs.ListLemmas.{number_itself}
 use Rattle.tp_types.specs.Effect.{Effect, ignores, sends}
 use Rattle.tp_model.specs.Agreement.{has_item, has_item_at}
-use Rattle.tp_model.specs.Facts.{first_of, outcome_of}
+use Rattle.tp_model.specs.Facts.{outcome_of}
 use Rattle.tp_model.specs.Queries.{is_at_server, item_of, query_at, servers_from, servers_of}
 use Rattle.tp_model.specs.Words.actor
 use Rattle.tp_model.specs.Words.body
@@ -29,7 +29,7 @@ use Rattle.tp_machine.specs.Logs.{decided_in, decision_in}
 use Rattle.tp_machine.specs.Machine.{log_with, with_age}
 use Rattle.tp_machine.specs.Sound.{Each}
 use Rattle.tp_coord.specs.Opened.{servers_at}
-use Rattle.tp_coord.specs.Row.{aborts, asks, awaits_query, commit_round, commits, coordinator_row, denied_by, died_for, is_begun, next_number, prepare_letter, prepares, query_of, refused_by, request, sends_query, server_of, staple_of, submit_row, with_deed, without}
+use Rattle.tp_coord.specs.Row.{aborts, asks, awaits_query, commit_round, commits, coordinator_row, denied_by, died_for, is_begun, next_number, prepare_letter, prepares, own_query, refused_by, request, sends_query, server_of, staple_of, submit_row, with_deed, without}
 use Rattle.tp_coord.specs.State.{Coordinator}
 use Rattle.tp_coord.specs.declared.coordinator.Phase.TheVariants as phase
 use Rattle.tp_coord.specs.declared.coordinator.Phase.{Phase}
@@ -197,7 +197,7 @@ item_there None at e = absurd (cc)
 item_there (Some item) at e = ap (λ (server : ServerId). server.0 == at.0) (same_Some item.server at e) ∙ number_itself at.0
 
 -- the server of a query has an item of the transaction
-asked_has_item : (sc : Scenario) (c : Coordinator) (number : ℕ) (asked : Query) (at : ServerId) → query_of sc c number ≡ Some asked → server_of sc asked ≡ Some at → has_item_at sc at c.txn ≡ true
+asked_has_item : (sc : Scenario) (c : Coordinator) (number : ℕ) (asked : Query) (at : ServerId) → own_query sc c number ≡ Some asked → server_of sc asked ≡ Some at → has_item_at sc at c.txn ≡ true
 asked_has_item sc c number asked at e there = found (slice_get sc.txns c.txn.0) e
   where
     found : (declared : Option Transaction) → option_and_then (λ (txn : Transaction). query_at txn number) declared ≡ Some asked → option_map_or (has_item sc at) declared false ≡ true
@@ -219,15 +219,12 @@ all_new (server ∷ others) = ap (λ (rest : List ServerId). server ∷ rest) (a
 all_but_new : (P : ServerId → Type 0) (servers : List ServerId) → AllBut P (missing_in (map new_target servers)) servers
 all_but_new P servers = subst (λ (missing : List ServerId). AllBut P missing servers) (sym (all_new servers)) (all_but_all P servers)
 
-neither : (a b : Bool) → (a || b) ≡ false → b ≡ false
-neither a b e = grind arith
-
 removed : (first : ServerId) (awaited left : List ServerId) (server at : ServerId) (b c : Bool) → (first.0 == server.0) ≡ b → (first.0 == at.0) ≡ c
     → (is_in awaited at ≡ true → is_in left at ≡ false → at ≡ server) → (c || is_in awaited at) ≡ true → is_in (cond (not b) (first ∷ left) left) at ≡ false → at ≡ server
 removed first awaited left server at true true g k later e f = sym (same_server_is first at k) ∙ same_server_is first server g
 removed first awaited left server at true false g k later e f = later e f
 removed first awaited left server at false true g k later e f = let awaits = or_left (first.0 == at.0) (is_in left at) k in absurd (cc)
-removed first awaited left server at false false g k later e f = later e (neither (first.0 == at.0) (is_in left at) f)
+removed first awaited left server at false false g k later e f = later e (or_parts (first.0 == at.0) (is_in left at) f).1
 
 -- a server that is awaited no more is the one that replied
 removed_is : (awaited : List ServerId) (server at : ServerId) → is_in awaited at ≡ true → is_in (without awaited server) at ≡ false → at ≡ server
@@ -334,7 +331,7 @@ commits_lawful : (sc : Scenario) (P S : ServerId → Type 0) (c : Coordinator) (
     → is_begun c.phase ≡ true → Each P (servers_at sc c.txn) → CoordinatorLawful sc P S c kept (commits c rounds proofs)
 commits_lawful sc P S c kept rounds proofs h d b prepared =
     let forced = (commits c rounds proofs).reaction.append in
-    let now : option_map outcome_of (decided_in (log_with kept forced)) ≡ Some outcome.Commit = ap (option_map outcome_of) (decided_with kept forced ∙ ap (λ z. first_of z (appended decision_in forced)) d) in
+    let now : option_map outcome_of (decided_in (log_with kept forced)) ≡ Some outcome.Commit = ap (option_map outcome_of) (decided_with kept forced ∙ ap (λ z. option_or z (appended decision_in forced)) d) in
     let items : HaveItems sc c.txn c.servers = subst (HaveItems sc c.txn) (sym h.agrees.servers) (servers_at_have_items sc c.txn) in
     record {
       agrees = record { decided = now; servers = h.agrees.servers; awaited = items };
@@ -350,7 +347,7 @@ aborts_lawful : (sc : Scenario) (P S : ServerId → Type 0) (c : Coordinator) (k
     → is_begun c.phase ≡ true → CoordinatorLawful sc P S c kept (aborts c why)
 aborts_lawful sc P S c kept why h d b =
     let forced = (aborts c why).reaction.append in
-    let now : option_map outcome_of (decided_in (log_with kept forced)) ≡ Some outcome.Abort = ap (option_map outcome_of) (decided_with kept forced ∙ ap (λ z. first_of z (appended decision_in forced)) d) in
+    let now : option_map outcome_of (decided_in (log_with kept forced)) ≡ Some outcome.Abort = ap (option_map outcome_of) (decided_with kept forced ∙ ap (λ z. option_or z (appended decision_in forced)) d) in
     let items : HaveItems sc c.txn c.servers = subst (HaveItems sc c.txn) (sym h.agrees.servers) (servers_at_have_items sc c.txn) in
     record {
       agrees = record { decided = now; servers = h.agrees.servers; awaited = items };

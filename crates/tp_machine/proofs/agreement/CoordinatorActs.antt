@@ -1,6 +1,6 @@
 -- Agreement, actor by actor: what an act of a coordinator leaves agrees.
 use Rattle.std.specs.List.{cons_option, list_any}
-use Rattle.std.specs.Option.{option_map_or}
+use Rattle.std.specs.Option.{option_map_or, option_or}
 use Rattle.std.proofs.Common.{Bool, IfSome, List, None, Option, Some, [], ap, arith, drop, false, flat_map, if◌then◌else◌, inl, is_some, length, option_and_then, option_map, refl, slice_get, slice_set, subst, sym, true, ℕ, ◌++◌, ◌+◌, ◌==◌, ◌∙◌, ◌∷◌, ◌≡◌, ◌≤◌}
 use Rattle.std.proofs.lemmas.Bool.{eqb-true}
 use Rattle.std.proofs.lemmas.List.{append-nil, length-set}
@@ -16,7 +16,7 @@ use Rattle.tp_model.specs.Words.log
 use Rattle.tp_model.specs.Words.outcome
 use Rattle.tp_model.specs.Words.what
 use Rattle.tp_model.specs.Agreement.{has_item_at}
-use Rattle.tp_model.specs.Facts.{first_of, is_submission, outcome_of}
+use Rattle.tp_model.specs.Facts.{is_submission, outcome_of}
 use Rattle.tp_model.specs.Ids.{same_txn}
 use Rattle.tp_machine.specs.Logs.{decided_at, decided_by, decided_in, decision_in, prepared_by, settled_in}
 use Rattle.tp_machine.specs.Machine.{State, acts, coordinator_fact, coordinator_move, log_with}
@@ -34,7 +34,7 @@ use Rattle.tp_machine.proofs.agreement.World.{Agrees, BodyRests, CoordinatorPart
 use Rattle.tp_machine.proofs.basics.Servers.{among_servers}
 use Rattle.tp_machine.proofs.basics.Facts.{decided_what, decisions, settled_what, settlements, submissions, submitted_what}
 use Rattle.tp_machine.proofs.basics.Ids.{same_txn_is}
-use Rattle.tp_machine.proofs.basics.Logs.{IsFresh, appended, decided_with, first_stays, gained, get_set, listed, listed_first, look_set}
+use Rattle.tp_machine.proofs.basics.Logs.{IsFresh, appended, decided_with, first_stays, gained, get_set, later_some, listed, listed_first, look_set}
 use Rattle.tp_machine.proofs.basics.Lists.{at_set, each_as}
 
 -- ---- what a record tells
@@ -52,22 +52,22 @@ facts_settlements None at txn = refl
 facts_settlements (Some (log.Decided d)) at txn = refl
 facts_settlements (Some _) at txn = refl
 
-one_decided : (b : Bool) (d : Decision) → b ≡ true → cons_option (if b then Some d else None) [] ≡ d ∷ []
-one_decided true d e = refl
-one_decided false d e = absurd (cc)
+one_listed : {A : Type 0} (b : Bool) (x : A) → b ≡ true → cons_option (if b then Some x else None) [] ≡ x ∷ []
+one_listed true x e = refl
+one_listed false x e = absurd (cc)
 
-none_decided : (b : Bool) (d : Decision) → b ≡ false → cons_option (if b then Some d else None) [] ≡ []
-none_decided true d e = absurd (cc)
-none_decided false d e = refl
+none_listed : {A : Type 0} (b : Bool) (x : A) → b ≡ false → cons_option (if b then Some x else None) [] ≡ []
+none_listed true x e = absurd (cc)
+none_listed false x e = refl
 
 decisions_here : (sc : Scenario) (P : ServerId → Type 0) (txn other : TxnId) (kept : List Record) (append : Option Record) → same_txn txn other ≡ true → IfSome append (IsFirst sc P txn kept) → decisions other (coordinator_facts append) ≡ listed (appended decision_in append)
 decisions_here sc P txn other kept None e h = refl
-decisions_here sc P txn other kept (Some (log.Decided d)) e h = one_decided (same_txn d.txn other) d.decision (ap (λ (t : TxnId). same_txn t other) h.own ∙ e)
+decisions_here sc P txn other kept (Some (log.Decided d)) e h = one_listed (same_txn d.txn other) d.decision (ap (λ (t : TxnId). same_txn t other) h.own ∙ e)
 decisions_here sc P txn other kept (Some _) e h = refl
 
 decisions_elsewhere : (sc : Scenario) (P : ServerId → Type 0) (txn other : TxnId) (kept : List Record) (append : Option Record) → same_txn txn other ≡ false → IfSome append (IsFirst sc P txn kept) → decisions other (coordinator_facts append) ≡ []
 decisions_elsewhere sc P txn other kept None e h = refl
-decisions_elsewhere sc P txn other kept (Some (log.Decided d)) e h = none_decided (same_txn d.txn other) d.decision (ap (λ (t : TxnId). same_txn t other) h.own ∙ e)
+decisions_elsewhere sc P txn other kept (Some (log.Decided d)) e h = none_listed (same_txn d.txn other) d.decision (ap (λ (t : TxnId). same_txn t other) h.own ∙ e)
 decisions_elsewhere sc P txn other kept (Some _) e h = refl
 
 fresh_decided : (sc : Scenario) (P : ServerId → Type 0) (txn : TxnId) (kept : List Record) (append : Option Record) → IfSome append (IsFirst sc P txn kept) → IsFresh (appended decision_in append) (decided_in kept)
@@ -253,7 +253,7 @@ abort_stays : (sc : Scenario) (w : State) (txn other : TxnId) (part next : Part 
     → DecidedAs (slice_set w.actors.coordinators txn.0 next) other outcome.Commit → ⊥
 abort_stays sc w txn other part next append n p s h found grown f e settled r abort d = by_txn (same_txn txn other) refl
   where
-    decided : (old : Option Decision) → same_txn txn other ≡ true → decided_in part.log ≡ old → option_map outcome_of (first_of old (appended decision_in append)) ≡ Some outcome.Commit → ⊥
+    decided : (old : Option Decision) → same_txn txn other ≡ true → decided_in part.log ≡ old → option_map outcome_of (option_or old (appended decision_in append)) ≡ Some outcome.Commit → ⊥
     decided (Some d) same was now =
         let before : DecidedAs w.actors.coordinators other outcome.Commit =
         ap (option_map outcome_of) (ap (option_and_then decided_by) (was_at w.actors.coordinators txn other part found same) ∙ was) ∙ now in
@@ -278,7 +278,7 @@ prepared_serves servers txn at p = inl p
 -- what the coordinator has decided is served
 decided_served : (sc : Scenario) (servers : List (Part Server)) (txn : TxnId) (kept : List Record) (append : Option Record) (old : Option Decision) → decided_in kept ≡ old
     → IfSome old (DecisionRests (IsServed servers txn) (servers_at sc txn)) → IfSome append (IsFirst sc (IsPrepared servers txn) txn kept)
-    → IfSome (first_of old (appended decision_in append)) (DecisionRests (IsServed servers txn) (servers_at sc txn))
+    → IfSome (option_or old (appended decision_in append)) (DecisionRests (IsServed servers txn) (servers_at sc txn))
 decided_served sc servers txn kept append (Some d) e h f = h
 decided_served sc servers txn kept None None e h f = tt
 decided_served sc servers txn kept (Some (log.Decided d)) None e h f = served d.decision f.prepared
@@ -343,11 +343,7 @@ coordinator_acts_agrees sc w txn part now own append letters h found l =
 -- ---- receipts and submissions
 
 some_decided : (kept : List Record) (append : Option Record) → is_some (appended decision_in append) ≡ true → is_some (decided_in (log_with kept append)) ≡ true
-some_decided kept append e = ap is_some (decided_with kept append) ∙ either (decided_in kept) (appended decision_in append) e
-  where
-    either : (x y : Option Decision) → is_some y ≡ true → is_some (first_of x y) ≡ true
-    either None y e = e
-    either (Some d) y e = refl
+some_decided kept append e = ap is_some (decided_with kept append) ∙ later_some (decided_in kept) (appended decision_in append) e
 
 begun_test : (b : Bool) → (once b == 1) ≡ b
 begun_test true = refl
@@ -381,14 +377,6 @@ receipt_acts sc w txn part c effect h found up same l =
 zero_more : (n : ℕ) → 0 + n ≡ n
 zero_more n = omega arith
 
-one_submission : (b : Bool) (txn : TxnId) → b ≡ true → length (cons_option (if b then Some txn else None) []) ≡ 1
-one_submission true txn e = refl
-one_submission false txn e = absurd (cc)
-
-no_submission : (b : Bool) (txn : TxnId) → b ≡ false → cons_option (if b then Some txn else None) [] ≡ []
-no_submission true txn e = absurd (cc)
-no_submission false txn e = refl
-
 -- a submission of a transaction that was not submitted
 pub submission_acts : (sc : Scenario) (w : State) (txn : TxnId) (part : Part Coordinator) (c : Coordinator) (effect : Effect Coordinator) → part.up ≡ Some c → c.txn ≡ txn → is_begun c.phase ≡ false
     → SubmissionLawful sc (IsPrepared w.actors.servers txn) (IsSettled w.actors.servers txn) c part.log effect
@@ -409,8 +397,8 @@ submission_acts sc w txn part c effect up same unborn l =
       follows = subst (λ (append : Option Record). Each (WhatFollows sc w.facts) (what.Submitted txn ∷ coordinator_facts append)) (sym l.forces) (tt, tt);
       counts = λ other e. ap (λ (u : Option Coordinator). submitted_up u + length (submissions other (what.Submitted txn ∷ []))) up
           ∙ (ap (λ (b : Bool). once b + length (submissions other (what.Submitted txn ∷ []))) unborn
-          ∙ (zero_more _ ∙ (one_submission (same_txn txn other) txn e ∙ sym (ap once l.begun))));
-      apart = λ other e. no_submission (same_txn txn other) txn e;
+          ∙ (zero_more _ ∙ (ap length (one_listed (same_txn txn other) txn e) ∙ sym (ap once l.begun))));
+      apart = λ other e. none_listed (same_txn txn other) txn e;
       undecided = λ other. refl;
       unsettled = λ at other. refl;
     }

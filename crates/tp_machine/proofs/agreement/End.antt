@@ -15,22 +15,16 @@ use Rattle.tp_model.specs.Facts.{before, is_decided_as, is_decision, is_settled_
 use Rattle.tp_model.specs.Ids.{same_server, same_txn}
 use Rattle.tp_machine.specs.Logs.{decided_at, settled_at, settled_by}
 use Rattle.tp_machine.specs.Machine.{State}
-use Rattle.tp_machine.specs.Sound.{Each}
 use Rattle.tp_coord.specs.State.{Coordinator}
 use Rattle.tp_machine.specs.Parts.{Part}
 use Rattle.tp_server.specs.State.{Server}
 use Rattle.tp_machine.proofs.agreement.Logs.{DecidedAs, outcome_settled, settled_outcome, submitted_count}
 use Rattle.tp_machine.proofs.agreement.World.{Agrees, FactFollows, Follows, SettledRests, WhatFollows}
-use Rattle.tp_machine.proofs.basics.Facts.{any_decided, any_settled, count_decisions, count_settlements, count_submissions, decisions, said, settlements}
+use Rattle.tp_machine.proofs.basics.Facts.{any_decided, any_settled, count_decisions, count_settlements, count_submissions, decisions, outcome_itself, said, settlements}
 use Rattle.tp_machine.proofs.basics.Logs.{listed}
 use Rattle.tp_machine.proofs.basics.Lists.{each_get}
 
 -- ---- members
-
--- what holds of each member that is found holds of each
-pub each_found : {A : Type 0} (P : A → Type 0) (xs : List A) → ((n : ℕ) (x : A) → slice_get xs n ≡ Some x → P x) → Each P xs
-each_found P [] h = tt
-each_found P (x ∷ xs) h = (h 0 x refl, each_found P xs (λ n y e. h (suc n) y e))
 
 counted_first : (b : Bool) (rest : ℕ) → b ≡ true → 1 ≤ cond b 1 0 + rest
 counted_first true rest e = omega arith
@@ -76,10 +70,6 @@ first_one : (test : Fact → Bool) (facts : List Fact) (n : ℕ) (fact : Fact) �
 first_one test facts n fact e p most = ap not (none_ahead test facts n fact e p most)
 
 -- ---- settlements
-
-outcome_itself : (o : Outcome) → same_outcome o o ≡ true
-outcome_itself outcome.Commit = refl
-outcome_itself outcome.Abort = refl
 
 outcome_is : (one other : Outcome) → same_outcome one other ≡ true → one ≡ other
 outcome_is outcome.Commit outcome.Commit e = refl

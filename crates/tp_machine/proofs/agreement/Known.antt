@@ -1,16 +1,19 @@
 -- Agreement, what a server knows of versions: it is no less than what its log tells.
 use Rattle.std.specs.Option.{option_map_or}
 use Rattle.std.specs.Prelude.{if◌then◌else◌}
-use Rattle.std.proofs.Common.{Bool, List, None, Option, Some, [], ap, arith, false, length, refl, slice_get, slice_set, subst, suc, sym, true, unwrap_or, zero, ℕ, ◌<◌, ◌∷◌, ◌≡◌, ◌≤◌}
+use Rattle.std.proofs.Common.{Bool, List, None, Option, Some, [], ap, arith, false, length, refl, slice_get, subst, suc, sym, true, unwrap_or, ℕ, ◌<◌, ◌∷◌, ◌≡◌, ◌≤◌}
 use Rattle.std.proofs.lemmas.Bool.{eqb-true}
 use Rattle.tp_types.specs.Effect.{Effect}
 use Rattle.tp_model.specs.Ids.{same_admin}
 use Rattle.tp_model.specs.Words.outcome
 use Rattle.tp_model.specs.Words.{Admin, AdminId, Mail, PushNotice, Record, Scenario, ServerId, Version}
+use Rattle.tp_machine.proofs.basics.Lists.{set_here}
 use Rattle.tp_machine.proofs.basics.Logs.{known_with, told_by}
 use Rattle.tp_machine.proofs.basics.Stores.{ended_known, kept_known}
+use Rattle.tp_machine.proofs.basics.Versions.{set_keeps}
 use Rattle.tp_machine.proofs.walks.ServerRows.{AreRightWaits, resuming, server_by}
-use Rattle.tp_machine.specs.Logs.{known_in, number_of}
+use Rattle.tp_round.specs.Judge.{version_number}
+use Rattle.tp_machine.specs.Logs.{known_in}
 use Rattle.tp_machine.specs.Machine.{log_with}
 use Rattle.tp_machine.specs.Sound.{AreVersions, AreVersionsOf, IsAdmin}
 use Rattle.tp_server.specs.Opened.{opening}
@@ -54,21 +57,13 @@ learns_knows sc at s kept effect versions h l admin exists =
 
 -- ---- versions are learnt
 
-set_least : (versions : List Version) (n m : ℕ) (new default : Version) (least : ℕ) → least ≤ (unwrap_or (slice_get versions m) default).0 → (n ≡ m → least ≤ new.0)
-    → least ≤ (unwrap_or (slice_get (slice_set versions n new) m) default).0
-set_least [] n m new default least h now = h
-set_least (version ∷ versions) zero zero new default least h now = now refl
-set_least (version ∷ versions) zero (suc m) new default least h now = h
-set_least (version ∷ versions) (suc n) zero new default least h now = h
-set_least (version ∷ versions) (suc n) (suc m) new default least h now = set_least versions n m new default least h (λ same. now (ap suc same))
-
 greater_least : (one other : Version) (least : ℕ) → least ≤ one.0 → least ≤ (greater one other).0
 greater_least one other least h = omega (arith, h)
 
 -- a version that is learnt lowers none that is known
 known_least : (store : Contents) (told admin : AdminId) (version : Version) (least : ℕ) → least ≤ (newest_in store admin).0 → least ≤ (newest_in (with_version store told version) admin).0
 known_least store told admin version least h =
-    set_least store.known told.0 admin.0 (greater (newest_in store told) version) (record { 0 = 1 }) least h
+    set_keeps (λ (known : Version). least ≤ known.0) store.known told.0 admin.0 (greater (newest_in store told) version) (record { 0 = 1 }) h
     (λ same. greater_least (newest_in store told) version least (subst (λ (n : ℕ). least ≤ (unwrap_or (slice_get store.known n) (record { 0 = 1 })).0) (sym same) h))
 
 -- nor do the versions that are wanted
@@ -77,15 +72,12 @@ learnt_least store [] admin least h = h
 learnt_least store (wanted ∷ want) admin least h =
     learnt_least (with_version store wanted.0 wanted.1) want admin least (known_least store wanted.0 admin wanted.1 least h)
 
-set_there : (versions : List Version) (n : ℕ) (new default : Version) → n < length versions → (unwrap_or (slice_get (slice_set versions n new) n) default) ≡ new
-set_there [] n new default within = absurd (omega (arith, within))
-set_there (version ∷ versions) zero new default within = refl
-set_there (version ∷ versions) (suc n) new default within = set_there versions n new default (omega (arith, within))
-
 -- a version that is learnt is known
 known_now : (store : Contents) (admin : AdminId) (version : Version) → admin.0 < length store.known → version.0 ≤ (newest_in (with_version store admin version) admin).0
 known_now store admin version within =
-    omega (arith, ap number_of (set_there store.known admin.0 (greater (newest_in store admin) version) (record { 0 = 1 }) within))
+    let now : (newest_in (with_version store admin version) admin).0 ≡ (greater (newest_in store admin) version).0 =
+    ap (λ (found : Option Version). (unwrap_or found (record { 0 = 1 })).0) (set_here store.known admin.0 (greater (newest_in store admin) version) within) in
+    omega (arith, now)
 
 -- ---- rows
 
@@ -97,7 +89,7 @@ still_learns s effect same none =
       forces = λ admin within. let zero_told = none admin in omega (arith, zero_told);
     }
 
-known_found : (found : Option Version) → option_map_or number_of found 0 ≤ (unwrap_or found (record { 0 = 1 })).0
+known_found : (found : Option Version) → option_map_or version_number found 0 ≤ (unwrap_or found (record { 0 = 1 })).0
 known_found None = omega arith
 known_found (Some version) = omega arith
 

@@ -2,14 +2,15 @@
 -- ---- what logs say
 -- the coordinators' logs have decided the transaction so
 use Rattle.std.specs.Prelude.{if◌then◌else◌}
-use Rattle.std.proofs.Common.{Bool, List, None, Option, Some, ap, arith, false, is_some, option_map, refl, slice_get, slice_set, subst, sym, true, ℕ, ◌==◌, ◌||◌, ◌∙◌, ◌≡◌, ◌⊎◌}
-use Rattle.std.proofs.lemmas.Bool.{eqb-true}
+use Rattle.std.proofs.Common.{Bool, List, None, Option, Some, ap, false, is_some, option_map, refl, slice_get, slice_set, subst, sym, true, ℕ, ◌==◌, ◌||◌, ◌∙◌, ◌≡◌, ◌⊎◌}
+use Rattle.std.proofs.lemmas.Bool.{eqb-true, or_right}
 use Rattle.std.proofs.lemmas.Option.{same_Some}
 use Rattle.tp_model.specs.Words.{Decision, Outcome, Prepared, Record, Scenario, ServerId, Settled, TxnId}
 use Rattle.tp_model.specs.Words.log
 use Rattle.tp_model.specs.Words.outcome
 use Rattle.tp_model.specs.Agreement.{has_item_at}
-use Rattle.tp_model.specs.Facts.{first_of, outcome_of}
+use Rattle.std.specs.Option.{option_or}
+use Rattle.tp_model.specs.Facts.{outcome_of}
 use Rattle.tp_model.specs.Ids.{same_txn}
 use Rattle.tp_machine.specs.Logs.{decided_at, has_voted, has_voted_at, preparation_in, prepared_at, prepared_in, settled_at, settled_in, settlement_in, voted_in, while_unsettled}
 use Rattle.tp_machine.specs.Machine.{log_with}
@@ -126,7 +127,7 @@ LogPrepared txn kept = is_some (prepared_in txn kept) ≡ true
 abbrev pub LogServed : TxnId → List Record → Type 0
 LogServed txn kept = LogPrepared txn kept ⊎ (option_map outcome_settled (settled_in txn kept) ≡ Some outcome.Commit)
 
-unsettled_kept : (settled : Option Settled) (voted new : Option Prepared) → is_some (while_unsettled settled voted) ≡ true → is_some (while_unsettled (first_of settled None) (first_of new voted)) ≡ true
+unsettled_kept : (settled : Option Settled) (voted new : Option Prepared) → is_some (while_unsettled settled voted) ≡ true → is_some (while_unsettled (option_or settled None) (option_or new voted)) ≡ true
 unsettled_kept (Some s) voted new e = absurd (cc)
 unsettled_kept None voted None e = e
 unsettled_kept None voted (Some p) e = refl
@@ -135,7 +136,7 @@ unsettled_kept None voted (Some p) e = refl
 pub prepared_kept : (txn : TxnId) (kept : List Record) (append : Option Record) → appended (settlement_in txn) append ≡ None → LogPrepared txn kept → LogPrepared txn (log_with kept append)
 prepared_kept txn kept append open_still e =
     ap is_some (prepared_with txn kept append)
-    ∙ (ap (λ (more : Option Settled). is_some (while_unsettled (first_of (settled_in txn kept) more) (first_of (appended (preparation_in txn) append) (voted_in txn kept)))) open_still
+    ∙ (ap (λ (more : Option Settled). is_some (while_unsettled (option_or (settled_in txn kept) more) (option_or (appended (preparation_in txn) append) (voted_in txn kept)))) open_still
     ∙ unsettled_kept (settled_in txn kept) (voted_in txn kept) (appended (preparation_in txn) append) e)
 
 -- a prepared transaction is not settled
@@ -152,10 +153,7 @@ prepared_voted txn kept e = ap (λ (b : Bool). b || is_some (settled_in txn kept
 
 -- a settled one has voted too
 pub settled_voted : (txn : TxnId) (kept : List Record) → is_some (settled_in txn kept) ≡ true → has_voted txn kept ≡ true
-settled_voted txn kept e = either (is_some (while_unsettled (settled_in txn kept) (voted_in txn kept))) (is_some (settled_in txn kept)) e
-  where
-    either : (a b : Bool) → b ≡ true → (a || b) ≡ true
-    either a b f = grind arith
+settled_voted txn kept e = or_right (is_some (while_unsettled (settled_in txn kept) (voted_in txn kept))) (is_some (settled_in txn kept)) e
 
 -- a record that settles the transaction
 pub record Settles (txn : TxnId) (append : Option Record) (s : Settled) : Type 0 where

@@ -6,9 +6,9 @@ use Rattle.std.proofs.Common.{Bool, IfSome, List, None, Option, Some, [], ap, fa
 use Rattle.std.proofs.lemmas.Bool.{eqb-true}
 use Rattle.tp_types.proofs.ListLemmas.{number_itself}
 use Rattle.tp_types.specs.Effect.{Effect, ignores, sends}
-use Rattle.tp_types.specs.Table.{flattened, is_unset}
+use Rattle.std.specs.Option.{option_flatten, option_or}
+use Rattle.tp_types.specs.Table.{is_unset}
 use Rattle.tp_lock.specs.declared.entry.Grant.{Grant}
-use Rattle.tp_model.specs.Facts.{first_of}
 use Rattle.tp_model.specs.Ids.{same_txn}
 use Rattle.tp_model.specs.Words.actor
 use Rattle.tp_model.specs.Words.body
@@ -18,7 +18,7 @@ use Rattle.tp_model.specs.Words.vote
 use Rattle.tp_model.specs.Words.{Body, DecideRequest, Deed, DoneReply, Letter, Mail, No, Outcome, PrepareRequest, Prepared, PushNotice, Query, QueryRequest, Record, Scenario, ServerId, Settled, TxnId, Verdict, Vote}
 use Rattle.tp_machine.proofs.agreement.Logs.{LogPrepared}
 use Rattle.tp_machine.proofs.basics.Ids.{same_txn_is}
-use Rattle.tp_machine.proofs.basics.Lists.{each_more, placed_emptied, placed_set}
+use Rattle.tp_machine.proofs.basics.Lists.{each_more, none_if_not_some, placed_emptied, placed_set}
 use Rattle.tp_machine.proofs.basics.Logs.{first_none, get_set, prepared_still, prepared_with, settled_still, settled_with}
 use Rattle.tp_server.proofs.Tables.{written_over}
 use Rattle.tp_machine.proofs.serial_data.Lists.{set_elsewhere}
@@ -31,7 +31,7 @@ use Rattle.tp_server.specs.declared.server.Ballot.{Ballot}
 use Rattle.tp_server.specs.declared.server.Entry.{Entry}
 use Rattle.tp_server.specs.Row.{ack_letter, answers, ballot_of, closes, completes, entry_after, entry_at, followed_by, is_open, learns, no_letter, prepared_record, refused_as, restarted_reply, server_row, settled_as, votes, with_entry, yes_letter}
 use Rattle.tp_server.specs.State.{Server}
-use Rattle.tp_server.specs.Verdicts.{learnt, verdicts_on}
+use Rattle.tp_server.specs.Verdicts.{with_wants, verdicts_on}
 
 abbrev pub IsUnsettled : List Record → ℕ → Entry → Type 0
 IsUnsettled kept n entry = settled_in (record { 0 = n }) kept ≡ None
@@ -57,7 +57,7 @@ cast_in entry = option_map (vote_by entry) entry.ballot
 -- the server has settled what its log says, and that alone; it has entries of transactions that it has not settled alone; and the entries
 -- with a vote are what is prepared on its log
 pub record ServerAgrees (s : Server) (kept : List Record) : Type 0 where
-  pub settled : (txn : TxnId) → flattened (slice_get s.settled txn.0) ≡ settled_in txn kept
+  pub settled : (txn : TxnId) → option_flatten (slice_get s.settled txn.0) ≡ settled_in txn kept
   pub unsettled : EachPlaced (IsUnsettled kept) s.entries
   pub prepared : (txn : TxnId) → option_map vote_of (prepared_in txn kept) ≡ option_and_then cast_in (entry_at s txn)
 
@@ -121,12 +121,12 @@ unset_is (Some (Some x)) e = absurd (cc)
 
 -- a transaction that is open was not settled on the log
 pub open_unsettled : (s : Server) (kept : List Record) (txn : TxnId) → ServerAgrees s kept → is_open s txn ≡ true → settled_in txn kept ≡ None
-open_unsettled s kept txn h unsettled = sym (h.settled txn) ∙ ap flattened (unset_is (slice_get s.settled txn.0) unsettled)
+open_unsettled s kept txn h unsettled = sym (h.settled txn) ∙ ap option_flatten (unset_is (slice_get s.settled txn.0) unsettled)
 
 -- ---- tables
 
 -- what stands at a place after it was written: what was written, or nothing where the table has no such place
-pub written_there : {A : Type 0} (P : Option A → Type 0) (table : List (Option A)) (n : ℕ) (v : Option A) → P v → P None → P (flattened (slice_get (slice_set table n v) n))
+pub written_there : {A : Type 0} (P : Option A → Type 0) (table : List (Option A)) (n : ℕ) (v : Option A) → P v → P None → P (option_flatten (slice_get (slice_set table n v) n))
 written_there P [] n v h none = none
 written_there P (x ∷ table) zero v h none = h
 written_there P (x ∷ table) (suc n) v h none = written_there P table n v h none
@@ -151,26 +151,22 @@ pub prepared_entry : (s : Server) (kept : List Record) (txn : TxnId) → ServerA
 prepared_entry s kept txn h e = some_cast (entry_at s txn) (prepared_in txn kept) e (h.prepared txn)
 
 -- the entry of one transaction changes, and what is prepared of others stays
-entry_elsewhere : (s : Server) (one other : TxnId) (entry : Option Entry) → same_txn one other ≡ false → flattened (slice_get (slice_set s.entries one.0 entry) other.0) ≡ entry_at s other
-entry_elsewhere s one other entry apart = ap flattened (set_elsewhere s.entries one.0 other.0 entry apart)
+entry_elsewhere : (s : Server) (one other : TxnId) (entry : Option Entry) → same_txn one other ≡ false → option_flatten (slice_get (slice_set s.entries one.0 entry) other.0) ≡ entry_at s other
+entry_elsewhere s one other entry apart = ap option_flatten (set_elsewhere s.entries one.0 other.0 entry apart)
 
 -- ---- Query
 
 -- the entry of a transaction that was not voted on changes, and is not voted on after it
 run_cast : (s : Server) (kept : List Record) (txn other : TxnId) (entry : Entry) → ServerAgrees s kept → option_and_then cast_in (entry_at s txn) ≡ None → entry.ballot ≡ None → (b : Bool) → same_txn txn other ≡ b
-    → option_map vote_of (prepared_in other kept) ≡ option_and_then cast_in (flattened (slice_get (slice_set s.entries txn.0 (Some entry)) other.0))
+    → option_map vote_of (prepared_in other kept) ≡ option_and_then cast_in (option_flatten (slice_get (slice_set s.entries txn.0 (Some entry)) other.0))
 run_cast s kept txn other entry h e unvoted true same =
     let here : other ≡ txn = sym (same_txn_is txn other same) in
     let none : option_map vote_of (prepared_in txn kept) ≡ None = h.prepared txn ∙ e in
-    let now : option_map vote_of (prepared_in txn kept) ≡ option_and_then cast_in (flattened (slice_get (slice_set s.entries txn.0 (Some entry)) txn.0)) =
+    let now : option_map vote_of (prepared_in txn kept) ≡ option_and_then cast_in (option_flatten (slice_get (slice_set s.entries txn.0 (Some entry)) txn.0)) =
     written_there (λ (found : Option Entry). option_map vote_of (prepared_in txn kept) ≡ option_and_then cast_in found) s.entries txn.0 (Some entry)
     (none ∙ sym (ap (option_map (vote_by entry)) unvoted)) none in
-    subst (λ (t : TxnId). option_map vote_of (prepared_in t kept) ≡ option_and_then cast_in (flattened (slice_get (slice_set s.entries txn.0 (Some entry)) t.0))) (sym here) now
+    subst (λ (t : TxnId). option_map vote_of (prepared_in t kept) ≡ option_and_then cast_in (option_flatten (slice_get (slice_set s.entries txn.0 (Some entry)) t.0))) (sym here) now
 run_cast s kept txn other entry h e unvoted false apart = h.prepared other ∙ sym (ap (option_and_then cast_in) (entry_elsewhere s txn other (Some entry) apart))
-
-no_ballot : (ballot : Option Ballot) → is_some ballot ≡ false → ballot ≡ None
-no_ballot None e = refl
-no_ballot (Some ballot) e = absurd (cc)
 
 -- an entry at which a query runs was not voted on
 pub record IsUnvotedRun (s : Server) (q : QueryRequest) (entry : Entry) : Type 0 where
@@ -183,7 +179,7 @@ unvoted_run sc s mail q query entry value k =
     (λ (first : IsFirstHere s mail.sent q entry).
     record { entry_unvoted = ap (λ (e : Entry). e.ballot) first.entry_is; unvoted = ap (option_and_then cast_in) first.no_entry })
     (λ (further : IsFurther s q entry).
-    let none : entry.ballot ≡ None = no_ballot entry.ballot further.unvoted in
+    let none : entry.ballot ≡ None = none_if_not_some entry.ballot further.unvoted in
     record { entry_unvoted = none; unvoted = ap (option_and_then cast_in) further.found ∙ ap (option_map (vote_by entry)) none }) k.place
 
 runs_lawful : (V : TxnId → Outcome → Type 0) (M : TxnId → Type 0) (s : Server) (kept : List Record) (q : QueryRequest) (query : Query) (entry : Entry) (deed : Deed) → ServerAgrees s kept
@@ -230,13 +226,13 @@ resumes_lawful V M sc s kept effect grant q query entry value k h =
 
 -- what a log has prepared once a vote YES was forced
 voted_so : (b : Bool) (forced : Prepared) (settled : Option Settled) (old : Option Prepared) → b ≡ true → settled ≡ None
-    → while_unsettled (first_of settled None) (first_of (if b then Some forced else None) old) ≡ Some forced
+    → while_unsettled (option_or settled None) (option_or (if b then Some forced else None) old) ≡ Some forced
 voted_so true forced None old e new = refl
 voted_so true forced (Some s) old e new = absurd (cc)
 voted_so false forced settled old e new = absurd (cc)
 
 voted_else : (b : Bool) (forced : Prepared) (settled : Option Settled) (old : Option Prepared) → b ≡ false
-    → while_unsettled (first_of settled None) (first_of (if b then Some forced else None) old) ≡ while_unsettled settled old
+    → while_unsettled (option_or settled None) (option_or (if b then Some forced else None) old) ≡ while_unsettled settled old
 voted_else true forced settled old e = absurd (cc)
 voted_else false forced settled old e = ap (λ (s : Option Settled). while_unsettled s old) (first_none settled)
 
@@ -251,13 +247,13 @@ prepared_else other kept forced apart =
 
 votes_cast : (s : Server) (kept : List Record) (txn other : TxnId) (forced : Prepared) (entry now : Entry) → ServerAgrees s kept → settled_in txn kept ≡ None → forced.txn ≡ txn → entry_at s txn ≡ Some entry
     → cast_in now ≡ Some (vote_of forced) → (b : Bool) → same_txn txn other ≡ b
-    → option_map vote_of (prepared_in other (log_with kept (Some (log.Prepared forced)))) ≡ option_and_then cast_in (flattened (slice_get (slice_set s.entries txn.0 (Some now)) other.0))
+    → option_map vote_of (prepared_in other (log_with kept (Some (log.Prepared forced)))) ≡ option_and_then cast_in (option_flatten (slice_get (slice_set s.entries txn.0 (Some now)) other.0))
 votes_cast s kept txn other forced entry now h new own e cast true same =
     let here : other ≡ txn = sym (same_txn_is txn other same) in
     let log_is : option_map vote_of (prepared_in txn (log_with kept (Some (log.Prepared forced)))) ≡ Some (vote_of forced) = ap (option_map vote_of) (prepared_now txn kept forced own new) in
-    let table_is : option_and_then cast_in (flattened (slice_get (slice_set s.entries txn.0 (Some now)) txn.0)) ≡ Some (vote_of forced) =
+    let table_is : option_and_then cast_in (option_flatten (slice_get (slice_set s.entries txn.0 (Some now)) txn.0)) ≡ Some (vote_of forced) =
     ap (option_and_then cast_in) (written_over s.entries txn.0 entry (Some now) e) ∙ cast in
-    subst (λ (t : TxnId). option_map vote_of (prepared_in t (log_with kept (Some (log.Prepared forced)))) ≡ option_and_then cast_in (flattened (slice_get (slice_set s.entries txn.0 (Some now)) t.0)))
+    subst (λ (t : TxnId). option_map vote_of (prepared_in t (log_with kept (Some (log.Prepared forced)))) ≡ option_and_then cast_in (option_flatten (slice_get (slice_set s.entries txn.0 (Some now)) t.0)))
     (sym here) (log_is ∙ sym table_is)
 votes_cast s kept txn other forced entry now h new own e cast false apart =
     ap (option_map vote_of) (prepared_else other kept forced (ap (λ (t : TxnId). same_txn t other) own ∙ apart))
@@ -265,10 +261,10 @@ votes_cast s kept txn other forced entry now h new own e cast false apart =
 
 -- a vote YES settles nothing, and is prepared
 votes_lawful : (V : TxnId → Outcome → Type 0) (M : TxnId → Type 0) (s : Server) (kept : List Record) (p : PrepareRequest) (verdicts : List Verdict) (entry : Entry) → ServerAgrees s kept
-    → settled_in p.txn kept ≡ None → entry_at s p.txn ≡ Some entry → ServerLawful V M s kept (votes (learnt s p.want) p verdicts entry)
+    → settled_in p.txn kept ≡ None → entry_at s p.txn ≡ Some entry → ServerLawful V M s kept (votes (with_wants s p.want) p verdicts entry)
 votes_lawful V M s kept p verdicts entry h new e =
-    let voting = prepared_record (learnt s p.want) p entry verdicts in
-    let forced = (votes (learnt s p.want) p verdicts entry).reaction.append in
+    let voting = prepared_record (with_wants s p.want) p entry verdicts in
+    let forced = (votes (with_wants s p.want) p verdicts entry).reaction.append in
     let now : Entry = record entry { ballot = Some (ballot_of voting) } in
     let same : (txn : TxnId) → settled_in txn (log_with kept forced) ≡ settled_in txn kept = λ txn. settled_with txn kept forced ∙ first_none (settled_in txn kept) in
     record {
@@ -304,55 +300,55 @@ votes_again_lawful V M s kept p entry cast h found ballot_is =
 
 -- ---- Decide
 
-settled_here : (b : Bool) (order : Settled) (other : Option (Option Settled)) (old : Option Settled) → flattened other ≡ old → (b ≡ true → old ≡ None)
-    → flattened (if b then Some (Some order) else other) ≡ first_of old (if b then Some order else None)
-settled_here true order other old e fresh = sym (ap (λ (x : Option Settled). first_of x (Some order)) (fresh refl))
+settled_here : (b : Bool) (order : Settled) (other : Option (Option Settled)) (old : Option Settled) → option_flatten other ≡ old → (b ≡ true → old ≡ None)
+    → option_flatten (if b then Some (Some order) else other) ≡ option_or old (if b then Some order else None)
+settled_here true order other old e fresh = sym (ap (λ (x : Option Settled). option_or x (Some order)) (fresh refl))
 settled_here false order other old e fresh = e ∙ sym (first_none old)
 
-emptied : {A : Type 0} (table : List (Option A)) (n : ℕ) → flattened (slice_get (slice_set table n None) n) ≡ None
+emptied : {A : Type 0} (table : List (Option A)) (n : ℕ) → option_flatten (slice_get (slice_set table n None) n) ≡ None
 emptied table n = written_there (λ found. found ≡ None) table n None refl refl
 
 -- the entry of what is settled ends, and those of others stay
 others_unsettled : (s : Server) (kept : List Record) (order : Settled) → ServerAgrees s kept → (b : Bool) (n : ℕ) (found : Entry) → (order.txn.0 == n) ≡ b
-    → flattened (slice_get (slice_set s.entries order.txn.0 None) n) ≡ Some found → settled_in (record { 0 = n }) (log_with kept (Some (log.Settled order))) ≡ None
+    → option_flatten (slice_get (slice_set s.entries order.txn.0 None) n) ≡ Some found → settled_in (record { 0 = n }) (log_with kept (Some (log.Settled order))) ≡ None
 others_unsettled s kept order h true n found same e =
-    let none : flattened (slice_get (slice_set s.entries order.txn.0 None) n) ≡ None =
-    subst (λ (m : ℕ). flattened (slice_get (slice_set s.entries order.txn.0 None) m) ≡ None) (eqb-true order.txn.0 n same) (emptied s.entries order.txn.0) in
+    let none : option_flatten (slice_get (slice_set s.entries order.txn.0 None) n) ≡ None =
+    subst (λ (m : ℕ). option_flatten (slice_get (slice_set s.entries order.txn.0 None) m) ≡ None) (eqb-true order.txn.0 n same) (emptied s.entries order.txn.0) in
     absurd (cc)
 others_unsettled s kept order h false n found apart e =
     let old : settled_in (record { 0 = n }) kept ≡ None = placed_emptied (IsUnsettled kept) s.entries order.txn.0 h.unsettled n found e in
     settled_with (record { 0 = n }) kept (Some (log.Settled order))
-    ∙ (ap (λ (b : Bool). first_of (settled_in (record { 0 = n }) kept) (if b then Some order else None)) apart
+    ∙ (ap (λ (b : Bool). option_or (settled_in (record { 0 = n }) kept) (if b then Some order else None)) apart
     ∙ (first_none (settled_in (record { 0 = n }) kept) ∙ old))
 
-ended_so : (b : Bool) (order : Settled) (settled : Option Settled) (voted : Option Prepared) → b ≡ true → while_unsettled (first_of settled (if b then Some order else None)) (first_of None voted) ≡ None
+ended_so : (b : Bool) (order : Settled) (settled : Option Settled) (voted : Option Prepared) → b ≡ true → while_unsettled (option_or settled (if b then Some order else None)) (option_or None voted) ≡ None
 ended_so true order None voted e = refl
 ended_so true order (Some s) voted e = refl
 ended_so false order settled voted e = absurd (cc)
 
 ended_else : (b : Bool) (order : Settled) (settled : Option Settled) (voted : Option Prepared) → b ≡ false
-    → while_unsettled (first_of settled (if b then Some order else None)) (first_of None voted) ≡ while_unsettled settled voted
+    → while_unsettled (option_or settled (if b then Some order else None)) (option_or None voted) ≡ while_unsettled settled voted
 ended_else true order settled voted e = absurd (cc)
 ended_else false order settled voted e = ap (λ (s : Option Settled). while_unsettled s voted) (first_none settled)
 
 -- what is settled is prepared no more, and what is prepared of others stays
 ends_cast : (s : Server) (kept : List Record) (order : Settled) (other : TxnId) → ServerAgrees s kept → (b : Bool) → same_txn order.txn other ≡ b
-    → option_map vote_of (prepared_in other (log_with kept (Some (log.Settled order)))) ≡ option_and_then cast_in (flattened (slice_get (slice_set s.entries order.txn.0 None) other.0))
+    → option_map vote_of (prepared_in other (log_with kept (Some (log.Settled order)))) ≡ option_and_then cast_in (option_flatten (slice_get (slice_set s.entries order.txn.0 None) other.0))
 ends_cast s kept order other h true same =
-    let none : flattened (slice_get (slice_set s.entries order.txn.0 None) other.0) ≡ None =
-    subst (λ (m : ℕ). flattened (slice_get (slice_set s.entries order.txn.0 None) m) ≡ None) (eqb-true order.txn.0 other.0 same) (emptied s.entries order.txn.0) in
+    let none : option_flatten (slice_get (slice_set s.entries order.txn.0 None) other.0) ≡ None =
+    subst (λ (m : ℕ). option_flatten (slice_get (slice_set s.entries order.txn.0 None) m) ≡ None) (eqb-true order.txn.0 other.0 same) (emptied s.entries order.txn.0) in
     ap (option_map vote_of) (prepared_with other kept (Some (log.Settled order)) ∙ ended_so (same_txn order.txn other) order (settled_in other kept) (voted_in other kept) same)
     ∙ sym (ap (option_and_then cast_in) none)
 ends_cast s kept order other h false apart =
     ap (option_map vote_of) (prepared_with other kept (Some (log.Settled order)) ∙ ended_else (same_txn order.txn other) order (settled_in other kept) (voted_in other kept) apart)
     ∙ (h.prepared other ∙ sym (ap (option_and_then cast_in) (entry_elsewhere s order.txn other None apart)))
 
-settled_now : (b : Bool) (order : Settled) (old : Option Settled) → b ≡ true → is_some (first_of old (if b then Some order else None)) ≡ true
+settled_now : (b : Bool) (order : Settled) (old : Option Settled) → b ≡ true → is_some (option_or old (if b then Some order else None)) ≡ true
 settled_now true order None e = refl
 settled_now true order (Some s) e = refl
 settled_now false order old e = absurd (cc)
 
-settled_first : (b : Bool) (order : Settled) (old : Option Settled) → b ≡ true → old ≡ None → first_of old (if b then Some order else None) ≡ Some order
+settled_first : (b : Bool) (order : Settled) (old : Option Settled) → b ≡ true → old ≡ None → option_or old (if b then Some order else None) ≡ Some order
 settled_first true order None e fresh = refl
 settled_first true order (Some s) e fresh = absurd (cc)
 settled_first false order old e fresh = absurd (cc)
@@ -367,9 +363,9 @@ ends_lawful V M s kept order letter h unsettled rests from says =
     record {
       agrees = record {
         settled = λ txn.
-            ap flattened (get_set s.settled order.txn.0 txn.0 None (Some order) empty)
+            ap option_flatten (get_set s.settled order.txn.0 txn.0 None (Some order) empty)
             ∙ (settled_here (order.txn.0 == txn.0) order (slice_get s.settled txn.0) (settled_in txn kept) (h.settled txn)
-            (λ same. sym (h.settled txn) ∙ ap flattened (subst (λ (n : ℕ). slice_get s.settled n ≡ Some None) (eqb-true order.txn.0 txn.0 same) empty))
+            (λ same. sym (h.settled txn) ∙ ap option_flatten (subst (λ (n : ℕ). slice_get s.settled n ≡ Some None) (eqb-true order.txn.0 txn.0 same) empty))
             ∙ sym (settled_with txn kept forced));
         unsettled = λ n found e. others_unsettled s kept order h (order.txn.0 == n) n found refl e;
         prepared = λ txn. ends_cast s kept order txn h (same_txn order.txn txn) refl;
@@ -412,7 +408,7 @@ refuses_lawful V M s kept p entry why h unsettled found unvoted asked =
 
 -- an order to end what is settled is acknowledged again
 acknowledges_lawful : (V : TxnId → Outcome → Type 0) (M : TxnId → Type 0) (s : Server) (kept : List Record) (d : DecideRequest) (settled : Settled) → ServerAgrees s kept
-    → flattened (slice_get s.settled d.txn.0) ≡ Some settled → ServerLawful V M s kept (sends s (ack_letter s d.txn ∷ []))
+    → option_flatten (slice_get s.settled d.txn.0) ≡ Some settled → ServerLawful V M s kept (sends s (ack_letter s d.txn ∷ []))
 acknowledges_lawful V M s kept d settled h found = record { agrees = h; rests = tt; replies = (record { from_is = refl; says = ap is_some (sym (h.settled d.txn) ∙ found) }, tt) }
 
 -- an answer rests on nothing
@@ -425,7 +421,7 @@ RefusalsAbort kept = (txn : TxnId) (settled : Settled) → settled_in txn kept �
 
 -- a vote NO is given again with its reason
 refused_again_lawful : (V : TxnId → Outcome → Type 0) (M : TxnId → Type 0) (s : Server) (kept : List Record) (p : PrepareRequest) (settled : Settled) (why : No) → ServerAgrees s kept → RefusalsAbort kept
-    → flattened (slice_get s.settled p.txn.0) ≡ Some settled → settled.why ≡ Some why → ServerLawful V M s kept (sends s (no_letter s p why ∷ []))
+    → option_flatten (slice_get s.settled p.txn.0) ≡ Some settled → settled.why ≡ Some why → ServerLawful V M s kept (sends s (no_letter s p why ∷ []))
 refused_again_lawful V M s kept p settled why h aborts found why_is =
     let logged : settled_in p.txn kept ≡ Some settled = sym (h.settled p.txn) ∙ found in
     let is : settled ≡ record { txn = p.txn; outcome = outcome.Abort; why = settled.why } = aborts p.txn settled logged (ap is_some why_is) in
@@ -470,7 +466,7 @@ server_row_lawful V M sc s kept mail waits h aborts m =
           entry_lawful V M s kept q.txn _ _ h (open_unsettled s kept q.txn h k.unsettled) u.unvoted u.entry_unvoted (record { from_is = refl; says = tt }, tt);
       restarted = λ q k. answers_lawful V M s kept q (restarted_reply q s.epoch) h;
       answered = λ q entry given k. answers_lawful V M s kept q given h;
-      voted = λ p entry staple txn k. votes_lawful V M s kept p (verdicts_on sc (learnt s p.want) txn staple p.want entry.deeds) entry h (open_unsettled s kept p.txn h k.unsettled) k.found;
+      voted = λ p entry staple txn k. votes_lawful V M s kept p (verdicts_on sc (with_wants s p.want) txn staple p.want entry.deeds) entry h (open_unsettled s kept p.txn h k.unsettled) k.found;
       voted_again = λ p entry cast k. votes_again_lawful V M s kept p entry cast h k.found k.ballot_is;
       refused = λ p entry number value k.
           refuses_lawful V M s kept p entry _ h k.unsettled k.found k.unvoted (subst (RequestRests V M) k.said_is m);

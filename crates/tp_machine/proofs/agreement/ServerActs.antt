@@ -1,7 +1,7 @@
 -- Agreement, actor by actor: what an act of a server or a coordinator leaves agrees.
 pub use Rattle.tp_machine.proofs.basics.Ids.{same_txn_is}
 use Rattle.std.specs.List.{cons_option, list_any}
-use Rattle.std.specs.Option.{option_map_or}
+use Rattle.std.specs.Option.{option_map_or, option_or}
 use Rattle.std.proofs.Common.{Bool, IfSome, List, None, Option, Some, [], ap, arith, drop, false, flat_map, if◌then◌else◌, inl, inr, is_some, length, option_and_then, option_map, refl, slice_get, slice_set, subst, sym, true, ℕ, ⊎_elim, ◌&&◌, ◌++◌, ◌+◌, ◌==◌, ◌||◌, ◌∙◌, ◌∷◌, ◌≡◌, ◌⊎◌}
 use Rattle.std.proofs.lemmas.Bool.{eqb-true}
 use Rattle.std.proofs.lemmas.List.{append-nil, length-set}
@@ -15,8 +15,9 @@ use Rattle.tp_model.specs.Words.decision
 use Rattle.tp_model.specs.Words.log
 use Rattle.tp_model.specs.Words.outcome
 use Rattle.tp_model.specs.Words.vote
+use Rattle.tp_model.specs.Words.what
 use Rattle.tp_model.specs.Agreement.{has_item_at}
-use Rattle.tp_model.specs.Facts.{first_of, is_decided_as, is_submission, outcome_of, same_outcome}
+use Rattle.tp_model.specs.Facts.{is_decided_as, is_submission, outcome_of, same_outcome}
 use Rattle.tp_model.specs.Ids.{same_server, same_txn}
 use Rattle.tp_machine.specs.Logs.{decided_at, decided_by, decided_in, has_voted, prepared_by, prepared_in, settled_at, settled_by, settled_in, settlement_in, voted_by}
 use Rattle.tp_machine.specs.Machine.{State, acts, log_with, server_fact, server_move}
@@ -36,9 +37,9 @@ use Rattle.tp_machine.proofs.agreement.Logs.{DecidedAs, IsAsked, IsPrepared, IsS
 use Rattle.tp_machine.proofs.agreement.Server.{LetterKept, RecordRests, ReplyKept, ServerAgrees, SettlementRests, VoteKept}
 use Rattle.tp_machine.proofs.agreement.World.{Agrees, BodyRests, CoordinatorPartAgrees, CoordinatorUpAgrees, CoordinatorsAgree, Follows, LetterRests, MoveAgrees, ServerPartAgrees, SettledRests, VoteRests, WhatFollows}
 use Rattle.tp_machine.proofs.basics.Servers.{among_servers}
-use Rattle.tp_machine.proofs.basics.Facts.{any_decided, any_submitted, decided_what, decisions, said, settled_what, settlements, submissions, submitted_what}
-use Rattle.tp_machine.proofs.basics.Logs.{IsFresh, appended, first_stays, gained, get_set, has_voted_with, listed, listed_first, look_set, settled_with}
-use Rattle.tp_machine.proofs.basics.Lists.{at_set, each_append, each_as}
+use Rattle.tp_machine.proofs.basics.Facts.{any_decided, any_submitted, decided_what, decisions, outcome_itself, said, settled_what, settlements, submissions, submitted_what}
+use Rattle.tp_machine.proofs.basics.Logs.{IsFresh, appended, first_stays, gained, get_set, has_voted_with, listed, listed_first, look_set, map_first, settled_with}
+use Rattle.tp_machine.proofs.basics.Lists.{at_set, each_append, each_as, some_mapped}
 
 -- ---- what the facts tell
 
@@ -48,11 +49,7 @@ any_true (x ∷ xs) e = refl
 
 told_one : (found : Option Decision) (ended : Outcome) → option_map outcome_of found ≡ Some ended → list_any (λ (d : Decision). same_outcome (outcome_of d) ended) (listed found) ≡ true
 told_one None ended e = absurd (cc)
-told_one (Some d) ended e = ap (λ (b : Bool). b || false) (ap (λ (o : Outcome). same_outcome o ended) (same_Some (outcome_of d) ended e) ∙ itself ended)
-  where
-    itself : (o : Outcome) → same_outcome o o ≡ true
-    itself outcome.Commit = refl
-    itself outcome.Abort = refl
+told_one (Some d) ended e = ap (λ (b : Bool). b || false) (ap (λ (o : Outcome). same_outcome o ended) (same_Some (outcome_of d) ended e) ∙ outcome_itself ended)
 
 -- what was decided stands among the facts
 pub decided_told : (sc : Scenario) (w : State) (txn : TxnId) (ended : Outcome) → Agrees sc w → DecidedAs w.actors.coordinators txn ended → list_any (is_decided_as txn ended) w.facts ≡ true
@@ -62,14 +59,10 @@ decided_told sc w txn ended h e =
 pub begun_count : (b : Bool) → b ≡ true → once b ≡ 1
 begun_count b e = ap once e
 
-some_from_outcome : (found : Option Decision) (ended : Outcome) → option_map outcome_of found ≡ Some ended → is_some found ≡ true
-some_from_outcome None ended e = absurd (cc)
-some_from_outcome (Some d) ended e = refl
-
 up_count : (sc : Scenario) (servers : List (Part Server)) (txn : TxnId) (kept : List Record) (up : Option Coordinator) (ended : Outcome) → IfSome up (CoordinatorUpAgrees sc servers txn kept)
     → option_map outcome_of (decided_in kept) ≡ Some ended → submitted_up up ≡ 1
 up_count sc servers txn kept None ended h e = refl
-up_count sc servers txn kept (Some c) ended h e = begun_count (is_begun c.phase) (decided_begun c.phase (decided_in kept) h.agrees.decided (some_from_outcome (decided_in kept) ended e))
+up_count sc servers txn kept (Some c) ended h e = begun_count (is_begun c.phase) (decided_begun c.phase (decided_in kept) h.agrees.decided (some_mapped outcome_of (decided_in kept) ended e))
 
 decided_count : (sc : Scenario) (servers : List (Part Server)) (coordinators : List (Part Coordinator)) (n : ℕ) (ended : Outcome) (found : Option (Part Coordinator)) → slice_get coordinators n ≡ found
     → CoordinatorsAgree sc servers coordinators → option_map outcome_of (option_and_then decided_by found) ≡ Some ended → submitted_count found ≡ 1
@@ -153,6 +146,12 @@ pub record ServerActs (sc : Scenario) (w : State) (at : ServerId) (kept : List R
 abbrev pub server_facts : ServerId → Option Record → List What
 server_facts at append = option_map_or (server_fact at) append []
 
+-- a record of a server tells of a settlement, or of nothing
+pub each_server_fact : (P : What → Type 0) (at : ServerId) → ((txn : TxnId) (ended : Outcome) → P (what.Settled at txn ended)) → (append : Option Record) → Each P (server_facts at append)
+each_server_fact P at settled None = tt
+each_server_fact P at settled (Some (log.Settled s)) = (settled s.txn s.outcome, tt)
+each_server_fact P at settled (Some _) = tt
+
 server_submissions : (at : ServerId) (append : Option Record) (txn : TxnId) → submissions txn (server_facts at append) ≡ []
 server_submissions at None txn = refl
 server_submissions at (Some (log.Settled s)) txn = refl
@@ -194,10 +193,6 @@ fresh_settled V M kept None txn h = tt
 fresh_settled V M kept (Some (log.Settled s)) txn h =
     fresh_if (same_txn s.txn txn) s (settled_in txn kept) (λ same. subst (λ (t : TxnId). settled_in t kept ≡ None) (same_txn_is s.txn txn same) h.fresh)
 fresh_settled V M kept (Some _) txn h = tt
-
-map_first : {A : Type 0} {B : Type 0} (f : A → B) (x y : Option A) → first_of (option_map f x) (option_map f y) ≡ option_map f (first_of x y)
-map_first f None y = refl
-map_first f (Some found) y = refl
 
 -- the settlement of a transaction after a record was appended
 outcome_after : (V : TxnId → Outcome → Type 0) (M : TxnId → Type 0) (kept : List Record) (append : Option Record) (txn : TxnId) → IfSome append (RecordRests V M kept)
@@ -252,7 +247,7 @@ not_committed sc w at part s (Some reason) h found e r abort d =
 settled_after : (sc : Scenario) (w : State) (at : ServerId) (part : Part Server) (append : Option Record) (txn : TxnId) (old : Option Settled) (now : Settled) → Agrees sc w
     → slice_get w.actors.servers at.0 ≡ Some part → ((s : Settled) → old ≡ Some s → SettledRests sc w.actors.coordinators at txn s)
     → IfSome append (RecordRests (DecidedAs w.actors.coordinators) (IsAsked sc w.actors.coordinators at) part.log)
-    → first_of old (appended (settlement_in txn) append) ≡ Some now → SettledRests sc w.actors.coordinators at txn now
+    → option_or old (appended (settlement_in txn) append) ≡ Some now → SettledRests sc w.actors.coordinators at txn now
 settled_after sc w at part append txn (Some s) now a found h r e = h now e
 settled_after sc w at part append txn None now a found h r e =
     let settles : Settles txn append now = settles_is txn append now e in
@@ -306,7 +301,7 @@ still_prepared sc w at kept append txn (Some s) r e undecided p =
         let none = ap is_some unprepared in
         absurd (cc)
 
-first_commit : (old more : Option Settled) → option_map outcome_settled old ≡ Some outcome.Commit → option_map outcome_settled (first_of old more) ≡ Some outcome.Commit
+first_commit : (old more : Option Settled) → option_map outcome_settled old ≡ Some outcome.Commit → option_map outcome_settled (option_or old more) ≡ Some outcome.Commit
 first_commit None more e = absurd (cc)
 first_commit (Some s) more e = e
 
@@ -325,7 +320,7 @@ still_served sc w at kept append txn settled r e commit served =
         let decided : DecidedAs w.actors.coordinators txn s.outcome = subst (λ (t : TxnId). DecidedAs w.actors.coordinators t s.outcome) own (rests.ordered g) in
         let ended : s.outcome ≡ outcome.Commit = one_outcome w.actors.coordinators txn s.outcome outcome.Commit decided commit in
         inr (ap (option_map outcome_settled) (settled_with txn kept append)
-        ∙ (ap (λ (x : Option Settled). option_map outcome_settled (first_of x (appended (settlement_in txn) append))) (prepared_open txn kept p)
+        ∙ (ap (λ (x : Option Settled). option_map outcome_settled (option_or x (appended (settlement_in txn) append))) (prepared_open txn kept p)
         ∙ (ap (option_map outcome_settled) f ∙ ap Some ended)))
     by_why s (Some reason) g f rests own p =
         let unprepared : prepared_in txn kept ≡ None = subst (λ (t : TxnId). prepared_in t kept ≡ None) own (rests.refused (ap is_some g)).1 in

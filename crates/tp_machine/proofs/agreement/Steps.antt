@@ -1,10 +1,9 @@
 -- Agreement, step by step: it holds before the first step, each step keeps it, and so it holds after every list of steps.
-use Rattle.std.proofs.Common.{Bool, IfSome, List, None, Option, Some, [], ap, arith, false, if◌then◌else◌, length, option_and_then, option_map, refl, replicate, slice_get, subst, suc, sym, true, zero, ℕ, ◌∙◌, ◌∷◌, ◌≡◌}
+use Rattle.std.proofs.Common.{Bool, IfSome, List, None, Option, Some, [], ap, arith, false, if◌then◌else◌, length, option_and_then, option_map, refl, slice_get, subst, sym, true, ℕ, ◌∙◌, ◌∷◌, ◌≡◌}
 use Rattle.std.proofs.lemmas.List.FromFn.{length-map-range_with_len}
 use Rattle.std.proofs.lemmas.Option.{same_Some}
-use Rattle.tp_types.specs.Table.{flattened}
 use Rattle.tp_model.specs.Built.{is_built}
-use Rattle.tp_model.specs.Facts.{first_of}
+use Rattle.std.specs.Option.{option_or}
 use Rattle.tp_model.specs.Ids.{same_txn}
 use Rattle.tp_model.specs.Words.actor
 use Rattle.tp_model.specs.Words.body
@@ -22,8 +21,8 @@ use Rattle.tp_machine.proofs.agreement.Server.{IsUnsettled, LetterKept, Refusals
 use Rattle.tp_machine.proofs.agreement.ServerActs.{SaysOnly, server_acts_agrees, unmoved_agrees}
 use Rattle.tp_machine.proofs.agreement.World.{Agrees, BodyRests, CoordinatorUpAgrees, DecidedServed, LetterRests, MailRests, MoveAgrees, VoteRests, state_after_agrees}
 use Rattle.tp_machine.proofs.basics.Homes.{first_row_begins}
-use Rattle.tp_machine.proofs.basics.Ids.{same_txn_is}
-use Rattle.tp_machine.proofs.basics.Lists.{at_made, each_get, placed_none}
+use Rattle.tp_machine.proofs.basics.Ids.{same_txn_from, same_txn_is}
+use Rattle.tp_machine.proofs.basics.Lists.{at_made, each_get, placed_none, unset_at}
 use Rattle.tp_machine.proofs.basics.Logs.{listed}
 use Rattle.tp_machine.proofs.ids.Queries.{homes_built}
 use Rattle.tp_machine.proofs.walks.Steps.{Cases, IsCoordinatorUp, IsServerUp, SaysIdle, WasSent, WaitRightly, machine_after_by}
@@ -117,10 +116,6 @@ pub mail_rests : (sc : Scenario) (w : State) (n : ℕ) (mail : Mail) (to : Actor
 mail_rests sc w n mail to h sent =
     subst (λ (t : Actor). BodyRests sc w.actors mail.letter.from t mail.letter.body) sent.goes_to (each_get (MailRests sc w.actors) w.mails n mail h.mails sent.sent)
 
--- a reply to a coordinator is of its transaction
-pub same_txn_from : (one other : TxnId) → actor.Coordinator one ≡ actor.Coordinator other → other ≡ one
-same_txn_from one other e = grind arith
-
 yes_kept : (actors : Actors) (at : ServerId) (txn other : TxnId) (decided : Option Decision) (said : Vote) → other ≡ txn → decided_at actors.coordinators txn.0 ≡ decided → VoteRests actors at other said
     → YesRests (decided ≡ None → IsPrepared actors.servers txn at) said
 yes_kept actors at txn other decided (vote.Yes verdicts) same here h =
@@ -176,7 +171,7 @@ begun_agrees sc w built sound h txn part c exists up new =
 
 -- ---- receipts
 
-settled_own : (b : Bool) (one settled : Settled) (later : Option Settled) (txn : TxnId) → same_txn one.txn txn ≡ b → first_of (if b then Some one else None) later ≡ Some settled
+settled_own : (b : Bool) (one settled : Settled) (later : Option Settled) (txn : TxnId) → same_txn one.txn txn ≡ b → option_or (if b then Some one else None) later ≡ Some settled
     → (later ≡ Some settled → settled.txn ≡ txn) → settled.txn ≡ txn
 settled_own true one settled later txn same e rest = let is : one ≡ settled = same_Some one settled e in ap (λ (x : Settled). x.txn) (sym is) ∙ same_txn_is one.txn txn same
 settled_own false one settled later txn apart e rest = rest e
@@ -248,7 +243,7 @@ agrees_cases sc w built rightly sound h =
           unmoved_agrees sc w [] (master.master_row w.actors.master mail).reaction.letters h (silent_says sc w) (newest_rests sc w.actors w.actors.master mail.letter.body);
       published = λ admin exists more.
           let next = master.next_of w.actors.master admin in
-          offices_agree sc w w.actors.authority (master.published admin w.actors.master) (what.Published admin next ∷ []) h (published_says sc w admin next);
+          offices_agree sc w w.actors.authority (master.after_publication admin w.actors.master) (what.Published admin next ∷ []) h (published_says sc w admin next);
       pushed = λ admin server exists there. unmoved_agrees sc w [] (master.pushes w.actors.master admin server).reaction.letters h (silent_says sc w) (tt, tt);
       ticked = λ by. offices_agree sc w (office.after_tick by w.actors.authority) w.actors.master (what.Ticked by ∷ []) h (ticked_says sc w by);
       revoked = λ cred exists. offices_agree sc w (office.after_revocation cred w.actors.authority) w.actors.master (what.Revoked cred ∷ []) h (revoked_says sc w cred);
@@ -262,11 +257,6 @@ agrees_next sc m taken built exists allowed rightly sound h =
     (λ taken move t. state_after_agrees sc m.state taken move h t) h taken exists allowed
 
 -- ---- before the first step
-
-unset_at : {A : Type 0} (count n : ℕ) → flattened (slice_get (replicate {A = Option A} count None) n) ≡ None
-unset_at zero n = refl
-unset_at (suc count) zero = refl
-unset_at (suc count) (suc n) = unset_at count n
 
 none_submitted : (found : Option (Part Coordinator)) → ((part : Part Coordinator) → found ≡ Some part → submitted_up part.up ≡ 0) → 0 ≡ submitted_count found
 none_submitted None h = refl

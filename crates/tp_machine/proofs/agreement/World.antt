@@ -23,7 +23,7 @@ use Rattle.tp_machine.proofs.agreement.Coordinator.{CoordinatorAgrees, DecisionR
 use Rattle.tp_machine.proofs.agreement.Known.{KnowsTold}
 use Rattle.tp_machine.proofs.agreement.Logs.{DecidedAs, HasVoted, IsAsked, IsPrepared, IsServed, IsSettled, LogsStay, decided_stays, settled_outcome, settled_stays, submitted_count, undecided_before}
 use Rattle.tp_machine.proofs.agreement.Server.{ServerAgrees}
-use Rattle.tp_machine.proofs.basics.Facts.{ArePast, Grows, before_past, decided_what, decisions, grows_with_facts, new_facts_past, past_as, said, said_with_facts, settled_what, settlements, submissions, submitted_what}
+use Rattle.tp_machine.proofs.basics.Facts.{ArePast, Grows, before_past, decided_what, decisions, each_new_mail, grows_with_facts, new_facts_past, past_as, said, said_with_facts, settled_what, settlements, submissions, submitted_what}
 use Rattle.tp_machine.proofs.basics.Logs.{listed}
 use Rattle.tp_machine.proofs.basics.Lists.{each_append}
 
@@ -201,10 +201,6 @@ facts_stay sc old new place (fact ∷ facts) g past h = (
   facts_stay sc old new place facts g past.1 h.1,
 )
 
-new_mails_rest : (sc : Scenario) (actors : Actors) (place number : ℕ) (letters : List Letter) → Each (LetterRests sc actors) letters → Each (MailRests sc actors) (mails_of place number letters)
-new_mails_rest sc actors place number [] h = tt
-new_mails_rest sc actors place number (letter ∷ letters) h = (h.0, new_mails_rest sc actors place (number + 1) letters h.1)
-
 new_facts_follow : (sc : Scenario) (earlier facts : List Fact) (place : ℕ) (happened : List What) → before place facts ≡ earlier → Each (WhatFollows sc earlier) happened
     → Each (FactFollows sc facts) (facts_of place happened)
 new_facts_follow sc earlier facts place [] e h = tt
@@ -251,7 +247,7 @@ state_after_agrees sc w taken move h t =
       servers = t.servers;
       mails = each_append (MailRests sc move.actors) w.mails (mails_of place (length w.mails) move.letters)
           (mails_stay sc w.actors move.actors w.mails t.stays h.mails)
-          (new_mails_rest sc move.actors place (length w.mails) move.letters t.letters);
+          (each_new_mail (λ sent. LetterRests sc move.actors) place (length w.mails) move.letters t.letters);
       numbered = subst (λ (next : ℕ). AreNumbered 0 (w.mails ++ mails_of place next move.letters)) (omega arith) (more_numbered 0 place w.mails move.letters h.numbered);
       facts = each_append (FactFollows sc now) w.facts (facts_of place move.happened)
           (facts_stay sc w.facts now place w.facts g h.past h.facts)

@@ -7,7 +7,7 @@ use Rattle.tp_types.proofs.ListLemmas.{number_itself}
 use Rattle.tp_model.specs.Ids.{same_admin}
 use Rattle.tp_model.specs.Words.{AdminId, Level, Verdict, Version}
 use Rattle.tp_round.proofs.AdminLemmas.{same_ids}
-use Rattle.tp_round.specs.Laws.{is_for, version_in, wanted_of}
+use Rattle.tp_round.specs.Laws.{is_for, want_number, wanted_of}
 use Rattle.tp_round.specs.Judge.{aim_for, aim_of, is_aimed, is_global_at, is_outdated, is_proved_by, newest_in, want_of, wants_of}
 use Rattle.tp_round.specs.Replies.{admins_of, greatest, is_of, with_admin, with_greater, with_its_admin}
 use Rattle.tp_round.specs.declared.round.Target.{Target}
@@ -110,7 +110,7 @@ wants_within aim targets = wanted (filter (is_outdated aim) targets)
     wanted (target ∷ others) = (each_filter (λ (one : AdminId × Version). is_within aim one ≡ true) (is_proved_by target) aim (all_within aim aim (λ one e. e)), wanted others)
 
 version_is : (aim : List (AdminId × Version)) (first : AdminId × Version) (want : List (AdminId × Version)) (verdict : Verdict) (version : ℕ) (b : Bool) → is_for verdict.admin first ≡ b → is_within aim first ≡ true
-    → (wanted_of want verdict.admin ≡ Some version → is_aimed aim verdict ≡ true) → option_map version_in (cond b (Some first) (find (is_for verdict.admin) want)) ≡ Some version → verdict.version.0 ≡ version
+    → (wanted_of want verdict.admin ≡ Some version → is_aimed aim verdict ≡ true) → option_map want_number (cond b (Some first) (find (is_for verdict.admin) want)) ≡ Some version → verdict.version.0 ≡ version
     → is_aimed aim verdict ≡ true
 version_is aim first want verdict version true e within later found is =
     let admin : first.0 ≡ verdict.admin = same_ids first.0 verdict.admin e in

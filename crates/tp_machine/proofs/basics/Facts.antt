@@ -1,17 +1,24 @@
--- Laws of a list of facts as it grows: facts before a place stay as they are, and what facts say of a transaction as lists.
+-- Laws of lists of facts and mails as they grow: facts before a place stay as they are, and what facts say of a transaction as lists.
 use Rattle.std.proofs.Common.{◌≡◌, ℕ, ◌+◌, ◌<◌, ◌≤◌, ◌&&◌, ◌||◌, List, [], ◌∷◌, ◌++◌, length, map, filter, Bool, true, false, cond, Option, Some, None, is_some, if◌then◌else◌, refl, ap, ◌∙◌, arith}
 use Rattle.std.specs.List.{cons_option, count_by, filter_map, list_all, list_any}
-use Rattle.std.specs.Option.{option_map_or}
+use Rattle.std.specs.Option.{option_map_or, option_or}
 use Rattle.std.proofs.lemmas.Bool.Decides.{nat_tests}
 use Rattle.std.proofs.lemmas.List.Sums.{sum_by-append, sum_by-cons}
 use Rattle.std.proofs.lemmas.List.{append-nil}
 use Rattle.std.proofs.lemmas.List.Elements.{filter-append}
-use Rattle.tp_model.specs.Words.{CommitRecord, Decision, Fact, Outcome, ServerId, TxnId, What}
+use Rattle.tp_model.specs.Words.{CommitRecord, Decision, Fact, Letter, Mail, Outcome, ServerId, TxnId, What}
+use Rattle.tp_model.specs.Words.outcome
 use Rattle.tp_model.specs.Words.what
-use Rattle.tp_model.specs.Facts.{before, commit_in_what, commit_of, first_of, is_decided_as, is_decided_what, is_decision, is_decision_what, is_earlier, is_settled_as, is_settled_what, is_settlement, is_settlement_what, is_submission, is_submission_what, outcome_of, record_of, same_outcome}
+use Rattle.tp_model.specs.Facts.{before, commit_in_what, commit_of, is_decided_as, is_decided_what, is_decision, is_decision_what, is_earlier, is_settled_as, is_settled_what, is_settlement, is_settlement_what, is_submission, is_submission_what, outcome_of, record_of, same_outcome}
 use Rattle.tp_model.specs.Ids.{same_server, same_txn}
-use Rattle.tp_machine.specs.Machine.{facts_of}
+use Rattle.tp_machine.specs.Machine.{State, facts_of, mails_of}
 use Rattle.tp_machine.specs.Sound.{Each}
+
+-- ---- tests
+
+pub outcome_itself : (o : Outcome) → same_outcome o o ≡ true
+outcome_itself outcome.Commit = refl
+outcome_itself outcome.Abort = refl
 
 -- ---- lists
 
@@ -92,6 +99,19 @@ new_facts_later place (w ∷ happened) = (omega arith, new_facts_later place hap
 pub new_facts_past : (place : ℕ) (happened : List What) → ArePast (place + 1) (facts_of place happened)
 new_facts_past place [] = tt
 new_facts_past place (w ∷ happened) = (omega arith, new_facts_past place happened)
+
+-- what holds of what a step notes, and of its letters, holds of the new facts and mails
+pub each_new_fact : (P : ℕ → What → Type 0) (place : ℕ) (happened : List What) → Each (P place) happened → Each (λ (fact : Fact). P fact.place fact.what) (facts_of place happened)
+each_new_fact P place [] h = tt
+each_new_fact P place (w ∷ happened) h = (h.0, each_new_fact P place happened h.1)
+
+pub each_new_mail : (P : ℕ → Letter → Type 0) (sent number : ℕ) (letters : List Letter) → Each (P sent) letters → Each (λ (mail : Mail). P mail.sent mail.letter) (mails_of sent number letters)
+each_new_mail P sent number [] h = tt
+each_new_mail P sent number (letter ∷ letters) h = (h.0, each_new_mail P sent (number + 1) letters h.1)
+
+-- the facts after a step
+abbrev pub facts_after : State → List What → List Fact
+facts_after w happened = w.facts ++ facts_of (length w.steps) happened
 
 -- later facts change nothing before a place: the one law of growth
 pub record Grows (old new : List Fact) (place : ℕ) : Type 0 where
@@ -263,15 +283,15 @@ any_settlement at txn facts =
 
 abbrev pub first_commit : List Decision → Option CommitRecord
 first_commit [] = None
-first_commit (d ∷ ds) = first_of (record_of d) (first_commit ds)
+first_commit (d ∷ ds) = option_or (record_of d) (first_commit ds)
 
 first_if : (b : Bool) (d : Decision) (ds : List Decision) (later : Option CommitRecord) → later ≡ first_commit ds
-    → first_of (if b then record_of d else None) later ≡ first_commit (cons_option (if b then Some d else None) ds)
-first_if true d ds later e = ap (λ (x : Option CommitRecord). first_of (record_of d) x) e
+    → option_or (if b then record_of d else None) later ≡ first_commit (cons_option (if b then Some d else None) ds)
+first_if true d ds later e = ap (λ (x : Option CommitRecord). option_or (record_of d) x) e
 first_if false d ds later e = e
 
 commit_in : (txn : TxnId) (w : What) (facts : List Fact) → commit_of txn facts ≡ first_commit (decisions txn (said facts))
-    → first_of (commit_in_what txn w) (commit_of txn facts) ≡ first_commit (cons_option (decided_what txn w) (decisions txn (said facts)))
+    → option_or (commit_in_what txn w) (commit_of txn facts) ≡ first_commit (cons_option (decided_what txn w) (decisions txn (said facts)))
 commit_in txn (what.Decided other decided) facts e = first_if (same_txn other txn) decided (decisions txn (said facts)) (commit_of txn facts) e
 commit_in txn _ facts e = e
 

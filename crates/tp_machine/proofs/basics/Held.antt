@@ -3,9 +3,8 @@ use Rattle.std.specs.List.{All, Contains, list_any}
 use Rattle.std.proofs.Common.{Bool, List, Some, [], ap, arith, false, filter, length, map, refl, slice_get, slice_index_or, slice_set, subst, suc, sym, true, zero, not, ℕ, ◌&&◌, ◌+◌, ◌<◌, ◌==◌, ◌||◌, ◌∙◌, ◌∷◌, ◌≡◌}
 use Rattle.std.proofs.lemmas.List.Elements.{All-head, All-tail}
 use Rattle.tp_types.proofs.ListLemmas.{number_itself}
-use Rattle.tp_types.specs.declared.policy.Action.TheVariants as action
-use Rattle.tp_types.specs.declared.policy.Action.{Action}
-use Rattle.tp_model.specs.Words.{ItemId, TxnId}
+use Rattle.tp_model.specs.Words.{Action, ItemId, TxnId}
+use Rattle.tp_model.specs.Words.action
 use Rattle.tp_lock.proofs.HoldsLemmas.{granted_is_held, grants_are_held, kept_by_release, kept_by_request}
 use Rattle.tp_lock.specs.Laws.{Holds, IsGrantFor}
 use Rattle.tp_lock.specs.Rule.{after_release, after_request, answer_at, entries_at, grants_in, grants_of, is_of_other, is_write, left_by, serves, with_lock}

@@ -5,7 +5,7 @@ use Rattle.tp_model.specs.Queries.{item_of, query_at}
 use Rattle.tp_model.specs.Words.{Item, Query, Scenario, ServerId, Transaction}
 use Rattle.tp_machine.proofs.basics.Lists.{each_get, missing}
 use Rattle.tp_machine.specs.Sound.{Each}
-use Rattle.tp_coord.specs.Row.{begins, home_of, is_begun, next_number, query_of, server_of, submit_row}
+use Rattle.tp_coord.specs.Row.{begins, home_of, is_begun, next_number, own_query, server_of, submit_row}
 use Rattle.tp_coord.specs.State.{Coordinator}
 
 -- of each transaction the items of queries exist, and there are from one to 16
@@ -17,13 +17,13 @@ pub record HaveHomes (sc : Scenario) : Type 0 where
 -- a query with its server
 pub record IsHome (sc : Scenario) (c : Coordinator) (number : ℕ) (at : ServerId) : Type 0 where
   pub asked : Query
-  pub asked_is : query_of sc c number ≡ Some asked
+  pub asked_is : own_query sc c number ≡ Some asked
   pub server_is : server_of sc asked ≡ Some at
 
 pub home_is : (sc : Scenario) (c : Coordinator) (number : ℕ) (at : ServerId) → home_of sc c number ≡ Some at → IsHome sc c number at
-home_is sc c number at e = found (query_of sc c number) refl e
+home_is sc c number at e = found (own_query sc c number) refl e
   where
-    found : (asked : Option Query) → query_of sc c number ≡ asked → option_and_then (server_of sc) asked ≡ Some at → IsHome sc c number at
+    found : (asked : Option Query) → own_query sc c number ≡ asked → option_and_then (server_of sc) asked ≡ Some at → IsHome sc c number at
     found None f g = absurd (cc)
     found (Some asked) f g = record { asked = asked; asked_is = f; server_is = g }
 
@@ -34,7 +34,7 @@ query_within queries (suc before) asked declared is e =
     omega (arith, within)
 
 -- the number after a query's
-pub next_is : (sc : Scenario) (c : Coordinator) (number : ℕ) (asked : Query) → HaveHomes sc → query_of sc c number ≡ Some asked → next_number number ≡ number + 1
+pub next_is : (sc : Scenario) (c : Coordinator) (number : ℕ) (asked : Query) → HaveHomes sc → own_query sc c number ≡ Some asked → next_number number ≡ number + 1
 next_is sc c number asked homes e = found (slice_get sc.txns c.txn.0) refl e
   where
     found : (declared : Option Transaction) → slice_get sc.txns c.txn.0 ≡ declared → option_and_then (λ (txn : Transaction). query_at txn number) declared ≡ Some asked → next_number number ≡ number + 1
@@ -52,28 +52,28 @@ item_there sc n within e = found (slice_get sc.items n) refl e
     found None f g = missing sc.items n within f
     found (Some item) f g = cc
 
-on_item : (sc : Scenario) (declared : Transaction) (number : ℕ) (asked : Query) → Each (λ (query : Query). (item_of query).0 < length sc.items) declared.queries → query_at declared number ≡ Some asked → (item_of asked).0 < length sc.items
+pub on_item : (sc : Scenario) (declared : Transaction) (number : ℕ) (asked : Query) → Each (λ (query : Query). (item_of query).0 < length sc.items) declared.queries → query_at declared number ≡ Some asked → (item_of asked).0 < length sc.items
 on_item sc declared zero asked h e = absurd (cc)
 on_item sc declared (suc before) asked h e = each_get (λ (query : Query). (item_of query).0 < length sc.items) declared.queries before asked h e
 
 -- where a query has no server there is none
-pub no_home : (sc : Scenario) (c : Coordinator) (number : ℕ) → HaveHomes sc → home_of sc c number ≡ None → query_of sc c number ≡ None
-no_home sc c number homes e = found (query_of sc c number) refl e
+pub no_home : (sc : Scenario) (c : Coordinator) (number : ℕ) → HaveHomes sc → home_of sc c number ≡ None → own_query sc c number ≡ None
+no_home sc c number homes e = found (own_query sc c number) refl e
   where
     absent : (asked : Query) (declared : Option Transaction) → slice_get sc.txns c.txn.0 ≡ declared → option_and_then (λ (txn : Transaction). query_at txn number) declared ≡ Some asked → server_of sc asked ≡ None → ⊥
     absent asked None f g h = cc
     absent asked (Some declared) f g h = item_there sc (item_of asked).0 (on_item sc declared number asked (homes.on_items c.txn.0 declared f) g) h
 
-    found : (asked : Option Query) → query_of sc c number ≡ asked → option_and_then (server_of sc) asked ≡ None → asked ≡ None
+    found : (asked : Option Query) → own_query sc c number ≡ asked → option_and_then (server_of sc) asked ≡ None → asked ≡ None
     found None f g = refl
     found (Some asked) f g = absurd (absent asked (slice_get sc.txns c.txn.0) refl f g)
 
 -- after the last query there is none
-pub last_is : (sc : Scenario) (c : Coordinator) (number : ℕ) (asked : Query) → HaveHomes sc → query_of sc c number ≡ Some asked → home_of sc c (next_number number) ≡ None → query_of sc c (number + 1) ≡ None
-last_is sc c number asked homes e none = ap (query_of sc c) (sym (next_is sc c number asked homes e)) ∙ no_home sc c (next_number number) homes none
+pub last_is : (sc : Scenario) (c : Coordinator) (number : ℕ) (asked : Query) → HaveHomes sc → own_query sc c number ≡ Some asked → home_of sc c (next_number number) ≡ None → own_query sc c (number + 1) ≡ None
+last_is sc c number asked homes e none = ap (own_query sc c) (sym (next_is sc c number asked homes e)) ∙ no_home sc c (next_number number) homes none
 
 -- and a further one has its number
-pub further_is : (sc : Scenario) (c : Coordinator) (number : ℕ) (asked : Query) (at : ServerId) → HaveHomes sc → query_of sc c number ≡ Some asked → home_of sc c (next_number number) ≡ Some at → IsHome sc c (number + 1) at
+pub further_is : (sc : Scenario) (c : Coordinator) (number : ℕ) (asked : Query) (at : ServerId) → HaveHomes sc → own_query sc c number ≡ Some asked → home_of sc c (next_number number) ≡ Some at → IsHome sc c (number + 1) at
 further_is sc c number asked at homes e home = subst (λ (n : ℕ). IsHome sc c n at) (next_is sc c number asked homes e) (home_is sc c (next_number number) at home)
 
 -- every transaction has a first one

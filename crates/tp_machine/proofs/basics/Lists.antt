@@ -1,7 +1,8 @@
 -- Laws of what holds of each member of a list or table, as the list grows or changes.
 use Rattle.std.specs.List.{Contains, list_all, range_with_len}
-use Rattle.std.proofs.Common.{Bool, List, None, Option, Some, [], ap, arith, drop, false, filter, find, flat_map, if◌then◌else◌, length, map, refl, replicate, slice_get, slice_index_or, slice_set, subst, suc, sym, true, zero, ℕ, ◌++◌, ◌+◌, ◌<◌, ◌∙◌, ◌∷◌, ◌≡◌}
-use Rattle.tp_types.specs.Table.{flattened}
+use Rattle.std.proofs.Common.{Bool, List, None, Option, Some, [], ap, arith, drop, false, filter, find, flat_map, if◌then◌else◌, is_none, is_some, length, map, not, option_map, refl, replicate, slice_get, slice_index_or, slice_set, subst, suc, sym, true, zero, ℕ, ◌&&◌, ◌++◌, ◌+◌, ◌<◌, ◌∙◌, ◌∷◌, ◌≡◌}
+use Rattle.std.proofs.lemmas.Option.{none-some}
+use Rattle.std.specs.Option.{option_flatten}
 use Rattle.tp_machine.specs.Sound.{Each, EachAt, EachPlaced}
 
 -- ---- conditionals
@@ -11,7 +12,38 @@ pub by_cond : {A : Type 0} (P : A → Type 0) (b : Bool) {x y : A} → (b ≡ tr
 by_cond P true first second = first refl
 by_cond P false first second = second refl
 
+-- four tests, of which the last fails
+pub all_four : (a b c d : Bool) → a ≡ true → b ≡ true → c ≡ true → d ≡ false → (a && b && c && not d) ≡ true
+all_four a b c d e f g h = grind arith
+
+-- ---- a value that may be there
+
+pub none_if_not_some : {A : Type 0} (x : Option A) → is_some x ≡ false → x ≡ None
+none_if_not_some None e = refl
+none_if_not_some (Some found) e = absurd (cc)
+
+pub some_if_not_none : {A : Type 0} (x : Option A) → not (is_none x) ≡ true → is_some x ≡ true
+some_if_not_none None e = absurd (cc)
+some_if_not_none (Some found) e = refl
+
+pub some_value : {A : Type 0} (x : Option A) → is_some x ≡ true → (v : A) × (x ≡ Some v)
+some_value None e = absurd (cc)
+some_value (Some v) e = (v, refl)
+
+pub some_mapped : {A B : Type 0} (f : A → B) (found : Option A) (y : B) → option_map f found ≡ Some y → is_some found ≡ true
+some_mapped f None y e = absurd (cc)
+some_mapped f (Some x) y e = refl
+
+-- the test of what was not kept fails
+pub not_kept : {A : Type 0} (x : A) (b : Bool) → (if b then Some x else None) ≡ None → b ≡ false
+not_kept x true e = absurd (cc)
+not_kept x false e = refl
+
 -- ---- each member
+
+pub each_of_all : {A : Type 0} (P : A → Type 0) → ((x : A) → P x) → (xs : List A) → Each P xs
+each_of_all P h [] = tt
+each_of_all P h (x ∷ xs) = (h x, each_of_all P h xs)
 
 pub each_map : {A : Type 0} {B : Type 0} (P : A → Type 0) (Q : B → Type 0) (f : A → B) → ((x : A) → P x → Q (f x)) → (xs : List A) → Each P xs → Each Q (map f xs)
 each_map P Q f step [] h = tt
@@ -25,6 +57,10 @@ each_as P Q step (x ∷ xs) h = (step x h.0, each_as P Q step xs h.1)
 pub each_both : {A : Type 0} (P : A → Type 0) (Q : A → Type 0) (R : A → Type 0) → ((x : A) → P x → Q x → R x) → (xs : List A) → Each P xs → Each Q xs → Each R xs
 each_both P Q R step [] h k = tt
 each_both P Q R step (x ∷ xs) h k = (step x h.0 k.0, each_both P Q R step xs h.1 k.1)
+
+-- two facts of each member
+pub each_two : {A : Type 0} (P Q : A → Type 0) (xs : List A) → Each P xs → Each Q xs → Each (λ (x : A). P x × Q x) xs
+each_two {A = A} P Q xs h k = each_both P Q (λ (x : A). P x × Q x) (λ x p q. (p, q)) xs h k
 
 pub each_dropped : {A : Type 0} (P : A → Type 0) (xs : List A) → Each P xs → Each P (drop 1 xs)
 each_dropped P [] h = tt
@@ -101,6 +137,11 @@ each_passing P Q test step (x ∷ xs) e h =
 
 -- ---- members and their places
 
+-- what holds of each member by its place holds of each
+pub each_placed : {A : Type 0} (P : A → Type 0) (xs : List A) → ((n : ℕ) (x : A) → slice_get xs n ≡ Some x → P x) → Each P xs
+each_placed P [] h = tt
+each_placed P (x ∷ xs) h = (h zero x refl, each_placed P xs (λ n found e. h (suc n) found e))
+
 -- a place within a list has a member
 pub missing : {A : Type 0} (xs : List A) (n : ℕ) → n < length xs → slice_get xs n ≡ None → ⊥
 missing [] n within e = omega arith
@@ -152,7 +193,7 @@ placed_emptied P (x ∷ xs) (suc k) h (suc n) found e = placed_emptied (λ m a. 
 
 -- what holds of each other place holds of a table that is emptied at one
 pub placed_emptied_others : {A : Type 0} (P : ℕ → A → Type 0) (table : List (Option A)) (k : ℕ)
-    → ((n : ℕ) (found : A) → flattened (slice_get table n) ≡ Some found → (n ≡ k → ⊥) → P n found) → EachPlaced P (slice_set table k None)
+    → ((n : ℕ) (found : A) → option_flatten (slice_get table n) ≡ Some found → (n ≡ k → ⊥) → P n found) → EachPlaced P (slice_set table k None)
 placed_emptied_others P [] k h n found e = absurd (cc)
 placed_emptied_others P (x ∷ xs) zero h zero found e = absurd (cc)
 placed_emptied_others P (x ∷ xs) zero h (suc n) found e = h (suc n) found e (λ same. omega (arith, same))
@@ -161,7 +202,10 @@ placed_emptied_others P (x ∷ xs) (suc k) h (suc n) found e =
     placed_emptied_others (λ m a. P (suc m) a) xs k (λ m a f apart. h (suc m) a f (λ same. apart (omega (arith, same)))) n found e
 
 -- an empty table
+pub unset_at : {A : Type 0} (count n : ℕ) → option_flatten (slice_get (replicate {A = Option A} count None) n) ≡ None
+unset_at zero n = refl
+unset_at (suc count) zero = refl
+unset_at (suc count) (suc n) = unset_at count n
+
 pub placed_none : {A : Type 0} (P : ℕ → A → Type 0) (count : ℕ) → EachPlaced P (replicate count None)
-placed_none P zero n found e = absurd (cc)
-placed_none P (suc count) zero found e = absurd (cc)
-placed_none P (suc count) (suc n) found e = placed_none (λ m a. P (suc m) a) count n found e
+placed_none P count n found e = absurd (none-some found (sym (unset_at count n) ∙ e))

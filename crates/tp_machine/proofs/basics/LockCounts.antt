@@ -1,10 +1,9 @@
 -- How many locks an owner waits for, and how many of its grants nobody has taken.
 use Rattle.std.specs.List.{list_any}
 use Rattle.std.proofs.Common.{Bool, List, Some, [], ap, arith, drop, false, filter, if◌then◌else◌, map, not, refl, slice_get, slice_index_or, slice_set, subst, suc, true, zero, ℕ, ◌&&◌, ◌+◌, ◌++◌, ◌==◌, ◌||◌, ◌∙◌, ◌∷◌, ◌≡◌, ◌≤◌}
-use Rattle.std.proofs.lemmas.Bool.{and_parts, eqb-true}
+use Rattle.std.proofs.lemmas.Bool.{and_parts, eqb-true, not-true}
 use Rattle.tp_types.proofs.ListLemmas.{number_itself}
-use Rattle.tp_model.specs.Words.{TxnId}
-use Rattle.tp_types.specs.declared.policy.Action.{Action}
+use Rattle.tp_model.specs.Words.{Action, TxnId}
 use Rattle.tp_lock.specs.Rule.{answer, answer_to_new, grant_of, grants_from, grants_in, grants_of, is_clear, is_granted, is_of_other, left_by, lock_of, serves, with_answer, with_grant, with_grants_from, with_lock}
 use Rattle.tp_lock.specs.declared.entry.Asked.TheVariants as asked
 use Rattle.tp_lock.specs.declared.entry.Asked.{Asked}
@@ -60,10 +59,6 @@ head_count : (n item : ℕ) (lock : LockEntry) (b : Bool) → (b ≡ true → lo
 head_count n item lock true h = held_more (lock.owner.0 == n) lock.held (h refl)
 head_count n item lock false h = held_same (lock.owner.0 == n) lock.held
 
-not_held : (held : Bool) → not held ≡ true → held ≡ false
-not_held true e = absurd (cc)
-not_held false e = refl
-
 granted_count : (n item : ℕ) (earlier entries : List LockEntry) → waiting_in n (with_grants_from earlier entries) + granted_to n (grants_from item earlier entries) ≡ waiting_in n entries
 granted_count n item earlier [] = refl
 granted_count n item earlier (entry ∷ entries) =
@@ -71,7 +66,7 @@ granted_count n item earlier (entry ∷ entries) =
     let b = is_granted earlier entry in
     let first = if b then grant_of entry.owner item ∷ [] else [] in
     let rest = grants_from item (earlier ++ with_grant earlier entry ∷ []) entries in
-    let here = head_count n item entry b (λ e. not_held entry.held (and_parts (not entry.held) (is_clear earlier entry) e).0) in
+    let here = head_count n item entry b (λ e. not-true entry.held (and_parts (not entry.held) (is_clear earlier entry) e).0) in
     let both : granted_to n (first ++ rest) ≡ granted_to n first + granted_to n rest = granted_append n first rest in
     let waits : waiting_in n (with_grants_from earlier (entry ∷ entries)) ≡ one_if (is_waiting n (with_grant earlier entry)) + waiting_in n (with_grants_from (earlier ++ with_grant earlier entry ∷ []) entries) = refl in
     omega (arith, later, here, both, waits)

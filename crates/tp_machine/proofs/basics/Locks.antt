@@ -1,8 +1,7 @@
 -- What holds of each lock of a table, as locks are asked for and released.
 use Rattle.std.specs.List.{find, list_any}
 use Rattle.std.proofs.Common.{Bool, List, None, Option, Some, [], arith, false, filter, if◌then◌else◌, map, refl, slice_get, slice_index_or, subst, suc, sym, true, zero, ℕ, ◌++◌, ◌||◌, ◌∷◌, ◌≡◌}
-use Rattle.tp_model.specs.Words.{ItemId, TxnId}
-use Rattle.tp_types.specs.declared.policy.Action.{Action}
+use Rattle.tp_model.specs.Words.{Action, ItemId, TxnId}
 use Rattle.tp_lock.specs.Rule.{after_release, after_request, answer, answer_at, answer_to_new, conflicts, entries_at, is_elder, is_granted, is_of_other, left_by, lock_of, opening, serves, waits_or_dies, with_answer, with_grant, with_grants_from, with_lock}
 use Rattle.tp_lock.specs.Table.{Table}
 use Rattle.tp_lock.specs.declared.entry.Asked.TheVariants as asked

@@ -1,10 +1,10 @@
 -- Laws of what logs say as they grow, and of look-ups in lists of which one member changes.
-use Rattle.std.specs.Option.{option_map_or}
-use Rattle.std.proofs.Common.{Bool, IfSome, List, max, None, Option, Some, [], ap, arith, drop, false, flat_map, if◌then◌else◌, is_some, length, option_and_then, refl, slice_get, slice_set, subst, suc, sym, true, zero, ℕ, ◌++◌, ◌==◌, ◌∙◌, ◌∷◌, ◌≡◌}
+use Rattle.std.specs.Option.{option_map_or, option_or}
+use Rattle.std.proofs.Common.{Bool, IfSome, List, max, None, Option, Some, [], ap, arith, drop, false, flat_map, if◌then◌else◌, is_some, length, option_and_then, refl, slice_get, slice_set, subst, suc, sym, true, zero, ℕ, ◌++◌, ◌==◌, ◌∙◌, ◌∷◌, ◌≡◌, option_map}
+use Rattle.std.proofs.Math.Seq.{drop-append_seam, drop-length}
 use Rattle.std.proofs.lemmas.Bool.Decides.{nat_tests}
 use Rattle.std.proofs.lemmas.Option.{same_Some}
 use Rattle.std.proofs.lemmas.List.{append-nil}
-use Rattle.tp_model.specs.Facts.{first_of}
 use Rattle.tp_model.specs.Ids.{same_txn}
 use Rattle.tp_model.specs.Words.{AdminId, Prepared, Record, Settled, TxnId, What}
 use Rattle.tp_model.specs.Words.log
@@ -14,21 +14,29 @@ use Rattle.tp_machine.proofs.basics.Ids.{same_txn_is}
 
 -- ---- the first of two
 
-pub later_some : {A : Type 0} (x y : Option A) → is_some y ≡ true → is_some (first_of x y) ≡ true
+pub later_some : {A : Type 0} (x y : Option A) → is_some y ≡ true → is_some (option_or x y) ≡ true
 later_some None y e = e
 later_some (Some found) y e = refl
 
-pub first_none : {A : Type 0} (x : Option A) → first_of x None ≡ x
+pub first_kept : {A : Type 0} (x y : Option A) → is_some x ≡ true → option_or x y ≡ x
+first_kept None y e = absurd (cc)
+first_kept (Some found) y e = refl
+
+pub map_first : {A : Type 0} {B : Type 0} (f : A → B) (x y : Option A) → option_or (option_map f x) (option_map f y) ≡ option_map f (option_or x y)
+map_first f None y = refl
+map_first f (Some found) y = refl
+
+pub first_none : {A : Type 0} (x : Option A) → option_or x None ≡ x
 first_none None = refl
 first_none (Some found) = refl
 
-pub first_first : {A : Type 0} (x y z : Option A) → first_of (first_of x y) z ≡ first_of x (first_of y z)
+pub first_first : {A : Type 0} (x y z : Option A) → option_or (option_or x y) z ≡ option_or x (option_or y z)
 first_first None y z = refl
 first_first (Some found) y z = refl
 
 -- what is found stays found
-pub first_stays : {A : Type 0} (x y : Option A) (found : A) → x ≡ Some found → first_of x y ≡ Some found
-first_stays x y found e = ap (λ z. first_of z y) e
+pub first_stays : {A : Type 0} (x y : Option A) (found : A) → x ≡ Some found → option_or x y ≡ Some found
+first_stays x y found e = ap (λ z. option_or z y) e
 
 abbrev pub listed : {A : Type 0} → Option A → List A
 listed None = []
@@ -39,7 +47,7 @@ IsFresh None old = Unit {0}
 IsFresh (Some new) old = old ≡ None
 
 -- two lists of at most one member each, of which the second comes only where the first is empty
-pub listed_first : {A : Type 0} (old new : Option A) → IsFresh new old → listed old ++ listed new ≡ listed (first_of old new)
+pub listed_first : {A : Type 0} (old new : Option A) → IsFresh new old → listed old ++ listed new ≡ listed (option_or old new)
 listed_first None new fresh = refl
 listed_first (Some found) None fresh = refl
 listed_first (Some found) (Some new) fresh = absurd (cc)
@@ -49,35 +57,35 @@ listed_first (Some found) (Some new) fresh = absurd (cc)
 abbrev pub appended : {A : Type 0} → (Record → Option A) → Option Record → Option A
 appended look append = option_and_then look append
 
-decided_push : (kept : List Record) (forced : Record) → decided_in (kept ++ forced ∷ []) ≡ first_of (decided_in kept) (decision_in forced)
+decided_push : (kept : List Record) (forced : Record) → decided_in (kept ++ forced ∷ []) ≡ option_or (decided_in kept) (decision_in forced)
 decided_push [] forced = first_none (decision_in forced)
 decided_push (first ∷ kept) forced =
-    ap (first_of (decision_in first)) (decided_push kept forced) ∙ sym (first_first (decision_in first) (decided_in kept) (decision_in forced))
+    ap (option_or (decision_in first)) (decided_push kept forced) ∙ sym (first_first (decision_in first) (decided_in kept) (decision_in forced))
 
-pub decided_with : (kept : List Record) (append : Option Record) → decided_in (log_with kept append) ≡ first_of (decided_in kept) (appended decision_in append)
+pub decided_with : (kept : List Record) (append : Option Record) → decided_in (log_with kept append) ≡ option_or (decided_in kept) (appended decision_in append)
 decided_with kept None = sym (first_none (decided_in kept))
 decided_with kept (Some forced) = decided_push kept forced
 
-settled_push : (txn : TxnId) (kept : List Record) (forced : Record) → settled_in txn (kept ++ forced ∷ []) ≡ first_of (settled_in txn kept) (settlement_in txn forced)
+settled_push : (txn : TxnId) (kept : List Record) (forced : Record) → settled_in txn (kept ++ forced ∷ []) ≡ option_or (settled_in txn kept) (settlement_in txn forced)
 settled_push txn [] forced = first_none (settlement_in txn forced)
 settled_push txn (first ∷ kept) forced =
-    ap (first_of (settlement_in txn first)) (settled_push txn kept forced) ∙ sym (first_first (settlement_in txn first) (settled_in txn kept) (settlement_in txn forced))
+    ap (option_or (settlement_in txn first)) (settled_push txn kept forced) ∙ sym (first_first (settlement_in txn first) (settled_in txn kept) (settlement_in txn forced))
 
-pub settled_with : (txn : TxnId) (kept : List Record) (append : Option Record) → settled_in txn (log_with kept append) ≡ first_of (settled_in txn kept) (appended (settlement_in txn) append)
+pub settled_with : (txn : TxnId) (kept : List Record) (append : Option Record) → settled_in txn (log_with kept append) ≡ option_or (settled_in txn kept) (appended (settlement_in txn) append)
 settled_with txn kept None = sym (first_none (settled_in txn kept))
 settled_with txn kept (Some forced) = settled_push txn kept forced
 
-voted_push : (txn : TxnId) (kept : List Record) (forced : Record) → voted_in txn (kept ++ forced ∷ []) ≡ first_of (preparation_in txn forced) (voted_in txn kept)
+voted_push : (txn : TxnId) (kept : List Record) (forced : Record) → voted_in txn (kept ++ forced ∷ []) ≡ option_or (preparation_in txn forced) (voted_in txn kept)
 voted_push txn [] forced = sym (first_none (preparation_in txn forced))
 voted_push txn (first ∷ kept) forced =
-    ap (λ found. first_of found (preparation_in txn first)) (voted_push txn kept forced) ∙ first_first (preparation_in txn forced) (voted_in txn kept) (preparation_in txn first)
+    ap (λ found. option_or found (preparation_in txn first)) (voted_push txn kept forced) ∙ first_first (preparation_in txn forced) (voted_in txn kept) (preparation_in txn first)
 
-pub voted_with : (txn : TxnId) (kept : List Record) (append : Option Record) → voted_in txn (log_with kept append) ≡ first_of (appended (preparation_in txn) append) (voted_in txn kept)
+pub voted_with : (txn : TxnId) (kept : List Record) (append : Option Record) → voted_in txn (log_with kept append) ≡ option_or (appended (preparation_in txn) append) (voted_in txn kept)
 voted_with txn kept None = refl
 voted_with txn kept (Some forced) = voted_push txn kept forced
 
 -- a record keeps what is prepared or settled so
-voted_more : (settled more : Option Settled) (voted new : Option Prepared) → is_prepared_or_settled settled voted ≡ true → is_prepared_or_settled (first_of settled more) (first_of new voted) ≡ true
+voted_more : (settled more : Option Settled) (voted new : Option Prepared) → is_prepared_or_settled settled voted ≡ true → is_prepared_or_settled (option_or settled more) (option_or new voted) ≡ true
 voted_more (Some s) more voted new e = refl
 voted_more None (Some s) voted new e = refl
 voted_more None None None new e = absurd (cc)
@@ -87,27 +95,27 @@ voted_more None None (Some p) (Some q) e = refl
 pub has_voted_with : (txn : TxnId) (kept : List Record) (append : Option Record) → has_voted txn kept ≡ true → has_voted txn (log_with kept append) ≡ true
 has_voted_with txn kept append e =
     ap (λ (s : Option Settled). is_prepared_or_settled s (voted_in txn (log_with kept append))) (settled_with txn kept append)
-    ∙ (ap (is_prepared_or_settled (first_of (settled_in txn kept) (appended (settlement_in txn) append))) (voted_with txn kept append)
+    ∙ (ap (is_prepared_or_settled (option_or (settled_in txn kept) (appended (settlement_in txn) append))) (voted_with txn kept append)
     ∙ voted_more (settled_in txn kept) (appended (settlement_in txn) append) (voted_in txn kept) (appended (preparation_in txn) append) e)
 
 -- what is prepared on a log after a record
 pub prepared_with : (txn : TxnId) (kept : List Record) (append : Option Record) → prepared_in txn (log_with kept append)
-    ≡ while_unsettled (first_of (settled_in txn kept) (appended (settlement_in txn) append)) (first_of (appended (preparation_in txn) append) (voted_in txn kept))
+    ≡ while_unsettled (option_or (settled_in txn kept) (appended (settlement_in txn) append)) (option_or (appended (preparation_in txn) append) (voted_in txn kept))
 prepared_with txn kept append =
     ap (λ (s : Option Settled). while_unsettled s (voted_in txn (log_with kept append))) (settled_with txn kept append)
-    ∙ ap (while_unsettled (first_of (settled_in txn kept) (appended (settlement_in txn) append))) (voted_with txn kept append)
+    ∙ ap (while_unsettled (option_or (settled_in txn kept) (appended (settlement_in txn) append))) (voted_with txn kept append)
 
 -- a record that neither settles nor prepares the transaction leaves what the log says of it
 pub settled_still : (txn : TxnId) (kept : List Record) (append : Option Record) → appended (settlement_in txn) append ≡ None → settled_in txn (log_with kept append) ≡ settled_in txn kept
-settled_still txn kept append none = settled_with txn kept append ∙ (ap (first_of (settled_in txn kept)) none ∙ first_none (settled_in txn kept))
+settled_still txn kept append none = settled_with txn kept append ∙ (ap (option_or (settled_in txn kept)) none ∙ first_none (settled_in txn kept))
 
 pub prepared_still : (txn : TxnId) (kept : List Record) (append : Option Record) → appended (settlement_in txn) append ≡ None → appended (preparation_in txn) append ≡ None
     → prepared_in txn (log_with kept append) ≡ prepared_in txn kept
 prepared_still txn kept append none unvoted =
     prepared_with txn kept append
-    ∙ (ap (λ (s : Option Settled). while_unsettled (first_of (settled_in txn kept) s) (first_of (appended (preparation_in txn) append) (voted_in txn kept))) none
-    ∙ (ap (λ (s : Option Settled). while_unsettled s (first_of (appended (preparation_in txn) append) (voted_in txn kept))) (first_none (settled_in txn kept))
-    ∙ ap (λ (p : Option Prepared). while_unsettled (settled_in txn kept) (first_of p (voted_in txn kept))) unvoted))
+    ∙ (ap (λ (s : Option Settled). while_unsettled (option_or (settled_in txn kept) s) (option_or (appended (preparation_in txn) append) (voted_in txn kept))) none
+    ∙ (ap (λ (s : Option Settled). while_unsettled s (option_or (appended (preparation_in txn) append) (voted_in txn kept))) (first_none (settled_in txn kept))
+    ∙ ap (λ (p : Option Prepared). while_unsettled (settled_in txn kept) (option_or p (voted_in txn kept))) unvoted))
 
 -- a record that prepares a transaction does it so that P holds
 abbrev pub Prepares : (TxnId → Prepared → Type 0) → Record → Type 0
@@ -116,12 +124,12 @@ Prepares P _ = Unit {0}
 
 grown_from : (P : TxnId → Prepared → Type 0) (append : Option Record) (txn : TxnId) (settled : Option Settled) (voted : Option Prepared) (now : Prepared)
     → ((p : Prepared) → while_unsettled settled voted ≡ Some p → P txn p) → IfSome append (Prepares P)
-    → while_unsettled (first_of settled (appended (settlement_in txn) append)) (first_of (appended (preparation_in txn) append) voted) ≡ Some now → P txn now
+    → while_unsettled (option_or settled (appended (settlement_in txn) append)) (option_or (appended (preparation_in txn) append) voted) ≡ Some now → P txn now
 grown_from P append txn (Some s) voted now h r e = absurd (cc)
 grown_from P None txn None voted now h r e = h now e
 grown_from P (Some (log.Prepared p)) txn None voted now h r e = chosen (same_txn p.txn txn) refl e
   where
-    chosen : (b : Bool) → same_txn p.txn txn ≡ b → first_of (if b then Some p else None) voted ≡ Some now → P txn now
+    chosen : (b : Bool) → same_txn p.txn txn ≡ b → option_or (if b then Some p else None) voted ≡ Some now → P txn now
     chosen true same f = subst (P txn) (same_Some p now f) (subst (λ (t : TxnId). P t p) (same_txn_is p.txn txn same) r)
     chosen false apart f = h now f
 grown_from P (Some (log.Settled s)) txn None voted now h r e = chosen (same_txn s.txn txn) e
@@ -137,7 +145,7 @@ pub prepared_grown : (P : TxnId → Prepared → Type 0) (kept : List Record) (a
 prepared_grown P kept append txn now h r e = grown_from P append txn (settled_in txn kept) (voted_in txn kept) now h r (sym (prepared_with txn kept append) ∙ e)
 
 either_prepared : (settled more : Option Settled) (voted new : Option Prepared) (P : Prepared → Type 0) → ((p : Prepared) → while_unsettled settled voted ≡ Some p → P p) → ((p : Prepared) → new ≡ Some p → P p)
-    → (p : Prepared) → while_unsettled (first_of settled more) (first_of new voted) ≡ Some p → P p
+    → (p : Prepared) → while_unsettled (option_or settled more) (option_or new voted) ≡ Some p → P p
 either_prepared (Some s) more voted new P old now p e = absurd (cc)
 either_prepared None (Some s) voted new P old now p e = absurd (cc)
 either_prepared None None voted None P old now p e = old p e
@@ -186,18 +194,10 @@ known_still first admin kept append none = known_with first admin kept append �
 
 -- ---- what a log gained
 
-drop_kept : (kept : List Record) → drop (length kept) kept ≡ []
-drop_kept [] = refl
-drop_kept (first ∷ kept) = drop_kept kept
-
-drop_front : (kept more : List Record) → drop (length kept) (kept ++ more) ≡ more
-drop_front [] more = refl
-drop_front (first ∷ kept) more = drop_front kept more
-
 -- the facts of the records that a log gained are those of the record that was appended
 pub gained : (fact : Record → List What) (kept : List Record) (append : Option Record) → flat_map fact (drop (length kept) (log_with kept append)) ≡ option_map_or fact append []
-gained fact kept None = ap (flat_map fact) (drop_kept kept)
-gained fact kept (Some forced) = ap (flat_map fact) (drop_front kept (forced ∷ [])) ∙ append-nil (fact forced)
+gained fact kept None = ap (flat_map fact) (drop-length kept)
+gained fact kept (Some forced) = ap (flat_map fact) (drop-append_seam kept (forced ∷ [])) ∙ append-nil (fact forced)
 
 -- ---- one member changes
 

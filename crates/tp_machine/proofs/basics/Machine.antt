@@ -12,7 +12,7 @@ use Rattle.tp_machine.specs.mirrors.Acts.{Moves}
 use Rattle.tp_machine.specs.mirrors.Flags.{marked}
 use Rattle.tp_machine.specs.mirrors.History.{Notes}
 use Rattle.tp_machine.specs.Machine.{State, Machine, Move, state_after, facts_of, mails_of, with_new, without_number, after, after_step, after_steps, machine_after, opening, refusal}
-use Rattle.tp_machine.specs.Seen.{IsBuiltStep, machine_of, state_of}
+use Rattle.tp_machine.specs.WorldView.{IsBuiltStep, machine_of, state_of}
 use Rattle.tp_machine.proofs.basics.Flags.{length_mails_of, marked-mails_of, marked-mails_of_cleared}
 
 pub same_state : (actors actors' : Actors) (mails mails' : List Mail) (facts facts' : List Fact) (steps steps' : List Step)

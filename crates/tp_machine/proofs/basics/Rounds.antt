@@ -15,7 +15,7 @@ use Rattle.tp_round.specs.declared.round.Wanted.{Wanted}
 use Rattle.tp_machine.proofs.basics.Ids.{same_server_is}
 use Rattle.tp_machine.proofs.basics.Lists.{by_cond, each_append, each_filter}
 use Rattle.tp_machine.specs.Sound.{Each}
-use Rattle.tp_coord.specs.Row.{server_in}
+use Rattle.tp_coord.specs.Row.{server_of_target}
 
 -- the server is one of these
 abbrev pub is_in : List ServerId → ServerId → Bool
@@ -23,7 +23,7 @@ is_in servers server = list_any (λ (other : ServerId). other.0 == server.0) ser
 
 -- of these servers of a round, those whose replies are awaited
 abbrev pub missing_in : List Target → List ServerId
-missing_in targets = map server_in (filter is_missing targets)
+missing_in targets = map server_of_target (filter is_missing targets)
 
 -- ---- what holds of each server of a round
 
@@ -37,7 +37,7 @@ each_started K (server ∷ servers) h = (h.0, each_started K servers h.1)
 pub each_missing : (K : ServerId → Type 0) (targets : List Target) → EachServer K targets → Each K (missing_in targets)
 each_missing K [] h = tt
 each_missing K (target ∷ targets) h =
-    by_cond (λ (left : List Target). Each K (map server_in left)) (is_missing target) (λ e. (h.0, each_missing K targets h.1)) (λ e. each_missing K targets h.1)
+    by_cond (λ (left : List Target). Each K (map server_of_target left)) (is_missing target) (λ e. (h.0, each_missing K targets h.1)) (λ e. each_missing K targets h.1)
 
 pub each_replied : (K : ServerId → Type 0) (targets : List Target) (server : ServerId) (verdicts : List Verdict) → EachServer K targets → EachServer K (with_reply targets server verdicts)
 each_replied K [] server verdicts h = tt
@@ -57,7 +57,7 @@ each_renewed K aim (target ∷ targets) h = (subst K (sym (renewed_server aim ta
 
 -- the awaited servers, by whether the first is
 abbrev missing_from : Bool → Target → List Target → List ServerId
-missing_from m target targets = map server_in (cond m (target ∷ filter is_missing targets) (filter is_missing targets))
+missing_from m target targets = map server_of_target (cond m (target ∷ filter is_missing targets) (filter is_missing targets))
 
 here_or_later : (b rest left : Bool) (server at : ServerId) → (rest ≡ true → left ≡ false → at ≡ server) → (b || rest) ≡ true → (b || left) ≡ false → at ≡ server
 here_or_later true rest left server at later g l = absurd (cc)
@@ -87,7 +87,7 @@ pub none_missing : (targets : List Target) → list_any is_missing targets ≡ f
 none_missing [] e = refl
 none_missing (target ∷ targets) e =
     let parts = or_parts (is_missing target) (list_any is_missing targets) e in
-    ap (λ (m : Bool). map server_in (cond m (target ∷ filter is_missing targets) (filter is_missing targets))) parts.0 ∙ none_missing targets parts.1
+    ap (λ (m : Bool). map server_of_target (cond m (target ∷ filter is_missing targets) (filter is_missing targets))) parts.0 ∙ none_missing targets parts.1
 
 all_of : (some whole : List ServerId) → ((at : ServerId) → is_in some at ≡ true → is_in whole at ≡ true) → Each (λ (at : ServerId). is_in whole at ≡ true) some
 all_of [] whole into = tt

@@ -6,7 +6,7 @@ use Rattle.tp_machine.specs.declared.actors.Actors.{Actors}
 use Rattle.tp_machine.specs.declared.history.History.{History}
 use Rattle.tp_machine.specs.mirrors.Flags.{marked}
 use Rattle.tp_machine.specs.Machine.{Machine, opened_actors, opening}
-use Rattle.tp_machine.specs.Seen.{Seen, IsWorld, machine_of, start}
+use Rattle.tp_machine.specs.WorldView.{WorldView, IsWorld, machine_of, start}
 use Rattle.tp_machine.proofs.basics.Machine.{same_machine, same_state}
 use Rattle.tp_machine.proofs.ids.Steps.{sound_opening}
 
@@ -18,7 +18,7 @@ machine_opened sc actors history a s f m p = same_machine _ _ _ _ (same_state _ 
 pub world_at_start : (sc : Scenario) (own : Scenario) (machine : Machine) → is_built sc ≡ true → own ≡ sc → machine ≡ opening sc
     → IsWorld (record { scenario = own; given_up = false; machine = machine })
 world_at_start sc own machine built same opened =
-    let whole : ◌≡◌ {A = Seen} (record { scenario = own; given_up = false; machine = machine }) (start sc) =
+    let whole : ◌≡◌ {A = WorldView} (record { scenario = own; given_up = false; machine = machine }) (start sc) =
     ap (λ (x : Scenario). record { scenario = x; given_up = false; machine = machine }) same
     ∙ ap (λ (x : Machine). record { scenario = sc; given_up = false; machine = x }) opened in
     subst IsWorld (sym whole) (record { built = built; named = tt; told = refl; reached = λ _. refl; sound = λ _. sound_opening sc built })

@@ -1,10 +1,10 @@
 -- Bounds over every list of steps: each value of a world is within the bound of its query, and no step of a sum is cut.
-use Rattle.std.proofs.Common.{IfSome, List, None, Option, Some, [], ap, arith, drop, false, length, option_and_then, refl, slice_get, subst, sym, true, ℕ, ◌++◌, ◌+◌, ◌<◌, ◌∙◌, ◌∷◌, ◌≡◌}
+use Rattle.std.proofs.Common.{IfSome, List, None, Option, Some, [], ap, arith, drop, false, length, option_and_then, refl, slice_get, subst, sym, true, ℕ, ◌++◌, ◌<◌, ◌∙◌, ◌∷◌, ◌≡◌}
 use Rattle.std.specs.List.{flat_map}
 use Rattle.std.proofs.lemmas.List.{length-map}
 use Rattle.tp_model.specs.Built.{is_built}
 use Rattle.tp_model.specs.Queries.{query_at}
-use Rattle.tp_model.specs.SerialRun.{are_in_range, opening_store, opening_value, overlaid}
+use Rattle.tp_model.specs.SerialRun.{are_in_range, opening_store, opening_value, overlay}
 use Rattle.tp_model.specs.Valid.{is_valid_txn}
 use Rattle.tp_model.specs.Words.actor
 use Rattle.tp_model.specs.Words.body
@@ -16,6 +16,7 @@ use Rattle.tp_machine.proofs.agreement.Logs.{DecidedAs, IsAsked}
 use Rattle.tp_machine.proofs.agreement.Server.{RequestRests, open_unsettled}
 use Rattle.tp_machine.proofs.agreement.Steps.{mail_rests, request_rests, server_agrees, server_lawful}
 use Rattle.tp_machine.proofs.agreement.World.{Agrees}
+use Rattle.tp_machine.proofs.basics.Facts.{each_new_mail}
 use Rattle.tp_machine.proofs.basics.Lists.{at_made, at_set, each_append, each_as, each_drop, each_flat_map, each_get, each_map, each_more, placed_none}
 use Rattle.tp_machine.proofs.basics.Stores.{opened_each}
 use Rattle.tp_machine.proofs.bounds.Coordinator.{CoordinatorBounds, CoordinatorLow, coordinator_row_bounds, submit_row_bounds}
@@ -77,16 +78,12 @@ pub record MoveBounds (sc : Scenario) (move : Move) : Type 0 where
   pub letters : Each IsBoundedLetter move.letters
   pub happened : Each IsBoundedWhat move.happened
 
-new_mails_bounded : (sent number : ℕ) (letters : List Letter) → Each IsBoundedLetter letters → Each IsBoundedMail (mails_of sent number letters)
-new_mails_bounded sent number [] h = tt
-new_mails_bounded sent number (letter ∷ letters) h = (h.0, new_mails_bounded sent (number + 1) letters h.1)
-
 state_after_bounds : (sc : Scenario) (w : State) (taken : Step) (move : Move) → Bounds sc w → MoveBounds sc move → Bounds sc (state_after w taken move)
 state_after_bounds sc w taken move h t =
     record {
       servers = t.servers;
       coordinators = t.coordinators;
-      mails = each_append IsBoundedMail w.mails (mails_of (length w.steps) (length w.mails) move.letters) h.mails (new_mails_bounded (length w.steps) (length w.mails) move.letters t.letters);
+      mails = each_append IsBoundedMail w.mails (mails_of (length w.steps) (length w.mails) move.letters) h.mails (each_new_mail (λ sent. IsBoundedLetter) (length w.steps) (length w.mails) move.letters t.letters);
       facts = each_append IsBoundedFact w.facts (facts_of (length w.steps) move.happened) h.facts
           (each_map IsBoundedWhat IsBoundedFact (λ (happened : What). record { place = length w.steps; what = happened }) (λ happened k. k) move.happened t.happened);
     }
@@ -165,7 +162,7 @@ receipt_by_server sc w built rightly sound agrees pairs serial h n mail at part 
     let M = IsAsked sc w.actors.coordinators at in
     let effect = server_row sc s mail in
     let old : IsBoundedServer sc s = of_some (IsBoundedServer sc) part.up s up.up (h.servers at.0 part up.found).state in
-    let was : ServerUpSerial sc (overlaid sc w.facts) at s = of_some (ServerUpSerial sc (overlaid sc w.facts) at) part.up s up.up (serial.servers at.0 part up.found).state in
+    let was : ServerUpSerial sc (overlay sc w.facts) at s = of_some (ServerUpSerial sc (overlay sc w.facts) at) part.up s up.up (serial.servers at.0 part up.found).state in
     let clear : RequestClear sc M s mail.letter.body = received_clear sc w built sound agrees pairs serial n mail at part s sent up in
     let keeps = server_row_keeps sc M s mail (rightly at part s up) was.reads clear in
     let before : ServerBefore s = record { values = old.values; kept = record { writes = old.writes; settled = old.settled; entries = old.entries } } in
@@ -226,7 +223,7 @@ bounds_cases sc w built rightly sound agrees pairs serial h =
       authority_told = λ n mail sent. still_bounds sc w w.actors.authority w.actors.master [] _ h tt (authority_says_none w.actors.authority mail.letter.body);
       master_told = λ n mail sent. still_bounds sc w w.actors.authority w.actors.master [] _ h tt (master_says_none w.actors.master mail.letter.body);
       published = λ admin exists more.
-          still_bounds sc w w.actors.authority (master.published admin w.actors.master) (what.Published admin (master.next_of w.actors.master admin) ∷ []) [] h (tt, tt) tt;
+          still_bounds sc w w.actors.authority (master.after_publication admin w.actors.master) (what.Published admin (master.next_of w.actors.master admin) ∷ []) [] h (tt, tt) tt;
       pushed = λ admin server exists there. still_bounds sc w w.actors.authority w.actors.master [] (master.pushes w.actors.master admin server).reaction.letters h tt (tt, tt);
       ticked = λ by. still_bounds sc w (office.after_tick by w.actors.authority) w.actors.master (what.Ticked by ∷ []) [] h (tt, tt) tt;
       revoked = λ cred exists. still_bounds sc w (office.after_revocation cred w.actors.authority) w.actors.master (what.Revoked cred ∷ []) [] h (tt, tt) tt;

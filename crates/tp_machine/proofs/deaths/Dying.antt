@@ -1,24 +1,23 @@
 -- Why a transaction is to die: an older one, which was not settled at the server when this one was submitted, has a lock in conflict with its query.
 use Rattle.std.specs.List.{find, list_any}
 use Rattle.std.specs.Option.{option_map_or}
-use Rattle.std.proofs.Common.{Bool, List, None, Option, Some, [], ap, arith, false, filter, inl, inr, nat_lt, not, option_and_then, option_map, refl, slice_get, subst, suc, sym, true, zero, ℕ, ⊎_elim, ◌&&◌, ◌<◌, ◌==◌, ◌||◌, ◌∙◌, ◌∷◌, ◌≡◌, ◌⊎◌}
-use Rattle.std.proofs.lemmas.Bool.{and_from, and_parts, eqb-true, lt-ltb, or_left, or_right}
-use Rattle.std.proofs.lemmas.Option.{same_Some}
+use Rattle.std.proofs.Common.{Bool, List, None, Option, Some, [], ap, arith, false, filter, nat_lt, not, option_and_then, option_map, refl, slice_get, subst, suc, sym, true, zero, ℕ, ⊎_elim, ◌&&◌, ◌<◌, ◌==◌, ◌||◌, ◌∙◌, ◌∷◌, ◌≡◌}
+use Rattle.std.proofs.lemmas.Bool.{and_from, and_parts, eqb-true, lt-ltb, ltb-true, or_cases, or_left}
+use Rattle.std.proofs.lemmas.Map.Keys.{any_passes_from_place}
 use Rattle.tp_types.proofs.ListLemmas.{number_itself}
-use Rattle.tp_types.specs.declared.policy.Action.{Action}
+use Rattle.tp_model.specs.Words.{Action, Fact, Item, Outcome, Query, Scenario, ServerId, Step, Transaction, TxnId}
+use Rattle.tp_model.specs.Words.query
+use Rattle.tp_model.specs.Words.step
 use Rattle.tp_lock.specs.Rule.{conflicts, is_elder, is_of_other, is_older, is_write}
 use Rattle.tp_lock.specs.declared.entry.LockEntry.{LockEntry}
 use Rattle.tp_model.specs.Authorisation.{action_of}
 use Rattle.tp_model.specs.Causes.{before_submission, conflicts_with, has_conflict, is_conflict, is_contested_query, is_write_of, place_of, submitted_at}
 use Rattle.tp_model.specs.Facts.{before, is_earlier, is_settlement, is_submission}
 use Rattle.tp_model.specs.Queries.{is_at_server, item_of, query_at}
-use Rattle.tp_model.specs.Words.query
-use Rattle.tp_model.specs.Words.step
-use Rattle.tp_model.specs.Words.{Fact, Item, Outcome, Query, Scenario, ServerId, Step, Transaction, TxnId}
 use Rattle.tp_machine.proofs.ages.World.{IsSubmission}
 use Rattle.tp_machine.proofs.basics.Facts.{any_settlement, said, settlements}
 use Rattle.tp_machine.proofs.deaths.Fit.{Death, LockFits}
-use Rattle.tp_machine.proofs.deaths.Told.{Told, less_from}
+use Rattle.tp_machine.proofs.deaths.Told.{Told}
 use Rattle.tp_machine.specs.Machine.{State}
 use Rattle.tp_machine.specs.Sound.{IsItemOf, query_in}
 use Rattle.tp_server.specs.declared.server.Entry.{Entry}
@@ -31,14 +30,9 @@ both_on (query.Write item expr) other same e = or_left (item.0 == (item_of other
 both_on (query.Read item into) (query.Write written expr) same e = ap (λ (n : ℕ). n == item.0) same ∙ number_itself item.0
 both_on (query.Read item into) (query.Read read other) same e = absurd (cc)
 
-any_at : {A : Type 0} (test : A → Bool) (xs : List A) (n : ℕ) (x : A) → slice_get xs n ≡ Some x → test x ≡ true → list_any test xs ≡ true
-any_at test [] n x e h = absurd (cc)
-any_at test (y ∷ xs) zero x e h = let same : y ≡ x = same_Some y x e in or_left (test y) (list_any test xs) (ap test same ∙ h)
-any_at test (y ∷ xs) (suc n) x e h = or_right (test y) (list_any test xs) (any_at test xs n x e h)
-
 among_queries : (declared : Transaction) (number : ℕ) (found asked : Query) → query_at declared number ≡ Some found → is_conflict asked found ≡ true → conflicts_with asked declared ≡ true
 among_queries declared zero found asked e h = absurd (cc)
-among_queries declared (suc before) found asked e h = any_at (is_conflict asked) declared.queries before found e h
+among_queries declared (suc before) found asked e h = any_passes_from_place (is_conflict asked) declared.queries before found e h
 
 other_conflicts : (sc : Scenario) (other : TxnId) (number : ℕ) (found asked : Query) (declared : Option Transaction) → slice_get sc.txns other.0 ≡ declared → option_and_then (λ (d : Transaction). query_at d number) declared ≡ Some found
     → is_conflict asked found ≡ true → has_conflict sc other asked ≡ true
@@ -77,21 +71,17 @@ found_before test (fact ∷ facts) place later e less =
 submissions_apart : (steps : List Step) (one other : TxnId) (place : ℕ) → IsSubmission steps one place → IsSubmission steps other place → one ≡ other
 submissions_apart steps one other place a b = let both : Some (step.Submit one) ≡ Some (step.Submit other) = sym a ∙ b in cc
 
-either_true : (b c : Bool) → (b || c) ≡ true → (b ≡ true) ⊎ (c ≡ true)
-either_true true c e = inl refl
-either_true false c e = inr e
-
 -- an elder was submitted before
 elder_before : (steps : List Step) (owner : TxnId) (age : ℕ) (lock : LockEntry) → IsSubmission steps owner age → IsSubmission steps lock.owner lock.age → is_of_other owner lock ≡ true → is_older owner age lock ≡ true → lock.age < age
 elder_before steps owner age lock own its other older =
-    ⊎_elim (λ (less : nat_lt lock.age age ≡ true). less_from lock.age age less)
+    ⊎_elim (λ (less : nat_lt lock.age age ≡ true). ltb-true lock.age age less)
     (λ (tie : (lock.age == age && nat_lt lock.owner.0 owner.0) ≡ true).
     let parts = and_parts (lock.age == age) (nat_lt lock.owner.0 owner.0) tie in
     let same : lock.age ≡ age = eqb-true lock.age age parts.0 in
     let one : lock.owner ≡ owner = submissions_apart steps lock.owner owner age (subst (IsSubmission steps lock.owner) same its) own in
     let its_own : is_of_other owner lock ≡ false = ap (λ (t : TxnId). not (t.0 == owner.0)) one ∙ ap not (number_itself owner.0) in
     absurd (cc))
-    (either_true (nat_lt lock.age age) (lock.age == age && nat_lt lock.owner.0 owner.0) older)
+    (or_cases (nat_lt lock.age age) (lock.age == age && nat_lt lock.owner.0 owner.0) older)
 
 -- ---- not settled
 

@@ -1,26 +1,24 @@
 -- Deaths for an older transaction: what is known of an answer Died, and of a decision by it, by the facts so far.
 use Rattle.std.specs.List.{find, list_any}
-use Rattle.std.specs.Option.{option_map_or}
+use Rattle.std.specs.Option.{option_flatten, option_map_or}
 use Rattle.std.proofs.Common.{Bool, List, None, Option, Some, [], ap, false, nat_lt, not, option_map, refl, slice_get, sym, true, ℕ, ◌&&◌, ◌++◌, ◌<◌, ◌∙◌, ◌∷◌, ◌≡◌, ◌≤◌, arith}
-use Rattle.std.proofs.lemmas.Bool.{and_from, and_parts, lt-ltb}
-use Rattle.tp_types.specs.Table.{flattened}
-use Rattle.tp_types.specs.declared.policy.Action.{Action}
-use Rattle.tp_lock.specs.declared.entry.LockEntry.{LockEntry}
-use Rattle.tp_model.specs.Authorisation.{action_of}
-use Rattle.tp_model.specs.Causes.{before_submission, has_contested_query, is_older_conflict, place_of, was_settled_before, was_submitted_before}
-use Rattle.tp_model.specs.Facts.{before, is_settlement, is_submission, was_submitted}
-use Rattle.tp_model.specs.Trust.{is_within}
-use Rattle.tp_model.specs.Queries.{item_of}
+use Rattle.std.proofs.lemmas.Bool.{and_from, and_parts, lt-ltb, ltb-true}
+use Rattle.tp_model.specs.Words.{Action, Actor, Answer, Body, Died, DoneReply, Fact, Letter, Query, Scenario, ServerId, Transaction, TxnId, What}
 use Rattle.tp_model.specs.Words.actor
 use Rattle.tp_model.specs.Words.answer
 use Rattle.tp_model.specs.Words.body
 use Rattle.tp_model.specs.Words.cause
 use Rattle.tp_model.specs.Words.decision
 use Rattle.tp_model.specs.Words.what
-use Rattle.tp_model.specs.Words.{Actor, Answer, Body, Died, DoneReply, Fact, Letter, Query, Scenario, ServerId, Transaction, TxnId, What}
+use Rattle.tp_lock.specs.declared.entry.LockEntry.{LockEntry}
+use Rattle.tp_model.specs.Authorisation.{action_of}
+use Rattle.tp_model.specs.Causes.{before_submission, has_contested_query, is_older_conflict, place_of, was_settled_before, was_submitted_before}
+use Rattle.tp_model.specs.Facts.{before, is_settlement, is_submission, was_submitted}
+use Rattle.tp_model.specs.Trust.{is_within}
+use Rattle.tp_model.specs.Queries.{item_of}
 use Rattle.tp_machine.proofs.basics.Facts.{ArePast, Grows, before_past}
-use Rattle.tp_machine.proofs.basics.Lists.{each_found}
-use Rattle.tp_machine.proofs.deaths.Told.{find_first, less_from}
+use Rattle.tp_machine.proofs.basics.Lists.{all_four, each_found}
+use Rattle.tp_machine.proofs.deaths.Told.{find_first}
 use Rattle.tp_machine.specs.Sound.{query_in}
 use Rattle.tp_server.specs.declared.server.Entry.{Entry}
 
@@ -37,7 +35,7 @@ pub record IsAskedFor (sc : Scenario) (txn : TxnId) (item : ℕ) (mode : Action)
 -- a lock: its owner has an entry of that age, and a query of that item and mode
 pub record LockFits (sc : Scenario) (entries : List (Option Entry)) (item : ℕ) (lock : LockEntry) : Type 0 where
   pub entry : Entry
-  pub found : flattened (slice_get entries lock.owner.0) ≡ Some entry
+  pub found : option_flatten (slice_get entries lock.owner.0) ≡ Some entry
   pub age_is : entry.age ≡ lock.age
   pub asked : IsAskedFor sc lock.owner item lock.mode
 
@@ -140,9 +138,6 @@ pub body_dies_still : (sc : Scenario) (old new : List Fact) (place sent : ℕ) (
 body_dies_still sc old new place sent from (body.Done done) a le h = from_stays sc old new place sent from done a le h
 body_dies_still sc old new place sent from _ a le h = tt
 
-all_four : (a b c d : Bool) → a ≡ true → b ≡ true → c ≡ true → d ≡ false → (a && b && c && not d) ≡ true
-all_four a b c d e f g i = grind arith
-
 -- an abort is shown by what its answer told
 pub death_shown : (sc : Scenario) (facts : List Fact) (place : ℕ) (at : ServerId) (txn other : TxnId) (number sent : ℕ) (declared : Transaction) → Death sc facts at txn other number → was_submitted txn sent facts ≡ true → sent < place
     → slice_get sc.txns txn.0 ≡ Some declared → is_older_conflict sc txn place facts (record { query = number; server = at; other = other; place = sent }) declared ≡ true
@@ -163,7 +158,7 @@ older_stays sc old new low place txn died declared a le h =
     let contested = has_contested_query sc declared died in
     let parts = four_parts contested (is_within txn place old died.place) (was_submitted_before died.other txn old) (was_settled_before died.server died.other txn old) h in
     let within = and_parts (was_submitted txn died.place old) (nat_lt died.place place) parts.1 in
-    let less : died.place < place = less_from died.place place within.1 in
+    let less : died.place < place = ltb-true died.place place within.1 in
     let same : before_submission txn new ≡ before_submission txn old =
     before_stays txn old new low (find (is_submission txn) old) refl a (not_none txn old (is_submission died.other) (find (is_submission txn) old) refl parts.2) in
     all_four contested (is_within txn place new died.place) (was_submitted_before died.other txn new) (was_settled_before died.server died.other txn new) parts.0

@@ -5,7 +5,7 @@ use Rattle.std.proofs.lemmas.List.{length-set}
 use Rattle.std.proofs.lemmas.Option.{same_Some}
 use Rattle.tp_types.proofs.ListLemmas.{number_itself}
 use Rattle.tp_types.specs.Effect.{Effect, sends}
-use Rattle.tp_types.specs.Table.{flattened}
+use Rattle.std.specs.Option.{option_flatten}
 use Rattle.tp_lock.specs.Rule.{is_of_other, without_grant}
 use Rattle.tp_lock.specs.Table.{Table}
 use Rattle.tp_lock.specs.declared.entry.Asked.TheVariants as asked
@@ -28,7 +28,7 @@ use Rattle.tp_machine.specs.Sound.{Each, EachPlaced}
 use Rattle.tp_server.specs.declared.server.Entry.{Entry}
 use Rattle.tp_server.specs.Row.{ack_letter, after_asking, ballot_of, closes, died_reply, entry_after, entry_at, followed_by, lock_answer, no_letter, prepared_record, refused_as, server_row, settled_as}
 use Rattle.tp_server.specs.State.{Server}
-use Rattle.tp_server.specs.Verdicts.{learnt, verdicts_on}
+use Rattle.tp_server.specs.Verdicts.{with_wants, verdicts_on}
 
 -- ---- what is kept
 
@@ -49,25 +49,25 @@ pub record RowDies (sc : Scenario) (facts : List Fact) (place : ℕ) (s : Server
 -- ---- locks as entries change
 
 -- the entry of one transaction changes, and keeps its age
-moved : (sc : Scenario) (entries : List (Option Entry)) (n : ℕ) (new : Entry) → n < length entries → ((old : Entry) → flattened (slice_get entries n) ≡ Some old → new.age ≡ old.age) → (item : ℕ) (lock : LockEntry) → LockFits sc entries item lock
+moved : (sc : Scenario) (entries : List (Option Entry)) (n : ℕ) (new : Entry) → n < length entries → ((old : Entry) → option_flatten (slice_get entries n) ≡ Some old → new.age ≡ old.age) → (item : ℕ) (lock : LockEntry) → LockFits sc entries item lock
     → LockFits sc (slice_set entries n (Some new)) item lock
 moved sc entries n new within kept item lock h = by_owner (n == lock.owner.0) refl
   where
     by_owner : (b : Bool) → (n == lock.owner.0) ≡ b → LockFits sc (slice_set entries n (Some new)) item lock
     by_owner true e =
         let is : n ≡ lock.owner.0 = eqb-true n lock.owner.0 e in
-        let there : flattened (slice_get (slice_set entries n (Some new)) n) ≡ Some new = ap flattened (set_here entries n (Some new) within) in
+        let there : option_flatten (slice_get (slice_set entries n (Some new)) n) ≡ Some new = ap option_flatten (set_here entries n (Some new) within) in
         record {
           entry = new;
-          found = subst (λ (m : ℕ). flattened (slice_get (slice_set entries n (Some new)) m) ≡ Some new) is there;
-          age_is = kept h.entry (subst (λ (m : ℕ). flattened (slice_get entries m) ≡ Some h.entry) (sym is) h.found) ∙ h.age_is;
+          found = subst (λ (m : ℕ). option_flatten (slice_get (slice_set entries n (Some new)) m) ≡ Some new) is there;
+          age_is = kept h.entry (subst (λ (m : ℕ). option_flatten (slice_get entries m) ≡ Some h.entry) (sym is) h.found) ∙ h.age_is;
           asked = h.asked;
         }
-    by_owner false e = record { entry = h.entry; found = ap flattened (set_elsewhere entries n lock.owner.0 (Some new) e) ∙ h.found; age_is = h.age_is; asked = h.asked }
+    by_owner false e = record { entry = h.entry; found = ap option_flatten (set_elsewhere entries n lock.owner.0 (Some new) e) ∙ h.found; age_is = h.age_is; asked = h.asked }
 
 -- the entry of one transaction ends, and the locks of others stay
 left_others : (sc : Scenario) (entries : List (Option Entry)) (owner : TxnId) (item : ℕ) (lock : LockEntry) → is_of_other owner lock ≡ true → LockFits sc entries item lock → LockFits sc (slice_set entries owner.0 None) item lock
-left_others sc entries owner item lock apart h = record { entry = h.entry; found = ap flattened (set_elsewhere entries owner.0 lock.owner.0 None (other (owner.0 == lock.owner.0) refl)) ∙ h.found; age_is = h.age_is; asked = h.asked }
+left_others sc entries owner item lock apart h = record { entry = h.entry; found = ap option_flatten (set_elsewhere entries owner.0 lock.owner.0 None (other (owner.0 == lock.owner.0) refl)) ∙ h.found; age_is = h.age_is; asked = h.asked }
   where
     other : (b : Bool) → (owner.0 == lock.owner.0) ≡ b → (owner.0 == lock.owner.0) ≡ false
     other false e = e
@@ -99,7 +99,7 @@ asked_locks sc s mail q query entry new value given e k within same h =
     (all_added (LockFits sc entries (item_of query).0) q.txn entry.age (action_of query)
     (λ held. record {
       entry = new;
-      found = ap flattened (set_here s.entries q.txn.0 (Some new) within);
+      found = ap option_flatten (set_here s.entries q.txn.0 (Some new) within);
       age_is = same;
       asked = record { number = q.query; query = query; asked_is = k.asked_is; item_is = refl; mode_is = refl };
     }) given)
@@ -195,7 +195,7 @@ server_row_dies sc facts place s mail past rightly known h =
           still_dies sc facts place s _ h
           (done_sent sc facts place s.server given past (each_found (DoneDies sc facts s.server) (λ (d : DoneReply). d.query == q.query) entry.answers given (h.kept q.txn.0 entry k.found) k.given_is), tt);
       voted = λ p entry staple txn k.
-          let voted : Entry = record entry { ballot = Some (ballot_of (prepared_record (learnt s p.want) p entry (verdicts_on sc (learnt s p.want) txn staple p.want entry.deeds))) } in
+          let voted : Entry = record entry { ballot = Some (ballot_of (prepared_record (with_wants s p.want) p entry (verdicts_on sc (with_wants s p.want) txn staple p.want entry.deeds))) } in
           let within = placed_within s.entries p.txn.0 entry k.found in
           record {
             state = record {

@@ -1,7 +1,6 @@
 -- Each submission is a fact of its step's place, and the first of its transaction.
 use Rattle.std.specs.List.{find, list_any}
-use Rattle.std.proofs.Common.{Bool, List, None, Option, Some, [], ap, arith, drop, false, flat_map, inl, inr, length, nat_lt, option_map, refl, slice_get, subst, suc, sym, true, zero, ℕ, ⊎_elim, ◌++◌, ◌<◌, ◌∙◌, ◌∷◌, ◌≡◌, ◌⊎◌}
-use Rattle.std.proofs.lemmas.Bool.Decides.{nat_tests}
+use Rattle.std.proofs.Common.{Bool, List, None, Option, Some, [], ap, arith, drop, false, flat_map, inl, inr, length, option_map, refl, slice_get, subst, suc, sym, true, zero, ℕ, ⊎_elim, ◌++◌, ◌∙◌, ◌∷◌, ◌≡◌, ◌⊎◌}
 use Rattle.std.proofs.lemmas.Option.{same_Some}
 use Rattle.tp_types.proofs.ListLemmas.{number_itself}
 use Rattle.tp_model.specs.Causes.{place_of, submitted_at}
@@ -31,9 +30,6 @@ abbrev NewTold : State → Step → Move → Type 0
 NewTold w taken move = (txn : TxnId) → taken ≡ step.Submit txn → IsNewlyTold w txn move
 
 -- ---- searches
-
-pub less_from : (a b : ℕ) → nat_lt a b ≡ true → a < b
-less_from a b e = grind (arith, nat_tests)
 
 none_first : {A : Type 0} (test : A → Bool) (x : A) (xs ys : List A) (b : Bool) → test x ≡ b → (list_any test xs ≡ false → find test (xs ++ ys) ≡ find test ys) → list_any test (x ∷ xs) ≡ false → find test (x ∷ xs ++ ys) ≡ find test ys
 none_first test x xs ys true here later e = absurd (let some : list_any test (x ∷ xs) ≡ true = grind arith in cc)

@@ -15,11 +15,11 @@ use Rattle.tp_machine.proofs.ages.Actors.{BodyAged, EntryAged, ran_age}
 use Rattle.tp_machine.proofs.ages.World.{Ages, IsSubmission, MailAged}
 use Rattle.tp_machine.proofs.agreement.Logs.{outcome_settled}
 use Rattle.tp_machine.proofs.agreement.CoordinatorActs.{coordinator_facts}
-use Rattle.tp_machine.proofs.agreement.ServerActs.{server_facts}
+use Rattle.tp_machine.proofs.agreement.ServerActs.{each_server_fact, server_facts}
 use Rattle.tp_machine.proofs.agreement.Steps.{mail_sound, own_txn, server_agrees}
 use Rattle.tp_machine.proofs.agreement.World.{Agrees}
-use Rattle.tp_machine.proofs.basics.Facts.{ArePast, grows_with_facts, said, settlements}
-use Rattle.tp_machine.proofs.basics.Lists.{at_made, at_set, each_append, each_as, each_get, each_map, placed_none}
+use Rattle.tp_machine.proofs.basics.Facts.{ArePast, each_new_fact, each_new_mail, facts_after, grows_with_facts, said, settlements}
+use Rattle.tp_machine.proofs.basics.Lists.{at_made, at_set, each_append, each_as, each_get, placed_none}
 use Rattle.tp_machine.proofs.basics.Locks.{no_locks, stands_in_the_way}
 use Rattle.tp_machine.proofs.basics.Logs.{gained, listed}
 use Rattle.tp_machine.proofs.deaths.Coordinators.{ActDies, RecordDies, coordinator_row_dies, submit_row_dies}
@@ -29,7 +29,6 @@ use Rattle.tp_machine.proofs.deaths.Servers.{AnswersDie, AskerKnown, ServerDies,
 use Rattle.tp_machine.proofs.deaths.Told.{Told, told_next}
 use Rattle.tp_machine.proofs.pairs.Lists.{of_some}
 use Rattle.tp_machine.proofs.pairs.World.{HasPlaces, Pairs}
-use Rattle.tp_machine.proofs.trust.World.{facts_after}
 use Rattle.tp_machine.proofs.walks.Steps.{Cases, IsServerUp, SaysIdle, WaitRightly, WasSent, machine_after_by}
 use Rattle.tp_machine.specs.Logs.{settled_by, settled_in}
 use Rattle.tp_machine.specs.Machine.{Machine, Move, State, acts_by, coordinator_fact, coordinator_move, facts_of, idle_move, log_with, machine_after, mails_of, opened_part, opening_state, refusal, server_fact, server_move, state_after, with_age}
@@ -81,10 +80,6 @@ servers_still sc old new place at (Some s) a h =
       kept = λ n entry found. each_as (DoneDies sc old at) (DoneDies sc new at) (λ done d. done_stays sc old new place at done a d) entry.answers (h.kept n entry found);
     }
 
-new_mails_die : (sc : Scenario) (facts : List Fact) (place number : ℕ) (letters : List Letter) → Each (LetterDies sc facts place) letters → Each (MailDies sc facts) (mails_of place number letters)
-new_mails_die sc facts place number [] h = tt
-new_mails_die sc facts place number (letter ∷ letters) h = (h.0, new_mails_die sc facts place (number + 1) letters h.1)
-
 new_mails_sent : (place number : ℕ) (letters : List Letter) → Each (λ (mail : Mail). mail.sent < place + 1) (mails_of place number letters)
 new_mails_sent place number [] = tt
 new_mails_sent place number (letter ∷ letters) = (omega arith, new_mails_sent place (number + 1) letters)
@@ -98,14 +93,14 @@ state_after_deaths sc w taken move past h t told =
       servers = λ n part e. servers_still sc w.facts now place (record { 0 = n }) part.up a (t.servers n part e);
       mails = each_append (MailDies sc now) w.mails (mails_of place (length w.mails) move.letters)
           (old_mails w.mails h.sent h.mails)
-          (new_mails_die sc now place (length w.mails) move.letters
+          (each_new_mail (LetterDies sc now) place (length w.mails) move.letters
           (each_as (LetterDies sc w.facts place) (LetterDies sc now place) (λ letter d. body_dies_still sc w.facts now place place letter.from letter.body a (omega arith) d) move.letters t.letters));
       sent = subst (λ (steps : ℕ). Each (λ (mail : Mail). mail.sent < steps) (w.mails ++ mails_of place (length w.mails) move.letters)) (sym (length_push w.steps taken))
           (each_append (λ (mail : Mail). mail.sent < place + 1) w.mails (mails_of place (length w.mails) move.letters)
           (each_as (λ (mail : Mail). mail.sent < place) (λ (mail : Mail). mail.sent < place + 1) (λ mail less. omega (arith, less)) w.mails h.sent) (new_mails_sent place (length w.mails) move.letters));
       facts = each_append (FactDies sc now) w.facts (facts_of place move.happened)
           (old_facts w.facts past h.facts)
-          (each_map (WhatDies sc now place) (FactDies sc now) (λ (x : What). record { place = place; what = x }) (λ x d. d) move.happened t.happened);
+          (each_new_fact (WhatDies sc now) place move.happened t.happened);
       told = told;
     }
   where
@@ -145,15 +140,6 @@ tells_no_death sc facts place authority _ = tt
 newest_no_death : (sc : Scenario) (facts : List Fact) (place : ℕ) (held : Master) (said : Body) → Each (LetterDies sc facts place) (master.on_body held said).reaction.letters
 newest_no_death sc facts place held (body.Probe probe) = (tt, tt)
 newest_no_death sc facts place held _ = tt
-
--- a record of a server decides nothing
-settled_no_death : (sc : Scenario) (facts : List Fact) (place : ℕ) (at : ServerId) (append : Option Record) → Each (WhatDies sc facts place) (server_facts at append)
-settled_no_death sc facts place at None = tt
-settled_no_death sc facts place at (Some (log.Settled s)) = (tt, tt)
-settled_no_death sc facts place at (Some (log.Decided d)) = tt
-settled_no_death sc facts place at (Some log.Boot) = tt
-settled_no_death sc facts place at (Some (log.Told told)) = tt
-settled_no_death sc facts place at (Some (log.Prepared p)) = tt
 
 decided_by_death : (sc : Scenario) (facts : List Fact) (place : ℕ) (append : Option Record) → IfSome append (RecordDies sc facts place) → Each (WhatDies sc facts place) (coordinator_facts append)
 decided_by_death sc facts place None h = tt
@@ -216,7 +202,7 @@ server_moves sc w n mail at part s rightly sound a ages pairs h sent up =
       servers = at_set (λ (m : ℕ) (p : Part Server). IfSome p.up (ServerDies sc w.facts (record { 0 = m }))) w.actors.servers at.0 new h.servers
           (subst (λ (x : ServerId). ServerDies sc w.facts x effect.state) own.server_is row.state);
       letters = row.letters;
-      happened = subst (Each (WhatDies sc (facts_after w happened) (length w.steps))) (sym tells) (settled_no_death sc (facts_after w happened) (length w.steps) at effect.reaction.append);
+      happened = subst (Each (WhatDies sc (facts_after w happened) (length w.steps))) (sym tells) (each_server_fact (WhatDies sc (facts_after w happened) (length w.steps)) at (λ txn ended. tt) effect.reaction.append);
     }
 
 -- ---- a coordinator acts
@@ -252,7 +238,7 @@ deaths_cases sc w rightly sound a ages pairs h =
       authority_told = λ n mail sent. still_deaths sc w [] (office.authority_row w.actors.authority mail).reaction.letters w.actors h refl tt (tells_no_death sc w.facts (length w.steps) w.actors.authority mail.letter.body);
       master_told = λ n mail sent. still_deaths sc w [] (master.master_row w.actors.master mail).reaction.letters w.actors h refl tt (newest_no_death sc w.facts (length w.steps) w.actors.master mail.letter.body);
       published = λ admin exists more.
-          still_deaths sc w (what.Published admin (master.next_of w.actors.master admin) ∷ []) [] (record w.actors { master = master.published admin w.actors.master }) h refl (λ facts. tt, tt) tt;
+          still_deaths sc w (what.Published admin (master.next_of w.actors.master admin) ∷ []) [] (record w.actors { master = master.after_publication admin w.actors.master }) h refl (λ facts. tt, tt) tt;
       pushed = λ admin server exists there. still_deaths sc w [] (master.pushes w.actors.master admin server).reaction.letters w.actors h refl tt (tt, tt);
       ticked = λ by. still_deaths sc w (what.Ticked by ∷ []) [] (record w.actors { authority = office.after_tick by w.actors.authority }) h refl (λ facts. tt, tt) tt;
       revoked = λ cred exists. still_deaths sc w (what.Revoked cred ∷ []) [] (record w.actors { authority = office.after_revocation cred w.actors.authority }) h refl (λ facts. tt, tt) tt;

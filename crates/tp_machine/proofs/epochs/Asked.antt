@@ -3,17 +3,16 @@ use Rattle.std.proofs.Common.{Bool, IfSome, List, None, Option, Some, [], ap, ar
 use Rattle.std.proofs.lemmas.Bool.{and_parts, and_right, eqb-true}
 use Rattle.std.proofs.lemmas.Option.{cond_some}
 use Rattle.tp_types.proofs.ListLemmas.{number_itself}
-use Rattle.tp_model.specs.Facts.{first_of}
+use Rattle.std.specs.Option.{option_or}
 use Rattle.tp_model.specs.Ids.{same_txn}
 use Rattle.tp_model.specs.Words.{Actor, Body, Letter, Mail, ServerId, TxnId}
 use Rattle.tp_model.specs.Words.actor
 use Rattle.tp_model.specs.Words.body
 use Rattle.tp_machine.specs.Machine.{mails_of}
 use Rattle.tp_machine.specs.Sound.{Each}
-use Rattle.tp_machine.proofs.agreement.End.{each_found}
 use Rattle.tp_machine.proofs.basics.Ids.{server_number}
-use Rattle.tp_machine.proofs.basics.Logs.{first_first, first_none, first_stays, later_some}
-use Rattle.tp_machine.proofs.basics.Lists.{each_as, each_get}
+use Rattle.tp_machine.proofs.basics.Logs.{first_first, first_kept, first_none, first_stays, later_some}
+use Rattle.tp_machine.proofs.basics.Lists.{each_as, each_get, each_placed}
 
 -- ---- what requests name
 
@@ -46,12 +45,12 @@ named_by txn at letter = option_and_then (epoch_for txn at letter.to) (naming_of
 -- the first epoch that these letters name of the transaction to the server
 abbrev pub asked_by : TxnId → ServerId → List Letter → Option ℕ
 asked_by txn at [] = None
-asked_by txn at (letter ∷ letters) = first_of (named_by txn at letter) (asked_by txn at letters)
+asked_by txn at (letter ∷ letters) = option_or (named_by txn at letter) (asked_by txn at letters)
 
 -- the first epoch that a request of the transaction to the server names
 abbrev pub asked : TxnId → ServerId → List Mail → Option ℕ
 asked txn at [] = None
-asked txn at (mail ∷ mails) = first_of (named_by txn at mail.letter) (asked txn at mails)
+asked txn at (mail ∷ mails) = option_or (named_by txn at mail.letter) (asked txn at mails)
 
 -- the epochs that are asked, of each transaction and server
 abbrev pub Asking : Type 0
@@ -62,7 +61,7 @@ asked_in mails txn at = asked txn at mails
 
 -- those that are asked once these letters were sent
 abbrev pub asked_then : Asking → List Letter → Asking
-asked_then A letters txn at = first_of (A txn at) (asked_by txn at letters)
+asked_then A letters txn at = option_or (A txn at) (asked_by txn at letters)
 
 -- what is named to a server is the epoch that is asked of it
 abbrev pub IsAsked : Asking → Actor → Naming → Type 0
@@ -76,19 +75,19 @@ LetterNamed A letter = IfSome (naming_of letter.body) (IsAsked A letter.to)
 -- ---- laws
 
 -- mails that are added ask only what was not asked
-pub asked_append : (txn : TxnId) (at : ServerId) (old new : List Mail) → asked txn at (old ++ new) ≡ first_of (asked txn at old) (asked txn at new)
+pub asked_append : (txn : TxnId) (at : ServerId) (old new : List Mail) → asked txn at (old ++ new) ≡ option_or (asked txn at old) (asked txn at new)
 asked_append txn at [] new = refl
 asked_append txn at (mail ∷ old) new =
-    ap (first_of (named_by txn at mail.letter)) (asked_append txn at old new) ∙ sym (first_first (named_by txn at mail.letter) (asked txn at old) (asked txn at new))
+    ap (option_or (named_by txn at mail.letter)) (asked_append txn at old new) ∙ sym (first_first (named_by txn at mail.letter) (asked txn at old) (asked txn at new))
 
 pub asked_new_mails : (txn : TxnId) (at : ServerId) (sent number : ℕ) (letters : List Letter) → asked txn at (mails_of sent number letters) ≡ asked_by txn at letters
 asked_new_mails txn at sent number [] = refl
-asked_new_mails txn at sent number (letter ∷ letters) = ap (first_of (named_by txn at letter)) (asked_new_mails txn at sent (number + 1) letters)
+asked_new_mails txn at sent number (letter ∷ letters) = ap (option_or (named_by txn at letter)) (asked_new_mails txn at sent (number + 1) letters)
 
 -- what is asked with the mails of more letters
 pub asked_more : (mails : List Mail) (sent number : ℕ) (letters : List Letter) → asked_in (mails ++ mails_of sent number letters) ≡ asked_then (asked_in mails) letters
 asked_more mails sent number letters =
-    λ i txn at. (asked_append txn at mails (mails_of sent number letters) ∙ ap (first_of (asked txn at mails)) (asked_new_mails txn at sent number letters)) i
+    λ i txn at. (asked_append txn at mails (mails_of sent number letters) ∙ ap (option_or (asked txn at mails)) (asked_new_mails txn at sent number letters)) i
 
 -- what is asked stays asked
 pub asked_stays : (txn : TxnId) (at : ServerId) (old new : List Mail) (epoch : ℕ) → asked txn at old ≡ Some epoch → asked txn at (old ++ new) ≡ Some epoch
@@ -117,11 +116,11 @@ NamesNone letter = naming_of letter.body ≡ None
 
 none_asked : (txn : TxnId) (at : ServerId) (letters : List Letter) → Each NamesNone letters → asked_by txn at letters ≡ None
 none_asked txn at [] h = refl
-none_asked txn at (letter ∷ letters) h = ap (λ (found : Option Naming). first_of (option_and_then (epoch_for txn at letter.to) found) (asked_by txn at letters)) h.0 ∙ none_asked txn at letters h.1
+none_asked txn at (letter ∷ letters) h = ap (λ (found : Option Naming). option_or (option_and_then (epoch_for txn at letter.to) found) (asked_by txn at letters)) h.0 ∙ none_asked txn at letters h.1
 
 -- they leave what is asked as it was
 pub none_then : (A : Asking) (letters : List Letter) → Each NamesNone letters → asked_then A letters ≡ A
-none_then A letters h = λ i txn at. (ap (first_of (A txn at)) (none_asked txn at letters h) ∙ first_none (A txn at)) i
+none_then A letters h = λ i txn at. (ap (option_or (A txn at)) (none_asked txn at letters h) ∙ first_none (A txn at)) i
 
 -- ---- letters that name what their sender keeps
 
@@ -137,7 +136,7 @@ abbrev pub NamesKept : TxnId → (ServerId → Option ℕ) → Letter → Type 0
 NamesKept txn K letter = IfSome (naming_of letter.body) (IsKeptNaming txn K letter.to)
 
 -- one of two that are found
-either_found : {A : Type 0} (x y : Option A) (P : A → Type 0) → ((found : A) → x ≡ Some found → P found) → ((found : A) → y ≡ Some found → P found) → (found : A) → first_of x y ≡ Some found → P found
+either_found : {A : Type 0} (x y : Option A) (P : A → Type 0) → ((found : A) → x ≡ Some found → P found) → ((found : A) → y ≡ Some found → P found) → (found : A) → option_or x y ≡ Some found → P found
 either_found None y P first second found e = second found e
 either_found (Some z) y P first second found e = first found e
 
@@ -164,15 +163,12 @@ pub then_kept : (A : Asking) (txn : TxnId) (at : ServerId) (K : ServerId → Opt
     → Each (NamesKept txn K) letters → (epoch : ℕ) → asked_then A letters txn at ≡ Some epoch → K at ≡ Some epoch
 then_kept A txn at K letters before h epoch e = either_found (A txn at) (asked_by txn at letters) (λ (n : ℕ). K at ≡ Some n) before (kept_asked txn at K letters h) epoch e
 
-first_some : {A : Type 0} (x y : Option A) → is_some x ≡ true → is_some (first_of x y) ≡ true
-first_some None y e = absurd (cc)
-first_some (Some found) y e = refl
-
 some_asked : (txn : TxnId) (at : ServerId) (letters : List Letter) (n : ℕ) (letter : Letter) → slice_get letters n ≡ Some letter → is_some (named_by txn at letter) ≡ true → is_some (asked_by txn at letters) ≡ true
 some_asked txn at [] n letter e named = absurd (cc)
 some_asked txn at (first ∷ letters) zero letter e named =
     let same : letter ≡ first = grind arith in
-    first_some (named_by txn at first) (asked_by txn at letters) (subst (λ (l : Letter). is_some (named_by txn at l) ≡ true) same named)
+    let here = subst (λ (l : Letter). is_some (named_by txn at l) ≡ true) same named in
+    ap is_some (first_kept (named_by txn at first) (asked_by txn at letters) here) ∙ here
 some_asked txn at (first ∷ letters) (suc n) letter e named = later_some (named_by txn at first) (asked_by txn at letters) (some_asked txn at letters n letter e named)
 
 the_kept : (x kept : Option ℕ) (epoch : ℕ) → is_some x ≡ true → ((n : ℕ) → x ≡ Some n → kept ≡ Some n) → kept ≡ Some epoch → x ≡ Some epoch
@@ -200,7 +196,7 @@ one_asks A txn K letters actor.Authority (Some named) before h some k = tt
 pub kept_are_asked : (A : Asking) (txn : TxnId) (K : ServerId → Option ℕ) (letters : List Letter) → ((at : ServerId) (epoch : ℕ) → A txn at ≡ Some epoch → K at ≡ Some epoch)
     → Each (NamesKept txn K) letters → Each (LetterNamed (asked_then A letters)) letters
 kept_are_asked A txn K letters before h =
-    each_found (LetterNamed (asked_then A letters)) letters
+    each_placed (LetterNamed (asked_then A letters)) letters
     (λ n letter e. one_asks A txn K letters letter.to (naming_of letter.body) before h (λ at named. some_asked txn at letters n letter e named)
     (each_get (NamesKept txn K) letters n letter h e))
 
@@ -229,7 +225,7 @@ other_named txn other at to (Some named) apart h =
 pub other_asked : (txn other : TxnId) (at : ServerId) (letters : List Letter) → same_txn txn other ≡ false → Each (NamesOwn txn) letters → asked_by other at letters ≡ None
 other_asked txn other at [] apart h = refl
 other_asked txn other at (letter ∷ letters) apart h =
-    ap (λ (x : Option ℕ). first_of x (asked_by other at letters)) (other_named txn other at letter.to (naming_of letter.body) apart h.0) ∙ other_asked txn other at letters apart h.1
+    ap (λ (x : Option ℕ). option_or x (asked_by other at letters)) (other_named txn other at letter.to (naming_of letter.body) apart h.0) ∙ other_asked txn other at letters apart h.1
 
 pub other_then : (A : Asking) (txn other : TxnId) (letters : List Letter) → same_txn txn other ≡ false → Each (NamesOwn txn) letters → asked_then A letters other ≡ A other
-other_then A txn other letters apart h = λ i at. (ap (first_of (A other at)) (other_asked txn other at letters apart h) ∙ first_none (A other at)) i
+other_then A txn other letters apart h = λ i at. (ap (option_or (A other at)) (other_asked txn other at letters apart h) ∙ first_none (A other at)) i

@@ -2,11 +2,11 @@
 -- all that was asked of a server is what it keeps. And its row on the answer to a query, which is where it learns an epoch.
 use Rattle.std.specs.List.{list_any}
 use Rattle.std.proofs.Common.{Bool, IfSome, List, None, Option, Some, [], ap, arith, false, if◌then◌else◌, is_none, is_some, length, not, option_map, refl, slice_get, slice_set, subst, sym, take, true, ℕ, ℤ, ◌+◌, ◌-◌, ◌<◌, ◌==◌, ◌||◌, ◌∙◌, ◌≡◌, ◌≤◌}
-use Rattle.std.proofs.lemmas.Bool.{eqb-true}
+use Rattle.std.proofs.lemmas.Bool.{eqb-true, not-true}
 use Rattle.std.proofs.lemmas.List.{length-set}
 use Rattle.std.proofs.lemmas.Option.{same_Some}
 use Rattle.tp_types.specs.Effect.{Effect, ignores}
-use Rattle.tp_types.specs.Table.{flattened}
+use Rattle.std.specs.Option.{option_flatten}
 use Rattle.tp_model.specs.Agreement.{has_item_at}
 use Rattle.tp_model.specs.Queries.{is_at_server}
 use Rattle.tp_model.specs.Words.actor
@@ -33,7 +33,7 @@ use Rattle.tp_coord.specs.declared.coordinator.Phase.{Phase}
 
 -- the epoch that the coordinator keeps of a server
 abbrev pub kept_epoch : Coordinator → ServerId → Option ℕ
-kept_epoch c at = flattened (slice_get c.epochs at.0)
+kept_epoch c at = option_flatten (slice_get c.epochs at.0)
 
 abbrev pub KeepsEpoch : Coordinator → ServerId → Type 0
 KeepsEpoch c at = is_some (kept_epoch c at) ≡ true
@@ -87,17 +87,17 @@ from_server (actor.Coordinator txn) at e = absurd (cc)
 from_server actor.Master at e = absurd (cc)
 from_server actor.Authority at e = absurd (cc)
 
-flat_chosen : (b : Bool) (epoch : ℕ) (other : Option (Option ℕ)) → flattened (if b then Some (Some epoch) else other) ≡ (if b then Some epoch else flattened other)
+flat_chosen : (b : Bool) (epoch : ℕ) (other : Option (Option ℕ)) → option_flatten (if b then Some (Some epoch) else other) ≡ (if b then Some epoch else option_flatten other)
 flat_chosen true epoch other = refl
 flat_chosen false epoch other = refl
 
 -- the epoch of one server is kept anew
-pub kept_set : (epochs : List (Option ℕ)) (n m epoch : ℕ) → n < length epochs → flattened (slice_get (slice_set epochs n (Some epoch)) m) ≡ (if n == m then Some epoch else flattened (slice_get epochs m))
+pub kept_set : (epochs : List (Option ℕ)) (n m epoch : ℕ) → n < length epochs → option_flatten (slice_get (slice_set epochs n (Some epoch)) m) ≡ (if n == m then Some epoch else option_flatten (slice_get epochs m))
 kept_set epochs n m epoch within = by_found (slice_get epochs n) refl
   where
-    by_found : (found : Option (Option ℕ)) → slice_get epochs n ≡ found → flattened (slice_get (slice_set epochs n (Some epoch)) m) ≡ (if n == m then Some epoch else flattened (slice_get epochs m))
+    by_found : (found : Option (Option ℕ)) → slice_get epochs n ≡ found → option_flatten (slice_get (slice_set epochs n (Some epoch)) m) ≡ (if n == m then Some epoch else option_flatten (slice_get epochs m))
     by_found None e = absurd (missing epochs n within e)
-    by_found (Some old) e = ap flattened (get_set epochs n m old (Some epoch) e) ∙ flat_chosen (n == m) epoch (slice_get epochs m)
+    by_found (Some old) e = ap option_flatten (get_set epochs n m old (Some epoch) e) ∙ flat_chosen (n == m) epoch (slice_get epochs m)
 
 some_chosen : (b : Bool) (epoch : ℕ) (other : Option ℕ) → is_some (if b then Some epoch else other) ≡ (is_some other || b)
 some_chosen true epoch None = refl
@@ -123,13 +123,10 @@ record IsAnswer (sc : Scenario) (E : ℕ → ℕ) (A : Asking) (c : Coordinator)
 told_is_asked : (sc : Scenario) (E : ℕ → ℕ) (A : Asking) (c : Coordinator) (done : DoneReply) (asked : Query) (at : ServerId) (epoch : ℕ) (first : Bool) → is_first_at sc at c.txn done.query ≡ first
     → IsAnswer sc E A c done asked at → KeepsAsked sc (A c.txn) c → A c.txn at ≡ Some epoch → done.epoch ≡ epoch
 told_is_asked sc E A c done asked at epoch true first m k e =
-    let none : has_run_at sc c.txn (phase.Querying done.query None) at ≡ false = not_true (has_run_at sc c.txn (phase.Querying done.query None) at) first in
+    let none : has_run_at sc c.txn (phase.Querying done.query None) at ≡ false = not-true (has_run_at sc c.txn (phase.Querying done.query None) at) first in
     let kept : is_some (kept_epoch c at) ≡ true = ap is_some (k.asked at epoch e) in
     let ran : is_some (kept_epoch c at) ≡ false = k.ran at ∙ (ap (λ (p : Phase). has_run_at sc c.txn p at) m.awaits ∙ none) in
     absurd (cc)
-  where
-    not_true : (b : Bool) → not b ≡ true → b ≡ false
-    not_true b f = grind arith
 told_is_asked sc E A c done asked at epoch false later m k e =
     let told : A c.txn at ≡ Some done.epoch = subst (λ (t : TxnId). A t at ≡ Some done.epoch) m.own
     (m.told.asked m.ran (subst (λ (t : TxnId). is_first_at sc at t done.query ≡ false) (sym m.own) later)) in

@@ -22,7 +22,7 @@ use Rattle.tp_machine.specs.Sound.{Each, EachPlaced}
 use Rattle.tp_server.specs.declared.server.Entry.{Entry}
 use Rattle.tp_server.specs.Row as server
 use Rattle.tp_server.specs.State.{Server}
-use Rattle.tp_server.specs.Verdicts.{learnt, verdicts_on}
+use Rattle.tp_server.specs.Verdicts.{with_wants, verdicts_on}
 
 -- ---- what is said of epochs
 
@@ -293,12 +293,12 @@ answers_made : (sc : Scenario) (A : Asking) (s : Server) (kept : List Record) (q
 answers_made sc A s kept q given h d = record { made = h; forces = tt; replies = ((refl, record { past = omega (arith, d.past, h.epoch_is); asked = d.asked }), tt) }
 
 votes_made : (sc : Scenario) (A : Asking) (s : Server) (kept : List Record) (p : PrepareRequest) (verdicts : List Verdict) (entry : Entry) → ServerMade sc A s.server s kept → server.entry_at s p.txn ≡ Some entry
-    → entry.epoch ≡ p.epoch → A p.txn s.server ≡ Some p.epoch → RowEpochs sc A s kept (server.votes (learnt s p.want) p verdicts entry)
+    → entry.epoch ≡ p.epoch → A p.txn s.server ≡ Some p.epoch → RowEpochs sc A s kept (server.votes (with_wants s p.want) p verdicts entry)
 votes_made sc A s kept p verdicts entry h e same m =
     let old : EntryMade sc A s.server s.epoch entry = h.entries p.txn.0 entry e in
     record {
       made = record {
-        epoch_is = omega (arith, h.epoch_is, boots_push kept (log.Prepared (server.prepared_record (learnt s p.want) p entry verdicts)));
+        epoch_is = omega (arith, h.epoch_is, boots_push kept (log.Prepared (server.prepared_record (with_wants s p.want) p entry verdicts)));
         entries = placed_set (λ (n : ℕ) (found : Entry). EntryMade sc A s.server s.epoch found) s.entries p.txn.0 _ h.entries
             (record { past = old.past; present = λ none. absurd (cc); waiting = old.waiting; answers = old.answers });
       };
@@ -353,7 +353,7 @@ server_row_made sc A s kept mail waits h first m =
           (each_found (DoneMade sc A s.server s.epoch) (λ (d : DoneReply). d.query == q.query) entry.answers given (h.entries q.txn.0 entry k.found).answers k.given_is);
       voted = λ p entry staple txn k.
           let asked : A p.txn s.server ≡ Some p.epoch = subst (λ (said : Body). IfSome (naming_of said) (IsAsked A (actor.Server s.server))) k.said_is m in
-          votes_made sc A s kept p (verdicts_on sc (learnt s p.want) txn staple p.want entry.deeds) entry h k.found (eqb-true entry.epoch p.epoch k.same_epoch) asked;
+          votes_made sc A s kept p (verdicts_on sc (with_wants s p.want) txn staple p.want entry.deeds) entry h k.found (eqb-true entry.epoch p.epoch k.same_epoch) asked;
       voted_again = λ p entry cast k. record { made = h; forces = tt; replies = (tt, tt) };
       refused = λ p entry number value k. ends_made sc A s kept (server.refused_as p _) (server.no_letter s p _) h tt;
       refused_again = λ p settled why k. record { made = h; forces = tt; replies = (tt, tt) };

@@ -2,12 +2,11 @@
 -- to a server that name an epoch, and all that is prepared there, name the one that was asked first.
 use Rattle.std.specs.List.{range_with_len}
 use Rattle.std.specs.Option.{option_map_or}
-use Rattle.std.proofs.Common.{Bool, IfSome, List, None, Option, Some, [], ap, arith, false, if◌then◌else◌, is_some, length, map, refl, replicate, slice_get, slice_set, subst, suc, sym, true, zero, ℕ, ◌++◌, ◌+◌, ◌==◌, ◌∙◌, ◌∷◌, ◌≡◌, ◌≤◌}
+use Rattle.std.proofs.Common.{Bool, IfSome, List, None, Option, Some, [], ap, arith, false, if◌then◌else◌, is_some, length, map, refl, slice_get, slice_set, subst, sym, true, ℕ, ◌++◌, ◌+◌, ◌==◌, ◌∙◌, ◌∷◌, ◌≡◌, ◌≤◌}
 use Rattle.std.proofs.lemmas.Bool.{eqb-true}
 use Rattle.std.proofs.lemmas.List.{length-replicate}
 use Rattle.std.proofs.lemmas.Option.{cond_some, same_Some}
 use Rattle.tp_types.proofs.ListLemmas.{number_itself}
-use Rattle.tp_types.specs.Table.{flattened}
 use Rattle.tp_model.specs.Ids.{same_txn}
 use Rattle.tp_model.specs.Words.actor
 use Rattle.tp_model.specs.Words.body
@@ -16,9 +15,10 @@ use Rattle.tp_model.specs.Words.what
 use Rattle.tp_model.specs.Words.{Actor, Body, DoneReply, Letter, Mail, Prepared, QueryRequest, Record, Scenario, ServerId, Step, TxnId, What}
 use Rattle.tp_machine.proofs.agreement.Steps.{own_txn}
 use Rattle.tp_machine.proofs.agreement.World.{Agrees, CoordinatorUpAgrees}
+use Rattle.tp_machine.proofs.basics.Facts.{each_new_mail}
 use Rattle.tp_machine.proofs.basics.Homes.{HaveHomes}
-use Rattle.tp_machine.proofs.basics.Ids.{server_number, txn_number}
-use Rattle.tp_machine.proofs.basics.Lists.{at_made, at_set, each_append, each_as, each_get, placed_none}
+use Rattle.tp_machine.proofs.basics.Ids.{same_txn_from, server_number, txn_number}
+use Rattle.tp_machine.proofs.basics.Lists.{at_made, at_set, each_append, each_as, each_get, placed_none, unset_at}
 use Rattle.tp_machine.proofs.basics.Logs.{appended, get_set, prepared_either}
 use Rattle.tp_machine.proofs.epochs.Asked.{Asking, IsAsked, LetterNamed, NamesNone, StaysAsked, asked_in, asked_more, asked_then, letter_stays, naming_of, none_then, other_then, then_stays}
 use Rattle.tp_machine.proofs.epochs.Coordinator.{IsMail, coordinator_row_keeps, submit_row_keeps}
@@ -75,17 +75,13 @@ pub record MoveEpochs (sc : Scenario) (A : Asking) (w : State) (move : Move) : T
 abbrev pub StepEpochs : Scenario → State → Move → Type 0
 StepEpochs sc w move = MoveEpochs sc (asked_then (asked_in w.mails) move.letters) w move
 
-new_mails_each : (P : Letter → Type 0) (sent number : ℕ) (letters : List Letter) → Each P letters → Each (λ (mail : Mail). P mail.letter) (mails_of sent number letters)
-new_mails_each P sent number [] h = tt
-new_mails_each P sent number (letter ∷ letters) h = (h.0, new_mails_each P sent (number + 1) letters h.1)
-
 state_after_epochs : (sc : Scenario) (w : State) (taken : Step) (move : Move) → StepEpochs sc w move → Epochs sc (state_after w taken move)
 state_after_epochs sc w taken move t =
     let A = asked_then (asked_in w.mails) move.letters in
     let E = epoch_at move.actors.servers in
     let new = mails_of (length w.steps) (length w.mails) move.letters in
     let more : (P : Letter → Type 0) → Each (λ (mail : Mail). P mail.letter) w.mails → Each P move.letters → Each (λ (mail : Mail). P mail.letter) (w.mails ++ new) =
-    λ P old sent. each_append (λ (mail : Mail). P mail.letter) w.mails new old (new_mails_each P (length w.steps) (length w.mails) move.letters sent) in
+    λ P old sent. each_append (λ (mail : Mail). P mail.letter) w.mails new old (each_new_mail (λ sent. P) (length w.steps) (length w.mails) move.letters sent) in
     let made : AreEpochs sc A move.actors (w.mails ++ new) = record {
       servers = t.actors_are.servers;
       coordinators = t.actors_are.coordinators;
@@ -310,10 +306,7 @@ coordinator_keeps sc w txn part c h up same =
 mail_is : (sc : Scenario) (E : ℕ → ℕ) (A : Asking) (c : Coordinator) (from to : Actor) (said : Body) → IsSoundLetter sc (record { from = from; to = to; body = said }) → to ≡ actor.Coordinator c.txn → BodyTold sc A E from said
     → IsMail sc E A c from said
 mail_is sc E A c from to (body.Done done) sound e told =
-    record { from_is_actor = sound.from_is_actor; told = told; own = same_coordinator done.txn c.txn (sym sound.says.goes_to ∙ e) }
-  where
-    same_coordinator : (one other : TxnId) → actor.Coordinator one ≡ actor.Coordinator other → one ≡ other
-    same_coordinator one other f = cc
+    record { from_is_actor = sound.from_is_actor; told = told; own = same_txn_from c.txn done.txn (sym e ∙ sound.says.goes_to) }
 mail_is sc E A c from to _ sound e told = tt
 
 receipt_by_coordinator : (sc : Scenario) (w : State) → HaveHomes sc → IsSound sc w → Agrees sc w → Epochs sc w → (n : ℕ) (mail : Mail) (txn : TxnId) (part : Part Coordinator) (c : Coordinator)
@@ -369,7 +362,7 @@ epochs_cases sc w homes rightly sound a h =
       coordinator_received = λ n mail txn part c sent up. receipt_by_coordinator sc w homes sound a h n mail txn part c sent up;
       authority_told = λ n mail sent. unmoved_epochs sc w [] (office.authority_row w.actors.authority mail).reaction.letters h (tells_plain w.actors.authority mail.letter.body);
       master_told = λ n mail sent. unmoved_epochs sc w [] (master.master_row w.actors.master mail).reaction.letters h (newest_plain w.actors.master mail.letter.body);
-      published = λ admin exists more. offices_epochs sc w w.actors.authority (master.published admin w.actors.master) (what.Published admin (master.next_of w.actors.master admin) ∷ []) h;
+      published = λ admin exists more. offices_epochs sc w w.actors.authority (master.after_publication admin w.actors.master) (what.Published admin (master.next_of w.actors.master admin) ∷ []) h;
       pushed = λ admin server exists there. unmoved_epochs sc w [] (master.pushes w.actors.master admin server).reaction.letters h (tt, tt);
       ticked = λ by. offices_epochs sc w (office.after_tick by w.actors.authority) w.actors.master (what.Ticked by ∷ []) h;
       revoked = λ cred exists. offices_epochs sc w (office.after_revocation cred w.actors.authority) w.actors.master (what.Revoked cred ∷ []) h;
@@ -383,11 +376,6 @@ epochs_next sc m taken homes exists allowed rightly sound a h =
     (λ taken move t. state_after_epochs sc m.state taken move t) h taken exists allowed
 
 -- ---- before the first step
-
-nothing_kept : (count n : ℕ) → is_some (flattened (slice_get (replicate {A = Option ℕ} count None) n)) ≡ false
-nothing_kept zero n = refl
-nothing_kept (suc count) zero = refl
-nothing_kept (suc count) (suc n) = nothing_kept count n
 
 pub made_from_zero : {X : Type 0} (P : ℕ → X → Type 0) (f : ℕ → X) (count : ℕ) → ((n : ℕ) → P n (f n)) → EachAt P (map f (range_with_len 0 count))
 made_from_zero P f count h n x e =
@@ -408,7 +396,7 @@ epochs_opening sc =
           (λ k. record {
             places = length-replicate {A = Option ℕ} (length sc.servers) None;
             past = placed_none (λ (m : ℕ) (epoch : ℕ). epoch ≤ E m) (length sc.servers);
-            undecided = λ unsure. record { asked = λ at epoch f. absurd (cc); ran = λ at. nothing_kept (length sc.servers) at.0; round = tt };
+            undecided = λ unsure. record { asked = λ at epoch f. absurd (cc); ran = λ at. ap is_some (unset_at {A = ℕ} (length sc.servers) at.0); round = tt };
           });
       named = tt;
       first = tt;

@@ -3,6 +3,7 @@
 use Rattle.std.specs.List.{list_any}
 use Rattle.std.specs.Option.{option_map_or}
 use Rattle.std.proofs.Common.{IfSome, List, None, Option, Some, [], arith, drop, flat_map, length, refl, replicate, slice_get, subst, suc, sym, zero, ℕ, true, ◌++◌, ◌+◌, ◌<◌, ◌∙◌, ◌∷◌, ◌≡◌}
+use Rattle.std.proofs.lemmas.Bool.{ltb-true}
 use Rattle.std.proofs.lemmas.Option.{same_Some}
 use Rattle.tp_types.specs.Effect.{Effect}
 use Rattle.tp_lock.specs.declared.entry.LockEntry.{LockEntry}
@@ -17,7 +18,7 @@ use Rattle.tp_machine.proofs.basics.Lists.{by_cond, each_append, each_drop, each
 use Rattle.tp_machine.proofs.basics.Stores.{opened_each}
 use Rattle.tp_machine.proofs.ids.Coordinator.{IsSoundCoordinatorEffect, coordinator_row_sound, coordinator_with_age_sound, submit_row_sound}
 use Rattle.tp_machine.proofs.ids.Server.{IsSoundServerEffect, server_row_sound, version_of, versions_set}
-use Rattle.tp_machine.proofs.ids.Valid.{IsValid, less}
+use Rattle.tp_machine.proofs.ids.Valid.{IsValid}
 use Rattle.tp_machine.proofs.walks.ServerRows.{AreRightWaits}
 use Rattle.tp_machine.specs.Machine.{PartMove, acts_by, coordinator_fact, log_with, opened_part, server_fact, with_age}
 use Rattle.tp_machine.specs.Parts.{Part}
@@ -180,11 +181,11 @@ master_sends_sound sc held mail h m = newest_sound sc held mail.letter.body h m
 pub published_exists : (sc : Scenario) (held : Master) (admin : AdminId) → IsSoundMaster sc held → IsAdmin sc admin → master.has_more held admin ≡ true → IsVersion sc admin (master.next_of held admin)
 published_exists sc held admin h within more =
     let last = version_of sc.admins held.last admin.0 (record { 0 = 0 }) h.last within in
-    let below : (master.version_in held.newest admin).0 < (master.version_in held.last admin).0 = less (master.version_in held.newest admin).0 (master.version_in held.last admin).0 more in
+    let below : (master.version_for held.newest admin).0 < (master.version_for held.last admin).0 = ltb-true (master.version_for held.newest admin).0 (master.version_for held.last admin).0 more in
     record { declared = last.0; declared_is = last.1; in_library = (omega arith, omega (arith, below, last.2.1)) }
 
 -- so the master stays sound
-pub published_sound : (sc : Scenario) (held : Master) (admin : AdminId) → IsSoundMaster sc held → IsVersion sc admin (master.next_of held admin) → IsSoundMaster sc (master.published admin held)
+pub published_sound : (sc : Scenario) (held : Master) (admin : AdminId) → IsSoundMaster sc held → IsVersion sc admin (master.next_of held admin) → IsSoundMaster sc (master.after_publication admin held)
 published_sound sc held admin h v =
     record {
       newest = versions_set sc.admins held.newest admin.0 (master.next_of held admin) h.newest

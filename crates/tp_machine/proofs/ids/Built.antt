@@ -1,5 +1,5 @@
 -- What ids take from the present stage: no query is proved as it runs.
-use Rattle.std.proofs.Common.{◌≡◌, ℕ, List, [], ◌∷◌, true, false, Some, refl, slice_get, zero, suc}
+use Rattle.std.proofs.Common.{◌≡◌, ℕ, true, false, Some, refl, slice_get}
 use Rattle.std.proofs.lemmas.Bool.{and_parts}
 use Rattle.tp_model.proofs.BuiltLemmas.{plain_built}
 use Rattle.tp_model.specs.Built.{is_built}
@@ -8,6 +8,7 @@ use Rattle.tp_model.specs.Stage.{is_deferred, is_view}
 use Rattle.tp_model.specs.Words.{Level, Scenario, Scheme, Transaction}
 use Rattle.tp_model.specs.Words.level
 use Rattle.tp_model.specs.Words.scheme
+use Rattle.tp_machine.proofs.basics.Lists.{each_placed}
 use Rattle.tp_machine.specs.Sound.{Each, proves_each}
 
 -- a transaction is deferred, and not under global consistency
@@ -36,11 +37,6 @@ deferred_proves scheme.Deferred e = refl
 deferred_proves scheme.Continuous e = absurd (cc)
 deferred_proves scheme.Punctual e = absurd (cc)
 deferred_proves scheme.Incremental e = absurd (cc)
-
--- what holds of each member by its place holds of each
-pub each_placed : {A : Type 0} (P : A → Type 0) (xs : List A) → ((n : ℕ) (x : A) → slice_get xs n ≡ Some x → P x) → Each P xs
-each_placed P [] h = tt
-each_placed P (x ∷ xs) h = (h zero x refl, each_placed P xs (λ n found e. h (suc n) found e))
 
 pub deferred_built : (sc : Scenario) → is_built sc ≡ true → Each (λ (declared : Transaction). proves_each declared.scheme ≡ false) sc.txns
 deferred_built sc built =

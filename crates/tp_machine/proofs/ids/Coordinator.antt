@@ -1,7 +1,7 @@
 -- The coordinator's rows keep its state sound, force a sound record, and send sound letters.
 use Rattle.std.specs.List.{find}
-use Rattle.std.specs.Option.{is_none, option_map_or}
-use Rattle.std.proofs.Common.{IfSome, List, None, Option, Some, [], ap, false, filter, is_some, map, not, option_and_then, option_map, refl, slice_get, subst, sym, true, unwrap_or, ℕ, ℤ, ◌∷◌, ◌≡◌}
+use Rattle.std.specs.Option.{option_map_or}
+use Rattle.std.proofs.Common.{IfSome, List, None, Option, Some, [], ap, false, filter, is_some, map, option_and_then, option_map, refl, slice_get, subst, sym, true, unwrap_or, ℕ, ℤ, ◌∷◌, ◌≡◌}
 use Rattle.std.proofs.lemmas.Option.{same_Some}
 use Rattle.tp_types.specs.Effect.{Effect, ignores, sends}
 use Rattle.tp_model.specs.Ids.{same_server}
@@ -11,13 +11,14 @@ use Rattle.tp_model.specs.Words.cause
 use Rattle.tp_model.specs.Words.query
 use Rattle.tp_model.specs.Words.{Actor, AdminId, Body, Cause, DoneReply, Item, Mail, Outcome, Query, Scenario, ServerId, Staple, Transaction, TxnId, Verdict, Version, VoteReply}
 use Rattle.tp_machine.proofs.basics.Homes.{IsHome, home_is}
-use Rattle.tp_machine.proofs.basics.Lists.{by_cond, each_append, each_as, each_filter, each_flat_map, each_found, each_get, each_map, each_more, each_passing}
+use Rattle.tp_machine.proofs.basics.Ids.{same_txn_from}
+use Rattle.tp_machine.proofs.basics.Lists.{by_cond, each_append, each_as, each_filter, each_flat_map, each_found, each_get, each_map, each_more, each_passing, some_if_not_none}
 use Rattle.tp_machine.proofs.ids.Valid.{IsValid, IsValidItem}
 use Rattle.tp_machine.proofs.walks.CoordinatorRows.{IsDiedAnswer, IsNo, IsYes, coordinator_by, submit_by}
 use Rattle.tp_model.specs.Deeds.{deed_of}
 use Rattle.tp_machine.specs.Sound.{AreSoundVerdicts, AreWanted, Each, HasValue, IsActor, IsItemOf, IsRefusalOf, IsServer, IsSoundAnswer, IsSoundBallot, IsSoundBody, IsSoundCause, IsSoundCoordinator, IsSoundCoordinatorRecord, IsSoundDeed, IsSoundInstance, IsSoundLetter, IsSoundPhase, IsSoundProof, IsSoundQuery, IsSoundMet, IsSoundRefusal, IsSoundRound, IsSoundStaple, IsSoundTarget, IsSoundVerdict, IsSoundWanted, IsVersion, ProvesEach, proves_each, query_in}
 use Rattle.tp_coord.specs.Sums.{asked_value, registers_after, sum_asked}
-use Rattle.tp_coord.specs.Row.{aborts, asks, commit_round, commits, coordinator_row, coordinator_with_age, denied_by, died_for, instances_with, next_number, next_turn, prepare_letter, prepares, query_of, query_request, refused_by, request, sends_query, staple_of, submit_row, value_of, with_deed, without}
+use Rattle.tp_coord.specs.Row.{aborts, asks, commit_round, commits, coordinator_row, coordinator_with_age, denied_by, died_for, instances_with, next_number, next_turn, prepare_letter, prepares, own_query, query_request, refused_by, request, sends_query, staple_of, submit_row, value_of, with_deed, without}
 use Rattle.tp_coord.specs.State.{Coordinator}
 use Rattle.tp_coord.specs.declared.coordinator.Phase.TheVariants as phase
 use Rattle.tp_coord.specs.declared.coordinator.Phase.{Phase}
@@ -90,7 +91,7 @@ valued registers (query.Write item expr) (Some found) e = ap (λ (q : Query). is
 valued registers (query.Read item into) (Some found) e = tt
 
 -- a write is asked with a value
-has_value : (sc : Scenario) (c : Coordinator) (number : ℕ) (asked : Query) → query_of sc c number ≡ Some asked → HasValue asked (value_of sc c number)
+has_value : (sc : Scenario) (c : Coordinator) (number : ℕ) (asked : Query) → own_query sc c number ≡ Some asked → HasValue asked (value_of sc c number)
 has_value sc c number asked e = found (slice_get sc.txns c.txn.0) e
   where
     found : (declared : Option Transaction) → option_and_then (λ (txn : Transaction). query_at txn number) declared ≡ Some asked → HasValue asked (option_and_then (λ (txn : Transaction). asked_value txn c.deeds number) declared)
@@ -188,15 +189,11 @@ replies_sound sc txn targets h = each_flat_map (IsSoundTarget sc txn) (IsSoundVe
     of_reply None k = tt
     of_reply (Some verdicts) k = k
 
-has_rule : (rule : Option ℕ) → not (is_none rule) ≡ true → is_some rule ≡ true
-has_rule None e = absurd (cc)
-has_rule (Some rule) e = refl
-
 -- where all is true the verdicts are proofs
 proofs_sound : (sc : Scenario) (txn : TxnId) (round : Round) → judge round None ≡ judged.AllTrue → Each (IsSoundTarget sc txn) round.targets → Each (IsSoundProof sc txn) (by_query (proofs_in round.targets))
 proofs_sound sc txn round e h =
     each_by_query (IsSoundProof sc txn) (proofs_in round.targets)
-    (each_passing (IsSoundVerdict sc txn) (IsSoundProof sc txn) is_true (λ verdict sound passes. record { sound = sound; has_rule = has_rule verdict.rule passes }) (proofs_in round.targets) (all_agree round None e).all_true
+    (each_passing (IsSoundVerdict sc txn) (IsSoundProof sc txn) is_true (λ verdict sound passes. record { sound = sound; has_rule = some_if_not_none verdict.rule passes }) (proofs_in round.targets) (all_agree round None e).all_true
     (replies_sound sc txn round.targets h))
 
 commits_sound : (sc : Scenario) (c : Coordinator) (rounds : ℕ) (proofs : List Verdict) → IsSoundCoordinator sc c → Each (IsSoundProof sc c.txn) proofs
@@ -295,16 +292,12 @@ acknowledged_sound sc c outcome awaited server h a =
 
 -- ---- all mails
 
--- a mail to a coordinator is of its transaction
-same_txn_of : (one other : TxnId) → actor.Coordinator one ≡ actor.Coordinator other → other ≡ one
-same_txn_of one other e = cc
-
 -- the verdicts of an awaited vote YES
 yes_sound : (sc : Scenario) (c : Coordinator) (mail : Mail) (reply : VoteReply) (round : Round) (staple : Staple) (server : ServerId) (verdicts : List Verdict)
     → IsSoundBody sc (actor.Coordinator c.txn) mail.letter.body → IsYes c mail reply round staple server verdicts → AreSoundVerdicts sc c.txn verdicts
 yes_sound sc c mail reply round staple server verdicts m y =
     let said = subst (IsSoundBody sc (actor.Coordinator c.txn)) y.said_is m in
-    let ballot : IsSoundBallot sc c.txn reply.vote = subst (λ (txn : TxnId). IsSoundBallot sc txn reply.vote) (same_txn_of c.txn reply.txn said.goes_to) said.ballot in
+    let ballot : IsSoundBallot sc c.txn reply.vote = subst (λ (txn : TxnId). IsSoundBallot sc txn reply.vote) (same_txn_from c.txn reply.txn said.goes_to) said.ballot in
     subst (IsSoundBallot sc c.txn) y.vote_is ballot
 
 -- the reason of an awaited vote NO
@@ -313,7 +306,7 @@ no_sound : (sc : Scenario) (c : Coordinator) (mail : Mail) (reply : VoteReply) (
 no_sound sc c mail reply round staple server number value r m k =
     let said = subst (IsSoundBody sc (actor.Coordinator c.txn)) k.said_is m in
     let refusal : IsRefusalOf sc server reply.txn reply.vote = subst (λ (body : Body). IsSoundRefusal sc (actor.Server server) body) k.said_is (subst (λ (from : Actor). IsSoundRefusal sc from mail.letter.body) k.from_is r) in
-    let own : IsRefusalOf sc server c.txn reply.vote = subst (λ (txn : TxnId). IsRefusalOf sc server txn reply.vote) (same_txn_of c.txn reply.txn said.goes_to) refusal in
+    let own : IsRefusalOf sc server c.txn reply.vote = subst (λ (txn : TxnId). IsRefusalOf sc server txn reply.vote) (same_txn_from c.txn reply.txn said.goes_to) refusal in
     record { query = subst (IsRefusalOf sc server c.txn) k.vote_is own }
 
 -- the reason of an awaited answer that an older transaction stood in the way

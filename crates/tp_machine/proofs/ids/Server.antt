@@ -4,7 +4,7 @@ use Rattle.std.proofs.Common.{Bool, IfSome, List, MatchOption, None, Option, Som
 use Rattle.std.proofs.lemmas.Bool.{and_parts, eqb-true}
 use Rattle.std.proofs.lemmas.Option.{same_Some, slice_get_within}
 use Rattle.tp_types.specs.Effect.{Effect, ignores, sends}
-use Rattle.tp_types.specs.Table.{flattened}
+use Rattle.std.specs.Option.{option_flatten}
 use Rattle.tp_lock.specs.Rule.{without_grant}
 use Rattle.tp_lock.specs.Table.{Table}
 use Rattle.tp_lock.specs.declared.entry.Asked.TheVariants as asked
@@ -33,7 +33,7 @@ use Rattle.tp_server.specs.declared.server.Ballot.{Ballot}
 use Rattle.tp_server.specs.declared.server.Entry.{Entry}
 use Rattle.tp_server.specs.Row.{ack_letter, after_asking, answers, asked_query, closes, completes, died_reply, dies, done_reply, entry_after, followed_by, learns, lock_answer, no_letter, refused_as, reply, restarted_reply, server_row, settled_as, votes_on, waits, yes_letter}
 use Rattle.tp_server.specs.State.{Server}
-use Rattle.tp_server.specs.Verdicts.{admin_of, learnt, verdict_on, verdicts_on, version_known, version_used, with_versions}
+use Rattle.tp_server.specs.Verdicts.{admin_of, with_wants, verdict_on, verdicts_on, version_known, version_used, with_versions}
 use Rattle.tp_store.proofs.OutsideLemmas.{first_is_least}
 use Rattle.tp_store.specs.Contents.{Contents}
 use Rattle.tp_store.specs.Laws.{IsLeastOutside}
@@ -244,7 +244,7 @@ learnt_known : (sc : Scenario) (store : Contents) (want : List (AdminId × Versi
 learnt_known sc store [] h w = h
 learnt_known sc store (wanted ∷ want) h w = learnt_known sc (with_version store wanted.0 wanted.1) want (known_more sc store wanted.0 wanted.1 h w.0) w.1
 
-pub learnt_sound : (sc : Scenario) (s : Server) (want : List (AdminId × Version)) → IsSoundServer sc s → AreWanted sc want → IsSoundServer sc (learnt s want)
+pub learnt_sound : (sc : Scenario) (s : Server) (want : List (AdminId × Version)) → IsSoundServer sc s → AreWanted sc want → IsSoundServer sc (with_wants s want)
 learnt_sound sc s want h w =
     record { exists = h.exists; known = learnt_known sc s.store want h.known w; writes = learnt_each (IsWriteOf sc s.server) s.store want h.writes; settled = h.settled; entries = h.entries; locks = h.locks }
 
@@ -272,9 +272,9 @@ verdict_sound sc s txn presenting staple want deed valid h w there d =
     }
 
 casts_sound : (sc : Scenario) (s : Server) (p : PrepareRequest) (txn : Transaction) (staple : Staple) (entry : Entry) → IsValid sc → IsSoundServer sc s → IsTxn sc p.txn → AreWanted sc p.want
-    → slice_get sc.txns p.txn.0 ≡ Some txn → IsSoundEntry sc s.server p.txn entry → IsSoundServerEffect sc s (votes_on sc (learnt s p.want) p entry staple txn)
+    → slice_get sc.txns p.txn.0 ≡ Some txn → IsSoundEntry sc s.server p.txn entry → IsSoundServerEffect sc s (votes_on sc (with_wants s p.want) p entry staple txn)
 casts_sound sc s p txn staple entry valid h exists w there k =
-    let now = learnt s p.want in
+    let now = with_wants s p.want in
     let after : IsSoundServer sc now = learnt_sound sc s p.want h w in
     let verdicts : AreSoundVerdicts sc p.txn (verdicts_on sc now txn staple p.want entry.deeds) =
     each_map (IsSoundDeedAt sc s.server p.txn) (IsSoundVerdict sc p.txn) (verdict_on sc now txn staple p.want) (λ deed d. verdict_sound sc now p.txn txn staple p.want deed valid after w there d) entry.deeds k.deeds in
@@ -339,7 +339,7 @@ refused_query sc s txn number value h e = found (first_outside_in s.store txn) e
         subst (λ (n : ℕ). IsQueryOf sc txn n s.server) (sym is) (each_get (IsWriteOf sc s.server txn) (writes_of s.store txn) m.at m.write (h.writes txn) m.kept).query
 
 -- the reason of what was settled so is sound
-settled_reason : (sc : Scenario) (s : Server) (txn : TxnId) (settled : Settled) (why : No) → IsSoundServer sc s → flattened (slice_get s.settled txn.0) ≡ Some settled → settled.why ≡ Some why
+settled_reason : (sc : Scenario) (s : Server) (txn : TxnId) (settled : Settled) (why : No) → IsSoundServer sc s → option_flatten (slice_get s.settled txn.0) ≡ Some settled → settled.why ≡ Some why
     → IsReasonOf sc s.server txn why
 settled_reason sc s txn settled why h found why_is =
     let kept = h.settled txn.0 settled found in

@@ -1,11 +1,12 @@
 -- The world is sound before the first step, and each step keeps it sound.
-use Rattle.std.proofs.Common.{List, None, [], arith, length, slice_set, subst, sym, true, ℕ, ◌+◌, ◌∷◌, ◌≡◌}
+use Rattle.std.proofs.Common.{List, None, [], arith, length, slice_set, subst, sym, true, ℕ, ◌∷◌, ◌≡◌}
 use Rattle.tp_model.specs.Built.{is_built}
 use Rattle.tp_model.specs.Words.actor
 use Rattle.tp_model.specs.Words.step
 use Rattle.tp_model.specs.Words.what
-use Rattle.tp_model.specs.Words.{Actor, Letter, Mail, Scenario, ServerId, Step, TxnId, What}
-use Rattle.tp_machine.proofs.basics.Lists.{at_made, at_set, each_append, each_get, each_map}
+use Rattle.tp_model.specs.Words.{Actor, Mail, Scenario, ServerId, Step, TxnId, What}
+use Rattle.tp_machine.proofs.basics.Facts.{each_new_fact, each_new_mail}
+use Rattle.tp_machine.proofs.basics.Lists.{at_made, at_set, each_append, each_get}
 use Rattle.tp_machine.proofs.ids.Acts.{IsSoundAct, authority_sends_sound, coordinator_begun_sound, coordinator_idle_sound, coordinator_receipt_sound, master_sends_sound, none_sound, published_exists, published_sound, pushes_sound, revoked_sound, server_opening_sound, server_receipt_sound}
 use Rattle.tp_machine.proofs.ids.Valid.{IsValid, valid_built}
 use Rattle.tp_machine.proofs.walks.Steps.{Cases, SaysIdle, WaitRightly, WasSent, machine_after_by}
@@ -110,21 +111,14 @@ sound_cases sc w valid rightly h =
 -- ---- a step
 -- ---- a step
 
-new_mails_sound : (sc : Scenario) (place number : ℕ) (letters : List Letter) → Each (IsSoundLetter sc) letters → Each (IsSoundMail sc) (mails_of place number letters)
-new_mails_sound sc place number [] h = tt
-new_mails_sound sc place number (letter ∷ letters) h = (h.0, new_mails_sound sc place (number + 1) letters h.1)
-
-new_facts_sound : (sc : Scenario) (place : ℕ) (happened : List What) → Each (IsSoundWhat sc) happened → Each (IsSoundFact sc) (facts_of place happened)
-new_facts_sound sc place happened h = each_map (IsSoundWhat sc) (IsSoundFact sc) (λ (w : What). record { place = place; what = w }) (λ w k. k) happened h
-
 -- a step that ends in a sound move leaves a sound world
 state_after_sound : (sc : Scenario) (w : State) (taken : Step) (move : Move) → IsSound sc w → IsSoundMove sc move → IsSound sc (state_after w taken move)
 state_after_sound sc w taken move h t =
     record {
       actors_are = t.actors_are;
       mails_are = each_append (IsSoundMail sc) w.mails (mails_of (length w.steps) (length w.mails) move.letters) h.mails_are
-          (new_mails_sound sc (length w.steps) (length w.mails) move.letters t.left.letters_are);
-      facts_are = each_append (IsSoundFact sc) w.facts (facts_of (length w.steps) move.happened) h.facts_are (new_facts_sound sc (length w.steps) move.happened t.left.facts_are);
+          (each_new_mail (λ sent. IsSoundLetter sc) (length w.steps) (length w.mails) move.letters t.left.letters_are);
+      facts_are = each_append (IsSoundFact sc) w.facts (facts_of (length w.steps) move.happened) h.facts_are (each_new_fact (λ place. IsSoundWhat sc) (length w.steps) move.happened t.left.facts_are);
     }
 
 -- ---- for the world

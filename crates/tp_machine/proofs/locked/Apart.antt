@@ -1,10 +1,10 @@
 -- Locks that are held keep the deeds of two transactions apart: where they did something on one item, both read it.
 use Rattle.std.proofs.Common.{Bool, List, Option, Some, [], ap, arith, false, inl, inr, length, not, refl, slice_get, slice_index_or, subst, suc, sym, true, zero, ℕ, ◌&&◌, ◌<◌, ◌==◌, ◌||◌, ◌∙◌, ◌∷◌, ◌≡◌}
-use Rattle.std.proofs.lemmas.Bool.{and_parts, cases_lt, eqb-true, ne_eqb}
+use Rattle.std.proofs.lemmas.Bool.{and_parts, cases_lt, eqb-true, ne_eqb, or_parts}
 use Rattle.std.proofs.lemmas.List.Folds.{Any-from_list_any}
-use Rattle.tp_types.specs.Table.{flattened}
-use Rattle.tp_types.specs.declared.policy.Action.TheVariants as action
-use Rattle.tp_types.specs.declared.policy.Action.{Action}
+use Rattle.std.specs.Option.{option_flatten}
+use Rattle.tp_model.specs.Words.{Action, Deed, ItemId, Scenario, TxnId}
+use Rattle.tp_model.specs.Words.action
 use Rattle.tp_lock.proofs.OrderLemmas.{held_apart}
 use Rattle.tp_lock.proofs.RequestLaws.{orderly_at}
 use Rattle.tp_lock.specs.Laws.{Holds}
@@ -12,7 +12,6 @@ use Rattle.tp_lock.specs.Order.{IsOrderly}
 use Rattle.tp_lock.specs.Rule.{conflicts, entries_at, is_of, is_write, serves}
 use Rattle.tp_lock.specs.Table.{Table}
 use Rattle.tp_lock.specs.declared.entry.LockEntry.{LockEntry}
-use Rattle.tp_model.specs.Words.{Deed, ItemId, Scenario, TxnId}
 use Rattle.tp_machine.proofs.basics.Lists.{each_as}
 use Rattle.tp_machine.proofs.locked.Fit.{DeedLocked, Locked}
 use Rattle.tp_machine.proofs.serial_data.Reads.{AreClear, AreReads, IsClear}
@@ -27,16 +26,11 @@ reads_alone mode action.Read e f = refl
 reads_alone action.Read action.Write e f = absurd (cc)
 reads_alone action.Write action.Write e f = absurd (cc)
 
-neither : (x y : Bool) → (x || y) ≡ false → (x ≡ false) × (y ≡ false)
-neither false false e = (refl, refl)
-neither true y e = absurd (cc)
-neither false true e = absurd (cc)
-
 -- what is not in conflict, of two owners, both reads
 no_conflict : (one other : LockEntry) → (one.owner.0 ≡ other.owner.0 → ⊥) → conflicts other.owner other.mode one ≡ false → (is_write other.mode ≡ false) × (is_write one.mode ≡ false)
 no_conflict one other apart e =
     let others : (one.owner.0 == other.owner.0) ≡ false = ne_eqb one.owner.0 other.owner.0 apart in
-    neither (is_write other.mode) (is_write one.mode) (sym (ap (λ (b : Bool). not b && (is_write other.mode || is_write one.mode)) others) ∙ e)
+    or_parts (is_write other.mode) (is_write one.mode) (sym (ap (λ (b : Bool). not b && (is_write other.mode || is_write one.mode)) others) ∙ e)
 
 -- a lock that serves is held, of the owner, and serves in its mode
 record Serves (owner : TxnId) (mode : Action) (lock : LockEntry) : Type 0 where
@@ -89,7 +83,7 @@ held_reads entries orderly one other a b apart h k =
 
 -- ---- the deeds of two entries
 
-pub entries_apart : (sc : Scenario) (entries : List (Option Entry)) (locks : Table) (n m : ℕ) (one other : Entry) → Locked sc entries locks → (n ≡ m → ⊥) → flattened (slice_get entries n) ≡ Some one → flattened (slice_get entries m) ≡ Some other
+pub entries_apart : (sc : Scenario) (entries : List (Option Entry)) (locks : Table) (n m : ℕ) (one other : Entry) → Locked sc entries locks → (n ≡ m → ⊥) → option_flatten (slice_get entries n) ≡ Some one → option_flatten (slice_get entries m) ≡ Some other
     → AreClear one.deeds other.deeds
 entries_apart sc entries locks n m one other h apart e f =
     each_as (DeedLocked locks (record { 0 = n })) (λ (deed : Deed). Each (IsClear deed) other.deeds)

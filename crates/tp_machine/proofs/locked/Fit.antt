@@ -1,7 +1,7 @@
 -- Locks at a server: what is kept of each, of grants that nobody has taken, and of deeds.
 use Rattle.std.proofs.Common.{List, Option, Some, false, length, slice_get, ℕ, ◌+◌, ◌≡◌, ◌≤◌}
-use Rattle.tp_types.specs.Table.{flattened}
-use Rattle.tp_types.specs.declared.policy.Action.{Action}
+use Rattle.std.specs.Option.{option_flatten}
+use Rattle.tp_model.specs.Words.{Action, Deed, Query, QueryRequest, Scenario, TxnId}
 use Rattle.tp_lock.specs.Laws.{Holds}
 use Rattle.tp_lock.specs.Order.{AreOrderly}
 use Rattle.tp_lock.specs.Rule.{entries_at}
@@ -10,7 +10,6 @@ use Rattle.tp_lock.specs.declared.entry.Grant.{Grant}
 use Rattle.tp_lock.specs.declared.entry.LockEntry.{LockEntry}
 use Rattle.tp_model.specs.Authorisation.{action_of}
 use Rattle.tp_model.specs.Queries.{item_of}
-use Rattle.tp_model.specs.Words.{Deed, Query, QueryRequest, Scenario, TxnId}
 use Rattle.tp_machine.proofs.basics.LockCounts.{granted_to, waiting_on}
 use Rattle.tp_machine.proofs.basics.Locks.{EachLock}
 use Rattle.tp_machine.specs.Sound.{Each, EachPlaced}
@@ -29,7 +28,7 @@ pub record IsWaitedFor (sc : Scenario) (entry : Entry) (item : ℕ) (mode : Acti
 -- a lock that waits is that of the query which waits at its owner's entry
 pub record WaitFits (sc : Scenario) (entries : List (Option Entry)) (item : ℕ) (lock : LockEntry) : Type 0 where
   pub entry : Entry
-  pub found : flattened (slice_get entries lock.owner.0) ≡ Some entry
+  pub found : option_flatten (slice_get entries lock.owner.0) ≡ Some entry
   pub waited : IsWaitedFor sc entry item lock.mode
 
 abbrev pub LockWaits : Scenario → List (Option Entry) → ℕ → LockEntry → Type 0
@@ -38,7 +37,7 @@ LockWaits sc entries item lock = lock.held ≡ false → WaitFits sc entries ite
 -- a grant that nobody has taken is of the query that waits at its owner's entry, and its lock is held
 pub record GrantFits (sc : Scenario) (entries : List (Option Entry)) (locks : Table) (grant : Grant) : Type 0 where
   pub entry : Entry
-  pub found : flattened (slice_get entries grant.owner.0) ≡ Some entry
+  pub found : option_flatten (slice_get entries grant.owner.0) ≡ Some entry
   pub mode : Action
   pub waited : IsWaitedFor sc entry grant.item.0 mode
   pub held : Holds grant.owner mode (entries_at grant.item locks)

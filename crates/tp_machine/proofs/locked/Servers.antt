@@ -1,12 +1,13 @@
 -- Locks at a server, its rows.
-use Rattle.std.proofs.Common.{Bool, List, None, Option, Some, [], ap, arith, drop, false, is_some, length, refl, slice_get, slice_set, subst, sym, true, ℕ, ℤ, ⊎_elim, ◌+◌, ◌++◌, ◌<◌, ◌==◌, ◌||◌, ◌∙◌, ◌∷◌, ◌≡◌, ◌≤◌}
-use Rattle.std.proofs.lemmas.Bool.{eqb-true}
+use Rattle.std.proofs.Common.{Bool, List, None, Option, Some, [], ap, arith, drop, false, length, refl, slice_get, slice_set, subst, sym, true, ℕ, ℤ, ⊎_elim, ◌+◌, ◌++◌, ◌<◌, ◌==◌, ◌||◌, ◌∙◌, ◌∷◌, ◌≡◌, ◌≤◌}
+use Rattle.std.proofs.lemmas.Bool.{eqb-true, ne_eqb, or_parts}
 use Rattle.std.proofs.lemmas.List.{length-map, length-set}
 use Rattle.std.proofs.lemmas.Option.{same_Some}
 use Rattle.tp_types.proofs.ListLemmas.{number_itself}
 use Rattle.tp_types.specs.Effect.{Effect}
-use Rattle.tp_types.specs.Table.{flattened}
-use Rattle.tp_types.specs.declared.policy.Action.{Action}
+use Rattle.std.specs.Option.{option_flatten}
+use Rattle.tp_model.specs.Words.{Action, Deed, ItemId, Mail, Query, QueryRequest, Scenario, ServerId, TxnId}
+use Rattle.tp_model.specs.Words.body
 use Rattle.tp_lock.proofs.ReleaseLaws.{after_release_orderly, taken_orderly}
 use Rattle.tp_lock.proofs.RequestLaws.{after_request_orderly}
 use Rattle.tp_lock.specs.Laws.{Holds}
@@ -19,10 +20,8 @@ use Rattle.tp_lock.specs.declared.entry.LockEntry.{LockEntry}
 use Rattle.tp_model.specs.Authorisation.{action_of}
 use Rattle.tp_model.specs.Deeds.{deed_of}
 use Rattle.tp_model.specs.Queries.{item_of}
-use Rattle.tp_model.specs.Words.body
-use Rattle.tp_model.specs.Words.{Deed, ItemId, Mail, Query, QueryRequest, Scenario, ServerId, TxnId}
 use Rattle.tp_machine.proofs.basics.Held.{IsGrantOf, holds_granted, holds_released, holds_requested, released_grants}
-use Rattle.tp_machine.proofs.basics.Lists.{each_as, each_both, each_dropped, each_get, each_more, filtered, placed_emptied_others, placed_set, set_here}
+use Rattle.tp_machine.proofs.basics.Lists.{each_as, each_both, each_dropped, each_get, each_more, filtered, none_if_not_some, placed_emptied_others, placed_set, set_here}
 use Rattle.tp_machine.proofs.basics.LockCounts.{IsHeldOf, dropped_count, first_count, granted_to, held_on, more_waiting, none_granted, none_on, not_granted, one_if, release_count, request_count, waiting_on}
 use Rattle.tp_machine.proofs.basics.Locks.{EachLock, IsAdded, locks_as, released_locks, requested_locks}
 use Rattle.tp_server.proofs.Tables.{placed_within}
@@ -33,7 +32,7 @@ use Rattle.tp_machine.specs.Sound.{Each, EachPlaced}
 use Rattle.tp_server.specs.declared.server.Entry.{Entry}
 use Rattle.tp_server.specs.Row.{after_asking, asked_query, ballot_of, died_reply, entry_after, entry_at, lock_answer, prepared_record, server_row}
 use Rattle.tp_server.specs.State.{Server}
-use Rattle.tp_server.specs.Verdicts.{learnt, verdicts_on}
+use Rattle.tp_server.specs.Verdicts.{with_wants, verdicts_on}
 
 -- an act of a server: its locks are kept, and there is a place for each transaction
 pub record RowLocked (sc : Scenario) (s : Server) (effect : Effect Server) : Type 0 where
@@ -42,28 +41,20 @@ pub record RowLocked (sc : Scenario) (s : Server) (effect : Effect Server) : Typ
 
 -- ---- entries
 
--- the number is another's
-other_number : (n m : ℕ) → (n ≡ m → ⊥) → (n == m) ≡ false
-other_number n m apart = by_number (n == m) refl
-  where
-    by_number : (b : Bool) → (n == m) ≡ b → (n == m) ≡ false
-    by_number true e = absurd (apart (eqb-true n m e))
-    by_number false e = e
-
-elsewhere : (entries : List (Option Entry)) (n m : ℕ) (v : Option Entry) (entry : Entry) → (n ≡ m → ⊥) → flattened (slice_get entries m) ≡ Some entry → flattened (slice_get (slice_set entries n v) m) ≡ Some entry
-elsewhere entries n m v entry apart found = ap flattened (set_elsewhere entries n m v (other_number n m apart)) ∙ found
+elsewhere : (entries : List (Option Entry)) (n m : ℕ) (v : Option Entry) (entry : Entry) → (n ≡ m → ⊥) → option_flatten (slice_get entries m) ≡ Some entry → option_flatten (slice_get (slice_set entries n v) m) ≡ Some entry
+elsewhere entries n m v entry apart found = ap option_flatten (set_elsewhere entries n m v (ne_eqb n m apart)) ∙ found
 
 -- what waits at the entry of a transaction waits at the one that takes its place
 abbrev pub KeepsWaiting : Scenario → List (Option Entry) → ℕ → Entry → Type 0
-KeepsWaiting sc entries n new = (old : Entry) → flattened (slice_get entries n) ≡ Some old → (item : ℕ) (mode : Action) → IsWaitedFor sc old item mode → IsWaitedFor sc new item mode
+KeepsWaiting sc entries n new = (old : Entry) → option_flatten (slice_get entries n) ≡ Some old → (item : ℕ) (mode : Action) → IsWaitedFor sc old item mode → IsWaitedFor sc new item mode
 
 -- an entry at which this is waited for
 record IsWaitedAt (sc : Scenario) (entries : List (Option Entry)) (n : ℕ) (item : ℕ) (mode : Action) : Type 0 where
   entry : Entry
-  found : flattened (slice_get entries n) ≡ Some entry
+  found : option_flatten (slice_get entries n) ≡ Some entry
   waited : IsWaitedFor sc entry item mode
 
-entry_moved : (sc : Scenario) (entries : List (Option Entry)) (n m item : ℕ) (mode : Action) (old new : Entry) → n < length entries → (m ≡ n → KeepsWaiting sc entries n new) → flattened (slice_get entries m) ≡ Some old → IsWaitedFor sc old item mode
+entry_moved : (sc : Scenario) (entries : List (Option Entry)) (n m item : ℕ) (mode : Action) (old new : Entry) → n < length entries → (m ≡ n → KeepsWaiting sc entries n new) → option_flatten (slice_get entries m) ≡ Some old → IsWaitedFor sc old item mode
     → IsWaitedAt sc (slice_set entries n (Some new)) m item mode
 entry_moved sc entries n m item mode old new within keeps found waited = by_number (n == m) refl
   where
@@ -72,10 +63,10 @@ entry_moved sc entries n m item mode old new within keeps found waited = by_numb
         let is : n ≡ m = eqb-true n m e in
         record {
           entry = new;
-          found = subst (λ (k : ℕ). flattened (slice_get (slice_set entries n (Some new)) k) ≡ Some new) is (ap flattened (set_here entries n (Some new) within));
-          waited = keeps (sym is) old (subst (λ (k : ℕ). flattened (slice_get entries k) ≡ Some old) (sym is) found) item mode waited;
+          found = subst (λ (k : ℕ). option_flatten (slice_get (slice_set entries n (Some new)) k) ≡ Some new) is (ap option_flatten (set_here entries n (Some new) within));
+          waited = keeps (sym is) old (subst (λ (k : ℕ). option_flatten (slice_get entries k) ≡ Some old) (sym is) found) item mode waited;
         }
-    by_number false e = record { entry = old; found = ap flattened (set_elsewhere entries n m (Some new) e) ∙ found; waited = waited }
+    by_number false e = record { entry = old; found = ap option_flatten (set_elsewhere entries n m (Some new) e) ∙ found; waited = waited }
 
 wait_moved : (sc : Scenario) (entries : List (Option Entry)) (n : ℕ) (new : Entry) → n < length entries → (item : ℕ) (lock : LockEntry) → (lock.owner.0 ≡ n → KeepsWaiting sc entries n new) → LockWaits sc entries item lock
     → LockWaits sc (slice_set entries n (Some new)) item lock
@@ -104,7 +95,7 @@ deeds_kept locks after entries holds h n entry found =
     each_as (DeedLocked locks (record { 0 = n })) (DeedLocked after (record { 0 = n })) (λ deed k. holds (record { 0 = n }) deed.action deed.item k) entry.deeds (h n entry found)
 
 -- the locks stay, and the entry of one transaction changes, with its deeds and the query that waits there as they were
-pub voted_locked : (sc : Scenario) (entries : List (Option Entry)) (locks : Table) (n : ℕ) (old new : Entry) → flattened (slice_get entries n) ≡ Some old → new.waiting ≡ old.waiting → new.deeds ≡ old.deeds → Locked sc entries locks
+pub voted_locked : (sc : Scenario) (entries : List (Option Entry)) (locks : Table) (n : ℕ) (old new : Entry) → option_flatten (slice_get entries n) ≡ Some old → new.waiting ≡ old.waiting → new.deeds ≡ old.deeds → Locked sc entries locks
     → Locked sc (slice_set entries n (Some new)) locks
 voted_locked sc entries locks n old new found waits deeds h =
     let within = placed_within entries n old found in
@@ -126,11 +117,7 @@ voted_locked sc entries locks n old new found waits deeds h =
 idle_at : (sc : Scenario) (s : Server) (mail : Mail) (q : QueryRequest) (query : Query) (entry : Entry) (value : ℤ) → IsAsking sc s mail q query entry value → (old : Entry) → entry_at s q.txn ≡ Some old → old.waiting ≡ None
 idle_at sc s mail q query entry value k old found =
     ⊎_elim (λ (first : IsFirstHere s mail.sent q entry). let none = first.no_entry in absurd (cc))
-    (λ (further : IsFurther s q entry). ap (λ (e : Entry). e.waiting) (sym (same_Some entry old (sym further.found ∙ found))) ∙ none_of entry.waiting further.idle) k.place
-  where
-    none_of : (waiting : Option QueryRequest) → is_some waiting ≡ false → waiting ≡ None
-    none_of None e = refl
-    none_of (Some asking) e = absurd (cc)
+    (λ (further : IsFurther s q entry). ap (λ (e : Entry). e.waiting) (sym (same_Some entry old (sym further.found ∙ found))) ∙ none_if_not_some entry.waiting further.idle) k.place
 
 -- nor at the entry as it is then
 idle_then : (sc : Scenario) (s : Server) (mail : Mail) (q : QueryRequest) (query : Query) (entry : Entry) (value : ℤ) → IsAsking sc s mail q query entry value → entry.waiting ≡ None
@@ -143,16 +130,16 @@ deeds_then sc s mail q query entry value locks k h =
     ⊎_elim (λ (first : IsFirstHere s mail.sent q entry). subst (EntryLocked locks q.txn.0) (sym first.entry_is) tt) (λ (further : IsFurther s q entry). h q.txn.0 entry further.found) k.place
 
 -- where the owner has no lock that waits and no grant that is left
-none_left : (sc : Scenario) (entries : List (Option Entry)) (locks : Table) (n : ℕ) → Locked sc entries locks → ((old : Entry) → flattened (slice_get entries n) ≡ Some old → old.waiting ≡ None) → waiting_on n locks.lists + granted_to n locks.grants ≡ 0
+none_left : (sc : Scenario) (entries : List (Option Entry)) (locks : Table) (n : ℕ) → Locked sc entries locks → ((old : Entry) → option_flatten (slice_get entries n) ≡ Some old → old.waiting ≡ None) → waiting_on n locks.lists + granted_to n locks.grants ≡ 0
 none_left sc entries locks n h idle =
     let held : EachLock (λ (item : ℕ) (lock : LockEntry). IsHeldOf n lock) locks = locks_as (LockWaits sc entries) (λ item lock. IsHeldOf n lock) locks lock_held h.waits in
     let waits : waiting_on n locks.lists ≡ 0 = none_on n locks.lists held in
     let grants : granted_to n locks.grants ≡ 0 = none_granted n locks.grants (each_as (GrantFits sc entries locks) (λ (grant : Grant). grant.owner.0 ≡ n → ⊥) not_its locks.grants h.grants) in
     omega (arith, waits, grants)
   where
-    idle_still : (entry : Entry) (m item : ℕ) (mode : Action) → m ≡ n → flattened (slice_get entries m) ≡ Some entry → IsWaitedFor sc entry item mode → ⊥
+    idle_still : (entry : Entry) (m item : ℕ) (mode : Action) → m ≡ n → option_flatten (slice_get entries m) ≡ Some entry → IsWaitedFor sc entry item mode → ⊥
     idle_still entry m item mode own found waited =
-        let none = idle entry (subst (λ (k : ℕ). flattened (slice_get entries k) ≡ Some entry) own found) in let some = waited.waiting_is in cc
+        let none = idle entry (subst (λ (k : ℕ). option_flatten (slice_get entries k) ≡ Some entry) own found) in let some = waited.waiting_is in cc
 
     not_its : (grant : Grant) → GrantFits sc entries locks grant → grant.owner.0 ≡ n → ⊥
     not_its grant k own = idle_still k.entry grant.owner.0 grant.item.0 k.mode own k.found k.waited
@@ -165,7 +152,7 @@ none_left sc entries locks n h idle =
         by_held false e = let fit = k e in absurd (idle_still fit.entry lock.owner.0 item lock.mode own fit.found fit.waited)
 
 -- what an answer adds: a lock that waits is that of the query
-added : (sc : Scenario) (entries : List (Option Entry)) (s : Server) (q : QueryRequest) (query : Query) (entry new : Entry) (given : Asked) → flattened (slice_get entries q.txn.0) ≡ Some new → asked_query sc q ≡ Some query
+added : (sc : Scenario) (entries : List (Option Entry)) (s : Server) (q : QueryRequest) (query : Query) (entry new : Entry) (given : Asked) → option_flatten (slice_get entries q.txn.0) ≡ Some new → asked_query sc q ≡ Some query
     → (given ≡ asked.Waits → new.waiting ≡ Some q) → IsAdded (LockWaits sc entries (item_of query).0) q.txn entry.age (action_of query) given
 added sc entries s q query entry new asked.Granted found is waits = λ e. absurd (cc)
 added sc entries s q query entry new asked.Waits found is waits = λ e. record { entry = new; found = found; waited = record { q = q; waiting_is = waits refl; query = query; asked_is = is; item_is = refl; mode_is = refl } }
@@ -195,7 +182,7 @@ asked_locked sc s mail q query entry new value given e k within waits deeds h =
       deeds = placed_set (EntryLocked after) s.entries q.txn.0 new (deeds_kept s.locks after s.entries holds h.deeds) deeds;
       waits = requested_locks (LockWaits sc entries) q.txn entry.age (item_of query) (action_of query) s.locks given e
           (locks_as (LockWaits sc s.entries) (LockWaits sc entries) s.locks (λ item lock p. wait_moved sc s.entries q.txn.0 new within item lock (λ own. none_waits) p) h.waits)
-          (added sc entries s q query entry new given (ap flattened (set_here s.entries q.txn.0 (Some new) within)) k.asked_is waits);
+          (added sc entries s q query entry new given (ap option_flatten (set_here s.entries q.txn.0 (Some new) within)) k.asked_is waits);
       grants = each_as (GrantFits sc s.entries s.locks) (GrantFits sc entries after) (λ grant p. grant_moved sc s.entries s.locks after q.txn.0 new within holds grant (λ own. none_waits) p) s.locks.grants h.grants;
       once = λ n. once_asked n q.txn given (waiting_on n s.locks.lists) (waiting_on n after.lists) (granted_to n s.locks.grants)
           (request_count n q.txn entry.age (item_of query).0 (action_of query) s.locks.lists given e) (h.once n)
@@ -234,11 +221,7 @@ closed_locked sc entries locks owner h =
     }
   where
     more_held : (item : ℕ) (lock : LockEntry) (held : Bool) → LockWaits sc (slice_set entries owner.0 None) item lock → LockWaits sc (slice_set entries owner.0 None) item (record lock { held = lock.held || held })
-    more_held item lock held k e = let fit = k (not_held_before lock.held held e) in record { entry = fit.entry; found = fit.found; waited = fit.waited }
-      where
-        not_held_before : (a b : Bool) → (a || b) ≡ false → a ≡ false
-        not_held_before true b e = absurd (cc)
-        not_held_before false b e = refl
+    more_held item lock held k e = let fit = k (or_parts lock.held held e).0 in record { entry = fit.entry; found = fit.found; waited = fit.waited }
 
     apart_of : (lock : LockEntry) → is_of_other owner lock ≡ true → owner.0 ≡ lock.owner.0 → ⊥
     apart_of lock other same = let its : (lock.owner.0 == owner.0) ≡ true = ap (λ (m : ℕ). m == owner.0) (sym same) ∙ number_itself owner.0 in cc
@@ -255,7 +238,7 @@ closed_locked sc entries locks owner h =
         let fit = fits_left grant.item.0 lock stood.0 (stood.1 k.waited) in
         record {
           entry = fit.entry;
-          found = subst (λ (who : TxnId). flattened (slice_get (slice_set entries owner.0 None) who.0) ≡ Some fit.entry) (sym k.owner_is) fit.found;
+          found = subst (λ (who : TxnId). option_flatten (slice_get (slice_set entries owner.0 None) who.0) ≡ Some fit.entry) (sym k.owner_is) fit.found;
           mode = lock.mode;
           waited = fit.waited;
           held = subst (λ (who : TxnId). Holds who lock.mode (entries_at grant.item (after_release owner locks))) (sym k.owner_is) k.held;
@@ -309,7 +292,7 @@ resumed_locked sc s at grant q query entry new value deed k deeds item_is action
   where
     deed_has : GrantFits sc s.entries s.locks grant → DeedLocked s.locks q.txn deed
     deed_has first =
-        let there : flattened (slice_get s.entries grant.owner.0) ≡ Some entry = subst (λ (t : TxnId). flattened (slice_get s.entries t.0) ≡ Some entry) (sym k.owner_is) k.found in
+        let there : option_flatten (slice_get s.entries grant.owner.0) ≡ Some entry = subst (λ (t : TxnId). option_flatten (slice_get s.entries t.0) ≡ Some entry) (sym k.owner_is) k.found in
         let same : first.entry ≡ entry = same_Some first.entry entry (sym first.found ∙ there) in
         let waiting : Some first.waited.q ≡ Some q = sym first.waited.waiting_is ∙ ap (λ (e : Entry). e.waiting) same ∙ k.waiting_is in
         let asking : first.waited.q ≡ q = same_Some first.waited.q q waiting in
@@ -354,7 +337,7 @@ server_row_locked sc s mail rightly known h =
       restarted = λ q k. record { state = h; places = refl };
       answered = λ q entry given k. record { state = h; places = refl };
       voted = λ p entry staple txn k.
-          let voted : Entry = record entry { ballot = Some (ballot_of (prepared_record (learnt s p.want) p entry (verdicts_on sc (learnt s p.want) txn staple p.want entry.deeds))) } in
+          let voted : Entry = record entry { ballot = Some (ballot_of (prepared_record (with_wants s p.want) p entry (verdicts_on sc (with_wants s p.want) txn staple p.want entry.deeds))) } in
           record { state = voted_locked sc s.entries s.locks p.txn.0 entry voted k.found refl refl h; places = length-set s.entries p.txn.0 (Some voted) };
       voted_again = λ p entry cast k. record { state = h; places = refl };
       refused = λ p entry number value k. record { state = closed_locked sc s.entries s.locks p.txn h; places = length-set s.entries p.txn.0 None };

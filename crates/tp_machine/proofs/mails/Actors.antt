@@ -1,7 +1,7 @@
 -- How many letters an act sends, the rows: a server sends one, and one for each query that waited and runs; and a coordinator one, or one to each of its servers or of those that it awaits.
 use Rattle.std.proofs.Common.{Bool, List, None, Option, Some, [], ap, arith, false, filter, is_some, length, map, not, refl, slice_get, slice_set, subst, suc, zero, ℕ, ℤ, ⊎_elim, ◌+◌, ◌++◌, ◌==◌, ◌∙◌, ◌≡◌, ◌≤◌, ◌∷◌}
 use Rattle.std.proofs.lemmas.List.{length-map, length_push}
-use Rattle.tp_types.specs.Table.{flattened}
+use Rattle.std.specs.Option.{option_flatten}
 use Rattle.tp_types.specs.Effect.{Effect}
 use Rattle.tp_model.specs.Words.body
 use Rattle.tp_model.specs.Words.outcome
@@ -24,7 +24,7 @@ use Rattle.tp_coord.specs.declared.coordinator.Phase.{Phase}
 use Rattle.tp_server.specs.declared.server.Entry.{Entry}
 use Rattle.tp_server.specs.Row as server
 use Rattle.tp_server.specs.State.{Server}
-use Rattle.tp_server.specs.Verdicts.{learnt, verdicts_on}
+use Rattle.tp_server.specs.Verdicts.{with_wants, verdicts_on}
 
 -- ---- a server's rows
 
@@ -44,15 +44,15 @@ waits_in [] = 0
 waits_in (entry ∷ entries) = waits_at entry + waits_in entries
 
 -- one entry changes
-waits_set : (entries : List (Option Entry)) (n : ℕ) (entry : Option Entry) → waits_in (slice_set entries n entry) + waits_at (flattened (slice_get entries n)) ≤ waits_in entries + waits_at entry
+waits_set : (entries : List (Option Entry)) (n : ℕ) (entry : Option Entry) → waits_in (slice_set entries n entry) + waits_at (option_flatten (slice_get entries n)) ≤ waits_in entries + waits_at entry
 waits_set [] n entry = omega arith
 waits_set (first ∷ entries) zero entry =
     let now : waits_in (slice_set (first ∷ entries) zero entry) ≡ waits_at entry + waits_in entries = refl in
-    let was : waits_at (flattened (slice_get (first ∷ entries) zero)) ≡ waits_at first = refl in
+    let was : waits_at (option_flatten (slice_get (first ∷ entries) zero)) ≡ waits_at first = refl in
     omega (arith, now, was)
 waits_set (first ∷ entries) (suc n) entry =
     let now : waits_in (slice_set (first ∷ entries) (suc n) entry) ≡ waits_at first + waits_in (slice_set entries n entry) = refl in
-    let was : waits_at (flattened (slice_get (first ∷ entries) (suc n))) ≡ waits_at (flattened (slice_get entries n)) = refl in
+    let was : waits_at (option_flatten (slice_get (first ∷ entries) (suc n))) ≡ waits_at (option_flatten (slice_get entries n)) = refl in
     omega (arith, now, was, waits_set entries n entry)
 
 -- an act of a server: for each query that ran and had waited there is one that waits no longer
@@ -89,7 +89,7 @@ server_row_sends sc s mail waits =
       answered = λ q entry given k. omega arith;
       voted = λ p entry staple txn k.
           let same : waits_at (server.entry_at s p.txn) ≡ waits_at (Some entry) = ap waits_at k.found in
-          omega (arith, same, waits_set s.entries p.txn.0 (Some (record entry { ballot = Some (server.ballot_of (server.prepared_record (learnt s p.want) p entry (verdicts_on sc (learnt s p.want) txn staple p.want entry.deeds))) })));
+          omega (arith, same, waits_set s.entries p.txn.0 (Some (record entry { ballot = Some (server.ballot_of (server.prepared_record (with_wants s p.want) p entry (verdicts_on sc (with_wants s p.want) txn staple p.want entry.deeds))) })));
       voted_again = λ p entry cast k. omega arith;
       refused = λ p entry number value k. omega (arith, waits_set s.entries p.txn.0 None);
       refused_again = λ p settled why k. omega arith;
@@ -153,7 +153,7 @@ updated_length round named e = ap (λ (r : Round). length r.targets) (updated_is
 
 -- the awaited servers of a round are some of its servers
 missing_few : (targets : List Target) → length (missing_in targets) ≤ length targets
-missing_few targets = omega (arith, length-map (filter is_missing targets) coord.server_in, fewer_left is_missing targets)
+missing_few targets = omega (arith, length-map (filter is_missing targets) coord.server_of_target, fewer_left is_missing targets)
 
 -- a decision is sent to all of the transaction's servers
 decides_few : (most : ℕ) (c : Coordinator) (servers : List ServerId) (ended : Outcome) → length servers ≤ most

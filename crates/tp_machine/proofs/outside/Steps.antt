@@ -10,8 +10,8 @@ use Rattle.tp_model.specs.Words.log
 use Rattle.tp_model.specs.Words.step
 use Rattle.tp_model.specs.Words.what
 use Rattle.tp_model.specs.Facts.{before, is_earlier}
-use Rattle.tp_model.specs.Outside.{IsOutside, is_outside, is_outside_what, rises_from, said_by, said_from, at_place}
-use Rattle.tp_model.specs.Versions.{is_publication, newest, opening_of}
+use Rattle.tp_model.specs.Outside.{IsOutside, is_from_outside, is_from_outside_what, rises_from, said_by, said_from, at_place}
+use Rattle.tp_model.specs.Versions.{is_publication, newest, opening_version}
 use Rattle.tp_coord.specs.State.{Coordinator}
 use Rattle.tp_machine.specs.Parts.{Part}
 use Rattle.tp_machine.specs.Machine.{Machine, State, Move, state_after, coordinator_fact, machine_after, idle_move, publishes, facts_of, server_fact, log_with, refusal}
@@ -19,20 +19,20 @@ use Rattle.tp_coord.specs.Row.{coordinator_row, submit_row}
 use Rattle.tp_server.specs.Row.{server_row}
 use Rattle.tp_machine.proofs.agreement.CoordinatorActs.{coordinator_facts}
 use Rattle.tp_machine.proofs.agreement.ServerActs.{server_facts}
-use Rattle.tp_machine.proofs.basics.Facts.{ArePast, Grows, all_from_each, earlier_passes, grows_with_facts, new_facts_past, past_as}
+use Rattle.tp_machine.proofs.basics.Facts.{ArePast, Grows, all_from_each, earlier_passes, facts_after, grows_with_facts, new_facts_past, past_as}
 use Rattle.tp_machine.proofs.basics.Logs.{gained}
 use Rattle.tp_machine.proofs.basics.Lists.{each_append}
 use Rattle.tp_machine.proofs.walks.Steps.{Cases, SaysIdle, machine_after_by}
 use Rattle.tp_types.specs.Effect.{Effect}
 use Rattle.tp_machine.specs.Sound.{IsAdmin, IsStepOf}
-use Rattle.tp_machine.proofs.trust.World.{MasterFits, facts_after}
+use Rattle.tp_machine.proofs.trust.World.{MasterFits}
 use Rattle.tp_offices.specs.Master as master
 
 -- ---- what a move says by itself
 
 -- of what happened, what the step says
 abbrev pub own_of : List What → List What
-own_of happened = filter is_outside_what happened
+own_of happened = filter is_from_outside_what happened
 
 pub own_server_facts : (at : ServerId) (append : Option Record) → own_of (server_facts at append) ≡ []
 own_server_facts at None = refl
@@ -48,7 +48,7 @@ own_coordinator_facts (Some _) = refl
 
 said_grows : (sc : Scenario) (old new : List Fact) (place : ℕ) (taken : Step) → before place new ≡ before place old → said_by sc new place taken ≡ said_by sc old place taken
 said_grows sc old new place (step.Publish admin) e =
-    ap (λ (earlier : List Fact). what.Published admin (record { 0 = (opening_of sc admin).0 + count_by (is_publication admin) earlier + 1 }) ∷ []) e
+    ap (λ (earlier : List Fact). what.Published admin (record { 0 = (opening_version sc admin).0 + count_by (is_publication admin) earlier + 1 }) ∷ []) e
 said_grows sc old new place _ e = refl
 
 said_from_grows : (sc : Scenario) (old new : List Fact) (last first : ℕ) (steps : List Step) → Grows old new last → first + length steps ≤ last → said_from sc new first steps ≡ said_from sc old first steps
@@ -77,9 +77,9 @@ new_facts_one : (b : Bool) (place : ℕ) (w : What) (rest : List Fact) (whats : 
 new_facts_one true place w rest whats e = ap (λ (fs : List Fact). fact_at place w ∷ fs) e
 new_facts_one false place w rest whats e = e
 
-new_facts_own : (place : ℕ) (happened : List What) → filter is_outside (facts_of place happened) ≡ at_place place (own_of happened)
+new_facts_own : (place : ℕ) (happened : List What) → filter is_from_outside (facts_of place happened) ≡ at_place place (own_of happened)
 new_facts_own place [] = refl
-new_facts_own place (w ∷ happened) = new_facts_one (is_outside_what w) place w (filter is_outside (facts_of place happened)) (own_of happened) (new_facts_own place happened)
+new_facts_own place (w ∷ happened) = new_facts_one (is_from_outside_what w) place w (filter is_from_outside (facts_of place happened)) (own_of happened) (new_facts_own place happened)
 
 new_facts_rise : (low place : ℕ) (happened : List What) → low ≤ place → rises_from low (facts_of place happened) ≡ true
 new_facts_rise low place [] le = refl
@@ -106,8 +106,8 @@ state_after_outside sc w taken move past h e =
     let zero_place : 0 + place ≡ place = omega arith in
     let same : said_from sc now 0 w.steps ≡ said_from sc w.facts 0 w.steps = said_from_grows sc w.facts now place 0 w.steps (grows_with_facts w.facts place move.happened) (omega arith) in
     record {
-      said = filter-append is_outside w.facts (facts_of place move.happened)
-          ∙ (ap (λ (fs : List Fact). fs ++ filter is_outside (facts_of place move.happened)) (h.said ∙ sym same)
+      said = filter-append is_from_outside w.facts (facts_of place move.happened)
+          ∙ (ap (λ (fs : List Fact). fs ++ filter is_from_outside (facts_of place move.happened)) (h.said ∙ sym same)
           ∙ (ap (λ (fs : List Fact). said_from sc now 0 w.steps ++ fs) (new_facts_own place move.happened ∙ ap (at_place place) e)
           ∙ (ap (λ (p : ℕ). said_from sc now 0 w.steps ++ at_place p (said_by sc now p taken)) (sym zero_place)
           ∙ sym (said_from_more sc now 0 w.steps taken))));
@@ -135,7 +135,7 @@ published_says sc w admin exists fits =
     let place = length w.steps in
     let happened = what.Published admin (master.next_of w.actors.master admin) ∷ [] in
     let same : newest sc admin place (facts_after w happened) ≡ newest sc admin place w.facts =
-    ap (λ (earlier : List Fact). (opening_of sc admin).0 + count_by (is_publication admin) earlier) ((grows_with_facts w.facts place happened).same place (omega arith)) in
+    ap (λ (earlier : List Fact). (opening_version sc admin).0 + count_by (is_publication admin) earlier) ((grows_with_facts w.facts place happened).same place (omega arith)) in
     ap (λ (version : ℕ). what.Published admin (record { 0 = version + 1 }) ∷ []) (fits.newest_is admin exists ∙ sym same)
 
 outside_cases : (sc : Scenario) (w : State) → MasterFits sc w.facts (length w.steps) w.actors.master → Cases sc w (Says sc w)

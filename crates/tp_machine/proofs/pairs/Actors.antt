@@ -1,7 +1,6 @@
 -- A transaction at a server as actors have it: what stands on the server's log and in its entry, and what its coordinator knows.
 use Rattle.std.proofs.Common.{Bool, List, None, Option, Some, false, if◌then◌else◌, is_some, option_and_then, slice_get, ℕ, ◌≡◌}
-use Rattle.std.specs.Option.{option_map_or}
-use Rattle.tp_types.specs.Table.{flattened}
+use Rattle.std.specs.Option.{option_flatten, option_map_or}
 use Rattle.tp_model.specs.Words.actor
 use Rattle.tp_model.specs.Words.body
 use Rattle.tp_model.specs.Words.{Actor, Body, DoneReply, Letter, PrepareRequest, QueryRequest, Record, Scenario, Transaction, TxnId, VoteReply}
@@ -33,7 +32,7 @@ abbrev pub asker_of : ℕ → Coordinator → Asker
 asker_of at c = record {
   stand = stand_of c.phase;
   turn = c.turn;
-  epoch = flattened (slice_get c.epochs at);
+  epoch = option_flatten (slice_get c.epochs at);
   deeds = c.deeds;
 }
 

@@ -1,12 +1,11 @@
 -- Deeds and epochs, the coordinator's rows: each is an event at every server, as the coordinator's transaction is seen there.
-use Rattle.std.specs.Option.{option_map_or}
+use Rattle.std.specs.Option.{option_flatten, option_map_or}
 use Rattle.std.proofs.Common.{Bool, List, None, Option, Some, [], ap, arith, false, if◌then◌else◌, length, map, option_and_then, option_map, refl, slice_get, slice_set, subst, suc, sym, true, zero, ℕ, ℤ, ◌++◌, ◌+◌, ◌<◌, ◌==◌, ◌∙◌, ◌∷◌, ◌≡◌, ◌≤◌, ◌⊎◌}
 use Rattle.std.proofs.lemmas.Bool.{and_parts, eq-eqb, eqb-true}
 use Rattle.std.proofs.lemmas.List.{length_push}
 use Rattle.std.proofs.lemmas.Option.{same_Some, slice_get_within}
 use Rattle.tp_types.proofs.ListLemmas.{number_itself}
 use Rattle.tp_types.specs.Effect.{Effect, ignores}
-use Rattle.tp_types.specs.Table.{flattened}
 use Rattle.tp_model.specs.Queries.{is_at_server, item_of, query_at}
 use Rattle.tp_model.specs.Limits.{is_empty}
 use Rattle.tp_model.specs.Words.actor
@@ -39,7 +38,7 @@ use Rattle.tp_model.specs.Deeds.{deed_of}
 use Rattle.tp_machine.specs.Sound.{Each}
 use Rattle.tp_coord.specs.Sums.{asked_value}
 use Rattle.tp_coord.specs.Row as coord
-use Rattle.tp_coord.specs.Row.{awaits_query, next_number, next_turn, query_of, server_of}
+use Rattle.tp_coord.specs.Row.{awaits_query, next_number, next_turn, own_query, server_of}
 use Rattle.tp_coord.specs.State.{Coordinator}
 use Rattle.tp_coord.specs.declared.coordinator.Phase.TheVariants as phase
 use Rattle.tp_coord.specs.declared.coordinator.Phase.{Phase}
@@ -122,8 +121,8 @@ ignores_asks sc declared P c h = record { next = λ at. still_asks sc declared P
 -- ---- Submit
 
 -- a query of a coordinator's transaction
-own_query : (sc : Scenario) (c : Coordinator) (declared : Transaction) (number : ℕ) (asked : Query) → slice_get sc.txns c.txn.0 ≡ Some declared → query_of sc c number ≡ Some asked → query_at declared number ≡ Some asked
-own_query sc c declared number asked e f = sym (ap (λ (found : Option Transaction). option_and_then (λ (d : Transaction). query_at d number) found) e) ∙ f
+query_declared : (sc : Scenario) (c : Coordinator) (declared : Transaction) (number : ℕ) (asked : Query) → slice_get sc.txns c.txn.0 ≡ Some declared → own_query sc c number ≡ Some asked → query_at declared number ≡ Some asked
+query_declared sc c declared number asked e f = sym (ap (λ (found : Option Transaction). option_and_then (λ (d : Transaction). query_at d number) found) e) ∙ f
 
 -- it is at its server
 query_here : (sc : Scenario) (declared : Transaction) (number : ℕ) (asked : Query) (server : ServerId) → query_at declared number ≡ Some asked → server_of sc asked ≡ Some server → here (site_of sc server.0 declared) number ≡ true
@@ -135,7 +134,7 @@ query_requested : (sc : Scenario) (declared : Transaction) (p : Pair) (c : Coord
     → p.asker ≡ Some (asker_of server.0 (coord.sends_query sc c number server).state) → number ≡ length c.deeds + 1 → IsHome sc c number server
     → QueryFits (site_of sc server.0 declared) p (coord.query_request sc c server number)
 query_requested sc declared p c number server declared_is fits is number_is home =
-    let asked_is : query_at declared number ≡ Some home.asked = own_query sc c declared number home.asked declared_is home.asked_is in
+    let asked_is : query_at declared number ≡ Some home.asked = query_declared sc c declared number home.asked declared_is home.asked_is in
     asks (site_of sc server.0 declared) p (asker_of server.0 (coord.sends_query sc c number server).state) (coord.query_request sc c server number) is fits refl
     (subst (λ (n : ℕ). here (site_of sc server.0 declared) n ≡ true) number_is (query_here sc declared number home.asked server asked_is home.server_is))
     (record {
@@ -153,7 +152,7 @@ sent_asks sc declared P c age server h idle home =
     let short : length c.deeds ≡ 0 = ap length (subst (λ (p : Phase). PhaseNumbered p c.deeds) idle h.numbered) in
     let first : 1 ≡ length c.deeds + 1 = omega (arith, short) in
     let rises : next_turn c ≡ c.turn + 1 = turn_rises c h.low in
-    let within : 0 < length declared.queries = slice_get_within declared.queries 0 home.asked (own_query sc c declared 1 home.asked h.declared_is home.asked_is) in
+    let within : 0 < length declared.queries = slice_get_within declared.queries 0 home.asked (query_declared sc c declared 1 home.asked h.declared_is home.asked_is) in
     let event : (at : ℕ) → Next (site_of sc at declared) (P at) (with_asker (P at) (asker_up at next)) = λ at.
     moves (site_of sc at declared) (P at) (asker_of at c) Asks (next_turn c) (asker_there sc declared P c at h undecided) (h.fits at)
     (record {
@@ -230,7 +229,7 @@ gone_on c server done asked value now = record (coord.with_deed c server done as
 
 -- what the coordinator knows then, as the server of this number sees it
 ran_asker : (sc : Scenario) (declared : Transaction) (P : ℕ → Pair) (c : Coordinator) (done : DoneReply) (asked : Query) (server : ServerId) (value : ℤ) (now : Phase) (at : ℕ) (epoch : Option ℕ)
-    → CoordinatorPaired sc declared P c → IsAwaited sc declared P c done asked server value → flattened (slice_get (slice_set c.epochs server.0 (Some done.epoch)) at) ≡ epoch
+    → CoordinatorPaired sc declared P c → IsAwaited sc declared P c done asked server value → option_flatten (slice_get (slice_set c.epochs server.0 (Some done.epoch)) at) ≡ epoch
     → asker_of at (gone_on c server done asked value now) ≡ moved (answered (site_of sc at declared) (asker_of at c) epoch value) (stand_of now) (next_turn c)
 ran_asker sc declared P c done asked server value now at epoch h k e =
     let number : done.query ≡ length c.deeds + 1 = subst (λ (p : Phase). PhaseNumbered p c.deeds) k.awaits h.numbered in
@@ -253,7 +252,7 @@ ran_here sc declared P c done asked server value now h k on =
     let a = asker_of server.0 c in
     let is = asker_there sc declared P c server.0 h (ap is_undecided k.awaits) in
     let rises : next_turn c ≡ c.turn + 1 = turn_rises c h.low in
-    let kept : flattened (slice_get (slice_set c.epochs server.0 (Some done.epoch)) server.0) ≡ Some done.epoch = ap flattened (set_here c.epochs server.0 (Some done.epoch) (let exists = k.exists in let places = h.places in omega (arith, places, exists))) in
+    let kept : option_flatten (slice_get (slice_set c.epochs server.0 (Some done.epoch)) server.0) ≡ Some done.epoch = ap option_flatten (set_here c.epochs server.0 (Some done.epoch) (let exists = k.exists in let places = h.places in omega (arith, places, exists))) in
     subst (λ (b : Asker). Next s (P server.0) (with_asker (P server.0) (Some b))) (sym (ran_asker sc declared P c done asked server value now server.0 (Some done.epoch) h k kept))
     (moves_on s (P server.0) a (answered s a (Some done.epoch) value) (stand_of now) (next_turn c) value (Some done.epoch) refl (omega (arith, rises)) on.asks on.all
     (takes s (P server.0) a done value is (h.fits server.0) (ap stand_of k.awaits) k.turn k.ran))
@@ -271,7 +270,7 @@ ran_elsewhere sc declared P c done asked server value now at apart h k on =
     let is = asker_there sc declared P c at h (ap is_undecided k.awaits) in
     let rises : next_turn c ≡ c.turn + 1 = turn_rises c h.low in
     let not_here : here s (length c.deeds + 1) ≡ false = one_home sc declared server.0 at (length c.deeds + 1) (λ same. let one = eq-eqb server.0 at same in cc) t.is_here in
-    let kept : flattened (slice_get (slice_set c.epochs server.0 (Some done.epoch)) at) ≡ a.epoch = ap flattened (set_elsewhere c.epochs server.0 at (Some done.epoch) apart) in
+    let kept : option_flatten (slice_get (slice_set c.epochs server.0 (Some done.epoch)) at) ≡ a.epoch = ap option_flatten (set_elsewhere c.epochs server.0 at (Some done.epoch) apart) in
     subst (λ (b : Asker). Next s (P at) (with_asker (P at) (Some b))) (sym (ran_asker sc declared P c done asked server value now at a.epoch h k kept))
     (moves_on s (P at) a (answered s a a.epoch value) (stand_of now) (next_turn c) value a.epoch refl (omega (arith, rises)) on.asks on.all
     (elsewhere s (P at) a value is (h.fits at) (ap stand_of k.awaits) not_here t.asked))
@@ -311,7 +310,7 @@ next_asks sc declared P c done asked server next value h k further home =
     let longer : length now.deeds ≡ length c.deeds + 1 = length_push c.deeds (deed_of done.query asked value) in
     let numbered : next_number done.query ≡ length now.deeds + 1 = omega (arith, number, longer, further) in
     let place : next_number done.query ≡ suc (length c.deeds + 1) = omega (arith, number, further) in
-    let asked_is : query_at declared (next_number done.query) ≡ Some home.asked = own_query sc c declared (next_number done.query) home.asked h.declared_is home.asked_is in
+    let asked_is : query_at declared (next_number done.query) ≡ Some home.asked = query_declared sc c declared (next_number done.query) home.asked h.declared_is home.asked_is in
     let within : length c.deeds + 1 < length declared.queries = slice_get_within declared.queries (length c.deeds + 1) home.asked (subst (λ (n : ℕ). query_at declared n ≡ Some home.asked) place asked_is) in
     let event = ran_at sc declared P c done asked server value (phase.Querying (next_number done.query) None) h k (record { asks = λ e. within; all = λ e. absurd (cc) }) in
     record {
@@ -337,14 +336,14 @@ prepare_fits sc declared Q c next round staple [] own is fits stand same h names
 prepare_fits sc declared Q c next round staple (at ∷ servers) own is fits stand same h names =
     let site = site_of sc at.0 declared in
     let kept : (asker_of at.0 next).epoch ≡ Some (coord.epoch_of c at) =
-    ap (λ (epochs : List (Option ℕ)). flattened (slice_get epochs at.0)) (sym same) ∙ some_is (kept_epoch c at) h.0 in (
+    ap (λ (epochs : List (Option ℕ)). option_flatten (slice_get epochs at.0)) (sym same) ∙ some_is (kept_epoch c at) h.0 in (
       (own, prepares site (Q at.0) (asker_of at.0 next) (coord.prepare_request c round staple at) (is at.0) (fits at.0) stand kept names.0),
       prepare_fits sc declared Q c next round staple servers own is fits stand same h.1 names.1,
     )
 
 -- a coordinator that prepares, in a further turn
 prepares_on : (sc : Scenario) (declared : Transaction) (P : ℕ → Pair) (c next : Coordinator) → CoordinatorPaired sc declared P c → stand_of c.phase ≡ Prepares → is_undecided c.phase ≡ true
-    → ((at : ℕ) → asker_up at next ≡ Some (record { stand = Prepares; turn = next_turn c; epoch = flattened (slice_get c.epochs at); deeds = c.deeds }))
+    → ((at : ℕ) → asker_up at next ≡ Some (record { stand = Prepares; turn = next_turn c; epoch = option_flatten (slice_get c.epochs at); deeds = c.deeds }))
     → (at : ℕ) → Next (site_of sc at declared) (P at) (with_asker (P at) (asker_up at next))
 prepares_on sc declared P c next h stands undecided is at =
     let rises : next_turn c ≡ c.turn + 1 = turn_rises c h.low in
@@ -383,7 +382,7 @@ updated_asks sc declared P c round next staple h checking =
 
 counted_asker : (at : ℕ) (c : Coordinator) (round other : Round) (staple : Staple) → c.phase ≡ phase.Checking round staple → asker_up at (record c { phase = phase.Checking other staple }) ≡ asker_up at c
 counted_asker at c round other staple e =
-    ap (λ (s : Stand). Some (record { stand = s; turn = c.turn; epoch = flattened (slice_get c.epochs at); deeds = c.deeds })) (sym (ap stand_of e)) ∙ sym (undecided_asker at c (ap is_undecided e))
+    ap (λ (s : Stand). Some (record { stand = s; turn = c.turn; epoch = option_flatten (slice_get c.epochs at); deeds = c.deeds })) (sym (ap stand_of e)) ∙ sym (undecided_asker at c (ap is_undecided e))
 
 -- a decision
 ends_asks : (sc : Scenario) (declared : Transaction) (P : ℕ → Pair) (c next : Coordinator) (ended : Outcome) (servers : List ServerId) → CoordinatorPaired sc declared P c → is_undecided next.phase ≡ false
@@ -415,14 +414,14 @@ answer_awaited sc declared P c mail done server asked value h m exists k =
     record {
       awaits = awaits;
       turn = eqb-true done.turn c.turn (and_parts (done.turn == c.turn) (done.query == done.query) present).0;
-      asked_is = own_query sc c declared done.query asked h.declared_is k.asked_is;
+      asked_is = query_declared sc c declared done.query asked h.declared_is k.asked_is;
       server_is = k.server_is;
       ran = subst (AnswerFits (site_of sc server.0 declared) (P server.0) done) k.answer_is fits;
       exists = exists;
     }
 
 -- a number that is no query of the transaction
-no_query : (sc : Scenario) (c : Coordinator) (declared : Transaction) (number : ℕ) → slice_get sc.txns c.txn.0 ≡ Some declared → query_of sc c number ≡ None → query_at declared number ≡ None
+no_query : (sc : Scenario) (c : Coordinator) (declared : Transaction) (number : ℕ) → slice_get sc.txns c.txn.0 ≡ Some declared → own_query sc c number ≡ None → query_at declared number ≡ None
 no_query sc c declared number e f = sym (ap (λ (found : Option Transaction). option_and_then (λ (d : Transaction). query_at d number) found) e) ∙ f
 
 server_exists : (sc : Scenario) (asked : Query) (server : ServerId) → IsValid sc → server_of sc asked ≡ Some server → server.0 < length sc.servers

@@ -1,6 +1,8 @@
 -- Laws of values that may be there, of members of lists, and of answers by their query.
-use Rattle.std.proofs.Common.{◌≡◌, ℕ, zero, suc, ◌<◌, ◌==◌, List, [], ◌∷◌, ◌++◌, length, map, get_or, Bool, true, false, Option, Some, None, is_some, IfSome, Contains, if◌then◌else◌, refl, sym, ap, subst, ◌∙◌, arith}
+use Rattle.std.proofs.Common.{◌≡◌, ℕ, ◌<◌, ◌==◌, List, [], ◌∷◌, ◌++◌, length, map, Bool, true, false, Option, Some, None, is_some, IfSome, Contains, if◌then◌else◌, refl, sym, ap, subst, ◌∙◌, arith}
+use Rattle.std.proofs.Math.ListN.{get_or-map}
 use Rattle.std.proofs.lemmas.Bool.{eq-eqb}
+use Rattle.std.proofs.lemmas.List.{length-map}
 use Rattle.std.proofs.lemmas.Option.{same_Some}
 use Rattle.tp_model.specs.Words.{DoneReply}
 use Rattle.tp_machine.specs.Sound.{Each}
@@ -25,20 +27,11 @@ some_as P Q (Some x) step h = step x refl h
 pub contains_none : {A : Type 0} (x : A) → Contains [] x → ⊥
 contains_none x h = let within = h.1 in omega (arith, within)
 
-map_at : {A : Type 0} {B : Type 0} (f : A → B) (xs : List A) (k : ℕ) (d : A) → get_or (map f xs) k (f d) ≡ f (get_or xs k d)
-map_at f [] k d = refl
-map_at f (x ∷ xs) zero d = refl
-map_at f (x ∷ xs) (suc k) d = map_at f xs k d
-
-map_length : {A : Type 0} {B : Type 0} (f : A → B) (xs : List A) → length (map f xs) ≡ length xs
-map_length f [] = refl
-map_length f (x ∷ xs) = omega (arith, map_length f xs)
-
 -- a member's image is a member of the images
 pub contains_mapped : {A : Type 0} {B : Type 0} (f : A → B) (xs : List A) (x : A) → Contains xs x → Contains (map f xs) (f x)
 contains_mapped f xs x h =
-    let within : h.0 < length (map f xs) = omega (arith, h.1, map_length f xs) in
-    (h.0, within, map_at f xs h.0 x ∙ ap f h.2)
+    let within : h.0 < length (map f xs) = omega (arith, h.1, length-map xs f) in
+    (h.0, within, get_or-map f xs h.0 x ∙ ap f h.2)
 
 -- ---- answers
 

@@ -1,5 +1,6 @@
 -- What a transaction's coordinator and one server know of its deeds at that server, and in which epoch of the server.
-use Rattle.std.proofs.Common.{◌≡◌, ℕ, List, [], ◌∷◌, ◌++◌, filter, map, Bool, true, false, cond, Option, Some, None, option_map, refl, ap, ◌∙◌, append-nil}
+use Rattle.std.proofs.Common.{◌≡◌, ℕ, List, [], ◌∷◌, ◌++◌, filter, map, Bool, true, false, Option, Some, None, option_map, refl, ap, ◌∙◌, append-nil}
+use Rattle.std.proofs.lemmas.Bool.{cond-false, cond-true}
 use Rattle.std.proofs.lemmas.List.{map-append}
 use Rattle.std.proofs.lemmas.List.Elements.{filter-append}
 use Rattle.tp_model.specs.Words.{Deed, Prepared}
@@ -91,22 +92,14 @@ is_here s deed = here s deed.query
 abbrev pub got : Site → List Deed → List Deed
 got s deeds = filter (is_here s) deeds
 
-picked : (b : Bool) (deed : Deed) → b ≡ true → cond b (deed ∷ []) [] ≡ deed ∷ []
-picked true deed e = refl
-picked false deed e = absurd (cc)
-
-left_out : (b : Bool) (deed : Deed) → b ≡ false → cond b (deed ∷ []) [] ≡ []
-left_out true deed e = absurd (cc)
-left_out false deed e = refl
-
 -- one deed more, of a query at the server
 pub got_here : (s : Site) (deeds : List Deed) (deed : Deed) → is_here s deed ≡ true → got s (deeds ++ deed ∷ []) ≡ got s deeds ++ deed ∷ []
-got_here s deeds deed e = filter-append (is_here s) deeds (deed ∷ []) ∙ ap (λ (last : List Deed). got s deeds ++ last) (picked (is_here s deed) deed e)
+got_here s deeds deed e = filter-append (is_here s) deeds (deed ∷ []) ∙ ap (λ (last : List Deed). got s deeds ++ last) (cond-true (is_here s deed) (deed ∷ []) [] e)
 
 -- one deed more, of a query elsewhere
 pub got_elsewhere : (s : Site) (deeds : List Deed) (deed : Deed) → is_here s deed ≡ false → got s (deeds ++ deed ∷ []) ≡ got s deeds
 got_elsewhere s deeds deed e =
-    filter-append (is_here s) deeds (deed ∷ []) ∙ (ap (λ (last : List Deed). got s deeds ++ last) (left_out (is_here s deed) deed e) ∙ append-nil (got s deeds))
+    filter-append (is_here s) deeds (deed ∷ []) ∙ (ap (λ (last : List Deed). got s deeds ++ last) (cond-false (is_here s deed) (deed ∷ []) [] e) ∙ append-nil (got s deeds))
 
 -- the numbers of one deed more
 pub numbers_more : (deeds : List Deed) (deed : Deed) → numbers (deeds ++ deed ∷ []) ≡ numbers deeds ++ deed.query ∷ []

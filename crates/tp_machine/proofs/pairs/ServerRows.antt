@@ -1,14 +1,12 @@
 -- Deeds and epochs, the server's rows: each is an event at its own transaction, and nothing at the others.
-use Rattle.std.specs.Option.{option_map_or}
+use Rattle.std.specs.Option.{option_flatten, option_map_or, option_or}
 use Rattle.std.proofs.Common.{Bool, IfSome, List, None, Option, Some, [], ap, arith, false, find, if◌then◌else◌, is_some, length, not, option_and_then, refl, slice_get, slice_set, subst, sym, true, ℕ, ℤ, ⊎_elim, ◌++◌, ◌<◌, ◌==◌, ◌∙◌, ◌∷◌, ◌≡◌, ◌⊎◌}
 use Rattle.std.proofs.lemmas.Bool.{eqb-true, not-false}
 use Rattle.std.proofs.lemmas.List.{length-set}
 use Rattle.std.proofs.lemmas.Option.{same_Some}
 use Rattle.tp_types.proofs.ListLemmas.{number_itself}
 use Rattle.tp_types.specs.Effect.{Effect, ignores, sends}
-use Rattle.tp_types.specs.Table.{flattened}
 use Rattle.tp_lock.specs.declared.entry.Grant.{Grant}
-use Rattle.tp_model.specs.Facts.{first_of}
 use Rattle.tp_model.specs.Ids.{same_txn}
 use Rattle.tp_model.specs.Queries.{query_at}
 use Rattle.tp_model.specs.Words.actor
@@ -16,11 +14,10 @@ use Rattle.tp_model.specs.Words.body
 use Rattle.tp_model.specs.Words.log
 use Rattle.tp_model.specs.Words.query
 use Rattle.tp_model.specs.Words.{Body, DecideRequest, Deed, DoneReply, Letter, Mail, No, PrepareRequest, Prepared, PushNotice, Query, QueryRequest, Record, Scenario, ServerId, Settled, Transaction, TxnId}
-use Rattle.tp_machine.proofs.agreement.Server.{ServerAgrees, open_unsettled}
-use Rattle.tp_machine.proofs.agreement.Steps.{same_txn_from}
-use Rattle.tp_machine.proofs.basics.Ids.{same_txn_is}
-use Rattle.tp_machine.proofs.basics.Lists.{each_as, each_found, each_more, set_here}
-use Rattle.tp_machine.proofs.basics.Logs.{appended, first_none, prepared_still, prepared_with, settled_still, settled_with}
+use Rattle.tp_machine.proofs.agreement.Server.{ServerAgrees, open_unsettled, prepared_now}
+use Rattle.tp_machine.proofs.basics.Ids.{same_txn_from, same_txn_is}
+use Rattle.tp_machine.proofs.basics.Lists.{each_as, each_found, each_more, none_if_not_some, set_here}
+use Rattle.tp_machine.proofs.basics.Logs.{appended, first_none, prepared_still, settled_still, settled_with}
 use Rattle.tp_server.proofs.Tables.{placed_within}
 use Rattle.tp_machine.proofs.basics.Verdicts.{numbers_kept}
 use Rattle.tp_machine.proofs.epochs.Server.{boots_push}
@@ -49,7 +46,7 @@ use Rattle.tp_server.specs.declared.server.Entry.{Entry}
 use Rattle.tp_server.specs.Row as server
 use Rattle.tp_server.specs.Row.{ack_letter, age_of, answer_to, answers, asked_query, ballot_of, casts, closes, completes, died_reply, dies, done_letter, done_reply, entry_after, entry_at, followed_by, learns, no_letter, prepared_record, refused_as, restarts, server_row, settled_as, told_of, value_of_run, waits, yes_letter}
 use Rattle.tp_server.specs.State.{Server}
-use Rattle.tp_server.specs.Verdicts.{learnt, verdicts_on}
+use Rattle.tp_server.specs.Verdicts.{with_wants, verdicts_on}
 
 -- ---- an act
 
@@ -161,7 +158,7 @@ still_pair a txn s now kept append entry epoch none unvoted =
 pub other_pair : (a : Option Asker) (owner txn : TxnId) (s now : Server) (kept : List Record) (append : Option Record) → same_txn owner txn ≡ false → IsOwnAct owner s now append
     → pair_up txn a now (log_with kept append) ≡ pair_up txn a s kept
 other_pair a owner txn s now kept append apart act =
-    still_pair a txn s now kept append (ap (λ (table : List (Option Entry)). flattened (slice_get table txn.0)) act.entries ∙ ap flattened (set_elsewhere s.entries owner.0 txn.0 act.entry apart))
+    still_pair a txn s now kept append (ap (λ (table : List (Option Entry)). option_flatten (slice_get table txn.0)) act.entries ∙ ap option_flatten (set_elsewhere s.entries owner.0 txn.0 act.entry apart))
     (same_epoch_in owner kept append act.own) (settled_apart txn owner append apart act.own) (prepared_apart txn owner append apart act.own)
 
 next_by : (sc : Scenario) (at : ℕ) (P Q : TxnId → Pair) (owner txn : TxnId) (declared : Transaction) (b : Bool) → same_txn owner txn ≡ b → Fits (site_of sc at declared) (P txn)
@@ -216,10 +213,6 @@ answers_pairs sc A s kept q entry given h there own found =
 
 -- ---- a query runs
 
-none_named : (epoch : Option ℕ) → is_some epoch ≡ false → epoch ≡ None
-none_named None e = refl
-none_named (Some n) e = absurd (cc)
-
 -- a query runs at an entry as soon as it comes
 pub runs_at_once : (s : Site) (p : Pair) (entry : Entry) (q : QueryRequest) (done : DoneReply) (value : ℤ) → p.up ≡ true → p.entry ≡ Some entry → Fits s p → QueryFits s p q
     → IfSome q.epoch (λ (e : ℕ). e ≡ entry.epoch) → answer_in q.query entry.answers ≡ None → entry.ballot ≡ None → IsAnswer s entry q done value
@@ -273,10 +266,6 @@ same_epochs : (q : QueryRequest) (epoch : Option ℕ) (entry : Entry) → option
 same_epochs q None entry e = tt
 same_epochs q (Some named) entry e = eqb-true named entry.epoch (not-false (named == entry.epoch) e)
 
-pub no_ballot : (ballot : Option Ballot) → is_some ballot ≡ false → ballot ≡ None
-no_ballot None e = refl
-no_ballot (Some ballot) e = absurd (cc)
-
 -- a query runs at an entry that is there
 runs_further : (sc : Scenario) (A : TxnId → Option Asker) (s : Server) (kept : List Record) (q : QueryRequest) (query : Query) (entry : Entry) (value : ℤ) (declared : Transaction) → ServerPaired sc A s kept
     → IsRunOf sc s q query value → slice_get sc.txns q.txn.0 ≡ Some declared → query_at declared q.query ≡ Some query → QueryFits (site_of sc s.server.0 declared) (pair_up q.txn (A q.txn) s kept) q → IsFurther s q entry
@@ -286,7 +275,7 @@ runs_further sc A s kept q query entry value declared h k exists found asked fur
     let site = site_of sc s.server.0 declared in
     let p = pair_up q.txn (A q.txn) s kept in
     runs_at_once site p entry q (done_reply q entry.epoch (deed_of q.query query value)) value refl further.found (h.fits q.txn declared exists) asked (same_epochs q q.epoch entry further.same_epoch)
-    (same_answer q.query entry.answers ∙ further.unanswered) (no_ballot entry.ballot further.unvoted) (answer_is sc s site q query value entry k found)
+    (same_answer q.query entry.answers ∙ further.unanswered) (none_if_not_some entry.ballot further.unvoted) (answer_is sc s site q query value entry k found)
 
 -- or at the one that is made for it
 runs_first : (sc : Scenario) (A : TxnId → Option Asker) (s : Server) (kept : List Record) (sent : ℕ) (q : QueryRequest) (query : Query) (entry : Entry) (value : ℤ) (declared : Transaction) → ServerPaired sc A s kept
@@ -301,7 +290,7 @@ runs_first sc A s kept sent q query entry value declared h fresh k exists found 
     let unsettled : p.settled ≡ false = ap is_some fresh in
     let made : Next site p (with_entry p (begun age p.epoch)) = makes site p age refl unsettled first.no_entry (h.fits q.txn declared exists) in
     let p1 = with_entry p (begun age p.epoch) in
-    let named : IfSome q.epoch (λ (e : ℕ). e ≡ p.epoch) = subst (λ (o : Option ℕ). IfSome o (λ (e : ℕ). e ≡ p.epoch)) (sym (none_named q.epoch first.unnamed)) tt in
+    let named : IfSome q.epoch (λ (e : ℕ). e ≡ p.epoch) = subst (λ (o : Option ℕ). IfSome o (λ (e : ℕ). e ≡ p.epoch)) (sym (none_if_not_some q.epoch first.unnamed)) tt in
     let done = done_reply q p.epoch (deed_of q.query query value) in
     let ran_now : Next site p1 (with_entry p1 (ran (begun age p.epoch) (deed_at declared q.query value) done)) =
     runs_at_once site p1 (begun age p.epoch) q done value refl refl made.fits (query_follows site p p1 q made.follows asked) named refl refl (answer_is sc s site q query value (begun age p.epoch) k found) in
@@ -312,11 +301,7 @@ runs_first sc A s kept sent q query entry value declared h fresh k exists found 
 -- nothing waits at the entry
 idle_entry : (s : Server) (sent : ℕ) (q : QueryRequest) (entry : Entry) → IsFirstHere s sent q entry ⊎ IsFurther s q entry → entry.waiting ≡ None
 idle_entry s sent q entry place =
-    ⊎_elim (λ (first : IsFirstHere s sent q entry). ap (λ (e : Entry). e.waiting) first.entry_is) (λ (further : IsFurther s q entry). none_waits entry.waiting further.idle) place
-  where
-    none_waits : (waiting : Option QueryRequest) → is_some waiting ≡ false → waiting ≡ None
-    none_waits None e = refl
-    none_waits (Some w) e = absurd (cc)
+    ⊎_elim (λ (first : IsFirstHere s sent q entry). ap (λ (e : Entry). e.waiting) first.entry_is) (λ (further : IsFurther s q entry). none_if_not_some entry.waiting further.idle) place
 
 ran_is : (q : QueryRequest) (entry : Entry) (deed : Deed) → entry.waiting ≡ None → ran entry deed (done_reply q entry.epoch deed) ≡ entry_after q entry deed
 ran_is q entry deed idle =
@@ -344,7 +329,7 @@ entry_pairs sc A s kept txn new letters h exists event replies =
     let now = server.with_entry s txn (Some new) in
     let P : TxnId → Pair = λ other. pair_up other (A other) s kept in
     let Q : TxnId → Pair = λ other. pair_up other (A other) now kept in
-    let there : entry_at now txn ≡ Some new = ap flattened (set_here s.entries txn.0 (Some new) (omega (arith, exists, h.places))) in
+    let there : entry_at now txn ≡ Some new = ap option_flatten (set_here s.entries txn.0 (Some new) (omega (arith, exists, h.places))) in
     let whole : with_entry (P txn) new ≡ Q txn = ap (λ (n : Option Entry). made_pair (A txn) (epoch_in kept) (settled_in txn kept) n (prepared_in txn kept)) (sym there) in
     record {
       next = own_next sc s.server.0 P Q txn h.fits (λ declared found. subst (Next (site_of sc s.server.0 declared) (P txn)) whole (event declared found))
@@ -371,7 +356,7 @@ entered sc A s kept sent q entry declared h fresh exists asked place =
     let age = age_of q sent in
     let unsettled : p.settled ≡ false = ap is_some fresh in
     let made : Next site p (with_entry p (begun age p.epoch)) = makes site p age refl unsettled first.no_entry (h.fits q.txn declared exists) in
-    let named : IfSome q.epoch (λ (e : ℕ). e ≡ p.epoch) = subst (λ (o : Option ℕ). IfSome o (λ (e : ℕ). e ≡ p.epoch)) (sym (none_named q.epoch first.unnamed)) tt in
+    let named : IfSome q.epoch (λ (e : ℕ). e ≡ p.epoch) = subst (λ (o : Option ℕ). IfSome o (λ (e : ℕ). e ≡ p.epoch)) (sym (none_if_not_some q.epoch first.unnamed)) tt in
     let entry_is : begun age p.epoch ≡ entry = ap (begun age) (sym h.epoch_is) ∙ sym first.entry_is in
     subst (IsEntered site p q) entry_is (record { next = made; fits = query_follows site p (with_entry p (begun age p.epoch)) q made.follows asked; epoch = named; fresh = refl; unvoted = refl }))
     (λ (further : IsFurther s q entry).
@@ -381,7 +366,7 @@ entered sc A s kept sent q entry declared h fresh exists asked place =
       fits = subst (λ (x : Pair). QueryFits site x q) same asked;
       epoch = same_epochs q q.epoch entry further.same_epoch;
       fresh = same_answer q.query entry.answers ∙ further.unanswered;
-      unvoted = no_ballot entry.ballot further.unvoted;
+      unvoted = none_if_not_some entry.ballot further.unvoted;
     }) place
 
 -- a query that waits
@@ -425,7 +410,7 @@ runs_pairs sc A s kept sent q query entry value h fresh k place asked =
     let Q : TxnId → Pair = λ txn. pair_up txn (A txn) now kept in
     let exists = k.exists in
     let places = h.places in
-    let there : entry_at now q.txn ≡ Some new = ap flattened (set_here s.entries q.txn.0 (Some new) (omega (arith, exists, places))) in
+    let there : entry_at now q.txn ≡ Some new = ap option_flatten (set_here s.entries q.txn.0 (Some new) (omega (arith, exists, places))) in
     let event : (declared : Transaction) → slice_get sc.txns q.txn.0 ≡ Some declared → Next (site_of sc s.server.0 declared) (P q.txn) (Q q.txn) = λ declared found.
     let site = site_of sc s.server.0 declared in
     let p = P q.txn in
@@ -481,7 +466,7 @@ resumes_pairs sc A s kept effect grant q query entry value start k h =
     let places = start.places in
     let within : q.txn.0 < length was.entries = placed_within was.entries q.txn.0 entry k.found in
     let exists : q.txn.0 < length sc.txns = let same = h.places in omega (arith, within, same, places) in
-    let there : entry_at now q.txn ≡ Some new = ap flattened (set_here was.entries q.txn.0 (Some new) within) in
+    let there : entry_at now q.txn ≡ Some new = ap option_flatten (set_here was.entries q.txn.0 (Some new) within) in
     let event : (declared : Transaction) → slice_get sc.txns q.txn.0 ≡ Some declared → Next (site_of sc s.server.0 declared) (P q.txn) (Q q.txn) = λ declared found.
     let site = site_of sc s.server.0 declared in
     let query_is : query_at declared q.query ≡ Some query = sym (ap (λ (x : Option Transaction). option_and_then (λ (d : Transaction). query_at d q.query) x) found) ∙ k.asked_is in
@@ -511,28 +496,20 @@ resumes_pairs sc A s kept effect grant q query entry value start k h =
 
 -- ---- Prepare
 
--- what was prepared by a vote is what the log says
-prepared_now : (txn : TxnId) (kept : List Record) (p : Prepared) → p.txn ≡ txn → settled_in txn kept ≡ None → prepared_in txn (log_with kept (Some (log.Prepared p))) ≡ Some p
-prepared_now txn kept p own fresh =
-    let new : preparation_in txn (log.Prepared p) ≡ Some p = ap (λ (b : Bool). if b then Some p else None) (ap (λ (t : TxnId). same_txn t txn) own ∙ number_itself txn.0) in
-    prepared_with txn kept (Some (log.Prepared p))
-    ∙ (ap (λ (x : Option Settled). while_unsettled (first_of x None) (first_of (preparation_in txn (log.Prepared p)) (voted_in txn kept))) fresh
-    ∙ ap (λ (x : Option Prepared). first_of x (voted_in txn kept)) new)
-
 votes_pairs : (sc : Scenario) (A : TxnId → Option Asker) (s : Server) (kept : List Record) (r : PrepareRequest) (entry : Entry) (forced : Prepared) → ServerPaired sc A s kept → settled_in r.txn kept ≡ None
     → entry_at s r.txn ≡ Some entry → entry.epoch ≡ r.epoch → r.txn.0 < length sc.txns → forced.txn ≡ r.txn → IsVoteOn entry forced
     → ((declared : Transaction) → slice_get sc.txns r.txn.0 ≡ Some declared → PrepareFits (site_of sc s.server.0 declared) (pair_up r.txn (A r.txn) s kept) r)
-    → RowPairs sc A s kept (casts (learnt s r.want) forced entry)
+    → RowPairs sc A s kept (casts (with_wants s r.want) forced entry)
 votes_pairs sc A s kept r entry forced h fresh there same exists own on asked =
     let P : TxnId → Pair = λ txn. pair_up txn (A txn) s kept in
-    let effect = casts (learnt s r.want) forced entry in
+    let effect = casts (with_wants s r.want) forced entry in
     let now = effect.state in
     let append = effect.reaction.append in
     let new = with_ballot entry (ballot_of forced) in
     let Q : TxnId → Pair = λ txn. pair_up txn (A txn) now (log_with kept append) in
     let is : same_txn forced.txn r.txn ≡ true = ap (λ (t : TxnId). same_txn t r.txn) own ∙ number_itself r.txn.0 in
     let entries : now.entries ≡ slice_set s.entries r.txn.0 (Some new) = ap (λ (t : TxnId). slice_set s.entries t.0 (Some new)) own in
-    let found_new : entry_at now r.txn ≡ Some new = ap (λ (table : List (Option Entry)). flattened (slice_get table r.txn.0)) entries ∙ ap flattened (set_here s.entries r.txn.0 (Some new) (omega (arith, exists, h.places))) in
+    let found_new : entry_at now r.txn ≡ Some new = ap (λ (table : List (Option Entry)). option_flatten (slice_get table r.txn.0)) entries ∙ ap option_flatten (set_here s.entries r.txn.0 (Some new) (omega (arith, exists, h.places))) in
     let act : IsOwnAct r.txn s now append = record { entry = Some new; entries = entries; own = own } in
     let event : (declared : Transaction) → slice_get sc.txns r.txn.0 ≡ Some declared → Next (site_of sc s.server.0 declared) (P r.txn) (Q r.txn) = λ declared found.
     let site = site_of sc s.server.0 declared in
@@ -582,7 +559,7 @@ votes_again_pairs sc A s kept r entry cast h there ballot_is =
 settled_now : (txn : TxnId) (kept : List Record) (s : Settled) → s.txn ≡ txn → settled_in txn kept ≡ None → settled_in txn (log_with kept (Some (log.Settled s))) ≡ Some s
 settled_now txn kept s own fresh =
     let new : settlement_in txn (log.Settled s) ≡ Some s = ap (λ (b : Bool). if b then Some s else None) (ap (λ (t : TxnId). same_txn t txn) own ∙ number_itself txn.0) in
-    settled_with txn kept (Some (log.Settled s)) ∙ (ap (λ (x : Option Settled). first_of x (settlement_in txn (log.Settled s))) fresh ∙ new)
+    settled_with txn kept (Some (log.Settled s)) ∙ (ap (λ (x : Option Settled). option_or x (settlement_in txn (log.Settled s))) fresh ∙ new)
 
 -- the transaction is settled at the server
 ends_next : (sc : Scenario) (A : TxnId → Option Asker) (s : Server) (kept : List Record) (order : Settled) (letter : Letter) → ServerPaired sc A s kept → settled_in order.txn kept ≡ None → order.txn.0 < length sc.txns
@@ -594,7 +571,7 @@ ends_next sc A s kept order letter h fresh exists may =
     let append = Some (log.Settled order) in
     let Q : TxnId → Pair = λ txn. pair_up txn (A txn) now (log_with kept append) in
     let act : IsOwnAct order.txn s now append = record { entry = None; entries = refl; own = refl } in
-    let none_there : entry_at now order.txn ≡ None = ap flattened (set_here s.entries order.txn.0 None (omega (arith, exists, h.places))) in
+    let none_there : entry_at now order.txn ≡ None = ap option_flatten (set_here s.entries order.txn.0 None (omega (arith, exists, h.places))) in
     let ended : settled_in order.txn (log_with kept append) ≡ Some order = settled_now order.txn kept order refl fresh in
     let nothing : prepared_in order.txn (log_with kept append) ≡ None = ap (λ (x : Option Settled). while_unsettled x (voted_in order.txn (log_with kept append))) ended in
     let event : (declared : Transaction) → slice_get sc.txns order.txn.0 ≡ Some declared → Next (site_of sc s.server.0 declared) (P order.txn) (Q order.txn) = λ declared found.
@@ -673,8 +650,8 @@ server_row_pairs sc A s kept mail rightly h sound m asked =
           answers_pairs sc A s kept q entry given h k.found
           (same_txn_from q.txn given.txn (each_found (λ (d : DoneReply). IsSoundDone sc (actor.Coordinator q.txn) d) (λ (d : DoneReply). d.query == q.query) entry.answers given (sound.entries q.txn.0 entry k.found).answers k.given_is).goes_to) k.given_is;
       voted = λ p entry staple txn k.
-          votes_pairs sc A s kept p entry (prepared_record (learnt s p.want) p entry (verdicts_on sc (learnt s p.want) txn staple p.want entry.deeds)) h (open_unsettled s kept p.txn h.agrees k.unsettled) k.found (eqb-true entry.epoch p.epoch k.same_epoch)
-          (subst (IsSoundBody sc to) k.said_is m).txn refl (record { epoch = refl; deeds = refl; verdicts = numbers_kept sc (learnt s p.want) txn staple p.want entry.deeds }) (subst (RequestPairs sc s.server A P) k.said_is asked);
+          votes_pairs sc A s kept p entry (prepared_record (with_wants s p.want) p entry (verdicts_on sc (with_wants s p.want) txn staple p.want entry.deeds)) h (open_unsettled s kept p.txn h.agrees k.unsettled) k.found (eqb-true entry.epoch p.epoch k.same_epoch)
+          (subst (IsSoundBody sc to) k.said_is m).txn refl (record { epoch = refl; deeds = refl; verdicts = numbers_kept sc (with_wants s p.want) txn staple p.want entry.deeds }) (subst (RequestPairs sc s.server A P) k.said_is asked);
       voted_again = λ p entry cast k. votes_again_pairs sc A s kept p entry cast h k.found k.ballot_is;
       refused = λ p entry number value k.
           refuses_pairs sc A s kept p entry _ h (open_unsettled s kept p.txn h.agrees k.unsettled) (subst (IsSoundBody sc to) k.said_is m).txn k.found k.unvoted

@@ -1,10 +1,9 @@
 -- Deeds and epochs over every list of steps: what servers hold of a transaction, what its coordinator got, and what mails say of it.
 use Rattle.std.specs.Option.{option_map_or}
-use Rattle.std.proofs.Common.{Bool, IfSome, List, None, Option, Some, [], ap, arith, false, if◌then◌else◌, inl, inr, is_some, length, option_and_then, option_map, refl, replicate, slice_get, slice_set, subst, suc, sym, true, zero, ℕ, ⊎_elim, ◌+◌, ◌<◌, ◌==◌, ◌∙◌, ◌∷◌, ◌≡◌, ◌≤◌, ◌⊎◌}
+use Rattle.std.proofs.Common.{Bool, IfSome, List, None, Option, Some, [], ap, arith, false, if◌then◌else◌, inl, inr, is_some, length, option_and_then, refl, slice_get, slice_set, subst, sym, true, ℕ, ⊎_elim, ◌<◌, ◌==◌, ◌∙◌, ◌∷◌, ◌≡◌, ◌≤◌, ◌⊎◌}
 use Rattle.std.proofs.lemmas.Bool.{eqb-true}
 use Rattle.std.proofs.lemmas.List.{length-replicate}
 use Rattle.std.proofs.lemmas.Option.{same_Some, slice_get_within}
-use Rattle.tp_types.specs.Table.{flattened}
 use Rattle.tp_model.proofs.RuleLemmas as rules
 use Rattle.tp_model.specs.Built.{is_built}
 use Rattle.tp_model.specs.Facts.{outcome_of}
@@ -14,11 +13,12 @@ use Rattle.tp_model.specs.Words.body
 use Rattle.tp_model.specs.Words.what
 use Rattle.tp_model.specs.Words.{Actor, Body, Fact, Letter, Mail, Record, Scenario, ServerId, Step, Transaction, TxnId, What}
 use Rattle.tp_machine.proofs.agreement.Coordinator.{CoordinatorAgrees, PhaseAgrees}
-use Rattle.tp_machine.proofs.agreement.Steps.{begun_lawful, coordinator_lawful, mail_rests, mail_sound, own_txn, same_txn_from, server_agrees}
+use Rattle.tp_machine.proofs.agreement.Steps.{begun_lawful, coordinator_lawful, mail_rests, mail_sound, own_txn, server_agrees}
 use Rattle.tp_machine.proofs.agreement.World.{Agrees, BodyRests, CoordinatorUpAgrees}
+use Rattle.tp_machine.proofs.basics.Facts.{each_new_mail}
 use Rattle.tp_machine.proofs.basics.Homes.{HaveHomes}
-use Rattle.tp_machine.proofs.basics.Ids.{same_txn_is}
-use Rattle.tp_machine.proofs.basics.Lists.{at_set, each_append, each_as, each_get, missing, set_here}
+use Rattle.tp_machine.proofs.basics.Ids.{same_txn_from, same_txn_is}
+use Rattle.tp_machine.proofs.basics.Lists.{at_set, each_append, each_as, each_get, missing, set_here, some_mapped, unset_at}
 use Rattle.tp_machine.proofs.basics.Phases.{is_undecided}
 use Rattle.tp_machine.proofs.epochs.Asked.{asked_in}
 use Rattle.tp_machine.proofs.epochs.Kept.{CoordinatorKeeps}
@@ -85,10 +85,6 @@ pub record MovePairs (sc : Scenario) (w : State) (move : Move) : Type 0 where
   pub places : EachAt (λ (n : ℕ) (part : Part Server). IfSome part.up (HasPlaces sc)) move.actors.servers
   pub letters : Each (LetterPairs sc (pair_at move.actors)) move.letters
 
-new_mails_pairs : (P : Letter → Type 0) (sent number : ℕ) (letters : List Letter) → Each P letters → Each (λ (mail : Mail). P mail.letter) (mails_of sent number letters)
-new_mails_pairs P sent number [] h = tt
-new_mails_pairs P sent number (letter ∷ letters) h = (h.0, new_mails_pairs P sent (number + 1) letters h.1)
-
 state_after_pairs : (sc : Scenario) (w : State) (taken : Step) (move : Move) → Pairs sc w → MovePairs sc w move → Pairs sc (state_after w taken move)
 state_after_pairs sc w taken move h t =
     let old : (mail : Mail) → LetterPairs sc (pair_at w.actors) mail.letter → LetterPairs sc (pair_at move.actors) mail.letter = λ mail said.
@@ -99,7 +95,7 @@ state_after_pairs sc w taken move h t =
       places = t.places;
       mails = each_append (λ (mail : Mail). LetterPairs sc (pair_at move.actors) mail.letter) w.mails (mails_of (length w.steps) (length w.mails) move.letters)
           (each_as (λ (mail : Mail). LetterPairs sc (pair_at w.actors) mail.letter) (λ (mail : Mail). LetterPairs sc (pair_at move.actors) mail.letter) old w.mails h.mails)
-          (new_mails_pairs (LetterPairs sc (pair_at move.actors)) (length w.steps) (length w.mails) move.letters t.letters);
+          (each_new_mail (λ sent. LetterPairs sc (pair_at move.actors)) (length w.steps) (length w.mails) move.letters t.letters);
     }
 
 -- ---- neither servers nor coordinators act
@@ -194,10 +190,6 @@ decided_asker sc w txn at None a e d = refl
 decided_asker sc w txn at (Some part) a e d =
     decided_part sc at part.log part.up
     (some_as (CoordinatorUpAgrees sc w.actors.servers txn part.log) (λ (c : Coordinator). CoordinatorAgrees sc c part.log) part.up (λ c is up. up.agrees) (a.coordinators txn.0 part e).state) d
-
-some_mapped : {A B : Type 0} (f : A → B) (found : Option A) (y : B) → option_map f found ≡ Some y → is_some found ≡ true
-some_mapped f None y e = absurd (cc)
-some_mapped f (Some x) y e = refl
 
 order_decided : (sc : Scenario) (w : State) (from : Actor) (at : ServerId) (said : Body) → Agrees sc w → BodyRests sc w.actors from (actor.Server at) said → OrderDecided (λ txn. asker_at w.actors.coordinators txn.0 at.0) said
 order_decided sc w from at (body.Decide order) a h =
@@ -413,7 +405,7 @@ pairs_cases sc w built valid few rightly sound a epochs trusts h =
       authority_told = λ n mail sent. still_pairs sc w [] (office.authority_row w.actors.authority mail).reaction.letters w.actors h refl refl (tells_plain sc w.actors.authority mail.letter.body);
       master_told = λ n mail sent. still_pairs sc w [] (master.master_row w.actors.master mail).reaction.letters w.actors h refl refl (newest_plain sc w.actors.master mail.letter.body);
       published = λ admin exists more.
-          still_pairs sc w (what.Published admin (master.next_of w.actors.master admin) ∷ []) [] (record w.actors { master = master.published admin w.actors.master }) h refl refl tt;
+          still_pairs sc w (what.Published admin (master.next_of w.actors.master admin) ∷ []) [] (record w.actors { master = master.after_publication admin w.actors.master }) h refl refl tt;
       pushed = λ admin server exists there. still_pairs sc w [] (master.pushes w.actors.master admin server).reaction.letters w.actors h refl refl (λ P. tt, tt);
       ticked = λ by. still_pairs sc w (what.Ticked by ∷ []) [] (record w.actors { authority = office.after_tick by w.actors.authority }) h refl refl tt;
       revoked = λ cred exists. still_pairs sc w (what.Revoked cred ∷ []) [] (record w.actors { authority = office.after_revocation cred w.actors.authority }) h refl refl tt;
@@ -468,18 +460,13 @@ bare_fits s epoch up asker fresh =
       entry = tt;
     }
 
-none_at : {A : Type 0} (count n : ℕ) → flattened (slice_get (replicate {A = Option A} count None) n) ≡ None
-none_at zero n = refl
-none_at (suc count) zero = refl
-none_at (suc count) (suc n) = none_at count n
-
 opened_asker : (sc : Scenario) (txn at : ℕ) (found : Option (Part Coordinator)) → slice_get (idle_coordinators sc (length sc.txns)) txn ≡ found
     → (option_and_then (asker_by at) found ≡ None) ⊎ (option_and_then (asker_by at) found ≡ Some fresh_asker)
 opened_asker sc txn at None e = inl refl
 opened_asker sc txn at (Some part) e =
     let is : part ≡ opened_part (coord_opened.idle sc (record { 0 = txn })) =
     made_from_zero (λ (k : ℕ) (found : Part Coordinator). found ≡ opened_part (coord_opened.idle sc (record { 0 = k }))) (λ (k : ℕ). opened_part (coord_opened.idle sc (record { 0 = k }))) (length sc.txns) (λ k. refl) txn part e in
-    inr (ap (asker_by at) is ∙ ap (λ (o : Option ℕ). Some (record { stand = Rests; turn = 0; epoch = o; deeds = [] })) (none_at (length sc.servers) at))
+    inr (ap (asker_by at) is ∙ ap (λ (o : Option ℕ). Some (record { stand = Rests; turn = 0; epoch = o; deeds = [] })) (unset_at (length sc.servers) at))
 
 opened_fits : (sc : Scenario) (txn : TxnId) (at : ℕ) (declared : Transaction) (asker : Option Asker) (found : Option (Part Server)) → slice_get (opened_servers sc (length sc.servers)) at ≡ found
     → (asker ≡ None) ⊎ (asker ≡ Some fresh_asker) → Fits (site_of sc at declared) (pair_by txn asker found)
@@ -487,7 +474,7 @@ opened_fits sc txn at declared asker None e fresh = bare_fits (site_of sc at dec
 opened_fits sc txn at declared asker (Some part) e fresh =
     let is : part ≡ opened_part (server_opened.opening sc (record { 0 = at })) =
     made_from_zero (λ (k : ℕ) (found : Part Server). found ≡ opened_part (server_opened.opening sc (record { 0 = k }))) (λ (k : ℕ). opened_part (server_opened.opening sc (record { 0 = k }))) (length sc.servers) (λ k. refl) at part e in
-    let none : entry_at (server_opened.opening sc (record { 0 = at })) txn ≡ None = none_at (length sc.txns) txn.0 in
+    let none : entry_at (server_opened.opening sc (record { 0 = at })) txn ≡ None = unset_at (length sc.txns) txn.0 in
     subst (λ (p : Part Server). Fits (site_of sc at declared) (pair_by txn asker (Some p))) (sym is)
     (subst (λ (entry : Option Entry). Fits (site_of sc at declared) (record { epoch = 1; up = true; settled = false; voted = false; entry = entry; prepared = None; asker = asker })) (sym none)
     (bare_fits (site_of sc at declared) 1 true asker fresh))

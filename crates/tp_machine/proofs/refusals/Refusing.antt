@@ -1,20 +1,20 @@
 -- A server refuses: the value is outside its item's range, and it is that of the transaction's run by itself on the store where it first aborted,
 -- since the server holds its share of what the coordinator has done, and that is the run.
 use Rattle.std.specs.List.{list_any}
-use Rattle.std.specs.Option.{option_map_or}
+use Rattle.std.specs.Option.{option_map_or, option_or}
 use Rattle.std.specs.Ordering.{int_eq}
 use Rattle.std.proofs.Common.{Bool, IfSome, List, MatchOption, None, Option, Some, [], ap, arith, false, find, if◌then◌else◌, inr, is_some, length, not, option_and_then, option_map, refl, slice_get, subst, suc, sym, true, zero, ℕ, ℤ, ◌+◌, ◌∙◌, ◌∷◌, ◌≡◌}
 use Rattle.std.proofs.lemmas.Bool.Decides.{Decides-int_eq, nat_tests}
-use Rattle.std.proofs.lemmas.Bool.{and_from, and_parts, eqb-true, or_left, or_parts, or_right}
+use Rattle.std.proofs.lemmas.Bool.{and_from, and_parts, eqb-true, not-true, or_left, or_parts, or_right}
 use Rattle.std.proofs.lemmas.List.Folds.{list_any-append}
 use Rattle.std.proofs.lemmas.Option.{same_Some, slice_get-map}
 use Rattle.tp_types.proofs.ListLemmas.{number_itself}
 use Rattle.tp_model.specs.Built.{is_built}
 use Rattle.tp_model.specs.Causes.{first_abort_of, is_outside_range, place_of}
-use Rattle.tp_model.specs.Facts.{before, first_of, is_settled_as}
+use Rattle.tp_model.specs.Facts.{before, is_settled_as}
 use Rattle.tp_model.specs.Ids.{same_item, same_server, same_txn}
 use Rattle.tp_model.specs.Limits.{is_between}
-use Rattle.tp_model.specs.SerialRun.{overlaid, run_value, serial_run, store_of}
+use Rattle.tp_model.specs.SerialRun.{overlay, run_value, serial_run, store_of}
 use Rattle.tp_model.specs.Words.actor
 use Rattle.tp_model.specs.Words.body
 use Rattle.tp_model.specs.Words.no
@@ -22,7 +22,7 @@ use Rattle.tp_model.specs.Words.outcome
 use Rattle.tp_model.specs.Words.what
 use Rattle.tp_model.specs.Words.{Actor, Deed, Fact, Item, ItemId, Mail, PrepareRequest, Scenario, ServerId, Transaction, TxnId, What}
 use Rattle.tp_machine.proofs.agreement.World.{Agrees}
-use Rattle.tp_machine.proofs.basics.Facts.{before_past, grows_with_facts, said}
+use Rattle.tp_machine.proofs.basics.Facts.{before_past, facts_after, grows_with_facts, said}
 use Rattle.tp_machine.proofs.basics.Lists.{each_get}
 use Rattle.tp_machine.proofs.pairs.Actors.{BodyPairs, LetterPairs, asker_of, entry_by, entry_up, is_part_up, pair_at, site_of, stand_of}
 use Rattle.tp_machine.proofs.pairs.Answered.{there_matches}
@@ -40,7 +40,6 @@ use Rattle.tp_machine.proofs.serial_data.Refused.{last_is_refused, last_is_run, 
 use Rattle.tp_machine.proofs.serial_data.Rows.{ServerReads, deeds_in}
 use Rattle.tp_machine.proofs.serial_data.Tentative.{AreLast, last_kept}
 use Rattle.tp_machine.proofs.serial_data.World.{Serial, ServerUpSerial}
-use Rattle.tp_machine.proofs.trust.World.{facts_after}
 use Rattle.tp_machine.proofs.walks.ServerRows.{IsRefusal}
 use Rattle.tp_machine.proofs.walks.Steps.{IsServerUp, WasSent}
 use Rattle.tp_machine.specs.Machine.{State, facts_of}
@@ -113,13 +112,10 @@ found_apart (first ∷ writes) zero write apart e =
     subst (λ (x : TentativeWrite). find (is_on x.item) (first ∷ writes) ≡ Some x) is (ap (λ (b : Bool). if b then Some first else find (is_on first.item) writes) (number_itself first.item.0))
 found_apart (first ∷ writes) (suc n) write apart e =
     let parts = and_parts (not (list_any (is_on first.item) writes)) (are_apart writes) apart in
-    let other : is_on first.item write ≡ false = not_on first.item write writes n write (not_true (list_any (is_on first.item) writes) parts.0) e in
+    let other : is_on first.item write ≡ false = not_on first.item write writes n write (not-true (list_any (is_on first.item) writes) parts.0) e in
     let apart_here : is_on write.item first ≡ false = other_way write.item first.item other in
     ap (λ (b : Bool). if b then Some first else find (is_on write.item) writes) apart_here ∙ found_apart writes n write parts.1 e
   where
-    not_true : (b : Bool) → not b ≡ true → b ≡ false
-    not_true b f = grind arith
-
     other_way : (one two : ItemId) → same_item one two ≡ false → same_item two one ≡ false
     other_way one two f = grind (arith, nat_tests)
 
@@ -195,7 +191,7 @@ first_now sc w at txn declared awaiting built a pairs serial h there prepares = 
         let happened = what.Settled at txn outcome.Abort ∷ [] in
         record {
           first = first;
-          first_is = first_abort_append txn w.facts (facts_of (length w.steps) happened) ∙ ap (λ (old : Option ℕ). first_of old (first_abort_of txn (facts_of (length w.steps) happened))) found;
+          first_is = first_abort_append txn w.facts (facts_of (length w.steps) happened) ∙ ap (λ (old : Option ℕ). option_or old (first_abort_of txn (facts_of (length w.steps) happened))) found;
           run = run_stays sc w.facts happened (length w.steps) first declared awaiting.c awaiting.c (keeps_same awaiting.c) (h.aborted txn declared first awaiting there found);
         }
     by_old None none =
@@ -205,7 +201,7 @@ first_now sc w at txn declared awaiting built a pairs serial h there prepares = 
         record {
           first = length w.steps;
           first_is = first_abort_append txn w.facts (facts_of (length w.steps) happened)
-              ∙ (ap (λ (old : Option ℕ). first_of old (first_abort_of txn (facts_of (length w.steps) happened))) none ∙ new);
+              ∙ (ap (λ (old : Option ℕ). option_or old (first_abort_of txn (facts_of (length w.steps) happened))) none ∙ new);
           run = run_at_abort sc w txn happened declared awaiting built a pairs serial h there prepares none;
         }
 
@@ -225,7 +221,7 @@ refusal_shown sc w n mail at part s p entry number value built sound a pairs ser
     first_now sc w at txn declared awaiting built a pairs serial h there (asked_prepares sc w n mail at p declared awaiting pairs sent k.said_is there) in
     let store = store_of sc (before found.first (facts_after w happened)) in
     let runs : awaiting.c.deeds ≡ serial_run declared store = found.run.runs in
-    let here : ServerUpSerial sc (overlaid sc w.facts) at s = subst (λ (u : Option Server). IfSome u (ServerUpSerial sc (overlaid sc w.facts) at)) up.up (serial.servers at.0 part up.found).state in
+    let here : ServerUpSerial sc (overlay sc w.facts) at s = subst (λ (u : Option Server). IfSome u (ServerUpSerial sc (overlay sc w.facts) at)) up.up (serial.servers at.0 part up.found).state in
     let out : IsOutsideWrite sc at entry.deeds number value = subst (λ (server : ServerId). IsOutsideWrite sc server entry.deeds number value) server_sound.server_is (outside_write sc s txn entry number value server_sound.sound here.reads k.found k.outside) in
     let own : IsItemAt sc at.0 out.write.item.0 = record { declared = out.item.declared; declared_is = out.item.declared_is; at_is = ap (λ (server : ServerId). server.0) out.item.server_is } in
     let last : last_kept out.write.item (serial_run declared store) ≡ Some out.write =

@@ -10,7 +10,7 @@ use Rattle.tp_model.specs.Built.{is_built}
 use Rattle.tp_model.specs.Causes.{first_abort_of, is_abort, is_abort_what, place_of}
 use Rattle.tp_model.specs.Facts.{is_settled_as, is_settled_what, outcome_of, same_outcome}
 use Rattle.tp_model.specs.Ids.{same_server, same_txn}
-use Rattle.tp_model.specs.SerialRun.{overlaid, serial_run, store_of}
+use Rattle.tp_model.specs.SerialRun.{overlay, serial_run, store_of}
 use Rattle.tp_model.specs.Valid.{is_valid_txn}
 use Rattle.tp_model.specs.Words.outcome
 use Rattle.tp_model.specs.Words.what
@@ -212,12 +212,12 @@ shares_at sc w txn declared awaiting at true item valid agrees pairs serial unbo
     kept_share sc w txn declared awaiting at there a.epoch agrees pairs unbooted running refl (asker_fits sc w txn at.0 declared awaiting pairs running.declared_is).pairing
 
 -- what stands in an entry was read from the server's values, which the store has
-share_read : (sc : Scenario) (w : State) (txn : TxnId) (deeds : List Deed) (at : ℕ) → Serial sc w → (share_at sc at deeds ≡ []) ⊎ HasShare sc w txn deeds at → ReadsFrom (overlaid sc w.facts) (share_at sc at deeds)
+share_read : (sc : Scenario) (w : State) (txn : TxnId) (deeds : List Deed) (at : ℕ) → Serial sc w → (share_at sc at deeds ≡ []) ⊎ HasShare sc w txn deeds at → ReadsFrom (overlay sc w.facts) (share_at sc at deeds)
 share_read sc w txn deeds at serial shares =
-    ⊎_elim (λ (nothing : share_at sc at deeds ≡ []). subst (ReadsFrom (overlaid sc w.facts)) (sym nothing) tt)
+    ⊎_elim (λ (nothing : share_at sc at deeds ≡ []). subst (ReadsFrom (overlay sc w.facts)) (sym nothing) tt)
     (λ (h : HasShare sc w txn deeds at).
-    let here : ServerUpSerial sc (overlaid sc w.facts) (server_number at) h.s = of_some (ServerUpSerial sc (overlaid sc w.facts) (server_number at)) h.part.up h.s h.up.up (serial.servers at h.part h.up.found).state in
-    share_reads sc at h.s.store.values (overlaid sc w.facts) deeds (λ k item item_there home. here.values k item item_there (ap server_number home))
+    let here : ServerUpSerial sc (overlay sc w.facts) (server_number at) h.s = of_some (ServerUpSerial sc (overlay sc w.facts) (server_number at)) h.part.up h.s h.up.up (serial.servers at h.part h.up.found).state in
+    share_reads sc at h.s.store.values (overlay sc w.facts) deeds (λ k item item_there home. here.values k item item_there (ap server_number home))
     (subst (ReadsFrom h.s.store.values) h.deeds_are (here.reads.reads txn.0 h.entry h.found))) shares
 
 -- ---- its run
@@ -231,7 +231,7 @@ run_now sc w txn declared awaiting built agrees pairs serial unbooted running =
     let old = asker_fits sc w txn 0 declared awaiting pairs running.declared_is in
     let shares : HasShares sc w txn awaiting.c.deeds = λ n. shares_at sc w txn declared awaiting (server_number n) (has_item_at sc (server_number n) txn) refl valid agrees pairs serial unbooted running in
     let none : decided_at w.actors.coordinators txn.0 ≡ None = ap (option_and_then decided_by) awaiting.found ∙ undecided_yet sc w txn awaiting agrees in
-    commit_serial sc declared (IsUnsettled sc w.actors) (λ (n : ℕ). overlaid sc w.facts) (store_of sc w.facts) awaiting.c.deeds valid_txn
+    commit_serial sc declared (IsUnsettled sc w.actors) (λ (n : ℕ). overlay sc w.facts) (store_of sc w.facts) awaiting.c.deeds valid_txn
     (store_within sc (store_of sc w.facts) valid (store_length sc w.facts) serial.range) old.runs (old.all running.prepares)
     (λ n. share_read sc w txn awaiting.c.deeds n serial (shares n)) serial.store
     (commit_clear sc w txn declared awaiting.c.deeds built agrees serial running.declared_is none old.runs shares)

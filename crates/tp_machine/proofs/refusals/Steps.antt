@@ -3,11 +3,12 @@
 use Rattle.std.specs.List.{list_any}
 use Rattle.std.proofs.Common.{Bool, IfSome, List, None, Option, Some, [], ap, arith, false, if◌then◌else◌, length, option_and_then, option_map, refl, slice_get, slice_set, subst, sym, true, ℕ, ℤ, ◌++◌, ◌+◌, ◌==◌, ◌∙◌, ◌∷◌, ◌≡◌}
 use Rattle.std.proofs.lemmas.Bool.{and_parts, eqb-true}
-use Rattle.std.proofs.lemmas.Option.{cond_some, same_Some}
+use Rattle.std.proofs.lemmas.Option.{cond_some, none-some, same_Some}
 use Rattle.tp_types.specs.Effect.{Effect}
 use Rattle.tp_model.specs.Built.{is_built}
 use Rattle.tp_model.specs.Causes.{first_abort_of, is_abort_what, place_of}
-use Rattle.tp_model.specs.Facts.{before, first_of, is_settled_as, outcome_of, same_outcome}
+use Rattle.std.specs.Option.{option_or}
+use Rattle.tp_model.specs.Facts.{before, is_settled_as, outcome_of, same_outcome}
 use Rattle.tp_model.specs.Ids.{same_txn}
 use Rattle.tp_model.specs.Words.actor
 use Rattle.tp_model.specs.Words.body
@@ -19,14 +20,14 @@ use Rattle.tp_model.specs.Words.outcome
 use Rattle.tp_model.specs.Words.step
 use Rattle.tp_model.specs.Words.vote
 use Rattle.tp_model.specs.Words.what
-use Rattle.tp_model.specs.Words.{Actor, Body, DecideRequest, Fact, Letter, Mail, Record, Scenario, ServerId, Settled, Step, Transaction, TxnId, VoteReply, What}
+use Rattle.tp_model.specs.Words.{Actor, Body, DecideRequest, Letter, Mail, Record, Scenario, ServerId, Settled, Step, Transaction, TxnId, VoteReply, What}
 use Rattle.tp_machine.proofs.agreement.Coordinator.{idle_is}
 use Rattle.tp_machine.proofs.agreement.CoordinatorActs.{coordinator_facts}
-use Rattle.tp_machine.proofs.agreement.ServerActs.{server_facts}
+use Rattle.tp_machine.proofs.agreement.ServerActs.{each_server_fact, server_facts}
 use Rattle.tp_machine.proofs.agreement.Steps.{mail_rests, own_txn}
 use Rattle.tp_machine.proofs.agreement.World.{Agrees, BodyRests, MailRests, VoteRests}
-use Rattle.tp_machine.proofs.basics.Facts.{ArePast, before_past, grows_with_facts}
-use Rattle.tp_machine.proofs.basics.Ids.{same_txn_is, server_number}
+use Rattle.tp_machine.proofs.basics.Facts.{ArePast, before_past, facts_after, grows_with_facts}
+use Rattle.tp_machine.proofs.basics.Ids.{same_txn_from, same_txn_is, server_number}
 use Rattle.tp_machine.proofs.basics.Lists.{at_made, each_get}
 use Rattle.tp_machine.proofs.basics.Logs.{appended, gained, get_set, settled_with}
 use Rattle.tp_machine.proofs.basics.Phases.{awaits_is, is_undecided}
@@ -38,7 +39,6 @@ use Rattle.tp_machine.proofs.refusals.Running.{undecided_yet}
 use Rattle.tp_machine.proofs.refusals.Unbooted.{Unbooted, unbooted_next, unbooted_opening}
 use Rattle.tp_machine.proofs.refusals.World.{AreAbortedRuns, IsAwaiting, IsRunBefore, KeepsDeeds, MoveRefuses, ReasonShown, Refusals, WhatRefused, keeps_same, old_run, old_shown, refused_stays, state_after_refusals}
 use Rattle.tp_machine.proofs.serial_data.World.{Serial}
-use Rattle.tp_machine.proofs.trust.World.{facts_after}
 use Rattle.tp_machine.proofs.walks.CoordinatorRows.{coordinator_by}
 use Rattle.tp_machine.proofs.walks.ServerRows.{server_by}
 use Rattle.tp_machine.proofs.walks.Steps.{Cases, IsCoordinatorUp, IsServerUp, SaysIdle, WasSent, WaitRightly, machine_after_by}
@@ -140,9 +140,6 @@ no_settled w from said reply server number value sc to rests e f g =
     let here : BodyRests sc w.actors (actor.Server server) to (body.Vote reply) = subst (λ (b : Body). BodyRests sc w.actors (actor.Server server) to b) e (subst (λ (a : Actor). BodyRests sc w.actors a to said) f rests) in
     subst (VoteRests w.actors server reply.txn) g here
 
-same_coordinator : (one other : TxnId) → actor.Coordinator one ≡ actor.Coordinator other → other ≡ one
-same_coordinator one other e = cc
-
 coordinator_row_shown : (sc : Scenario) (w : State) (txn : TxnId) (part : Part Coordinator) (c : Coordinator) (n : ℕ) (mail : Mail) → IsSound sc w → Agrees sc w → Refusals sc w → WasSent w n mail (actor.Coordinator txn)
     → IsCoordinatorUp w txn part c → IfSome (coordinator_row sc c mail).reaction.append (DecisionShown sc w (coordinator_facts (coordinator_row sc c mail).reaction.append))
 coordinator_row_shown sc w txn part c n mail sound a h sent up =
@@ -175,7 +172,7 @@ coordinator_row_shown sc w txn part c n mail sound a h sent up =
         let says : IsSoundBody sc (actor.Coordinator txn) mail.letter.body =
         subst (λ (to : Actor). IsSoundBody sc to mail.letter.body) sent.goes_to (each_get (IsSoundMail sc) w.mails n mail sound.mails_are sent.sent).says in
         let said : IsSoundBody sc (actor.Coordinator txn) (body.Vote reply) = subst (IsSoundBody sc (actor.Coordinator txn)) e says in
-        same_coordinator txn reply.txn said.goes_to
+        same_txn_from txn reply.txn said.goes_to
 
 -- what a coordinator forces tells of no abort at a server
 none_told : (txn : TxnId) (place : ℕ) (append : Option Record) → first_abort_of txn (facts_of place (coordinator_facts append)) ≡ None
@@ -212,14 +209,6 @@ record IsSettlementShown (sc : Scenario) (w : State) (at : ServerId) (happened :
 abbrev SettlementShown : Scenario → State → ServerId → List What → Record → Type 0
 SettlementShown sc w at happened (log.Settled s) = (awaiting : IsAwaiting w.actors.coordinators s.txn) → IsSettlementShown sc w at happened s awaiting
 SettlementShown sc w at happened _ = Unit {0}
-
-server_told : (sc : Scenario) (all : List Fact) (place : ℕ) (at : ServerId) (append : Option Record) → Each (WhatRefused sc all place) (server_facts at append)
-server_told sc all place at None = tt
-server_told sc all place at (Some (log.Settled s)) = (tt, tt)
-server_told sc all place at (Some (log.Decided d)) = tt
-server_told sc all place at (Some log.Boot) = tt
-server_told sc all place at (Some (log.Told told)) = tt
-server_told sc all place at (Some (log.Prepared p)) = tt
 
 server_row_shown : (sc : Scenario) (w : State) (n : ℕ) (mail : Mail) (at : ServerId) (part : Part Server) (s : Server) → is_built sc ≡ true → WaitRightly sc w → IsSound sc w → Agrees sc w → Pairs sc w → Serial sc w → Refusals sc w
     → WasSent w n mail (actor.Server at) → IsServerUp w at part s → IfSome (server_row sc s mail).reaction.append (SettlementShown sc w at (server_facts at (server_row sc s mail).reaction.append))
@@ -279,7 +268,7 @@ new_run sc w at (Some (log.Told told)) txn declared first awaiting built a pairs
 new_run sc w at (Some (log.Prepared p)) txn declared first awaiting built a pairs serial h shown exists none now = absurd (cc)
 
 -- what is settled after the act was settled before it, or by it
-newly_settled : (sc : Scenario) (w : State) (at : ServerId) (txn : TxnId) (kept : List Record) (append : Option Record) (settled : Settled) (R : Type 0) → first_of (settled_in txn kept) (appended (settlement_in txn) append) ≡ Some settled
+newly_settled : (sc : Scenario) (w : State) (at : ServerId) (txn : TxnId) (kept : List Record) (append : Option Record) (settled : Settled) (R : Type 0) → option_or (settled_in txn kept) (appended (settlement_in txn) append) ≡ Some settled
     → (settled_in txn kept ≡ Some settled → R) → ((s : Settled) → append ≡ Some (log.Settled s) → s.txn ≡ txn → s ≡ settled → R) → R
 newly_settled sc w at txn kept append settled R e old new = by_old (settled_in txn kept) refl e
   where
@@ -293,7 +282,7 @@ newly_settled sc w at txn kept append settled R e old new = by_old (settled_in t
     by_record (Some (log.Told told)) f g = absurd (cc)
     by_record (Some (log.Prepared p)) f g = absurd (cc)
 
-    by_old : (found : Option Settled) → settled_in txn kept ≡ found → first_of found (appended (settlement_in txn) append) ≡ Some settled → R
+    by_old : (found : Option Settled) → settled_in txn kept ≡ found → option_or found (appended (settlement_in txn) append) ≡ Some settled → R
     by_old None f g = by_record append refl g
     by_old (Some was) f g = old (f ∙ g)
 
@@ -314,7 +303,7 @@ server_moves sc w at part s effect built a pairs serial h up shown =
       aborted = λ txn declared first awaiting exists e.
           old_run sc w facts txn declared first awaiting awaiting.c h exists (keeps_same awaiting.c)
           (λ none now. new_run sc w at append txn declared first awaiting built a pairs serial h shown exists none now) e;
-      happened = server_told sc (facts_after w facts) (length w.steps) at append;
+      happened = each_server_fact (WhatRefused sc (facts_after w facts) (length w.steps)) at (λ txn ended. tt) append;
     })
   where
     by_server : (other : ServerId) (txn : TxnId) (settled : Settled) → IsAwaiting w.actors.coordinators txn → (b : Bool) → (at.0 == other.0) ≡ b
@@ -369,7 +358,7 @@ refusals_cases sc w built rightly sound a pairs serial h =
       authority_told = λ n mail sent. still_refuses sc w [] w.actors (office.authority_row w.actors.authority mail).reaction.letters h refl refl (λ txn. refl) tt;
       master_told = λ n mail sent. still_refuses sc w [] w.actors (master.master_row w.actors.master mail).reaction.letters h refl refl (λ txn. refl) tt;
       published = λ admin exists more.
-          still_refuses sc w (what.Published admin (master.next_of w.actors.master admin) ∷ []) (record w.actors { master = master.published admin w.actors.master }) [] h refl refl (λ txn. refl) (tt, tt);
+          still_refuses sc w (what.Published admin (master.next_of w.actors.master admin) ∷ []) (record w.actors { master = master.after_publication admin w.actors.master }) [] h refl refl (λ txn. refl) (tt, tt);
       pushed = λ admin server exists there. still_refuses sc w [] w.actors (master.pushes w.actors.master admin server).reaction.letters h refl refl (λ txn. refl) tt;
       ticked = λ by. still_refuses sc w (what.Ticked by ∷ []) (record w.actors { authority = office.after_tick by w.actors.authority }) [] h refl refl (λ txn. refl) (tt, tt);
       revoked = λ cred exists. still_refuses sc w (what.Revoked cred ∷ []) (record w.actors { authority = office.after_revocation cred w.actors.authority }) [] h refl refl (λ txn. refl) (tt, tt);
@@ -397,15 +386,12 @@ refusals_opening sc =
     record {
       settled = λ at txn settled e awaiting.
           let none = no_settlement sc at txn (slice_get (opening_state sc).actors.servers at.0) refl in
-          absurd (not_settled settled (sym none ∙ e));
+          absurd (none-some settled (sym none ∙ e));
       aborted = λ txn declared first awaiting exists e. absurd (cc);
       facts = tt;
       unbooted = unbooted_opening sc;
     }
   where
-    not_settled : (settled : Settled) → None ≡ Some settled → ⊥
-    not_settled settled e = cc
-
     no_settlement : (sc : Scenario) (at : ServerId) (txn : TxnId) (part : Option (Part Server)) → slice_get (opening_state sc).actors.servers at.0 ≡ part → option_and_then (settled_by txn) part ≡ None
     no_settlement sc at txn None e = refl
     no_settlement sc at txn (Some part) e =

@@ -1,9 +1,10 @@
 -- No server was ever booted: each is in its first epoch, and no entry, no answer and no coordinator tells of another. This goes when boots are built.
-use Rattle.std.proofs.Common.{IfSome, List, None, Option, Some, [], arith, length, map, refl, slice_get, slice_set, subst, sym, ℕ, ℤ, ⊎_elim, ◌+◌, ◌==◌, ◌∷◌, ◌≡◌}
+use Rattle.std.proofs.Common.{IfSome, List, None, Option, Some, [], arith, length, map, refl, slice_get, slice_set, subst, sym, ℕ, ℤ, ⊎_elim, ◌==◌, ◌∷◌, ◌≡◌}
 use Rattle.tp_types.specs.Effect.{Effect}
 use Rattle.tp_model.specs.Words.body
 use Rattle.tp_model.specs.Words.what
 use Rattle.tp_model.specs.Words.{Body, DoneReply, Letter, Mail, Query, QueryRequest, Record, Scenario, ServerId, Settled, Step, TxnId, What}
+use Rattle.tp_machine.proofs.basics.Facts.{each_new_mail}
 use Rattle.tp_machine.proofs.basics.Lists.{at_made, at_set, each_append, each_found, each_get, each_more, placed_emptied, placed_none, placed_set}
 use Rattle.tp_machine.proofs.epochs.Server.{boot_of, boots_push}
 use Rattle.tp_machine.proofs.walks.CoordinatorRows.{coordinator_by, submit_by}
@@ -202,16 +203,12 @@ record MoveUnbooted (w : State) (move : Move) : Type 0 where
   pub actors_are : AreUnbooted move.actors w.mails
   pub letters : Each LetterUnbooted move.letters
 
-new_mails : (sent number : ℕ) (letters : List Letter) → Each LetterUnbooted letters → Each MailUnbooted (mails_of sent number letters)
-new_mails sent number [] h = tt
-new_mails sent number (letter ∷ letters) h = (h.0, new_mails sent (number + 1) letters h.1)
-
 state_after_unbooted : (w : State) (taken : Step) (move : Move) → MoveUnbooted w move → Unbooted (state_after w taken move)
 state_after_unbooted w taken move t =
     record {
       servers = t.actors_are.servers;
       coordinators = t.actors_are.coordinators;
-      mails = each_append MailUnbooted w.mails (mails_of (length w.steps) (length w.mails) move.letters) t.actors_are.mails (new_mails (length w.steps) (length w.mails) move.letters t.letters);
+      mails = each_append MailUnbooted w.mails (mails_of (length w.steps) (length w.mails) move.letters) t.actors_are.mails (each_new_mail (λ sent. LetterUnbooted) (length w.steps) (length w.mails) move.letters t.letters);
     }
 
 server_moves : (w : State) (at : ServerId) (part : Part Server) (effect : Effect Server) → Unbooted w → slice_get w.actors.servers at.0 ≡ Some part → RowUnbooted effect
@@ -281,7 +278,7 @@ unbooted_cases sc w rightly h =
           (coordinator_row_unbooted sc c mail (coordinator_is w txn part c h up) (each_get MailUnbooted w.mails n mail h.mails sent.sent));
       authority_told = λ n mail sent. still w w.actors [] (office.authority_row w.actors.authority mail).reaction.letters h refl refl (tells_none w.actors.authority mail.letter.body);
       master_told = λ n mail sent. still w w.actors [] (master.master_row w.actors.master mail).reaction.letters h refl refl (newest_none w.actors.master mail.letter.body);
-      published = λ admin exists more. still w (record w.actors { master = master.published admin w.actors.master }) (what.Published admin (master.next_of w.actors.master admin) ∷ []) [] h refl refl tt;
+      published = λ admin exists more. still w (record w.actors { master = master.after_publication admin w.actors.master }) (what.Published admin (master.next_of w.actors.master admin) ∷ []) [] h refl refl tt;
       pushed = λ admin server exists there. still w w.actors [] (master.pushes w.actors.master admin server).reaction.letters h refl refl (tt, tt);
       ticked = λ by. still w (record w.actors { authority = office.after_tick by w.actors.authority }) (what.Ticked by ∷ []) [] h refl refl tt;
       revoked = λ cred exists. still w (record w.actors { authority = office.after_revocation cred w.actors.authority }) (what.Revoked cred ∷ []) [] h refl refl tt;

@@ -2,14 +2,14 @@
 -- transaction with, and once a server has aborted it the coordinator has done what the transaction does by itself on the store at the first
 -- abort; and facts show the value of each abort for a value out of its range.
 use Rattle.std.specs.List.{list_any}
-use Rattle.std.specs.Option.{option_map_or}
+use Rattle.std.specs.Option.{option_map_or, option_or}
 use Rattle.std.specs.Ordering.{int_eq}
 use Rattle.std.proofs.Common.{Bool, IfSome, List, None, Option, Some, [], ap, arith, false, find, if◌then◌else◌, length, option_map, refl, slice_get, subst, sym, true, ℕ, ◌++◌, ◌+◌, ◌<◌, ◌∙◌, ◌∷◌, ◌≡◌, ◌≤◌}
 use Rattle.std.proofs.lemmas.Bool.{or_left}
 use Rattle.std.proofs.lemmas.List.Folds.{list_any-append}
 use Rattle.std.proofs.lemmas.List.{length_push}
 use Rattle.tp_model.specs.Causes.{first_abort_of, has_refused_write, is_abort, is_run_value, place_of}
-use Rattle.tp_model.specs.Facts.{before, first_of, is_settled_as}
+use Rattle.tp_model.specs.Facts.{before, is_settled_as}
 use Rattle.tp_model.specs.SerialRun.{run_value, serial_run, store_of}
 use Rattle.tp_model.specs.Words.cause
 use Rattle.tp_model.specs.Words.decision
@@ -17,7 +17,7 @@ use Rattle.tp_model.specs.Words.no
 use Rattle.tp_model.specs.Words.outcome
 use Rattle.tp_model.specs.Words.what
 use Rattle.tp_model.specs.Words.{Fact, No, OutOfRange, Scenario, ServerId, Settled, Step, Transaction, TxnId, What}
-use Rattle.tp_machine.proofs.basics.Facts.{ArePast, grows_with_facts}
+use Rattle.tp_machine.proofs.basics.Facts.{ArePast, each_new_fact, facts_after, grows_with_facts}
 use Rattle.tp_machine.proofs.basics.Lists.{each_append}
 use Rattle.tp_machine.proofs.basics.Phases.{is_undecided}
 use Rattle.tp_machine.proofs.pairs.Actors.{stand_of}
@@ -154,29 +154,21 @@ run_stays sc facts happened place first declared old new keeps h =
     record { prepares = kept.prepares; past = omega (arith, past); runs = kept.deeds ∙ (h.runs ∙ ap (λ (found : List Fact). serial_run declared (store_of sc found)) (sym same)) }
 
 -- the first abort is among the facts, or else among those that are added
-pub first_abort_append : (txn : TxnId) (facts more : List Fact) → first_abort_of txn (facts ++ more) ≡ first_of (first_abort_of txn facts) (first_abort_of txn more)
+pub first_abort_append : (txn : TxnId) (facts more : List Fact) → first_abort_of txn (facts ++ more) ≡ option_or (first_abort_of txn facts) (first_abort_of txn more)
 first_abort_append txn [] more = refl
 first_abort_append txn (fact ∷ facts) more = by_test (is_abort txn fact) (first_abort_append txn facts more)
   where
-    by_test : (b : Bool) → first_abort_of txn (facts ++ more) ≡ first_of (first_abort_of txn facts) (first_abort_of txn more)
-        → option_map place_of (if b then Some fact else find (is_abort txn) (facts ++ more)) ≡ first_of (option_map place_of (if b then Some fact else find (is_abort txn) facts)) (first_abort_of txn more)
+    by_test : (b : Bool) → first_abort_of txn (facts ++ more) ≡ option_or (first_abort_of txn facts) (first_abort_of txn more)
+        → option_map place_of (if b then Some fact else find (is_abort txn) (facts ++ more)) ≡ option_or (option_map place_of (if b then Some fact else find (is_abort txn) facts)) (first_abort_of txn more)
     by_test true later = refl
     by_test false later = later
 
 -- ---- a move
 
--- the facts after a move
-abbrev pub facts_after : State → List What → List Fact
-facts_after w happened = w.facts ++ facts_of (length w.steps) happened
-
 pub record MoveRefuses (sc : Scenario) (w : State) (move : Move) : Type 0 where
   pub settled : AreSettledShown sc move.actors (facts_after w move.happened) (length w.steps + 1)
   pub aborted : AreAbortedRuns sc move.actors.coordinators (facts_after w move.happened) (length w.steps + 1)
   pub happened : Each (WhatRefused sc (facts_after w move.happened) (length w.steps)) move.happened
-
-new_facts : (sc : Scenario) (all : List Fact) (place : ℕ) (happened : List What) → Each (WhatRefused sc all place) happened → Each (FactRefused sc all) (facts_of place happened)
-new_facts sc all place [] h = tt
-new_facts sc all place (w ∷ happened) h = (h.0, new_facts sc all place happened h.1)
 
 pub state_after_refusals : (sc : Scenario) (w : State) (taken : Step) (move : Move) → ArePast (length w.steps) w.facts → Refusals sc w → MoveRefuses sc w move → Unbooted (state_after w taken move)
     → Refusals sc (state_after w taken move)
@@ -187,7 +179,7 @@ state_after_refusals sc w taken move past h t unbooted =
       unbooted = unbooted;
       facts = each_append (FactRefused sc (facts_after w move.happened)) w.facts (facts_of (length w.steps) move.happened)
           (facts_stay sc w.facts move.happened (length w.steps) w.facts past h.facts)
-          (new_facts sc (facts_after w move.happened) (length w.steps) move.happened t.happened);
+          (each_new_fact (WhatRefused sc (facts_after w move.happened)) (length w.steps) move.happened t.happened);
     }
 
 -- what was settled before the step, where the coordinator was awaiting before it
@@ -206,7 +198,7 @@ pub old_run : (sc : Scenario) (w : State) (happened : List What) (txn : TxnId) (
 old_run sc w happened txn declared first awaiting new h exists keeps now e =
     by_old (first_abort_of txn w.facts) refl (sym (first_abort_append txn w.facts (facts_of (length w.steps) happened)) ∙ e)
   where
-    by_old : (old : Option ℕ) → first_abort_of txn w.facts ≡ old → first_of old (first_abort_of txn (facts_of (length w.steps) happened)) ≡ Some first
+    by_old : (old : Option ℕ) → first_abort_of txn w.facts ≡ old → option_or old (first_abort_of txn (facts_of (length w.steps) happened)) ≡ Some first
         → IsRunBefore sc (facts_after w happened) (length w.steps + 1) first declared new
     by_old None none later = now none later
     by_old (Some was) found later =

@@ -1,21 +1,20 @@
 -- What locks give serial data: what a transaction has done at a server is clear of what others did there, and what it commits is clear of all
 -- commits that are not settled.
-use Rattle.std.specs.Option.{option_map_or}
-use Rattle.std.proofs.Common.{Bool, IfSome, List, None, Option, Some, [], ap, false, filter, if◌then◌else◌, inl, inr, is_some, length, option_and_then, refl, slice_get, subst, suc, sym, true, zero, ℕ, ⊎_elim, ◌<◌, ◌==◌, ◌∙◌, ◌∷◌, ◌≡◌, ◌⊎◌}
+use Rattle.std.specs.Option.{option_flatten, option_map_or}
+use Rattle.std.proofs.Common.{Bool, IfSome, List, None, Option, Some, [], ap, false, filter, if◌then◌else◌, inl, inr, is_some, length, option_and_then, refl, slice_get, subst, sym, true, ℕ, ⊎_elim, ◌<◌, ◌==◌, ◌∙◌, ◌∷◌, ◌≡◌, ◌⊎◌}
 use Rattle.std.proofs.lemmas.Option.{same_Some}
 use Rattle.tp_types.proofs.ListLemmas.{number_itself}
-use Rattle.tp_types.specs.Table.{flattened}
 use Rattle.tp_model.specs.Agreement.{has_item_at}
 use Rattle.tp_model.specs.Built.{is_built}
-use Rattle.tp_model.specs.Queries.{item_of, query_at}
 use Rattle.tp_model.specs.Words.decision
 use Rattle.tp_model.specs.Words.outcome
-use Rattle.tp_model.specs.Words.{Decision, Deed, Item, ItemId, Prepared, Query, Scenario, Transaction, TxnId}
+use Rattle.tp_model.specs.Words.{Decision, Deed, Item, ItemId, Prepared, Scenario, Transaction, TxnId}
 use Rattle.tp_machine.proofs.agreement.Coordinator.{DecisionRests}
 use Rattle.tp_machine.proofs.agreement.Logs.{IsPrepared, IsServed, settled_outcome}
 use Rattle.tp_machine.proofs.agreement.Server.{ServerAgrees}
 use Rattle.tp_machine.proofs.agreement.World.{Agrees}
-use Rattle.tp_machine.proofs.basics.Lists.{each_as, each_both, each_get, missing}
+use Rattle.tp_machine.proofs.basics.Homes.{on_item}
+use Rattle.tp_machine.proofs.basics.Lists.{each_as, each_both, missing}
 use Rattle.tp_machine.proofs.basics.Servers.{among_servers}
 use Rattle.tp_machine.proofs.ids.Queries.{AreOnItems, queries_on_items}
 use Rattle.tp_machine.proofs.ids.Valid.{IsValid, valid_built}
@@ -48,7 +47,7 @@ use Rattle.tp_server.specs.State.{Server}
 pub clear_of_others : (sc : Scenario) (s : Server) (txn : TxnId) → IsLockedServer sc s → IsClearOfOthers s txn
 clear_of_others sc s txn h = λ n other found apart. by_entry (entry_at s txn) refl n other found apart
   where
-    by_entry : (own : Option Entry) → entry_at s txn ≡ own → (n : ℕ) (other : Entry) → flattened (slice_get s.entries n) ≡ Some other → (n ≡ txn.0 → ⊥) → AreClear (deeds_in own) other.deeds
+    by_entry : (own : Option Entry) → entry_at s txn ≡ own → (n : ℕ) (other : Entry) → option_flatten (slice_get s.entries n) ≡ Some other → (n ≡ txn.0 → ⊥) → AreClear (deeds_in own) other.deeds
     by_entry None e n other found apart = tt
     by_entry (Some entry) e n other found apart = entries_apart sc s.entries s.locks txn.0 n entry other h (λ same. apart (sym same)) e found
 
@@ -176,13 +175,9 @@ item_found sc n within = there (slice_get sc.items n) refl
     there None e = absurd (missing sc.items n within e)
     there (Some item) e = (item, e)
 
-query_on_item : (sc : Scenario) (declared : Transaction) (number : ℕ) (query : Query) → AreOnItems sc declared.queries → query_at declared number ≡ Some query → (item_of query).0 < length sc.items
-query_on_item sc declared zero query h e = absurd (cc)
-query_on_item sc declared (suc before) query h e = each_get (λ (q : Query). (item_of q).0 < length sc.items) declared.queries before query h e
-
 deed_clear : (sc : Scenario) (w : State) (declared : Transaction) (deed : Deed) → AreOnItems sc declared.queries → IsDeedOf declared deed → ((other : IsOther sc w) → IsClearOf sc w other deed) → IsClearAtHome sc (IsUnsettled sc w.actors) deed
 deed_clear sc w declared deed on h clear =
-    let found = item_found sc deed.item.0 (subst (λ (item : ItemId). item.0 < length sc.items) (sym h.item_is) (query_on_item sc declared deed.query h.query on h.query_is)) in
+    let found = item_found sc deed.item.0 (subst (λ (item : ItemId). item.0 < length sc.items) (sym h.item_is) (on_item sc declared deed.query h.query on h.query_is)) in
     let home : is_at sc found.0.server.0 deed ≡ true = at_home sc deed found.0 found.0.server.0 found.1 ∙ number_itself found.0.server.0 in
     record { item = found.0; item_is = found.1; clear = λ others u. clear (record { at = found.0.server.0; others = others; unsettled = u }) home }
 

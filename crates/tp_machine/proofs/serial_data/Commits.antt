@@ -5,9 +5,9 @@ use Rattle.std.proofs.lemmas.Option.{same_Some}
 use Rattle.std.specs.List.{AllByRecursion}
 use Rattle.tp_model.specs.Words.{Action, Deed, Item, Scenario, Transaction}
 use Rattle.tp_model.specs.Words.action
-use Rattle.tp_model.specs.Facts.{first_of}
+use Rattle.std.specs.Option.{option_or}
 use Rattle.tp_model.proofs.RunBounds.{IsWithin}
-use Rattle.tp_model.specs.SerialRun.{serial_run, stored_all}
+use Rattle.tp_model.specs.SerialRun.{serial_run, with_deeds}
 use Rattle.tp_model.specs.Valid.{is_valid_txn}
 use Rattle.tp_machine.specs.Sound.{Each}
 use Rattle.tp_machine.proofs.basics.Logs.{first_none}
@@ -31,9 +31,9 @@ written_elsewhere action.Write deed item true e apart = absurd (apart (eqb-true 
 written_elsewhere action.Write deed item false e apart = ap (λ (c : Bool). if c then Some deed.value else None) e
 
 share_written : (item : ℕ) (deed : Deed) (deeds share : List Deed) (b : Bool) → last_write item share ≡ last_write item deeds → (b ≡ false → written item deed ≡ None)
-    → last_write item (cond b (deed ∷ share) share) ≡ first_of (last_write item deeds) (written item deed)
-share_written item deed deeds share true same none = ap (λ (last : Option ℤ). first_of last (written item deed)) same
-share_written item deed deeds share false same none = same ∙ (sym (first_none (last_write item deeds)) ∙ ap (first_of (last_write item deeds)) (sym (none refl)))
+    → last_write item (cond b (deed ∷ share) share) ≡ option_or (last_write item deeds) (written item deed)
+share_written item deed deeds share true same none = ap (λ (last : Option ℤ). option_or last (written item deed)) same
+share_written item deed deeds share false same none = same ∙ (sym (first_none (last_write item deeds)) ∙ ap (option_or (last_write item deeds)) (sym (none refl)))
 
 own_at : (sc : Scenario) (at item : ℕ) (deed : Deed) → IsItemAt sc at item → deed.item.0 ≡ item → is_at sc at deed ≡ true
 own_at sc at item deed own same = at_home sc deed own.declared at (ap (slice_get sc.items) same ∙ own.declared_is) ∙ eq-eqb own.declared.server.0 at own.at_is
@@ -62,7 +62,7 @@ clear_written action.Write deed other clear =
 pub clear_last : (deed : Deed) (others : List Deed) → Each (IsClear deed) others → last_write deed.item.0 others ≡ None
 clear_last deed [] clear = refl
 clear_last deed (other ∷ others) clear =
-    ap (λ (last : Option ℤ). first_of last (written deed.item.0 other)) (clear_last deed others clear.1) ∙ clear_written other.action deed other clear.0
+    ap (λ (last : Option ℤ). option_or last (written deed.item.0 other)) (clear_last deed others clear.1) ∙ clear_written other.action deed other clear.0
 
 clear_agrees : (sc : Scenario) (P : ℕ → List Deed → Type 0) (values : ℕ → List ℤ) (store : List ℤ) (deed : Deed) → ((at : ℕ) → StoreFits (IsItemAt sc at) (P at) (values at) store) → IsClearAtHome sc P deed → AgreesAt sc values store deed
 clear_agrees sc P values store deed fits h =
@@ -98,22 +98,22 @@ pub clear_apart : (sc : Scenario) (P : ℕ → List Deed → Type 0) (at item : 
     → last_write item deeds ≡ None
 clear_apart sc P at item others v [] own p e h = refl
 clear_apart sc P at item others v (deed ∷ deeds) own p e h =
-    ap (λ (last : Option ℤ). first_of last (written item deed)) (clear_apart sc P at item others v deeds own p e h.1) ∙ clear_unwritten sc P at item others v deed own p e h.0
+    ap (λ (last : Option ℤ). option_or last (written item deed)) (clear_apart sc P at item others v deeds own p e h.1) ∙ clear_unwritten sc P at item others v deed own p e h.0
 
 -- the store after the commit fits each server's values; Q says which commits are not settled after it
 pub commit_store : (sc : Scenario) (P Q : ℕ → List Deed → Type 0) (values : ℕ → List ℤ) (store : List ℤ) (deeds : List Deed) (at : ℕ) → ((item : ℕ) → IsItemAt sc at item → HasPlace store item) → Adds (P at) deeds (Q at) → Each (IsClearAtHome sc P) deeds
-    → StoreFits (IsItemAt sc at) (P at) (values at) store → StoreFits (IsItemAt sc at) (Q at) (values at) (stored_all store deeds)
+    → StoreFits (IsItemAt sc at) (P at) (values at) store → StoreFits (IsItemAt sc at) (Q at) (values at) (with_deeds store deeds)
 commit_store sc P Q values store deeds at has adds clear fits =
     store_decides (IsItemAt sc at) (P at) (Q at) deeds (values at) store has adds (λ item others v own p e. clear_apart sc P at item others v deeds own p e clear) fits
 
 -- nor does it change what fits at a server without a share of it
 pub commit_elsewhere : (sc : Scenario) (P : List Deed → Type 0) (values store : List ℤ) (deeds : List Deed) (at : ℕ) → ((item : ℕ) → IsItemAt sc at item → HasPlace store item) → share_at sc at deeds ≡ []
-    → StoreFits (IsItemAt sc at) P values store → StoreFits (IsItemAt sc at) P values (stored_all store deeds)
+    → StoreFits (IsItemAt sc at) P values store → StoreFits (IsItemAt sc at) P values (with_deeds store deeds)
 commit_elsewhere sc P values store deeds at has none fits =
     store_elsewhere (IsItemAt sc at) P deeds values store has (λ item own. sym (last_write_share sc at item deeds own) ∙ ap (last_write item) none) fits
 
 -- the values of a server that settles a commit, and applies its share, fit the store as before; Q says which commits are not settled after it
 pub settle_store : (sc : Scenario) (P Q : List Deed → Type 0) (values store : List ℤ) (deeds : List Deed) (at : ℕ) → ((item : ℕ) → IsItemAt sc at item → HasPlace values item) → Drops P deeds Q
-    → StoreFits (IsItemAt sc at) P values store → StoreFits (IsItemAt sc at) Q (stored_all values (share_at sc at deeds)) store
+    → StoreFits (IsItemAt sc at) P values store → StoreFits (IsItemAt sc at) Q (with_deeds values (share_at sc at deeds)) store
 settle_store sc P Q values store deeds at has drops fits =
     store_settles (IsItemAt sc at) P Q deeds (share_at sc at deeds) values store has drops (λ item own. last_write_share sc at item deeds own) fits

@@ -1,12 +1,11 @@
 -- Serial data, an act of a coordinator: a commit has the deeds of its transaction run by itself on the store, and leaves it in range.
 use Rattle.tp_machine.proofs.pairs.Pair.{Prepares}
-use Rattle.std.specs.Option.{option_map_or}
+use Rattle.std.specs.Option.{option_map_or, option_or}
 use Rattle.std.proofs.Common.{Bool, IfSome, List, None, Option, Some, [], ap, false, fold, if◌then◌else◌, is_some, length, option_and_then, refl, slice_get, subst, sym, true, ℕ, ℤ, ⊎_elim, ◌++◌, ◌∙◌, ◌∷◌, ◌≡◌}
 use Rattle.std.proofs.lemmas.List.Sums.{fold-append}
 use Rattle.tp_types.specs.Effect.{Effect}
 use Rattle.tp_model.specs.Agreement.{has_item_at}
-use Rattle.tp_model.specs.Facts.{first_of}
-use Rattle.tp_model.specs.SerialRun.{are_in_range, is_serial_commit, overlaid, overlaid_what, serial_run, store_of, stored_all, stored_what}
+use Rattle.tp_model.specs.SerialRun.{are_in_range, is_serial_commit, overlay, overlay_what, serial_run, store_of, with_deeds, with_what}
 use Rattle.tp_model.specs.Valid.{is_valid_txn}
 use Rattle.tp_model.specs.Words.decision
 use Rattle.tp_model.specs.Words.log
@@ -102,26 +101,26 @@ next_part part now append = record { up = Some now; log = log_with part.log appe
 
 -- what the act leaves, where these facts are told of the record
 pub record Leaves (sc : Scenario) (w : State) (txn : TxnId) (next : Part Coordinator) (told : List What) : Type 0 where
-  pub values : fold (overlaid_what sc w.facts) (overlaid sc w.facts) told ≡ overlaid sc w.facts
+  pub values : fold (overlay_what sc w.facts) (overlay sc w.facts) told ≡ overlay sc w.facts
   pub shares : AreShares sc (with_coordinator w.actors txn next)
-  pub store : StoreStands sc (with_coordinator w.actors txn next) (overlaid sc w.facts) (fold stored_what (store_of sc w.facts) told)
+  pub store : StoreStands sc (with_coordinator w.actors txn next) (overlay sc w.facts) (fold with_what (store_of sc w.facts) told)
   pub serial : Each (WhatSerial sc w.facts) told
-  pub range : are_in_range sc.items (fold stored_what (store_of sc w.facts) told) ≡ true
+  pub range : are_in_range sc.items (fold with_what (store_of sc w.facts) told) ≡ true
 
 left_serial : (sc : Scenario) (w : State) (txn : TxnId) (next : Part Coordinator) (own told : List What) (letters : List Letter) → Serial sc w → Each IsQuiet own → Leaves sc w txn next told
     → MoveSerial sc w (record { actors = with_coordinator w.actors txn next; happened = own ++ told; letters = letters })
 left_serial sc w txn next own told letters h quiet l =
     let actors = with_coordinator w.actors txn next in
-    let values : overlaid_by sc w (own ++ told) ≡ overlaid sc w.facts =
-    fold-append (overlaid_what sc w.facts) (overlaid sc w.facts) own told
-    ∙ (ap (λ (xs : List ℤ). fold (overlaid_what sc w.facts) xs told) (quiet_values sc w.facts own (overlaid sc w.facts) quiet) ∙ l.values) in
-    let store : store_by sc w (own ++ told) ≡ fold stored_what (store_of sc w.facts) told =
-    fold-append stored_what (store_of sc w.facts) own told ∙ ap (λ (xs : List ℤ). fold stored_what xs told) (quiet_store own (store_of sc w.facts) quiet) in
+    let values : overlaid_by sc w (own ++ told) ≡ overlay sc w.facts =
+    fold-append (overlay_what sc w.facts) (overlay sc w.facts) own told
+    ∙ (ap (λ (xs : List ℤ). fold (overlay_what sc w.facts) xs told) (quiet_values sc w.facts own (overlay sc w.facts) quiet) ∙ l.values) in
+    let store : store_by sc w (own ++ told) ≡ fold with_what (store_of sc w.facts) told =
+    fold-append with_what (store_of sc w.facts) own told ∙ ap (λ (xs : List ℤ). fold with_what xs told) (quiet_store own (store_of sc w.facts) quiet) in
     record {
       servers = subst (λ (xs : List ℤ). ServersSerial sc xs w.actors.servers) (sym values) h.servers;
       up = h.up;
       shares = l.shares;
-      store = subst (λ (xs : List ℤ). StoreStands sc actors xs (store_by sc w (own ++ told))) (sym values) (subst (StoreStands sc actors (overlaid sc w.facts)) (sym store) l.store);
+      store = subst (λ (xs : List ℤ). StoreStands sc actors xs (store_by sc w (own ++ told))) (sym values) (subst (StoreStands sc actors (overlay sc w.facts)) (sym store) l.store);
       happened = each_append (WhatSerial sc w.facts) own told (quiet_facts sc w.facts own quiet) l.serial;
       range = subst (λ (xs : List ℤ). are_in_range sc.items xs ≡ true) (sym store) l.range;
     }
@@ -136,7 +135,7 @@ undecided_leaves sc w txn part now append h found none =
     record {
       values = refl;
       shares = λ other at committed p d e. h.shares other at committed p (sym (same.decided other.0) ∙ d) e;
-      store = λ at. fits_same sc w.actors (with_coordinator w.actors txn next) at (overlaid sc w.facts) (store_of sc w.facts) same (h.store at);
+      store = λ at. fits_same sc w.actors (with_coordinator w.actors txn next) at (overlay sc w.facts) (store_of sc w.facts) same (h.store at);
       serial = tt;
       range = h.range;
     }
@@ -155,7 +154,7 @@ abort_leaves sc w txn named part next why h k =
           ⊎_elim (λ (old : decided_at w.actors.coordinators other.0 ≡ Some (decision.Commit committed)). h.shares other at committed p old e)
           (λ (new : (txn.0 ≡ other.0) × (decision.Abort why ≡ decision.Commit committed)). absurd (not_commit why committed new.1))
           (either_decided w.actors txn part next (decision.Abort why) (decision.Commit committed) other.0 k d);
-      store = λ at. decision_same sc w.actors txn part next (decision.Abort why) at (overlaid sc w.facts) (store_of sc w.facts) k (λ committed e. absurd (not_commit why committed e)) (h.store at);
+      store = λ at. decision_same sc w.actors txn part next (decision.Abort why) at (overlay sc w.facts) (store_of sc w.facts) k (λ committed e. absurd (not_commit why committed e)) (h.store at);
       serial = (tt, tt);
       range = h.range;
     }
@@ -227,17 +226,17 @@ preparer w txn at is = preparer_of w txn at (slice_get w.actors.servers at) refl
 pub preparer_is : (w : State) (txn : TxnId) (at : ℕ) (h : IsPreparer w txn at) → prepared_at w.actors.servers at txn ≡ Some h.p
 preparer_is w txn at h = ap (option_and_then (prepared_by txn)) h.found ∙ h.prepared_is
 
-read_up : (sc : Scenario) (w : State) (txn : TxnId) (at : ℕ) (deeds : List Deed) (h : IsPreparer w txn at) (up : Option Server) → h.part.up ≡ up → is_some up ≡ true → IfSome up (ServerUpSerial sc (overlaid sc w.facts) (record { 0 = at }))
-    → IfSome up (λ (s : Server). ServerAgrees s h.part.log) → h.p.deeds ≡ share_at sc at deeds → ReadsFrom (overlaid sc w.facts) (share_at sc at deeds)
+read_up : (sc : Scenario) (w : State) (txn : TxnId) (at : ℕ) (deeds : List Deed) (h : IsPreparer w txn at) (up : Option Server) → h.part.up ≡ up → is_some up ≡ true → IfSome up (ServerUpSerial sc (overlay sc w.facts) (record { 0 = at }))
+    → IfSome up (λ (s : Server). ServerAgrees s h.part.log) → h.p.deeds ≡ share_at sc at deeds → ReadsFrom (overlay sc w.facts) (share_at sc at deeds)
 read_up sc w txn at deeds h None e there serial agrees share = absurd (cc)
 read_up sc w txn at deeds h (Some s) e there serial agrees share =
     let entry : IsPreparedEntry s txn h.p = prepared_here s h.part.log txn h.p agrees h.prepared_is in
     let reads : ReadsFrom s.store.values (share_at sc at deeds) = subst (ReadsFrom s.store.values) (entry.deeds_are ∙ share) (serial.reads.reads txn.0 entry.entry entry.found) in
-    share_reads sc at s.store.values (overlaid sc w.facts) deeds (λ n item found home. serial.values n item found (ap (λ (m : ℕ). record { 0 = m }) home)) reads
+    share_reads sc at s.store.values (overlay sc w.facts) deeds (λ n item found home. serial.values n item found (ap (λ (m : ℕ). record { 0 = m }) home)) reads
 
 read_here : (sc : Scenario) (w : State) (txn : TxnId) (declared : Transaction) (deeds : List Deed) (at : ℕ) (b : Bool) → has_item_at sc (record { 0 = at }) txn ≡ b → Agrees sc w → Serial sc w → IsReady sc w txn declared deeds
-    → ReadsFrom (overlaid sc w.facts) (share_at sc at deeds)
-read_here sc w txn declared deeds at false item agrees h r = subst (ReadsFrom (overlaid sc w.facts)) (sym (no_share sc at txn declared deeds r.declared_is r.runs item)) tt
+    → ReadsFrom (overlay sc w.facts) (share_at sc at deeds)
+read_here sc w txn declared deeds at false item agrees h r = subst (ReadsFrom (overlay sc w.facts)) (sym (no_share sc at txn declared deeds r.declared_is r.runs item)) tt
 read_here sc w txn declared deeds at true item agrees h r =
     let there : IsPreparer w txn at = preparer w txn at (r.prepared at item) in
     read_up sc w txn at deeds there there.part.up refl (h.up at there.part there.found) (h.servers at there.part there.found).state (agrees.servers at there.part there.found).state
@@ -259,15 +258,15 @@ unsettled_there w txn at h = ap (option_and_then (settled_by txn)) h.found ∙ p
 
 commit_stands : (sc : Scenario) (w : State) (txn : TxnId) (part next : Part Coordinator) (declared : Transaction) (committed : CommitRecord) (at : ℕ) (b : Bool) → has_item_at sc (record { 0 = at }) txn ≡ b → Serial sc w
     → DecidesFirst w.actors txn part next (decision.Commit committed) → IsReady sc w txn declared committed.deeds → Each (IsClearAtHome sc (IsUnsettled sc w.actors)) committed.deeds
-    → StoreFits (IsItemAt sc at) (IsUnsettled sc (with_coordinator w.actors txn next) at) (overlaid sc w.facts) (stored_all (store_of sc w.facts) committed.deeds)
+    → StoreFits (IsItemAt sc at) (IsUnsettled sc (with_coordinator w.actors txn next) at) (overlay sc w.facts) (with_deeds (store_of sc w.facts) committed.deeds)
 commit_stands sc w txn part next declared committed at true item h k r clear =
-    commit_store sc (IsUnsettled sc w.actors) (IsUnsettled sc (with_coordinator w.actors txn next)) (λ (n : ℕ). overlaid sc w.facts) (store_of sc w.facts) committed.deeds at
+    commit_store sc (IsUnsettled sc w.actors) (IsUnsettled sc (with_coordinator w.actors txn next)) (λ (n : ℕ). overlay sc w.facts) (store_of sc w.facts) committed.deeds at
     (λ n own. store_has sc (store_of sc w.facts) at n h.range own)
     (commit_adds sc w.actors txn part next committed at k item (unsettled_there w txn at (preparer w txn at (r.prepared at item)))) clear (h.store at)
 commit_stands sc w txn part next declared committed at false item h k r clear =
-    commit_elsewhere sc (IsUnsettled sc (with_coordinator w.actors txn next) at) (overlaid sc w.facts) (store_of sc w.facts) committed.deeds at
+    commit_elsewhere sc (IsUnsettled sc (with_coordinator w.actors txn next) at) (overlay sc w.facts) (store_of sc w.facts) committed.deeds at
     (λ n own. store_has sc (store_of sc w.facts) at n h.range own) (no_share sc at txn declared committed.deeds r.declared_is r.runs item)
-    (decision_same sc w.actors txn part next (decision.Commit committed) at (overlaid sc w.facts) (store_of sc w.facts) k (λ other e. item) (h.store at))
+    (decision_same sc w.actors txn part next (decision.Commit committed) at (overlay sc w.facts) (store_of sc w.facts) k (λ other e. item) (h.store at))
 
 commit_leaves : (sc : Scenario) (w : State) (txn named : TxnId) (part next : Part Coordinator) (declared : Transaction) (committed : CommitRecord) → named ≡ txn → IsValid sc → Agrees sc w → Serial sc w
     → DecidesFirst w.actors txn part next (decision.Commit committed) → IsReady sc w txn declared committed.deeds → Each (IsClearAtHome sc (IsUnsettled sc w.actors)) committed.deeds
@@ -275,11 +274,11 @@ commit_leaves : (sc : Scenario) (w : State) (txn named : TxnId) (part next : Par
 commit_leaves sc w txn named part next declared committed own valid agrees h k r clear =
     let valid_txn : is_valid_txn sc declared ≡ true = each_get (λ (t : Transaction). is_valid_txn sc t ≡ true) sc.txns txn.0 declared valid.txns r.declared_is in
     let runs : committed.deeds ≡ serial_run declared (store_of sc w.facts) =
-    commit_serial sc declared (IsUnsettled sc w.actors) (λ (n : ℕ). overlaid sc w.facts) (store_of sc w.facts) committed.deeds valid_txn
+    commit_serial sc declared (IsUnsettled sc w.actors) (λ (n : ℕ). overlay sc w.facts) (store_of sc w.facts) committed.deeds valid_txn
     (store_within sc (store_of sc w.facts) valid (store_length sc w.facts) h.range) r.runs r.all
     (λ at. read_here sc w txn declared committed.deeds at (has_item_at sc (record { 0 = at }) txn) refl agrees h r) h.store clear in
     let tested : AreTested sc committed.deeds = shares_tested sc txn declared committed.deeds r.declared_is r.runs (λ at item. tested_here sc w txn declared committed.deeds at item h r) in
-    let range : are_in_range sc.items (stored_all (store_of sc w.facts) committed.deeds) ≡ true = stored_in_range sc (store_of sc w.facts) committed.deeds tested h.range in
+    let range : are_in_range sc.items (with_deeds (store_of sc w.facts) committed.deeds) ≡ true = stored_in_range sc (store_of sc w.facts) committed.deeds tested h.range in
     record {
       values = refl;
       shares = λ other at given p d e.
@@ -316,7 +315,7 @@ coordinator_acts_serial sc w txn part c now own append letters valid agrees pair
         record {
           found = k.up.found;
           undecided = first.undecided;
-          now = decided_with part.log (Some (log.Decided d)) ∙ ap (λ (old : Option Decision). first_of old (Some d.decision)) first.undecided;
+          now = decided_with part.log (Some (log.Decided d)) ∙ ap (λ (old : Option Decision). option_or old (Some d.decision)) first.undecided;
         }
 
     by_decision : (d : Decided) (given : Decision) → d.decision ≡ given → IsFirst sc (IsPrepared w.actors.servers txn) txn part.log (log.Decided d) → DecisionOwn c given

@@ -3,14 +3,14 @@
 use Rattle.tp_machine.proofs.serial_data.Shares.{server_there}
 use Rattle.std.specs.List.{list_any}
 use Rattle.std.specs.Option.{option_map_or}
-use Rattle.std.proofs.Common.{Bool, IfSome, List, None, Option, Some, [], ap, arith, false, is_some, length, option_map, refl, slice_get, subst, suc, sym, true, unwrap_or, zero, ℕ, ℤ, ◌+◌, ◌<◌, ◌||◌, ◌∙◌, ◌∷◌, ◌≡◌}
-use Rattle.std.proofs.lemmas.Bool.{and_parts}
+use Rattle.std.proofs.Common.{IfSome, List, None, Option, Some, [], ap, arith, false, is_some, length, option_map, refl, slice_get, subst, suc, sym, true, unwrap_or, zero, ℕ, ℤ, ⊎_elim, ◌+◌, ◌<◌, ◌||◌, ◌∙◌, ◌∷◌, ◌≡◌}
+use Rattle.std.proofs.lemmas.Bool.{and_parts, or_cases}
 use Rattle.std.proofs.lemmas.Option.{same_Some, slice_get_within}
 use Rattle.tp_model.specs.Agreement.{has_item, has_item_at}
 use Rattle.tp_model.specs.Built.{is_built}
 use Rattle.tp_model.specs.Facts.{is_decided_as, is_settled_as, is_submission, same_outcome}
 use Rattle.tp_model.specs.Queries.{servers_of}
-use Rattle.tp_model.specs.SerialRun.{is_serial, keeps_serial, overlaid, store_of}
+use Rattle.tp_model.specs.SerialRun.{is_serial, keeps_serial, overlay, store_of}
 use Rattle.tp_model.specs.TrustedHistory.{ended_as, has_ended, have_ended, is_settled_everywhere}
 use Rattle.tp_model.specs.Words.outcome
 use Rattle.tp_model.specs.Words.{Deed, Fact, Item, Outcome, Scenario, ServerId, Settled, Transaction, TxnId}
@@ -63,37 +63,33 @@ values_from servers first (item ∷ items) (value ∷ store) e h =
 
 -- the value of an item at a server that is up is the store's
 value_here : (sc : Scenario) (w : State) (n : ℕ) (item : Item) (part : Part Server) (up : Option Server) → Serial sc w → slice_get sc.items n ≡ Some item → slice_get w.actors.servers item.server.0 ≡ Some part
-    → part.up ≡ up → is_some up ≡ true → slice_get (overlaid sc w.facts) n ≡ Some (value_up up n item.value)
+    → part.up ≡ up → is_some up ≡ true → slice_get (overlay sc w.facts) n ≡ Some (value_up up n item.value)
 value_here sc w n item part None h found there e up = absurd (cc)
 value_here sc w n item part (Some s) h found there e up =
-    let here : ServerUpSerial sc (overlaid sc w.facts) item.server s =
-    subst (λ (u : Option Server). IfSome u (ServerUpSerial sc (overlaid sc w.facts) item.server)) e (h.servers item.server.0 part there).state in
-    let same : slice_get s.store.values n ≡ slice_get (overlaid sc w.facts) n = here.values n item found refl in
-    let within : n < length (overlaid sc w.facts) = omega (arith, slice_get_within sc.items n item found, overlaid_length sc w.facts) in
-    unwrapped (slice_get (overlaid sc w.facts) n) item.value (missing (overlaid sc w.facts) n within)
+    let here : ServerUpSerial sc (overlay sc w.facts) item.server s =
+    subst (λ (u : Option Server). IfSome u (ServerUpSerial sc (overlay sc w.facts) item.server)) e (h.servers item.server.0 part there).state in
+    let same : slice_get s.store.values n ≡ slice_get (overlay sc w.facts) n = here.values n item found refl in
+    let within : n < length (overlay sc w.facts) = omega (arith, slice_get_within sc.items n item found, overlaid_length sc w.facts) in
+    unwrapped (slice_get (overlay sc w.facts) n) item.value (missing (overlay sc w.facts) n within)
     ∙ ap (λ (v : Option ℤ). Some (unwrap_or v item.value)) (sym same)
 
 value_at : (sc : Scenario) (w : State) (n : ℕ) (item : Item) (part : Option (Part Server)) → is_built sc ≡ true → Agrees sc w → Serial sc w → slice_get sc.items n ≡ Some item → slice_get w.actors.servers item.server.0 ≡ part
-    → slice_get (overlaid sc w.facts) n ≡ Some (option_map_or (λ (p : Part Server). value_up p.up n item.value) part item.value)
+    → slice_get (overlay sc w.facts) n ≡ Some (option_map_or (λ (p : Part Server). value_up p.up n item.value) part item.value)
 value_at sc w n item None built agrees h found there =
     let exists : IsServer sc item.server = (each_get (IsValidItem sc) sc.items n item (valid_built sc built).items found).server in
     absurd (missing w.actors.servers item.server.0 (omega (arith, exists, agrees.server_count)) there)
 value_at sc w n item (Some part) built agrees h found there = value_here sc w n item part part.up h found there refl (h.up item.server.0 part there)
 
 -- each item has the value that settled commits leave
-pub serial_values : (sc : Scenario) (w : State) → is_built sc ≡ true → IsSound sc w → Agrees sc w → Serial sc w → (ending_of sc w).values ≡ overlaid sc w.facts
+pub serial_values : (sc : Scenario) (w : State) → is_built sc ≡ true → IsSound sc w → Agrees sc w → Serial sc w → (ending_of sc w).values ≡ overlay sc w.facts
 serial_values sc w built sound agrees h =
-    values_from w.actors.servers 0 sc.items (overlaid sc w.facts) (overlaid_length sc w.facts)
+    values_from w.actors.servers 0 sc.items (overlay sc w.facts) (overlaid_length sc w.facts)
     (λ n item found. value_at sc w n item (slice_get w.actors.servers item.server.0) built agrees h found refl ∙ ap (λ (m : ℕ). Some (item_value w.actors.servers m item)) (none_before n))
   where
     none_before : (n : ℕ) → n ≡ 0 + n
     none_before n = omega arith
 
 -- ---- all transactions have ended
-
-both_ended : (a b : Bool) (P : Type 0) → (a ≡ true → P) → (b ≡ true → P) → (a || b) ≡ true → P
-both_ended true b P first second e = first refl
-both_ended false b P first second e = second e
 
 ended_at : (sc : Scenario) (facts : List Fact) (first : ℕ) (txns : List Transaction) (n : ℕ) (declared : Transaction) → have_ended sc facts first txns ≡ true → slice_get txns n ≡ Some declared
     → has_ended sc facts (record { 0 = first + n }) declared ≡ true
@@ -146,9 +142,9 @@ none_left sc w at deeds valid agrees ended u = by_declared (slice_get sc.txns u.
         let here : has_ended sc w.facts (record { 0 = 0 + u.txn.0 }) declared ≡ true = ended_at sc w.facts 0 sc.txns u.txn.0 declared ended e in
         let same : 0 + u.txn.0 ≡ u.txn.0 = omega arith in
         let now : has_ended sc w.facts u.txn declared ≡ true = subst (λ (k : ℕ). has_ended sc w.facts (record { 0 = k }) declared ≡ true) same here in
-        both_ended (ended_as (servers_of sc declared) w.facts u.txn outcome.Commit) (ended_as (servers_of sc declared) w.facts u.txn outcome.Abort) ⊥
-        (λ c. settled outcome.Commit declared e c) (λ a. settled outcome.Abort declared e a)
-        (and_parts (list_any (is_submission u.txn) w.facts) (ended_as (servers_of sc declared) w.facts u.txn outcome.Commit || ended_as (servers_of sc declared) w.facts u.txn outcome.Abort) now).1
+        ⊎_elim (settled outcome.Commit declared e) (settled outcome.Abort declared e)
+        (or_cases (ended_as (servers_of sc declared) w.facts u.txn outcome.Commit) (ended_as (servers_of sc declared) w.facts u.txn outcome.Abort)
+        (and_parts (list_any (is_submission u.txn) w.facts) (ended_as (servers_of sc declared) w.facts u.txn outcome.Commit || ended_as (servers_of sc declared) w.facts u.txn outcome.Abort) now).1)
 
 -- lists as long as one another with the same at each place
 same_places : (xs ys : List ℤ) → length xs ≡ length ys → ((n : ℕ) → n < length xs → slice_get xs n ≡ slice_get ys n) → xs ≡ ys
@@ -160,13 +156,13 @@ same_places (x ∷ xs) (y ∷ ys) e h =
     ap (λ (z : ℤ). z ∷ xs) first ∙ ap (λ (zs : List ℤ). y ∷ zs) (same_places xs ys (omega (arith, e)) (λ n within. h (suc n) (omega (arith, within))))
 
 -- once all transactions have ended at each of their servers, what is settled is what all commits leave
-pub values_at_end : (sc : Scenario) (w : State) → is_built sc ≡ true → Agrees sc w → Serial sc w → have_ended sc w.facts 0 sc.txns ≡ true → overlaid sc w.facts ≡ store_of sc w.facts
+pub values_at_end : (sc : Scenario) (w : State) → is_built sc ≡ true → Agrees sc w → Serial sc w → have_ended sc w.facts 0 sc.txns ≡ true → overlay sc w.facts ≡ store_of sc w.facts
 values_at_end sc w built agrees h ended =
-    let counts : length (overlaid sc w.facts) ≡ length sc.items = overlaid_length sc w.facts in
-    same_places (overlaid sc w.facts) (store_of sc w.facts) (counts ∙ sym (store_length sc w.facts))
+    let counts : length (overlay sc w.facts) ≡ length sc.items = overlaid_length sc w.facts in
+    same_places (overlay sc w.facts) (store_of sc w.facts) (counts ∙ sym (store_length sc w.facts))
     (λ n within. by_item n (slice_get sc.items n) refl (omega (arith, within, counts)))
   where
-    by_item : (n : ℕ) (item : Option Item) → slice_get sc.items n ≡ item → n < length sc.items → slice_get (overlaid sc w.facts) n ≡ slice_get (store_of sc w.facts) n
+    by_item : (n : ℕ) (item : Option Item) → slice_get sc.items n ≡ item → n < length sc.items → slice_get (overlay sc w.facts) n ≡ slice_get (store_of sc w.facts) n
     by_item n None e within = absurd (missing sc.items n within e)
     by_item n (Some item) e within =
         sym ((h.store item.server.0).bare n (record { declared = item; declared_is = e; at_is = refl }) (λ deeds u. absurd (none_left sc w item.server.0 deeds (valid_built sc built) agrees ended u)))

@@ -6,14 +6,8 @@ use Rattle.std.proofs.lemmas.Bool.Decides.{nat_tests}
 use Rattle.std.proofs.lemmas.Option.{same_Some}
 use Rattle.std.proofs.lemmas.Bool.{and_from, or_right}
 use Rattle.tp_machine.specs.Sound.{Each, EachAt}
-use Rattle.tp_types.specs.Table.{flattened}
+use Rattle.std.specs.Option.{option_flatten}
 use Rattle.tp_machine.proofs.basics.Logs.{get_set}
-
--- ---- each member
-
-pub each_of_all : {A : Type 0} (P : A → Type 0) → ((x : A) → P x) → (xs : List A) → Each P xs
-each_of_all P h [] = tt
-each_of_all P h (x ∷ xs) = (h x, each_of_all P h xs)
 
 -- ---- folds
 
@@ -72,7 +66,7 @@ at_changed P xs k old new here others p n found e = changed (k == n) refl (sym (
 -- ---- tables
 
 -- a place that is not empty stays so as a place is filled
-pub filled_stays : {A : Type 0} (table : List (Option A)) (k n : ℕ) (v : A) → is_some (flattened (slice_get table n)) ≡ true → is_some (flattened (slice_get (slice_set table k (Some v)) n)) ≡ true
+pub filled_stays : {A : Type 0} (table : List (Option A)) (k n : ℕ) (v : A) → is_some (option_flatten (slice_get table n)) ≡ true → is_some (option_flatten (slice_get (slice_set table k (Some v)) n)) ≡ true
 filled_stays [] k n v e = e
 filled_stays (x ∷ table) zero zero v e = refl
 filled_stays (x ∷ table) zero (suc n) v e = e

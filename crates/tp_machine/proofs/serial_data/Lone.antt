@@ -18,8 +18,9 @@ use Rattle.tp_coord.specs.Row.{coordinator_row, submit_row}
 use Rattle.tp_server.specs.Row.{server_row}
 use Rattle.tp_machine.proofs.agreement.ServerActs.{server_facts}
 use Rattle.tp_machine.proofs.agreement.CoordinatorActs.{coordinator_facts}
-use Rattle.tp_machine.proofs.agreement.End.{each_found, member_counted}
+use Rattle.tp_machine.proofs.agreement.End.{member_counted}
 use Rattle.tp_machine.proofs.basics.Facts.{ArePast, all_from_each, count_append}
+use Rattle.tp_machine.proofs.basics.Lists.{each_placed}
 use Rattle.tp_machine.proofs.basics.Logs.{gained}
 use Rattle.tp_machine.proofs.walks.Steps.{Cases, SaysIdle, machine_after_by}
 use Rattle.tp_types.specs.Effect.{Effect}
@@ -50,7 +51,7 @@ lone_fact facts n place _ h e = refl
 pub facts_lone : (facts : List Fact) → AreLone facts → are_lone facts ≡ true
 facts_lone facts h =
     all_from_each (λ (fact : Fact). is_lone facts fact ≡ true) (is_lone facts) (λ fact e. e) facts
-    (each_found (λ (fact : Fact). is_lone facts fact ≡ true) facts (λ n fact e. lone_fact facts n fact.place fact.what h e))
+    (each_placed (λ (fact : Fact). is_lone facts fact ≡ true) facts (λ n fact e. lone_fact facts n fact.place fact.what h e))
 
 fewer : (a b : Bool) (us vs : ℕ) → us ≤ vs → cond (a && b) 1 0 + us ≤ cond b 1 0 + vs
 fewer true true us vs le = omega (arith, le)

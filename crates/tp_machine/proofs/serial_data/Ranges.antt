@@ -4,9 +4,9 @@ use Rattle.std.proofs.lemmas.Bool.{and_from, and_parts}
 use Rattle.std.proofs.lemmas.Option.{same_Some}
 use Rattle.std.specs.List.{AllByRecursion}
 use Rattle.tp_model.proofs.RunBounds.{IsWithin, between_within, value_within}
-use Rattle.tp_model.specs.Facts.{first_of}
+use Rattle.std.specs.Option.{option_or}
 use Rattle.tp_model.specs.Limits.{is_between}
-use Rattle.tp_model.specs.SerialRun.{are_in_range, stored_all}
+use Rattle.tp_model.specs.SerialRun.{are_in_range, with_deeds}
 use Rattle.tp_model.specs.Words.{Deed, Item, Scenario}
 use Rattle.tp_machine.proofs.ids.Valid.{IsValid, IsValidItem}
 use Rattle.tp_machine.proofs.serial_data.Stores.{last_write, stored_last}
@@ -45,14 +45,14 @@ all_in_range (item ∷ items) (value ∷ store) h =
 
 -- ---- deeds
 
-held_after : (item : Item) (n : ℕ) (deeds : List Deed) (old : Option ℤ) (last : Option ℤ) → last_write n deeds ≡ last → ((v : ℤ) → last_write n deeds ≡ Some v → is_between item.min item.max v ≡ true) → IsHeld item old → IsHeld item (first_of last old)
+held_after : (item : Item) (n : ℕ) (deeds : List Deed) (old : Option ℤ) (last : Option ℤ) → last_write n deeds ≡ last → ((v : ℤ) → last_write n deeds ≡ Some v → is_between item.min item.max v ≡ true) → IsHeld item old → IsHeld item (option_or last old)
 held_after item n deeds old None e tested h = h
 held_after item n deeds old (Some v) e tested h = record { value = v; found_is = refl; within = tested v e }
 
 -- tested deeds leave the store in range
-pub stored_in_range : (sc : Scenario) (store : List ℤ) (deeds : List Deed) → AreTested sc deeds → are_in_range sc.items store ≡ true → are_in_range sc.items (stored_all store deeds) ≡ true
+pub stored_in_range : (sc : Scenario) (store : List ℤ) (deeds : List Deed) → AreTested sc deeds → are_in_range sc.items store ≡ true → are_in_range sc.items (with_deeds store deeds) ≡ true
 stored_in_range sc store deeds tested range =
-    all_in_range sc.items (stored_all store deeds)
+    all_in_range sc.items (with_deeds store deeds)
     (λ n item e.
     let old : IsHeld item (slice_get store n) = range_at sc.items store n item range e in
     subst (IsHeld item) (sym (stored_last store deeds n (ap is_some old.found_is)))

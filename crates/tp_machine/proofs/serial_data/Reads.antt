@@ -9,7 +9,7 @@ use Rattle.tp_types.proofs.ListLemmas.{three_parts}
 use Rattle.tp_types.specs.declared.scenario.Query.TheVariants.{Read, Write}
 use Rattle.tp_model.proofs.RunBounds.{IsWithin, bound_after, run_within_most, set_within}
 use Rattle.tp_model.specs.Limits.{has_count, is_from_to}
-use Rattle.tp_model.specs.SerialRun.{cleared_registers, deeds_from, number_at, serial_run, stored, stored_all, stored_by, sum_in}
+use Rattle.tp_model.specs.SerialRun.{cleared_registers, deeds_from, number_at, serial_run, with_deed, with_deeds, with_deed_by, sum_in}
 use Rattle.tp_model.specs.Valid.{has_valid_creds, is_item, is_name_of_server, is_valid_query, is_valid_sum, is_valid_txn}
 use Rattle.tp_model.specs.Words.action
 use Rattle.tp_model.specs.Words.{Action, Deed, Query, Scenario, Transaction}
@@ -31,12 +31,12 @@ IsReadFrom store deed = IsReadBy deed.action store deed
 -- each read has the value that its item has by then
 abbrev pub ReadsFrom : List ℤ → List Deed → Type 0
 ReadsFrom store [] = Unit {0}
-ReadsFrom store (deed ∷ deeds) = IsReadFrom store deed × ReadsFrom (stored store deed) deeds
+ReadsFrom store (deed ∷ deeds) = IsReadFrom store deed × ReadsFrom (with_deed store deed) deeds
 
 -- one deed more
-pub reads_more : (store : List ℤ) (deeds : List Deed) (deed : Deed) → ReadsFrom store deeds → IsReadFrom (stored_all store deeds) deed → ReadsFrom store (deeds ++ deed ∷ [])
+pub reads_more : (store : List ℤ) (deeds : List Deed) (deed : Deed) → ReadsFrom store deeds → IsReadFrom (with_deeds store deeds) deed → ReadsFrom store (deeds ++ deed ∷ [])
 reads_more store [] deed h r = (r, tt)
-reads_more store (first ∷ deeds) deed h r = (h.0, reads_more (stored store first) deeds deed h.1 r)
+reads_more store (first ∷ deeds) deed h r = (h.0, reads_more (with_deed store first) deeds deed h.1 r)
 
 -- what is read where two stores have the same
 pub read_as : (a : Action) (store other : List ℤ) (deed : Deed) → slice_get store deed.item.0 ≡ slice_get other deed.item.0 → IsReadBy a store deed → IsReadBy a other deed
@@ -72,17 +72,17 @@ pub clear_both : (deeds others : List Deed) → AreClear deeds others → AreCle
 clear_both [] others clear = clear_of_none others
 clear_both (deed ∷ deeds) others clear = clear_more deed deeds others clear.0 (clear_both deeds others clear.1)
 
-swapped_by : (a b : Action) (store : List ℤ) (one other : Deed) → (one.item.0 ≡ other.item.0 → AreReads a b) → stored_by b (stored_by a store one) other ≡ stored_by a (stored_by b store other) one
+swapped_by : (a b : Action) (store : List ℤ) (one other : Deed) → (one.item.0 ≡ other.item.0 → AreReads a b) → with_deed_by b (with_deed_by a store one) other ≡ with_deed_by a (with_deed_by b store other) one
 swapped_by action.Read b store one other clear = refl
 swapped_by action.Write action.Read store one other clear = refl
 swapped_by action.Write action.Write store one other clear =
     set_comm store one.item.0 other.item.0 one.value other.value (λ same. let writes : action.Write ≡ action.Read = (clear same).0 in cc)
 
 -- clear deeds may be applied in either order
-pub swapped : (store : List ℤ) (one other : Deed) → IsClear one other → stored (stored store one) other ≡ stored (stored store other) one
+pub swapped : (store : List ℤ) (one other : Deed) → IsClear one other → with_deed (with_deed store one) other ≡ with_deed (with_deed store other) one
 swapped store one other clear = swapped_by one.action other.action store one other clear
 
-untouched_by : (a b : Action) (store : List ℤ) (one other : Deed) → (one.item.0 ≡ other.item.0 → AreReads a b) → IsReadBy b store other → IsReadBy b (stored_by a store one) other
+untouched_by : (a b : Action) (store : List ℤ) (one other : Deed) → (one.item.0 ≡ other.item.0 → AreReads a b) → IsReadBy b store other → IsReadBy b (with_deed_by a store one) other
 untouched_by action.Read b store one other clear h = h
 untouched_by action.Write action.Write store one other clear h = tt
 untouched_by action.Write action.Read store one other clear h =
@@ -90,21 +90,21 @@ untouched_by action.Write action.Read store one other clear h =
     read_as action.Read store (slice_set store one.item.0 one.value) other (sym (set_elsewhere store one.item.0 other.item.0 one.value apart)) h
 
 -- one deed of another transaction is applied
-reads_past : (store : List ℤ) (deeds : List Deed) (one : Deed) → Each (IsClear one) deeds → ReadsFrom store deeds → ReadsFrom (stored store one) deeds
+reads_past : (store : List ℤ) (deeds : List Deed) (one : Deed) → Each (IsClear one) deeds → ReadsFrom store deeds → ReadsFrom (with_deed store one) deeds
 reads_past store [] one clear h = tt
 reads_past store (deed ∷ deeds) one clear h =
-    let later : ReadsFrom (stored (stored store deed) one) deeds = reads_past (stored store deed) deeds one clear.1 h.1 in
+    let later : ReadsFrom (with_deed (with_deed store deed) one) deeds = reads_past (with_deed store deed) deeds one clear.1 h.1 in
     (untouched_by one.action deed.action store one deed clear.0 h.0, subst (λ (other : List ℤ). ReadsFrom other deeds) (sym (swapped store one deed clear.0)) later)
 
 -- reads stay true as another transaction's deeds are applied that are clear of them
-pub reads_clear : (store : List ℤ) (deeds others : List Deed) → AreClear others deeds → ReadsFrom store deeds → ReadsFrom (stored_all store others) deeds
+pub reads_clear : (store : List ℤ) (deeds others : List Deed) → AreClear others deeds → ReadsFrom store deeds → ReadsFrom (with_deeds store others) deeds
 reads_clear store deeds [] clear h = h
-reads_clear store deeds (one ∷ others) clear h = reads_clear (stored store one) deeds others clear.1 (reads_past store deeds one clear.0 h)
+reads_clear store deeds (one ∷ others) clear h = reads_clear (with_deed store one) deeds others clear.1 (reads_past store deeds one clear.0 h)
 
 -- ---- the run
 
 abbrev ReadsOn : List ℤ → List Deed → Deed → Type 0
-ReadsOn store deeds deed = IsReadFrom store deed × ReadsFrom (stored store deed) deeds
+ReadsOn store deeds deed = IsReadFrom store deed × ReadsFrom (with_deed store deed) deeds
 
 -- the value of a deed is within the bound of 16 queries
 abbrev DeedIsWithin : Deed → Type 0

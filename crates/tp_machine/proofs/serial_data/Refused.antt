@@ -2,17 +2,17 @@
 -- the run. So a last write that is outside its item's range is one that may be refused. A server's share of deeds has the last writes of
 -- its items.
 use Rattle.std.specs.List.{list_any}
-use Rattle.std.specs.Option.{option_map_or}
+use Rattle.std.specs.Option.{option_map_or, option_or}
 use Rattle.std.proofs.Common.{Bool, List, None, Option, Some, [], ap, arith, cond, drop, false, find, if◌then◌else◌, not, option_map, refl, slice_get, slice_set, subst, suc, sym, true, ℕ, ℤ, ◌+◌, ◌==◌, ◌∙◌, ◌∷◌, ◌≡◌, ◌≤◌}
 use Rattle.std.proofs.lemmas.Bool.{and_from, eq-eqb, eqb-true, ne_eqb, or_from}
 use Rattle.std.proofs.lemmas.Option.{same_Some}
 use Rattle.tp_types.specs.declared.scenario.Query.TheVariants.{Read, Write}
 use Rattle.tp_model.specs.Causes.{has_refused_write, is_outside_range, is_refused_write, is_write_of}
-use Rattle.tp_model.specs.Facts.{first_of}
 use Rattle.tp_model.specs.Queries.{query_at}
 use Rattle.tp_model.specs.SerialRun.{cleared_registers, deed_value, deeds_from, is_deed_of, number_at, run_value, serial_run, sum_in}
 use Rattle.tp_model.specs.Words.action
 use Rattle.tp_model.specs.Words.{Action, Deed, ItemId, OutOfRange, Query, Scenario, ServerId, Term, Transaction}
+use Rattle.tp_machine.proofs.basics.Lists.{not_kept}
 use Rattle.tp_machine.proofs.basics.Logs.{first_none}
 use Rattle.tp_machine.proofs.serial_data.Commits.{IsItemAt}
 use Rattle.tp_machine.proofs.serial_data.Joined.{at_home, is_at, share_at}
@@ -21,13 +21,9 @@ use Rattle.tp_store.specs.declared.writes.TentativeWrite.{TentativeWrite}
 
 -- ---- no later write
 
-both_none : {A : Type 0} (x y : Option A) → first_of x y ≡ None → (x ≡ None) × (y ≡ None)
+both_none : {A : Type 0} (x y : Option A) → option_or x y ≡ None → (x ≡ None) × (y ≡ None)
 both_none None y e = (refl, e)
 both_none (Some found) y e = absurd (cc)
-
-not_kept : (w : TentativeWrite) (b : Bool) → (if b then Some w else None) ≡ None → b ≡ false
-not_kept w true e = absurd (cc)
-not_kept w false e = refl
 
 -- the write of a query, as it is kept
 abbrev one_write : ℕ → ItemId → ℤ → TentativeWrite
@@ -61,7 +57,7 @@ write_later number first queries item asked h =
 
 write_here : (number : ℕ) (expr : List Term) (queries : List Query) (other item : ItemId) (value : ℤ) (last : Option TentativeWrite) (w : TentativeWrite) (b : Bool) → (other.0 == item.0) ≡ b
     → (last ≡ None → list_any (is_write_of item) queries ≡ false) → ((x : TentativeWrite) → last ≡ Some x → IsLastWrite (number + 1) queries item x.query)
-    → first_of last (if b then Some (one_write number other value) else None) ≡ Some w → IsLastWrite number (Write other expr ∷ queries) item w.query
+    → option_or last (if b then Some (one_write number other value) else None) ≡ Some w → IsLastWrite number (Write other expr ∷ queries) item w.query
 write_here number expr queries other item value (Some x) w b test none later e =
     subst (λ (y : TentativeWrite). IsLastWrite number (Write other expr ∷ queries) item y.query) (same_Some x w e) (write_later number (Write other expr) queries item x.query (later x refl))
 write_here number expr queries other item value None w false test none later e = absurd (cc)
@@ -140,7 +136,7 @@ found_later number deed deeds w is h =
     (omega (arith, above), ap (λ (b : Bool). option_map deed_value (cond b (Some deed) (find (is_deed_of w.query) deeds))) apart ∙ h.1)
 
 found_either : (number : ℕ) (deed : Deed) (deeds : List Deed) (last one : Option TentativeWrite) (w : TentativeWrite) → deed.query ≡ number
-    → ((x : TentativeWrite) → last ≡ Some x → IsFound (number + 1) deeds x) → (one ≡ Some w → write_of deed ≡ w) → first_of last one ≡ Some w → IsFound number (deed ∷ deeds) w
+    → ((x : TentativeWrite) → last ≡ Some x → IsFound (number + 1) deeds x) → (one ≡ Some w → write_of deed ≡ w) → option_or last one ≡ Some w → IsFound number (deed ∷ deeds) w
 found_either number deed deeds None one w is later here e = subst (IsFound number (deed ∷ deeds)) (here e) (found_first number deed deeds is)
 found_either number deed deeds (Some x) one w is later here e = found_later number deed deeds w is (later w e)
 
@@ -162,9 +158,9 @@ kept_elsewhere action.Read item deed apart = refl
 kept_elsewhere action.Write item deed apart = ap (λ (b : Bool). if b then Some (write_of deed) else None) (ne_eqb deed.item.0 item.0 apart)
 
 share_kept : (item : ItemId) (deed : Deed) (deeds share : List Deed) (b : Bool) → last_kept item share ≡ last_kept item deeds → (b ≡ false → kept_one item deed ≡ None)
-    → last_kept item (cond b (deed ∷ share) share) ≡ first_of (last_kept item deeds) (kept_one item deed)
-share_kept item deed deeds share true same none = ap (λ (last : Option TentativeWrite). first_of last (kept_one item deed)) same
-share_kept item deed deeds share false same none = same ∙ (sym (first_none (last_kept item deeds)) ∙ ap (first_of (last_kept item deeds)) (sym (none refl)))
+    → last_kept item (cond b (deed ∷ share) share) ≡ option_or (last_kept item deeds) (kept_one item deed)
+share_kept item deed deeds share true same none = ap (λ (last : Option TentativeWrite). option_or last (kept_one item deed)) same
+share_kept item deed deeds share false same none = same ∙ (sym (first_none (last_kept item deeds)) ∙ ap (option_or (last_kept item deeds)) (sym (none refl)))
 
 is_own : (sc : Scenario) (at : ℕ) (item : ItemId) (deed : Deed) → IsItemAt sc at item.0 → deed.item.0 ≡ item.0 → is_at sc at deed ≡ true
 is_own sc at item deed own same = at_home sc deed own.declared at (ap (slice_get sc.items) same ∙ own.declared_is) ∙ eq-eqb own.declared.server.0 at own.at_is

@@ -1,15 +1,14 @@
 -- Serial data, the server's rows: what an entry has read are the server's values, and a settled commit applies what its entry has done.
-use Rattle.std.specs.Option.{option_map_or}
+use Rattle.std.specs.Option.{option_flatten, option_map_or}
 use Rattle.std.proofs.Common.{Bool, IfSome, List, None, Option, Some, [], ap, arith, false, if◌then◌else◌, is_some, length, map, refl, slice_get, slice_set, subst, sym, true, unwrap_or, ℕ, ℤ, ⊎_elim, ◌++◌, ◌<◌, ◌∙◌, ◌∷◌, ◌≡◌, ◌⊎◌}
 use Rattle.std.proofs.lemmas.Bool.{eqb-true}
 use Rattle.std.proofs.lemmas.List.{length-set}
 use Rattle.std.proofs.lemmas.Option.{same_Some}
 use Rattle.tp_types.specs.Effect.{Effect, sends}
-use Rattle.tp_types.specs.Table.{flattened}
 use Rattle.tp_lock.specs.declared.entry.Grant.{Grant}
 use Rattle.tp_model.specs.Ids.{same_txn}
 use Rattle.tp_model.specs.Queries.{item_of}
-use Rattle.tp_model.specs.SerialRun.{stored_all}
+use Rattle.tp_model.specs.SerialRun.{with_deeds}
 use Rattle.tp_model.specs.Words.body
 use Rattle.tp_model.specs.Words.log
 use Rattle.tp_model.specs.Words.outcome
@@ -33,7 +32,7 @@ use Rattle.tp_server.specs.declared.server.Ballot.{Ballot}
 use Rattle.tp_server.specs.declared.server.Entry.{Entry}
 use Rattle.tp_server.specs.Row.{ack_letter, answer_to, asked_query, closes, completes, ended_store, entry_after, entry_at, followed_by, is_open, kept_by, learns, no_letter, refused_as, reply, restarted_reply, server_row, settled_as, tentative_write, value_of_run, votes_on, with_entry, yes_letter}
 use Rattle.tp_server.specs.State.{Server}
-use Rattle.tp_server.specs.Verdicts.{learnt, verdicts_on, with_versions}
+use Rattle.tp_server.specs.Verdicts.{with_wants, verdicts_on, with_versions}
 use Rattle.tp_store.specs.Contents.{Contents}
 use Rattle.tp_store.specs.Rule.{bounds_of, read_in, writes_of}
 use Rattle.tp_store.specs.Writes.{with_write}
@@ -53,7 +52,7 @@ abbrev pub deeds_in : Option Entry → List Deed
 deeds_in entry = option_map_or entry_deeds entry []
 
 abbrev pub values_by : List ℤ → Outcome → List Deed → List ℤ
-values_by values outcome.Commit deeds = stored_all values deeds
+values_by values outcome.Commit deeds = with_deeds values deeds
 values_by values outcome.Abort deeds = values
 
 -- the values after a record: a settled commit applies what its transaction has done
@@ -96,7 +95,7 @@ pub record ServerKeeps (sc : Scenario) (M : TxnId → Type 0) (s : Server) (effe
 
 -- what one transaction has done is clear of what others have
 abbrev pub IsClearOfOthers : Server → TxnId → Type 0
-IsClearOfOthers s txn = (n : ℕ) (other : Entry) → flattened (slice_get s.entries n) ≡ Some other → (n ≡ txn.0 → ⊥) → AreClear (deeds_in (entry_at s txn)) other.deeds
+IsClearOfOthers s txn = (n : ℕ) (other : Entry) → option_flatten (slice_get s.entries n) ≡ Some other → (n ≡ txn.0 → ⊥) → AreClear (deeds_in (entry_at s txn)) other.deeds
 
 -- a query comes after those that have run
 pub record QueryRises (sc : Scenario) (s : Server) (q : QueryRequest) : Type 0 where
@@ -130,11 +129,11 @@ stays_keep sc M s letters h = record { reads = h; forces = tt; votes = tt; value
 
 -- ---- tables
 
-entry_set : (s : Server) (txn other : TxnId) (entry : Option Entry) (b : Bool) → same_txn txn other ≡ b → txn.0 < length s.entries → flattened (slice_get (slice_set s.entries txn.0 entry) other.0) ≡ (if b then entry else entry_at s other)
+entry_set : (s : Server) (txn other : TxnId) (entry : Option Entry) (b : Bool) → same_txn txn other ≡ b → txn.0 < length s.entries → option_flatten (slice_get (slice_set s.entries txn.0 entry) other.0) ≡ (if b then entry else entry_at s other)
 entry_set s txn other entry true e within =
     let is : txn.0 ≡ other.0 = eqb-true txn.0 other.0 e in
-    ap (λ (n : ℕ). flattened (slice_get (slice_set s.entries txn.0 entry) n)) (sym is) ∙ ap flattened (set_here s.entries txn.0 entry within)
-entry_set s txn other entry false e within = ap flattened (set_elsewhere s.entries txn.0 other.0 entry e)
+    ap (λ (n : ℕ). option_flatten (slice_get (slice_set s.entries txn.0 entry) n)) (sym is) ∙ ap option_flatten (set_here s.entries txn.0 entry within)
+entry_set s txn other entry false e within = ap option_flatten (set_elsewhere s.entries txn.0 other.0 entry e)
 
 writes_set : (store : Contents) (txn other : TxnId) (writes : List TentativeWrite) (b : Bool) → same_txn txn other ≡ b → txn.0 < length store.tentative
     → unwrap_or (slice_get (slice_set store.tentative txn.0 writes) other.0) [] ≡ (if b then writes else writes_of store other)
@@ -146,7 +145,7 @@ writes_set store txn other writes false e within = ap (λ (x : Option (List Tent
 -- one transaction's writes and entry change
 last_set : (s : Server) (txn other : TxnId) (writes : List TentativeWrite) (entry : Option Entry) (b : Bool) → same_txn txn other ≡ b → txn.0 < length s.store.tentative → txn.0 < length s.entries
     → AreLast writes (deeds_in entry) → AreLast (writes_of s.store other) (deeds_in (entry_at s other))
-    → AreLast (unwrap_or (slice_get (slice_set s.store.tentative txn.0 writes) other.0) []) (deeds_in (flattened (slice_get (slice_set s.entries txn.0 entry) other.0)))
+    → AreLast (unwrap_or (slice_get (slice_set s.store.tentative txn.0 writes) other.0) []) (deeds_in (option_flatten (slice_get (slice_set s.entries txn.0 entry) other.0)))
 last_set s txn other writes entry true e kept within new old =
     subst (λ (found : Option Entry). AreLast (unwrap_or (slice_get (slice_set s.store.tentative txn.0 writes) other.0) []) (deeds_in found)) (sym (entry_set s txn other entry true e within))
     (subst (λ (ws : List TentativeWrite). AreLast ws (deeds_in entry)) (sym (writes_set s.store txn other writes true e kept)) new)
@@ -181,7 +180,7 @@ run_at sc s mail q query entry value h m k =
 
 -- a read has the value that its item has by then
 run_reads : (sc : Scenario) (s : Server) (q : QueryRequest) (query : Query) (entry : Entry) (value : ℤ) → ServerReads sc s → IsRunAt sc s q entry → (item_of query).0 < length sc.items → value_of_run s q query ≡ Some value
-    → IsReadFrom (stored_all s.store.values entry.deeds) (deed_of q.query query value)
+    → IsReadFrom (with_deeds s.store.values entry.deeds) (deed_of q.query query value)
 run_reads sc s q (query.Write item expr) entry value h k on is = tt
 run_reads sc s q (query.Read item into) entry value h k on is =
     let items = h.items_are in
@@ -198,7 +197,7 @@ run_reads sc s q (query.Read item into) entry value h k on is =
 -- what the store keeps of it
 run_last : (sc : Scenario) (s : Server) (q : QueryRequest) (query : Query) (entry : Entry) (value : ℤ) (other : TxnId) → ServerReads sc s → q.txn.0 < length sc.txns → IsRunAt sc s q entry
     → AreLast (writes_of (kept_by s.store q query value) other)
-    (deeds_in (flattened (slice_get (slice_set s.entries q.txn.0 (Some (entry_after q entry (deed_of q.query query value)))) other.0)))
+    (deeds_in (option_flatten (slice_get (slice_set s.entries q.txn.0 (Some (entry_after q entry (deed_of q.query query value)))) other.0)))
 run_last sc s q (query.Write item expr) entry value other h exists k =
     let deed = deed_of q.query (query.Write item expr) value in
     let places = h.places in
@@ -211,7 +210,7 @@ run_last sc s q (query.Read item into) entry value other h exists k =
     by_txn deed (same_txn q.txn other) refl (omega (arith, exists, entry_places)) (read_last (writes_of s.store q.txn) entry.deeds deed refl k.last)
   where
     by_txn : (deed : Deed) (b : Bool) → same_txn q.txn other ≡ b → q.txn.0 < length s.entries → AreLast (writes_of s.store q.txn) (entry.deeds ++ deed ∷ [])
-        → AreLast (writes_of s.store other) (deeds_in (flattened (slice_get (slice_set s.entries q.txn.0 (Some (entry_after q entry deed))) other.0)))
+        → AreLast (writes_of s.store other) (deeds_in (option_flatten (slice_get (slice_set s.entries q.txn.0 (Some (entry_after q entry deed))) other.0)))
     by_txn deed true e within new =
         subst (λ (found : Option Entry). AreLast (writes_of s.store other) (deeds_in found)) (sym (entry_set s q.txn other (Some (entry_after q entry deed)) true e within))
         (subst (λ (t : TxnId). AreLast (writes_of s.store t) (entry.deeds ++ deed ∷ [])) (same_txn_is q.txn other e) new)
@@ -266,7 +265,7 @@ entry_keeps sc M s q entry now letters h exists at same =
       values = refl;
     }
   where
-    by_txn : (other : TxnId) (b : Bool) → same_txn q.txn other ≡ b → q.txn.0 < length s.entries → AreLast (writes_of s.store other) (deeds_in (flattened (slice_get (slice_set s.entries q.txn.0 (Some now)) other.0)))
+    by_txn : (other : TxnId) (b : Bool) → same_txn q.txn other ≡ b → q.txn.0 < length s.entries → AreLast (writes_of s.store other) (deeds_in (option_flatten (slice_get (slice_set s.entries q.txn.0 (Some now)) other.0)))
     by_txn other true e within =
         subst (λ (found : Option Entry). AreLast (writes_of s.store other) (deeds_in found)) (sym (entry_set s q.txn other (Some now) true e within))
         (subst (AreLast (writes_of s.store other)) (sym same) (subst (λ (t : TxnId). AreLast (writes_of s.store t) entry.deeds) (same_txn_is q.txn other e) at.last))
@@ -291,7 +290,7 @@ resumes_keep sc M s effect grant q query entry value k h =
 -- ---- Prepare
 
 -- versions that are learnt are none of what is read
-learnt_reads : (sc : Scenario) (s : Server) (want : List (AdminId × Version)) → ServerReads sc s → ServerReads sc (learnt s want)
+learnt_reads : (sc : Scenario) (s : Server) (want : List (AdminId × Version)) → ServerReads sc s → ServerReads sc (with_wants s want)
 learnt_reads sc s want h =
     let known = (with_versions s.store want).known in
     subst (λ (store : Contents). ServerReads sc (record s { store = store })) (sym (learnt_is s.store want)) (now_known known)
@@ -309,9 +308,9 @@ vote_tested sc M s p entry h clear found place =
     (λ (further : IsLaterVote p entry). clear.tested entry further.cast found further.ballot_is) place
 
 votes_keep : (sc : Scenario) (M : TxnId → Type 0) (s : Server) (mail : Mail) (p : PrepareRequest) (entry : Entry) (staple : Staple) (txn : Transaction) → ServerReads sc s → PrepareClear sc M s p.txn
-    → IsVote sc s mail p entry staple txn → ServerKeeps sc M s (votes_on sc (learnt s p.want) p entry staple txn)
+    → IsVote sc s mail p entry staple txn → ServerKeeps sc M s (votes_on sc (with_wants s p.want) p entry staple txn)
 votes_keep sc M s mail p entry staple txn h clear k =
-    let now = learnt s p.want in
+    let now = with_wants s p.want in
     let after : ServerReads sc now = learnt_reads sc s p.want h in
     let here : AreLast (writes_of now.store p.txn) entry.deeds = subst (λ (found : Option Entry). AreLast (writes_of now.store p.txn) (deeds_in found)) k.found (after.last p.txn) in
     let voted : Entry = record entry { ballot = Some (record { turn = p.turn; verdicts = verdicts_on sc now txn staple p.want entry.deeds }) } in
@@ -330,14 +329,14 @@ votes_keep sc M s mail p entry staple txn h clear k =
     }
   where
     voted_last : (s : Server) (txn other : TxnId) (entry voted : Entry) (b : Bool) → same_txn txn other ≡ b → entry_at s txn ≡ Some entry → AreLast (writes_of s.store txn) voted.deeds
-        → AreLast (writes_of s.store other) (deeds_in (entry_at s other)) → AreLast (writes_of s.store other) (deeds_in (flattened (slice_get (slice_set s.entries txn.0 (Some voted)) other.0)))
+        → AreLast (writes_of s.store other) (deeds_in (entry_at s other)) → AreLast (writes_of s.store other) (deeds_in (option_flatten (slice_get (slice_set s.entries txn.0 (Some voted)) other.0)))
     voted_last s txn other entry voted true e found new old =
         let is : txn.0 ≡ other.0 = eqb-true txn.0 other.0 e in
         subst (λ (x : Option Entry). AreLast (writes_of s.store other) (deeds_in x))
-        (sym (ap (λ (n : ℕ). flattened (slice_get (slice_set s.entries txn.0 (Some voted)) n)) (sym is) ∙ written_over s.entries txn.0 entry (Some voted) found))
+        (sym (ap (λ (n : ℕ). option_flatten (slice_get (slice_set s.entries txn.0 (Some voted)) n)) (sym is) ∙ written_over s.entries txn.0 entry (Some voted) found))
         (subst (λ (t : TxnId). AreLast (writes_of s.store t) voted.deeds) (same_txn_is txn other e) new)
     voted_last s txn other entry voted false e found new old =
-        subst (λ (x : Option Entry). AreLast (writes_of s.store other) (deeds_in x)) (sym (ap flattened (set_elsewhere s.entries txn.0 other.0 (Some voted) e))) old
+        subst (λ (x : Option Entry). AreLast (writes_of s.store other) (deeds_in x)) (sym (ap option_flatten (set_elsewhere s.entries txn.0 other.0 (Some voted) e))) old
 
 -- ---- Decide
 
@@ -379,7 +378,7 @@ ends_keep sc M s d letter h m =
         places = ap length table ∙ (length-set s.store.tentative d.txn.0 [] ∙ h.places);
         entry_places = length-set s.entries d.txn.0 None ∙ h.entry_places;
         last = λ other.
-            subst (λ (lists : List (List TentativeWrite)). AreLast (unwrap_or (slice_get lists other.0) []) (deeds_in (flattened (slice_get (slice_set s.entries d.txn.0 None) other.0)))) (sym table)
+            subst (λ (lists : List (List TentativeWrite)). AreLast (unwrap_or (slice_get lists other.0) []) (deeds_in (option_flatten (slice_get (slice_set s.entries d.txn.0 None) other.0)))) (sym table)
             (last_set s d.txn other [] None (same_txn d.txn other) refl (omega (arith, exists, places)) (omega (arith, exists, entry_places)) none_last (h.last other));
       };
       forces = tt;

@@ -6,7 +6,7 @@ use Rattle.tp_types.specs.Effect.{Effect}
 use Rattle.tp_model.specs.Agreement.{has_item_at}
 use Rattle.tp_model.specs.Facts.{commit_of, outcome_of}
 use Rattle.tp_model.specs.Ids.{same_txn}
-use Rattle.tp_model.specs.SerialRun.{are_in_range, overlaid, overlaid_at, overlaid_deeds, overlaid_what, store_of, stored, stored_all, stored_what}
+use Rattle.tp_model.specs.SerialRun.{are_in_range, overlay, overlay_at, overlay_deeds, overlay_what, store_of, with_deed, with_deeds, with_what}
 use Rattle.tp_model.specs.Words.decision
 use Rattle.tp_model.specs.Words.log
 use Rattle.tp_model.specs.Words.outcome
@@ -53,21 +53,21 @@ quiet_serial sc facts (what.Decided txn decided) q = absurd q
 quiet_serial sc facts (what.Settled at txn ended) q = absurd q
 quiet_serial sc facts _ q = tt
 
-quiet_overlaid : (sc : Scenario) (facts : List Fact) (store : List ℤ) (w : What) → IsQuiet w → overlaid_what sc facts store w ≡ store
+quiet_overlaid : (sc : Scenario) (facts : List Fact) (store : List ℤ) (w : What) → IsQuiet w → overlay_what sc facts store w ≡ store
 quiet_overlaid sc facts store (what.Settled at txn ended) q = absurd q
 quiet_overlaid sc facts store _ q = refl
 
-quiet_stored : (store : List ℤ) (w : What) → IsQuiet w → stored_what store w ≡ store
+quiet_stored : (store : List ℤ) (w : What) → IsQuiet w → with_what store w ≡ store
 quiet_stored store (what.Decided txn decided) q = absurd q
 quiet_stored store _ q = refl
 
-pub quiet_values : (sc : Scenario) (facts : List Fact) (happened : List What) (store : List ℤ) → Each IsQuiet happened → fold (overlaid_what sc facts) store happened ≡ store
+pub quiet_values : (sc : Scenario) (facts : List Fact) (happened : List What) (store : List ℤ) → Each IsQuiet happened → fold (overlay_what sc facts) store happened ≡ store
 quiet_values sc facts [] store q = refl
-quiet_values sc facts (w ∷ happened) store q = ap (λ (b : List ℤ). fold (overlaid_what sc facts) b happened) (quiet_overlaid sc facts store w q.0) ∙ quiet_values sc facts happened store q.1
+quiet_values sc facts (w ∷ happened) store q = ap (λ (b : List ℤ). fold (overlay_what sc facts) b happened) (quiet_overlaid sc facts store w q.0) ∙ quiet_values sc facts happened store q.1
 
-pub quiet_store : (happened : List What) (store : List ℤ) → Each IsQuiet happened → fold stored_what store happened ≡ store
+pub quiet_store : (happened : List What) (store : List ℤ) → Each IsQuiet happened → fold with_what store happened ≡ store
 quiet_store [] store q = refl
-quiet_store (w ∷ happened) store q = ap (λ (b : List ℤ). fold stored_what b happened) (quiet_stored store w q.0) ∙ quiet_store happened store q.1
+quiet_store (w ∷ happened) store q = ap (λ (b : List ℤ). fold with_what b happened) (quiet_stored store w q.0) ∙ quiet_store happened store q.1
 
 pub quiet_facts : (sc : Scenario) (facts : List Fact) (happened : List What) → Each IsQuiet happened → Each (WhatSerial sc facts) happened
 quiet_facts sc facts happened q = each_as IsQuiet (WhatSerial sc facts) (quiet_serial sc facts) happened q
@@ -76,7 +76,7 @@ quiet_facts sc facts happened q = each_as IsQuiet (WhatSerial sc facts) (quiet_s
 pub unmoved_serial : (sc : Scenario) (w : State) (actors : Actors) (happened : List What) (letters : List Letter) → Serial sc w → actors.servers ≡ w.actors.servers → actors.coordinators ≡ w.actors.coordinators → Each IsQuiet happened
     → MoveSerial sc w (record { actors = actors; happened = happened; letters = letters })
 unmoved_serial sc w actors happened letters h servers coordinators q =
-    let values : overlaid_by sc w happened ≡ overlaid sc w.facts = quiet_values sc w.facts happened (overlaid sc w.facts) q in
+    let values : overlaid_by sc w happened ≡ overlay sc w.facts = quiet_values sc w.facts happened (overlay sc w.facts) q in
     let store : store_by sc w happened ≡ store_of sc w.facts = quiet_store happened (store_of sc w.facts) q in
     let same : SameEnds w.actors actors =
     record { decided = λ txn. ap (λ (xs : List (Part Coordinator)). decided_at xs txn) coordinators; settled = λ at txn. ap (λ (xs : List (Part Server)). settled_at xs at txn) servers } in
@@ -86,26 +86,26 @@ unmoved_serial sc w actors happened letters h servers coordinators q =
       shares = λ txn at committed p d e.
           h.shares txn at committed p (sym (same.decided txn.0) ∙ d) (sym (ap (λ (xs : List (Part Server)). prepared_at xs at txn) servers) ∙ e);
       store = λ at. subst (λ (left : List ℤ). StoreFits (IsItemAt sc at) (IsUnsettled sc actors at) left (store_by sc w happened)) (sym values)
-          (subst (StoreFits (IsItemAt sc at) (IsUnsettled sc actors at) (overlaid sc w.facts)) (sym store) (fits_same sc w.actors actors at (overlaid sc w.facts) (store_of sc w.facts) same (h.store at)));
+          (subst (StoreFits (IsItemAt sc at) (IsUnsettled sc actors at) (overlay sc w.facts)) (sym store) (fits_same sc w.actors actors at (overlay sc w.facts) (store_of sc w.facts) same (h.store at)));
       happened = quiet_facts sc w.facts happened q;
       range = subst (λ (left : List ℤ). are_in_range sc.items left ≡ true) (sym store) h.range;
     }
 
 -- ---- a share of deeds
 
-overlaid_one : (sc : Scenario) (at : ℕ) (store : List ℤ) (deed : Deed) (deeds share : List Deed) (b : Bool) → ((before : List ℤ) → fold (overlaid_at sc (record { 0 = at })) before deeds ≡ stored_all before share)
-    → fold (overlaid_at sc (record { 0 = at })) (if b then stored store deed else store) deeds ≡ stored_all store (cond b (deed ∷ share) share)
-overlaid_one sc at store deed deeds share true later = later (stored store deed)
+overlaid_one : (sc : Scenario) (at : ℕ) (store : List ℤ) (deed : Deed) (deeds share : List Deed) (b : Bool) → ((before : List ℤ) → fold (overlay_at sc (record { 0 = at })) before deeds ≡ with_deeds before share)
+    → fold (overlay_at sc (record { 0 = at })) (if b then with_deed store deed else store) deeds ≡ with_deeds store (cond b (deed ∷ share) share)
+overlaid_one sc at store deed deeds share true later = later (with_deed store deed)
 overlaid_one sc at store deed deeds share false later = later store
 
 -- what deeds overlay at a server is its share of them
-pub overlaid_share : (sc : Scenario) (at : ℕ) (store : List ℤ) (deeds : List Deed) → fold (overlaid_at sc (record { 0 = at })) store deeds ≡ stored_all store (share_at sc at deeds)
+pub overlaid_share : (sc : Scenario) (at : ℕ) (store : List ℤ) (deeds : List Deed) → fold (overlay_at sc (record { 0 = at })) store deeds ≡ with_deeds store (share_at sc at deeds)
 overlaid_share sc at store [] = refl
 overlaid_share sc at store (deed ∷ deeds) = overlaid_one sc at store deed deeds (share_at sc at deeds) (is_at sc at deed) (λ before. overlaid_share sc at before deeds)
 
-same_fold : (n : ℕ) (deeds : List Deed) (xs ys : List ℤ) → slice_get xs n ≡ slice_get ys n → slice_get (stored_all xs deeds) n ≡ slice_get (stored_all ys deeds) n
+same_fold : (n : ℕ) (deeds : List Deed) (xs ys : List ℤ) → slice_get xs n ≡ slice_get ys n → slice_get (with_deeds xs deeds) n ≡ slice_get (with_deeds ys deeds) n
 same_fold n [] xs ys e = e
-same_fold n (deed ∷ deeds) xs ys e = same_fold n deeds (stored xs deed) (stored ys deed) (same_stored deed.action xs ys deed n e)
+same_fold n (deed ∷ deeds) xs ys e = same_fold n deeds (with_deed xs deed) (with_deed ys deed) (same_stored deed.action xs ys deed n e)
 
 other_at : (sc : Scenario) (at n : ℕ) (item : Item) (deed : Deed) → slice_get sc.items n ≡ Some item → (at == item.server.0) ≡ false → is_at sc at deed ≡ true → deed.item.0 ≡ n → ⊥
 other_at sc at n item deed found apart here same =
@@ -115,16 +115,16 @@ other_at sc at n item deed found apart here same =
     cc
 
 one_elsewhere : (sc : Scenario) (at n : ℕ) (item : Item) (store : List ℤ) (deed : Deed) (b : Bool) → is_at sc at deed ≡ b → slice_get sc.items n ≡ Some item → (at == item.server.0) ≡ false
-    → slice_get (if b then stored store deed else store) n ≡ slice_get store n
+    → slice_get (if b then with_deed store deed else store) n ≡ slice_get store n
 one_elsewhere sc at n item store deed true here found apart = other_stored deed.action store deed n (other_at sc at n item deed found apart here)
 one_elsewhere sc at n item store deed false here found apart = refl
 
 -- it changes no item of another server
 pub overlaid_elsewhere : (sc : Scenario) (at n : ℕ) (item : Item) (deeds : List Deed) (store : List ℤ) → slice_get sc.items n ≡ Some item → (at == item.server.0) ≡ false
-    → slice_get (fold (overlaid_at sc (record { 0 = at })) store deeds) n ≡ slice_get store n
+    → slice_get (fold (overlay_at sc (record { 0 = at })) store deeds) n ≡ slice_get store n
 overlaid_elsewhere sc at n item [] store found apart = refl
 overlaid_elsewhere sc at n item (deed ∷ deeds) store found apart =
-    overlaid_elsewhere sc at n item deeds (overlaid_at sc (record { 0 = at }) store deed) found apart ∙ one_elsewhere sc at n item store deed (is_at sc at deed) refl found apart
+    overlaid_elsewhere sc at n item deeds (overlay_at sc (record { 0 = at }) store deed) found apart ∙ one_elsewhere sc at n item store deed (is_at sc at deed) refl found apart
 
 -- ---- what is prepared
 
@@ -177,8 +177,8 @@ pub record ServerActs (sc : Scenario) (w : State) (at : ServerId) (part : Part S
 abbrev next_part : Part Server → Effect Server → Part Server
 next_part part effect = record { up = Some effect.state; log = log_with part.log effect.reaction.append }
 
-server_serial : (sc : Scenario) (w : State) (at : ServerId) (part : Part Server) (s : Server) → Serial sc w → slice_get w.actors.servers at.0 ≡ Some part → part.up ≡ Some s → ServerUpSerial sc (overlaid sc w.facts) at s
-server_serial sc w at part s h found up = subst (λ (u : Option Server). IfSome u (ServerUpSerial sc (overlaid sc w.facts) at)) up (h.servers at.0 part found).state
+server_serial : (sc : Scenario) (w : State) (at : ServerId) (part : Part Server) (s : Server) → Serial sc w → slice_get w.actors.servers at.0 ≡ Some part → part.up ≡ Some s → ServerUpSerial sc (overlay sc w.facts) at s
+server_serial sc w at part s h found up = subst (λ (u : Option Server). IfSome u (ServerUpSerial sc (overlay sc w.facts) at)) up (h.servers at.0 part found).state
 
 -- a vote YES on a commit is on its share
 vote_share : (sc : Scenario) (w : State) (at : ServerId) (part : Part Server) (s : Server) (p : Prepared) (committed : CommitRecord) → Agrees sc w → Serial sc w → slice_get w.actors.servers at.0 ≡ Some part → ServerAgrees s part.log
@@ -232,7 +232,7 @@ others_hold sc other values after part same h =
 -- what the act leaves, where these facts are told and these values are left
 pub record Leaves (sc : Scenario) (w : State) (at : ServerId) (part : Part Server) (effect : Effect Server) (happened : List What) : Type 0 where
   pub here : HoldsValues sc at (overlaid_by sc w happened) effect.state.store.values
-  pub elsewhere : (n : ℕ) (item : Item) → slice_get sc.items n ≡ Some item → (at.0 == item.server.0) ≡ false → slice_get (overlaid_by sc w happened) n ≡ slice_get (overlaid sc w.facts) n
+  pub elsewhere : (n : ℕ) (item : Item) → slice_get sc.items n ≡ Some item → (at.0 == item.server.0) ≡ false → slice_get (overlaid_by sc w happened) n ≡ slice_get (overlay sc w.facts) n
   pub store : StoreStands sc (with_server w.actors at (next_part part effect)) (overlaid_by sc w happened) (store_of sc w.facts)
   pub same_store : store_by sc w happened ≡ store_of sc w.facts
   pub told : Each (WhatSerial sc w.facts) happened
@@ -250,7 +250,7 @@ left_serial sc w at part s effect happened letters agrees h k l =
     } in
     record {
       servers = at_changed (λ (n : ℕ) (p : Part Server). ServerPartSerial sc after (record { 0 = n }) p) w.actors.servers at.0 part next k.found
-          (λ n p e apart. others_hold sc (record { 0 = n }) (overlaid sc w.facts) after p
+          (λ n p e apart. others_hold sc (record { 0 = n }) (overlay sc w.facts) after p
           (λ m item found home. l.elsewhere m item found (ap (λ (x : ServerId). at.0 == x.0) home ∙ apart)) (h.servers n p e)) here;
       up = at_set (λ (n : ℕ) (p : Part Server). is_some p.up ≡ true) w.actors.servers at.0 next h.up refl;
       shares = acts_shares sc w at part s effect agrees h k;
@@ -264,12 +264,12 @@ left_serial sc w at part s effect happened letters agrees h k l =
 quiet_leaves : (sc : Scenario) (w : State) (at : ServerId) (part : Part Server) (s : Server) (effect : Effect Server) → Serial sc w → ServerActs sc w at part s effect
     → effect.state.store.values ≡ s.store.values → ((txn : TxnId) → appended (settlement_in txn) effect.reaction.append ≡ None) → Leaves sc w at part effect []
 quiet_leaves sc w at part s effect h k values none =
-    let was : ServerUpSerial sc (overlaid sc w.facts) at s = server_serial sc w at part s h k.found k.up in
+    let was : ServerUpSerial sc (overlay sc w.facts) at s = server_serial sc w at part s h k.found k.up in
     let same : SameEnds w.actors (with_server w.actors at (next_part part effect)) = nothing_settled w.actors at part (next_part part effect) effect.reaction.append k.found refl none in
     record {
       here = λ n item found home. ap (λ (xs : List ℤ). slice_get xs n) values ∙ was.values n item found home;
       elsewhere = λ n item found apart. refl;
-      store = λ other. fits_same sc w.actors (with_server w.actors at (next_part part effect)) other (overlaid sc w.facts) (store_of sc w.facts) same (h.store other);
+      store = λ other. fits_same sc w.actors (with_server w.actors at (next_part part effect)) other (overlay sc w.facts) (store_of sc w.facts) same (h.store other);
       same_store = refl;
       told = tt;
     }
@@ -280,7 +280,7 @@ abort_leaves : (sc : Scenario) (w : State) (at : ServerId) (part : Part Server) 
     → effect.reaction.append ≡ Some (log.Settled r) → settled_in r.txn part.log ≡ None → effect.state.store.values ≡ s.store.values → (DecidedAs w.actors.coordinators r.txn outcome.Commit → ⊥)
     → Leaves sc w at part effect (what.Settled at r.txn outcome.Abort ∷ [])
 abort_leaves sc w at part s effect r h k is fresh values aborted =
-    let was : ServerUpSerial sc (overlaid sc w.facts) at s = server_serial sc w at part s h k.found k.up in
+    let was : ServerUpSerial sc (overlay sc w.facts) at s = server_serial sc w at part s h k.found k.up in
     let next = next_part part effect in
     let settles : SettlesAt w.actors at part next r = record { found = k.found; grown = ap (log_with part.log) is; fresh = fresh } in
     record {
@@ -292,11 +292,11 @@ abort_leaves sc w at part s effect r h k is fresh values aborted =
     }
   where
     by_server : (other : ℕ) (b : Bool) → (at.0 == other) ≡ b → SettlesAt w.actors at part (next_part part effect) r
-        → StoreFits (IsItemAt sc other) (IsUnsettled sc (with_server w.actors at (next_part part effect)) other) (overlaid sc w.facts) (store_of sc w.facts)
-    by_server other false apart settles = elsewhere_same sc w.actors at part (next_part part effect) r other (overlaid sc w.facts) (store_of sc w.facts) settles apart (h.store other)
+        → StoreFits (IsItemAt sc other) (IsUnsettled sc (with_server w.actors at (next_part part effect)) other) (overlay sc w.facts) (store_of sc w.facts)
+    by_server other false apart settles = elsewhere_same sc w.actors at part (next_part part effect) r other (overlay sc w.facts) (store_of sc w.facts) settles apart (h.store other)
     by_server other true same settles =
-        subst (λ (n : ℕ). StoreFits (IsItemAt sc n) (IsUnsettled sc (with_server w.actors at (next_part part effect)) n) (overlaid sc w.facts) (store_of sc w.facts)) (eqb-true at.0 other same)
-        (abort_same sc w.actors at part (next_part part effect) r (overlaid sc w.facts) (store_of sc w.facts) settles aborted (h.store at.0))
+        subst (λ (n : ℕ). StoreFits (IsItemAt sc n) (IsUnsettled sc (with_server w.actors at (next_part part effect)) n) (overlay sc w.facts) (store_of sc w.facts)) (eqb-true at.0 other same)
+        (abort_same sc w.actors at part (next_part part effect) r (overlay sc w.facts) (store_of sc w.facts) settles aborted (h.store at.0))
 
 -- ---- an act that settles a commit
 
@@ -320,23 +320,23 @@ pub commit_told : (sc : Scenario) (w : State) (txn : TxnId) → Agrees sc w → 
 commit_told sc w txn agrees d = told_commit sc w txn (decided_at w.actors.coordinators txn.0) agrees refl d
 
 commit_leaves : (sc : Scenario) (w : State) (at : ServerId) (part : Part Server) (s : Server) (effect : Effect Server) (r : Settled) → Agrees sc w → Serial sc w → ServerActs sc w at part s effect
-    → effect.reaction.append ≡ Some (log.Settled r) → settled_in r.txn part.log ≡ None → effect.state.store.values ≡ stored_all s.store.values (deeds_in (entry_at s r.txn)) → has_item_at sc at r.txn ≡ true
+    → effect.reaction.append ≡ Some (log.Settled r) → settled_in r.txn part.log ≡ None → effect.state.store.values ≡ with_deeds s.store.values (deeds_in (entry_at s r.txn)) → has_item_at sc at r.txn ≡ true
     → DecidedAs w.actors.coordinators r.txn outcome.Commit → Leaves sc w at part effect (what.Settled at r.txn outcome.Commit ∷ [])
 commit_leaves sc w at part s effect r agrees h k is fresh values item d =
-    let was : ServerUpSerial sc (overlaid sc w.facts) at s = server_serial sc w at part s h k.found k.up in
+    let was : ServerUpSerial sc (overlay sc w.facts) at s = server_serial sc w at part s h k.found k.up in
     let next = next_part part effect in
     let settles : SettlesAt w.actors at part next r = record { found = k.found; grown = ap (log_with part.log) is; fresh = fresh } in
     let told : IsToldCommit w r.txn = commit_told sc w r.txn agrees d in
     let deeds = told.committed.deeds in
     let share : IsShare sc at s r.txn told.committed = open_share sc w at part s r.txn told.committed h k.found k.agrees told.decided fresh (served_here sc w at part r.txn agrees k.found item d) in
-    let overlays : overlaid_by sc w (what.Settled at r.txn outcome.Commit ∷ []) ≡ fold (overlaid_at sc at) (overlaid sc w.facts) deeds = ap (overlaid_deeds sc at (overlaid sc w.facts)) told.told in
-    let after : overlaid_by sc w (what.Settled at r.txn outcome.Commit ∷ []) ≡ stored_all (overlaid sc w.facts) (share_at sc at.0 deeds) = overlays ∙ overlaid_share sc at.0 (overlaid sc w.facts) deeds in
-    let applied : effect.state.store.values ≡ stored_all s.store.values (share_at sc at.0 deeds) = values ∙ ap (λ (found : Option Entry). stored_all s.store.values (deeds_in found)) share.found ∙ ap (stored_all s.store.values) share.deeds_are in
-    let left : StoreStands sc (with_server w.actors at next) (stored_all (overlaid sc w.facts) (share_at sc at.0 deeds)) (store_of sc w.facts) = λ other. by_server other (at.0 == other) refl told.committed told.decided settles in
+    let overlays : overlaid_by sc w (what.Settled at r.txn outcome.Commit ∷ []) ≡ fold (overlay_at sc at) (overlay sc w.facts) deeds = ap (overlay_deeds sc at (overlay sc w.facts)) told.told in
+    let after : overlaid_by sc w (what.Settled at r.txn outcome.Commit ∷ []) ≡ with_deeds (overlay sc w.facts) (share_at sc at.0 deeds) = overlays ∙ overlaid_share sc at.0 (overlay sc w.facts) deeds in
+    let applied : effect.state.store.values ≡ with_deeds s.store.values (share_at sc at.0 deeds) = values ∙ ap (λ (found : Option Entry). with_deeds s.store.values (deeds_in found)) share.found ∙ ap (with_deeds s.store.values) share.deeds_are in
+    let left : StoreStands sc (with_server w.actors at next) (with_deeds (overlay sc w.facts) (share_at sc at.0 deeds)) (store_of sc w.facts) = λ other. by_server other (at.0 == other) refl told.committed told.decided settles in
     record {
       here = λ n item found home. ap (λ (xs : List ℤ). slice_get xs n) applied
-          ∙ (same_fold n (share_at sc at.0 deeds) s.store.values (overlaid sc w.facts) (was.values n item found home) ∙ ap (λ (xs : List ℤ). slice_get xs n) (sym after));
-      elsewhere = λ n item found apart. ap (λ (xs : List ℤ). slice_get xs n) overlays ∙ overlaid_elsewhere sc at.0 n item deeds (overlaid sc w.facts) found apart;
+          ∙ (same_fold n (share_at sc at.0 deeds) s.store.values (overlay sc w.facts) (was.values n item found home) ∙ ap (λ (xs : List ℤ). slice_get xs n) (sym after));
+      elsewhere = λ n item found apart. ap (λ (xs : List ℤ). slice_get xs n) overlays ∙ overlaid_elsewhere sc at.0 n item deeds (overlay sc w.facts) found apart;
       store = subst (λ (xs : List ℤ). StoreStands sc (with_server w.actors at next) xs (store_of sc w.facts)) (sym after) left;
       same_store = refl;
       told = (ap is_some told.told, tt);
@@ -344,15 +344,15 @@ commit_leaves sc w at part s effect r agrees h k is fresh values item d =
   where
     by_server : (other : ℕ) (b : Bool) → (at.0 == other) ≡ b → (committed : CommitRecord) → decided_at w.actors.coordinators r.txn.0 ≡ Some (decision.Commit committed)
         → SettlesAt w.actors at part (next_part part effect) r
-        → StoreFits (IsItemAt sc other) (IsUnsettled sc (with_server w.actors at (next_part part effect)) other) (stored_all (overlaid sc w.facts) (share_at sc at.0 committed.deeds)) (store_of sc w.facts)
+        → StoreFits (IsItemAt sc other) (IsUnsettled sc (with_server w.actors at (next_part part effect)) other) (with_deeds (overlay sc w.facts) (share_at sc at.0 committed.deeds)) (store_of sc w.facts)
     by_server other false apart committed decided settles =
-        values_as (IsItemAt sc other) (IsUnsettled sc (with_server w.actors at (next_part part effect)) other) (overlaid sc w.facts) (stored_all (overlaid sc w.facts) (share_at sc at.0 committed.deeds)) (store_of sc w.facts)
-        (λ n own. sym (ap (λ (xs : List ℤ). slice_get xs n) (sym (overlaid_share sc at.0 (overlaid sc w.facts) committed.deeds))
-        ∙ overlaid_elsewhere sc at.0 n own.declared committed.deeds (overlaid sc w.facts) own.declared_is (ap (λ (m : ℕ). at.0 == m) own.at_is ∙ apart)))
-        (elsewhere_same sc w.actors at part (next_part part effect) r other (overlaid sc w.facts) (store_of sc w.facts) settles apart (h.store other))
+        values_as (IsItemAt sc other) (IsUnsettled sc (with_server w.actors at (next_part part effect)) other) (overlay sc w.facts) (with_deeds (overlay sc w.facts) (share_at sc at.0 committed.deeds)) (store_of sc w.facts)
+        (λ n own. sym (ap (λ (xs : List ℤ). slice_get xs n) (sym (overlaid_share sc at.0 (overlay sc w.facts) committed.deeds))
+        ∙ overlaid_elsewhere sc at.0 n own.declared committed.deeds (overlay sc w.facts) own.declared_is (ap (λ (m : ℕ). at.0 == m) own.at_is ∙ apart)))
+        (elsewhere_same sc w.actors at part (next_part part effect) r other (overlay sc w.facts) (store_of sc w.facts) settles apart (h.store other))
     by_server other true same committed decided settles =
-        subst (λ (n : ℕ). StoreFits (IsItemAt sc n) (IsUnsettled sc (with_server w.actors at (next_part part effect)) n) (stored_all (overlaid sc w.facts) (share_at sc at.0 committed.deeds)) (store_of sc w.facts)) (eqb-true at.0 other same)
-        (settle_store sc (IsUnsettled sc w.actors at.0) (IsUnsettled sc (with_server w.actors at (next_part part effect)) at.0) (overlaid sc w.facts) (store_of sc w.facts) committed.deeds at.0
+        subst (λ (n : ℕ). StoreFits (IsItemAt sc n) (IsUnsettled sc (with_server w.actors at (next_part part effect)) n) (with_deeds (overlay sc w.facts) (share_at sc at.0 committed.deeds)) (store_of sc w.facts)) (eqb-true at.0 other same)
+        (settle_store sc (IsUnsettled sc w.actors at.0) (IsUnsettled sc (with_server w.actors at (next_part part effect)) at.0) (overlay sc w.facts) (store_of sc w.facts) committed.deeds at.0
         (λ n own. has_value sc w.facts n own.declared own.declared_is) (settle_drops sc w.actors at part (next_part part effect) r committed settles decided item) (h.store at.0))
 
 -- ---- every act

@@ -1,13 +1,13 @@
 -- A commit by its servers' shares: where it has no item it has no share, and what its servers tested leaves each item in its range.
 use Rattle.std.specs.List.{list_any}
 use Rattle.std.specs.Option.{option_map_or}
-use Rattle.std.proofs.Common.{Bool, List, None, Option, Some, [], ap, arith, cond, false, length, refl, slice_get, suc, sym, true, zero, ℕ, ℤ, ◌<◌, ◌==◌, ◌||◌, ◌∙◌, ◌∷◌, ◌≡◌}
-use Rattle.std.proofs.lemmas.Bool.{eqb-true, false_from_ne_true, or_left, or_right}
-use Rattle.std.proofs.lemmas.Option.{same_Some}
+use Rattle.std.proofs.Common.{Bool, List, None, Option, Some, [], ap, arith, cond, false, length, refl, slice_get, suc, sym, true, zero, ℕ, ℤ, ⊎_elim, ◌<◌, ◌==◌, ◌∙◌, ◌∷◌, ◌≡◌}
+use Rattle.std.proofs.lemmas.Bool.{eqb-true, false_from_ne_true, or_cases}
+use Rattle.std.proofs.lemmas.Map.Keys.{any_passes_from_place}
 use Rattle.tp_model.specs.Agreement.{has_item, has_item_at}
 use Rattle.tp_model.specs.Limits.{is_between}
 use Rattle.tp_model.specs.Queries.{is_at_server, item_of, query_at}
-use Rattle.tp_model.specs.SerialRun.{stored}
+use Rattle.tp_model.specs.SerialRun.{with_deed}
 use Rattle.tp_model.specs.Words.{Deed, Item, ItemId, Query, Scenario, ServerId, Transaction, TxnId}
 use Rattle.tp_machine.proofs.basics.Lists.{each_get}
 use Rattle.tp_machine.proofs.ids.Valid.{IsValid, IsValidItem}
@@ -21,14 +21,9 @@ use Rattle.tp_machine.specs.Sound.{Each, IsServer}
 
 -- ---- the servers of a transaction
 
-any_query : (test : Query → Bool) (queries : List Query) (n : ℕ) (query : Query) → slice_get queries n ≡ Some query → test query ≡ true → list_any test queries ≡ true
-any_query test [] n query e t = absurd (cc)
-any_query test (first ∷ queries) zero query e t = or_left (test first) (list_any test queries) (ap test (same_Some first query e) ∙ t)
-any_query test (first ∷ queries) (suc n) query e t = or_right (test first) (list_any test queries) (any_query test queries n query e t)
-
 queried : (sc : Scenario) (at : ℕ) (declared : Transaction) (number : ℕ) (query : Query) → query_at declared number ≡ Some query → is_at_server sc at query ≡ true → has_item sc (record { 0 = at }) declared ≡ true
 queried sc at declared zero query e t = absurd (cc)
-queried sc at declared (suc before) query e t = any_query (is_at_server sc at) declared.queries before query e t
+queried sc at declared (suc before) query e t = any_passes_from_place (is_at_server sc at) declared.queries before query e t
 
 deed_at_server : (sc : Scenario) (at : ℕ) (declared : Transaction) (deed : Deed) (h : IsDeedOf declared deed) → is_at sc at deed ≡ is_at_server sc at h.query
 deed_at_server sc at declared deed h = ap (λ (item : ItemId). option_map_or (λ (i : Item). i.server.0 == at) (slice_get sc.items item.0) false) h.item_is
@@ -56,15 +51,11 @@ item_home sc at n (Some item) valid found e =
     let same : item.server.0 ≡ at = eqb-true item.server.0 at e in
     omega (arith, exists, same)
 
-either : (a b : Bool) (P : Type 0) → (a ≡ true → P) → (b ≡ true → P) → (a || b) ≡ true → P
-either true b P first second e = first refl
-either false b P first second e = second e
-
 queries_home : (sc : Scenario) (at : ℕ) (queries : List Query) → Each (IsValidItem sc) sc.items → list_any (is_at_server sc at) queries ≡ true → at < length sc.servers
 queries_home sc at [] valid e = absurd (cc)
 queries_home sc at (query ∷ queries) valid e =
-    either (is_at_server sc at query) (list_any (is_at_server sc at) queries) (at < length sc.servers)
-    (λ here. item_home sc at (item_of query).0 (slice_get sc.items (item_of query).0) valid refl here) (λ later. queries_home sc at queries valid later) e
+    ⊎_elim (item_home sc at (item_of query).0 (slice_get sc.items (item_of query).0) valid refl) (queries_home sc at queries valid)
+    (or_cases (is_at_server sc at query) (list_any (is_at_server sc at) queries) e)
 
 -- a server with an item of a transaction exists
 pub server_there : (sc : Scenario) (at : ServerId) (txn : TxnId) → IsValid sc → has_item_at sc at txn ≡ true → IsServer sc at
@@ -111,7 +102,7 @@ reads_same : (sc : Scenario) (at : ℕ) (xs ys : List ℤ) (deeds : List Deed) �
 reads_same sc at xs ys [] here same h = tt
 reads_same sc at xs ys (deed ∷ deeds) here same h = (
   read_as deed.action xs ys deed (same_item sc at xs ys deed (slice_get sc.items deed.item.0) same refl here.0) h.0,
-  reads_same sc at (stored xs deed) (stored ys deed) deeds here.1 (λ n item found home. same_stored deed.action xs ys deed n (same n item found home)) h.1,
+  reads_same sc at (with_deed xs deed) (with_deed ys deed) deeds here.1 (λ n item found home. same_stored deed.action xs ys deed n (same n item found home)) h.1,
 )
 
 -- what a server's share reads of its values, it reads of a store that has the same at the server's items

@@ -2,10 +2,9 @@
 use Rattle.std.proofs.Common.{IfSome, List, None, Option, Some, [], ap, arith, false, is_some, length, option_and_then, option_map, refl, replicate, slice_get, subst, suc, sym, true, unwrap_or, zero, ℕ, ◌<◌, ◌∙◌, ◌∷◌, ◌≡◌}
 use Rattle.std.proofs.lemmas.List.{length-map, length-replicate}
 use Rattle.std.proofs.lemmas.Option.{same_Some, slice_get_within}
-use Rattle.tp_types.specs.Table.{flattened}
 use Rattle.tp_model.specs.Built.{is_built}
 use Rattle.tp_model.specs.Queries.{item_of}
-use Rattle.tp_model.specs.SerialRun.{opening_store, opening_value, overlaid}
+use Rattle.tp_model.specs.SerialRun.{opening_store, opening_value, overlay}
 use Rattle.tp_model.specs.Words.actor
 use Rattle.tp_model.specs.Words.body
 use Rattle.tp_model.specs.Words.step
@@ -16,7 +15,7 @@ use Rattle.tp_machine.proofs.agreement.Logs.{IsAsked, IsPrepared}
 use Rattle.tp_machine.proofs.agreement.Server.{CastVote, ServerAgrees, cast_in, vote_by, vote_of}
 use Rattle.tp_machine.proofs.agreement.Steps.{begun_lawful, coordinator_lawful, mail_rests, mail_sound, own_txn, server_agrees, server_lawful}
 use Rattle.tp_machine.proofs.agreement.World.{Agrees, BodyRests}
-use Rattle.tp_machine.proofs.basics.Lists.{at_made, each_get, placed_none}
+use Rattle.tp_machine.proofs.basics.Lists.{at_made, each_get, none_if_not_some, placed_none, unset_at}
 use Rattle.tp_machine.proofs.ids.Valid.{valid_built}
 use Rattle.tp_machine.proofs.locked.World.{IsLockedServer, ServersLocked, locked_next, locked_opening}
 use Rattle.tp_machine.proofs.pairs.Actors.{BodyPairs, LetterPairs, QueryAt, asker_at, pair_at, pair_up, site_of}
@@ -24,7 +23,7 @@ use Rattle.tp_machine.proofs.pairs.Fits.{Fits, QueryFits}
 use Rattle.tp_machine.proofs.pairs.Lists.{of_some}
 use Rattle.tp_machine.proofs.pairs.Pair.{Pair}
 use Rattle.tp_machine.proofs.pairs.Rises.{rises}
-use Rattle.tp_machine.proofs.pairs.ServerRows.{no_ballot, same_answer}
+use Rattle.tp_machine.proofs.pairs.ServerRows.{same_answer}
 use Rattle.tp_machine.proofs.pairs.World.{Pairs, declared_by, pair_of_up}
 use Rattle.tp_machine.proofs.serial_data.Clear.{clear_of_others, commit_ready}
 use Rattle.tp_machine.proofs.serial_data.Built.{opening_in_range}
@@ -77,7 +76,7 @@ query_rises sc w at part s q up sound pairs asked =
           let one : found ≡ sound.asked = same_Some found sound.asked (sym is ∙ sound.asked_is) in
           subst (λ (x : Query). (item_of x).0 < length sc.items) (sym one) (slice_get_within sc.items (item_of sound.asked).0 sound.kept.declared sound.kept.declared_is);
       rises = λ entry found unvoted unanswered.
-          rises site p entry q refl found fits query (same_answer q.query entry.answers ∙ unanswered) (no_ballot entry.ballot unvoted);
+          rises site p entry q refl found fits query (same_answer q.query entry.answers ∙ unanswered) (none_if_not_some entry.ballot unvoted);
     }
 
 -- what was voted on at a server is what is prepared there, which was tested
@@ -111,7 +110,7 @@ received_clear sc w built sound agrees pairs serial n mail at part s sent up =
 receipt_by_server : (sc : Scenario) (w : State) → is_built sc ≡ true → WaitRightly sc w → IsSound sc w → Agrees sc w → Pairs sc w → Serial sc w → (n : ℕ) (mail : Mail) (at : ServerId) (part : Part Server) (s : Server)
     → WasSent w n mail (actor.Server at) → IsServerUp w at part s → MoveSerial sc w (server_move w.actors at (acts_by (server_fact at) [] part.log (server_row sc s mail)))
 receipt_by_server sc w built rightly sound agrees pairs h n mail at part s sent up =
-    let was : ServerUpSerial sc (overlaid sc w.facts) at s = subst (λ (u : Option Server). IfSome u (ServerUpSerial sc (overlaid sc w.facts) at)) up.up (h.servers at.0 part up.found).state in
+    let was : ServerUpSerial sc (overlay sc w.facts) at s = subst (λ (u : Option Server). IfSome u (ServerUpSerial sc (overlay sc w.facts) at)) up.up (h.servers at.0 part up.found).state in
     server_acts_serial sc w at part s (server_row sc s mail) agrees h
     (record {
       found = up.found;
@@ -166,7 +165,7 @@ serial_cases sc w built rightly sound agrees pairs h =
       authority_told = λ n mail sent. unmoved_serial sc w w.actors [] (office.authority_row w.actors.authority mail).reaction.letters h refl refl tt;
       master_told = λ n mail sent. unmoved_serial sc w w.actors [] (master.master_row w.actors.master mail).reaction.letters h refl refl tt;
       published = λ admin exists more.
-          unmoved_serial sc w (record w.actors { master = master.published admin w.actors.master }) (what.Published admin (master.next_of w.actors.master admin) ∷ []) [] h refl refl (tt, tt);
+          unmoved_serial sc w (record w.actors { master = master.after_publication admin w.actors.master }) (what.Published admin (master.next_of w.actors.master admin) ∷ []) [] h refl refl (tt, tt);
       pushed = λ admin server exists there. unmoved_serial sc w w.actors [] (master.pushes w.actors.master admin server).reaction.letters h refl refl tt;
       ticked = λ by. unmoved_serial sc w (record w.actors { authority = office.after_tick by w.actors.authority }) (what.Ticked by ∷ []) [] h refl refl (tt, tt);
       revoked = λ cred exists. unmoved_serial sc w (record w.actors { authority = office.after_revocation cred w.actors.authority }) (what.Revoked cred ∷ []) [] h refl refl (tt, tt);
@@ -187,11 +186,6 @@ opened_writes zero n = refl
 opened_writes (suc count) zero = refl
 opened_writes (suc count) (suc n) = opened_writes count n
 
-opened_entry : {A : Type 0} (count n : ℕ) → flattened (slice_get (replicate {A = Option A} count None) n) ≡ None
-opened_entry zero n = refl
-opened_entry (suc count) zero = refl
-opened_entry (suc count) (suc n) = opened_entry count n
-
 opening_reads : (sc : Scenario) (at : ServerId) → ServerReads sc (server.opening sc at)
 opening_reads sc at =
     record {
@@ -201,10 +195,10 @@ opening_reads sc at =
       places = length-replicate (length sc.txns) [];
       entry_places = length-replicate (length sc.txns) None;
       last = λ txn. subst (λ (ws : List TentativeWrite). AreLast ws (deeds_in (entry_at (server.opening sc at) txn))) (sym (opened_writes (length sc.txns) txn.0))
-          (subst (λ (found : Option Entry). AreLast [] (deeds_in found)) (sym (opened_entry (length sc.txns) txn.0)) none_last);
+          (subst (λ (found : Option Entry). AreLast [] (deeds_in found)) (sym (unset_at (length sc.txns) txn.0)) none_last);
     }
 
-opening_serial : (sc : Scenario) (k : ℕ) → ServerPartSerial sc (overlaid sc []) (record { 0 = k }) (opened_part (server.opening sc (record { 0 = k })))
+opening_serial : (sc : Scenario) (k : ℕ) → ServerPartSerial sc (overlay sc []) (record { 0 = k }) (opened_part (server.opening sc (record { 0 = k })))
 opening_serial sc k =
     record {
       state = record { reads = opening_reads sc (record { 0 = k }); values = λ n item found here. refl };
@@ -223,8 +217,8 @@ none_decided sc txn = there (slice_get (opening_state sc).actors.coordinators tx
 pub serial_opening : (sc : Scenario) → is_built sc ≡ true → Serial sc (opening_state sc)
 serial_opening sc built =
     record {
-      servers = λ n part e. subst (λ (k : ℕ). ServerPartSerial sc (overlaid sc []) (record { 0 = k }) part) (omega arith)
-          (at_made (λ (k : ℕ) (found : Part Server). ServerPartSerial sc (overlaid sc []) (record { 0 = k }) found) (λ (k : ℕ). opened_part (server.opening sc (record { 0 = k }))) 0 (length sc.servers)
+      servers = λ n part e. subst (λ (k : ℕ). ServerPartSerial sc (overlay sc []) (record { 0 = k }) part) (omega arith)
+          (at_made (λ (k : ℕ) (found : Part Server). ServerPartSerial sc (overlay sc []) (record { 0 = k }) found) (λ (k : ℕ). opened_part (server.opening sc (record { 0 = k }))) 0 (length sc.servers)
           (λ k within. opening_serial sc k) n part e);
       locked = locked_opening sc;
       up = λ n part e. at_made (λ (k : ℕ) (found : Part Server). is_some found.up ≡ true) (λ (k : ℕ). opened_part (server.opening sc (record { 0 = k }))) 0 (length sc.servers) (λ k within. refl) n part e;

@@ -3,8 +3,9 @@ use Rattle.std.proofs.Common.{◌≡◌, ◌⊎◌, ⊎_elim, ℕ, ◌==◌, Lis
 use Rattle.std.proofs.lemmas.Bool.{eqb-true}
 use Rattle.tp_model.specs.Words.{Action, Deed}
 use Rattle.tp_model.specs.Words.action
-use Rattle.tp_model.specs.Facts.{first_of}
-use Rattle.tp_model.specs.SerialRun.{stored, stored_all, stored_by}
+use Rattle.std.specs.Option.{option_or}
+use Rattle.tp_model.specs.SerialRun.{with_deed, with_deeds, with_deed_by}
+use Rattle.tp_machine.proofs.basics.Lists.{some_value}
 use Rattle.tp_machine.proofs.basics.Logs.{first_first, get_set, later_some}
 use Rattle.tp_machine.proofs.serial_data.Lists.{set_elsewhere}
 
@@ -21,44 +22,40 @@ written item deed = written_by deed.action item deed
 -- what deeds write last to an item
 abbrev pub last_write : ℕ → List Deed → Option ℤ
 last_write item [] = None
-last_write item (deed ∷ deeds) = first_of (last_write item deeds) (written item deed)
+last_write item (deed ∷ deeds) = option_or (last_write item deeds) (written item deed)
 
 -- the store has the item
 abbrev pub HasPlace : List ℤ → ℕ → Type 0
 HasPlace store item = is_some (slice_get store item) ≡ true
 
-some_is : (found : Option ℤ) → is_some found ≡ true → (v : ℤ) × (found ≡ Some v)
-some_is None e = absurd (cc)
-some_is (Some v) e = (v, refl)
-
-set_here : (store : List ℤ) (at item : ℕ) (v : ℤ) (b : Bool) → (at == item) ≡ b → HasPlace store item → slice_get (slice_set store at v) item ≡ first_of (if b then Some v else None) (slice_get store item)
+set_here : (store : List ℤ) (at item : ℕ) (v : ℤ) (b : Bool) → (at == item) ≡ b → HasPlace store item → slice_get (slice_set store at v) item ≡ option_or (if b then Some v else None) (slice_get store item)
 set_here store at item v true e has =
     let same : at ≡ item = eqb-true at item e in
-    let old = some_is (slice_get store item) has in
+    let old = some_value (slice_get store item) has in
     let here : slice_get store at ≡ Some old.0 = ap (slice_get store) same ∙ old.1 in
     get_set store at item old.0 v here ∙ ap (λ (c : Bool). if c then Some v else slice_get store item) e
 set_here store at item v false e has = set_elsewhere store at item v e
 
-stored_here : (a : Action) (store : List ℤ) (deed : Deed) (item : ℕ) → HasPlace store item → slice_get (stored_by a store deed) item ≡ first_of (written_by a item deed) (slice_get store item)
+stored_here : (a : Action) (store : List ℤ) (deed : Deed) (item : ℕ) → HasPlace store item → slice_get (with_deed_by a store deed) item ≡ option_or (written_by a item deed) (slice_get store item)
 stored_here action.Read store deed item has = refl
 stored_here action.Write store deed item has = set_here store deed.item.0 item deed.value (deed.item.0 == item) refl has
 
 -- an item has the last value that was written to it, or else its old one
-pub stored_last : (store : List ℤ) (deeds : List Deed) (item : ℕ) → HasPlace store item → slice_get (stored_all store deeds) item ≡ first_of (last_write item deeds) (slice_get store item)
+pub stored_last : (store : List ℤ) (deeds : List Deed) (item : ℕ) → HasPlace store item → slice_get (with_deeds store deeds) item ≡ option_or (last_write item deeds) (slice_get store item)
 stored_last store [] item has = refl
 stored_last store (deed ∷ deeds) item has =
-    let one : slice_get (stored store deed) item ≡ first_of (written item deed) (slice_get store item) = stored_here deed.action store deed item has in
-    let still : HasPlace (stored store deed) item = ap is_some one ∙ later_some (written item deed) (slice_get store item) has in
-    stored_last (stored store deed) deeds item still
-    ∙ (ap (first_of (last_write item deeds)) one ∙ sym (first_first (last_write item deeds) (written item deed) (slice_get store item)))
+    let one : slice_get (with_deed store deed) item ≡ option_or (written item deed) (slice_get store item) = stored_here deed.action store deed item has in
+    let still : HasPlace (with_deed store deed) item = ap is_some one ∙ later_some (written item deed) (slice_get store item) has in
+    stored_last (with_deed store deed) deeds item still
+    ∙ (ap (option_or (last_write item deeds)) one ∙ sym (first_first (last_write item deeds) (written item deed) (slice_get store item)))
 
 -- an item that is not written keeps its value
-pub stored_none : (store : List ℤ) (deeds : List Deed) (item : ℕ) → HasPlace store item → last_write item deeds ≡ None → slice_get (stored_all store deeds) item ≡ slice_get store item
-stored_none store deeds item has none = stored_last store deeds item has ∙ ap (λ (new : Option ℤ). first_of new (slice_get store item)) none
+pub stored_none : (store : List ℤ) (deeds : List Deed) (item : ℕ) → HasPlace store item → last_write item deeds ≡ None → slice_get (with_deeds store deeds) item ≡ slice_get store item
+stored_none store deeds item has none = stored_last store deeds item has ∙ ap (λ (new : Option ℤ). option_or new (slice_get store item)) none
 
 -- an item that is written has the last value
-pub stored_some : (store : List ℤ) (deeds : List Deed) (item : ℕ) (v : ℤ) → HasPlace store item → last_write item deeds ≡ Some v → slice_get (stored_all store deeds) item ≡ Some v
-stored_some store deeds item v has e = stored_last store deeds item has ∙ ap (λ (new : Option ℤ). first_of new (slice_get store item)) e
+pub stored_some : (store : List ℤ) (deeds : List Deed) (item : ℕ) (v : ℤ) → HasPlace store item → last_write item deeds ≡ Some v → slice_get (with_deeds store deeds) item ≡ Some v
+stored_some store deeds item v has e = stored_last store deeds item has ∙ ap (λ (new : Option ℤ). option_or new (slice_get store item)) e
 
 -- ---- the store and a server's values
 
@@ -91,7 +88,7 @@ pub record Drops (P : List Deed → Type 0) (deeds : List Deed) (Q : List Deed �
 
 -- a commit is decided that writes no item which another writes that is not settled here
 pub store_decides : (Own : ℕ → Type 0) (P Q : List Deed → Type 0) (deeds : List Deed) (values store : List ℤ) → ((item : ℕ) → Own item → HasPlace store item) → Adds P deeds Q
-    → ((item : ℕ) (other : List Deed) (v : ℤ) → Own item → P other → last_write item other ≡ Some v → last_write item deeds ≡ None) → StoreFits Own P values store → StoreFits Own Q values (stored_all store deeds)
+    → ((item : ℕ) (other : List Deed) (v : ℤ) → Own item → P other → last_write item other ≡ Some v → last_write item deeds ≡ None) → StoreFits Own P values store → StoreFits Own Q values (with_deeds store deeds)
 store_decides Own P Q deeds values store has adds apart h =
     record {
       covered = λ item other v own q e.
@@ -103,7 +100,7 @@ store_decides Own P Q deeds values store has adds apart h =
 
 -- a commit is decided that writes no item of the server
 pub store_elsewhere : (Own : ℕ → Type 0) (P : List Deed → Type 0) (deeds : List Deed) (values store : List ℤ) → ((item : ℕ) → Own item → HasPlace store item) → ((item : ℕ) → Own item → last_write item deeds ≡ None)
-    → StoreFits Own P values store → StoreFits Own P values (stored_all store deeds)
+    → StoreFits Own P values store → StoreFits Own P values (with_deeds store deeds)
 store_elsewhere Own P deeds values store has none h =
     record {
       covered = λ item other v own p e. stored_none store deeds item (has item own) (none item own) ∙ h.covered item other v own p e;
@@ -111,7 +108,7 @@ store_elsewhere Own P deeds values store has none h =
     }
 
 settled_value : (Own : ℕ → Type 0) (P Q : List Deed → Type 0) (deeds share : List Deed) (values store : List ℤ) (item : ℕ) (last : Option ℤ) → Own item → HasPlace values item → Drops P deeds Q → last_write item share ≡ last_write item deeds
-    → StoreFits Own P values store → ((other : List Deed) → Q other → last_write item other ≡ None) → last_write item deeds ≡ last → slice_get store item ≡ slice_get (stored_all values share) item
+    → StoreFits Own P values store → ((other : List Deed) → Q other → last_write item other ≡ None) → last_write item deeds ≡ last → slice_get store item ≡ slice_get (with_deeds values share) item
 settled_value Own P Q deeds share values store item None own has drops same h none e =
     let all : (other : List Deed) → P other → last_write item other ≡ None = λ other old.
     ⊎_elim (λ (q : Q other). none other q) (λ (is : other ≡ deeds). ap (last_write item) is ∙ e) (drops.among other old) in
@@ -121,7 +118,7 @@ settled_value Own P Q deeds share values store item (Some v) own has drops same 
 
 -- a commit is settled at the server, which applies its share of the deeds
 pub store_settles : (Own : ℕ → Type 0) (P Q : List Deed → Type 0) (deeds share : List Deed) (values store : List ℤ) → ((item : ℕ) → Own item → HasPlace values item) → Drops P deeds Q
-    → ((item : ℕ) → Own item → last_write item share ≡ last_write item deeds) → StoreFits Own P values store → StoreFits Own Q (stored_all values share) store
+    → ((item : ℕ) → Own item → last_write item share ≡ last_write item deeds) → StoreFits Own P values store → StoreFits Own Q (with_deeds values share) store
 store_settles Own P Q deeds share values store has drops same h =
     record {
       covered = λ item other v own q e. h.covered item other v own (drops.fewer other q) e;

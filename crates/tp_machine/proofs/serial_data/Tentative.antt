@@ -1,19 +1,18 @@
 -- A transaction's tentative writes at a server beside what it has done there: of each item the last write is kept, which is what
 -- applying all of them leaves.
 use Rattle.std.specs.List.{list_any}
-use Rattle.std.specs.Option.{option_map_or}
+use Rattle.std.specs.Option.{option_map_or, option_or}
 use Rattle.std.proofs.Common.{Bool, List, MatchOption, None, Option, Some, [], ap, arith, false, find, if◌then◌else◌, map, option_map, pos, refl, slice_get, slice_set, subst, suc, sym, true, unwrap_or, zero, ℕ, ℤ, ◌++◌, ◌==◌, ◌∙◌, ◌∷◌, ◌≡◌, ◌≤◌}
 use Rattle.std.proofs.lemmas.Bool.Decides.{nat_tests}
 use Rattle.std.proofs.lemmas.Bool.{eqb-true, not-false, or_parts}
 use Rattle.std.proofs.lemmas.List.Sums.{fold-append}
 use Rattle.std.proofs.lemmas.Option.{same_Some}
-use Rattle.tp_model.specs.Facts.{first_of}
 use Rattle.tp_model.specs.Limits.{is_between}
-use Rattle.tp_model.specs.SerialRun.{number_at, stored, stored_all, stored_by}
+use Rattle.tp_model.specs.SerialRun.{number_at, with_deed, with_deeds, with_deed_by}
 use Rattle.tp_model.specs.Words.action
 use Rattle.tp_model.specs.Words.{Action, Deed, Item, ItemId, Scenario, TxnId}
 use Rattle.tp_machine.proofs.basics.Lists.{found_passes}
-use Rattle.tp_machine.proofs.basics.Logs.{first_first, first_none}
+use Rattle.tp_machine.proofs.basics.Logs.{first_first, first_none, map_first}
 use Rattle.tp_machine.proofs.serial_data.Ranges.{AreTested}
 use Rattle.tp_machine.proofs.serial_data.Stores.{HasPlace, last_write, stored_none, stored_some, written, written_by}
 use Rattle.tp_machine.specs.Sound.{Each}
@@ -43,7 +42,7 @@ kept_one item deed = kept_by_action deed.action item deed
 -- what deeds write last to an item
 abbrev pub last_kept : ItemId → List Deed → Option TentativeWrite
 last_kept item [] = None
-last_kept item (deed ∷ deeds) = first_of (last_kept item deeds) (kept_one item deed)
+last_kept item (deed ∷ deeds) = option_or (last_kept item deeds) (kept_one item deed)
 
 written_value : (a : Action) (item : ItemId) (deed : Deed) → written_by a item.0 deed ≡ option_map value_of (kept_by_action a item deed)
 written_value action.Read item deed = refl
@@ -53,22 +52,18 @@ written_value action.Write item deed = by_test (deed.item.0 == item.0)
     by_test true = refl
     by_test false = refl
 
-map_first : {A : Type 0} {B : Type 0} (f : A → B) (x y : Option A) → first_of (option_map f x) (option_map f y) ≡ option_map f (first_of x y)
-map_first f None y = refl
-map_first f (Some found) y = refl
-
 -- its value
 pub last_value : (item : ItemId) (deeds : List Deed) → last_write item.0 deeds ≡ option_map value_of (last_kept item deeds)
 last_value item [] = refl
 last_value item (deed ∷ deeds) =
-    ap (λ (last : Option ℤ). first_of last (written item.0 deed)) (last_value item deeds)
-    ∙ (ap (first_of (option_map value_of (last_kept item deeds))) (written_value deed.action item deed) ∙ map_first value_of (last_kept item deeds) (kept_one item deed))
+    ap (λ (last : Option ℤ). option_or last (written item.0 deed)) (last_value item deeds)
+    ∙ (ap (option_or (option_map value_of (last_kept item deeds))) (written_value deed.action item deed) ∙ map_first value_of (last_kept item deeds) (kept_one item deed))
 
 -- one deed more
-pub last_more : (item : ItemId) (deeds : List Deed) (deed : Deed) → last_kept item (deeds ++ deed ∷ []) ≡ first_of (kept_one item deed) (last_kept item deeds)
+pub last_more : (item : ItemId) (deeds : List Deed) (deed : Deed) → last_kept item (deeds ++ deed ∷ []) ≡ option_or (kept_one item deed) (last_kept item deeds)
 last_more item [] deed = sym (first_none (kept_one item deed))
 last_more item (first ∷ deeds) deed =
-    ap (λ (last : Option TentativeWrite). first_of last (kept_one item first)) (last_more item deeds deed) ∙ first_first (kept_one item deed) (last_kept item deeds) (kept_one item first)
+    ap (λ (last : Option TentativeWrite). option_or last (kept_one item first)) (last_more item deeds deed) ∙ first_first (kept_one item deed) (last_kept item deeds) (kept_one item first)
 
 -- the deeds are of queries up to this number
 abbrev pub AreUpTo : ℕ → List Deed → Type 0
@@ -82,7 +77,7 @@ kept_upto : (a : Action) (item : ItemId) (deed : Deed) (number : ℕ) (w : Tenta
 kept_upto action.Read item deed number w high e = absurd (cc)
 kept_upto action.Write item deed number w high e = one_upto action.Write item deed number w (deed.item.0 == item.0) high e
 
-first_upto : (last one : Option TentativeWrite) (number : ℕ) (w : TentativeWrite) → ((x : TentativeWrite) → last ≡ Some x → x.query ≤ number) → ((x : TentativeWrite) → one ≡ Some x → x.query ≤ number) → first_of last one ≡ Some w → w.query ≤ number
+first_upto : (last one : Option TentativeWrite) (number : ℕ) (w : TentativeWrite) → ((x : TentativeWrite) → last ≡ Some x → x.query ≤ number) → ((x : TentativeWrite) → one ≡ Some x → x.query ≤ number) → option_or last one ≡ Some w → w.query ≤ number
 first_upto None one number w later here e = here w e
 first_upto (Some x) one number w later here e = later w e
 
@@ -98,7 +93,7 @@ last_upto item (deed ∷ deeds) number w h e =
 pub record AreLast (writes : List TentativeWrite) (deeds : List Deed) : Type 0 where
   pub apart : are_apart writes ≡ true
   pub last : (item : ItemId) → find (is_on item) writes ≡ last_kept item deeds
-  pub applied : (values : List ℤ) → values_after values writes ≡ stored_all values deeds
+  pub applied : (values : List ℤ) → values_after values writes ≡ with_deeds values deeds
 
 pub none_last : AreLast [] []
 none_last = record { apart = refl; last = λ item. refl; applied = λ values. refl }
@@ -108,8 +103,8 @@ pub read_last : (writes : List TentativeWrite) (deeds : List Deed) (deed : Deed)
 read_last writes deeds deed reads h =
     record {
       apart = h.apart;
-      last = λ item. h.last item ∙ sym (last_more item deeds deed ∙ ap (λ (a : Action). first_of (kept_by_action a item deed) (last_kept item deeds)) reads);
-      applied = λ values. h.applied values ∙ sym (fold-append stored values deeds (deed ∷ []) ∙ ap (λ (a : Action). stored_by a (stored_all values deeds) deed) reads);
+      last = λ item. h.last item ∙ sym (last_more item deeds deed ∙ ap (λ (a : Action). option_or (kept_by_action a item deed) (last_kept item deeds)) reads);
+      applied = λ values. h.applied values ∙ sym (fold-append with_deed values deeds (deed ∷ []) ∙ ap (λ (a : Action). with_deed_by a (with_deeds values deeds) deed) reads);
     }
 
 upto_last : (found : Option TentativeWrite) (new : TentativeWrite) → ((w : TentativeWrite) → found ≡ Some w → w.query ≤ new.query) → is_last_of new found ≡ true
@@ -120,7 +115,7 @@ item_is : (one other : ItemId) → (one.0 == other.0) ≡ true → one ≡ other
 item_is one other e = ap (λ (n : ℕ). record { 0 = n }) (eqb-true one.0 other.0 e)
 
 found_more : (item : ItemId) (writes : List TentativeWrite) (new : TentativeWrite) (b : Bool) → is_on item new ≡ b → is_last_of new (find (is_on new.item) writes) ≡ true
-    → find (is_on item) (with_write writes new) ≡ first_of (if b then Some new else None) (find (is_on item) writes)
+    → find (is_on item) (with_write writes new) ≡ option_or (if b then Some new else None) (find (is_on item) writes)
 found_more item writes new true e last =
     subst (λ (x : ItemId). find (is_on x) (with_write writes new) ≡ Some new) (item_is new.item item e) (last_is_found writes new last)
 found_more item writes new false e last = other_is_found item writes new e
@@ -134,18 +129,18 @@ write_last writes deeds deed writes_it upto h =
       apart = apart_with writes new h.apart;
       last = λ item.
           found_more item writes new (is_on item new) refl is_last
-          ∙ (ap (first_of (if is_on item new then Some new else None)) (h.last item)
-          ∙ sym (last_more item deeds deed ∙ ap (λ (a : Action). first_of (kept_by_action a item deed) (last_kept item deeds)) writes_it));
+          ∙ (ap (option_or (if is_on item new then Some new else None)) (h.last item)
+          ∙ sym (last_more item deeds deed ∙ ap (λ (a : Action). option_or (kept_by_action a item deed) (last_kept item deeds)) writes_it));
       applied = λ values.
           set_after values writes new h.apart is_last
           ∙ (ap (λ (xs : List ℤ). slice_set xs deed.item.0 deed.value) (h.applied values)
-          ∙ sym (fold-append stored values deeds (deed ∷ []) ∙ ap (λ (a : Action). stored_by a (stored_all values deeds) deed) writes_it));
+          ∙ sym (fold-append with_deed values deeds (deed ∷ []) ∙ ap (λ (a : Action). with_deed_by a (with_deeds values deeds) deed) writes_it));
     }
 
 -- ---- what is read
 
 read_by : (values : List ℤ) (deeds : List Deed) (item : ItemId) (found : Option TentativeWrite) → HasPlace values item.0 → last_kept item deeds ≡ found
-    → option_map_or value_of found (number_at values item.0) ≡ number_at (stored_all values deeds) item.0
+    → option_map_or value_of found (number_at values item.0) ≡ number_at (with_deeds values deeds) item.0
 read_by values deeds item None has e =
     let none : last_write item.0 deeds ≡ None = last_value item deeds ∙ ap (option_map value_of) e in
     sym (ap (λ (x : Option ℤ). unwrap_or x (pos 0)) (stored_none values deeds item.0 has none))
@@ -154,7 +149,7 @@ read_by values deeds item (Some w) has e =
     sym (ap (λ (x : Option ℤ). unwrap_or x (pos 0)) (stored_some values deeds item.0 w.value has some))
 
 -- a transaction reads what the values are after its own deeds
-pub own_read : (store : Contents) (txn : TxnId) (item : ItemId) (deeds : List Deed) → HasPlace store.values item.0 → AreLast (writes_of store txn) deeds → read_in store txn item ≡ number_at (stored_all store.values deeds) item.0
+pub own_read : (store : Contents) (txn : TxnId) (item : ItemId) (deeds : List Deed) → HasPlace store.values item.0 → AreLast (writes_of store txn) deeds → read_in store txn item ≡ number_at (with_deeds store.values deeds) item.0
 own_read store txn item deeds has h =
     ap (λ (found : Option TentativeWrite). option_map_or value_of found (number_at store.values item.0)) (h.last item) ∙ read_by store.values deeds item (last_kept item deeds) has refl
 

@@ -3,7 +3,8 @@ use Rattle.std.proofs.Common.{Bool, List, None, Option, Some, ap, false, if◌th
 use Rattle.std.proofs.lemmas.Bool.{eqb-true, false_from_ne_true}
 use Rattle.std.proofs.lemmas.Option.{same_Some, slice_get_within}
 use Rattle.tp_model.specs.Agreement.{has_item_at}
-use Rattle.tp_model.specs.Facts.{first_of, outcome_of, record_of}
+use Rattle.std.specs.Option.{option_or}
+use Rattle.tp_model.specs.Facts.{outcome_of, record_of}
 use Rattle.tp_model.specs.Words.decision
 use Rattle.tp_model.specs.Words.log
 use Rattle.tp_model.specs.Words.outcome
@@ -59,13 +60,13 @@ same_commit one other e = same_Some one other (ap record_of e)
 
 -- what was decided of a transaction after a record was appended to the log of one
 pub decided_after : (coordinators : List (Part Coordinator)) (txn : ℕ) (part next : Part Coordinator) (append : Option Record) (other : ℕ) → slice_get coordinators txn ≡ Some part → next.log ≡ log_with part.log append
-    → decided_at (slice_set coordinators txn next) other ≡ (if txn == other then first_of (decided_in part.log) (appended decision_in append) else decided_at coordinators other)
+    → decided_at (slice_set coordinators txn next) other ≡ (if txn == other then option_or (decided_in part.log) (appended decision_in append) else decided_at coordinators other)
 decided_after coordinators txn part next append other found grown =
     look_set decided_by coordinators txn other part next found
     ∙ ap (λ (d : Option Decision). if txn == other then d else decided_at coordinators other) (ap decided_in grown ∙ decided_with part.log append)
 
-some_first : (old new : Option Decision) (other : Option Decision) (b : Bool) → new ≡ None → (b ≡ true → other ≡ old) → (if b then first_of old new else other) ≡ other
-some_first old new other true none same = ap (first_of old) none ∙ (first_none old ∙ sym (same refl))
+some_first : {A : Type 0} (old new other : Option A) (b : Bool) → new ≡ None → (b ≡ true → other ≡ old) → (if b then option_or old new else other) ≡ other
+some_first old new other true none same = ap (option_or old) none ∙ (first_none old ∙ sym (same refl))
 some_first old new other false none same = refl
 
 here_decided : (coordinators : List (Part Coordinator)) (txn other : ℕ) (part : Part Coordinator) → slice_get coordinators txn ≡ Some part → (txn == other) ≡ true → decided_at coordinators other ≡ decided_in part.log
@@ -175,7 +176,7 @@ with_server actors at next = record actors { servers = slice_set actors.servers 
 
 -- what is settled after a record was appended to the log of one server
 pub settled_after : (servers : List (Part Server)) (at other : ℕ) (part next : Part Server) (append : Option Record) (txn : TxnId) → slice_get servers at ≡ Some part → next.log ≡ log_with part.log append
-    → settled_at (slice_set servers at next) other txn ≡ (if at == other then first_of (settled_in txn part.log) (appended (settlement_in txn) append) else settled_at servers other txn)
+    → settled_at (slice_set servers at next) other txn ≡ (if at == other then option_or (settled_in txn part.log) (appended (settlement_in txn) append) else settled_at servers other txn)
 settled_after servers at other part next append txn found grown =
     look_set (settled_by txn) servers at other part next found
     ∙ ap (λ (s : Option Settled). if at == other then s else settled_at servers other txn) (ap (settled_in txn) grown ∙ settled_with txn part.log append)
@@ -183,16 +184,12 @@ settled_after servers at other part next append txn found grown =
 settled_here : (servers : List (Part Server)) (at other : ℕ) (part : Part Server) (txn : TxnId) → slice_get servers at ≡ Some part → (at == other) ≡ true → settled_at servers other txn ≡ settled_in txn part.log
 settled_here servers at other part txn found same = ap (option_and_then (settled_by txn)) (subst (λ (n : ℕ). slice_get servers n ≡ Some part) (eqb-true at other same) found)
 
-unsettled_by : (old new other : Option Settled) (b : Bool) → new ≡ None → (b ≡ true → other ≡ old) → (if b then first_of old new else other) ≡ other
-unsettled_by old new other true none same = ap (first_of old) none ∙ (first_none old ∙ sym (same refl))
-unsettled_by old new other false none same = refl
-
 -- of a transaction that the record does not settle all stays
 settled_same : (actors : Actors) (at : ServerId) (part next : Part Server) (append : Option Record) (other : ℕ) (txn : TxnId) → slice_get actors.servers at.0 ≡ Some part → next.log ≡ log_with part.log append
     → appended (settlement_in txn) append ≡ None → settled_at (with_server actors at next).servers other txn ≡ settled_at actors.servers other txn
 settled_same actors at part next append other txn found grown none =
     settled_after actors.servers at.0 other part next append txn found grown
-    ∙ unsettled_by (settled_in txn part.log) (appended (settlement_in txn) append) (settled_at actors.servers other txn) (at.0 == other) none (λ same. settled_here actors.servers at.0 other part txn found same)
+    ∙ some_first (settled_in txn part.log) (appended (settlement_in txn) append) (settled_at actors.servers other txn) (at.0 == other) none (λ same. settled_here actors.servers at.0 other part txn found same)
 
 -- an act that settles nothing
 pub nothing_settled : (actors : Actors) (at : ServerId) (part next : Part Server) (append : Option Record) → slice_get actors.servers at.0 ≡ Some part → next.log ≡ log_with part.log append
@@ -227,7 +224,7 @@ settled_now actors at part next s txn k same =
     let is : s.txn ≡ txn = same_txn_is s.txn txn same in
     ap (option_and_then (settled_by txn)) (set_here actors.servers at.0 next (slice_get_within actors.servers at.0 part k.found))
     ∙ (ap (settled_in txn) k.grown ∙ (settled_with txn part.log (Some (log.Settled s))
-    ∙ (ap (λ (old : Option Settled). first_of old (appended (settlement_in txn) (Some (log.Settled s)))) (ap (λ (t : TxnId). settled_in t part.log) (sym is) ∙ k.fresh) ∙ this_one s txn same)))
+    ∙ (ap (λ (old : Option Settled). option_or old (appended (settlement_in txn) (Some (log.Settled s)))) (ap (λ (t : TxnId). settled_in t part.log) (sym is) ∙ k.fresh) ∙ this_one s txn same)))
 
 -- after the act what is unsettled at the server is of another transaction, and was unsettled
 pub record IsAnothers (sc : Scenario) (actors : Actors) (at : ServerId) (s : Settled) (deeds : List Deed) (txn : TxnId) : Type 0 where

@@ -1,17 +1,17 @@
 -- Serial data over every list of steps: each commit did what its transaction does by itself, and servers apply it.
 use Rattle.std.specs.Cmp.Lexicographic.{pointwise}
 use Rattle.std.specs.List.{list_any}
-use Rattle.std.specs.Option.{option_map_or}
+use Rattle.std.specs.Option.{option_map_or, option_or}
 use Rattle.std.specs.Ordering.{int_eq}
-use Rattle.std.proofs.Common.{Bool, IfSome, List, None, Option, Some, [], ap, arith, false, fold, if◌then◌else◌, is_some, length, refl, slice_get, subst, sym, true, ℕ, ℤ, ◌&&◌, ◌++◌, ◌==◌, ◌||◌, ◌∙◌, ◌∷◌, ◌≡◌}
+use Rattle.std.proofs.Common.{Bool, IfSome, List, None, Some, [], ap, arith, false, fold, if◌then◌else◌, is_some, length, refl, slice_get, subst, sym, true, ℕ, ℤ, ◌&&◌, ◌++◌, ◌==◌, ◌||◌, ◌∙◌, ◌∷◌, ◌≡◌}
 use Rattle.std.proofs.lemmas.Bool.Decides.{Decides-int_eq}
 use Rattle.std.proofs.lemmas.Bool.{and_from}
 use Rattle.std.proofs.lemmas.List.Sums.{fold-append}
 use Rattle.tp_types.proofs.ListLemmas.{number_itself}
-use Rattle.tp_model.specs.Facts.{before, commit_in_what, commit_of, first_of, is_decided_as, is_decided_what, is_earlier}
+use Rattle.tp_model.specs.Facts.{before, commit_in_what, commit_of, is_decided_as, is_decided_what, is_earlier}
 use Rattle.tp_model.specs.Ids.{same_item, same_txn}
 use Rattle.tp_model.specs.Policies.{same_action}
-use Rattle.tp_model.specs.SerialRun.{are_in_range, is_serial_commit, keeps_serial, keeps_serial_what, opening_store, overlaid, overlaid_deeds, overlaid_fact, overlaid_what, same_deed, serial_run, store_of, stored_all, stored_fact, stored_what}
+use Rattle.tp_model.specs.SerialRun.{are_in_range, is_serial_commit, keeps_serial, keeps_serial_what, opening_store, overlay, overlay_deeds, overlay_fact, overlay_what, same_deed, serial_run, store_of, with_deeds, with_fact, with_what}
 use Rattle.tp_model.specs.Words.action
 use Rattle.tp_model.specs.Words.decision
 use Rattle.tp_model.specs.Words.outcome
@@ -20,7 +20,7 @@ use Rattle.tp_model.specs.Words.{Action, CommitRecord, Deed, Fact, Item, Prepare
 use Rattle.tp_machine.proofs.agreement.World.{Agrees, FactFollows}
 use Rattle.tp_machine.proofs.basics.Facts.{ArePast, Grows, before_past, grows_with_facts}
 use Rattle.tp_machine.proofs.basics.Lists.{each_append, each_as}
-use Rattle.tp_machine.proofs.basics.Logs.{first_first}
+use Rattle.tp_machine.proofs.basics.Logs.{first_first, first_kept}
 use Rattle.tp_machine.proofs.locked.World.{ServersLocked}
 use Rattle.tp_machine.proofs.serial_data.Commits.{IsItemAt}
 use Rattle.tp_machine.proofs.serial_data.Joined.{share_at}
@@ -70,7 +70,7 @@ StoreStands sc actors values store = (at : ℕ) → StoreFits (IsItemAt sc at) (
 -- all that serial data rests on
 pub record Serial (sc : Scenario) (w : State) : Type 0 where
   -- what entries have read are the servers' values, which are those that settled commits leave
-  pub servers : ServersSerial sc (overlaid sc w.facts) w.actors.servers
+  pub servers : ServersSerial sc (overlay sc w.facts) w.actors.servers
   -- locks keep the deeds of transactions apart
   pub locked : ServersLocked sc w.actors.servers
   -- each server is up, which goes when crashes are built
@@ -78,7 +78,7 @@ pub record Serial (sc : Scenario) (w : State) : Type 0 where
   -- servers prepare their shares of commits
   pub shares : AreShares sc w.actors
   -- the store differs from what is settled in what is not settled yet
-  pub store : StoreStands sc w.actors (overlaid sc w.facts) (store_of sc w.facts)
+  pub store : StoreStands sc w.actors (overlay sc w.facts) (store_of sc w.facts)
   -- each commit is serial
   pub facts : Each (λ (fact : Fact). keeps_serial sc w.facts fact ≡ true) w.facts
   -- what all commits leave is in range
@@ -99,11 +99,11 @@ WhatSerial sc facts _ = Unit {0}
 
 -- the values that settled commits leave after a move
 abbrev pub overlaid_by : Scenario → State → List What → List ℤ
-overlaid_by sc w happened = fold (overlaid_what sc w.facts) (overlaid sc w.facts) happened
+overlaid_by sc w happened = fold (overlay_what sc w.facts) (overlay sc w.facts) happened
 
 -- the store after a move
 abbrev pub store_by : Scenario → State → List What → List ℤ
-store_by sc w happened = fold stored_what (store_of sc w.facts) happened
+store_by sc w happened = fold with_what (store_of sc w.facts) happened
 
 -- a step leaves actors and facts that are serial
 pub record MoveSerial (sc : Scenario) (w : State) (move : Move) : Type 0 where
@@ -128,9 +128,9 @@ same_deed_itself deed =
 
 -- the deeds of a transaction run by itself on the store, which leave it in range, are a serial commit
 pub run_is_serial : (sc : Scenario) (store : List ℤ) (committed : CommitRecord) (declared : Transaction) → committed.deeds ≡ serial_run declared store
-    → are_in_range sc.items (stored_all store committed.deeds) ≡ true → is_serial_commit sc store committed declared ≡ true
+    → are_in_range sc.items (with_deeds store committed.deeds) ≡ true → is_serial_commit sc store committed declared ≡ true
 run_is_serial sc store committed declared runs range =
-    and_from (pointwise same_deed committed.deeds (serial_run declared store)) (are_in_range sc.items (stored_all store committed.deeds))
+    and_from (pointwise same_deed committed.deeds (serial_run declared store)) (are_in_range sc.items (with_deeds store committed.deeds))
     (ap (pointwise same_deed committed.deeds) (sym runs) ∙ pointwise_itself same_deed same_deed_itself committed.deeds) range
 
 -- ---- facts
@@ -160,26 +160,26 @@ new_facts_serial sc old new place (w ∷ happened) e h = (new_serial sc old new 
 
 -- ---- the store
 
-stored_facts : (place : ℕ) (happened : List What) (store : List ℤ) → fold stored_fact store (facts_of place happened) ≡ fold stored_what store happened
+stored_facts : (place : ℕ) (happened : List What) (store : List ℤ) → fold with_fact store (facts_of place happened) ≡ fold with_what store happened
 stored_facts place [] store = refl
-stored_facts place (w ∷ happened) store = stored_facts place happened (stored_what store w)
+stored_facts place (w ∷ happened) store = stored_facts place happened (with_what store w)
 
 -- the store after a step
 store_move : (sc : Scenario) (w : State) (place : ℕ) (happened : List What) → store_by sc w happened ≡ store_of sc (w.facts ++ facts_of place happened)
-store_move sc w place happened = sym (fold-append stored_fact (opening_store sc) w.facts (facts_of place happened) ∙ stored_facts place happened (store_of sc w.facts))
+store_move sc w place happened = sym (fold-append with_fact (opening_store sc) w.facts (facts_of place happened) ∙ stored_facts place happened (store_of sc w.facts))
 
 -- ---- what is settled
 
 told_first : (txn : TxnId) (w : What) (facts : List Fact) → (list_any (is_decided_as txn outcome.Commit) facts ≡ true → is_some (commit_of txn facts) ≡ true)
-    → (is_decided_what txn outcome.Commit w || list_any (is_decided_as txn outcome.Commit) facts) ≡ true → is_some (first_of (commit_in_what txn w) (commit_of txn facts)) ≡ true
+    → (is_decided_what txn outcome.Commit w || list_any (is_decided_as txn outcome.Commit) facts) ≡ true → is_some (option_or (commit_in_what txn w) (commit_of txn facts)) ≡ true
 told_first txn (what.Decided other (decision.Commit committed)) facts later e = told (same_txn other txn) e
   where
-    told : (b : Bool) → ((b && true) || list_any (is_decided_as txn outcome.Commit) facts) ≡ true → is_some (first_of (if b then Some committed else None) (commit_of txn facts)) ≡ true
+    told : (b : Bool) → ((b && true) || list_any (is_decided_as txn outcome.Commit) facts) ≡ true → is_some (option_or (if b then Some committed else None) (commit_of txn facts)) ≡ true
     told true f = refl
     told false f = later f
 told_first txn (what.Decided other (decision.Abort why)) facts later e = told (same_txn other txn) e
   where
-    told : (b : Bool) → ((b && false) || list_any (is_decided_as txn outcome.Commit) facts) ≡ true → is_some (first_of (if b then None else None) (commit_of txn facts)) ≡ true
+    told : (b : Bool) → ((b && false) || list_any (is_decided_as txn outcome.Commit) facts) ≡ true → is_some (option_or (if b then None else None) (commit_of txn facts)) ≡ true
     told true f = later f
     told false f = later f
 told_first txn _ facts later e = later e
@@ -194,18 +194,14 @@ fact_committed sc facts place (what.Settled at txn outcome.Commit) h =
     commit_told txn facts (any_filtered (is_decided_as txn outcome.Commit) (is_earlier place) facts h.follows)
 fact_committed sc facts place _ h = tt
 
-commit_append : (txn : TxnId) (facts more : List Fact) → commit_of txn (facts ++ more) ≡ first_of (commit_of txn facts) (commit_of txn more)
+commit_append : (txn : TxnId) (facts more : List Fact) → commit_of txn (facts ++ more) ≡ option_or (commit_of txn facts) (commit_of txn more)
 commit_append txn [] more = refl
-commit_append txn (fact ∷ facts) more = ap (first_of (commit_in_what txn fact.what)) (commit_append txn facts more) ∙ sym (first_first (commit_in_what txn fact.what) (commit_of txn facts) (commit_of txn more))
-
-first_kept : {A : Type 0} (x y : Option A) → is_some x ≡ true → first_of x y ≡ x
-first_kept None y e = absurd (cc)
-first_kept (Some found) y e = refl
+commit_append txn (fact ∷ facts) more = ap (option_or (commit_in_what txn fact.what)) (commit_append txn facts more) ∙ sym (first_first (commit_in_what txn fact.what) (commit_of txn facts) (commit_of txn more))
 
 -- what was overlaid is overlaid alike as later facts come
-overlaid_same : (sc : Scenario) (facts more : List Fact) (w : What) → IsCommitted facts w → (store : List ℤ) → overlaid_what sc (facts ++ more) store w ≡ overlaid_what sc facts store w
+overlaid_same : (sc : Scenario) (facts more : List Fact) (w : What) → IsCommitted facts w → (store : List ℤ) → overlay_what sc (facts ++ more) store w ≡ overlay_what sc facts store w
 overlaid_same sc facts more (what.Settled at txn outcome.Commit) h store =
-    ap (overlaid_deeds sc at store) (commit_append txn facts more ∙ first_kept (commit_of txn facts) (commit_of txn more) h)
+    ap (overlay_deeds sc at store) (commit_append txn facts more ∙ first_kept (commit_of txn facts) (commit_of txn more) h)
 overlaid_same sc facts more _ h store = refl
 
 what_committed : (sc : Scenario) (facts : List Fact) (w : What) → WhatSerial sc facts w → IsCommitted facts w
@@ -214,25 +210,25 @@ what_committed sc facts (what.Settled at txn outcome.Abort) h = tt
 what_committed sc facts _ h = tt
 
 overlaid_with_facts : (sc : Scenario) (facts more : List Fact) (place : ℕ) (happened : List What) (store : List ℤ) → Each (WhatSerial sc facts) happened
-    → fold (overlaid_fact sc (facts ++ more)) store (facts_of place happened) ≡ fold (overlaid_what sc facts) store happened
+    → fold (overlay_fact sc (facts ++ more)) store (facts_of place happened) ≡ fold (overlay_what sc facts) store happened
 overlaid_with_facts sc facts more place [] store h = refl
 overlaid_with_facts sc facts more place (w ∷ happened) store h =
-    overlaid_with_facts sc facts more place happened (overlaid_what sc (facts ++ more) store w) h.1
-    ∙ ap (λ (b : List ℤ). fold (overlaid_what sc facts) b happened) (overlaid_same sc facts more w (what_committed sc facts w h.0) store)
+    overlaid_with_facts sc facts more place happened (overlay_what sc (facts ++ more) store w) h.1
+    ∙ ap (λ (b : List ℤ). fold (overlay_what sc facts) b happened) (overlaid_same sc facts more w (what_committed sc facts w h.0) store)
 
 -- what settled commits leave after a step
-overlaid_move : (sc : Scenario) (w : State) (place : ℕ) (happened : List What) → Agrees sc w → Each (WhatSerial sc w.facts) happened → overlaid_by sc w happened ≡ overlaid sc (w.facts ++ facts_of place happened)
+overlaid_move : (sc : Scenario) (w : State) (place : ℕ) (happened : List What) → Agrees sc w → Each (WhatSerial sc w.facts) happened → overlaid_by sc w happened ≡ overlay sc (w.facts ++ facts_of place happened)
 overlaid_move sc w place happened agrees h =
     let more = facts_of place happened in
     let committed : Each (λ (fact : Fact). IsCommitted w.facts fact.what) w.facts =
     each_as (FactFollows sc w.facts) (λ (fact : Fact). IsCommitted w.facts fact.what) (λ fact follows. fact_committed sc w.facts fact.place fact.what follows) w.facts agrees.facts in
-    let same : fold (overlaid_fact sc (w.facts ++ more)) (opening_store sc) w.facts ≡ overlaid sc w.facts =
-    fold_as (overlaid_fact sc (w.facts ++ more)) (overlaid_fact sc w.facts) w.facts
-    (each_as (λ (fact : Fact). IsCommitted w.facts fact.what) (λ (fact : Fact). (store : List ℤ) → overlaid_fact sc (w.facts ++ more) store fact ≡ overlaid_fact sc w.facts store fact)
+    let same : fold (overlay_fact sc (w.facts ++ more)) (opening_store sc) w.facts ≡ overlay sc w.facts =
+    fold_as (overlay_fact sc (w.facts ++ more)) (overlay_fact sc w.facts) w.facts
+    (each_as (λ (fact : Fact). IsCommitted w.facts fact.what) (λ (fact : Fact). (store : List ℤ) → overlay_fact sc (w.facts ++ more) store fact ≡ overlay_fact sc w.facts store fact)
     (λ fact c. overlaid_same sc w.facts more fact.what c) w.facts committed) (opening_store sc) in
-    sym (fold-append (overlaid_fact sc (w.facts ++ more)) (opening_store sc) w.facts more
-    ∙ (overlaid_with_facts sc w.facts more place happened (fold (overlaid_fact sc (w.facts ++ more)) (opening_store sc) w.facts) h
-    ∙ ap (λ (store : List ℤ). fold (overlaid_what sc w.facts) store happened) same))
+    sym (fold-append (overlay_fact sc (w.facts ++ more)) (opening_store sc) w.facts more
+    ∙ (overlaid_with_facts sc w.facts more place happened (fold (overlay_fact sc (w.facts ++ more)) (opening_store sc) w.facts) h
+    ∙ ap (λ (store : List ℤ). fold (overlay_what sc w.facts) store happened) same))
 
 -- ---- a step
 
@@ -243,7 +239,7 @@ state_after_serial sc w taken move agrees h t locked =
     let now = w.facts ++ facts_of place move.happened in
     let g : Grows w.facts now place = grows_with_facts w.facts place move.happened in
     let all : before place now ≡ w.facts = g.same place (omega arith) ∙ before_past place w.facts agrees.past in
-    let values : overlaid_by sc w move.happened ≡ overlaid sc now = overlaid_move sc w place move.happened agrees t.happened in
+    let values : overlaid_by sc w move.happened ≡ overlay sc now = overlaid_move sc w place move.happened agrees t.happened in
     let store : store_by sc w move.happened ≡ store_of sc now = store_move sc w place move.happened in
     record {
       servers = subst (λ (store : List ℤ). ServersSerial sc store move.actors.servers) values t.servers;

@@ -3,7 +3,7 @@ use Rattle.std.specs.List.{filter_map, list_any, sum_by}
 use Rattle.std.proofs.Common.{Bool, IfSome, List, None, Option, Some, [], ap, arith, drop, false, flat_map, if◌then◌else◌, length, option_and_then, refl, slice_get, slice_set, subst, sym, true, ℕ, ◌++◌, ◌+◌, ◌∙◌, ◌≡◌}
 use Rattle.std.proofs.lemmas.Bool.{eqb-true}
 use Rattle.tp_types.proofs.ListLemmas.{number_itself}
-use Rattle.tp_model.specs.Credentials.{is_among, revoked_by, ticks}
+use Rattle.tp_model.specs.Credentials.{is_among, revoked_by, tick_of}
 use Rattle.tp_model.specs.Facts.{before, is_submission}
 use Rattle.tp_model.specs.Ids.{same_txn}
 use Rattle.tp_model.specs.Words.{AskRequest, Body, Fact, Letter, Record, Scenario, ServerId, TxnId, What}
@@ -20,7 +20,7 @@ use Rattle.tp_server.specs.State.{Server}
 use Rattle.tp_machine.proofs.agreement.ServerActs.{server_facts}
 use Rattle.tp_machine.proofs.agreement.CoordinatorActs.{coordinator_facts}
 use Rattle.tp_machine.proofs.agreement.World.{Agrees}
-use Rattle.tp_machine.proofs.basics.Facts.{ArePast, before_past}
+use Rattle.tp_machine.proofs.basics.Facts.{ArePast, before_past, facts_after}
 use Rattle.tp_machine.proofs.basics.Logs.{gained, look_set}
 use Rattle.tp_machine.proofs.basics.Lists.{at_set, each_append, each_as}
 use Rattle.tp_machine.proofs.trust.Coordinator.{CoordinatorFits, CoordinatorTrusts, IsOfTurn, LetterOfTurn, RecordDecides}
@@ -28,7 +28,7 @@ use Rattle.tp_machine.proofs.trust.Fit.{AuthorityFits, BodyFits, IsSubmitted, La
 use Rattle.tp_machine.proofs.trust.Kept.{IsTrusted, part_as, part_keeps, trusted_stays}
 use Rattle.tp_machine.proofs.trust.Server.{ServerTrusts}
 use Rattle.tp_machine.proofs.trust.Turns.{Answers, IsAbove, IsClosed, Stamp, TellNow, TurnFits, stamp_of}
-use Rattle.tp_machine.proofs.trust.World.{BodyTimely, CoordinatorPartFits, IsStill, MailTimely, MoveTrusts, ServerPartFits, StampFits, Timely, Trusts, WhatFits, authority_stays, coordinator_up_stays, decision_stays, facts_after, later_with_facts, master_stays, server_part_stays, up_at, up_of}
+use Rattle.tp_machine.proofs.trust.World.{BodyTimely, CoordinatorPartFits, IsStill, MailTimely, MoveTrusts, ServerPartFits, StampFits, Timely, Trusts, WhatFits, authority_stays, coordinator_up_stays, decision_stays, later_with_facts, master_stays, server_part_stays, up_at, up_of}
 
 -- ---- what a step says by itself
 
@@ -245,7 +245,7 @@ tell_fits sc w ask happened a h submitted =
     let l = later_with_facts w happened (place + 1) (omega arith) in
     let same : before place (facts_after w happened) ≡ before place w.facts = l.grows.same place (omega arith) in
     record {
-      clock_is = h.clock_is ∙ ap (λ (earlier : List Fact). sc.clock + sum_by ticks earlier) (sym same);
+      clock_is = h.clock_is ∙ ap (λ (earlier : List Fact). sc.clock + sum_by tick_of earlier) (sym same);
       revoked_is = λ cred. h.revoked_is cred ∙ ap (λ (earlier : List Fact). is_among (filter_map revoked_by earlier) cred) (sym same);
       begun = ap (list_any (is_submission ask.txn)) (same ∙ before_past place w.facts a.past) ∙ submitted;
       past = omega arith;

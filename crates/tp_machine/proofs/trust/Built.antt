@@ -14,10 +14,11 @@ use Rattle.tp_model.specs.Levels.{is_global, is_global_item, is_global_query, le
 use Rattle.tp_model.specs.Limits.{has_count}
 use Rattle.tp_model.specs.Queries.{item_of}
 use Rattle.tp_model.specs.Valid.{are_distinct, are_known, are_valid_from, is_known, is_valid_admin, is_valid_server, owned_from, same_admin_name, same_server_name}
-use Rattle.tp_model.specs.Versions.{opening_of}
+use Rattle.tp_model.specs.Versions.{opening_version}
 use Rattle.tp_model.specs.Words.scheme
 use Rattle.tp_model.specs.Words.{Admin, AdminId, Item, Query, Scenario, ServerDecl, Transaction, Version}
-use Rattle.tp_machine.proofs.ids.Built.{each_placed, plain_txn}
+use Rattle.tp_machine.proofs.basics.Lists.{each_placed}
+use Rattle.tp_machine.proofs.ids.Built.{plain_txn}
 use Rattle.tp_machine.specs.Sound.{Each, IsAdmin}
 
 -- ---- transactions
@@ -85,11 +86,11 @@ opening_least (admin ∷ admins) (suc n) h within = opening_least admins n (and_
 
 -- a server knows at first no version above the opening one
 pub known_at_first : (sc : Scenario) (n : ℕ) (admin : AdminId) → is_built sc ≡ true → IsAdmin sc admin
-    → (unwrap_or (slice_get (option_map_or (λ (declared : ServerDecl). declared.knows) (slice_get sc.servers n) []) admin.0) (record { 0 = 1 })).0 ≤ (opening_of sc admin).0
+    → (unwrap_or (slice_get (option_map_or (λ (declared : ServerDecl). declared.knows) (slice_get sc.servers n) []) admin.0) (record { 0 = 1 })).0 ≤ (opening_version sc admin).0
 known_at_first sc n admin built exists = by_server (slice_get sc.servers n) refl
   where
     by_server : (found : Option ServerDecl) → slice_get sc.servers n ≡ found
-        → (unwrap_or (slice_get (option_map_or (λ (declared : ServerDecl). declared.knows) found []) admin.0) (record { 0 = 1 })).0 ≤ (opening_of sc admin).0
+        → (unwrap_or (slice_get (option_map_or (λ (declared : ServerDecl). declared.knows) found []) admin.0) (record { 0 = 1 })).0 ≤ (opening_version sc admin).0
     by_server None e =
         opening_least sc.admins admin.0 (three_parts (has_count 1 16 sc.admins) (list_all is_valid_admin sc.admins) (are_distinct same_admin_name sc.admins) (rules.valid_built sc built).admins).1 exists
     by_server (Some server) e =

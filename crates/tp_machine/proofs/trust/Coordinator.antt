@@ -12,6 +12,7 @@ use Rattle.tp_model.specs.Words.log
 use Rattle.tp_model.specs.Words.outcome
 use Rattle.tp_model.specs.Words.vote
 use Rattle.tp_model.specs.Words.{Actor, Body, Cause, CommitRecord, Decision, Denied, Died, DoneReply, Fact, Instance, Letter, Mail, Outcome, Query, Record, Scenario, ServerId, Staple, TxnId, Verdict, Vote, VoteReply}
+use Rattle.tp_machine.proofs.basics.Ids.{same_txn_from}
 use Rattle.tp_machine.proofs.basics.Verdicts.{numbers_of}
 use Rattle.tp_machine.proofs.agreement.Coordinator.{idle_is}
 use Rattle.tp_machine.proofs.basics.Homes.{HaveHomes, next_is}
@@ -191,9 +192,6 @@ prepares_trusts sc facts place c round staple few h e s =
       timely = λ sent. prepare_letters_timely sc c round staple sent (missing_in round.targets) (round_wants sc facts place c.txn round f.1);
       old = λ sent turn said t. raised sc c next sent turn said undecided rises t;
     }
-
-same_coordinator : (one other : TxnId) → actor.Coordinator one ≡ actor.Coordinator other → one ≡ other
-same_coordinator one other e = cc
 
 -- ---- Vote
 
@@ -379,7 +377,7 @@ yes_trusted : (sc : Scenario) (facts : List Fact) (place : ℕ) (P : TxnId → �
     → IsSoundBody sc (actor.Coordinator c.txn) mail.letter.body → BodyFits sc facts place mail.sent mail.letter.body → BodyPairs sc P mail.letter.from (actor.Coordinator c.txn) mail.letter.body → PresentMail sc c mail.sent mail.letter.body
     → IsYes c mail reply round staple server verdicts → VoteTrusted sc facts place c round server verdicts
 yes_trusted sc facts place P c mail reply round staple server verdicts m f n t y =
-    let same : c.txn ≡ reply.txn = same_coordinator c.txn reply.txn (subst (IsSoundBody sc (actor.Coordinator c.txn)) y.said_is m).goes_to in
+    let same : c.txn ≡ reply.txn = sym (same_txn_from c.txn reply.txn (subst (IsSoundBody sc (actor.Coordinator c.txn)) y.said_is m).goes_to) in
     let fits : VoteFits sc facts place reply.txn reply.vote = subst (BodyFits sc facts place mail.sent) y.said_is f in
     let right : VoteFits sc facts place c.txn (vote.Yes verdicts) = subst (VoteFits sc facts place c.txn) y.vote_is (subst (λ (x : TxnId). VoteFits sc facts place x reply.vote) (sym same) fits) in
     let from : VoteFrom sc (actor.Server server) reply =
@@ -419,7 +417,7 @@ coordinator_row_trusts sc facts place P c mail few homes valid own h m f n t =
       ran_last = λ done server asked value k none. ran_last_trusts sc facts place c done asked server value few h (awaits_is c c.phase done k.awaited k.plain) k.asked_is own;
       died = λ done server asked other k. died_trusts sc facts place c done asked _ h (awaits_is c c.phase done k.awaited k.plain) k.asked_is;
       told = λ tell round k.
-          let same : c.txn ≡ tell.txn = same_coordinator c.txn tell.txn (subst (IsSoundBody sc (actor.Coordinator c.txn)) k.said_is m).goes_to in
+          let same : c.txn ≡ tell.txn = sym (same_txn_from c.txn tell.txn (subst (IsSoundBody sc (actor.Coordinator c.txn)) k.said_is m).goes_to) in
           let fits : StapleFits sc facts place tell.txn (staple_of tell mail.sent) = subst (BodyFits sc facts place mail.sent) k.said_is f in
           prepares_trusts sc facts place c round (staple_of tell mail.sent) few h k.asking (subst (λ (x : TxnId). StapleFits sc facts place x (staple_of tell mail.sent)) (sym same) fits);
       counted = λ reply round staple server verdicts y e. counted_trusts sc facts place c round staple server verdicts y.checking (replied reply round staple server verdicts y);

@@ -5,7 +5,7 @@ use Rattle.std.specs.Option.{option_map_or}
 use Rattle.std.proofs.Common.{Bool, List, None, Option, Some, [], ap, arith, false, if◌then◌else◌, inl, inr, is_none, is_some, length, nat_le, not, refl, slice_get, subst, true, ℕ, ◌&&◌, ◌==◌, ◌||◌, ◌∙◌, ◌∷◌, ◌≡◌, ◌⊎◌}
 use Rattle.std.proofs.lemmas.Bool.{and_from, and_parts, le-leb, lt-ltb, or_right}
 use Rattle.tp_types.proofs.ListLemmas.{number_itself, three_from}
-use Rattle.tp_model.specs.Authorisation.{is_allowed, is_certified, is_own_query, is_true_verdict, policy_at}
+use Rattle.tp_model.specs.Authorisation.{is_allowed, is_certified, is_own_query, is_true_verdict, policy_at, question_of}
 use Rattle.tp_model.specs.Built.{is_built}
 use Rattle.tp_model.specs.Causes.{denies_at_newest, is_caused, is_denied, is_denied_version, is_explained_at, is_refused, is_shown, keeps_causes, keeps_causes_what, lost_work}
 use Rattle.tp_model.specs.Demand.{is_deferred_demand, is_final_instance, is_over, is_round_count, meets_scheme, most_rounds}
@@ -18,9 +18,8 @@ use Rattle.tp_model.specs.Words.decision
 use Rattle.tp_model.specs.Words.scheme
 use Rattle.tp_model.specs.Words.what
 use Rattle.tp_model.specs.Words.{AdminId, Cause, CommitRecord, Denied, Fact, OutOfRange, Scenario, Scheme, Transaction, TxnId, Verdict, What}
-use Rattle.tp_machine.proofs.agreement.End.{each_found}
 use Rattle.tp_machine.proofs.basics.Facts.{all_from_each}
-use Rattle.tp_machine.proofs.basics.Lists.{each_get, missing}
+use Rattle.tp_machine.proofs.basics.Lists.{all_four, each_get, each_placed, missing}
 use Rattle.tp_machine.proofs.deaths.Fit.{FactDies, WhatDies}
 use Rattle.tp_machine.proofs.deaths.World.{Deaths}
 use Rattle.tp_machine.proofs.refusals.World.{FactRefused, IsRefused, Refusals, WhatRefused}
@@ -40,7 +39,7 @@ trusted_proof : (sc : Scenario) (txn : TxnId) (declared : Transaction) (place : 
     → is_trusted_proof sc txn declared place facts proof ≡ true
 trusted_proof sc txn declared place facts proof h has_rule =
     three_from (is_true_verdict sc facts declared proof) (is_within txn place facts proof.place) (nat_le proof.version.0 (newest sc proof.admin place facts))
-    (three_from (is_own_query sc declared proof.query proof.server proof.admin) (is_allowed sc facts declared proof.query proof.admin proof.version proof.place) (is_certified sc facts declared proof)
+    (three_from (is_own_query sc declared proof.query proof.server proof.admin) (is_allowed sc facts declared (question_of proof)) (is_certified sc facts declared proof)
     h.own (h.fits ∙ has_rule) (h.proved has_rule))
     (and_from _ _ h.begun (lt-ltb proof.place place h.past))
     (le-leb proof.version.0 (newest sc proof.admin place facts) h.published)
@@ -101,9 +100,6 @@ what_trusted sc facts place _ form sound h = refl
 
 -- ---- an abort
 
-four_true : (a b c d : Bool) → a ≡ true → b ≡ true → c ≡ true → d ≡ false → (a && b && c && not d) ≡ true
-four_true a b c d e f g h = grind arith
-
 unbound : (global newest fresh : Bool) → global ≡ false → (not (global && newest) || fresh) ≡ true
 unbound global newest fresh e = grind arith
 
@@ -116,8 +112,8 @@ denial_shown : (sc : Scenario) (txn : TxnId) (declared : Transaction) (place : �
     → IsVersion sc verdict.admin verdict.version → IsRight sc facts place txn declared verdict → is_none verdict.rule ≡ true
     → is_denied sc txn place facts (row.denied_by verdict) declared ≡ true
 denial_shown sc txn declared place facts verdict view version h ruleless =
-    four_true (is_own_query sc declared verdict.query verdict.server verdict.admin) (is_within txn place facts verdict.place) (is_denied_version sc place facts declared (row.denied_by verdict))
-    (is_allowed sc facts declared verdict.query verdict.admin verdict.version verdict.place)
+    all_four (is_own_query sc declared verdict.query verdict.server verdict.admin) (is_within txn place facts verdict.place) (is_denied_version sc place facts declared (row.denied_by verdict))
+    (is_allowed sc facts declared (question_of verdict))
     h.own
     (and_from _ _ h.begun (lt-ltb verdict.place place h.past))
     (three_from (is_some (policy_at sc verdict.admin verdict.version)) (nat_le verdict.version.0 (newest sc verdict.admin place facts)) _
@@ -157,7 +153,7 @@ pub facts_trusted : (sc : Scenario) (w : State) → is_built sc ≡ true → IsS
 facts_trusted sc w built sound h =
     let form : ArePlain sc = are_plain sc built in
     all_from_each (λ (fact : Fact). keeps_trust sc w.facts fact ≡ true) (keeps_trust sc w.facts) (λ fact k. k) w.facts
-    (each_found (λ (fact : Fact). keeps_trust sc w.facts fact ≡ true) w.facts
+    (each_placed (λ (fact : Fact). keeps_trust sc w.facts fact ≡ true) w.facts
     (λ n fact e. what_trusted sc w.facts fact.place fact.what form (each_get (IsSoundFact sc) w.facts n fact sound.facts_are e) (each_get (FactFits sc w.facts) w.facts n fact h.facts_fit e)))
 
 -- and its aborts have causes
@@ -165,5 +161,5 @@ pub facts_caused : (sc : Scenario) (w : State) → is_built sc ≡ true → IsSo
 facts_caused sc w built sound r d h =
     let form : ArePlain sc = are_plain sc built in
     all_from_each (λ (fact : Fact). keeps_causes sc w.facts fact ≡ true) (keeps_causes sc w.facts) (λ fact k. k) w.facts
-    (each_found (λ (fact : Fact). keeps_causes sc w.facts fact ≡ true) w.facts
+    (each_placed (λ (fact : Fact). keeps_causes sc w.facts fact ≡ true) w.facts
     (λ n fact e. what_caused sc w.facts fact.place fact.what form (each_get (IsSoundFact sc) w.facts n fact sound.facts_are e) (each_get (FactRefused sc w.facts) w.facts n fact r.facts e) (each_get (FactDies sc w.facts) w.facts n fact d.facts e) (each_get (FactFits sc w.facts) w.facts n fact h.facts_fit e)))

@@ -3,8 +3,8 @@ use Rattle.std.specs.List.{count_by, filter_map, list_all, list_any, range_with_
 use Rattle.std.proofs.Common.{Bool, IfSome, List, None, Option, Some, [], ap, arith, cond, false, filter, is_some, length, refl, slice_get, sym, true, ℕ, ◌&&◌, ◌+◌, ◌<◌, ◌∙◌, ◌∷◌, ◌≡◌, ◌≤◌}
 use Rattle.std.proofs.lemmas.Bool.Decides.{nat_tests}
 use Rattle.std.proofs.lemmas.List.Sums.{sum_by-cons}
-use Rattle.tp_model.specs.Authorisation.{is_allowed, is_certified, is_own_query, policy_at, rule_proves, tests_version}
-use Rattle.tp_model.specs.Credentials.{clock_at, is_among, is_presented, is_valid_in, revoked_at, revoked_by, ticks, triples_in}
+use Rattle.tp_model.specs.Authorisation.{Question, is_allowed, is_certified, is_own_query, policy_at, question_of, rule_proves, tests_version}
+use Rattle.tp_model.specs.Credentials.{clock_at, is_among, is_presented, is_valid_in, revoked_at, revoked_by, tick_of, triples_in}
 use Rattle.tp_model.specs.Facts.{before, is_earlier, is_submission, was_submitted}
 use Rattle.tp_model.specs.Policies.{allows}
 use Rattle.tp_model.specs.Versions.{is_publication, newest}
@@ -33,7 +33,7 @@ pub record StapleFits (sc : Scenario) (facts : List Fact) (place : ℕ) (txn : T
 -- a verdict, true or false, is right: it is what the policy gives on what the transaction held at its place
 pub record IsRight (sc : Scenario) (facts : List Fact) (place : ℕ) (txn : TxnId) (declared : Transaction) (verdict : Verdict) : Type 0 where
   pub own : is_own_query sc declared verdict.query verdict.server verdict.admin ≡ true
-  pub fits : is_allowed sc facts declared verdict.query verdict.admin verdict.version verdict.place ≡ is_some verdict.rule
+  pub fits : is_allowed sc facts declared (question_of verdict) ≡ is_some verdict.rule
   pub proved : is_some verdict.rule ≡ true → is_certified sc facts declared verdict ≡ true
   pub begun : was_submitted txn verdict.place facts ≡ true
   pub past : verdict.place < place
@@ -129,20 +129,20 @@ newest_rises sc admin old new low high l =
 
 -- definitions by the list of facts before their place
 abbrev valid_by : Scenario → List Fact → CredId → Bool
-valid_by sc earlier cred = is_valid_in sc.creds (sc.clock + sum_by ticks earlier) (filter_map revoked_by earlier) cred
+valid_by sc earlier cred = is_valid_in sc.creds (sc.clock + sum_by tick_of earlier) (filter_map revoked_by earlier) cred
 
-abbrev allowed_by : Scenario → List Fact → Transaction → ℕ → AdminId → Version → Bool
-allowed_by sc earlier txn number admin version =
-    tests_version (λ (asked : Action) (item : List ℕ) (policy : Policy). allows policy asked item (triples_in sc.creds txn.subject (filter (valid_by sc earlier) txn.creds))) sc txn number (policy_at sc admin version)
+abbrev allowed_by : Scenario → List Fact → Transaction → Question → Bool
+allowed_by sc earlier txn question =
+    tests_version (λ (asked : Action) (item : List ℕ) (policy : Policy). allows policy asked item (triples_in sc.creds txn.subject (filter (valid_by sc earlier) txn.creds))) sc txn question.query (policy_at sc question.admin question.version)
 
 abbrev certified_by : Scenario → List Fact → Transaction → Verdict → Bool
 certified_by sc earlier txn verdict =
     tests_version (rule_proves sc txn verdict.uses verdict.rule) sc txn verdict.query (policy_at sc verdict.admin verdict.version)
     && list_all (λ (cred : CredId). is_presented txn cred && valid_by sc earlier cred) verdict.uses
 
-pub allowed_stays : (sc : Scenario) (old new : List Fact) (txn : Transaction) (number : ℕ) (admin : AdminId) (version : Version) (place : ℕ) → before place new ≡ before place old
-    → is_allowed sc new txn number admin version place ≡ is_allowed sc old txn number admin version place
-allowed_stays sc old new txn number admin version place e = ap (λ (earlier : List Fact). allowed_by sc earlier txn number admin version) e
+pub allowed_stays : (sc : Scenario) (old new : List Fact) (txn : Transaction) (question : Question) → before question.place new ≡ before question.place old
+    → is_allowed sc new txn question ≡ is_allowed sc old txn question
+allowed_stays sc old new txn question e = ap (λ (earlier : List Fact). allowed_by sc earlier txn question) e
 
 pub certified_stays : (sc : Scenario) (old new : List Fact) (txn : Transaction) (verdict : Verdict) → before verdict.place new ≡ before verdict.place old
     → is_certified sc new txn verdict ≡ is_certified sc old txn verdict
@@ -155,7 +155,7 @@ pub staple_stays : (sc : Scenario) (old new : List Fact) (low high : ℕ) (txn :
 staple_stays sc old new low high txn staple l h =
     let same : before staple.place new ≡ before staple.place old = l.grows.same staple.place (omega (arith, h.past)) in
     record {
-      clock_is = h.clock_is ∙ ap (λ (earlier : List Fact). sc.clock + sum_by ticks earlier) (sym same);
+      clock_is = h.clock_is ∙ ap (λ (earlier : List Fact). sc.clock + sum_by tick_of earlier) (sym same);
       revoked_is = λ cred. h.revoked_is cred ∙ ap (λ (earlier : List Fact). is_among (filter_map revoked_by earlier) cred) (sym same);
       begun = submitted_stays old new txn staple.place same h.begun;
       past = omega (arith, h.past, l.le);
@@ -167,7 +167,7 @@ right_stays sc old new low high txn verdict l h declared found =
     let same : before verdict.place new ≡ before verdict.place old = l.grows.same verdict.place (omega (arith, was.past)) in
     record {
       own = was.own;
-      fits = allowed_stays sc old new declared verdict.query verdict.admin verdict.version verdict.place same ∙ was.fits;
+      fits = allowed_stays sc old new declared (question_of verdict) same ∙ was.fits;
       proved = λ has_rule. certified_stays sc old new declared verdict same ∙ was.proved has_rule;
       begun = submitted_stays old new txn verdict.place same was.begun;
       past = omega (arith, was.past, l.le);

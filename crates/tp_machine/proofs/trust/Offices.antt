@@ -1,4 +1,5 @@
 -- The offices: the clock moves, credentials are revoked, and the master publishes, pushes and answers.
+use Rattle.std.proofs.Math.Bool.{or-false, or_comm}
 use Rattle.std.proofs.lemmas.List.{append-nil, length-map, length-set}
 use Rattle.std.proofs.lemmas.List.Folds.{list_any-append}
 use Rattle.std.proofs.Common.{Bool, List, None, Option, Some, [], true, false, ap, arith, cond, get_or, if◌then◌else◌, length, refl, replicate, slice_get, slice_set, suc, sym, unwrap_or, zero, ℕ, ◌+◌, ◌<◌, ◌==◌, ◌||◌, ◌∙◌, ◌∷◌, ◌≡◌}
@@ -6,37 +7,34 @@ use Rattle.std.specs.List.{count_by, sum_by}
 use Rattle.std.proofs.lemmas.List.Sums.{sum_by-cons}
 use Rattle.std.proofs.lemmas.Bool.{eqb-true}
 use Rattle.std.proofs.lemmas.Option.{slice_get-get_or, slice_get-map}
-use Rattle.tp_model.specs.Credentials.{is_among, revoked_at, ticks}
+use Rattle.tp_model.specs.Credentials.{is_among, revoked_at, tick_of}
 use Rattle.tp_model.specs.Ids.{same_cred}
-use Rattle.tp_model.specs.Versions.{is_publication, newest, opening_of}
+use Rattle.tp_model.specs.Versions.{is_publication, newest, opening_version}
 use Rattle.tp_model.specs.Words.{AdminId, Body, CredId, Fact, Letter, Scenario, ServerId, Version, What}
 use Rattle.tp_model.specs.Words.body
 use Rattle.tp_model.specs.Words.what
-use Rattle.tp_types.specs.Table.{flattened}
+use Rattle.std.specs.Option.{option_flatten}
 use Rattle.tp_offices.specs.Authority as office
 use Rattle.tp_offices.specs.Master as master
 use Rattle.tp_offices.specs.declared.authority.Authority.{Authority}
 use Rattle.tp_offices.specs.declared.master.Master.{Master}
 use Rattle.tp_machine.specs.Machine.{State, facts_of, publishes, revokes, ticks as moves}
 use Rattle.tp_machine.specs.Sound.{Each, IsAdmin, IsCred}
-use Rattle.tp_machine.proofs.basics.Facts.{ArePast}
+use Rattle.tp_machine.proofs.basics.Facts.{ArePast, facts_after}
 use Rattle.tp_machine.proofs.basics.Lists.{placed_set}
 use Rattle.tp_machine.proofs.basics.Logs.{get_set}
 use Rattle.tp_machine.proofs.trust.Fit.{AuthorityFits, BodyFits, maybe_stays, newest_rises}
 use Rattle.tp_machine.proofs.trust.Turns.{TurnFits}
-use Rattle.tp_machine.proofs.trust.World.{BodyTimely, MasterFits, MoveTrusts, Timely, Trusts, WhatFits, authority_kept, clock_after, coordinator_up_stays, facts_after, later_with_facts, master_kept, newest_after, revoked_after, server_part_stays, up_at}
+use Rattle.tp_machine.proofs.trust.World.{BodyTimely, MasterFits, MoveTrusts, Timely, Trusts, WhatFits, authority_kept, clock_after, coordinator_up_stays, later_with_facts, master_kept, newest_after, revoked_after, server_part_stays, up_at}
 
 -- ---- one credential more
 
 -- a place that is set gives its credential beside the others
-revoked_more : (places : List (Option CredId)) (first n : ℕ) (cred other : CredId) → ((m : ℕ) (found : CredId) → flattened (slice_get places m) ≡ Some found → found.0 ≡ first + m) → n < length places
+revoked_more : (places : List (Option CredId)) (first n : ℕ) (cred other : CredId) → ((m : ℕ) (found : CredId) → option_flatten (slice_get places m) ≡ Some found → found.0 ≡ first + m) → n < length places
     → cred.0 ≡ first + n → is_among (office.revocations (slice_set places n (Some cred))) other ≡ (is_among (office.revocations places) other || same_cred other cred)
 revoked_more [] first n cred other placed within own = absurd (omega (arith, within))
 revoked_more (None ∷ places) first zero cred other placed within own =
-    swapped (same_cred other cred) (is_among (office.revocations places) other)
-  where
-    swapped : (a b : Bool) → (a || b) ≡ (b || a)
-    swapped a b = grind arith
+    or_comm (same_cred other cred) (is_among (office.revocations places) other)
 revoked_more (Some old ∷ places) first zero cred other placed within own =
     let was : old.0 ≡ first + 0 = placed 0 old refl in
     let number : old.0 ≡ cred.0 = omega (arith, was, own) in
@@ -53,9 +51,6 @@ revoked_more (Some old ∷ places) first (suc n) cred other placed within own =
     further : (a now was c : Bool) → now ≡ (was || c) → (a || now) ≡ ((a || was) || c)
     further a now was c e = grind arith
 
-or_none : (a : Bool) → (a || false) ≡ a
-or_none a = grind arith
-
 -- before the first step nothing is revoked
 pub none_revoked : (count : ℕ) (cred : CredId) → is_among (office.revocations (replicate count None)) cred ≡ false
 none_revoked zero cred = refl
@@ -69,7 +64,7 @@ ticked_fits sc w by authority past h =
     let place = length w.steps in
     let happened = what.Ticked by ∷ [] in
     let clock = clock_after sc w happened past in
-    let one : sum_by ticks (record { place = place; what = what.Ticked by } ∷ []) ≡ by + 0 = sum_by-cons ticks (record { place = place; what = what.Ticked by }) [] in
+    let one : sum_by tick_of (record { place = place; what = what.Ticked by } ∷ []) ≡ by + 0 = sum_by-cons tick_of (record { place = place; what = what.Ticked by }) [] in
     let was = h.clock_is in
     record {
       clock_is = omega (arith, was, clock, one);
@@ -84,7 +79,7 @@ revoked_fits sc w cred authority exists past h =
     let place = length w.steps in
     let happened = what.Revoked cred ∷ [] in
     let clock = clock_after sc w happened past in
-    let none : sum_by ticks (record { place = place; what = what.Revoked cred } ∷ []) ≡ 0 + 0 = sum_by-cons ticks (record { place = place; what = what.Revoked cred }) [] in
+    let none : sum_by tick_of (record { place = place; what = what.Revoked cred } ∷ []) ≡ 0 + 0 = sum_by-cons tick_of (record { place = place; what = what.Revoked cred }) [] in
     let was = h.clock_is in
     let count = h.places in
     record {
@@ -93,7 +88,7 @@ revoked_fits sc w cred authority exists past h =
           revoked_more authority.revoked 0 cred.0 cred other (λ m found e. let p = h.placed m found e in omega (arith, p)) (omega (arith, exists, count)) (omega arith)
           ∙ (ap (λ (b : Bool). b || same_cred other cred) (h.revoked_is other)
           ∙ sym (ap (λ (revoked : List CredId). is_among revoked other) (revoked_after w happened past)
-          ∙ (list_any-append (same_cred other) (revoked_at place w.facts) (cred ∷ []) ∙ ap (λ (b : Bool). is_among (revoked_at place w.facts) other || b) (or_none (same_cred other cred)))));
+          ∙ (list_any-append (same_cred other) (revoked_at place w.facts) (cred ∷ []) ∙ ap (λ (b : Bool). is_among (revoked_at place w.facts) other || b) (or-false (same_cred other cred)))));
       placed = placed_set (λ (n : ℕ) (found : CredId). found.0 ≡ n) authority.revoked cred.0 cred h.placed refl;
       places = length-set authority.revoked cred.0 (Some cred) ∙ count;
     }
@@ -109,7 +104,7 @@ raised_by_one versions n m before true e was =
 raised_by_one versions n m before false e was = omega (arith, was)
 
 published_fits : (sc : Scenario) (w : State) (admin : AdminId) (held : Master) → IsAdmin sc admin → ArePast (length w.steps) w.facts → MasterFits sc w.facts (length w.steps) held
-    → MasterFits sc (facts_after w (what.Published admin (master.next_of held admin) ∷ [])) (length w.steps + 1) (master.published admin held)
+    → MasterFits sc (facts_after w (what.Published admin (master.next_of held admin) ∷ [])) (length w.steps + 1) (master.after_publication admin held)
 published_fits sc w admin held exists past h =
     let place = length w.steps in
     let next = master.next_of held admin in
@@ -163,8 +158,8 @@ revoked_trusts sc w cred exists past h =
 pub published_trusts : (sc : Scenario) (w : State) (admin : AdminId) → IsAdmin sc admin → ArePast (length w.steps) w.facts → Trusts sc w → MoveTrusts sc w (publishes w.actors admin)
 published_trusts sc w admin exists past h =
     let happened = what.Published admin (master.next_of w.actors.master admin) ∷ [] in
-    offices_trust sc w w.actors.authority (master.published admin w.actors.master) happened h (authority_kept sc w happened w.actors.authority past
-    (sum_by-cons ticks (record { place = length w.steps; what = what.Published admin (master.next_of w.actors.master admin) }) []) refl h.authority)
+    offices_trust sc w w.actors.authority (master.after_publication admin w.actors.master) happened h (authority_kept sc w happened w.actors.authority past
+    (sum_by-cons tick_of (record { place = length w.steps; what = what.Published admin (master.next_of w.actors.master admin) }) []) refl h.authority)
     (published_fits sc w admin w.actors.master exists past h.master) (λ facts. (tt, tt))
 
 -- ---- what the master sends
@@ -199,7 +194,7 @@ pub opening_fits : (sc : Scenario) → MasterFits sc [] 0 (master.opening sc)
 opening_fits sc =
     record {
       newest_is = λ admin exists.
-          let begun : (master.version_in (master.opening sc).newest admin).0 ≡ (opening_of sc admin).0 = ap (λ (found : Option Version). (unwrap_or found (record { 0 = 0 })).0) (slice_get-map master.opening_of sc.admins admin.0) in
+          let begun : (master.version_for (master.opening sc).newest admin).0 ≡ (opening_version sc admin).0 = ap (λ (found : Option Version). (unwrap_or found (record { 0 = 0 })).0) (slice_get-map master.opening_in sc.admins admin.0) in
           omega (arith, begun);
-      places = length-map sc.admins master.opening_of;
+      places = length-map sc.admins master.opening_in;
     }

@@ -23,7 +23,7 @@ use Rattle.tp_round.proofs.NamesLemmas.{admins_in, all_covered, is_covered}
 use Rattle.tp_round.proofs.RoundsLemmas.{IsSecond, Keeps, aim_at, all_wanted, are_wanted_at, first_only, is_wanted_at, number_two, renewed_at}
 use Rattle.tp_machine.proofs.basics.Verdicts.{numbers_of}
 use Rattle.tp_machine.proofs.basics.Facts.{each_from_all}
-use Rattle.tp_machine.proofs.basics.Lists.{each_as, each_filter, each_map}
+use Rattle.tp_machine.proofs.basics.Lists.{each_as, each_filter, each_map, each_two}
 use Rattle.tp_machine.proofs.basics.Aims.{wants_within}
 use Rattle.tp_machine.proofs.pairs.Actors.{site_of}
 use Rattle.tp_machine.proofs.pairs.Site.{Site, here, here_within, in_upto, upto}
@@ -32,11 +32,6 @@ use Rattle.tp_machine.proofs.trust.Rounds.{AreNumbersAt, ArePublished, IsCovered
 use Rattle.tp_machine.specs.Sound.{Each}
 
 -- ---- members
-
--- two facts of each member
-pub each_both : {A : Type 0} (P Q : A → Type 0) (xs : List A) → Each P xs → Each Q xs → Each (λ (x : A). P x × Q x) xs
-each_both P Q [] h k = tt
-each_both P Q (x ∷ xs) h k = ((h.0, k.0), each_both P Q xs h.1 k.1)
 
 -- each member that is as said passes a test that it passes with itself
 each_member : {A : Type 0} (Q : A → Type 0) (test : A → A → Bool) → ((x : A) → Q x → test x x ≡ true) → (xs : List A) → Each (λ (x : A). Q x → list_any (test x) xs ≡ true) xs
@@ -178,7 +173,7 @@ renewed_covers sc txn aim targets named replied =
     let members = each_member (λ (one : Target). is_outdated aim one ≡ true) (λ (one : Target). is_outdated_at aim one.server) own targets in
     each_map (λ (one : Target). (is_missing one ≡ false) × (is_outdated aim one ≡ true → list_any (is_outdated_at aim one.server) targets ≡ true)) (IsCovered sc txn (wants_of aim targets)) (next_target aim)
     (λ one h. covered_where sc txn (wants_of aim targets) one (is_outdated aim one) h.0 (λ out. named_outdated sc txn aim targets one.server named (h.1 out))) targets
-    (each_both (λ (one : Target). is_missing one ≡ false) (λ (one : Target). is_outdated aim one ≡ true → list_any (is_outdated_at aim one.server) targets ≡ true) targets replied members)
+    (each_two (λ (one : Target). is_missing one ≡ false) (λ (one : Target). is_outdated aim one ≡ true → list_any (is_outdated_at aim one.server) targets ≡ true) targets replied members)
 
 -- ---- the update
 
@@ -222,8 +217,8 @@ next_fits sc facts place txn round named declared found h is first =
     let names : Each (NamesIfOutdated sc txn aim) round.targets =
     each_as (λ (one : Target). (is_missing one ≡ false) × (TargetFits sc facts place txn one × (is_covered round one ≡ true))) (NamesIfOutdated sc txn aim)
     (λ one k. want_named sc facts place txn round one k.0 k.1.0 k.1.1) round.targets
-    (each_both (λ (one : Target). is_missing one ≡ false) (λ (one : Target). TargetFits sc facts place txn one × (is_covered round one ≡ true)) round.targets replied
-    (each_both (TargetFits sc facts place txn) (λ (one : Target). is_covered round one ≡ true) round.targets h.targets (each_from_all (is_covered round) round.targets (all_covered round)))) in
+    (each_two (λ (one : Target). is_missing one ≡ false) (λ (one : Target). TargetFits sc facts place txn one × (is_covered round one ≡ true)) round.targets replied
+    (each_two (TargetFits sc facts place txn) (λ (one : Target). is_covered round one ≡ true) round.targets h.targets (each_from_all (is_covered round) round.targets (all_covered round)))) in
     let second : IsSecondRound sc facts place txn (next_round round aim named (mets_in round (met_in round None))) = record {
       number = number_two round first;
       aimed = f;

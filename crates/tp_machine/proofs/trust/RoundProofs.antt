@@ -1,7 +1,7 @@
 -- A round that is judged true: its proofs are right and true, agree, and are of each of the transaction's queries once, in order.
 use Rattle.std.specs.List.{list_all, list_any, range_with_len}
 use Rattle.std.specs.Option.{option_map_or}
-use Rattle.std.proofs.Common.{Bool, List, None, Option, Some, [], ap, arith, cond, false, filter, inl, inr, is_none, is_some, length, map, nat_le, not, refl, slice_get, suc, sym, true, zero, ℕ, ◌&&◌, ◌++◌, ◌+◌, ◌<◌, ◌==◌, ◌∙◌, ◌∷◌, ◌≡◌, ◌≤◌, ◌⊎◌, ⊎_elim}
+use Rattle.std.proofs.Common.{Bool, List, None, Option, Some, [], ap, arith, cond, false, filter, inl, inr, is_some, length, map, nat_le, refl, slice_get, suc, sym, true, zero, ℕ, ◌&&◌, ◌++◌, ◌+◌, ◌<◌, ◌==◌, ◌∙◌, ◌∷◌, ◌≡◌, ◌≤◌, ◌⊎◌, ⊎_elim}
 use Rattle.std.proofs.lemmas.Bool.{cases_lt, le-leb}
 use Rattle.std.proofs.lemmas.Bool.Decides.{eqb_tells, nat_tests}
 use Rattle.std.proofs.lemmas.List.{length-append}
@@ -26,7 +26,7 @@ use Rattle.tp_round.proofs.VersionLemmas.{all_by_query}
 use Rattle.tp_machine.proofs.basics.Verdicts.{numbers_of}
 use Rattle.tp_machine.proofs.basics.Facts.{all_from_each, each_from_all}
 use Rattle.tp_machine.proofs.basics.Homes.{HaveHomes}
-use Rattle.tp_machine.proofs.basics.Lists.{each_get, missing}
+use Rattle.tp_machine.proofs.basics.Lists.{each_get, missing, some_if_not_none}
 use Rattle.tp_machine.proofs.basics.Rounds.{each_by_query}
 use Rattle.tp_machine.proofs.ids.Valid.{IsValid, IsValidItem}
 use Rattle.tp_machine.proofs.pairs.Actors.{site_of}
@@ -244,12 +244,8 @@ one_for_each sc facts place txn declared round homes valid found h replied numbe
 
 -- ---- the proofs that are given
 
-true_rule : (rule : Option ℕ) → not (is_none rule) ≡ true → is_some rule ≡ true
-true_rule None e = absurd (cc)
-true_rule (Some rule) e = refl
-
 all_true : (verdicts : List Verdict) → list_all is_true verdicts ≡ true → list_all (λ (verdict : Verdict). is_some verdict.rule) verdicts ≡ true
-all_true verdicts e = all_from_each (λ (verdict : Verdict). is_true verdict ≡ true) (λ (verdict : Verdict). is_some verdict.rule) (λ verdict t. true_rule verdict.rule t) verdicts (each_from_all is_true verdicts e)
+all_true verdicts e = all_from_each (λ (verdict : Verdict). is_true verdict ≡ true) (λ (verdict : Verdict). is_some verdict.rule) (λ verdict t. some_if_not_none verdict.rule t) verdicts (each_from_all is_true verdicts e)
 
 -- proofs that close an instance: right, of each query in order, true, and of one version of each administrator; and the round's number
 pub record IsClosing (sc : Scenario) (facts : List Fact) (place : ℕ) (txn : TxnId) (round : Round) (proofs : List Verdict) : Type 0 where

@@ -7,8 +7,8 @@ use Rattle.tp_types.proofs.ListLemmas.{number_itself}
 use Rattle.tp_model.specs.Authorisation.{is_item_at, is_own_query, is_query_at}
 use Rattle.tp_model.specs.Ids.{same_admin, same_server}
 use Rattle.tp_model.specs.Queries.{is_at_server, item_of, query_at, servers_of}
-use Rattle.tp_model.specs.Words.{AdminId, Fact, Item, Met, Query, Scenario, ServerId, Transaction, TxnId, Verdict, Version}
-use Rattle.tp_round.specs.declared.round.Judged.TheVariants.{False, Spent}
+use Rattle.tp_model.specs.Words.{AdminId, Fact, Item, Query, Scenario, ServerId, Transaction, TxnId, Verdict, Version}
+use Rattle.tp_round.specs.declared.round.Judged.TheVariants.{False}
 use Rattle.tp_round.specs.declared.round.Round.{Round}
 use Rattle.tp_round.specs.declared.round.Target.{Target}
 use Rattle.tp_round.specs.declared.round.Wanted.{Wanted}
@@ -17,10 +17,9 @@ use Rattle.tp_round.specs.Replies.{proofs_in, verdicts_in}
 use Rattle.tp_round.proofs.AgreedLemmas.{false_is_least}
 use Rattle.tp_round.proofs.KeptLemmas.{server_of, servers_replied}
 use Rattle.tp_round.proofs.RoundsLemmas.{aimed_has, are_wanted_at, is_wanted_at, reply_keeps}
-use Rattle.tp_round.proofs.SpentLemmas.{unread_unspent}
 use Rattle.tp_round.proofs.VersionLemmas.{are_at, is_at}
 use Rattle.tp_machine.proofs.basics.Verdicts.{numbers_of}
-use Rattle.tp_machine.proofs.basics.Lists.{by_cond, each_as, each_flat_map, each_get, each_more}
+use Rattle.tp_machine.proofs.basics.Lists.{by_cond, each_as, each_flat_map, each_get, each_more, each_of_all, each_two}
 use Rattle.tp_machine.proofs.agreement.Coordinator.{HaveItems, HoldsItem, servers_at_have_items}
 use Rattle.tp_machine.proofs.basics.Aims.{is_within}
 use Rattle.tp_machine.proofs.basics.Rounds.{EachServer, each_missing, missing_in}
@@ -28,23 +27,13 @@ use Rattle.tp_machine.proofs.pairs.Actors.{site_of}
 use Rattle.tp_machine.proofs.pairs.CoordinatorRows.{NamesAt}
 use Rattle.tp_machine.proofs.pairs.Fits.{Names}
 use Rattle.tp_machine.proofs.trust.Turns.{WantNow}
-use Rattle.tp_coord.specs.Row.{server_in, want_for}
+use Rattle.tp_coord.specs.Row.{server_of_target, want_for}
 use Rattle.tp_model.specs.Agreement.{has_item}
 use Rattle.tp_model.specs.Limits.{is_empty}
 use Rattle.tp_machine.proofs.pairs.Site.{Site, here, upto, with_number}
 use Rattle.tp_machine.proofs.trust.Fit.{IsPublished, Later, Right, newest_rises, right_stays}
 use Rattle.tp_machine.specs.Sound.{Each}
 use Rattle.tp_coord.specs.Opened.{servers_at}
-
--- ---- members
-
-each_of : {A : Type 0} {P : A → Type 0} (xs : List A) → ((x : A) → P x) → Each P xs
-each_of [] h = tt
-each_of (x ∷ xs) h = (h x, each_of xs h)
-
-each_two : {A : Type 0} (P Q : A → Type 0) (xs : List A) → Each P xs → Each Q xs → Each (λ (x : A). P x × Q x) xs
-each_two P Q [] h k = tt
-each_two P Q (x ∷ xs) h k = ((h.0, k.0), each_two P Q xs h.1 k.1)
 
 -- ---- what a round rests on
 
@@ -258,12 +247,12 @@ want_published sc facts place txn round server h = published h.count
 named_missing : (sc : Scenario) (txn : TxnId) (named : List Wanted) (targets : List Target) → Each (IsCovered sc txn named) targets → Each (λ (at : ServerId). IsNamedFor sc txn at (want_in named at)) (missing_in targets)
 named_missing sc txn named [] h = tt
 named_missing sc txn named (target ∷ targets) h =
-    by_cond (λ (left : List Target). Each (λ (at : ServerId). IsNamedFor sc txn at (want_in named at)) (map server_in left)) (is_missing target)
+    by_cond (λ (left : List Target). Each (λ (at : ServerId). IsNamedFor sc txn at (want_in named at)) (map server_of_target left)) (is_missing target)
     (λ e. (h.0 e, named_missing sc txn named targets h.1)) (λ e. named_missing sc txn named targets h.1)
 
 names_by : (sc : Scenario) (facts : List Fact) (place : ℕ) (txn : TxnId) (round : Round) (declared : Transaction) → slice_get sc.txns txn.0 ≡ Some declared → IsFirstRound round ⊎ IsSecondRound sc facts place txn round
     → Each (NamesAt sc declared round) (missing_in round.targets)
-names_by sc facts place txn round declared e (inl first) = each_of (missing_in round.targets) (λ at. inl (ap is_empty (first_wants round at first)))
+names_by sc facts place txn round declared e (inl first) = each_of_all _ (λ at. inl (ap is_empty (first_wants round at first))) (missing_in round.targets)
 names_by sc facts place txn round declared e (inr second) =
     each_as (λ (at : ServerId). IsNamedFor sc txn at (want_in round.named at)) (NamesAt sc declared round) (λ at named. inr (named declared e)) (missing_in round.targets) (named_missing sc txn round.named round.targets second.covers)
 
@@ -306,7 +295,7 @@ item_declared sc at txn (Some declared) e h = (declared, e, has_own sc declared 
 -- after an update what is wanted of a server that is awaited is something, and within what is aimed at
 wants_by : (sc : Scenario) (facts : List Fact) (place : ℕ) (txn : TxnId) (round : Round) → EachServer (HoldsItem sc txn) round.targets → IsFirstRound round ⊎ IsSecondRound sc facts place txn round
     → Each (λ (at : ServerId). WantNow round (want_for round at)) (missing_in round.targets)
-wants_by sc facts place txn round items (inl first) = each_of (missing_in round.targets) (λ at. inl first.number)
+wants_by sc facts place txn round items (inl first) = each_of_all _ (λ at. inl first.number) (missing_in round.targets)
 wants_by sc facts place txn round items (inr second) =
     each_as (λ (at : ServerId). HoldsItem sc txn at × IsNamedFor sc txn at (want_in round.named at)) (λ (at : ServerId). WantNow round (want_for round at))
     (λ at k. let there = item_declared sc at txn (slice_get sc.txns txn.0) refl k.0 in
@@ -412,7 +401,3 @@ round_denies sc facts place txn round verdict h e =
       right = each_get (Right sc facts place txn) (proofs_in round.targets) least.place verdict (proofs_right sc facts place txn round h) least.there;
       ruleless = least.untrue;
     }
-
--- no rounds are spent, as the master is not read
-pub never_spent : (round : Round) (mets : List Met) → judge round None ≡ Spent mets → ⊥
-never_spent round mets e = unread_unspent round mets e

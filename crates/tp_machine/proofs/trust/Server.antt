@@ -3,17 +3,17 @@ use Rattle.std.specs.List.{list_all}
 use Rattle.std.specs.Option.{option_map_or}
 use Rattle.std.proofs.Common.{IfSome, List, None, Option, Some, [], ap, arith, false, inl, inr, is_some, length, option_and_then, refl, slice_get, subst, suc, sym, true, unwrap_or, zero, ℕ, ℤ, ⊎_elim, ◌<◌, ◌==◌, ◌∙◌, ◌∷◌, ◌≡◌, ◌≤◌, ◌⊎◌}
 use Rattle.std.proofs.lemmas.Bool.{and_from}
-use Rattle.std.proofs.lemmas.Option.{same_Some}
+use Rattle.std.proofs.lemmas.Option.{same_Some, slice_get_within}
 use Rattle.tp_types.proofs.ListLemmas.{number_itself}
 use Rattle.tp_types.specs.Effect.{Effect, ignores, sends}
 use Rattle.tp_lock.specs.declared.entry.Grant.{Grant}
-use Rattle.tp_model.specs.Authorisation.{is_item_at, is_own_query, is_query_at, policy_at, version_in, version_of}
+use Rattle.tp_model.specs.Authorisation.{is_item_at, is_own_query, is_query_at, policy_at, library_version, version_of}
 use Rattle.tp_model.specs.Queries.{query_at}
 use Rattle.tp_model.specs.Versions.{newest}
 use Rattle.tp_model.specs.Words.actor
 use Rattle.tp_model.specs.Words.body
 use Rattle.tp_model.specs.Words.vote
-use Rattle.tp_model.specs.Words.{Actor, Admin, AdminId, Body, Deed, DoneReply, Fact, Item, Letter, Mail, No, Policy, PrepareRequest, PushNotice, Query, QueryRequest, Record, Scenario, ServerId, Settled, Staple, Transaction, TxnId, Verdict, Version}
+use Rattle.tp_model.specs.Words.{Actor, AdminId, Body, Deed, DoneReply, Fact, Item, Letter, Mail, No, Policy, PrepareRequest, PushNotice, Query, QueryRequest, Record, Scenario, ServerId, Settled, Staple, Transaction, TxnId, Verdict, Version}
 use Rattle.tp_machine.proofs.basics.Lists.{each_append, each_as, each_found, each_map, each_more, placed_emptied, placed_set}
 use Rattle.tp_machine.proofs.basics.Ids.{admin_number}
 use Rattle.tp_machine.proofs.basics.Stores.{ended_known, kept_known}
@@ -42,7 +42,7 @@ use Rattle.tp_server.specs.declared.server.Ballot.{Ballot}
 use Rattle.tp_server.specs.declared.server.Entry.{Entry}
 use Rattle.tp_server.specs.Row.{ack_letter, answers, closes, completes, died_reply, done_reply, entry_after, entry_at, followed_by, learns, no_letter, refused_as, restarted_reply, server_row, settled_as, votes_on, with_entry, yes_letter}
 use Rattle.tp_server.specs.State.{Server}
-use Rattle.tp_server.specs.Verdicts.{learnt, verdict_on, verdicts_on, version_known, version_or, version_used}
+use Rattle.tp_server.specs.Verdicts.{with_wants, verdict_on, verdicts_on, version_known, version_or, version_used}
 
 -- an act of a server: what it is after it, if it is up, fits; what it keeps and forced, and its letters, fit too and T of them. T is closed
 -- under answers, and is so of the mail
@@ -79,7 +79,7 @@ own_query sc txn declared number at admin e q =
     ∙ and_from (q.kept.declared.server.0 == at.0) (q.kept.declared.admin.0 == admin.0)
     (ap (λ (s : ServerId). s.0 == at.0) q.kept.server_is ∙ number_itself at.0) (ap (λ (a : AdminId). a.0 == admin.0) q.admin_is ∙ number_itself admin.0))
 
-library_has : (library : List Policy) (version : ℕ) → 1 ≤ version → version ≤ length library → (policy : Policy) × (version_in library version ≡ Some policy)
+library_has : (library : List Policy) (version : ℕ) → 1 ≤ version → version ≤ length library → (policy : Policy) × (library_version library version ≡ Some policy)
 library_has library zero low high = absurd (omega (arith, low))
 library_has [] (suc before) low high = absurd (omega (arith, high))
 library_has (policy ∷ library) (suc zero) low high = (policy, refl)
@@ -103,7 +103,7 @@ verdict_right : (sc : Scenario) (facts : List Fact) (place : ℕ) (s : Server) (
 verdict_right sc facts place s txn presenting staple want deed valid sound wanted h published there fits d declared e =
     let verdict = verdict_on sc s presenting staple want deed in
     let v : IsSoundVerdict sc txn verdict = verdict_sound sc s txn presenting staple want deed valid sound wanted there d in
-    let within : verdict.admin.0 < length sc.admins = exists sc.admins verdict.admin.0 v.version.declared v.version.declared_is in
+    let within : verdict.admin.0 < length sc.admins = slice_get_within sc.admins verdict.admin.0 v.version.declared v.version.declared_is in
     let right : IsRightVerdict sc facts presenting verdict =
     evaluate_right sc facts presenting staple s.server deed.query verdict.admin verdict.version (record { clock = fits.clock_is; revocations = fits.revoked_is }) in
     subst (λ (t : Transaction). IsRight sc facts place txn t verdict) (same_Some presenting declared (sym there ∙ e))
@@ -115,11 +115,6 @@ verdict_right sc facts place s txn presenting staple want deed valid sound wante
       past = fits.past;
       published = used_published sc facts place s want verdict.admin h published within;
     })
-  where
-    exists : (admins : List Admin) (n : ℕ) (found : Admin) → slice_get admins n ≡ Some found → n < length admins
-    exists [] n found f = absurd (cc)
-    exists (a ∷ admins) zero found f = omega arith
-    exists (a ∷ admins) (suc n) found f = let later = exists admins n found f in omega (arith, later)
 
 -- ---- Query
 
@@ -216,7 +211,7 @@ rights_of sc facts place s txn presenting staple want deeds valid sound wanted h
     (λ deed k. verdict_right sc facts place s txn presenting staple want deed valid sound wanted h published there fits k) deeds d
 
 -- what is known once the wanted versions are learnt is none above the newest
-learnt_fits : (sc : Scenario) (facts : List Fact) (place : ℕ) (s : Server) (want : List (AdminId × Version)) → ServerFits sc facts place s → Each (IsPublished sc facts place) want → ServerFits sc facts place (learnt s want)
+learnt_fits : (sc : Scenario) (facts : List Fact) (place : ℕ) (s : Server) (want : List (AdminId × Version)) → ServerFits sc facts place s → Each (IsPublished sc facts place) want → ServerFits sc facts place (with_wants s want)
 learnt_fits sc facts place s want h w =
     record {
       known = λ admin within.
@@ -290,9 +285,9 @@ vote_answers sc facts place s p txn staple deeds e there rights names =
 
 votes_trusts : (sc : Scenario) (facts : List Fact) (place : ℕ) (T : Body → Type 0) (s : Server) (p : PrepareRequest) (txn : Transaction) (staple : Staple) (entry : Entry) → IsValid sc → IsSoundServer sc s
     → AreWanted sc p.want → ServerTrusted sc facts place T s → IsClosed T → T (body.Prepare p) → p.staple ≡ Some staple → slice_get sc.txns p.txn.0 ≡ Some txn → StapleFits sc facts place p.txn staple
-    → Each (IsPublished sc facts place) p.want → entry_at s p.txn ≡ Some entry → IsNamed sc s.server p → RowTrusts sc facts place T (votes_on sc (learnt s p.want) p entry staple txn)
+    → Each (IsPublished sc facts place) p.want → entry_at s p.txn ≡ Some entry → IsNamed sc s.server p → RowTrusts sc facts place T (votes_on sc (with_wants s p.want) p entry staple txn)
 votes_trusts sc facts place T s p txn staple entry valid sound wanted h closed t e there fits published found names =
-    let now = learnt s p.want in
+    let now = with_wants s p.want in
     let after : ServerFits sc facts place now = learnt_fits sc facts place s p.want h.fits published in
     let k : IsSoundEntry sc s.server p.txn entry = sound.entries p.txn.0 entry found in
     let old : IsKept (IsTrusted sc facts place T) p.txn entry = h.keeps p.txn.0 entry found in

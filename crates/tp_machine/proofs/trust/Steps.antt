@@ -16,7 +16,7 @@ use Rattle.tp_machine.proofs.agreement.CoordinatorActs.{coordinator_facts}
 use Rattle.tp_machine.proofs.agreement.Steps.{own_txn}
 use Rattle.tp_machine.proofs.agreement.Coordinator.{CoordinatorAgrees}
 use Rattle.tp_machine.proofs.agreement.World.{Agrees, CoordinatorUpAgrees}
-use Rattle.tp_machine.proofs.basics.Facts.{ArePast}
+use Rattle.tp_machine.proofs.basics.Facts.{ArePast, facts_after}
 use Rattle.tp_machine.proofs.basics.Homes.{HaveHomes}
 use Rattle.tp_machine.proofs.basics.Lists.{at_made, each_get, placed_none}
 use Rattle.tp_machine.proofs.ids.Queries.{homes_built}
@@ -31,7 +31,7 @@ use Rattle.tp_machine.proofs.trust.Kept.{AreKept, IsKept, IsTrusted}
 use Rattle.tp_machine.proofs.trust.Offices.{newest_fits, newest_timely, none_revoked, opening_fits, published_trusts, pushed_fits, revoked_trusts, ticked_trusts}
 use Rattle.tp_machine.proofs.trust.Server.{NamedMail, ServerTrusted, named_mail, server_row_trusts}
 use Rattle.tp_machine.proofs.trust.Turns.{AreFew, IsNoTell, IsTimely, Stamp, TurnFits, few_queries, stamp_of, timely_anywhere}
-use Rattle.tp_machine.proofs.trust.World.{BodyTimely, CoordinatorPartFits, MailTimely, MoveTrusts, ServerPartFits, StampFits, Timely, Trusts, coordinator_stays, facts_after, later_with_facts, state_after_trusts, up_at, up_of}
+use Rattle.tp_machine.proofs.trust.World.{BodyTimely, CoordinatorPartFits, MailTimely, MoveTrusts, ServerPartFits, StampFits, Timely, Trusts, coordinator_stays, later_with_facts, state_after_trusts, up_at, up_of}
 use Rattle.tp_machine.proofs.walks.Steps.{Cases, IsCoordinatorUp, IsServerUp, SaysIdle, WaitRightly, WasSent, machine_after_by}
 use Rattle.tp_machine.specs.Machine.{Machine, State, acts_by, coordinator_fact, coordinator_move, facts_of, idle_move, is_part_submitted, machine_after, opened_part, opening_state, refusal, server_fact, server_move, with_age}
 use Rattle.tp_machine.specs.Parts.{Part}

@@ -3,9 +3,9 @@ use Rattle.std.specs.List.{cons_option, count_by, filter_map, sum_by}
 use Rattle.std.proofs.Common.{Bool, IfSome, List, None, Option, Some, [], ap, arith, cond, false, length, option_and_then, refl, slice_get, subst, sym, ℕ, ◌++◌, ◌+◌, ◌<◌, ◌∙◌, ◌∷◌, ◌≡◌, ◌≤◌}
 use Rattle.std.proofs.lemmas.List.Sums.{sum_by-append, sum_by-cons}
 use Rattle.tp_model.specs.Words.cause
-use Rattle.tp_model.specs.Credentials.{clock_at, is_among, revoked_at, revoked_by, revoked_what, ticks, ticks_what}
+use Rattle.tp_model.specs.Credentials.{clock_at, is_among, revoked_at, revoked_by, revoked_what, tick_of, tick_of_what}
 use Rattle.tp_model.specs.Facts.{is_submission}
-use Rattle.tp_model.specs.Versions.{is_publication, is_publication_what, newest, opening_of}
+use Rattle.tp_model.specs.Versions.{is_publication, is_publication_what, newest, opening_version}
 use Rattle.tp_model.specs.Words.{AdminId, Body, Cause, CredId, Decision, Fact, Instance, Letter, Mail, Scenario, Step, TxnId, Verdict, What}
 use Rattle.std.proofs.lemmas.Bool.{or_left}
 use Rattle.std.proofs.lemmas.List.{append-nil, length_push}
@@ -18,12 +18,12 @@ use Rattle.tp_machine.specs.Parts.{Part}
 use Rattle.tp_machine.specs.Sound.{Each, EachAt, IsAdmin}
 use Rattle.tp_coord.specs.State.{Coordinator}
 use Rattle.tp_machine.specs.declared.actors.Actors.{Actors}
-use Rattle.tp_offices.specs.Master.{version_in}
+use Rattle.tp_offices.specs.Master.{version_for}
 use Rattle.tp_offices.specs.declared.authority.Authority.{Authority}
 use Rattle.tp_offices.specs.declared.master.Master.{Master}
 use Rattle.tp_server.specs.State.{Server}
 use Rattle.tp_machine.proofs.agreement.World.{Agrees}
-use Rattle.tp_machine.proofs.basics.Facts.{ArePast, before_past, count_append, grows_with_facts, new_facts_past, past_as}
+use Rattle.tp_machine.proofs.basics.Facts.{ArePast, before_past, count_append, each_new_fact, each_new_mail, facts_after, grows_with_facts, new_facts_past, past_as}
 use Rattle.tp_machine.proofs.basics.Lists.{each_append, each_as}
 use Rattle.tp_machine.proofs.trust.Coordinator.{CauseFits, CoordinatorFits, DecisionFits}
 use Rattle.tp_machine.proofs.trust.Fit.{AuthorityFits, BodyFits, Later, MailFits, ServerFits, body_stays, maybe_stays, right_stays, rights_stay, server_stays}
@@ -64,7 +64,7 @@ Timely sc coordinators said = (sent : ℕ) → BodyTimely sc coordinators sent s
 
 -- the newest version that the master knows of each administrator is that of the facts
 pub record MasterFits (sc : Scenario) (facts : List Fact) (place : ℕ) (held : Master) : Type 0 where
-  pub newest_is : (admin : AdminId) → IsAdmin sc admin → (version_in held.newest admin).0 ≡ newest sc admin place facts
+  pub newest_is : (admin : AdminId) → IsAdmin sc admin → (version_for held.newest admin).0 ≡ newest sc admin place facts
   pub places : length held.newest ≡ length sc.admins
 
 -- what a fact of a place shows by the facts before it
@@ -89,10 +89,6 @@ abbrev pub Trusts : Scenario → State → Type 0
 Trusts sc w = TrustsAt sc w.facts (length w.steps) w.actors w.mails
 
 -- ---- a move
-
--- the facts after a move
-abbrev pub facts_after : State → List What → List Fact
-facts_after w happened = w.facts ++ facts_of (length w.steps) happened
 
 -- a step leaves actors, letters and facts that fit the facts after it
 pub record MoveTrusts (sc : Scenario) (w : State) (move : Move) : Type 0 where
@@ -172,20 +168,6 @@ facts_stay sc old new low high [] l past h = tt
 facts_stay sc old new low high (fact ∷ facts) l past h =
     (what_stays sc old new low high fact.place fact.what (omega (arith, past.0)) l h.0, facts_stay sc old new low high facts l past.1 h.1)
 
-new_facts_fit : (sc : Scenario) (facts : List Fact) (place : ℕ) (happened : List What) → Each (WhatFits sc facts place) happened → Each (FactFits sc facts) (facts_of place happened)
-new_facts_fit sc facts place [] h = tt
-new_facts_fit sc facts place (w ∷ happened) h = (h.0, new_facts_fit sc facts place happened h.1)
-
-new_mails_fit : (sc : Scenario) (facts : List Fact) (place sent number : ℕ) (letters : List Letter) → Each (λ (letter : Letter). BodyFits sc facts place sent letter.body) letters
-    → Each (MailFits sc facts place) (mails_of sent number letters)
-new_mails_fit sc facts place sent number [] h = tt
-new_mails_fit sc facts place sent number (letter ∷ letters) h = (h.0, new_mails_fit sc facts place sent (number + 1) letters h.1)
-
-new_mails_timely : (sc : Scenario) (coordinators : List (Part Coordinator)) (sent number : ℕ) (letters : List Letter) → Each (λ (letter : Letter). BodyTimely sc coordinators sent letter.body) letters
-    → Each (MailTimely sc coordinators) (mails_of sent number letters)
-new_mails_timely sc coordinators sent number [] h = tt
-new_mails_timely sc coordinators sent number (letter ∷ letters) h = (h.0, new_mails_timely sc coordinators sent (number + 1) letters h.1)
-
 -- ---- the offices' facts
 
 -- the clock, the revocations and the newest versions stay
@@ -195,15 +177,15 @@ IsStill (what.Ticked by) = ⊥
 IsStill (what.Revoked cred) = ⊥
 IsStill _ = Unit {0}
 
-no_ticks : (place : ℕ) (happened : List What) → Each IsStill happened → sum_by ticks (facts_of place happened) ≡ 0
+no_ticks : (place : ℕ) (happened : List What) → Each IsStill happened → sum_by tick_of (facts_of place happened) ≡ 0
 no_ticks place [] h = refl
 no_ticks place (w ∷ happened) h =
-    let whole : sum_by ticks (facts_of place (w ∷ happened)) ≡ ticks (record { place = place; what = w }) + sum_by ticks (facts_of place happened) = sum_by-cons ticks (record { place = place; what = w }) (facts_of place happened) in
-    let later : sum_by ticks (facts_of place happened) ≡ 0 = no_ticks place happened h.1 in
-    let here : ticks (record { place = place; what = w }) ≡ 0 = still w h.0 in
+    let whole : sum_by tick_of (facts_of place (w ∷ happened)) ≡ tick_of (record { place = place; what = w }) + sum_by tick_of (facts_of place happened) = sum_by-cons tick_of (record { place = place; what = w }) (facts_of place happened) in
+    let later : sum_by tick_of (facts_of place happened) ≡ 0 = no_ticks place happened h.1 in
+    let here : tick_of (record { place = place; what = w }) ≡ 0 = still w h.0 in
     omega (arith, whole, later, here)
   where
-    still : (v : What) → IsStill v → ticks_what v ≡ 0
+    still : (v : What) → IsStill v → tick_of_what v ≡ 0
     still (what.Ticked by) n = absurd n
     still _ n = refl
 
@@ -236,13 +218,13 @@ past_after w happened past =
 
 -- the clock after a turn
 pub clock_after : (sc : Scenario) (w : State) (happened : List What) → ArePast (length w.steps) w.facts
-    → clock_at sc (length w.steps + 1) (facts_after w happened) ≡ clock_at sc (length w.steps) w.facts + sum_by ticks (facts_of (length w.steps) happened)
+    → clock_at sc (length w.steps + 1) (facts_after w happened) ≡ clock_at sc (length w.steps) w.facts + sum_by tick_of (facts_of (length w.steps) happened)
 clock_after sc w happened past =
     let place = length w.steps in
     let now = facts_after w happened in
-    let was : clock_at sc place w.facts ≡ sc.clock + sum_by ticks w.facts = ap (λ (facts : List Fact). sc.clock + sum_by ticks facts) (before_past place w.facts past) in
-    let all : clock_at sc (place + 1) now ≡ sc.clock + sum_by ticks now = ap (λ (facts : List Fact). sc.clock + sum_by ticks facts) (before_past (place + 1) now (past_after w happened past)) in
-    let sum_now : sum_by ticks now ≡ sum_by ticks w.facts + sum_by ticks (facts_of place happened) = sum_by-append ticks w.facts (facts_of place happened) in
+    let was : clock_at sc place w.facts ≡ sc.clock + sum_by tick_of w.facts = ap (λ (facts : List Fact). sc.clock + sum_by tick_of facts) (before_past place w.facts past) in
+    let all : clock_at sc (place + 1) now ≡ sc.clock + sum_by tick_of now = ap (λ (facts : List Fact). sc.clock + sum_by tick_of facts) (before_past (place + 1) now (past_after w happened past)) in
+    let sum_now : sum_by tick_of now ≡ sum_by tick_of w.facts + sum_by tick_of (facts_of place happened) = sum_by-append tick_of w.facts (facts_of place happened) in
     omega (arith, was, all, sum_now)
 
 -- the revocations after a turn
@@ -260,7 +242,7 @@ pub newest_after : (sc : Scenario) (w : State) (happened : List What) (admin : A
 newest_after sc w happened admin past =
     let place = length w.steps in
     let now = facts_after w happened in
-    let opening = (opening_of sc admin).0 in
+    let opening = (opening_version sc admin).0 in
     let was : newest sc admin place w.facts ≡ opening + count_by (is_publication admin) w.facts = ap (λ (facts : List Fact). opening + count_by (is_publication admin) facts) (before_past place w.facts past) in
     let all : newest sc admin (place + 1) now ≡ opening + count_by (is_publication admin) now =
     ap (λ (facts : List Fact). opening + count_by (is_publication admin) facts) (before_past (place + 1) now (past_after w happened past)) in
@@ -281,7 +263,7 @@ pub master_stays : (sc : Scenario) (w : State) (happened : List What) (held : Ma
 master_stays sc w happened held past still h = master_kept sc w happened held past (λ admin. no_publication admin (length w.steps) happened still) h
 
 -- an authority that stays fits the facts after a move in which no time passes and nothing is revoked
-pub authority_kept : (sc : Scenario) (w : State) (happened : List What) (authority : Authority) → ArePast (length w.steps) w.facts → sum_by ticks (facts_of (length w.steps) happened) ≡ 0
+pub authority_kept : (sc : Scenario) (w : State) (happened : List What) (authority : Authority) → ArePast (length w.steps) w.facts → sum_by tick_of (facts_of (length w.steps) happened) ≡ 0
     → filter_map revoked_by (facts_of (length w.steps) happened) ≡ [] → AuthorityFits sc w.facts (length w.steps) authority → AuthorityFits sc (facts_after w happened) (length w.steps + 1) authority
 authority_kept sc w happened authority past none none_revoked h =
     let place = length w.steps in
@@ -317,10 +299,10 @@ state_after_trusts sc w taken move a h t =
       coordinators = t.coordinators;
       mails_fit = each_append (MailFits sc now (place + 1)) w.mails (mails_of place (length w.mails) move.letters)
           (each_as (MailFits sc w.facts place) (MailFits sc now (place + 1)) (λ mail m. body_stays sc w.facts now place (place + 1) mail.sent mail.letter.body l m) w.mails h.mails_fit)
-          (new_mails_fit sc now (place + 1) place (length w.mails) move.letters t.letters);
+          (each_new_mail (λ (sent : ℕ) (letter : Letter). BodyFits sc now (place + 1) sent letter.body) place (length w.mails) move.letters t.letters);
       mails_timely = each_append (MailTimely sc move.actors.coordinators) w.mails (mails_of place (length w.mails) move.letters) t.old_timely
-          (new_mails_timely sc move.actors.coordinators place (length w.mails) move.letters t.new_timely);
+          (each_new_mail (λ (sent : ℕ) (letter : Letter). BodyTimely sc move.actors.coordinators sent letter.body) place (length w.mails) move.letters t.new_timely);
       facts_fit = each_append (FactFits sc now) w.facts (facts_of place move.happened) (facts_stay sc w.facts now place (place + 1) w.facts l a.past h.facts_fit)
-          (new_facts_fit sc now place move.happened t.facts);
+          (each_new_fact (WhatFits sc now) place move.happened t.facts);
     } in
     subst (λ (p : ℕ). TrustsAt sc now p move.actors mails) (sym (length_push w.steps taken)) made

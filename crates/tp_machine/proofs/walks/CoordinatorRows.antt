@@ -1,7 +1,6 @@
 -- A coordinator's rows are walked once: what is shown of each of their outcomes holds of the rows. A new outcome is a field here, and of each
 -- theorem's cases.
-use Rattle.std.specs.List.{list_any}
-use Rattle.std.proofs.Common.{Bool, List, None, Option, Some, [], ap, false, if◌then◌else◌, refl, true, ℕ, ℤ, ◌&&◌, ◌==◌, ◌≡◌}
+use Rattle.std.proofs.Common.{List, None, Option, Some, [], ap, refl, true, ℕ, ℤ, ◌&&◌, ◌==◌, ◌≡◌}
 use Rattle.std.proofs.lemmas.Bool.{and_parts}
 use Rattle.tp_types.specs.Effect.{Effect, ignores, sends}
 use Rattle.tp_model.specs.Words.actor
@@ -10,14 +9,15 @@ use Rattle.tp_model.specs.Words.body
 use Rattle.tp_model.specs.Words.cause
 use Rattle.tp_model.specs.Words.no
 use Rattle.tp_model.specs.Words.vote
-use Rattle.tp_model.specs.Words.{AckReply, Actor, Answer, Body, DoneReply, Mail, Met, No, Outcome, Query, Scenario, ServerId, Staple, TellReply, TxnId, Verdict, Vote, VoteReply}
+use Rattle.tp_model.specs.Words.{AckReply, Actor, Answer, Body, DoneReply, Mail, No, Outcome, Query, Scenario, ServerId, Staple, TellReply, TxnId, Verdict, Vote, VoteReply}
 use Rattle.tp_machine.proofs.basics.Lists.{by_cond}
-use Rattle.tp_coord.specs.Row.{aborts, ack_from, asks, asks_next, awaits_query, awaits_vote, begins, commit_round, commits, coordinator_row, denied_by, died_for, home_of, is_from, is_plain, next_number, on_ack, on_answer, on_body, on_done_from, on_done_of_query, on_judged, on_no, on_staple, on_vote, on_vote_of, prepares, query_of, refused_by, sends_query, server_of, staple_of, submit_row, vote_at, with_deed, without}
+use Rattle.tp_coord.specs.Row.{aborts, ack_from, asks, asks_next, awaits_query, awaits_vote, begins, commit_round, commits, coordinator_row, denied_by, died_for, home_of, is_from, is_plain, next_number, on_ack, on_answer, on_body, on_done_from, on_done_of_query, on_judged, on_no, on_staple, on_vote, on_vote_of, prepares, own_query, refused_by, sends_query, server_of, staple_of, submit_row, vote_at, with_deed, without}
 use Rattle.tp_coord.specs.State.{Coordinator}
 use Rattle.tp_coord.specs.declared.coordinator.Phase.TheVariants as phase
 use Rattle.tp_coord.specs.declared.coordinator.Phase.{Phase}
-use Rattle.tp_round.specs.Judge.{after_judgement, after_reply, aim_in, final_answer, is_awaited, is_outdated, is_waiting, judge, wants_of}
-use Rattle.tp_round.specs.Replies.{by_query, least_false, proofs_in}
+use Rattle.tp_round.proofs.SpentLemmas.{unread_unspent}
+use Rattle.tp_round.specs.Judge.{after_judgement, after_reply, is_awaited, judge}
+use Rattle.tp_round.specs.Replies.{by_query, proofs_in}
 use Rattle.tp_round.specs.declared.round.Judged.TheVariants as judged
 use Rattle.tp_round.specs.declared.round.Judged.{Judged}
 use Rattle.tp_round.specs.declared.round.Round.{Round}
@@ -31,7 +31,7 @@ pub record IsRanAnswer (sc : Scenario) (c : Coordinator) (mail : Mail) (done : D
   pub from_is : is_from mail.letter.from server ≡ true
   pub awaited : awaits_query c c.phase done ≡ true
   pub plain : is_plain c.phase ≡ true
-  pub asked_is : query_of sc c done.query ≡ Some asked
+  pub asked_is : own_query sc c done.query ≡ Some asked
   pub server_is : server_of sc asked ≡ Some server
   pub answer_is : done.answer ≡ answer.Ran value None
 
@@ -41,7 +41,7 @@ pub record IsDiedAnswer (sc : Scenario) (c : Coordinator) (mail : Mail) (done : 
   pub from_is : is_from mail.letter.from server ≡ true
   pub awaited : awaits_query c c.phase done ≡ true
   pub plain : is_plain c.phase ≡ true
-  pub asked_is : query_of sc c done.query ≡ Some asked
+  pub asked_is : own_query sc c done.query ≡ Some asked
   pub server_is : server_of sc asked ≡ Some server
   pub answer_is : done.answer ≡ answer.Died other
 
@@ -106,14 +106,14 @@ next_by sc c mail P cases done server asked value (Some next) k e = cases.ran_ne
 
 on_answer_by : (sc : Scenario) (c : Coordinator) (mail : Mail) (P : Effect Coordinator → Type 0) → CoordinatorCases sc c mail P → (done : DoneReply) (server : ServerId) (asked : Query) (given : Answer)
     → ((value : ℤ) → given ≡ answer.Ran value None → IsRanAnswer sc c mail done server asked value) → ((other : TxnId) → given ≡ answer.Died other → IsDiedAnswer sc c mail done server asked other)
-    → P (on_answer sc c mail.sent server done asked given)
+    → P (on_answer sc c (record { sent = mail.sent; server = server; done = done; query = asked }) given)
 on_answer_by sc c mail P cases done server asked (answer.Ran value None) ran died =
     next_by sc c mail P cases done server asked value (home_of sc c (next_number done.query)) (ran value refl) refl
 on_answer_by sc c mail P cases done server asked (answer.Died other) ran died = cases.died done server asked other (died other refl)
 on_answer_by sc c mail P cases done server asked _ ran died = cases.ignored
 
 on_done_from_by : (sc : Scenario) (c : Coordinator) (mail : Mail) (P : Effect Coordinator → Type 0) → CoordinatorCases sc c mail P → (done : DoneReply) (asked : Query) (server : Option ServerId)
-    → mail.letter.body ≡ body.Done done → awaits_query c c.phase done ≡ true → is_plain c.phase ≡ true → query_of sc c done.query ≡ Some asked → server_of sc asked ≡ server
+    → mail.letter.body ≡ body.Done done → awaits_query c c.phase done ≡ true → is_plain c.phase ≡ true → own_query sc c done.query ≡ Some asked → server_of sc asked ≡ server
     → P (on_done_from sc c mail.sent mail.letter.from done asked server)
 on_done_from_by sc c mail P cases done asked None e awaited plain asked_is server_is = cases.ignored
 on_done_from_by sc c mail P cases done asked (Some server) e awaited plain asked_is server_is =
@@ -124,7 +124,7 @@ on_done_from_by sc c mail P cases done asked (Some server) e awaited plain asked
     (λ other. cases.ignored)
 
 asked_by : (sc : Scenario) (c : Coordinator) (mail : Mail) (P : Effect Coordinator → Type 0) → CoordinatorCases sc c mail P → (done : DoneReply) (asked : Option Query)
-    → mail.letter.body ≡ body.Done done → awaits_query c c.phase done ≡ true → is_plain c.phase ≡ true → query_of sc c done.query ≡ asked → P (on_done_of_query sc c mail.sent mail.letter.from done asked)
+    → mail.letter.body ≡ body.Done done → awaits_query c c.phase done ≡ true → is_plain c.phase ≡ true → own_query sc c done.query ≡ asked → P (on_done_of_query sc c mail.sent mail.letter.from done asked)
 asked_by sc c mail P cases done None e awaited plain asked_is = cases.ignored
 asked_by sc c mail P cases done (Some asked) e awaited plain asked_is = on_done_from_by sc c mail P cases done asked (server_of sc asked) e awaited plain asked_is refl
 
@@ -138,29 +138,13 @@ on_staple_by sc c mail P cases tell _ e present asking = cases.ignored
 
 -- ---- Vote
 
--- where nothing is read, no round is spent
-never_spent : (waits out : Bool) (round : Round) (wanted : List Wanted) (last : Judged) (mets : List Met) → (last ≡ judged.Spent mets → ⊥)
-    → (if waits then judged.Waiting else if out then judged.Update wanted else last) ≡ judged.Spent mets → ⊥
-never_spent true out round wanted last mets other e = cc
-never_spent false true round wanted last mets other e = cc
-never_spent false false round wanted last mets other e = other e
-
-not_final : (found : Option Verdict) (mets : List Met) → final_answer found ≡ judged.Spent mets → ⊥
-not_final None mets e = cc
-not_final (Some verdict) mets e = cc
-
-unread : (round : Round) (mets : List Met) → judge round None ≡ judged.Spent mets → ⊥
-unread round mets e =
-    never_spent (is_waiting round None) (list_any (is_outdated (aim_in round None)) round.targets) round (wants_of (aim_in round None) round.targets) (final_answer (least_false (proofs_in round.targets))) mets
-    (not_final (least_false (proofs_in round.targets)) mets) e
-
 judged_by : (sc : Scenario) (c : Coordinator) (mail : Mail) (P : Effect Coordinator → Type 0) → CoordinatorCases sc c mail P → (reply : VoteReply) (round : Round) (staple : Staple) (server : ServerId)
     (verdicts : List Verdict) (answer_is : Judged) → IsYes c mail reply round staple server verdicts → judge (after_reply round server verdicts) None ≡ answer_is
     → P (on_judged c (after_reply round server verdicts) staple answer_is)
 judged_by sc c mail P cases reply round staple server verdicts judged.Waiting y e = cases.counted reply round staple server verdicts y e
 judged_by sc c mail P cases reply round staple server verdicts judged.AllTrue y e = cases.committed reply round staple server verdicts y e
 judged_by sc c mail P cases reply round staple server verdicts (judged.False verdict) y e = cases.denied reply round staple server verdicts verdict y e
-judged_by sc c mail P cases reply round staple server verdicts (judged.Spent mets) y e = absurd (unread (after_reply round server verdicts) mets e)
+judged_by sc c mail P cases reply round staple server verdicts (judged.Spent mets) y e = absurd (unread_unspent (after_reply round server verdicts) mets e)
 judged_by sc c mail P cases reply round staple server verdicts (judged.Update named) y e = cases.updated reply round staple server verdicts named y e
 
 on_no_by : (sc : Scenario) (c : Coordinator) (mail : Mail) (P : Effect Coordinator → Type 0) → CoordinatorCases sc c mail P → (reply : VoteReply) (round : Round) (staple : Staple) (server : ServerId) (why : No)
@@ -211,7 +195,7 @@ said_by : (sc : Scenario) (c : Coordinator) (mail : Mail) (P : Effect Coordinato
     → P (on_body sc c mail.sent mail.letter.from said)
 said_by sc c mail P cases (body.Done done) e =
     by_cond P (awaits_query c c.phase done)
-    (λ awaited. by_cond P (is_plain c.phase) (λ plain. asked_by sc c mail P cases done (query_of sc c done.query) e awaited plain refl) (λ stapled. cases.ignored))
+    (λ awaited. by_cond P (is_plain c.phase) (λ plain. asked_by sc c mail P cases done (own_query sc c done.query) e awaited plain refl) (λ stapled. cases.ignored))
     (λ other. cases.ignored)
 said_by sc c mail P cases (body.Tell tell) e =
     by_cond P (tell.turn == c.turn) (λ present. on_staple_by sc c mail P cases tell c.phase e present refl) (λ late. cases.ignored)

@@ -1,10 +1,9 @@
 -- A server's row is walked once: what is shown of each of its outcomes holds of the row. A new outcome is a field here, and of each theorem's cases.
-use Rattle.std.specs.Option.{option_map_or}
+use Rattle.std.specs.Option.{option_flatten, option_map_or}
 use Rattle.std.proofs.Common.{IfSome, List, None, Option, Some, [], ap, append-nil, drop, false, inl, inr, is_none, is_some, arith, length, nat_lt, not, option_and_then, option_map, refl, slice_get, slice_set, subst, sym, true, ℕ, ℤ, ◌&&◌, ◌++◌, ◌<◌, ◌==◌, ◌∙◌, ◌∷◌, ◌≡◌, ◌≤◌, ◌⊎◌}
 use Rattle.std.proofs.lemmas.Bool.{not-false}
 use Rattle.std.proofs.lemmas.Bool.Decides.{nat_tests}
 use Rattle.tp_types.specs.Effect.{Effect, ignores, sends}
-use Rattle.tp_types.specs.Table.{flattened}
 use Rattle.tp_lock.specs.Rule.{after_release, first_grant, without_grant}
 use Rattle.tp_lock.specs.Table.{Table}
 use Rattle.tp_lock.specs.declared.entry.Asked.TheVariants as asked
@@ -15,15 +14,15 @@ use Rattle.tp_model.specs.Words.body
 use Rattle.tp_model.specs.Words.no
 use Rattle.tp_model.specs.Words.query
 use Rattle.tp_model.specs.Words.{Body, DecideRequest, Deed, DoneReply, Letter, Mail, No, PrepareRequest, PushNotice, Query, QueryRequest, Scenario, ServerId, Settled, Staple, Transaction, TxnId}
-use Rattle.tp_machine.proofs.basics.Lists.{by_cond, placed_emptied, placed_set}
+use Rattle.tp_machine.proofs.basics.Lists.{by_cond, placed_emptied, placed_set, some_value}
 use Rattle.tp_server.proofs.Tables.{placed_same, set_twice, written_over}
 use Rattle.tp_model.specs.Deeds.{deed_of}
 use Rattle.tp_machine.specs.Sound.{Each, EachPlaced, HasValue}
 use Rattle.tp_server.specs.declared.server.Ballot.{Ballot}
 use Rattle.tp_server.specs.declared.server.Entry.{Entry}
-use Rattle.tp_server.specs.Row.{ack_letter, after_asking, age_of, all_resumed, answer_to, answers, asked_query, asked_to_vote, asks, asks_query, asks_with, by_lock, closes, completes, dies, done_letter, ends, entry_after, entry_at, evaluates, followed_by, is_open, kept_by, learns, lock_answer, names_another_epoch, new_entry, no_letter, on_body, on_open_query, on_refused, on_settled_decide, on_settled_prepare, on_unlost_query, refused_as, restarts, resumed, resumes_at, resumes_query, resumes_waiting, resumes_with, server_row, settled_as, taken_from, value_of_run, votes_at, votes_in_range, votes_on, votes_with, waiting_at, waits, with_entry, yes_letter}
+use Rattle.tp_server.specs.Row.{ack_letter, after_asking, age_of, after_grants, answer_to, answers, asked_query, asked_to_vote, asks, asks_query, asks_with, by_lock, closes, completes, dies, done_letter, ends, entry_after, entry_at, evaluates, followed_by, is_open, kept_by, learns, lock_answer, names_another_epoch, new_entry, no_letter, on_body, on_open_query, on_refused, on_settled_decide, on_settled_prepare, on_unlost_query, refused_as, restarts, after_grant, resumes_at, resumes_query, resumes_waiting, resumes_with, server_row, settled_as, taken_from, value_of_run, votes_at, votes_in_range, votes_on, votes_with, waiting_at, waits, with_entry, yes_letter}
 use Rattle.tp_server.specs.State.{Server}
-use Rattle.tp_server.specs.Verdicts.{learnt, version_known}
+use Rattle.tp_server.specs.Verdicts.{with_wants, version_known}
 use Rattle.tp_store.specs.Rule.{first_outside_in, read_in}
 
 -- ---- outcomes
@@ -93,7 +92,7 @@ pub record IsRefusal (s : Server) (mail : Mail) (p : PrepareRequest) (entry : En
 -- a request to prepare a transaction that was settled by a vote NO
 pub record IsLateRequest (s : Server) (mail : Mail) (p : PrepareRequest) (settled : Settled) (why : No) : Type 0 where
   pub said_is : mail.letter.body ≡ body.Prepare p
-  pub found : flattened (slice_get s.settled p.txn.0) ≡ Some settled
+  pub found : option_flatten (slice_get s.settled p.txn.0) ≡ Some settled
   pub why_is : settled.why ≡ Some why
 
 -- an order to end a transaction that is not settled
@@ -115,7 +114,7 @@ pub record IsAnswered (s : Server) (mail : Mail) (q : QueryRequest) (entry : Ent
 -- an order to end a transaction that is settled
 pub record IsLateOrder (s : Server) (mail : Mail) (d : DecideRequest) (settled : Settled) : Type 0 where
   pub said_is : mail.letter.body ≡ body.Decide d
-  pub found : flattened (slice_get s.settled d.txn.0) ≡ Some settled
+  pub found : option_flatten (slice_get s.settled d.txn.0) ≡ Some settled
 
 -- a version that is newer than the one known is pushed
 pub record IsNews (s : Server) (mail : Mail) (push : PushNotice) : Type 0 where
@@ -179,7 +178,7 @@ pub record LockCases (sc : Scenario) (s : Server) (mail : Mail) (P : Effect Serv
       → P (dies (after_asking s q query entry) q entry other)
   pub restarted : (q : QueryRequest) → IsLost mail q → P (restarts s q)
   pub answered : (q : QueryRequest) (entry : Entry) (given : DoneReply) → IsAnswered s mail q entry given → P (answers s q.txn given)
-  pub voted : (p : PrepareRequest) (entry : Entry) (staple : Staple) (txn : Transaction) → IsVote sc s mail p entry staple txn → P (votes_on sc (learnt s p.want) p entry staple txn)
+  pub voted : (p : PrepareRequest) (entry : Entry) (staple : Staple) (txn : Transaction) → IsVote sc s mail p entry staple txn → P (votes_on sc (with_wants s p.want) p entry staple txn)
   pub voted_again : (p : PrepareRequest) (entry : Entry) (cast : Ballot) → IsVoteAgain s mail p entry cast → P (sends s (yes_letter s p.txn cast ∷ []))
   pub refused : (p : PrepareRequest) (entry : Entry) (number : ℕ) (value : ℤ) → IsRefusal s mail p entry number value → P (closes s (refused_as p (no.Range number value)) (no_letter s p (no.Range number value)))
   pub refused_again : (p : PrepareRequest) (settled : Settled) (why : No) → IsLateRequest s mail p settled why → P (sends s (no_letter s p why ∷ []))
@@ -201,7 +200,7 @@ pub record ServerCases (sc : Scenario) (s : Server) (mail : Mail) (P : Effect Se
   pub died : (q : QueryRequest) (query : Query) (entry : Entry) (value : ℤ) (other : TxnId) → IsAsking sc s mail q query entry value → lock_answer s q query entry ≡ asked.Dies other → P (dies s q entry other)
   pub restarted : (q : QueryRequest) → IsLost mail q → P (restarts s q)
   pub answered : (q : QueryRequest) (entry : Entry) (given : DoneReply) → IsAnswered s mail q entry given → P (answers s q.txn given)
-  pub voted : (p : PrepareRequest) (entry : Entry) (staple : Staple) (txn : Transaction) → IsVote sc s mail p entry staple txn → P (votes_on sc (learnt s p.want) p entry staple txn)
+  pub voted : (p : PrepareRequest) (entry : Entry) (staple : Staple) (txn : Transaction) → IsVote sc s mail p entry staple txn → P (votes_on sc (with_wants s p.want) p entry staple txn)
   pub voted_again : (p : PrepareRequest) (entry : Entry) (cast : Ballot) → IsVoteAgain s mail p entry cast → P (sends s (yes_letter s p.txn cast ∷ []))
   pub refused : (p : PrepareRequest) (entry : Entry) (number : ℕ) (value : ℤ) → IsRefusal s mail p entry number value → P (closes s (refused_as p (no.Range number value)) (no_letter s p (no.Range number value)))
   pub refused_again : (p : PrepareRequest) (settled : Settled) (why : No) → IsLateRequest s mail p settled why → P (sends s (no_letter s p why ∷ []))
@@ -263,11 +262,7 @@ passes_by sc s mail P cases effect grant grants entry h nobody found =
 -- a write that waits has a value
 value_there : (s : Server) (q : QueryRequest) (query : Query) → HasValue query q.value → (value : ℤ) × (value_of_run s q query ≡ Some value)
 value_there s q (query.Read item into) h = (read_in s.store q.txn item, refl)
-value_there s q (query.Write item expr) h = given q.value h
-  where
-    given : (value : Option ℤ) → is_some value ≡ true → (v : ℤ) × (value ≡ Some v)
-    given None e = absurd (cc)
-    given (Some v) e = (v, refl)
+value_there s q (query.Write item expr) h = some_value q.value h
 
 -- the server once a query was taken from its entry
 abbrev resumable : Server → QueryRequest → Entry → Server
@@ -316,10 +311,10 @@ grant_by_entry sc s mail P cases effect grant grants (Some entry) (Some q) h e w
     (runs_by sc s mail P cases effect grant grants q entry h owner (subst (λ (t : TxnId). entry_at effect.state t ≡ Some entry) owner e) w)
 
 -- all grants, in their order
-all_by : (sc : Scenario) (s : Server) (mail : Mail) (P : Effect Server → Type 0) → LockCases sc s mail P → (grants : List Grant) (effect : Effect Server) → Taking sc s.server P grants effect → P (all_resumed sc grants effect)
+all_by : (sc : Scenario) (s : Server) (mail : Mail) (P : Effect Server → Type 0) → LockCases sc s mail P → (grants : List Grant) (effect : Effect Server) → Taking sc s.server P grants effect → P (after_grants sc grants effect)
 all_by sc s mail P cases [] effect h = h.holds
 all_by sc s mail P cases (grant ∷ grants) effect h =
-    all_by sc s mail P cases grants (resumed sc effect grant)
+    all_by sc s mail P cases grants (after_grant sc effect grant)
     (grant_by_entry sc s mail P cases effect grant grants (entry_at effect.state grant.owner) (waiting_at effect.state grant.owner) h refl refl)
 
 -- the end of a transaction, and what goes on after it
@@ -421,19 +416,19 @@ asked_to_vote_by sc s mail P waits cases p (Some entry) e unsettled found =
     (λ same. votes_at_by sc s mail P waits cases p entry entry.ballot e unsettled found (not-false (entry.epoch == p.epoch) same) refl)
 
 refused_by : (sc : Scenario) (s : Server) (mail : Mail) (P : Effect Server → Type 0) → LockCases sc s mail P → (p : PrepareRequest) (settled : Settled) (why : Option No) → mail.letter.body ≡ body.Prepare p
-    → flattened (slice_get s.settled p.txn.0) ≡ Some settled → settled.why ≡ why → P (on_refused s p why)
+    → option_flatten (slice_get s.settled p.txn.0) ≡ Some settled → settled.why ≡ why → P (on_refused s p why)
 refused_by sc s mail P cases p settled None e found why_is = cases.ignored
 refused_by sc s mail P cases p settled (Some why) e found why_is = cases.refused_again p settled why (record { said_is = e; found = found; why_is = why_is })
 
 late_request_by : (sc : Scenario) (s : Server) (mail : Mail) (P : Effect Server → Type 0) → LockCases sc s mail P → (p : PrepareRequest) (settled : Option Settled) → mail.letter.body ≡ body.Prepare p
-    → flattened (slice_get s.settled p.txn.0) ≡ settled → P (on_settled_prepare s p settled)
+    → option_flatten (slice_get s.settled p.txn.0) ≡ settled → P (on_settled_prepare s p settled)
 late_request_by sc s mail P cases p None e found = cases.ignored
 late_request_by sc s mail P cases p (Some settled) e found = refused_by sc s mail P cases p settled settled.why e found refl
 
 -- ---- Decide
 
 late_by : (sc : Scenario) (s : Server) (mail : Mail) (P : Effect Server → Type 0) → LockCases sc s mail P → (d : DecideRequest) (settled : Option Settled) → mail.letter.body ≡ body.Decide d
-    → flattened (slice_get s.settled d.txn.0) ≡ settled → P (on_settled_decide s d settled)
+    → option_flatten (slice_get s.settled d.txn.0) ≡ settled → P (on_settled_decide s d settled)
 late_by sc s mail P cases d (Some settled) e found = cases.acknowledged d settled (record { said_is = e; found = found })
 late_by sc s mail P cases d None e found = cases.ignored
 
@@ -444,9 +439,9 @@ said_by sc s mail P waits cases (body.Query q) e =
     by_cond P (is_open s q.txn) (λ unsettled. on_open_query_by sc s mail P cases q (entry_at s q.txn) e unsettled refl) (λ settled. cases.ignored)
 said_by sc s mail P waits cases (body.Prepare p) e =
     by_cond P (is_open s p.txn) (λ unsettled. asked_to_vote_by sc s mail P waits cases p (entry_at s p.txn) e unsettled refl)
-    (λ settled. late_request_by sc s mail P cases p (flattened (slice_get s.settled p.txn.0)) e refl)
+    (λ settled. late_request_by sc s mail P cases p (option_flatten (slice_get s.settled p.txn.0)) e refl)
 said_by sc s mail P waits cases (body.Decide d) e =
-    by_cond P (is_open s d.txn) (λ unsettled. ends_by sc s mail P waits cases (settled_as d) (ack_letter s d.txn) (cases.settled d (record { said_is = e; unsettled = unsettled }))) (λ settled. late_by sc s mail P cases d (flattened (slice_get s.settled d.txn.0)) e refl)
+    by_cond P (is_open s d.txn) (λ unsettled. ends_by sc s mail P waits cases (settled_as d) (ack_letter s d.txn) (cases.settled d (record { said_is = e; unsettled = unsettled }))) (λ settled. late_by sc s mail P cases d (option_flatten (slice_get s.settled d.txn.0)) e refl)
 said_by sc s mail P waits cases (body.Push push) e = by_cond P (nat_lt (version_known s push.admin).0 push.version.0) (λ newer. cases.pushed push (record { said_is = e; newer = newer })) (λ known. cases.ignored)
 said_by sc s mail P waits cases _ e = cases.ignored
 

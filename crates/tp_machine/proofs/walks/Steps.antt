@@ -18,7 +18,7 @@ use Rattle.tp_coord.specs.Row.{coordinator_row, submit_row}
 use Rattle.tp_server.specs.Row.{server_row}
 use Rattle.tp_offices.specs.Master as master
 use Rattle.tp_machine.proofs.basics.Logs.{set_same}
-use Rattle.tp_machine.proofs.basics.Lists.{missing}
+use Rattle.tp_machine.proofs.basics.Lists.{missing, not_kept}
 
 -- what a step says in which no actor acts: a loss is noted, and a delivery to an actor that is down or not there leaves nothing
 abbrev pub SaysIdle : Step → List What → Type 0
@@ -100,10 +100,6 @@ delivery_by sc w P cases n (Some mail) e = receipt_by sc w P cases n mail mail.l
 
 -- ---- submissions
 
-not_refused : (b : Bool) (why : StepError) → (if b then Some why else None) ≡ None → b ≡ false
-not_refused true why e = absurd (cc)
-not_refused false why e = refl
-
 begun_by_up : (sc : Scenario) (w : State) (P : Step → Move → Type 0) → Cases sc w P → (txn : TxnId) (part : Part Coordinator) (up : Option Coordinator) → IsTxn sc txn
     → slice_get w.actors.coordinators txn.0 ≡ Some part → part.up ≡ up → is_part_submitted up ≡ false
     → P (step.Submit txn) (coordinator_move w.actors txn (coordinator_submits_up sc part txn (length w.steps) up))
@@ -131,7 +127,7 @@ pub machine_after_by : (sc : Scenario) (m : Machine) (P : Step → Move → Type
     → (taken : Step) → IsStepOf sc taken → refusal m.state taken ≡ None → Q (machine_after sc m taken).state
 machine_after_by sc m P Q cases count ends unchanged (step.Submit txn) exists allowed =
     ends (step.Submit txn) (submission sc m.state.actors txn (length m.state.steps))
-    (submission_by_part sc m.state P cases txn (slice_get m.state.actors.coordinators txn.0) count exists refl (not_refused (is_submitted m.state.actors txn) (error.AlreadySubmitted txn) allowed))
+    (submission_by_part sc m.state P cases txn (slice_get m.state.actors.coordinators txn.0) count exists refl (not_kept (error.AlreadySubmitted txn) (is_submitted m.state.actors txn) allowed))
 machine_after_by sc m P Q cases count ends unchanged (step.Deliver mail) exists allowed =
     ends (step.Deliver mail) (delivery sc m.state.actors (slice_get m.state.mails mail)) (delivery_by sc m.state P cases mail (slice_get m.state.mails mail) refl)
 machine_after_by sc m P Q cases count ends unchanged (step.Lose mail) exists allowed =

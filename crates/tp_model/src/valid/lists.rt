@@ -2,13 +2,8 @@
 ghost use Rattle.std.specs.Prelude.{◌≡◌, length, pos, neg_ℤ};
 ghost use Rattle.tp_model.specs.Limits as limits;
 
+use crate::limits::VALUE_MAX;
 use tp_types::List;
-
-/// The greatest number that is spelled: 15 digits.
-pub const NUMBER_MAX: i128 = 999_999_999_999_999;
-
-/// The greatest magnitude of an item's value or bound.
-const VALUE_MAX: i128 = 1_000_000_000_000_000;
 
 pub fn is_between(low: i128, high: i128, value: i128) -> bool
     ensures { result ≡ limits.is_between low high value }
@@ -20,7 +15,7 @@ pub fn is_between(low: i128, high: i128, value: i128) -> bool
 pub fn is_value(value: i128) -> bool
     ensures { result ≡ limits.is_value value }
 {
-    is_between(-VALUE_MAX, VALUE_MAX, value)
+    is_between(i128::from(-VALUE_MAX), i128::from(VALUE_MAX), value)
 }
 
 pub fn is_from_to(low: usize, high: usize, number: usize) -> bool

@@ -3,14 +3,9 @@ ghost use Rattle.std.specs.Prelude.{◌≡◌, ◌&&◌, pos, neg_ℤ};
 ghost use Rattle.std.specs.List.{list_all, list_any};
 ghost use Rattle.tp_model.specs.Valid as valid;
 
-use crate::valid::lists::{NUMBER_MAX, has_count, is_between, is_from_to};
+use crate::limits::{ADMINS_MAX, CLOCK_MAX, CREDS_MAX, NUMBER_MAX, RULES_MAX, VERSIONS_MAX};
+use crate::valid::lists::{has_count, is_between, is_from_to};
 use tp_types::{Admin, Credential, List, Policy, Scenario, Value};
-
-/// The greatest clock.
-const CLOCK_MAX: u64 = 1_000_000_000_000;
-
-/// The most rules of a policy.
-const RULES_MAX: usize = 4096;
 
 fn is_valid_policy(policy: &Policy) -> bool
     ensures { result ≡ valid.is_valid_policy policy.now }
@@ -27,7 +22,7 @@ fn are_valid_policies(library: &List<Policy>) -> bool
 fn is_valid_admin(admin: &Admin) -> bool
     ensures { result ≡ valid.is_valid_admin admin.now }
 {
-    has_count(1, 64, &admin.library)
+    has_count(1, VERSIONS_MAX, &admin.library)
         && are_valid_policies(&admin.library)
         && is_from_to(1, admin.library.len(), admin.opening.0 as usize)
 }
@@ -59,14 +54,18 @@ fn are_each_valid(admins: &List<Admin>) -> bool
 fn are_valid_admins(admins: &List<Admin>) -> bool
     ensures { result ≡ valid.are_valid_admins admins.now }
 {
-    has_count(1, 16, admins) && are_each_valid(admins) && are_apart(admins.as_slice())
+    has_count(1, ADMINS_MAX, admins) && are_each_valid(admins) && are_apart(admins.as_slice())
 }
 
 fn is_valid_value(value: &Value) -> bool
     ensures { result ≡ valid.is_valid_value value.now }
 {
     match value {
-        Value::Number(number) => is_between(-NUMBER_MAX, NUMBER_MAX, i128::from(*number)),
+        Value::Number(number) => is_between(
+            i128::from(-NUMBER_MAX),
+            i128::from(NUMBER_MAX),
+            i128::from(*number),
+        ),
         Value::Word(_) => true,
     }
 }
@@ -104,7 +103,9 @@ fn are_creds_each_valid(creds: &List<Credential>) -> bool
 fn are_valid_creds(creds: &List<Credential>) -> bool
     ensures { result ≡ valid.are_valid_creds creds.now }
 {
-    has_count(0, 256, creds) && are_creds_each_valid(creds) && are_creds_apart(creds.as_slice())
+    has_count(0, CREDS_MAX, creds)
+        && are_creds_each_valid(creds)
+        && are_creds_apart(creds.as_slice())
 }
 
 pub fn has_valid_policies(scenario: &Scenario) -> bool

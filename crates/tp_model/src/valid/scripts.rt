@@ -4,6 +4,7 @@ ghost use Rattle.std.specs.List.{count_by, list_all, sum_by};
 ghost use Rattle.tp_model.specs.Ids as ids;
 ghost use Rattle.tp_model.specs.Valid as valid;
 
+use crate::limits::{CLIENTS_MAX, OFFICERS_MAX, PUBLISHERS_MAX};
 use crate::valid::exists::is_txn;
 use crate::valid::lists::has_count;
 use crate::valid::steps::{are_each_valid, are_valid_steps};
@@ -55,7 +56,7 @@ fn are_scripts_of_txns(scenario: &Scenario) -> bool
 fn are_valid_clients(scenario: &Scenario) -> bool
     ensures { result ≡ valid.are_valid_clients scenario.now }
 {
-    has_count(0, 16, &scenario.clients)
+    has_count(0, CLIENTS_MAX, &scenario.clients)
         && are_scripts_of_txns(scenario)
         && are_submitted_once(scenario)
 }
@@ -144,7 +145,7 @@ fn are_publisher_scripts(scenario: &Scenario) -> bool
 fn are_valid_publishers(scenario: &Scenario) -> bool
     ensures { result ≡ valid.are_valid_publishers scenario.now }
 {
-    has_count(0, 8, &scenario.publishers)
+    has_count(0, PUBLISHERS_MAX, &scenario.publishers)
         && are_publisher_scripts(scenario)
         && have_versions_left(scenario)
 }
@@ -183,7 +184,7 @@ fn are_officer_scripts(scenario: &Scenario) -> bool
 fn are_valid_officers(scenario: &Scenario) -> bool
     ensures { result ≡ valid.are_valid_officers scenario.now }
 {
-    has_count(0, 8, &scenario.officers) && are_officer_scripts(scenario)
+    has_count(0, OFFICERS_MAX, &scenario.officers) && are_officer_scripts(scenario)
 }
 
 pub fn has_valid_scripts(scenario: &Scenario) -> bool

@@ -5,6 +5,7 @@ ghost use Rattle.std.specs.List.{list_any};
 ghost use Rattle.tp_model.specs.Ids.{same_item};
 ghost use Rattle.tp_model.specs.Valid as valid;
 
+use crate::limits::{ITEMS_MAX, SERVERS_MAX};
 use crate::valid::lists::{has_count, is_from_to};
 use tp_types::{Admin, Item, ItemId, Scenario, ServerDecl, Version};
 
@@ -49,7 +50,7 @@ fn is_valid_server(scenario: &Scenario, at: usize, server: &ServerDecl) -> bool
     ensures { result ≡ valid.is_valid_server scenario.now at server.now }
 {
     are_known(scenario.admins.as_slice(), server.knows.as_slice())
-        && has_count(0, 64, &server.items)
+        && has_count(0, ITEMS_MAX, &server.items)
         && owns(at, server.items.as_slice(), scenario.items.as_slice())
 }
 
@@ -85,7 +86,7 @@ fn are_apart(servers: &[ServerDecl]) -> bool
 pub fn are_valid_servers(scenario: &Scenario) -> bool
     ensures { result ≡ valid.are_valid_servers scenario.now }
 {
-    has_count(1, 16, &scenario.servers)
+    has_count(1, SERVERS_MAX, &scenario.servers)
         && are_each_valid(scenario)
         && are_apart(scenario.servers.as_slice())
 }

@@ -4,15 +4,10 @@ ghost use Rattle.std.specs.Option.{option_map_or};
 ghost use Rattle.std.specs.List.{list_all};
 ghost use Rattle.tp_model.specs.Valid as valid;
 
+use crate::limits::{CALLS_MAX, STEPS_MAX, TICK_MAX};
 use crate::valid::exists::{is_admin, is_cred, is_server, is_txn};
 use crate::valid::lists::has_count;
 use tp_types::{Actor, AdminId, Cut, List, Scenario, ServerId, Step};
-
-/// The most listed steps.
-const STEPS_MAX: usize = 100_000;
-
-/// The most that one step moves the clock.
-const TICK_MAX: u64 = 1_000_000;
 
 /// Numbers of mails are below this: they have at most 15 digits.
 const NUMBER_END: u64 = 1_000_000_000_000_000;
@@ -32,7 +27,7 @@ fn is_valid_cut(cut: &Option<Cut>) -> bool
 {
     match cut {
         None => true,
-        Some(cut) => cut.mail < NUMBER_END && cut.calls <= 4,
+        Some(cut) => cut.mail < NUMBER_END && cut.calls <= CALLS_MAX,
     }
 }
 

@@ -5,21 +5,24 @@ ghost use Rattle.tp_model.specs.Ids.{same_cred};
 ghost use Rattle.tp_model.specs.Limits.{has_count};
 ghost use Rattle.tp_model.specs.Valid as valid;
 
+use crate::limits::{
+    CREDS_MAX, NUMBER_MAX, QUERIES_MAX, REGISTERS_MAX, ROUNDS_MAX, TERMS_MAX, TXNS_MAX,
+};
 use crate::valid::exists::{is_cred, is_item};
-use crate::valid::lists::{self, NUMBER_MAX, is_between, is_from_to};
+use crate::valid::lists::{self, is_between, is_from_to};
 use tp_types::{CredId, List, Operand, Query, Scenario, ServerDecl, Term, Transaction};
 
 fn is_register(register: u32) -> bool
     ensures { result ≡ valid.is_register register }
 {
-    is_from_to(1, 9, register as usize)
+    is_from_to(1, REGISTERS_MAX, register as usize)
 }
 
 fn is_valid_operand(operand: &Operand) -> bool
     ensures { result ≡ valid.is_valid_operand operand.now }
 {
     match operand {
-        Operand::Constant(constant) => is_between(0, NUMBER_MAX, i128::from(*constant)),
+        Operand::Constant(constant) => is_between(0, i128::from(NUMBER_MAX), i128::from(*constant)),
         Operand::Register(register) => is_register(*register),
     }
 }
@@ -63,7 +66,7 @@ fn are_valid_terms(expr: &List<Term>) -> bool
 fn is_valid_sum(expr: &List<Term>) -> bool
     ensures { result ≡ valid.is_valid_sum expr.now }
 {
-    lists::has_count(1, 5, expr)
+    lists::has_count(1, TERMS_MAX, expr)
         && are_valid_terms(expr)
         && begins_well(expr.as_slice())
         && has_one_constant(expr)
@@ -105,7 +108,7 @@ fn are_creds(scenario: &Scenario, creds: &List<CredId>) -> bool
 fn has_valid_creds(scenario: &Scenario, txn: &Transaction) -> bool
     ensures { result ≡ valid.has_valid_creds scenario.now txn.now }
 {
-    lists::has_count(0, 256, &txn.creds)
+    lists::has_count(0, CREDS_MAX, &txn.creds)
         && are_creds(scenario, &txn.creds)
         && are_creds_apart(txn.creds.as_slice())
 }
@@ -128,7 +131,7 @@ fn has_valid_work(scenario: &Scenario, txn: &Transaction) -> bool
         && list_all (valid.is_valid_query scenario.now) txn.now.queries
         && not (list_any (valid.is_name_of_server txn.now) scenario.now.servers)) }
 {
-    lists::has_count(1, 16, &txn.queries)
+    lists::has_count(1, QUERIES_MAX, &txn.queries)
         && are_valid_queries(scenario, &txn.queries)
         && !is_named_as_server(txn, &scenario.servers)
 }
@@ -137,7 +140,7 @@ fn is_valid_txn(scenario: &Scenario, txn: &Transaction) -> bool
     ensures { result ≡ valid.is_valid_txn scenario.now txn.now }
 {
     has_valid_creds(scenario, txn)
-        && is_from_to(1, 16, txn.rounds as usize)
+        && is_from_to(1, ROUNDS_MAX, txn.rounds as usize)
         && has_valid_work(scenario, txn)
 }
 
@@ -168,7 +171,7 @@ fn are_apart(txns: &[Transaction]) -> bool
 pub fn are_valid_txns(scenario: &Scenario) -> bool
     ensures { result ≡ valid.are_valid_txns scenario.now }
 {
-    lists::has_count(0, 128, &scenario.txns)
+    lists::has_count(0, TXNS_MAX, &scenario.txns)
         && are_each_valid(scenario)
         && are_apart(scenario.txns.as_slice())
 }

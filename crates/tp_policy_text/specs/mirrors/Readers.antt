@@ -12,7 +12,7 @@ use Rattle.tp_types.specs.declared.policy.Pattern.TheVariants as pattern
 use Rattle.tp_types.specs.declared.policy.Rule.{Rule}
 use Rattle.tp_types.specs.declared.policy.Value.{Value}
 use Rattle.tp_types.specs.declared.policy.Value.TheVariants as value
-use Rattle.tp_types.specs.Spelling.{is_digit, is_letter, is_part, spelled_from}
+use Rattle.tp_types.specs.Spelling.{is_digit, is_letter, is_name_byte, spelled_from}
 use Rattle.tp_types.specs.declared.policy.Policy.{Policy}
 use Rattle.tp_policy_text.specs.declared.halt.Stop.{Stop}
 use Rattle.tp_policy_text.specs.declared.production.Permitted.{Permitted}
@@ -43,7 +43,7 @@ is_some_text (byte ∷ others) = true
 -- the byte may come after this beginning of a name
 abbrev pub goes_on : List ℕ → ℕ → Bool
 goes_on [] byte = is_letter byte
-goes_on (head ∷ others) byte = is_part byte && nat_lt (length others) 31
+goes_on (head ∷ others) byte = is_name_byte byte && nat_lt (length others) 31
 
 abbrev pub name_step : List ℕ → ℕ → Option (List ℕ)
 name_step name byte = if goes_on name byte then Some (name ++ byte ∷ []) else None
@@ -227,8 +227,8 @@ more_of byte a next = if comes byte next then inr (λ others. a ∷ others) else
 
 abbrev pub joined_at : {A : Type 0} → ℕ → ℕ → List ℕ → Reader A → Reader (List A)
 joined_at zero byte word r = stopped stop.Spent
-joined_at (suc turns) byte word r =
-    link (more_of byte) r (both second (word_at word (tt {0})) (joined_at turns byte word r))
+joined_at (suc fuel) byte word r =
+    link (more_of byte) r (both second (word_at word (tt {0})) (joined_at fuel byte word r))
 
 abbrev pub in_parentheses : Reader Cond → Reader Cond
 in_parentheses r =
@@ -240,21 +240,21 @@ part_at zero inner = unopened atom_at
 part_at (suc depth) inner = choice is_open (in_parentheses inner) atom_at
 
 abbrev pub conj_at : ℕ → ℕ → Reader Cond → Reader Cond
-conj_at turns depth inner s =
-    mapped and_of (joined_at turns 97 (codes "and") (part_at depth inner) s)
+conj_at fuel depth inner s =
+    mapped and_of (joined_at fuel 97 (codes "and") (part_at depth inner) s)
 
 abbrev pub disj_at : ℕ → ℕ → Reader Cond → Reader Cond
-disj_at turns depth inner s =
-    mapped or_of (joined_at turns 111 (codes "or") (conj_at turns depth inner) s)
+disj_at fuel depth inner s =
+    mapped or_of (joined_at fuel 111 (codes "or") (conj_at fuel depth inner) s)
 
 abbrev pub cond_at : ℕ → ℕ → Reader Cond
-cond_at turns zero = disj_at turns zero (stopped stop.Deep)
-cond_at turns (suc depth) = disj_at turns (suc depth) (cond_at turns depth)
+cond_at fuel zero = disj_at fuel zero (stopped stop.Deep)
+cond_at fuel (suc depth) = disj_at fuel (suc depth) (cond_at fuel depth)
 
 -- what may stand in parentheses, where so many may be opened
 abbrev pub inner_at : ℕ → ℕ → Reader Cond
-inner_at turns zero = stopped stop.Deep
-inner_at turns (suc depth) = cond_at turns depth
+inner_at fuel zero = stopped stop.Deep
+inner_at fuel (suc depth) = cond_at fuel depth
 
 -- ---- rules
 
@@ -274,21 +274,21 @@ abbrev pub rule_of : Option Action → Permitted → Rule
 rule_of acts p = record { action = acts; pattern = p.pattern; cond = p.cond }
 
 abbrev pub permitted_at : ℕ → ℕ → Reader Permitted
-permitted_at turns depth =
+permitted_at fuel depth =
     both permitted pattern_at
     (both second (word_at (codes "if") (tt {0}))
-    (both earlier (cond_at turns depth) (sign_at (codes ";") (tt {0}))))
+    (both earlier (cond_at fuel depth) (sign_at (codes ";") (tt {0}))))
 
 abbrev pub rule_at : ℕ → ℕ → Reader Rule
-rule_at turns depth =
+rule_at fuel depth =
     both second (word_at (codes "allow") (tt {0}))
     (both rule_of action_at
-    (both second (word_at (codes "on") (tt {0})) (permitted_at turns depth)))
+    (both second (word_at (codes "on") (tt {0})) (permitted_at fuel depth)))
 
 abbrev pub rules_at : ℕ → ℕ → ℕ → Reader (List Rule)
-rules_at zero turns depth = stopped stop.Spent
-rules_at (suc left) turns depth =
-    link (more_of 97) (rule_at turns depth) (rules_at left turns depth)
+rules_at zero fuel depth = stopped stop.Spent
+rules_at (suc left) fuel depth =
+    link (more_of 97) (rule_at fuel depth) (rules_at left fuel depth)
 
 -- ---- a whole text
 
@@ -298,13 +298,13 @@ whole_of (Ok rules) (byte ∷ others) = stopped stop.Syntax (byte ∷ others)
 whole_of (Err why) left = stopped why left
 
 abbrev pub rules_only : ℕ → ℕ → Reader Policy
-rules_only turns depth text =
-    whole_of (rules_at turns turns depth text).outcome (rules_at turns turns depth text).left
+rules_only fuel depth text =
+    whole_of (rules_at fuel fuel depth text).outcome (rules_at fuel fuel depth text).left
 
 abbrev pub policy_from : ℕ → ℕ → List ℕ → Reading Policy
-policy_from turns depth [] = read (record { rules = [] }) []
-policy_from turns depth (byte ∷ others) = rules_only turns depth (byte ∷ others)
+policy_from fuel depth [] = read (record { rules = [] }) []
+policy_from fuel depth (byte ∷ others) = rules_only fuel depth (byte ∷ others)
 
 -- blanks, rules, and the end
 abbrev pub policy_at : ℕ → ℕ → Reader Policy
-policy_at turns depth text = policy_from turns depth (skip text)
+policy_at fuel depth text = policy_from fuel depth (skip text)

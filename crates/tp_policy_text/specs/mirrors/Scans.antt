@@ -4,7 +4,7 @@ use Rattle.tp_types.specs.declared.policy.Cond.{Cond}
 use Rattle.tp_types.specs.declared.policy.Cond.TheVariants as cond
 use Rattle.tp_types.specs.declared.policy.Pattern.{Pattern}
 use Rattle.tp_types.specs.declared.policy.Pattern.TheVariants as pattern
-use Rattle.tp_types.specs.Spelling.{is_digit, is_letter, is_part}
+use Rattle.tp_types.specs.Spelling.{is_digit, is_letter, is_name_byte}
 use Rattle.tp_policy_text.specs.declared.reader.Claim.{Claim}
 use Rattle.tp_policy_text.specs.Lexis.{first, in_word, skip}
 use Rattle.tp_policy_text.specs.mirrors.Readers.{Compared, Head, comes, head_of, int_end, is_some_text}
@@ -18,7 +18,7 @@ reach goes count (byte ∷ others) =
 
 -- the byte goes on with a name of which so many bytes were read
 abbrev pub follows : ℕ → ℕ → Bool
-follows count byte = if count == 0 then is_letter byte else is_part byte && nat_lt count 32
+follows count byte = if count == 0 then is_letter byte else is_name_byte byte && nat_lt count 32
 
 -- the byte goes on with a number of which so many digits were read, and which does not begin with 0
 abbrev pub is_next_digit : ℕ → ℕ → Bool

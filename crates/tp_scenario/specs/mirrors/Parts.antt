@@ -1,12 +1,8 @@
 -- Some of an object's values, which code reads together.
 use Rattle.std.specs.Prelude.{ℕ, ℤ, neg_ℤ, List, length, Result, Ok}
 use Rattle.serde_json.specs.Data.{Data}
-use Rattle.tp_types.specs.declared.ids.Version.{Version}
-use Rattle.tp_types.specs.declared.policy.Policy.{Policy}
-use Rattle.tp_types.specs.declared.scenario.Level.{Level}
-use Rattle.tp_types.specs.declared.scenario.Scheme.{Scheme}
-use Rattle.tp_model.specs.Limits.{value_limit}
-use Rattle.tp_model.specs.Valid.{clock_limit}
+use Rattle.tp_model.specs.Words.{Level, Policy, Scheme, Version}
+use Rattle.tp_model.specs.Limits.{clock_limit, rounds_limit, value_limit}
 use Rattle.tp_scenario.specs.declared.fault.Fault.{Fault}
 use Rattle.tp_scenario.specs.declared.path.Key.TheVariants.{Credentials, From, Until, Policies, Opening, Servers, Items, Min, Max, Value, Transactions, Scheme as SchemeKey, Level as LevelKey, Rounds}
 use Rattle.tp_scenario.specs.declared.path.Path.TheVariants.{Field, Inner}
@@ -43,5 +39,5 @@ abbrev pub manner_at : ℕ → Data → Result (Scheme × Level × ℕ) Fault
 manner_at at fields = do
   scheme ← scheme_at (Field Transactions at SchemeKey) (field SchemeKey fields)
   level ← level_at (Field Transactions at LevelKey) (field LevelKey fields)
-  rounds ← count_or (Field Transactions at Rounds) 1 16 8 (field Rounds fields)
+  rounds ← count_or (Field Transactions at Rounds) 1 rounds_limit 8 (field Rounds fields)
   Ok (scheme, level, rounds)

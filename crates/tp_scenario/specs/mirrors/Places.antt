@@ -1,6 +1,6 @@
 -- Places of what is declared, as code notes them.
 use Rattle.std.specs.Prelude.{ℕ, List, map}
-use Rattle.tp_types.specs.declared.ids.CredId.{CredId}
+use Rattle.tp_model.specs.Words.{CredId}
 
 -- the credential at a place
 abbrev pub cred_at : ℕ → CredId

@@ -2,29 +2,29 @@
 use Rattle.std.specs.Prelude.{◌≡◌, List, ℕ, length, true, false, Option, Some, None}
 use Rattle.tp_model.specs.Words.{Scenario, Step}
 use Rattle.tp_machine.specs.Laws.{HasAllCommits, IsTrustedState}
-use Rattle.tp_machine.specs.Seen.{Seen}
+use Rattle.tp_machine.specs.WorldView.{WorldView}
 use Rattle.tp_scenario.specs.declared.from_bytes.ScenarioError.{ScenarioError}
 use Rattle.tp_top.specs.declared.answer.Answer.{Answer}
 use Rattle.tp_top.specs.declared.answer.Answer.TheVariants as answer
 use Rattle.tp_top.specs.declared.listed.StepRefusal.{StepRefusal}
-use Rattle.tp_top.specs.Auto.{is_quiet, stepped}
+use Rattle.tp_top.specs.Auto.{is_quiet, world_after}
 use Rattle.tp_top.specs.Listed.{refused_from}
 use Rattle.tp_top.specs.Refusals.{refusal_line, step_line}
-use Rattle.tp_top.specs.Run.{automatic, automatic_bound, final, first_refused, listed, report_of}
+use Rattle.tp_top.specs.Run.{automatic, automatic_bound, final, first_refused, after_listed, report_of}
 
 -- ---- listed steps
 
 -- the first of the steps that the old world refuses is told; where there is none, the new world is the one after all of them
-pub record Follows (old new : Seen) (steps : List Step) (refused : Option StepRefusal)
+pub record Follows (old new : WorldView) (steps : List Step) (refused : Option StepRefusal)
     : Type 0 where
   pub first : refused ≡ refused_from old.scenario old.machine 0 steps
-  pub done : refused ≡ None → new ≡ stepped old steps
+  pub done : refused ≡ None → new ≡ world_after old steps
 
 -- a world that is not given up, after all listed steps of its scenario, of which none is refused
-pub record IsListed (world : Seen) : Type 0 where
+pub record IsListed (world : WorldView) : Type 0 where
   pub up : world.given_up ≡ false
   pub lawful : first_refused world.scenario ≡ None
-  pub now : world.machine ≡ listed world.scenario
+  pub now : world.machine ≡ after_listed world.scenario
 
 -- ---- what comes of a scenario that was read
 

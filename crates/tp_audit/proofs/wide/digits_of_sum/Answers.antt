@@ -2,7 +2,7 @@ use Rattle.std.proofs.Common.{SFits, ◌+◌, ◌≤◌, ◌+ℤ◌, drop, lengt
 use Rattle.std.proofs.lemmas.Int.{to_z-of_z}
 use Rattle.std.specs.Int.{w128}
 use Rattle.tp_audit.specs.mirrors.Digits.{number_above, number_of}
-use Rattle.tp_model.specs.Queries.{signed}
+use Rattle.tp_model.specs.Queries.{with_sign}
 use Rattle.tp_audit.proofs.WideLemmas.{sum_end, sum_step}
 use Rattle.tp_audit.proofs.wide.digits_of_sum.Goals as goal
 
@@ -19,7 +19,7 @@ loop-at-preserved c =
     let exact = simp to_z-of_z at c.column-total.ensures in
     let column = rw (c.digit_at.ensures, c.digit_at-in-loop-at.ensures) at exact in
     let pushed = simp to_z-of_z at c.in_ok-push.ensures.ok in
-    ap (λ m. number_above m ((total.wraps +ℤ number_of (drop (at + 1) one)) +ℤ signed c.args.minus (number_of (drop (at + 1) other)))) pushed
+    ap (λ m. number_above m ((total.wraps +ℤ number_of (drop (at + 1) one)) +ℤ with_sign c.args.minus (number_of (drop (at + 1) other)))) pushed
     ∙ (sum_step c.loop-at.made one other c.args.minus at c.loop-at.total.wraps total.part total.wraps column ∙ c.loop-at.invariant)
 
 pub returns : goal.returns

@@ -2,7 +2,7 @@ use Rattle.std.proofs.Common.{◌≡◌, ◌∙◌, ap, sym, IfOk}
 use Rattle.std.proofs.lemmas.Result.{IfOk-weaker}
 use Rattle.std.specs.Option.{is_some}
 use Rattle.tp_cred.specs.mirrors.HeldBy.{holder_in}
-use Rattle.tp_eval.specs.Taken.{certificate}
+use Rattle.tp_eval.specs.Uses.{certificate}
 use Rattle.tp_eval.proofs.CertificateLemmas.{distinct_where, exists_where_allowed, passes_where, presented_where, some_where}
 use Rattle.tp_eval.proofs.SoundLemmas.{Asked}
 use Rattle.tp_eval.proofs.policies.evaluate.Goals as goal

@@ -1,6 +1,6 @@
 use Rattle.std.proofs.Common.{◌≡◌, ◌+◌, [], drop}
 use Rattle.tp_eval.specs.mirrors.Gathered.{takes_by_rule}
-use Rattle.tp_eval.specs.Taken.{first_certificate}
+use Rattle.tp_eval.specs.Uses.{first_certificate}
 use Rattle.tp_eval.proofs.policies.first_rule.Given as goal
 
 -- the rules that are left decide, and nothing was added

@@ -1,4 +1,4 @@
-use Rattle.tp_policy_text.specs.Printed.{printed}
+use Rattle.tp_policy_text.specs.Printed.{policy_text}
 use Rattle.tp_policy_text.proofs.Answering.{shallow_within}
 use Rattle.tp_policy_text.proofs.PrintedGrammar.{spelled_of_grammar}
 use Rattle.tp_policy_text.proofs.PrintedRules.{printed_spells}
@@ -15,4 +15,4 @@ pub returns-clause-of_grammar : goal.returns-clause-of_grammar
 returns-clause-of_grammar c = spelled_of_grammar
 
 pub returns-clause-within : goal.returns-clause-within
-returns-clause-within c = λ policy h fits within. (fits, shallow_within (printed policy) policy (printed_spells policy h) within)
+returns-clause-within c = λ policy h fits within. (fits, shallow_within (policy_text policy) policy (printed_spells policy h) within)

@@ -1,6 +1,6 @@
 use Rattle.std.proofs.Common.{List, sym, subst}
 use Rattle.tp_model.specs.Words.{Step}
-use Rattle.tp_machine.specs.Seen.{IsBuiltStep, Seen}
+use Rattle.tp_machine.specs.WorldView.{IsBuiltStep, WorldView}
 use Rattle.tp_machine.specs.Sound.{Each, IsStepOf}
 use Rattle.tp_top.proofs.ListedRun.{listed_exist, listed_kinds}
 use Rattle.tp_top.proofs.answer.run_in.Goals as goal
@@ -12,4 +12,4 @@ follow-requires-clause-kinds c =
 pub follow-requires-clause-ids : goal.follow-requires-clause-ids
 follow-requires-clause-ids c =
     subst (λ (steps : List Step). Each (IsStepOf c.args.world.now.scenario) steps) (sym c.as_slice.ensures)
-    (subst (λ (world : Seen). Each (IsStepOf world.scenario) c.args.scenario.now.steps) (sym c.requires.fresh) (listed_exist c.args.scenario.now c.requires.built))
+    (subst (λ (world : WorldView). Each (IsStepOf world.scenario) c.args.scenario.now.steps) (sym c.requires.fresh) (listed_exist c.args.scenario.now c.requires.built))

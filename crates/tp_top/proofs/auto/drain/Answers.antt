@@ -4,7 +4,7 @@ use Rattle.tp_top.proofs.auto.drain.Goals as goal
 
 pub loop-turn-preserved : goal.loop-turn-preserved
 loop-turn-preserved c =
-    so_far_more _ _ _ c.args.budget c.loop-turn._turn c.in-Some.step c.loop-turn.invariant (omega arith) c.in-Some.ensures.value c.in-Ok.ensures.done
+    so_far_more _ _ _ c.args.budget c.loop-turn._turn c.in-Some.step c.loop-turn.invariant (omega arith) c.in-Some.ensures.value c.in-Ok.ensures.ok
 
 pub returns-in-None-clause-steps : goal.returns-in-None-clause-steps
 returns-in-None-clause-steps c = λ _. drains_quiet _ _ c.args.budget c.loop-turn._turn c.loop-turn.invariant c.in-None.ensures.value

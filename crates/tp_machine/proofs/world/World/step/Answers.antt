@@ -1,6 +1,6 @@
 use Rattle.std.proofs.Common.{◌≡◌, [], ◌∷◌, ◌++◌, ap, sym, subst, ◌∙◌}
 use Rattle.tp_machine.specs.Machine.{Machine, after}
-use Rattle.tp_machine.specs.Seen.{Seen, machine_of}
+use Rattle.tp_machine.specs.WorldView.{WorldView, machine_of}
 use Rattle.tp_machine.specs.Sound.{Each, IsStepOf}
 use Rattle.tp_machine.proofs.basics.Machine.{reached_next, steps_next}
 use Rattle.tp_machine.proofs.ids.Valid.{few_rules}
@@ -14,7 +14,7 @@ invariant_of-self c =
     let taken = c.args.taken.now in
     let old = machine_of c.self.inside.actors c.self.inside.history in
     let new = machine_of c.act.new.actors c.act.new.history in
-    let exists : IsStepOf sc taken = subst (λ (w : Seen). IsStepOf w.scenario taken) (sym c.self.view_is) c.requires.ids in
+    let exists : IsStepOf sc taken = subst (λ (w : WorldView). IsStepOf w.scenario taken) (sym c.self.view_is) c.requires.ids in
     let steps : new.state.steps ≡ old.state.steps ++ taken ∷ [] = ap (λ (m : Machine). m.state.steps) c.in-Ok.ensures.ok ∙ steps_next sc old taken c.requires.built in
     let named : Each (IsStepOf sc) new.state.steps = subst (Each (IsStepOf sc)) (sym steps) (each_more (IsStepOf sc) old.state.steps taken c.self.invariant.named exists) in
     let reached : new ≡ after sc new.state.steps = reached_next sc old new taken c.requires.built (c.self.invariant.reached c.if-self.false) (sym c.in-None.ensures) c.in-Ok.ensures.ok in

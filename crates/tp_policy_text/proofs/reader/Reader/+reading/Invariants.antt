@@ -21,10 +21,10 @@ decreases-part l = l.depth * 5
 -- the members so far, and those that are still read
 abbrev pub invariant-conjs-loop-turn : goal.invariant-conjs-loop-turn
 invariant-conjs-loop-turn l =
-    with_front l.members (joined_at (l.turns - l._turn) 111 (codes "or") (conj_at l.turns l.depth (inner_at l.turns l.depth)) l.self.rest.now)
-    ≡ joined_at l.turns 111 (codes "or") (conj_at l.turns l.depth (inner_at l.turns l.depth)) l.initial.self.rest.now
+    with_front l.members (joined_at (l.fuel - l._turn) 111 (codes "or") (conj_at l.fuel l.depth (inner_at l.fuel l.depth)) l.self.rest.now)
+    ≡ joined_at l.fuel 111 (codes "or") (conj_at l.fuel l.depth (inner_at l.fuel l.depth)) l.initial.self.rest.now
 
 abbrev pub invariant-parts-loop-turn : goal.invariant-parts-loop-turn
 invariant-parts-loop-turn l =
-    with_front l.members (joined_at (l.turns - l._turn) 97 (codes "and") (part_at l.depth (inner_at l.turns l.depth)) l.self.rest.now)
-    ≡ joined_at l.turns 97 (codes "and") (part_at l.depth (inner_at l.turns l.depth)) l.initial.self.rest.now
+    with_front l.members (joined_at (l.fuel - l._turn) 97 (codes "and") (part_at l.depth (inner_at l.fuel l.depth)) l.self.rest.now)
+    ≡ joined_at l.fuel 97 (codes "and") (part_at l.depth (inner_at l.fuel l.depth)) l.initial.self.rest.now

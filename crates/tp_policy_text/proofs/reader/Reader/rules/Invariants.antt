@@ -6,4 +6,4 @@ use Rattle.tp_policy_text.proofs.reader.Reader.rules.Given as goal
 -- the rules so far, and those that are still read
 abbrev pub invariant-loop-turn : goal.invariant-loop-turn
 invariant-loop-turn l =
-    with_front l.rules (rules_at (l.turns - l._turn) l.turns l.depth l.self.rest.now) ≡ rules_at l.turns l.turns l.depth l.initial.self.rest.now
+    with_front l.rules (rules_at (l.fuel - l._turn) l.fuel l.depth l.self.rest.now) ≡ rules_at l.fuel l.fuel l.depth l.initial.self.rest.now

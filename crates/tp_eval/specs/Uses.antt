@@ -14,15 +14,15 @@ use Rattle.tp_eval.specs.declared.policies.Certificate.{Certificate}
 -- ---- a condition
 
 -- all that members take, one after another, where each takes some
-abbrev pub taken_by_all : List (Option (List CredId)) → Option (List CredId)
-taken_by_all [] = Some []
-taken_by_all (member ∷ members) =
-    option_and_then (λ first. option_map (λ others. first ++ others) (taken_by_all members)) member
+abbrev pub uses_of_all : List (Option (List CredId)) → Option (List CredId)
+uses_of_all [] = Some []
+uses_of_all (member ∷ members) =
+    option_and_then (λ first. option_map (λ others. first ++ others) (uses_of_all members)) member
 
 -- what the first member takes that takes some
-abbrev pub taken_by_first : List (Option (List CredId)) → Option (List CredId)
-taken_by_first [] = None
-taken_by_first (member ∷ members) = option_or member (taken_by_first members)
+abbrev pub uses_of_first : List (Option (List CredId)) → Option (List CredId)
+uses_of_first [] = None
+uses_of_first (member ∷ members) = option_or member (uses_of_first members)
 
 abbrev pub only : CredId → List CredId
 only cred = cred ∷ []
@@ -33,13 +33,13 @@ abbrev pub level : ((Triple → Bool) → CredId → Bool) → List CredId → C
 level shows presented True = Some []
 level shows presented (Atom issuer attr op wanted) =
     option_map only (find (shows (meets issuer attr op wanted)) presented)
-level shows presented (And members) = taken_by_all members
-level shows presented (Or members) = taken_by_first members
+level shows presented (And members) = uses_of_all members
+level shows presented (Or members) = uses_of_first members
 
 -- the credentials that make a condition true, or None where it is false: for an atom the first presented that shows it, for And
 -- those of all members from the left, for Or those of the first member that is true
-abbrev pub taken : ((Triple → Bool) → CredId → Bool) → List CredId → Cond → Option (List CredId)
-taken shows presented condition = fold-Cond (Option (List CredId)) (level shows presented) condition
+abbrev pub uses_of : ((Triple → Bool) → CredId → Bool) → List CredId → Cond → Option (List CredId)
+uses_of shows presented condition = fold-Cond (Option (List CredId)) (level shows presented) condition
 
 -- ---- each once
 
@@ -54,10 +54,10 @@ once creds (cred ∷ others) = once (with_cred creds cred) others
 -- ---- a policy
 
 -- what the condition of a rule takes that matches
-abbrev pub taken_by_rule : ((Triple → Bool) → CredId → Bool) → List CredId → Action → List ℕ → Rule
+abbrev pub uses_of_rule : ((Triple → Bool) → CredId → Bool) → List CredId → Action → List ℕ → Rule
     → Option (List CredId)
-taken_by_rule shows presented asked item rule =
-    if matches asked item rule then taken shows presented rule.cond else None
+uses_of_rule shows presented asked item rule =
+    if matches asked item rule then uses_of shows presented rule.cond else None
 
 abbrev pub certificate_of : ℕ → List CredId → Certificate
 certificate_of number creds = record { rule = number; uses = once [] creds }
@@ -72,4 +72,15 @@ first_certificate takes number (rule ∷ rules) =
 -- the certificate of the first rule that matches and is true of the valid credentials of the subject that are presented
 abbrev pub certificate : Policy → Action → List ℕ → Holder → List CredId → Option Certificate
 certificate policy asked item holder presented =
-    first_certificate (taken_by_rule (shows_in holder) presented asked item) 1 policy.rules
+    first_certificate (uses_of_rule (shows_in holder) presented asked item) 1 policy.rules
+
+-- ---- the parts of a certificate
+
+-- the number of its rule
+abbrev pub rule_number : Certificate → ℕ
+rule_number certificate = certificate.rule
+
+-- the credentials that it uses; none where there is no certificate
+abbrev pub uses_in : Option Certificate → List CredId
+uses_in None = []
+uses_in (Some certificate) = certificate.uses

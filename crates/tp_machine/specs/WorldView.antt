@@ -28,28 +28,28 @@ machine_of actors history = record {
 }
 
 -- the scenario of the start, whether the world is given up, and the machine
-pub record Seen : Type 0 where
+pub record WorldView : Type 0 where
   pub scenario : Scenario
   pub given_up : Bool
   pub machine : Machine
 
 -- the world before the first step
-abbrev pub start : Scenario → Seen
+abbrev pub start : Scenario → WorldView
 start sc = record { scenario = sc; given_up = false; machine = opening sc }
 
 -- the machine is what the scenario and its steps give
-abbrev pub IsReached : Seen → Type 0
+abbrev pub IsReached : WorldView → Type 0
 IsReached world =
     world.given_up ≡ false → world.machine ≡ after world.scenario world.machine.state.steps
 
 -- its facts are those that the scenario and the steps give
-abbrev pub HasItsFacts : Seen → Type 0
+abbrev pub HasItsFacts : WorldView → Type 0
 HasItsFacts world =
     world.machine.state.facts ≡ (after world.scenario world.machine.state.steps).state.facts
 
 -- what is so of every world: its scenario is of the form that is built, its steps name what exists, and its facts are those
 -- that they give; and while it is not given up it is reached, and all that its mails, records and facts name exists
-pub record IsWorld (world : Seen) : Type 0 where
+pub record IsWorld (world : WorldView) : Type 0 where
   pub built : is_built world.scenario ≡ true
   pub named : Each (IsStepOf world.scenario) world.machine.state.steps
   pub told : HasItsFacts world
@@ -57,7 +57,7 @@ pub record IsWorld (world : Seen) : Type 0 where
   pub sound : world.given_up ≡ false → IsSound world.scenario world.machine.state
 
 -- what a world shows at any moment is a trusted history
-abbrev pub IsTrustedSoFar : Seen → Type 0
+abbrev pub IsTrustedSoFar : WorldView → Type 0
 IsTrustedSoFar world = IsTrustedState world.scenario world.machine.state
 
 -- a step of a kind that is built: a submission, the delivery of a mail, or what the master and the authority are told
@@ -71,19 +71,19 @@ IsBuiltStep (step.Revoke cred) = Unit {0}
 IsBuiltStep _ = ⊥
 
 -- the step was not refused, and was done
-pub record Does (old new : Seen) (taken : Step) : Type 0 where
+pub record Does (old new : WorldView) (taken : Step) : Type 0 where
   pub was_up : old.given_up ≡ false
   pub not_refused : refusal old.machine.state taken ≡ None
   pub now : new ≡ record old { machine = machine_after old.scenario old.machine taken }
 
 -- the step was refused, and nothing changed
-pub record Refuses (old new : Seen) (taken : Step) (why : StepError) : Type 0 where
+pub record Refuses (old new : WorldView) (taken : Step) (why : StepError) : Type 0 where
   pub was_up : old.given_up ≡ false
   pub reason : refusal old.machine.state taken ≡ Some why
   pub unchanged : new ≡ old
 
 -- the world is given up: its facts, steps and mails, which of these are undelivered, and which actors are down, stay
-pub record GivesUp (old new : Seen) : Type 0 where
+pub record GivesUp (old new : WorldView) : Type 0 where
   pub scenario : new.scenario ≡ old.scenario
   pub given_up : new.given_up ≡ true
   pub facts : new.machine.state.facts ≡ old.machine.state.facts
