@@ -5,4 +5,3 @@ pub mod RuleLemmas
 pub mod RunBounds
 pub mod ServersLemmas
 pub mod StoreBounds
-pub mod ValidLemmas

@@ -6,17 +6,15 @@ mod level;
 mod limits;
 mod policy;
 mod query;
-mod valid;
 mod versions;
 
 pub use deeds::deed_of;
 pub use level::{is_global, level_of, reads_master};
 pub use limits::{
     ADMINS_MAX, CALLS_MAX, CLIENTS_MAX, CLOCK_MAX, CREDS_MAX, ITEMS_MAX, NUMBER_MAX, OFFICERS_MAX,
-    PUBLISHERS_MAX, QUERIES_MAX, REGISTER_PLACES, REGISTERS_MAX, ROUNDS_MAX, SERVERS_MAX,
-    STEPS_MAX, TERMS_MAX, TICK_MAX, TXNS_MAX, VALUE_MAX, VERSIONS_MAX, VIEW_ROUNDS,
+    PUBLISHERS_MAX, QUERIES_MAX, REGISTER_PLACES, ROUNDS_MAX, SERVERS_MAX, STEPS_MAX, TERMS_MAX,
+    TICK_MAX, TXNS_MAX, VALUE_MAX, VERSIONS_MAX, VIEW_ROUNDS,
 };
 pub use policy::{matches, meets, policy_at, rule_in};
 pub use query::{action_of, has_query_at, is_at_server, item_of, only, query_at, servers_of};
-pub use valid::is_valid;
 pub use versions::{newest_at, publications};

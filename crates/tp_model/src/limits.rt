@@ -15,9 +15,6 @@ pub const TICK_MAX: u64 = 1_000_000;
 /// The most listed steps, and the most steps of an officer.
 pub const STEPS_MAX: usize = 100_000;
 
-/// The most rules of a policy: a text of 4,096 bytes has no more.
-pub const RULES_MAX: usize = 4096;
-
 /// The most administrators.
 pub const ADMINS_MAX: usize = 16;
 
@@ -42,10 +39,7 @@ pub const QUERIES_MAX: usize = 16;
 /// The most rounds that a transaction may ask for.
 pub const ROUNDS_MAX: usize = 16;
 
-/// The last register. They count from 1.
-pub const REGISTERS_MAX: usize = 9;
-
-/// A place for each register. The first place is not used.
+/// A place for each register. They count from 1 to 9, and the first place is not used.
 pub const REGISTER_PLACES: usize = 10;
 
 /// Under view consistency two rounds bring all servers to one version (Iskander et al. 2011).

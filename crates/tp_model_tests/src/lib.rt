@@ -30,5 +30,3 @@ mod names;
 mod policy_tables;
 #[cfg(test)]
 mod policy_text;
-#[cfg(test)]
-mod printable;

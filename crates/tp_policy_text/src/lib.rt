@@ -3,7 +3,6 @@
 
 mod halt;
 mod parsing;
-mod printable;
 mod printer;
 mod production;
 mod reader;
@@ -11,6 +10,5 @@ mod rereading;
 mod scan;
 
 pub use parsing::{DEPTH_MAX, ParseError, TEXT_MAX, parse, texts_have_one_answer};
-pub use printable::can_be_printed;
 pub use printer::{print, printed_is_exact};
 pub use rereading::print_and_parse;
