@@ -62,7 +62,8 @@ pub fn certify_policy(
     certify(alloc, held, policy, action, item)
 }
 
-/// Whether a certificate shows that a policy allows an action. The credentials that it uses are given as those presented.
+/// Whether a certificate shows that a policy allows an action. The credentials that it uses are given as those
+/// presented.
 pub fn check_certificate(
     policy: &Policy,
     action: Action,

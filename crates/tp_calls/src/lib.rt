@@ -1,14 +1,15 @@
 //! Calls of the crates below, each under the clauses that its callers read.
 //!
-//! Every function here is one call of another crate, or nearly so, and does nothing of its own. It is proved from the contract of that call
-//! alone, so what it promises follows from what the call promises. Two things rest on that:
+//! Every function here is one call of another crate, or nearly so, and does nothing of its own. It is proved from
+//! the contract of that call alone, so what it promises follows from what the call promises. Two things rest on that:
 //!
-//! - Each file of `must-fail` turns such a line into a wrong body, as one that waits where it is to die, and the prover must refuse it. What
-//!   these clauses refuse the contract of the call refuses too, wherever in the crate below the mistake stands.
+//! - Each file of `must-fail` turns such a line into a wrong body, as one that waits where it is to die, and the
+//!   prover must refuse it. What these clauses refuse the contract of the call refuses too, wherever in the crate
+//!   below the mistake stands.
 //! - Where a contract below is weakened so that such a body would pass, the function here is no longer proved.
 //!
-//! Nothing stands on this crate. It is small, so an edit of it costs a fraction of one in the crate that it speaks of. What it cannot say
-//! is a mistake in the midst of a call that no public call makes.
+//! Nothing stands on this crate. It is small, so an edit of it costs a fraction of one in the crate that it speaks
+//! of. What it cannot say is a mistake in the midst of a call that no public call makes.
 //!
 //! | Module | Calls |
 //! |---|---|

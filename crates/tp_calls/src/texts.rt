@@ -12,7 +12,8 @@ use tp_policy_text::{ParseError, parse};
 use tp_record::decode;
 use tp_types::{NoMemory, Policy, Record};
 
-/// The record whose spelling the bytes begin with, and the length of that spelling; None exactly where there is no such record.
+/// The record whose spelling the bytes begin with, and the length of that spelling; None exactly where there is no
+/// such record.
 pub fn decode_record(alloc: Global, bytes: &[u8]) -> Result<Option<(Record, usize)>, NoMemory>
     ensures found { IfOk result (λ found. IfSome found (λ r. IsRecord r.0
         × (Begins bytes.now (spelling r.0) × (r.1 ≡ length (spelling r.0))))) }
