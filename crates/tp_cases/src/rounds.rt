@@ -1,28 +1,14 @@
-//! A recording that is played line by line.
-use crate::spelled::{has_judged_line, has_proofs_line, verdict_of};
+//! Rounds of validation, played line by line.
+use crate::verdicts::{has_judged_line, has_proofs_line, verdict_of};
 use std::alloc::Global;
 use tp_round::Round;
 use tp_types::{Level, List, NoMemory, Reading, ServerId, Verdict, Version};
 
-/// What was counted.
-#[derive(Clone, Copy)]
-pub struct Score<'a> {
-    /// Whether the present case went as recorded so far.
-    good: bool,
-    /// Cases that went as recorded.
-    pub passed: u64,
-    /// Cases that did not.
-    pub failed: u64,
-    /// The first line that did not go as recorded.
-    pub broken: Option<&'a str>,
-}
-
-/// The round that is played, what is read, and what was counted.
+/// The round that is played, and what is read.
 #[derive(Drop)]
-pub struct Player<'a> {
+struct Player {
     round: Option<Round>,
     reading: Option<Reading>,
-    score: Score<'a>,
 }
 
 fn number_of(word: &str) -> u32 {
@@ -139,51 +125,7 @@ fn goes(
     }
 }
 
-impl<'a> Score<'a> {
-    /// A case ends.
-    fn end(&mut self) {
-        if self.good {
-            self.passed = self.passed.saturating_add(1);
-        } else {
-            self.failed = self.failed.saturating_add(1);
-        }
-        self.good = true;
-    }
-
-    /// A line went as recorded, or did not.
-    fn count(&mut self, line: &'a str, good: bool) {
-        if !good && self.broken.is_none() {
-            self.broken = Some(line);
-        }
-        self.good = self.good && good;
-    }
-}
-
-impl<'a> Player<'a> {
-    /// A player that has played nothing.
-    pub fn new() -> Player<'a> {
-        Player {
-            round: None,
-            reading: None,
-            score: Score {
-                good: true,
-                passed: 0,
-                failed: 0,
-                broken: None,
-            },
-        }
-    }
-
-    /// The present case ends, if there is one.
-    fn end(&mut self) {
-        if self.round.is_some() {
-            self.score.end();
-        }
-        self.round = None;
-        self.reading = None;
-        self.score.good = true;
-    }
-
+impl Player {
     fn start(&mut self, alloc: Global, limit: u32, words: &[&str]) -> Result<bool, NoMemory> {
         self.round = started(alloc, limit, words)?;
         Ok(self.round.is_some())
@@ -194,6 +136,7 @@ impl<'a> Player<'a> {
         Ok(true)
     }
 
+    /// Whether a line goes as recorded.
     fn step(&mut self, alloc: Global, line: &str, words: &[&str]) -> Result<bool, NoMemory> {
         match words {
             ["start", limit, targets @ ..] => self.start(alloc, number_of(limit), targets),
@@ -209,27 +152,33 @@ impl<'a> Player<'a> {
         }
     }
 
-    fn play_words(&mut self, alloc: Global, line: &'a str, words: &[&str]) -> Result<(), NoMemory> {
-        if let ["case", ..] = words {
-            self.end();
-            return Ok(());
-        }
-        let good = self.step(alloc, line, words)?;
-        self.score.count(line, good);
-        Ok(())
-    }
-
-    fn play(&mut self, alloc: Global, line: &'a str) -> Result<(), NoMemory> {
+    fn play(&mut self, alloc: Global, line: &str) -> Result<bool, NoMemory> {
         let words: Vec<&str> = line.split_whitespace().collect(alloc)?;
-        self.play_words(alloc, line, words.as_slice())
+        self.step(alloc, line, words.as_slice())
     }
 
-    /// Plays each line of a recording.
-    pub fn play_all(&mut self, alloc: Global, text: &'a str) -> Result<Score<'a>, NoMemory> {
-        for line in text.lines() {
-            self.play(alloc, line)?;
+    /// The first line, behind that of the name, that does not go as recorded.
+    fn first_fault<'a>(
+        &mut self,
+        alloc: Global,
+        case: &'a str,
+    ) -> Result<Option<&'a str>, NoMemory> {
+        for line in case.lines().skip(1) {
+            if !self.play(alloc, line)? {
+                return Ok(Some(line));
+            }
         }
-        self.end();
-        Ok(self.score)
+        Ok(None)
     }
+}
+
+/// The first line of a case that does not go as recorded.
+pub fn fault<'a>(alloc: Global, case: &'a str) -> Result<Option<&'a str>, NoMemory> {
+    let mut player = Player {
+        round: None,
+        reading: None,
+    };
+    let fault = player.first_fault(alloc, case);
+    drop(player);
+    fault
 }

@@ -1,5 +1,5 @@
 //! How replies and answers are spelled in a recording.
-use crate::numbers::{add_number, add_word, numbers_of};
+use crate::spelling::{add_number, add_word, numbers_of};
 use std::alloc::Global;
 use tp_round::{Judged, Wanted};
 use tp_types::{AdminId, CredId, List, Met, NoMemory, ServerId, Verdict, Version};
