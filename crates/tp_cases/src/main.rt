@@ -126,6 +126,7 @@ fn main(rt: HostRuntime) -> io::Result<()> {
         ("rounds/hand", Kind::Round),
         ("rounds/view", Kind::Round),
         ("rounds/levels", Kind::Round),
+        ("locks", Kind::Locks),
     ] {
         try_table(&rt, folder, name, kind)?;
     }
