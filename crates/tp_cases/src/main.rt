@@ -127,6 +127,7 @@ fn main(rt: HostRuntime) -> io::Result<()> {
         ("rounds/view", Kind::Round),
         ("rounds/levels", Kind::Round),
         ("locks", Kind::Locks),
+        ("policies", Kind::Policy),
     ] {
         try_table(&rt, folder, name, kind)?;
     }
