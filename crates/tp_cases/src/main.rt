@@ -122,6 +122,7 @@ fn main(rt: HostRuntime) -> io::Result<()> {
     let folder = folder(&rt);
     for (name, kind) in [
         ("runs", Kind::Run),
+        ("evaluations", Kind::Evaluation),
         ("readings", Kind::Reading),
         ("rounds/hand", Kind::Round),
         ("rounds/view", Kind::Round),
