@@ -1,21 +1,7 @@
-//! The tests of what needs no machine: plain values, the program that judges histories, the policy language, credentials,
-//! evaluation and the check of certificates, by tables of cases whose expected values were worked out by hand.
+//! The tests of what needs no machine: plain values, the policy language, credentials, evaluation and the check of certificates,
+//! by tables of cases whose expected values were worked out by hand.
 #![tactic(auto)]
 
-#[cfg(test)]
-mod audit;
-#[cfg(test)]
-mod audit_agreement;
-#[cfg(test)]
-mod audit_causes;
-#[cfg(test)]
-mod audit_conflicts;
-#[cfg(test)]
-mod audit_refusals;
-#[cfg(test)]
-mod audit_serial;
-#[cfg(test)]
-mod audit_trust;
 #[cfg(test)]
 mod clones;
 #[cfg(test)]

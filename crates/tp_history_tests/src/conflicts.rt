@@ -1,6 +1,7 @@
 //! Aborts since an older transaction was in conflict, and each way in which a history does not show that.
-use crate::audit::{BACK, BOBS, Case, HUGE, PAY, SLOW, SURE, Said, Why};
-use crate::audit_causes::decide;
+use crate::scenario::{BACK, BOBS, HUGE, PAY, SLOW, SURE};
+use crate::story::{Said, Why};
+use crate::verdict::{Case, Sense, decide};
 use tp_types::{Died, Outcome, ServerId, TxnId};
 
 /// The write of x by PAY dies for SURE, which writes x too.
@@ -11,7 +12,7 @@ const DEATH: Died = Died {
     place: 3,
 };
 
-const CASES: &[Case] = &[
+const CONFLICTS: &[Case] = &[
     // both write x
     (
         &[
@@ -150,6 +151,14 @@ const CASES: &[Case] = &[
         ],
         Some(2),
     ),
+];
+
+#[test]
+fn shows_conflicts(rt: HostRuntime) {
+    decide(&rt, Sense::Causes, CONFLICTS);
+}
+
+const PLACES: &[Case] = &[
     // the other was submitted at the same place or later, not at all, or is the transaction itself
     (
         &[
@@ -270,6 +279,6 @@ const CASES: &[Case] = &[
 ];
 
 #[test]
-fn shows_deaths(rt: HostRuntime) {
-    decide(&rt, CASES);
+fn shows_places_of_conflicts(rt: HostRuntime) {
+    decide(&rt, Sense::Causes, PLACES);
 }

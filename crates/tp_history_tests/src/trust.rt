@@ -1,20 +1,46 @@
 //! Trusted commits, and each way in which a commit is not.
-use crate::audit::{
-    BACK, Basis, Claim, Evidence, HR, IT, LEAST, PAY, PROVED, READS, SLOW, SOON, SURE, Said, Story,
-    WRITES, scenario, tell,
-};
+use crate::scenario::{BACK, HR, IT, LEAST, PAY, SLOW, SOON, SURE, scenario};
+use crate::story::{Basis, Claim, Evidence, NOTHING, Said, Story, tell};
+use crate::verdict::{Sense, assert_case, breaches, keep};
 use std::process::Abort;
-use tp_audit::{is_trusted, keeps_trust};
 use tp_types::{Fact, List, Scenario};
+
+/// The proof of the read of y by PAY.
+pub const READS: Claim = Claim {
+    query: 1,
+    server: 1,
+    admin: IT,
+    version: 1,
+    place: 2,
+    rule: Some(1),
+    uses: &[],
+};
+
+/// The proof of the write of x by PAY.
+pub const WRITES: Claim = Claim {
+    query: 2,
+    server: 0,
+    admin: HR,
+    version: 1,
+    place: 2,
+    rule: Some(1),
+    uses: &[0],
+};
+
+/// The instance of these two.
+pub const PROVED: &[Evidence] = &[Evidence {
+    reading: None,
+    claims: &[READS, WRITES],
+}];
 
 /// A commit at 5 of a transaction that was submitted at 0, between other facts, and whether it is trusted.
 #[derive(Clone, Copy)]
 struct Trial {
     txn: u32,
-    before: Story,
+    before: Story<'static>,
     rounds: u32,
-    evidence: &'static [Evidence],
-    after: Story,
+    evidence: &'static [Evidence<'static>],
+    after: Story<'static>,
     trusted: bool,
 }
 
@@ -38,7 +64,7 @@ fn facts(rt: &(impl Abort + AllocGlobal), trial: &Trial) -> List<Fact> {
     let basis = Basis {
         rounds: trial.rounds,
         evidence: trial.evidence,
-        deeds: &[],
+        ..NOTHING
     };
     tell(rt, &mut made, &[(0, Said::Submit(trial.txn))]);
     tell(rt, &mut made, trial.before);
@@ -47,36 +73,23 @@ fn facts(rt: &(impl Abort + AllocGlobal), trial: &Trial) -> List<Fact> {
     made
 }
 
-/// The first fact that does not keep trust as it should: the commit alone keeps it or does not.
-fn first_strange(scenario: &Scenario, facts: &List<Fact>, trial: &Trial) -> Option<usize> {
-    for (place, fact) in facts.as_slice().iter().enumerate() {
-        let is_commit = place == trial.before.len() + 1;
-        if keeps_trust(scenario, facts, fact) != (trial.trusted || !is_commit) {
-            return Some(place);
-        }
-    }
-    None
-}
-
-/// Whether the history of a trial is trusted, and the first fact that does not keep trust as it should.
-fn judged(rt: &(impl Abort + AllocGlobal), trial: &Trial) -> (bool, Option<usize>) {
-    let scenario = scenario(rt);
+/// Whether the commit of a trial alone keeps trust or does not.
+fn is_tried(rt: &(impl Abort + AllocGlobal), scenario: &Scenario, trial: &Trial) -> bool {
     let facts = facts(rt, trial);
-    let judged = (
-        is_trusted(&scenario, &facts),
-        first_strange(&scenario, &facts, trial),
-    );
+    let (first, last) = breaches(rt, Sense::Trust, scenario, &facts);
+    let kept = keep(rt, Sense::Trust, scenario, &facts);
     drop(facts);
-    drop(scenario);
-    judged
+    let commit = trial.before.len() + 1;
+    let breach = if trial.trusted { None } else { Some(commit) };
+    first == breach && last == breach && kept == trial.trusted
 }
 
 fn decide(rt: &(impl Abort + AllocGlobal), trials: &[Trial]) {
+    let scenario = scenario(rt);
     for (at, trial) in trials.iter().enumerate() {
-        let (trusted, strange) = judged(rt, trial);
-        assert!(rt; trusted == trial.trusted, "trial {at}");
-        assert!(rt; strange.is_none(), "trial {at}");
+        assert_case(rt, at, is_tried(rt, &scenario, trial));
     }
+    drop(scenario);
 }
 
 // ---- what the scheme demands

@@ -1,12 +1,10 @@
 //! Each way to break agreement, and histories that keep it.
-use crate::audit::{
-    BACK, Case, EVES, NOTHING, PAY, Said, Story, Why, assert_judged, history, scenario,
-};
-use std::process::Abort;
-use tp_audit::{is_agreed, keeps_agreement};
-use tp_types::{Actor, Fact, List, Outcome, Scenario};
+use crate::scenario::{BACK, EVES, PAY};
+use crate::story::{NOTHING, Said, Why};
+use crate::verdict::{Case, Sense, decide};
+use tp_types::{Actor, Outcome};
 
-const CASES: &[Case] = &[
+const DECISIONS: &[Case] = &[
     // submitted alone, and beside facts of other kinds
     (&[(0, Said::Submit(PAY))], None),
     (
@@ -98,6 +96,14 @@ const CASES: &[Case] = &[
         &[(0, Said::Submit(BACK)), (3, Said::Abort(PAY, Why::Halted))],
         Some(1),
     ),
+];
+
+#[test]
+fn agrees_on_decisions(rt: HostRuntime) {
+    decide(&rt, Sense::Agreement, DECISIONS);
+}
+
+const SETTLEMENTS: &[Case] = &[
     // settled twice at one server
     (
         &[
@@ -214,37 +220,7 @@ const CASES: &[Case] = &[
     ),
 ];
 
-/// The first fact that does not keep agreement.
-fn first_breach(scenario: &Scenario, facts: &List<Fact>) -> Option<usize> {
-    for (at, fact) in facts.as_slice().iter().enumerate() {
-        let (earlier, _) = facts.as_slice().split_at(at);
-        if !keeps_agreement(scenario, facts, earlier, fact) {
-            return Some(at);
-        }
-    }
-    None
-}
-
-/// The first fact of a history that does not keep agreement, and whether all agree.
-fn judged(rt: &(impl Abort + AllocGlobal), story: Story) -> (Option<usize>, bool) {
-    let scenario = scenario(rt);
-    let facts = history(rt, story);
-    let judged = (
-        first_breach(&scenario, &facts),
-        is_agreed(&scenario, &facts),
-    );
-    drop(facts);
-    drop(scenario);
-    judged
-}
-
-fn cases() -> &'static [Case] {
-    CASES
-}
-
 #[test]
-fn agrees(rt: HostRuntime) {
-    for (at, (story, breach)) in cases().iter().enumerate() {
-        assert_judged(&rt, at, judged(&rt, story), *breach);
-    }
+fn agrees_on_settlements(rt: HostRuntime) {
+    decide(&rt, Sense::Agreement, SETTLEMENTS);
 }

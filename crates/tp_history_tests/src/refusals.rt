@@ -1,6 +1,7 @@
 //! Aborts since a value is outside its item's range, and each way in which a history does not show that.
-use crate::audit::{BACK, Basis, Case, HUGE, LEAST, NOTHING, OVER, PAY, Said, WIDE, Why};
-use crate::audit_causes::decide;
+use crate::scenario::{BACK, HUGE, LEAST, OVER, PAY, WIDE};
+use crate::story::{Basis, NOTHING, Said, Why};
+use crate::verdict::{Case, Sense, decide};
 use tp_types::{Action, Actor, Deed, ItemId, OutOfRange, Outcome, ServerId, TxnId};
 
 /// OVER writes 200 to x, and then 101.
@@ -212,10 +213,10 @@ const VALUES: &[Case] = &[
 
 #[test]
 fn shows_values(rt: HostRuntime) {
-    decide(&rt, VALUES);
+    decide(&rt, Sense::Causes, VALUES);
 }
 
-const CASES: &[Case] = &[
+const CRASHES: &[Case] = &[
     // the value of the run is taken where a server of it crashed between the submission and the first abort
     (
         &[
@@ -301,6 +302,14 @@ const CASES: &[Case] = &[
         ],
         Some(4),
     ),
+];
+
+#[test]
+fn shows_crashes(rt: HostRuntime) {
+    decide(&rt, Sense::Causes, CRASHES);
+}
+
+const RUNS: &[Case] = &[
     // the run is on the data before the first abort
     (
         &[
@@ -409,6 +418,6 @@ const CASES: &[Case] = &[
 ];
 
 #[test]
-fn shows_refusals(rt: HostRuntime) {
-    decide(&rt, CASES);
+fn shows_runs_before_a_crash(rt: HostRuntime) {
+    decide(&rt, Sense::Causes, RUNS);
 }

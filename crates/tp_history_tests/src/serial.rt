@@ -1,11 +1,10 @@
 //! Serial commits, and each way in which a commit is not.
-use crate::audit::{
-    BACK, Basis, LEAST, NOTHING, OVER, PAID, PAY, SURE, Said, WIDE, assert_judged, scenario, tell,
-};
-use crate::made::list;
+use crate::scenario::{BACK, LEAST, OVER, PAY, SURE, WIDE, scenario};
+use crate::story::{Basis, NOTHING, Said, tell};
+use crate::verdict::{Sense, assert_case, is_judged, keep, keeps};
 use std::process::Abort;
-use tp_audit::{are_lone, is_serial, keeps_serial};
-use tp_types::{Action, CommitRecord, Decision, Deed, Fact, ItemId, List, Scenario, TxnId, What};
+use tp_audit::are_lone;
+use tp_types::{Action, Deed, Fact, ItemId, List, Scenario};
 
 /// Commits, each with its place and its transaction.
 type Commits = &'static [(u64, u32, &'static [Deed])];
@@ -39,6 +38,15 @@ const Y_WRITE: Deed = Deed {
     ..X_WRITE
 };
 
+/// PAY reads 10 of y, and so writes 17 to x.
+pub const PAID: &[Deed] = &[
+    Y_READ,
+    Deed {
+        query: 2,
+        ..X_WRITE
+    },
+];
+
 /// BACK writes 3 to y, reads it, and so writes 5.
 const WENT_BACK: &[Deed] = &[
     Y_WRITE,
@@ -64,7 +72,7 @@ const PAID_LATER: &[Deed] = &[
     },
 ];
 
-const RUNS: &[Run] = &[
+const DEEDS: &[Run] = &[
     (&[(5, PAY, PAID)], None),
     // another value is written
     (
@@ -167,6 +175,45 @@ const RUNS: &[Run] = &[
         )],
         Some(0),
     ),
+];
+
+/// Adds a commit of these deeds.
+fn tell_commit(
+    rt: &(impl Abort + AllocGlobal),
+    facts: &mut List<Fact>,
+    place: u64,
+    txn: u32,
+    deeds: &[Deed],
+) {
+    let basis = Basis { deeds, ..NOTHING };
+    tell(rt, facts, &[(place, Said::Commit(txn, basis))]);
+}
+
+fn commits(rt: &(impl Abort + AllocGlobal), done: Commits) -> List<Fact> {
+    let mut made = List::new(rt.alloc());
+    for (place, txn, deeds) in done {
+        tell_commit(rt, &mut made, *place, *txn, *deeds);
+    }
+    made
+}
+
+/// Judges each run by itself.
+fn decide(rt: &(impl Abort + AllocGlobal), runs: &[Run]) {
+    let scenario = scenario(rt);
+    for (at, (done, breach)) in runs.iter().enumerate() {
+        let facts = commits(rt, done);
+        let holds = is_judged(rt, Sense::Serial, &scenario, facts, *breach);
+        assert_case(rt, at, holds);
+    }
+    drop(scenario);
+}
+
+#[test]
+fn wants_the_deeds_of_a_run(rt: HostRuntime) {
+    decide(&rt, DEEDS);
+}
+
+const RUNS: &[Run] = &[
     // a read of the transaction's own write
     (&[(5, BACK, WENT_BACK)], None),
     (
@@ -282,64 +329,9 @@ const RUNS: &[Run] = &[
     (&[(5, 99, &[])], Some(0)),
 ];
 
-fn commits(rt: &(impl Abort + AllocGlobal), done: Commits) -> List<Fact> {
-    let mut made = List::new(rt.alloc());
-    for (place, txn, deeds) in done {
-        let basis = Basis { deeds, ..NOTHING };
-        tell(rt, &mut made, &[(*place, Said::Commit(*txn, basis))]);
-    }
-    made
-}
-
-/// Whether a fact of a history keeps serial data.
-fn is_kept(
-    rt: &(impl Abort + AllocGlobal),
-    scenario: &Scenario,
-    facts: &List<Fact>,
-    fact: &Fact,
-) -> bool {
-    keeps_serial(rt.alloc(), scenario, facts, fact).expect(rt, "memory for a store")
-}
-
-/// The first fact that does not keep serial data.
-fn first_breach(
-    rt: &(impl Abort + AllocGlobal),
-    scenario: &Scenario,
-    facts: &List<Fact>,
-) -> Option<usize> {
-    facts
-        .as_slice()
-        .iter()
-        .position(|fact| !is_kept(rt, scenario, facts, fact))
-}
-
-/// Whether all facts of a history keep serial data.
-fn are_kept(rt: &(impl Abort + AllocGlobal), scenario: &Scenario, facts: &List<Fact>) -> bool {
-    is_serial(rt.alloc(), scenario, facts).expect(rt, "memory for a store")
-}
-
-/// The first of these commits that is not serial, and whether all are.
-fn judged(rt: &(impl Abort + AllocGlobal), done: Commits) -> (Option<usize>, bool) {
-    let scenario = scenario(rt);
-    let facts = commits(rt, done);
-    let judged = (
-        first_breach(rt, &scenario, &facts),
-        are_kept(rt, &scenario, &facts),
-    );
-    drop(facts);
-    drop(scenario);
-    judged
-}
-
-fn runs() -> &'static [Run] {
-    RUNS
-}
-
 #[test]
-fn runs_each_by_itself(rt: HostRuntime) {
-    for (at, (done, breach)) in runs().iter().enumerate() {
-        assert_judged(&rt, at, judged(&rt, done), *breach);
-    }
+fn wants_the_data_before_a_place(rt: HostRuntime) {
+    decide(&rt, RUNS);
 }
 
 // ---- sums past what a value can be
@@ -370,45 +362,52 @@ const SUMS: &[Sum] = &[
     (i128::MAX, WIDE, [i128::MAX, i128::MAX, 99], false),
 ];
 
-fn written(query: u32, value: i128) -> Deed {
-    Deed {
-        query,
-        value,
-        ..X_WRITE
-    }
-}
-
-fn commit(rt: &(impl Abort + AllocGlobal), deeds: List<Deed>) -> Decision {
-    let instances = List::new(rt.alloc());
-    Decision::Commit(CommitRecord {
-        rounds: 1,
-        instances,
-        deeds,
-    })
-}
-
-fn decided(rt: &(impl Abort + AllocGlobal), place: u64, txn: u32, deeds: List<Deed>) -> Fact {
-    let decision = commit(rt, deeds);
-    Fact {
-        place,
-        what: What::Decided(TxnId(txn), decision),
-    }
-}
-
 /// The commit of WIDE or LEAST, after one that leaves a value in x.
 fn after(rt: &(impl Abort + AllocGlobal), sum: &Sum) -> List<Fact> {
-    let (left, txn, [read, first, last], _) = *sum;
-    let reads = Deed {
-        value: read,
-        ..X_READ
+    let (left, txn, [value, first, last], _) = *sum;
+    let before = Deed {
+        value: left,
+        ..X_WRITE
     };
-    let before = list(rt, [written(1, left)]);
-    let deeds = list(rt, [reads, written(2, first), written(3, last)]);
-    list(
-        rt,
-        [decided(rt, 4, SURE, before), decided(rt, 5, txn, deeds)],
-    )
+    let read = Deed { value, ..X_READ };
+    let first = Deed {
+        query: 2,
+        value: first,
+        ..X_WRITE
+    };
+    let last = Deed {
+        query: 3,
+        value: last,
+        ..X_WRITE
+    };
+    let mut made = List::new(rt.alloc());
+    tell_commit(rt, &mut made, 4, SURE, &[before]);
+    tell_commit(rt, &mut made, 5, txn, &[read, first, last]);
+    made
 }
+
+/// Whether the second commit of a sum is serial or not as it says, and both are not.
+fn is_summed(rt: &(impl Abort + AllocGlobal), scenario: &Scenario, sum: &Sum) -> bool {
+    let facts = after(rt, sum);
+    let second = match facts.get(1) {
+        Some(second) => keeps(rt, Sense::Serial, scenario, &facts, &[], second),
+        None => !sum.3,
+    };
+    let both = keep(rt, Sense::Serial, scenario, &facts);
+    drop(facts);
+    second == sum.3 && !both
+}
+
+#[test]
+fn sums_exactly(rt: HostRuntime) {
+    let scenario = scenario(&rt);
+    for (at, sum) in SUMS.iter().enumerate() {
+        assert_case(&rt, at, is_summed(&rt, &scenario, sum));
+    }
+    drop(scenario);
+}
+
+// ---- places
 
 /// Commits with their places, and whether no two have one place.
 const APART: &[(Commits, bool)] = &[
@@ -422,45 +421,17 @@ const APART: &[(Commits, bool)] = &[
     ),
 ];
 
-fn stands_apart(rt: &(impl Abort + AllocGlobal), done: Commits) -> bool {
+/// Whether no two of these commits have one place.
+fn are_apart(rt: &(impl Abort + AllocGlobal), done: Commits) -> bool {
     let facts = commits(rt, done);
-    are_lone(&facts)
+    let are_apart = are_lone(&facts);
+    drop(facts);
+    are_apart
 }
 
 #[test]
 fn stand_apart(rt: HostRuntime) {
     for (at, (done, apart)) in APART.iter().enumerate() {
-        assert_eq!(rt; stands_apart(&rt, done), *apart, "commits {at}");
-    }
-}
-
-fn is_second_kept(
-    rt: &(impl Abort + AllocGlobal),
-    scenario: &Scenario,
-    facts: &List<Fact>,
-) -> bool {
-    let second = facts.get(1).expect(rt, "a second commit");
-    is_kept(rt, scenario, facts, second)
-}
-
-/// Whether the second commit of a sum is serial, and whether both are.
-fn summed(rt: &(impl Abort + AllocGlobal), sum: &Sum) -> (bool, bool) {
-    let scenario = scenario(rt);
-    let facts = after(rt, sum);
-    let kept = (
-        is_second_kept(rt, &scenario, &facts),
-        are_kept(rt, &scenario, &facts),
-    );
-    drop(facts);
-    drop(scenario);
-    kept
-}
-
-#[test]
-fn sums_exactly(rt: HostRuntime) {
-    for (at, sum) in SUMS.iter().enumerate() {
-        let (second, both) = summed(&rt, sum);
-        assert!(rt; second == sum.3, "sum {at}");
-        assert!(rt; !both, "sum {at}");
+        assert_case(&rt, at, are_apart(&rt, done) == *apart);
     }
 }

@@ -1,11 +1,8 @@
 //! Aborts whose causes a history shows, and each way in which it does not.
-use crate::audit::{
-    BACK, BOBS, Case, EVES, HR, IT, NOTHING, PAY, SURE, Said, Story, Why, assert_judged, history,
-    scenario,
-};
-use std::process::Abort;
-use tp_audit::{is_caused, keeps_causes};
-use tp_types::{Actor, AdminId, Denied, Fact, List, Scenario, ServerId, TxnId, Version};
+use crate::scenario::{BACK, BOBS, EVES, HR, IT, PAY, SURE};
+use crate::story::{NOTHING, Said, Why};
+use crate::verdict::{Case, Sense, decide};
+use tp_types::{Actor, AdminId, Denied, ServerId, TxnId, Version};
 
 /// A denial of the first query at s0, under version 1 of HR.
 const DENIAL: Denied = Denied {
@@ -135,6 +132,14 @@ const DENIALS: &[Case] = &[
         ],
         Some(1),
     ),
+];
+
+#[test]
+fn shows_denials(rt: HostRuntime) {
+    decide(&rt, Sense::Causes, DENIALS);
+}
+
+const VERSIONS: &[Case] = &[
     // a version that is published at the decision, before it, and after it
     (
         &[
@@ -243,8 +248,8 @@ const DENIALS: &[Case] = &[
 ];
 
 #[test]
-fn shows_denials(rt: HostRuntime) {
-    decide(&rt, DENIALS);
+fn shows_denials_by_versions(rt: HostRuntime) {
+    decide(&rt, Sense::Causes, VERSIONS);
 }
 
 const CASES: &[Case] = &[
@@ -357,54 +362,7 @@ const CASES: &[Case] = &[
     ),
 ];
 
-/// Whether a fact of a history keeps causes.
-fn is_kept(
-    rt: &(impl Abort + AllocGlobal),
-    scenario: &Scenario,
-    facts: &List<Fact>,
-    fact: &Fact,
-) -> bool {
-    keeps_causes(rt.alloc(), scenario, facts, fact).expect(rt, "memory for a store")
-}
-
-/// The first fact that does not keep causes.
-fn first_breach(
-    rt: &(impl Abort + AllocGlobal),
-    scenario: &Scenario,
-    facts: &List<Fact>,
-) -> Option<usize> {
-    facts
-        .as_slice()
-        .iter()
-        .position(|fact| !is_kept(rt, scenario, facts, fact))
-}
-
-/// Whether all facts of a history are caused.
-fn are_caused(rt: &(impl Abort + AllocGlobal), scenario: &Scenario, facts: &List<Fact>) -> bool {
-    is_caused(rt.alloc(), scenario, facts).expect(rt, "memory for a store")
-}
-
-/// The first fact of a history that does not keep causes, and whether all are caused.
-fn judged(rt: &(impl Abort + AllocGlobal), story: Story) -> (Option<usize>, bool) {
-    let scenario = scenario(rt);
-    let facts = history(rt, story);
-    let judged = (
-        first_breach(rt, &scenario, &facts),
-        are_caused(rt, &scenario, &facts),
-    );
-    drop(facts);
-    drop(scenario);
-    judged
-}
-
-/// Judges each history as a whole and fact by fact.
-pub fn decide(rt: &(impl Abort + AllocGlobal), cases: &[Case]) {
-    for (at, (story, breach)) in cases.iter().enumerate() {
-        assert_judged(rt, at, judged(rt, story), *breach);
-    }
-}
-
 #[test]
 fn shows_causes(rt: HostRuntime) {
-    decide(&rt, CASES);
+    decide(&rt, Sense::Causes, CASES);
 }

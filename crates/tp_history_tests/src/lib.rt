@@ -1,0 +1,24 @@
+//! Histories made by hand, and what the judge of histories says of each: which of its facts is the first that breaks agreement,
+//! trust, causes or serial data, as it was worked out by hand.
+#![tactic(auto)]
+
+#[cfg(test)]
+mod agreement;
+#[cfg(test)]
+mod causes;
+#[cfg(test)]
+mod conflicts;
+#[cfg(test)]
+mod refusals;
+#[cfg(test)]
+mod scenario;
+#[cfg(test)]
+mod serial;
+#[cfg(test)]
+mod story;
+#[cfg(test)]
+mod trust;
+#[cfg(test)]
+mod verdict;
+#[cfg(test)]
+mod whole;
