@@ -1,6 +1,6 @@
 //! Images of logs and what they give, recorded from another program that was written from the format alone. Those that are broken,
 //! and the last that give records or none, are a log of two records with a byte changed or with its end missing; the others were left
-//! by crashes at random moments of random appends.
+//! by crashes at random moments of random appends. Those that were typed from the format say so.
 
 /// The bytes of an image, and the bodies of the records that it gives, one after the other.
 pub struct Image {
@@ -187,6 +187,11 @@ pub const GIVING: &[Image] = &[
         ],
         bodies: &[0, 0, 0, 9, 2, 0, 0, 0, 0, 0, 0, 0, 2, 0, 0, 0, 1, 1],
     },
+    // typed from the format, a log of two records
+    Image {
+        bytes: &[1, 0, 0, 0, 1, 1, 1, 0, 0, 0, 1, 1, 0],
+        bodies: &[0, 0, 0, 1, 1, 0, 0, 0, 1, 1],
+    },
 ];
 
 /// Images that give no record.
@@ -213,6 +218,7 @@ pub const EMPTY: &[&[u8]] = &[
     &[
         3, 0, 0, 0, 9, 2, 0, 0, 0, 0, 0, 0, 0, 2, 1, 0, 0, 0, 1, 1, 0,
     ],
+    &[1],
     &[],
 ];
 
@@ -284,4 +290,17 @@ pub const BROKEN: &[(&[u8], u64)] = &[
     (&[1, 0, 0, 0, 9, 2, 0, 0, 0, 0, 0, 0], 1),
     (&[1, 0, 0, 0, 9, 2, 0, 0, 0, 0, 0, 0, 0, 2, 1], 15),
     (&[1, 0, 0, 0, 9, 2, 0, 0, 0, 0, 0, 0, 0, 2, 1, 0, 0, 0], 15),
+    // the beginnings of the log of two records, and a record of a kind that is none
+    (&[1, 0], 1),
+    (&[1, 0, 0], 1),
+    (&[1, 0, 0, 0], 1),
+    (&[1, 0, 0, 0, 1], 1),
+    (&[1, 0, 0, 0, 1, 1], 1),
+    (&[1, 0, 0, 0, 1, 1, 1], 7),
+    (&[1, 0, 0, 0, 1, 1, 1, 0], 7),
+    (&[1, 0, 0, 0, 1, 1, 1, 0, 0], 7),
+    (&[1, 0, 0, 0, 1, 1, 1, 0, 0, 0], 7),
+    (&[1, 0, 0, 0, 1, 1, 1, 0, 0, 0, 1], 7),
+    (&[1, 0, 0, 0, 1, 1, 1, 0, 0, 0, 1, 1], 7),
+    (&[1, 0, 0, 0, 1, 9, 0], 1),
 ];

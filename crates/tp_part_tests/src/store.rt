@@ -1,8 +1,8 @@
 //! A store, call by call.
+use crate::made::assert_case;
 use crate::small_scenario::small;
-use std::process::Abort;
 use tp_store::Store;
-use tp_types::{AdminId, ItemId, Scenario, ServerId, TxnId, Version};
+use tp_types::{AdminId, ItemId, ServerId, TxnId, Version};
 
 /// A call of a store, or what a call is to answer.
 enum Line {
@@ -102,7 +102,8 @@ const LINES: &[Line] = &[
     Line::Newest(5, 1),
 ];
 
-fn play(rt: &(impl Abort + AllocGlobal), store: &mut Store, line: &Line) -> bool {
+/// Makes a call, and tells whether it answers so.
+fn plays(rt: &impl AllocGlobal, store: &mut Store, line: &Line) -> bool {
     match line {
         Line::Write(txn, query, item, value) => store
             .write(rt.alloc(), TxnId(*txn), *query, ItemId(*item), *value)
@@ -125,25 +126,15 @@ fn play(rt: &(impl Abort + AllocGlobal), store: &mut Store, line: &Line) -> bool
     }
 }
 
-fn opened(rt: &(impl Abort + AllocGlobal), scenario: &Scenario) -> Store {
-    Store::opened(rt.alloc(), scenario, ServerId(0)).expect(rt, "memory for a store")
-}
-
-/// A store of the small scenario.
-fn store(rt: &(impl Abort + AllocGlobal)) -> Store {
-    let scenario = small(rt);
-    let store = opened(rt, &scenario);
-    drop(scenario);
-    store
-}
-
 #[test]
 fn answers_by_the_table(rt: HostRuntime) {
-    let mut store = store(&rt);
+    let scenario = small(&rt);
+    let opened = Store::opened(rt.alloc(), &scenario, ServerId(0));
+    drop(scenario);
+    let mut store = opened.expect(&rt, "memory for a store");
     for (at, line) in LINES.iter().enumerate() {
-        let holds = play(&rt, &mut store, line);
-        assert!(rt; holds, "line {at}");
+        assert_case(&rt, at, plays(&rt, &mut store, line));
     }
-    assert_eq!(rt; store.value(ItemId(2)), 5);
+    assert!(rt; store.value(ItemId(2)) == 5);
     drop(store);
 }
