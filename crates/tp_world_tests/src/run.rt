@@ -39,20 +39,16 @@ const RUN: Call = Call {
     lines: &[],
 };
 
-fn bytes(rt: &(impl Abort + AllocGlobal), members: &[u8]) -> List<u8> {
+/// A list of members that are copied.
+fn list<T: Copy + Drop>(rt: &(impl Abort + AllocGlobal), members: &[T]) -> List<T> {
     let made = Vec::from_slice(rt.alloc(), members);
-    List::from_vec(made.ok().expect(rt, "memory for bytes"))
-}
-
-fn numbers(rt: &(impl Abort + AllocGlobal), members: &[u64]) -> List<u64> {
-    let made = Vec::from_slice(rt.alloc(), members);
-    List::from_vec(made.ok().expect(rt, "memory for numbers"))
+    List::from_vec(made.ok().expect(rt, "memory for a list"))
 }
 
 fn words(rt: &(impl Abort + AllocGlobal), spelled: &[&str]) -> List<Text> {
     let mut made = List::new(rt.alloc());
     for word in spelled {
-        let text = Text(bytes(rt, word.as_bytes()));
+        let text = Text(list(rt, word.as_bytes()));
         made.push(text).ok().expect(rt, "memory for words");
     }
     made
@@ -65,8 +61,8 @@ fn status_of(
     notes: &mut MemorySink,
 ) -> Status {
     let words = words(rt, call.words);
-    let input = bytes(rt, call.input.as_bytes());
-    let mut source = MemorySource::new(input, numbers(rt, call.reads), 100);
+    let input = list(rt, call.input.as_bytes());
+    let mut source = MemorySource::new(input, list(rt, call.reads), 100);
     tpvc(rt.alloc(), words.as_slice(), &mut source, out, notes)
 }
 
@@ -79,12 +75,18 @@ fn ends(
     out: &[u8],
     notes: &[u8],
 ) -> bool {
-    let mut out_sink = MemorySink::new(rt.alloc(), numbers(rt, call.outs), 3);
-    let mut notes_sink = MemorySink::new(rt.alloc(), numbers(rt, call.lines), 3);
+    let mut out_sink = MemorySink::new(rt.alloc(), list(rt, call.outs), 3);
+    let mut notes_sink = MemorySink::new(rt.alloc(), list(rt, call.lines), 3);
     let is_status = status_of(rt, call, &mut out_sink, &mut notes_sink) == status;
     let is_out = out_sink.bytes() == out;
     let is_notes = notes_sink.bytes() == notes;
     is_status & is_out & is_notes
+}
+
+/// Asserts that a call ends as wanted at a fault.
+fn assert_ends(rt: &(impl Abort + AllocGlobal), number: u64, call: &Call, end: Status, out: &[u8]) {
+    let holds = ends(rt, call, end, out, b"");
+    assert!(*rt; holds, "call {number}");
 }
 
 // The input is read in three calls, and a fourth finds its end.
@@ -95,13 +97,10 @@ fn a_read_fails(rt: HostRuntime) {
             reads: &[number],
             ..RUN
         };
-        assert!(rt;
-            ends(&rt, &call, Status::ReadFault, b"", b""),
-            "call {number}"
-        );
+        assert_ends(&rt, number, &call, Status::ReadFault, b"");
     }
     let call = Call { reads: &[4], ..RUN };
-    assert!(rt; ends(&rt, &call, Status::Done, REPORT.as_bytes(), b""));
+    assert_ends(&rt, 4, &call, Status::Done, REPORT.as_bytes());
 }
 
 // What came before a fault is not looked at, even where it is no JSON text.
@@ -112,7 +111,7 @@ fn a_read_fails_in_what_is_no_json(rt: HostRuntime) {
         reads: &[1],
         ..RUN
     };
-    assert!(rt; ends(&rt, &call, Status::ReadFault, b"", b""));
+    assert_ends(&rt, 1, &call, Status::ReadFault, b"");
 }
 
 // The report of 166 bytes is written in 56 calls.
@@ -123,18 +122,21 @@ fn a_write_of_the_report_fails(rt: HostRuntime) {
             outs: &[number],
             ..RUN
         };
-        let written = &REPORT.as_bytes()[..3 * number as usize];
-        assert!(rt;
-            ends(&rt, &call, Status::WriteFault, written, b""),
-            "call {number}"
-        );
+        let written = written_before(REPORT, number);
+        assert_ends(&rt, number, &call, Status::WriteFault, written);
     }
     let call = Call {
         outs: &[56],
         lines: &[0],
         ..RUN
     };
-    assert!(rt; ends(&rt, &call, Status::Done, REPORT.as_bytes(), b""));
+    assert_ends(&rt, 56, &call, Status::Done, REPORT.as_bytes());
+}
+
+/// What a sink keeps of a text where this call of it fails.
+fn written_before(text: &str, number: u64) -> &[u8] {
+    let count = number.saturating_mul(3).min(text.len() as u64);
+    text.as_bytes().split_at(count as usize).0
 }
 
 /// Calls that end with a line on notes, with the line and the number of calls that write it.
@@ -144,28 +146,31 @@ const LINES: &[(&[&str], &str, &str, u64)] = &[
     (&["run"], "{}", "refused shape $\n", 6),
 ];
 
-/// What a sink keeps of a text where this call of it fails.
-fn written_before(text: &str, number: u64) -> &[u8] {
-    let count = number.saturating_mul(3).min(text.len() as u64);
-    text.as_bytes().split_at(count as usize).0
+/// Whether a call whose line is written up to a fault of notes ends so.
+fn ends_in_a_line(
+    rt: &(impl Abort + AllocGlobal),
+    words: &[&str],
+    input: &str,
+    line: &str,
+    number: u64,
+) -> bool {
+    let call = Call {
+        words,
+        input,
+        reads: &[],
+        outs: &[0],
+        lines: &[number],
+    };
+    let written = written_before(line, number);
+    ends(rt, &call, Status::WriteFault, b"", written)
 }
 
 #[test]
 fn a_write_of_a_line_fails(rt: HostRuntime) {
     for (words, input, line, calls) in LINES {
         for number in 0..*calls {
-            let call = Call {
-                words: *words,
-                input: *input,
-                reads: &[],
-                outs: &[0],
-                lines: &[number],
-            };
-            let written = written_before(*line, number);
-            assert!(rt;
-                ends(&rt, &call, Status::WriteFault, b"", written),
-                "{line} {number}"
-            );
+            let holds = ends_in_a_line(&rt, words, input, line, number);
+            assert!(rt; holds, "call {number}");
         }
     }
 }

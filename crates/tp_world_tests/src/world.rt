@@ -19,14 +19,13 @@ fn start(rt: &(impl Abort + AllocGlobal)) -> World {
     made.ok().expect(rt, "memory for a world")
 }
 
-fn is_ticked(rt: &impl AllocGlobal, world: &mut World, by: u64) -> bool {
-    world.step(rt.alloc(), &Step::Tick { by }).is_ok()
-}
-
-/// The moment at which the clock is left where a tick is refused as too late.
-fn late(rt: &impl AllocGlobal, world: &mut World, by: u64) -> Option<u64> {
-    match world.step(rt.alloc(), &Step::Tick { by }) {
-        Err(StepError::TooLate { clock }) => Some(clock),
+/// Lets time pass twice, up to the last moment, and answers where the clock stands as a further tick is refused.
+fn last_moment(rt: &impl AllocGlobal, world: &mut World) -> Option<u64> {
+    let first = world.step(rt.alloc(), &Step::Tick { by: 5 });
+    let second = world.step(rt.alloc(), &Step::Tick { by: LAST - 5 });
+    let third = world.step(rt.alloc(), &Step::Tick { by: 1 });
+    match (first, second, third) {
+        (Ok(()), Ok(()), Err(StepError::TooLate { clock })) => Some(clock),
         _ => None,
     }
 }
@@ -41,15 +40,6 @@ fn ticked(world: &World, number: usize) -> Option<(u64, u64)> {
             },
         ) => Some((*place, *by)),
         _ => None,
-    }
-}
-
-/// Lets time pass twice, up to the last moment, and answers where the clock stands as a further tick is refused.
-fn last_moment(rt: &impl AllocGlobal, world: &mut World) -> Option<u64> {
-    if is_ticked(rt, world, 5) && is_ticked(rt, world, LAST - 5) {
-        late(rt, world, 1)
-    } else {
-        None
     }
 }
 
