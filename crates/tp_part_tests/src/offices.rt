@@ -1,11 +1,10 @@
 //! The authority and the master, act by act.
 use crate::made::assert_case;
 use crate::small_scenario::small;
-use std::process::Abort;
 use tp_offices::{Authority, Master};
 use tp_types::{
-    Actor, AdminId, AskRequest, Body, CredId, Letter, Mail, ProbeRequest, PushNotice, Reaction,
-    ServerId, TxnId, Version,
+    Actor, AdminId, AskRequest, Body, CredId, Letter, Mail, NoMemory, ProbeRequest, PushNotice,
+    Reaction, ServerId, TxnId, Version,
 };
 
 /// A mail from the coordinator of the second transaction.
@@ -21,27 +20,22 @@ fn mail(to: Actor, body: Body) -> Mail {
     }
 }
 
-fn asked() -> Mail {
-    let request = AskRequest {
-        txn: TxnId(1),
-        turn: 5,
-    };
-    mail(Actor::Authority, Body::Ask(request))
-}
+const ASKED: AskRequest = AskRequest {
+    txn: TxnId(1),
+    turn: 5,
+};
 
-fn probed() -> Mail {
-    let request = ProbeRequest {
-        txn: TxnId(1),
-        turn: 6,
-    };
-    mail(Actor::Master, Body::Probe(request))
-}
+const PROBED: ProbeRequest = ProbeRequest {
+    txn: TxnId(1),
+    turn: 6,
+};
 
-/// Takes a reaction, and tells whether it is none.
-fn is_nothing(reaction: Reaction) -> bool {
-    let is_nothing = reaction.letters.is_empty() && reaction.append.is_none();
-    drop(reaction);
-    is_nothing
+/// Whether a reaction is none.
+fn is_nothing(answer: Result<Reaction, NoMemory>) -> bool {
+    match answer {
+        Ok(reaction) => reaction.letters.is_empty() && reaction.append.is_none(),
+        Err(_refused) => false,
+    }
 }
 
 /// What the authority is to do, or what it is to tell: the clock, and the revoked credentials.
@@ -68,9 +62,12 @@ const ACTS: &[Act] = &[
     Act::Tells(13, &[CredId(0), CredId(1), CredId(2), CredId(3)]),
 ];
 
-/// Takes a reaction, and tells whether it is the one letter to that coordinator with this clock and these revocations.
-fn is_told(reaction: Reaction, clock: u64, revoked: &[CredId]) -> bool {
-    let is_told = reaction.append.is_none()
+/// Whether a reaction is the one letter to that coordinator with this clock and these revocations.
+fn is_told(answer: Result<Reaction, NoMemory>, clock: u64, revoked: &[CredId]) -> bool {
+    let Ok(reaction) = answer else {
+        return false;
+    };
+    reaction.append.is_none()
         && matches!(
             reaction.letters.as_slice(),
             [Letter {
@@ -81,31 +78,27 @@ fn is_told(reaction: Reaction, clock: u64, revoked: &[CredId]) -> bool {
                 && told.turn == 5
                 && told.clock == clock
                 && told.revoked.as_slice() == revoked
-        );
-    drop(reaction);
-    is_told
-}
-
-/// What the authority does on receipt of a mail.
-fn told(rt: &(impl Abort + AllocGlobal), authority: &Authority, mail: Mail) -> Reaction {
-    let reaction = authority.receive(rt.alloc(), &mail);
-    drop(mail);
-    reaction.expect(rt, "memory for a letter")
+        )
 }
 
 /// Does what is to be done, on a clock that is small.
-fn plays(rt: &(impl Abort + AllocGlobal), authority: &mut Authority, act: &Act) -> bool {
+fn plays(rt: &impl AllocGlobal, authority: &mut Authority, act: &Act) -> bool {
     match act {
         Act::Tick(by) => {
-            assert!(*rt; authority.clock < 1000 && *by < 1000);
-            authority.tick(*by);
-            true
+            let is_small = authority.clock < 1000 && *by < 1000;
+            if is_small {
+                authority.tick(*by);
+            }
+            is_small
         }
         Act::Revoke(number) => {
             authority.revoke(CredId(*number));
             true
         }
-        Act::Tells(clock, revoked) => is_told(told(rt, authority, asked()), *clock, *revoked),
+        Act::Tells(clock, revoked) => {
+            let asked = mail(Actor::Authority, Body::Ask(ASKED));
+            is_told(authority.receive(rt.alloc(), &asked), *clock, *revoked)
+        }
     }
 }
 
@@ -118,13 +111,19 @@ fn tells_the_clock_and_the_revocations_in_order(rt: HostRuntime) {
     for (at, act) in ACTS.iter().enumerate() {
         assert_case(&rt, at, plays(&rt, &mut authority, act));
     }
-    assert!(rt; is_nothing(told(&rt, &authority, probed())));
+    let probed = mail(Actor::Master, Body::Probe(PROBED));
+    let ignores = is_nothing(authority.receive(rt.alloc(), &probed));
+    drop(probed);
     drop(authority);
+    assert!(rt; ignores);
 }
 
-/// Takes a reaction, and tells whether it is the one letter to that coordinator with these versions.
-fn is_newest(reaction: Reaction, newest: &[Version]) -> bool {
-    let is_newest = reaction.append.is_none()
+/// Whether a reaction is the one letter to that coordinator with these versions.
+fn is_newest(answer: Result<Reaction, NoMemory>, newest: &[Version]) -> bool {
+    let Ok(reaction) = answer else {
+        return false;
+    };
+    reaction.append.is_none()
         && matches!(
             reaction.letters.as_slice(),
             [Letter {
@@ -132,22 +131,15 @@ fn is_newest(reaction: Reaction, newest: &[Version]) -> bool {
                 to: Actor::Coordinator(TxnId(1)),
                 body: Body::Newest(told),
             }] if told.txn == TxnId(1) && told.turn == 6 && told.newest.as_slice() == newest
-        );
-    drop(reaction);
-    is_newest
+        )
 }
 
-/// What the master does on receipt of a mail.
-fn answered(rt: &(impl Abort + AllocGlobal), master: &Master, mail: Mail) -> Reaction {
-    let reaction = master.receive(rt.alloc(), &mail);
-    drop(mail);
-    reaction.expect(rt, "memory for a letter")
-}
-
-/// Takes a reaction, and tells whether it is one letter that pushes this version of the first administrator to the second
-/// server.
-fn is_pushed(reaction: Reaction, version: Version) -> bool {
-    let is_pushed = reaction.append.is_none()
+/// Whether a reaction is one letter that pushes this version of the first administrator to the second server.
+fn is_pushed(answer: Result<Reaction, NoMemory>, version: Version) -> bool {
+    let Ok(reaction) = answer else {
+        return false;
+    };
+    reaction.append.is_none()
         && matches!(
             reaction.letters.as_slice(),
             [Letter {
@@ -158,9 +150,7 @@ fn is_pushed(reaction: Reaction, version: Version) -> bool {
                     version: pushed,
                 }),
             }] if *pushed == version
-        );
-    drop(reaction);
-    is_pushed
+        )
 }
 
 /// Whether a master of the small scenario publishes up to the last version of the first administrator, and no further.
@@ -179,12 +169,21 @@ fn publishes_up_to_the_last_version(rt: HostRuntime) {
     let opened = Master::opened(rt.alloc(), &scenario);
     drop(scenario);
     let mut master = opened.expect(&rt, "memory for a master");
-    let opens = is_newest(answered(&rt, &master, probed()), &[Version(3), Version(1)]);
-    let ignores = is_nothing(answered(&rt, &master, asked()));
+    let probed = mail(Actor::Master, Body::Probe(PROBED));
+    let opens = is_newest(
+        master.receive(rt.alloc(), &probed),
+        &[Version(3), Version(1)],
+    );
     let publishes = publishes(&mut master);
-    let tells = is_newest(answered(&rt, &master, probed()), &[Version(5), Version(1)]);
-    let pushed = master.push(rt.alloc(), AdminId(0), ServerId(1));
+    let tells = is_newest(
+        master.receive(rt.alloc(), &probed),
+        &[Version(5), Version(1)],
+    );
+    drop(probed);
+    let pushes = is_pushed(master.push(rt.alloc(), AdminId(0), ServerId(1)), Version(5));
+    let asked = mail(Actor::Authority, Body::Ask(ASKED));
+    let ignores = is_nothing(master.receive(rt.alloc(), &asked));
+    drop(asked);
     drop(master);
-    assert!(rt; opens && ignores && publishes && tells);
-    assert!(rt; is_pushed(pushed.expect(&rt, "memory for a letter"), Version(5)));
+    assert!(rt; opens && publishes && tells && pushes && ignores);
 }
