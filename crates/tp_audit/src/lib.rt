@@ -1,5 +1,12 @@
 //! A plain program that judges histories: for each definition of a trusted history one call, which has the definition as its contract.
 //! It knows a scenario and a flat list of facts, and nothing of how they came.
+//!
+//! What is promised, with the contract that carries it:
+//!
+//! - A plain program judges agreement, trust, causes, serial data, and that commits stand apart, for any
+//!   scenario and any list of facts: it gives true exactly where the definition does (`is_agreed`,
+//!   `is_trusted`, `is_caused`, `is_serial`, `are_lone`, and for one fact `keeps_agreement`, `keeps_trust`,
+//!   `keeps_causes`, `keeps_serial`)
 #![tactic(auto)]
 
 mod agreement;

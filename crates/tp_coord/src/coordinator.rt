@@ -22,6 +22,7 @@ use tp_types::{
 };
 
 /// What a coordinator awaits: its whole outstanding request.
+/// A repeat of the request can be made from the phase alone.
 #[derive(Drop)]
 pub enum Phase {
     Idle,

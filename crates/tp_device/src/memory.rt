@@ -82,6 +82,8 @@ fn blank(content: &mut [u8], span: Span, fill: u8)
 }
 
 /// A disk in memory. It keeps its content, and the ranges that were written since the last sync.
+/// It tells no past: its meaning of "since an earlier moment" has the two ends alone. Nothing that is proved of a
+/// log uses more of a disk than the bounds of the trait.
 #[derive(Drop)]
 pub struct MemoryDisk {
     content: Vec<u8>,

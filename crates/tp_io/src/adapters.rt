@@ -129,6 +129,8 @@ impl<W: Write + Drop> Sink for WriteSink<W> {
 pub type StdSink = WriteSink<Stdout>;
 
 /// Standard error. It tells no bytes.
+/// It is another stream than standard output, and so has a name of its own; all three are adapters over any
+/// reader or writer, so tests can use them with streams that fail.
 pub type StdNotes = WriteSink<Stderr>;
 
 /// Whether a writer took some of the piece, or had nothing to take.

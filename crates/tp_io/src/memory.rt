@@ -133,6 +133,8 @@ impl Source for MemorySource {
 
 /// A sink that keeps what is written to it. `fails` names the calls that fail, one_more from 0, and
 /// a call takes at most `most` bytes. A call that gets no memory fails too.
+/// It counts it as a fault where memory for its bytes is refused, since a sink has no other way to say that it
+/// took nothing.
 #[derive(Drop)]
 pub struct MemorySink {
     bytes: Vec<u8>,

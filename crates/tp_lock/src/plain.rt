@@ -13,6 +13,10 @@ use tp_types::{Action, ItemId, List, NoMemory, Place, TxnId};
 
 /// Locks on items, as lists. Contracts see the lists and the grants that nobody has taken. A release visits the lists
 /// of the items that its owner asked for, and of other lists those alone that have grants which nobody took.
+/// A flag in each entry says that its grant is yet to be taken, so neither a release nor the taking of a grant
+/// can be refused memory. An owner's items are noted at the request, before its entry stands there and whatever
+/// the answer, in rising order; so a release touches those alone. Owners are counted from 0, and there is a list
+/// for each up to the greatest that asked.
 #[derive(Drop)]
 pub struct PlainLocks {
     alloc: Global,

@@ -1,4 +1,33 @@
 //! A forced log: records on a disk, of which a crash loses none that was acknowledged.
+//!
+//! What is promised, with the contract that carries it:
+//!
+//! - A log that was opened gives the records of the image, keeps them, and nothing on its disk is unsynced
+//!   (`Log::opened`: `records`, `kept`)
+//! - Opening leaves a disk of more than one byte as a sync leaves it, and a shorter one with one closed gate,
+//!   synced. A crash at any moment of it leaves what `LeftOpening` says, and its calls are those of `Opens`.
+//!   The count of faults does not fall (`Log::opened`: `opens`)
+//! - It is refused as no log only where the image fails, at that place. It is refused as Device only where, by
+//!   calls as of `Opens` up to one that was refused, the given disk leads to one of which the count of faults
+//!   rose. The disk itself is given up: that it is that one no clause says, and it follows only from this, that
+//!   code which knows of a disk no more than its trait makes no other. Of a disk given up for another cause
+//!   nothing is told (`Log::opened`: `not_a_log`, `device`)
+//! - Every image of bytes gives a list of records or fails at a place. It gives one list, which a function of
+//!   it finds, or fails at one place, and never both: so both answers are exact (`one_reading`: `some`;
+//!   `records`, `found`, `place`, `apart`)
+//! - After an append the log keeps its records and the new one. A longer body than 1,048,576 bytes is refused
+//!   exactly, and so is an append after one that failed; both change nothing. A refusal of memory keeps the
+//!   records, and came before the first call of the disk, where nothing changed, or from one of its calls.
+//!   Device comes only where the count of faults rose, and then the log is closed and may keep the new record
+//!   or not (`Log::append`: `answer`)
+//! - A crash at any moment of an append leaves the records from before it, with the new one or without
+//!   (`Log::append`: `any_moment`)
+//! - An append makes four calls of its disk, or those up to one that was refused (`Log::append`: `answer`, by
+//!   the field `calls` of `Adds`, `Fails` and `Stays`)
+//! - Every image that a crash of a log's disk may leave gives the log's records; after an append that failed,
+//!   with the new one or without (`Log::disk`, `into_disk`: `kept`, `failed`)
+//! - A log over a disk in memory that is stopped after some calls of an append, and crashes, has the new record
+//!   exactly by `kept_after` (`Log::stop_after`, `crashed_in_append`: `kept`, `forced`, `refused`)
 #![tactic(auto)]
 
 ghost use Rattle.std.specs.Prelude.{◌≡◌, ◌<◌, ◌^◌, ℕ, List, All};

@@ -82,6 +82,8 @@ impl<D: Disk> Log<D> {
 
     /// Adds a record with four calls of the disk: the body and a closed gate behind it, a sync, the gate before it,
     /// and a sync. The room for the bytes is taken before the first.
+    /// If a write was refused memory and the body stands behind the closed gate, it is not read, and the next
+    /// append writes over it.
     pub fn append(&mut self, alloc: Global, r: &Record) -> Result<(), LogError>
         ensures answer { AppendEffect D.state D.does D.faults self.old r.now result self.new }
         // A crash at any moment of the call leaves the records from before it, with the new one or without.
@@ -151,6 +153,7 @@ impl Log<MemoryDisk> {
 
     /// Crashes within an append: so many of its calls of the disk pass, and what is then unsynced reads `fill`.
     /// Gives the disk after the crash. A refusal is as of `append`.
+    /// It stands beside `append` as the crash within one that a scenario asks for, and carries its rule.
     pub fn crashed_in_append(
         mut self,
         alloc: Global,

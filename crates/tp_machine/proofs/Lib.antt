@@ -1,15 +1,1 @@
-pub mod ages
-pub mod agreement
 pub mod basics
-pub mod bounds
-pub mod deaths
-pub mod epochs
-pub mod ids
-pub mod locked
-pub mod mails
-pub mod outside
-pub mod pairs
-pub mod refusals
-pub mod serial_data
-pub mod trust
-pub mod walks

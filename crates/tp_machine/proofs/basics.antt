@@ -1,21 +1,7 @@
--- Lemmas on lists, tables, ids, logs, facts and the machine, which know no theorem.
-pub mod Aims
-pub mod Facts
+-- Lemmas on flags of mails, parts, the opening and the machine.
 pub mod Flags
-pub mod Homes
-pub mod Ids
-pub mod Lists
-pub mod Held
-pub mod LockCounts
-pub mod Locks
-pub mod Logs
 pub mod Machine
 pub mod Opened
 pub mod Parts
-pub mod Phases
-pub mod Rounds
-pub mod Servers
-pub mod Stores
-pub mod Verdicts
-pub mod Versions
-pub mod World
+pub mod Rules
+pub mod Start

@@ -1,8 +1,6 @@
-pub mod Bounded
-pub mod Laws
 pub mod Logs
 pub mod Machine
+pub mod Named
 pub mod Parts
 pub mod WorldView
-pub mod Sound
 pub mod mirrors

@@ -279,6 +279,7 @@ machine_after sc m (step.Deliver mail) =
     (state_after m.state (step.Deliver mail)
     (delivery sc m.state.actors (slice_get m.state.mails mail)))
     (without_number m.undelivered mail)
+-- the code does not take this step yet; it shares the refusal of a number that no mail has
 machine_after sc m (step.Lose mail) =
     with_new m.state
     (state_after m.state (step.Lose mail) (idle_move m.state.actors (what.Lost mail ∷ [])))

@@ -8,8 +8,8 @@ use Rattle.tp_machine.specs.declared.history.History.{History}
 use Rattle.tp_machine.specs.declared.error.StepError.{StepError}
 use Rattle.tp_machine.specs.mirrors.Acts.{SameUp}
 use Rattle.tp_machine.specs.mirrors.Flags.{marked}
-use Rattle.tp_machine.specs.Sound.{Each, IsSound, IsStepOf}
-use Rattle.tp_machine.specs.Laws.{IsTrustedState}
+use Rattle.tp_types.specs.Each.{Each}
+use Rattle.tp_machine.specs.Named.{IsStepOf}
 use Rattle.tp_machine.specs.Machine.{State, Machine, after, machine_after, opening, refusal}
 
 -- the state of these actors with this history
@@ -48,17 +48,12 @@ HasItsFacts world =
     world.machine.state.facts ≡ (after world.scenario world.machine.state.steps).state.facts
 
 -- what is so of every world: its scenario is of the form that is built, its steps name what exists, and its facts are those
--- that they give; and while it is not given up it is reached, and all that its mails, records and facts name exists
+-- that they give; and while it is not given up it is reached
 pub record IsWorld (world : WorldView) : Type 0 where
   pub built : is_built world.scenario ≡ true
   pub named : Each (IsStepOf world.scenario) world.machine.state.steps
   pub told : HasItsFacts world
   pub reached : IsReached world
-  pub sound : world.given_up ≡ false → IsSound world.scenario world.machine.state
-
--- what a world shows at any moment is a trusted history
-abbrev pub IsTrustedSoFar : WorldView → Type 0
-IsTrustedSoFar world = IsTrustedState world.scenario world.machine.state
 
 -- a step of a kind that is built: a submission, the delivery of a mail, or what the master and the authority are told
 abbrev pub IsBuiltStep : Step → Type 0

@@ -1,12 +1,31 @@
 //! The cluster as a machine: actors, their logs, the mails between them, and the facts that they make.
+//!
+//! What is promised, with the contract that carries it:
+//!
+//! - The actors begin as defined (`Actors::opened`, `World::start`)
+//! - A step that is done was not refused by the machine, and gives exactly the machine's next state
+//!   (`World::step`: `ok`)
+//! - A refused step has exactly the machine's reason, and changes nothing (`World::step`: `refused`)
+//! - Where memory is refused the world is given up; its facts, steps and mails stay, and so does who is up. A
+//!   world that is given up only answers that memory was refused (`World::step`: `memory`, `ok`, `refused`;
+//!   `World::ending`: `given_up`)
+//! - A world that is not given up is the machine of its scenario after the steps that it shows; its scenario is
+//!   built, its steps name what exists, and its facts are those that they give, also of a world that is given
+//!   up (`World::facts`: `reached`, `built`, `named`, `of_steps`; `World::scenario`: `built`)
+//! - The views show the machine (`World::facts` and `scenario`: `value`; `mails`; `undelivered_count`: `value`;
+//!   `steps`, `given_up`, `down`, `undelivered`, `is_submitted`; `ending`: `value`)
+//! - The oldest undelivered mail is the first of the undelivered ones, and it was sent (`World::oldest`:
+//!   `value`, `sent`)
+//!
+//! `World::start` asks that the scenario has the built form; `World::step` that the step is a submission, a
+//! delivery, a publication, a push, a tick or a revocation (`built`), and that what it names exists in the
+//! scenario (`ids`).
 #![tactic(auto)]
 
 mod actors;
 mod acts;
-pub mod agree;
 mod error;
 mod history;
-pub mod laws;
 mod part;
 mod world;
 

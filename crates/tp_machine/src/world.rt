@@ -2,13 +2,11 @@
 ghost use Rattle.std.specs.Prelude.{◌≡◌, ◌≢◌, ℕ, ◌==◌, ◌<◌, ◌≤◌, ◌*◌, length, true, false, Some, None, IfOk, IfErr, IfSome, OnOk, OnErr, IsErrOf, IsErr, slice_get};
 ghost use Rattle.std.specs.List.{list_any};
 ghost use Rattle.tp_model.specs.Built as built;
-ghost use Rattle.tp_model.specs.SerialRun.{overlay, store_of};
-ghost use Rattle.tp_model.specs.TrustedHistory.{have_ended};
 ghost use Rattle.tp_machine.specs.declared.error.StepError.{StepError};
-ghost use Rattle.tp_machine.specs.WorldView.{start, IsReached, IsBuiltStep, HasItsFacts, IsTrustedSoFar, Does, Refuses, GivesUp};
+ghost use Rattle.tp_machine.specs.WorldView.{start, IsReached, IsBuiltStep, HasItsFacts, Does, Refuses, GivesUp};
 ghost use Rattle.tp_machine.specs.Machine as machine;
-ghost use Rattle.tp_machine.specs.Bounded.{AreBounded};
-ghost use Rattle.tp_machine.specs.Sound.{Each, IsSound, IsStepOf};
+ghost use Rattle.tp_types.specs.Each.{Each};
+ghost use Rattle.tp_machine.specs.Named.{IsStepOf};
 
 use crate::actors::Actors;
 use crate::acts::{act, is_submitted, refusal};
@@ -19,8 +17,7 @@ use std::marker::Model;
 use tp_types::{Actor, Ending, Fact, List, NoMemory, Scenario, Step, TryClone, TxnId};
 
 /// A scenario's cluster after the steps that were done. Contracts see the scenario, whether the world is given up, and the
-/// machine. Until the world is given up the machine is what the scenario and the steps give, and all that its mails, records
-/// and facts name exists.
+/// machine. Until the world is given up the machine is what the scenario and the steps give.
 #[derive(Drop)]
 pub struct World {
     scenario: Scenario,
@@ -97,18 +94,13 @@ impl World {
         }
     }
 
-    /// What happened so far, in order. It is a trusted history at every moment.
+    /// What happened so far, in order: the facts that the scenario and the steps give.
     pub fn facts(&self) -> &List<Fact>
         ensures value { result.now ≡ self.now.machine.state.facts }
         ensures reached { IsReached self.now }
         ensures named { Each (IsStepOf self.now.scenario) self.now.machine.state.steps }
         ensures of_steps { HasItsFacts self.now }
         ensures built { built.is_built self.now.scenario ≡ true }
-        ensures so_far { self.now.given_up ≡ false → IsTrustedSoFar self.now }
-        ensures sound { self.now.given_up ≡ false
-            → IsSound self.now.scenario self.now.machine.state }
-        ensures bounded { self.now.given_up ≡ false
-            → AreBounded self.now.scenario self.now.machine.state }
     {
         &self.history.facts
     }
@@ -120,11 +112,9 @@ impl World {
         &self.history.steps
     }
 
-    /// The number of mails sent so far: at most 16 times as many as there were steps.
+    /// The number of mails sent so far.
     pub fn mails(&self) -> u64
-        ensures value { result ≡ length self.now.machine.state.mails }
-        ensures few { self.now.given_up ≡ false
-            → result ≤ 16 * length self.now.machine.state.steps }
+        ensures { result ≡ length self.now.machine.state.mails }
     {
         self.history.mails.len() as u64
     }
@@ -161,13 +151,13 @@ impl World {
     /// How many mails are undelivered. It takes a time in the number of all mails.
     pub fn undelivered_count(&self) -> u64
         ensures value { result ≡ length self.now.machine.undelivered }
-        ensures few { self.now.given_up ≡ false
-            → result ≤ 16 * length self.now.machine.state.steps }
+        ensures few { result ≤ length self.now.machine.state.mails }
     {
         self.history.pending_count()
     }
 
     /// The least number of an undelivered mail, or None exactly where there is none.
+    /// The automatic phase asks for it at each step; by `undelivered` alone it would go through all mails.
     pub fn oldest(&self) -> Option<u64>
         ensures value { result ≡ slice_get self.now.machine.undelivered 0 }
         ensures sent { IfSome result (λ mail. mail < length self.now.machine.state.mails) }
@@ -182,17 +172,10 @@ impl World {
         is_submitted(&self.actors, txn)
     }
 
-    /// How many steps and mails there were, and the value of each item: its opening value, overlaid by the commits that its
-    /// server has settled. Where every transaction has ended at all its servers these are the values that all commits leave.
+    /// How many steps and mails there were, and the value of each item at its server.
     pub fn ending(&self, alloc: Global) -> Result<Ending, NoMemory>
         ensures value { IfOk result (λ ending.
             ending ≡ machine.ending_of self.now.scenario self.now.machine.state) }
-        ensures overlaid { IfOk result (λ ending.
-            ending.values ≡ overlay self.now.scenario self.now.machine.state.facts) }
-        ensures whole { IfOk result (λ ending.
-            have_ended self.now.scenario self.now.machine.state.facts 0 self.now.scenario.txns
-            ≡ true
-            → ending.values ≡ store_of self.now.scenario self.now.machine.state.facts) }
         ensures given_up { self.now.given_up ≡ true → IsErr result }
     {
         if self.given_up {

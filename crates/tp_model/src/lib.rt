@@ -1,4 +1,12 @@
 //! The definitions that every layer is judged by, and the plain helpers that compute them.
+//!
+//! What is promised, with the contract that carries it:
+//!
+//! - The helpers compute these definitions (`item_of`, `query_at`, `only`, `servers_of`, `has_query_at`,
+//!   `level_of`, `is_global`, `reads_master`)
+//! - The newest version at a place is computed (`newest_at`, `publications`)
+//! - What a rule is about, what satisfies an atom, and a policy's rule by its number are as these definitions
+//!   say (`matches`, `meets`, `rule_in`)
 #![tactic(auto)]
 
 mod deeds;

@@ -14,6 +14,8 @@ use tp_types::{
 pub const CLOCK_END: u64 = 1 << 63;
 
 /// The authority's state.
+/// It has a place for each credential, and no list: revoking takes no memory, and what is told goes by number,
+/// each once.
 #[derive(Drop)]
 pub struct Authority {
     pub clock: u64,

@@ -10,6 +10,8 @@ use std::alloc::Global;
 use tp_types::Policy;
 
 /// Prints the policy and reads its printed form. Where that is within the limits of a text, it gives the policy again.
+/// That printing and reading go together is a law on two calls, and a law counts only where a public call carries
+/// it.
 pub fn print_and_parse(alloc: Global, policy: &Policy) -> Result<Policy, ParseError>
     requires { IsOfGrammar policy.now }
     ensures answer { IsOutOfMemory result ⊎ Answers (policy_text policy.now) result }

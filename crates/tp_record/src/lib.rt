@@ -1,4 +1,15 @@
 //! The bytes of log records. Each record has one spelling, and no spelling begins another.
+//!
+//! What is promised, with the contract that carries it:
+//!
+//! - A record is written as its spelling, and every record that `encode` was given is in range (`encode`:
+//!   `spelled`, `range`)
+//! - What is found is a record whose spelling the bytes begin with, and the spelling's length (`decode`:
+//!   `found`)
+//! - A record whose spelling the bytes begin with is found, whatever follows; nothing is found exactly where
+//!   there is none (`decode`: `only`, `none`)
+//! - Of records in range whose content is shorter than 2^32 bytes no two have one spelling, and no spelling
+//!   begins another (`one_spelling`)
 #![tactic(auto)]
 
 ghost use Rattle.std.specs.Prelude.{◌≡◌, ◌++◌, ℕ, List, length, Some, IfOk, IfNone, IfSome, OnOk};
@@ -22,6 +33,9 @@ use tp_types::{List, NoMemory, Record, Text};
 
 /// The one spelling of a record. It is meant for records whose spelling has fewer than 2^32 bytes: of a longer one
 /// the length field has the lowest 32 bits, and no reader finds the record again.
+/// It asks nothing of the record, since a log has to tell one that is too long from one that fits, and so spells
+/// it first. Of a record of 2^32 bytes or more a length field or a count has the lowest 32 bits, and no reader
+/// finds it again.
 pub fn encode(alloc: Global, r: &Record) -> Result<Text, NoMemory>
     ensures spelled { IfOk result (λ text. text.0 ≡ spell.spelling r.now) }
     ensures range { OnOk result (IsInRange r.now) }

@@ -16,6 +16,8 @@ use tp_types::{
 };
 
 /// A server of a round.
+/// The place of the reply is empty while it is awaited: a reply that is kept takes no memory, and an update
+/// empties places in place.
 #[derive(Drop)]
 pub struct Target {
     pub server: ServerId,
@@ -24,6 +26,8 @@ pub struct Target {
 }
 
 /// What an update wants of a server that is out of date.
+/// The round keeps what it named for those who ask again, and beside it the targets of all administrators, also
+/// of those of which no server is out of date.
 #[derive(Drop)]
 pub struct Wanted {
     pub server: ServerId,
@@ -133,6 +137,8 @@ impl Round {
     /// The first round over these servers, which are to differ: of one that stands twice two replies are awaited. The room for replies is made
     /// here.
     /// Of rounds that read the master at most `limit` may meet a newer version, from 1 to 16. The level is view consistency so far.
+    /// It has no condition that the servers differ: its result is exact for every list, and a coordinator's
+    /// differ since they stand in order of number.
     pub fn start(
         alloc: Global,
         targets: &[ServerId],
@@ -264,6 +270,8 @@ impl Round {
 
     /// Judges the replies, with the master's reading where the round reads it. After an update the next round has begun, in which
     /// the replies of the named servers are awaited; after another answer, or where memory is refused, the round is as before.
+    /// What earlier rounds met is added to the round only by an update, so judging again, after another answer,
+    /// answers the same.
     pub fn judge(&mut self, alloc: Global, reading: Option<&Reading>) -> Result<Judged, NoMemory>
         ensures answer { IfOk result (λ made.
             made ≡ rule.judge self.old (option_copied reading.entry)) }

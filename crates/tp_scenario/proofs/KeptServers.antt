@@ -23,7 +23,7 @@ use Rattle.tp_scenario.specs.declared.servers.Served.{Served}
 use Rattle.tp_scenario.specs.Admins.{admin_name}
 use Rattle.tp_scenario.specs.Faults.{shape}
 use Rattle.tp_scenario.specs.Names.{Names, place_of}
-use Rattle.tp_scenario.specs.Servers.{ids_from, item_at, item_in, item_name, items_in, key_at, known_at, known_from, knows_at, nothing_served, opening, opening_number, server_in, server_name, servers_at, version_at, with_site}
+use Rattle.tp_scenario.specs.Servers.{ids_from, item_at, item_in, item_name, items_in, key_at, put_known, known_from, knows_at, nothing_served, opening, opening_number, server_in, server_name, servers_at, version_at, with_site}
 use Rattle.tp_scenario.specs.Values.{each, item_count, object_at}
 use Rattle.tp_scenario.proofs.GrowingLists.{all_weaker}
 use Rattle.tp_scenario.proofs.Inverses.{count_ok, each_keeps, each_length, items_ok, named_apart, new_name_ok, ok_same, then_ok, through_count, used_at_ok, whole_ok}
@@ -63,9 +63,9 @@ version_kept server text most d version e =
     not_moved site (Ok given) a h = h
     not_moved site (Err fault) a h = absurd (cc)
 
-known_kept : (admins : List Admin) (server : ℕ) (versions more : List Version) (text : List ℕ) (d : Data) → are_known admins versions ≡ true → known_at admins server versions text d ≡ Ok more
+known_kept : (admins : List Admin) (server : ℕ) (versions more : List Version) (text : List ℕ) (d : Data) → are_known admins versions ≡ true → put_known admins server versions text d ≡ Ok more
     → are_known admins more ≡ true
-unfolding known_at
+unfolding put_known
 known_kept admins server versions more text d known e =
     let place = then_ok (key_at (map admin_name admins) server text) _ _ e in
     let version = then_ok (version_at server text (opening_number admins place.0) d) _ _ place.2 in
@@ -76,7 +76,7 @@ known_from_kept : (admins : List Admin) (server : ℕ) (members : Members) (vers
     → are_known admins knows ≡ true
 known_from_kept admins server no_members versions knows known e = subst (λ (vs : List Version). are_known admins vs ≡ true) (ok_same versions knows e) known
 known_from_kept admins server (member text d members) versions knows known e =
-    let more = then_ok (known_at admins server versions text d) _ knows e in
+    let more = then_ok (put_known admins server versions text d) _ knows e in
     known_from_kept admins server members more.0 knows (known_kept admins server versions more.0 text d known more.1) more.2
 
 knows_kept : (admins : List Admin) (server : ℕ) (value : Option Data) (knows : List Version) → list_all is_valid_admin admins ≡ true → knows_at admins server value ≡ Ok knows → are_known admins knows ≡ true

@@ -45,9 +45,9 @@ key_at admins server text =
     ok_or (place_of text admins) (record { kind = kind.Unknown; site = key_site server text })
 
 -- a key and its value, into the versions so far
-unfoldable pub known_at : List Admin → ℕ → List Version → List ℕ → Data
+unfoldable pub put_known : List Admin → ℕ → List Version → List ℕ → Data
     → Result (List Version) Fault
-known_at admins server versions text d = do
+put_known admins server versions text d = do
   place ← key_at (map admin_name admins) server text
   version ← version_at server text (opening_number admins place) d
   Ok (slice_set versions place version)
@@ -56,7 +56,7 @@ known_at admins server versions text d = do
 abbrev pub known_from : List Admin → ℕ → List Version → Members → Result (List Version) Fault
 known_from admins server versions no_members = Ok versions
 known_from admins server versions (member text d members) =
-    known_at admins server versions text d >>= λ more. known_from admins server more members
+    put_known admins server versions text d >>= λ more. known_from admins server more members
 
 abbrev pub opening : Admin → Version
 opening admin = admin.opening

@@ -153,6 +153,7 @@ pub fn read(alloc: Global, bytes: &[u8]) -> Result<Scenario, ScenarioError>
 
 /// Bytes have at most one answer, and are a text of at most one scenario. What the walk over a JSON value gives keeps every rule of a
 /// scenario, whether it is built or not.
+/// Its body is empty: a law that only a definition states could stay unproved.
 pub fn reading_is_exact()
     ensures answer { HasOneAnswer }
     ensures text { IsTextOfOne }

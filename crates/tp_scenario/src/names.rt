@@ -1,4 +1,6 @@
 //! Names that were declared so far.
+//! The keys are the texts of the JSON itself, so no name is copied but into the scenario. A name is declared
+//! where the walk comes to it; if a later fault ends the walk, the index goes with it.
 ghost use Rattle.std.specs.Prelude.{◌≡◌, ◌<◌, [], length, IfOk, IfSome, OnOk};
 ghost use Rattle.tp_scenario.specs.Names.{is_new, place_of, with_name};
 

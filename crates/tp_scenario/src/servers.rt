@@ -97,8 +97,8 @@ fn opening_of(admins: &[Admin], place: u32) -> u32
 }
 
 /// A key of `knows` and its value, into the versions so far.
-#[tactic(auto, unfolding(crate::specs::Servers::known_at))]
-fn known_at(
+#[tactic(auto, unfolding(crate::specs::Servers::put_known))]
+fn put_known(
     alloc: Global,
     admins: &[Admin],
     names: &Names,
@@ -109,7 +109,7 @@ fn known_at(
 ) -> Result<(), WalkError>
     requires { names.now ≡ map admin_name admins.now }
     ensures { GivesNew result versions.new
-        (servers.known_at admins.now server versions.old key.now (view value.now)) }
+        (servers.put_known admins.now server versions.old key.now (view value.now)) }
 {
     let place = key_at(alloc, names, server, key)?;
     let opening = opening_of(admins, place);
@@ -152,7 +152,7 @@ fn known_from(
     let mut versions = openings_of(alloc, admins)?;
     for entry in entries {
         let (key, value) = *entry;
-        known_at(
+        put_known(
             alloc,
             admins,
             names,

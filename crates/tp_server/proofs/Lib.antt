@@ -1,2 +1,3 @@
 pub mod RightVerdicts
+pub mod Rows
 pub mod Tables

@@ -1,4 +1,11 @@
 //! A server: its state, and what it does on receipt of a mail.
+//!
+//! What is promised, with the contract that carries it:
+//!
+//! - A server does exactly its row on every mail, over any table of locks (`Server::receive`)
+//! - A server begins as defined (`Server::opened`)
+//! - Where a staple's clock and revocations are those of its place in a history, what is evaluated with it is
+//!   right there (`evaluation::evaluations_are_right`)
 #![tactic(auto)]
 
 mod endings;

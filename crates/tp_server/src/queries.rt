@@ -129,7 +129,7 @@ impl<L: LockTable + Drop> Server<L> {
             self.new reaction) }
     {
         let waiting = request.try_clone(alloc)?;
-        let mut entry = self.entry_for(alloc, sent, request);
+        let mut entry = self.take_entry(alloc, sent, request);
         entry.waiting = Some(waiting);
         self.entries.put(request.txn.0 as usize, Some(entry));
         Ok(nothing(alloc))
@@ -149,7 +149,7 @@ impl<L: LockTable + Drop> Server<L> {
             (row.dies self.old request.now (entry_of self.old sent request.now) other)
             self.new reaction) }
     {
-        let mut entry = self.entry_for(alloc, sent, request);
+        let mut entry = self.take_entry(alloc, sent, request);
         let epoch = entry.epoch;
         let noted = entry.answers.push(died(request, epoch, other));
         self.entries.put(request.txn.0 as usize, Some(entry));
@@ -266,7 +266,7 @@ impl<L: LockTable + Drop> Server<L> {
     ) -> Result<u64, NoMemory>
         ensures { IfOk result (λ epoch. IsNoted self.old sent request.now deed self.new epoch) }
     {
-        let mut entry = self.entry_for(alloc, sent, request);
+        let mut entry = self.take_entry(alloc, sent, request);
         let epoch = entry.epoch;
         let noted = adds_run(&mut entry, request, deed);
         self.entries.put(request.txn.0 as usize, Some(entry));
@@ -275,7 +275,7 @@ impl<L: LockTable + Drop> Server<L> {
     }
 
     /// Takes the entry of a transaction, or makes one.
-    fn entry_for(&mut self, alloc: Global, sent: Place, request: &QueryRequest) -> Entry
+    fn take_entry(&mut self, alloc: Global, sent: Place, request: &QueryRequest) -> Entry
         ensures taken { result ≡ entry_of self.old sent request.now }
         ensures left { self.new
             ≡ record self.old { entries = slice_set self.old.entries request.now.txn.0 None } }

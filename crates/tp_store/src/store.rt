@@ -49,6 +49,7 @@ impl Store {
     }
 
     /// The value of each item of the scenario; only the server's own are read or written.
+    /// Ids then need no translation.
     pub fn values(&self) -> &[i128]
         ensures { result.now ≡ self.now.values }
     {
@@ -63,6 +64,7 @@ impl Store {
     }
 
     /// The value of an item that every transaction reads which has not written it; 0 where there is no such item.
+    /// It stands beside `read` for who asks for a value at the end and has no transaction.
     pub fn value(&self, item: ItemId) -> i128
         ensures { result ≡ rule.value_in self.now item }
     {
@@ -103,6 +105,8 @@ impl Store {
 
     /// Keeps a write of a transaction. Of two of its writes of one item the last by query is kept. Where memory is refused
     /// the store stays.
+    /// The allocator is not used, since the lists that grow hold it already; every call that takes memory is
+    /// handed one.
     pub fn write(
         &mut self,
         _alloc: Global,
@@ -123,6 +127,7 @@ impl Store {
 
     /// Among the items whose tentative value is outside their range, the one whose last writing query has the least number:
     /// this number, with the value. None exactly where there is no such item.
+    /// The store knows the ranges of its items, so this needs no scenario.
     pub fn first_outside(&self, txn: TxnId) -> Option<(u32, i128)>
         ensures { result ≡ rule.first_outside_in self.now txn }
     {
@@ -132,6 +137,7 @@ impl Store {
     }
 
     /// Gives the items the values that the transaction has written, and keeps its writes no longer.
+    /// So applying twice changes nothing more, and a later write of another transaction stays.
     pub fn apply(&mut self, txn: TxnId)
         ensures { self.new ≡ rule.after_apply self.old txn }
     {

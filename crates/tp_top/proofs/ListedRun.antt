@@ -13,7 +13,8 @@ use Rattle.tp_model.proofs.RuleLemmas.{stage_built, valid_built}
 use Rattle.tp_machine.specs.declared.error.StepError.{StepError}
 use Rattle.tp_machine.specs.Machine.{Machine, after_steps, machine_after, refusal}
 use Rattle.tp_machine.specs.WorldView.{Does, IsBuiltStep, Refuses, WorldView}
-use Rattle.tp_machine.specs.Sound.{Each, IsStepOf}
+use Rattle.tp_types.specs.Each.{Each}
+use Rattle.tp_machine.specs.Named.{IsStepOf}
 use Rattle.tp_machine.proofs.basics.Machine.{after_steps-snoc}
 use Rattle.tp_top.proofs.AutoLemmas.{after_allowed, drop_more, take_more}
 use Rattle.tp_top.specs.declared.listed.StepRefusal.{StepRefusal}

@@ -11,7 +11,8 @@ use Rattle.tp_top.specs.declared.answer.Answer.TheVariants as answer
 use Rattle.tp_top.specs.Auto.{automatic_from, next_of}
 use Rattle.tp_top.specs.mirrors.Answers.{IsRefusal, IsReported}
 use Rattle.tp_scenario.specs.Reads.{IsOutOfMemory}
-use Rattle.tp_top.specs.Run.{Answers, IsInputRefused, Reads, TakesAll, automatic_bound, after_listed}
+use Rattle.tp_top.specs.Input.{Reads, TakesAll}
+use Rattle.tp_top.specs.Run.{Answers, IsInputRefused, automatic_bound, after_listed}
 
 length-next : (sc : Scenario) (left cursor : ℕ) (m : Machine) (next : Option Step)
     → ((taken : Step) → length (automatic_from sc left cursor (after_step sc m taken)) ≤ left)

@@ -10,9 +10,12 @@ use Rattle.tp_scenario.specs.declared.from_bytes.ScenarioError.{ScenarioError}
 use Rattle.tp_scenario.specs.declared.from_bytes.ScenarioError.TheVariants as error
 use Rattle.tp_top.specs.declared.status.Status.{Status}
 use Rattle.tp_top.specs.declared.status.Status.TheVariants.{Done, Refused, NoMemory, Budget}
+use Rattle.tp_machine.specs.Machine.{ending_of}
 use Rattle.tp_top.specs.Auto.{is_quiet}
+use Rattle.tp_top.specs.Headline.{PrintsTrusted}
 use Rattle.tp_top.specs.Refusals.{refusal_line, step_line}
-use Rattle.tp_top.specs.Run.{HasRefusal, IsInputRefused, AreRefused, Reads, RefusesStep, RunsOut, RunsTo, TakesAll, TakesRefused, final, first_refused}
+use Rattle.tp_top.specs.Input.{AreRefused, Reads, TakesAll}
+use Rattle.tp_top.specs.Run.{HasRefusal, IsInputRefused, RefusesStep, RunsOut, RunsTo, TakesRefused, automatic, final, first_refused}
 use Rattle.tp_top.specs.declared.listed.StepRefusal.{StepRefusal}
 use Rattle.std.proofs.lemmas.Option.{same_Some}
 use Rattle.tp_top.specs.Top.{EndsRightly}
@@ -34,6 +37,23 @@ whole_input input (Some rest) bytes t = sym (t.consumed ∙ (ap (λ left. bytes 
 long_input : (input : List ℕ) (new : Option (List ℕ)) → TakesExactly (input_max + 1) (Some input) new → input_max < length input
 long_input input None t = absurd t.consumed
 long_input input (Some rest) t = omega (arith, t.exact, ap length t.consumed, length-append t.bytes rest)
+
+-- ---- the headline
+
+-- what a run comes to is a trusted history whose steps begin with the listed ones, and its report was written
+pub prints_trusted : (input input' out out' : Option (List ℕ)) (text : List ℕ) → RunsTo input input' text → Appends out out' text → PrintsTrusted input input' out out'
+prints_trusted input input' out out' text r written =
+    record {
+      bytes = r.bytes;
+      scenario = r.scenario;
+      later = automatic r.scenario;
+      facts = (final r.scenario).state.facts;
+      ending = ending_of r.scenario (final r.scenario).state;
+      taken = r.taken;
+      read = r.reads;
+      trusted = r.trusted;
+      written = subst (Appends out out') r.text_is written;
+    }
 
 -- ---- the causes exclude one another
 

@@ -11,12 +11,13 @@ use Rattle.tp_model.specs.Built.{is_built}
 use Rattle.tp_model.specs.TrustedHistory.{TrustedHistory, TrustedSoFar}
 use Rattle.tp_machine.specs.declared.error.StepError.{StepError}
 use Rattle.tp_machine.specs.declared.error.StepError.TheVariants as error
-use Rattle.tp_machine.specs.Laws.{HasAllCommits, IsTrustedState}
+use Rattle.tp_runs.specs.Laws.{HasAllCommits, IsTrustedState}
 use Rattle.tp_machine.specs.Machine.{Machine, Move, State, after, after_step, after_steps, delivery, ending_of, idle_move, is_submitted, machine_after, mails_of, opening, publishes, pushes, refusal, revokes, state_after, submission, ticks, with_new, without_number}
 use Rattle.tp_machine.specs.WorldView.{IsBuiltStep}
-use Rattle.tp_machine.specs.Sound.{Each, IsStepOf, IsTxn}
+use Rattle.tp_types.specs.Each.{Each}
+use Rattle.tp_machine.specs.Named.{IsStepOf, IsTxn}
 use Rattle.tp_machine.proofs.basics.Machine.{steps_next}
-use Rattle.tp_machine.proofs.basics.Lists.{each_append, each_as, each_filter, each_map}
+use Rattle.tp_types.proofs.EachLemmas.{each_append, each_as, each_filter, each_map}
 use Rattle.tp_top.specs.Auto.{automatic_from, lowest_unsubmitted, next_by, next_of, txns_of}
 use Rattle.tp_top.specs.Listed.{refused_from}
 use Rattle.tp_top.specs.Run.{all_steps, automatic, automatic_bound, final, first_refused, after_listed}

@@ -1,4 +1,6 @@
 pub mod Auto
+pub mod Headline
+pub mod Input
 pub mod Listed
 pub mod Refusals
 pub mod ReportText

@@ -1,6 +1,5 @@
 -- What a run is: from bytes to the world after all steps, and its report.
 use Rattle.std.specs.Prelude.{◌≡◌, ◌⊎◌, ℕ, ◌+◌, ◌≤◌, List, [], ◌∷◌, ◌++◌, length, true, false, Option, Some, None, Ok, Err, codes}
-use Rattle.std.specs.Io.KnownBytes.{Consumes, IsAtEnd}
 use Rattle.tp_model.specs.Words.{Scenario, Step, Text}
 use Rattle.tp_types.specs.Faults.{Rose}
 use Rattle.tp_io.specs.Whole.{TakesAtMost, TakesExactly, input_max}
@@ -10,9 +9,9 @@ use Rattle.tp_top.specs.declared.answer.Answer.{Answer}
 use Rattle.tp_top.specs.declared.answer.Answer.TheVariants as answer
 use Rattle.tp_scenario.specs.declared.from_bytes.ScenarioError.{ScenarioError}
 use Rattle.tp_scenario.specs.declared.from_bytes.ScenarioError.TheVariants.{TooLong, BadJson, Shape, Range, Unknown, Policy, NotYet, NoMemory}
-use Rattle.tp_scenario.specs.Reads.{Says}
 use Rattle.tp_top.specs.Auto.{automatic_steps, bound, is_quiet}
 use Rattle.tp_top.specs.declared.listed.StepRefusal.{StepRefusal}
+use Rattle.tp_top.specs.Input.{AreRefused, Reads, TakesAll}
 use Rattle.tp_top.specs.Listed.{refused_from}
 use Rattle.tp_top.specs.Refusals.{refusal_line, step_line}
 use Rattle.tp_top.specs.ReportText.{report_text}
@@ -52,21 +51,6 @@ final sc = after_steps sc (after_listed sc) (automatic sc)
 -- the report of that world
 abbrev pub report_of : Scenario → List ℕ
 report_of sc = report_text sc (final sc).state.facts (ending_of sc (final sc).state)
-
--- ---- what is read
-
--- the bytes are read as this scenario
-abbrev pub Reads : List ℕ → Scenario → Type 0
-Reads bytes scenario = Says bytes (Ok scenario)
-
--- the bytes are refused so
-abbrev pub AreRefused : List ℕ → ScenarioError → Type 0
-AreRefused bytes why = Says bytes (Err why)
-
--- exactly these bytes were consumed, and the input is at its end
-pub record TakesAll (old new : Option (List ℕ)) (bytes : List ℕ) : Type 0 where
-  pub consumed : Consumes old new bytes
-  pub at_end : IsAtEnd new
 
 -- ---- what comes of an input
 

@@ -11,7 +11,8 @@ use Rattle.tp_top.specs.declared.status.Status.TheVariants.{Done, Refused, Usage
 use Rattle.tp_top.specs.declared.listed.StepRefusal.{StepRefusal}
 use Rattle.tp_top.specs.Auto.{is_quiet}
 use Rattle.tp_top.specs.Refusals.{refusal_line, step_line, usage_line}
-use Rattle.tp_top.specs.Run.{IsRun, HasRefusal, AreRefused, Reads, RunsOut, RunsTo, final, first_refused}
+use Rattle.tp_top.specs.Input.{AreRefused, Reads}
+use Rattle.tp_top.specs.Run.{IsRun, HasRefusal, RunsOut, RunsTo, final, first_refused}
 
 -- what a call saw of a stream: what it tells before the call and after it, and its counts of faults
 pub record Stream : Type 0 where

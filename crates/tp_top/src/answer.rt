@@ -7,7 +7,7 @@ ghost use Rattle.tp_model.specs.Commits.{are_lone};
 ghost use Rattle.tp_model.specs.SerialRun.{is_serial};
 ghost use Rattle.tp_model.specs.Trust.{is_trusted};
 ghost use Rattle.tp_io.specs.Whole.{TakesAtMost, input_max};
-ghost use Rattle.tp_machine.specs.Laws.{HasAllCommits, IsTrustedState};
+ghost use Rattle.tp_runs.specs.Laws.{HasAllCommits, IsTrustedState};
 ghost use Rattle.tp_machine.specs.Machine.{ending_of};
 ghost use Rattle.tp_machine.specs.WorldView.{start};
 ghost use Rattle.tp_top.specs.ReportText.{report_text};
@@ -21,11 +21,12 @@ use crate::report::print;
 use std::alloc::Global;
 use tp_io::{ReadError, Source, read_to_end};
 use tp_machine::World;
-use tp_machine::agree::agreed;
+use tp_runs::agree::agreed;
+use tp_runs::data::serial;
+use tp_runs::history::{self, undelivered_count};
+use tp_runs::views::trusted;
 use tp_scenario::{ScenarioError, read};
-use tp_serial::serial;
 use tp_types::{Fact, List, NoMemory, Scenario, Text};
-use tp_views::trusted;
 
 /// What comes of an input.
 #[derive(Drop)]
@@ -127,7 +128,7 @@ fn budget_of(world: &World) -> u64
     requires here { IsListed world.now }
     ensures { result ≡ automatic_bound world.now.scenario }
 {
-    bound(world.scenario(), world.undelivered_count())
+    bound(world.scenario(), undelivered_count(world))
 }
 
 /// The facts of a world, with what is promised of each: they agree, commits are trusted, serial and apart, and aborts have causes.
@@ -141,7 +142,7 @@ fn proved_facts(world: &World) -> &List<Fact>
     ensures so_far { world.now.given_up ≡ false
         → IsTrustedState world.now.scenario world.now.machine.state }
 {
-    let _so_far = world.facts();
+    let _so_far = history::facts(world);
     let _trusted = trusted(world);
     let _serial = serial(world);
     agreed(world)
@@ -155,6 +156,6 @@ fn text_of(alloc: Global, world: &World) -> Result<Text, NoMemory>
     ensures so_far { OnOk result (IsTrustedState world.now.scenario world.now.machine.state) }
     ensures whole { OnOk result (HasAllCommits world.now.scenario world.now.machine.state) }
 {
-    let ending = world.ending(alloc)?;
+    let ending = history::ending(world, alloc)?;
     print(alloc, world.scenario(), proved_facts(world), &ending)
 }

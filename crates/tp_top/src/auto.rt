@@ -3,7 +3,7 @@ ghost use Rattle.std.specs.Prelude.{◌≡◌, ◌≢◌, ◌<◌, ◌≤◌, �
 ghost use Rattle.tp_model.specs.Built as built;
 ghost use Rattle.tp_machine.specs.Machine.{is_submitted, refusal};
 ghost use Rattle.tp_machine.specs.WorldView.{IsBuiltStep};
-ghost use Rattle.tp_machine.specs.Sound.{IsStepOf};
+ghost use Rattle.tp_machine.specs.Named.{IsStepOf};
 ghost use Rattle.tp_top.specs.Auto as automatic;
 ghost use Rattle.tp_top.specs.Auto.{Drains, IsSpent, Stops, is_quiet, lowest_unsubmitted, next_of};
 
@@ -37,6 +37,7 @@ fn lowest_unsubmitted(world: &World) -> Option<TxnId>
 
 /// The next step that comes by itself, or None where the world is quiet: the oldest undelivered mail is delivered, or else
 /// the lowest transaction that is not submitted is submitted. The cursor is where a timer will be looked for first.
+/// It does not use the cursor yet, so that its callers and its contract stay as they are when timers come.
 pub fn next(world: &World, cursor: u32) -> Option<Step>
     ensures value { result ≡ next_of world.now.scenario world.now.machine cursor }
     ensures built { IfSome result IsBuiltStep }

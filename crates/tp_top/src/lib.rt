@@ -1,4 +1,54 @@
 //! The top call of the cluster's program, and what stands directly under it: the listed steps, the automatic phase, and printing reports.
+//!
+//! What is promised, with the contract that carries it:
+//!
+//! - The headline, which names no machine: at Done the input was read whole as a scenario, and exactly the
+//!   report of a trusted history of it, whose steps begin with the listed ones, was written (`tpvc`: `printed`)
+//! - The report's text is exactly the defined one, for any scenario, facts and ending (`report::print`)
+//! - Each status has its number (`Status::number`)
+//! - The next step is the defined one, or None exactly where the world is quiet; it is one that `World::step`
+//!   takes and does not refuse (`auto::next`: `value`, `built`, `ids`, `allowed`)
+//! - A drain does exactly the automatic steps of the world, at most as many as its budget (`auto::drain`:
+//!   `steps`)
+//! - It answers Quiet only where the world is quiet, and Budget only where it did the whole budget and the
+//!   world is not quiet (`auto::drain`: `quiet`, `budget`)
+//! - Where memory is refused the world is given up, after the automatic steps that came before (`auto::drain`:
+//!   `memory`, `stopped`)
+//! - The bound is the defined number, and that of a world after its listed steps is the scenario's
+//!   (`auto::bound`; `answer::budget_of`)
+//! - At Done the words are the one word `run`. Exactly the bytes that were taken from the input, up to its end,
+//!   read as a scenario, the machine refuses none of its listed steps (`first_refused`), and after all steps it
+//!   is quiet. The output has gained exactly the report's text of this machine's facts and ending, and the
+//!   notes have gained nothing. The history that was printed is trusted (`TrustedHistory`): no two actors
+//!   decide a transaction differently, every commit's proofs evaluate true as its scheme demands, every abort
+//!   has its cause, data are those of a serial run, what comes from outside is what the steps say, the printed
+//!   values are those that the servers have settled, and where every transaction has ended those that all
+//!   commits leave (`tpvc`: `ended`: `IsDone`)
+//! - At Refused the notes have gained exactly the line of a refusal, and the output nothing; the cause stands
+//!   in what was taken (`Run.RefusesInput`), or it is the first listed step that the machine refuses, with its
+//!   number and the reason (`Run.RefusesStep`) (`tpvc`: `ended`: `IsRefused`)
+//! - At Usage the words are not the one word `run`, the notes have gained the line on usage, and the output
+//!   nothing (`tpvc`: `ended`: `IsUsage`)
+//! - For words that are not the one word `run` the input stays as it was (`tpvc`: `unread`)
+//! - At every status at most 16,777,217 bytes of the input were taken (`tpvc`: `taken`)
+//! - At ReadFault the input's count of faults rose, what was taken is a front of what it had, and nothing was
+//!   written (`tpvc`: `ended`: `IsReadFault`)
+//! - At WriteFault the count of faults rose of the one sink that the answer is written to; the words, the input
+//!   and the cause are as at Done, Refused or Usage; that sink has gained a front of the very text or line,
+//!   which is not the whole, and the other nothing (`tpvc`: `ended`: `IsOutFault`, `IsRefusalFault`,
+//!   `IsUsageFault`)
+//! - At Budget the bytes read as a scenario whose machine is not quiet after the bound's number of automatic
+//!   steps, and nothing was written (`tpvc`: `ended`: `IsBudget`)
+//! - At NoMemory nothing was written (`tpvc`: `ended`: `IsNoMemory`)
+//! - Where the notes' count of faults did not rise, words that are not `run` are answered by Usage (`tpvc`:
+//!   `called`)
+//! - For the word `run`, an input that tells its bytes, and no count that rose: too many bytes are answered by
+//!   `refused toolong`, any other bytes that are refused by the line of their refusal, with its path, a
+//!   scenario of which a listed step is refused by the line of the first such step, one that comes to rest by
+//!   Done, and one that does not by Budget; or any of them by NoMemory (`Top.EndsRightly`) (`tpvc`: `complete`)
+//!
+//! What a source or sink does not tell is not known: the standard streams of the program tell none of their
+//! bytes, so of them the clauses say nothing.
 #![tactic(auto)]
 
 mod answer;

@@ -1,7 +1,8 @@
 //! The listed steps: they are done in order, until one is refused.
 ghost use Rattle.std.specs.Prelude.{◌≡◌, false, IfOk};
 ghost use Rattle.tp_machine.specs.WorldView.{IsBuiltStep};
-ghost use Rattle.tp_machine.specs.Sound.{Each, IsStepOf};
+ghost use Rattle.tp_types.specs.Each.{Each};
+ghost use Rattle.tp_machine.specs.Named.{IsStepOf};
 ghost use Rattle.tp_top.specs.mirrors.Answers.{Follows};
 
 use std::alloc::Global;

@@ -4,6 +4,7 @@ ghost use Rattle.std.specs.Io.KnownBytes.{Appends};
 ghost use Rattle.tp_types.specs.Faults.{Rose};
 ghost use Rattle.tp_io.specs.Whole.{TakesAtMost, input_max};
 ghost use Rattle.tp_top.specs.declared.status.Status.TheVariants as Status;
+ghost use Rattle.tp_top.specs.Headline.{PrintsTrusted};
 ghost use Rattle.tp_top.specs.Refusals.{usage_line};
 ghost use Rattle.tp_top.specs.Run.{IsRun, HasRefusal, RunsTo};
 ghost use Rattle.tp_top.specs.Top.{EndsWith, EndsRightly};
@@ -24,6 +25,10 @@ pub fn tpvc<I: Source, O: Sink, N: Sink>(
     out: &mut O,
     notes: &mut N,
 ) -> Status
+    ensures printed { result ≡ Status.Done
+        → PrintsTrusted (I.left input.old) (I.left input.new) (O.written out.old) (O.written out.new) }
+
+    // What the call was, by its status.
     ensures ended { EndsWith result (record {
       words = words.now;
       input = record {

@@ -1,3 +1,4 @@
+pub mod Each
 pub mod Effect
 pub mod Faults
 pub mod Spelling

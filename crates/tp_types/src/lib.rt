@@ -1,6 +1,25 @@
 //! The plain types that every layer speaks of: ids, policies, the scenario, log records, mails and facts.
+//!
+//! What is promised, with the contract that carries it:
+//!
+//! - A list has what was put into it, in order; what is not there is answered by None (`List::new`, `from_vec`,
+//!   `into_vec`, `len`, `is_empty`, `as_slice`, `iter`, `get`, `get_mut`, `pop`, `put`, `of_one`, `truncate`,
+//!   each by its clauses)
+//! - A push adds the member at the end; where memory is refused the list stays (`List::push`: `ok`, `err`)
+//! - A copy equals what it copies (`TryClone::try_clone`, which each type of scenarios, records, mails and
+//!   facts has)
+//! - Two answers taken together are both values, or the first failure (`both`: `ok`, `err`)
+//! - Bytes become a name exactly where they are spelled as one, and the name has these bytes (`Name::of`,
+//!   `Name::bytes`: `value`, `spelled`)
+//! - Bytes are read as a number exactly where they spell one, which is below 10^15 (`number_of`: `value`,
+//!   `small`)
+//! - Whether a byte is a letter, a digit or one that a name may go on with, and whether bytes are spelled as a
+//!   name, is answered exactly (`is_letter`, `is_digit`, `is_name_byte`, `is_name`)
+//! - A new table has so many empty places; what stands at a place is taken out of it, and leaves the place
+//!   empty (`none_for_each`; `take_at`: `value`, `left`)
 #![tactic(auto)]
 
+mod counted;
 mod fact;
 mod ids;
 mod list;
@@ -15,6 +34,7 @@ mod scenario;
 mod spelling;
 mod table;
 
+pub use counted::Steps;
 pub use fact::{Ending, Fact, What};
 pub use ids::{AdminId, CredId, ItemId, Place, ServerId, TxnId, Version};
 pub use list::{List, NoMemory, TryClone};

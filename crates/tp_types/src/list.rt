@@ -22,6 +22,7 @@ impl<T: Drop> From<AllocFailed<T>> for NoMemory {
 }
 
 /// A copy that equals the value, or the want of memory for it.
+/// It takes the allocator, since nothing else can hand one to it.
 pub trait TryClone {
     fn try_clone(&self, alloc: Global) -> Result<Self, NoMemory>
         ensures { IfOk result (λ made. made ≡ self.now) };
@@ -62,6 +63,8 @@ impl<T> List<T> {
     }
 
     /// The members of a vector, in their order.
+    /// Beside the basic calls: this takes what an iterator collected, `put` replaces a member without lending it,
+    /// `of_one` makes the list of one member, and `truncate` takes back what was added before memory was refused.
     pub fn from_vec(items: Vec<T>) -> List<T>
         ensures { result ≡ items.items }
     {

@@ -1,7 +1,7 @@
 -- What the helpers of the answer to an input promise to one another.
 use Rattle.std.specs.Prelude.{◌≡◌, List, ℕ, length, true, false, Option, Some, None}
 use Rattle.tp_model.specs.Words.{Scenario, Step}
-use Rattle.tp_machine.specs.Laws.{HasAllCommits, IsTrustedState}
+use Rattle.tp_runs.specs.Laws.{HasAllCommits, IsTrustedState}
 use Rattle.tp_machine.specs.WorldView.{WorldView}
 use Rattle.tp_scenario.specs.declared.from_bytes.ScenarioError.{ScenarioError}
 use Rattle.tp_top.specs.declared.answer.Answer.{Answer}

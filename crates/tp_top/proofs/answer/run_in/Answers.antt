@@ -1,7 +1,8 @@
 use Rattle.std.proofs.Common.{List, sym, subst}
 use Rattle.tp_model.specs.Words.{Step}
 use Rattle.tp_machine.specs.WorldView.{IsBuiltStep, WorldView}
-use Rattle.tp_machine.specs.Sound.{Each, IsStepOf}
+use Rattle.tp_types.specs.Each.{Each}
+use Rattle.tp_machine.specs.Named.{IsStepOf}
 use Rattle.tp_top.proofs.ListedRun.{listed_exist, listed_kinds}
 use Rattle.tp_top.proofs.answer.run_in.Goals as goal
 

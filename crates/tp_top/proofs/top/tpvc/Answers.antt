@@ -1,6 +1,6 @@
 use Rattle.std.proofs.Common.{rules, inl, inr}
 use Rattle.std.proofs.KnownBytes.{Appends-nil}
-use Rattle.tp_top.proofs.TopLemmas.{refusal_complete, report_complete, budget_complete}
+use Rattle.tp_top.proofs.TopLemmas.{budget_complete, prints_trusted, refusal_complete, report_complete}
 use Rattle.tp_top.proofs.top.tpvc.Goals as goal
 
 pub returns-in-Refused-clause-ended : goal.returns-in-Refused-clause-ended
@@ -48,3 +48,6 @@ returns-in-Report-clause-ended g c = inl (record {
   };
   notes_kept = Appends-nil _;
 })
+
+pub returns-in-Ok-write_all-clause-printed : goal.returns-in-Ok-write_all-clause-printed
+returns-in-Ok-write_all-clause-printed g c = λ _. prints_trusted _ _ _ _ _ c.in-Report.ensures.cause (rw c.as_slice.ensures at c.in-Ok-write_all.ensures.whole)

@@ -1,6 +1,6 @@
 use Rattle.std.proofs.Common.{arith}
 use Rattle.tp_model.proofs.RuleLemmas.{few_servers, few_txns, valid_built}
-use Rattle.tp_machine.proofs.basics.World.{machine_opened, world_at_start}
+use Rattle.tp_machine.proofs.basics.Start.{machine_opened, world_at_start}
 use Rattle.tp_machine.proofs.world.World.start.Goals as goal
 
 pub invariant_of-result : goal.invariant_of-result

@@ -1,11 +1,11 @@
 use Rattle.std.proofs.Common.{◌≡◌, [], ◌∷◌, ◌++◌, ap, sym, subst, ◌∙◌}
 use Rattle.tp_machine.specs.Machine.{Machine, after}
 use Rattle.tp_machine.specs.WorldView.{WorldView, machine_of}
-use Rattle.tp_machine.specs.Sound.{Each, IsStepOf}
+use Rattle.tp_types.specs.Each.{Each}
+use Rattle.tp_machine.specs.Named.{IsStepOf}
 use Rattle.tp_machine.proofs.basics.Machine.{reached_next, steps_next}
-use Rattle.tp_machine.proofs.ids.Valid.{few_rules}
-use Rattle.tp_machine.proofs.walks.Runs.{sound_after}
-use Rattle.tp_machine.proofs.basics.Lists.{each_more}
+use Rattle.tp_machine.proofs.basics.Rules.{few_rules}
+use Rattle.tp_types.proofs.EachLemmas.{each_more}
 use Rattle.tp_machine.proofs.world.World.step.Goals as goal
 
 pub invariant_of-self : goal.invariant_of-self
@@ -23,7 +23,6 @@ invariant_of-self c =
       named = named;
       told = ap (λ (m : Machine). m.state.facts) reached;
       reached = λ up. reached;
-      sound = λ up. sound_after sc new.state.steps new c.self.invariant.built named reached;
     }
 
 pub act-requires-clause-few : goal.act-requires-clause-few

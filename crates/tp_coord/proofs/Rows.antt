@@ -1,0 +1,222 @@
+-- A coordinator's rows are walked once: what is shown of each of their outcomes holds of the rows. A new outcome is a field here, and of each
+-- theorem's cases.
+use Rattle.std.proofs.Common.{List, None, Option, Some, [], ap, refl, true, ℕ, ℤ, ◌&&◌, ◌==◌, ◌≡◌}
+use Rattle.std.proofs.lemmas.Bool.{and_parts}
+use Rattle.tp_types.specs.Effect.{Effect, ignores, sends}
+use Rattle.tp_model.specs.Words.actor
+use Rattle.tp_model.specs.Words.answer
+use Rattle.tp_model.specs.Words.body
+use Rattle.tp_model.specs.Words.cause
+use Rattle.tp_model.specs.Words.no
+use Rattle.tp_model.specs.Words.vote
+use Rattle.tp_model.specs.Words.{AckReply, Actor, Answer, Body, DoneReply, Mail, No, Outcome, Query, Scenario, ServerId, Staple, TellReply, TxnId, Verdict, Vote, VoteReply}
+use Rattle.tp_types.proofs.EachLemmas.{by_cond}
+use Rattle.tp_coord.specs.Row.{aborts, ack_from, asks, asks_next, awaits_query, awaits_vote, begins, commit_round, commits, coordinator_row, denied_by, died_for, home_of, is_from, is_plain, next_number, on_ack, on_answer, on_body, on_done_from, on_done_of_query, on_judged, on_no, on_staple, on_vote, on_vote_of, prepares, own_query, refused_by, sends_query, server_of, staple_of, submit_row, vote_at, with_deed, without}
+use Rattle.tp_coord.specs.State.{Coordinator}
+use Rattle.tp_coord.specs.declared.coordinator.Phase.TheVariants as phase
+use Rattle.tp_coord.specs.declared.coordinator.Phase.{Phase}
+use Rattle.tp_round.proofs.SpentLemmas.{unread_unspent}
+use Rattle.tp_round.specs.Judge.{after_judgement, after_reply, is_awaited, judge}
+use Rattle.tp_round.specs.Replies.{by_query, proofs_in}
+use Rattle.tp_round.specs.declared.round.Judged.TheVariants as judged
+use Rattle.tp_round.specs.declared.round.Judged.{Judged}
+use Rattle.tp_round.specs.declared.round.Round.{Round}
+use Rattle.tp_round.specs.declared.round.Wanted.{Wanted}
+
+-- ---- outcomes of a receipt
+
+-- the awaited answer to a query, which ran
+pub record IsRanAnswer (sc : Scenario) (c : Coordinator) (mail : Mail) (done : DoneReply) (server : ServerId) (asked : Query) (value : ℤ) : Type 0 where
+  pub said_is : mail.letter.body ≡ body.Done done
+  pub from_is : is_from mail.letter.from server ≡ true
+  pub awaited : awaits_query c c.phase done ≡ true
+  pub plain : is_plain c.phase ≡ true
+  pub asked_is : own_query sc c done.query ≡ Some asked
+  pub server_is : server_of sc asked ≡ Some server
+  pub answer_is : done.answer ≡ answer.Ran value None
+
+-- the awaited answer to a query in whose way an older transaction stood
+pub record IsDiedAnswer (sc : Scenario) (c : Coordinator) (mail : Mail) (done : DoneReply) (server : ServerId) (asked : Query) (other : TxnId) : Type 0 where
+  pub said_is : mail.letter.body ≡ body.Done done
+  pub from_is : is_from mail.letter.from server ≡ true
+  pub awaited : awaits_query c c.phase done ≡ true
+  pub plain : is_plain c.phase ≡ true
+  pub asked_is : own_query sc c done.query ≡ Some asked
+  pub server_is : server_of sc asked ≡ Some server
+  pub answer_is : done.answer ≡ answer.Died other
+
+-- the awaited answer of the authority, before a round
+pub record IsStaple (c : Coordinator) (mail : Mail) (tell : TellReply) (round : Round) : Type 0 where
+  pub said_is : mail.letter.body ≡ body.Tell tell
+  pub present : (tell.turn == c.turn) ≡ true
+  pub asking : c.phase ≡ phase.Asking round
+
+-- an awaited vote YES
+pub record IsYes (c : Coordinator) (mail : Mail) (reply : VoteReply) (round : Round) (staple : Staple) (server : ServerId) (verdicts : List Verdict) : Type 0 where
+  pub said_is : mail.letter.body ≡ body.Vote reply
+  pub from_is : mail.letter.from ≡ actor.Server server
+  pub present : (reply.turn == c.turn) ≡ true
+  pub checking : c.phase ≡ phase.Checking round staple
+  pub awaited : is_awaited round.targets server ≡ true
+  pub vote_is : reply.vote ≡ vote.Yes verdicts
+
+-- an awaited vote NO, for a value outside its range
+pub record IsNo (c : Coordinator) (mail : Mail) (reply : VoteReply) (round : Round) (staple : Staple) (server : ServerId) (number : ℕ) (value : ℤ) : Type 0 where
+  pub said_is : mail.letter.body ≡ body.Vote reply
+  pub from_is : mail.letter.from ≡ actor.Server server
+  pub present : (reply.turn == c.turn) ≡ true
+  pub checking : c.phase ≡ phase.Checking round staple
+  pub awaited : is_awaited round.targets server ≡ true
+  pub vote_is : reply.vote ≡ vote.No (no.Range number value)
+
+-- an acknowledgement of what was decided
+pub record IsAck (c : Coordinator) (mail : Mail) (ack : AckReply) (ended : Outcome) (awaited : List ServerId) (server : ServerId) : Type 0 where
+  pub said_is : mail.letter.body ≡ body.Ack ack
+  pub from_is : mail.letter.from ≡ actor.Server server
+  pub ending : c.phase ≡ phase.Ending ended awaited
+
+-- what is to be shown of the outcomes of a receipt: P of the effect
+pub record CoordinatorCases (sc : Scenario) (c : Coordinator) (mail : Mail) (P : Effect Coordinator → Type 0) : Type 0 where
+  pub ignored : P (ignores c)
+  pub ran_next : (done : DoneReply) (server : ServerId) (asked : Query) (value : ℤ) (next : ServerId) → IsRanAnswer sc c mail done server asked value → home_of sc c (next_number done.query) ≡ Some next
+      → P (sends_query sc (with_deed c server done asked value) (next_number done.query) next)
+  pub ran_last : (done : DoneReply) (server : ServerId) (asked : Query) (value : ℤ) → IsRanAnswer sc c mail done server asked value → home_of sc c (next_number done.query) ≡ None
+      → P (asks (with_deed c server done asked value) (commit_round (with_deed c server done asked value)))
+  pub died : (done : DoneReply) (server : ServerId) (asked : Query) (other : TxnId) → IsDiedAnswer sc c mail done server asked other → P (aborts c (cause.Died (died_for server done other mail.sent)))
+  pub told : (tell : TellReply) (round : Round) → IsStaple c mail tell round → P (prepares c round (staple_of tell mail.sent))
+  pub counted : (reply : VoteReply) (round : Round) (staple : Staple) (server : ServerId) (verdicts : List Verdict) → IsYes c mail reply round staple server verdicts
+      → judge (after_reply round server verdicts) None ≡ judged.Waiting → P (sends (record c { phase = phase.Checking (after_reply round server verdicts) staple }) [])
+  pub committed : (reply : VoteReply) (round : Round) (staple : Staple) (server : ServerId) (verdicts : List Verdict) → IsYes c mail reply round staple server verdicts
+      → judge (after_reply round server verdicts) None ≡ judged.AllTrue → P (commits c round.number (by_query (proofs_in (after_reply round server verdicts).targets)))
+  pub denied : (reply : VoteReply) (round : Round) (staple : Staple) (server : ServerId) (verdicts : List Verdict) (verdict : Verdict) → IsYes c mail reply round staple server verdicts
+      → judge (after_reply round server verdicts) None ≡ judged.False verdict → P (aborts c (cause.Denied (denied_by verdict)))
+  pub updated : (reply : VoteReply) (round : Round) (staple : Staple) (server : ServerId) (verdicts : List Verdict) (named : List Wanted) → IsYes c mail reply round staple server verdicts
+      → judge (after_reply round server verdicts) None ≡ judged.Update named → P (asks c (after_judgement (after_reply round server verdicts) None))
+  pub refused : (reply : VoteReply) (round : Round) (staple : Staple) (server : ServerId) (number : ℕ) (value : ℤ) → IsNo c mail reply round staple server number value
+      → P (aborts c (cause.No (refused_by server number value)))
+  pub acknowledged : (ack : AckReply) (ended : Outcome) (awaited : List ServerId) (server : ServerId) → IsAck c mail ack ended awaited server
+      → P (sends (record c { phase = phase.Ending ended (without awaited server) }) [])
+
+-- ---- Done
+
+next_by : (sc : Scenario) (c : Coordinator) (mail : Mail) (P : Effect Coordinator → Type 0) → CoordinatorCases sc c mail P → (done : DoneReply) (server : ServerId) (asked : Query) (value : ℤ) (next : Option ServerId)
+    → IsRanAnswer sc c mail done server asked value → home_of sc c (next_number done.query) ≡ next → P (asks_next sc (with_deed c server done asked value) (next_number done.query) next)
+next_by sc c mail P cases done server asked value None k e = cases.ran_last done server asked value k e
+next_by sc c mail P cases done server asked value (Some next) k e = cases.ran_next done server asked value next k e
+
+on_answer_by : (sc : Scenario) (c : Coordinator) (mail : Mail) (P : Effect Coordinator → Type 0) → CoordinatorCases sc c mail P → (done : DoneReply) (server : ServerId) (asked : Query) (given : Answer)
+    → ((value : ℤ) → given ≡ answer.Ran value None → IsRanAnswer sc c mail done server asked value) → ((other : TxnId) → given ≡ answer.Died other → IsDiedAnswer sc c mail done server asked other)
+    → P (on_answer sc c (record { sent = mail.sent; server = server; done = done; query = asked }) given)
+on_answer_by sc c mail P cases done server asked (answer.Ran value None) ran died =
+    next_by sc c mail P cases done server asked value (home_of sc c (next_number done.query)) (ran value refl) refl
+on_answer_by sc c mail P cases done server asked (answer.Died other) ran died = cases.died done server asked other (died other refl)
+on_answer_by sc c mail P cases done server asked _ ran died = cases.ignored
+
+on_done_from_by : (sc : Scenario) (c : Coordinator) (mail : Mail) (P : Effect Coordinator → Type 0) → CoordinatorCases sc c mail P → (done : DoneReply) (asked : Query) (server : Option ServerId)
+    → mail.letter.body ≡ body.Done done → awaits_query c c.phase done ≡ true → is_plain c.phase ≡ true → own_query sc c done.query ≡ Some asked → server_of sc asked ≡ server
+    → P (on_done_from sc c mail.sent mail.letter.from done asked server)
+on_done_from_by sc c mail P cases done asked None e awaited plain asked_is server_is = cases.ignored
+on_done_from_by sc c mail P cases done asked (Some server) e awaited plain asked_is server_is =
+    by_cond P (is_from mail.letter.from server)
+    (λ from. on_answer_by sc c mail P cases done server asked done.answer
+    (λ value given. record { said_is = e; from_is = from; awaited = awaited; plain = plain; asked_is = asked_is; server_is = server_is; answer_is = given })
+    (λ other given. record { said_is = e; from_is = from; awaited = awaited; plain = plain; asked_is = asked_is; server_is = server_is; answer_is = given }))
+    (λ other. cases.ignored)
+
+asked_by : (sc : Scenario) (c : Coordinator) (mail : Mail) (P : Effect Coordinator → Type 0) → CoordinatorCases sc c mail P → (done : DoneReply) (asked : Option Query)
+    → mail.letter.body ≡ body.Done done → awaits_query c c.phase done ≡ true → is_plain c.phase ≡ true → own_query sc c done.query ≡ asked → P (on_done_of_query sc c mail.sent mail.letter.from done asked)
+asked_by sc c mail P cases done None e awaited plain asked_is = cases.ignored
+asked_by sc c mail P cases done (Some asked) e awaited plain asked_is = on_done_from_by sc c mail P cases done asked (server_of sc asked) e awaited plain asked_is refl
+
+-- ---- Tell
+
+on_staple_by : (sc : Scenario) (c : Coordinator) (mail : Mail) (P : Effect Coordinator → Type 0) → CoordinatorCases sc c mail P → (tell : TellReply) (awaited : Phase) → mail.letter.body ≡ body.Tell tell
+    → (tell.turn == c.turn) ≡ true → c.phase ≡ awaited → P (on_staple c awaited (staple_of tell mail.sent))
+on_staple_by sc c mail P cases tell (phase.Asking round) e present asking =
+    cases.told tell round (record { said_is = e; present = present; asking = asking })
+on_staple_by sc c mail P cases tell _ e present asking = cases.ignored
+
+-- ---- Vote
+
+judged_by : (sc : Scenario) (c : Coordinator) (mail : Mail) (P : Effect Coordinator → Type 0) → CoordinatorCases sc c mail P → (reply : VoteReply) (round : Round) (staple : Staple) (server : ServerId)
+    (verdicts : List Verdict) (answer_is : Judged) → IsYes c mail reply round staple server verdicts → judge (after_reply round server verdicts) None ≡ answer_is
+    → P (on_judged c (after_reply round server verdicts) staple answer_is)
+judged_by sc c mail P cases reply round staple server verdicts judged.Waiting y e = cases.counted reply round staple server verdicts y e
+judged_by sc c mail P cases reply round staple server verdicts judged.AllTrue y e = cases.committed reply round staple server verdicts y e
+judged_by sc c mail P cases reply round staple server verdicts (judged.False verdict) y e = cases.denied reply round staple server verdicts verdict y e
+judged_by sc c mail P cases reply round staple server verdicts (judged.Spent mets) y e = absurd (unread_unspent (after_reply round server verdicts) mets e)
+judged_by sc c mail P cases reply round staple server verdicts (judged.Update named) y e = cases.updated reply round staple server verdicts named y e
+
+on_no_by : (sc : Scenario) (c : Coordinator) (mail : Mail) (P : Effect Coordinator → Type 0) → CoordinatorCases sc c mail P → (reply : VoteReply) (round : Round) (staple : Staple) (server : ServerId) (why : No)
+    → ((number : ℕ) (value : ℤ) → why ≡ no.Range number value → IsNo c mail reply round staple server number value) → P (on_no c server why)
+on_no_by sc c mail P cases reply round staple server (no.Range number value) n = cases.refused reply round staple server number value (n number value refl)
+on_no_by sc c mail P cases reply round staple server no.Restarted n = cases.ignored
+
+on_vote_of_by : (sc : Scenario) (c : Coordinator) (mail : Mail) (P : Effect Coordinator → Type 0) → CoordinatorCases sc c mail P → (reply : VoteReply) (round : Round) (staple : Staple) (server : ServerId) (said : Vote)
+    → ((verdicts : List Verdict) → said ≡ vote.Yes verdicts → IsYes c mail reply round staple server verdicts)
+    → ((number : ℕ) (value : ℤ) → said ≡ vote.No (no.Range number value) → IsNo c mail reply round staple server number value) → P (on_vote_of c round staple server said)
+on_vote_of_by sc c mail P cases reply round staple server (vote.Yes verdicts) y n =
+    judged_by sc c mail P cases reply round staple server verdicts (judge (after_reply round server verdicts) None) (y verdicts refl) refl
+on_vote_of_by sc c mail P cases reply round staple server (vote.No why) y n =
+    on_no_by sc c mail P cases reply round staple server why (λ number value e. n number value (ap (λ (w : No). vote.No w) e))
+
+vote_by_phase : (sc : Scenario) (c : Coordinator) (mail : Mail) (P : Effect Coordinator → Type 0) → CoordinatorCases sc c mail P → (reply : VoteReply) (awaited : Phase) (server : ServerId)
+    → mail.letter.body ≡ body.Vote reply → mail.letter.from ≡ actor.Server server → (reply.turn == c.turn) ≡ true → c.phase ≡ awaited → awaits_vote awaited server ≡ true
+    → P (vote_at c awaited server reply.vote)
+vote_by_phase sc c mail P cases reply (phase.Checking round staple) server e from present checking is_awaited_here =
+    on_vote_of_by sc c mail P cases reply round staple server reply.vote
+    (λ verdicts yes_is. record { said_is = e; from_is = from; present = present; checking = checking; awaited = is_awaited_here; vote_is = yes_is })
+    (λ number value no_is. record { said_is = e; from_is = from; present = present; checking = checking; awaited = is_awaited_here; vote_is = no_is })
+vote_by_phase sc c mail P cases reply _ server e from present checking is_awaited_here = cases.ignored
+
+vote_by_sender : (sc : Scenario) (c : Coordinator) (mail : Mail) (P : Effect Coordinator → Type 0) → CoordinatorCases sc c mail P → (reply : VoteReply) (from : Actor)
+    → mail.letter.body ≡ body.Vote reply → mail.letter.from ≡ from → P (on_vote c c.phase from reply)
+vote_by_sender sc c mail P cases reply (actor.Server server) e from =
+    by_cond P ((reply.turn == c.turn) && awaits_vote c.phase server)
+    (λ now. let parts = and_parts (reply.turn == c.turn) (awaits_vote c.phase server) now in vote_by_phase sc c mail P cases reply c.phase server e from parts.0 refl parts.1)
+    (λ other. cases.ignored)
+vote_by_sender sc c mail P cases reply _ e from = cases.ignored
+
+-- ---- Ack
+
+ack_by_sender : (sc : Scenario) (c : Coordinator) (mail : Mail) (P : Effect Coordinator → Type 0) → CoordinatorCases sc c mail P → (ack : AckReply) (ended : Outcome) (awaited : List ServerId) (from : Actor)
+    → mail.letter.body ≡ body.Ack ack → mail.letter.from ≡ from → c.phase ≡ phase.Ending ended awaited → P (ack_from c ended awaited from)
+ack_by_sender sc c mail P cases ack ended awaited (actor.Server server) e from ending = cases.acknowledged ack ended awaited server (record { said_is = e; from_is = from; ending = ending })
+ack_by_sender sc c mail P cases ack ended awaited _ e from ending = cases.ignored
+
+ack_by_phase : (sc : Scenario) (c : Coordinator) (mail : Mail) (P : Effect Coordinator → Type 0) → CoordinatorCases sc c mail P → (ack : AckReply) (awaited : Phase)
+    → mail.letter.body ≡ body.Ack ack → c.phase ≡ awaited → P (on_ack c awaited mail.letter.from)
+ack_by_phase sc c mail P cases ack (phase.Ending ended awaited) e ending = ack_by_sender sc c mail P cases ack ended awaited mail.letter.from e refl ending
+ack_by_phase sc c mail P cases ack _ e ending = cases.ignored
+
+-- ---- all mails
+
+said_by : (sc : Scenario) (c : Coordinator) (mail : Mail) (P : Effect Coordinator → Type 0) → CoordinatorCases sc c mail P → (said : Body) → mail.letter.body ≡ said
+    → P (on_body sc c mail.sent mail.letter.from said)
+said_by sc c mail P cases (body.Done done) e =
+    by_cond P (awaits_query c c.phase done)
+    (λ awaited. by_cond P (is_plain c.phase) (λ plain. asked_by sc c mail P cases done (own_query sc c done.query) e awaited plain refl) (λ stapled. cases.ignored))
+    (λ other. cases.ignored)
+said_by sc c mail P cases (body.Tell tell) e =
+    by_cond P (tell.turn == c.turn) (λ present. on_staple_by sc c mail P cases tell c.phase e present refl) (λ late. cases.ignored)
+said_by sc c mail P cases (body.Vote reply) e = vote_by_sender sc c mail P cases reply mail.letter.from e refl
+said_by sc c mail P cases (body.Ack ack) e = ack_by_phase sc c mail P cases ack c.phase e refl
+said_by sc c mail P cases _ e = cases.ignored
+
+-- what is shown of each outcome holds of the row
+pub coordinator_by : (sc : Scenario) (c : Coordinator) (mail : Mail) (P : Effect Coordinator → Type 0) → CoordinatorCases sc c mail P → P (coordinator_row sc c mail)
+coordinator_by sc c mail P cases = said_by sc c mail P cases mail.letter.body refl
+
+-- ---- submission
+
+-- what is to be shown of the outcomes of a submission
+pub record SubmitCases (sc : Scenario) (c : Coordinator) (P : Effect Coordinator → Type 0) : Type 0 where
+  pub ignored : P (ignores c)
+  pub sent : (server : ServerId) → home_of sc c 1 ≡ Some server → P (sends_query sc c 1 server)
+
+begins_by : (sc : Scenario) (c : Coordinator) (P : Effect Coordinator → Type 0) → SubmitCases sc c P → (server : Option ServerId) → home_of sc c 1 ≡ server → P (begins sc c server)
+begins_by sc c P cases None e = cases.ignored
+begins_by sc c P cases (Some server) e = cases.sent server e
+
+pub submit_by : (sc : Scenario) (c : Coordinator) (P : Effect Coordinator → Type 0) → SubmitCases sc c P → P (submit_row sc c)
+submit_by sc c P cases = begins_by sc c P cases (home_of sc c 1) refl

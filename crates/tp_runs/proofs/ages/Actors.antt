@@ -1,0 +1,173 @@
+-- Ages, the rows: a server keeps for a transaction the age that a request told, or the place at which the request was sent, and a
+-- coordinator its own. A says which places are the submissions of which transactions.
+use Rattle.std.proofs.Common.{IfSome, List, None, Option, Some, [], is_some, map, refl, subst, sym, true, unwrap_or, ℕ, ℤ, ⊎_elim, ◌∷◌, ◌≡◌}
+use Rattle.tp_types.specs.Effect.{Effect, ignores}
+use Rattle.tp_model.specs.Words.body
+use Rattle.tp_model.specs.Words.outcome
+use Rattle.tp_model.specs.Words.{Body, Letter, Mail, Outcome, Prepared, Query, QueryRequest, Record, Scenario, ServerId, Staple, TxnId}
+use Rattle.tp_types.proofs.EachLemmas.{each_more, placed_emptied, placed_set}
+use Rattle.tp_runs.proofs.basics.Logs.{Prepares}
+use Rattle.tp_runs.proofs.basics.Phases.{is_querying, querying_is}
+use Rattle.tp_coord.proofs.Rows.{coordinator_by, submit_by}
+use Rattle.tp_server.proofs.Rows.{AreRightWaits, IsAsking, IsFirstHere, IsFurther, server_by}
+use Rattle.tp_machine.specs.Machine.{with_age}
+use Rattle.tp_model.specs.Deeds.{deed_of}
+use Rattle.tp_types.specs.Each.{Each, EachPlaced}
+use Rattle.tp_coord.specs.Row as coord
+use Rattle.tp_round.specs.declared.round.Round.{Round}
+use Rattle.tp_coord.specs.State.{Coordinator}
+use Rattle.tp_server.specs.declared.server.Entry.{Entry}
+use Rattle.tp_server.specs.Row as server
+use Rattle.tp_server.specs.State.{Server}
+
+-- ---- what is said of ages
+
+-- a query tells its transaction's age, or is sent at that place
+abbrev pub BodyAged : (TxnId → ℕ → Type 0) → ℕ → Body → Type 0
+BodyAged A sent (body.Query q) = A q.txn (server.age_of q sent)
+BodyAged A sent _ = Unit {0}
+
+abbrev pub LetterAged : (TxnId → ℕ → Type 0) → ℕ → Letter → Type 0
+LetterAged A sent letter = BodyAged A sent letter.body
+
+-- an entry has its transaction's age
+abbrev pub EntryAged : (TxnId → ℕ → Type 0) → ℕ → Entry → Type 0
+EntryAged A n entry = A (record { 0 = n }) entry.age
+
+-- and so has what is prepared
+abbrev pub PreparedAged : (TxnId → ℕ → Type 0) → TxnId → Prepared → Type 0
+PreparedAged A txn p = A txn p.age
+
+abbrev pub RecordAged : (TxnId → ℕ → Type 0) → Record → Type 0
+RecordAged A kept = Prepares (PreparedAged A) kept
+
+-- an act of a server in a step at this place
+pub record ServerAges (A : TxnId → ℕ → Type 0) (place : ℕ) (effect : Effect Server) : Type 0 where
+  pub entries : EachPlaced (EntryAged A) effect.state.entries
+  pub forces : IfSome effect.reaction.append (RecordAged A)
+  pub letters : Each (LetterAged A place) effect.reaction.letters
+
+-- where a coordinator knows an age; one that awaits the answer to a query knows it
+pub record CoordinatorAged (A : TxnId → ℕ → Type 0) (c : Coordinator) : Type 0 where
+  pub age : IfSome c.age (A c.txn)
+  pub known : is_querying c.phase ≡ true → is_some c.age ≡ true
+
+-- an act of a coordinator: it keeps its age
+pub record CoordinatorAges (A : TxnId → ℕ → Type 0) (place : ℕ) (c : Coordinator) (effect : Effect Coordinator) : Type 0 where
+  pub same_age : effect.state.age ≡ c.age
+  pub known : is_querying effect.state.phase ≡ true → is_some c.age ≡ true
+  pub same_txn : effect.state.txn ≡ c.txn
+  pub letters : Each (LetterAged A place) effect.reaction.letters
+
+-- ---- a server's rows
+
+ignores_ages : (A : TxnId → ℕ → Type 0) (place : ℕ) (s : Server) → EachPlaced (EntryAged A) s.entries → ServerAges A place (ignores s)
+ignores_ages A place s h = record { entries = h; forces = tt; letters = tt }
+
+-- a query asks for its lock at an entry of its transaction's age
+pub ran_age : (A : TxnId → ℕ → Type 0) (sc : Scenario) (s : Server) (mail : Mail) (q : QueryRequest) (query : Query) (entry : Entry) (value : ℤ) → EachPlaced (EntryAged A) s.entries → BodyAged A mail.sent mail.letter.body
+    → IsAsking sc s mail q query entry value → A q.txn entry.age
+ran_age A sc s mail q query entry value h m k =
+    ⊎_elim (λ (first : IsFirstHere s mail.sent q entry). subst (λ (e : Entry). A q.txn e.age) (sym first.entry_is) (subst (BodyAged A mail.sent) k.said_is m))
+    (λ (further : IsFurther s q entry). h q.txn.0 entry further.found) k.place
+
+-- every row of a server on receipt of a mail
+pub server_row_ages : (A : TxnId → ℕ → Type 0) (place : ℕ) (sc : Scenario) (s : Server) (mail : Mail) → AreRightWaits sc s → EachPlaced (EntryAged A) s.entries → BodyAged A mail.sent mail.letter.body
+    → ServerAges A place (server.server_row sc s mail)
+server_row_ages A place sc s mail waits h m =
+    server_by sc s mail (ServerAges A place) waits
+    (record {
+      relocked = λ effect locks k. record { entries = k.entries; forces = k.forces; letters = k.letters };
+      ignored = ignores_ages A place s h;
+      ran = λ q query entry value k.
+          record {
+            entries = placed_set (EntryAged A) s.entries q.txn.0 (server.entry_after q entry (deed_of q.query query value)) h (ran_age A sc s mail q query entry value h m k);
+            forces = tt;
+            letters = (tt, tt);
+          };
+      waited = λ q query entry value k. record { entries = placed_set (EntryAged A) s.entries q.txn.0 _ h (ran_age A sc s mail q query entry value h m k); forces = tt; letters = tt };
+      died = λ q query entry value other k dying. record { entries = placed_set (EntryAged A) s.entries q.txn.0 _ h (ran_age A sc s mail q query entry value h m k); forces = tt; letters = (tt, tt) };
+      restarted = λ q k. record { entries = h; forces = tt; letters = (tt, tt) };
+      answered = λ q entry given k. record { entries = h; forces = tt; letters = (tt, tt) };
+      voted = λ p entry staple txn k.
+          let old : A p.txn entry.age = h p.txn.0 entry k.found in
+          record { entries = placed_set (EntryAged A) s.entries p.txn.0 _ h old; forces = old; letters = (tt, tt) };
+      voted_again = λ p entry cast k. record { entries = h; forces = tt; letters = (tt, tt) };
+      refused = λ p entry number value k. record { entries = placed_emptied (EntryAged A) s.entries p.txn.0 h; forces = tt; letters = (tt, tt) };
+      refused_again = λ p settled why k. record { entries = h; forces = tt; letters = (tt, tt) };
+      settled = λ d k. record { entries = placed_emptied (EntryAged A) s.entries d.txn.0 h; forces = tt; letters = (tt, tt) };
+      acknowledged = λ d settled k. record { entries = h; forces = tt; letters = (tt, tt) };
+      pushed = λ push k. record { entries = h; forces = tt; letters = tt };
+      resumed = λ effect grant q query entry value k now.
+          record {
+            entries = placed_set (EntryAged A) effect.state.entries q.txn.0 _ now.entries (now.entries q.txn.0 entry k.found);
+            forces = now.forces;
+            letters = each_more (LetterAged A place) effect.reaction.letters _ now.letters tt;
+          };
+    })
+
+-- ---- a coordinator's rows
+
+still_ages : (A : TxnId → ℕ → Type 0) (place : ℕ) (c : Coordinator) → CoordinatorAged A c → CoordinatorAges A place c (ignores c)
+still_ages A place c h = record { same_age = refl; known = h.known; same_txn = refl; letters = tt }
+
+-- a query tells the age, where it is known
+told_age : (A : TxnId → ℕ → Type 0) (txn : TxnId) (age : Option ℕ) (place : ℕ) → is_some age ≡ true → IfSome age (A txn) → A txn (unwrap_or age place)
+told_age A txn None place e h = absurd (cc)
+told_age A txn (Some old) place e h = h
+
+prepare_letters_aged : (A : TxnId → ℕ → Type 0) (place : ℕ) (c : Coordinator) (round : Round) (staple : Staple) (servers : List ServerId) → Each (LetterAged A place) (map (coord.prepare_letter c round staple) servers)
+prepare_letters_aged A place c round staple [] = tt
+prepare_letters_aged A place c round staple (at ∷ servers) = (tt, prepare_letters_aged A place c round staple servers)
+
+orders_aged : (A : TxnId → ℕ → Type 0) (place : ℕ) (c : Coordinator) (ended : Outcome) (servers : List ServerId)
+    → Each (LetterAged A place) (map (λ (at : ServerId). coord.request c at (body.Decide (record { txn = c.txn; outcome = ended }))) servers)
+orders_aged A place c ended [] = tt
+orders_aged A place c ended (at ∷ servers) = (tt, orders_aged A place c ended servers)
+
+-- every row of a coordinator on receipt of a mail
+pub coordinator_row_ages : (A : TxnId → ℕ → Type 0) (place : ℕ) (sc : Scenario) (c : Coordinator) (mail : Mail) → CoordinatorAged A c → CoordinatorAges A place c (coord.coordinator_row sc c mail)
+coordinator_row_ages A place sc c mail h =
+    coordinator_by sc c mail (CoordinatorAges A place c)
+    (record {
+      ignored = still_ages A place c h;
+      ran_next = λ done server asked value next k home.
+          let known = h.known (querying_is c c.phase done k.awaited) in
+          record { same_age = refl; known = λ querying. known; same_txn = refl; letters = (told_age A c.txn c.age place known h.age, tt) };
+      ran_last = λ done server asked value k none. record { same_age = refl; known = λ querying. absurd (cc); same_txn = refl; letters = (tt, tt) };
+      died = λ done server asked other k.
+          record { same_age = refl; known = λ querying. absurd (cc); same_txn = refl; letters = orders_aged A place c outcome.Abort c.servers };
+      told = λ tell round k.
+          record { same_age = refl; known = λ querying. absurd (cc); same_txn = refl; letters = prepare_letters_aged A place c round (coord.staple_of tell mail.sent) (coord.awaited_in round) };
+      counted = λ reply round staple server verdicts y e. record { same_age = refl; known = λ querying. absurd (cc); same_txn = refl; letters = tt };
+      committed = λ reply round staple server verdicts y e.
+          record { same_age = refl; known = λ querying. absurd (cc); same_txn = refl; letters = orders_aged A place c outcome.Commit c.servers };
+      denied = λ reply round staple server verdicts verdict y e.
+          record { same_age = refl; known = λ querying. absurd (cc); same_txn = refl; letters = orders_aged A place c outcome.Abort c.servers };
+      updated = λ reply round staple server verdicts named y e. record { same_age = refl; known = λ querying. absurd (cc); same_txn = refl; letters = (tt, tt) };
+      refused = λ reply round staple server number value k.
+          record { same_age = refl; known = λ querying. absurd (cc); same_txn = refl; letters = orders_aged A place c outcome.Abort c.servers };
+      acknowledged = λ ack ended awaited server a. record { same_age = refl; known = λ querying. absurd (cc); same_txn = refl; letters = tt };
+    })
+
+-- ---- Submit
+
+-- a submission at a place, which is the age from then on
+pub record SubmissionAges (A : TxnId → ℕ → Type 0) (place : ℕ) (c : Coordinator) (effect : Effect Coordinator) : Type 0 where
+  pub age_is : effect.state.age ≡ Some place
+  pub same_txn : effect.state.txn ≡ c.txn
+  pub letters : Each (LetterAged A place) effect.reaction.letters
+
+-- a query tells the age, or is sent at the submission
+told_or_sent : (A : TxnId → ℕ → Type 0) (txn : TxnId) (age : Option ℕ) (place : ℕ) → A txn place → IfSome age (A txn) → A txn (unwrap_or age place)
+told_or_sent A txn None place m h = m
+told_or_sent A txn (Some old) place m h = h
+
+-- the submission of a transaction
+pub submit_row_ages : (A : TxnId → ℕ → Type 0) (place : ℕ) (sc : Scenario) (c : Coordinator) → IfSome c.age (A c.txn) → A c.txn place → SubmissionAges A place c (with_age (coord.submit_row sc c) place)
+submit_row_ages A place sc c h m =
+    submit_by sc c (λ (effect : Effect Coordinator). SubmissionAges A place c (with_age effect place))
+    (record {
+      ignored = record { age_is = refl; same_txn = refl; letters = tt };
+      sent = λ server home. record { age_is = refl; same_txn = refl; letters = (told_or_sent A c.txn c.age place m h, tt) };
+    })

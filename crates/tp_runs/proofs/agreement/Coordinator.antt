@@ -1,0 +1,503 @@
+-- Agreement, the coordinator's rows: a decision is forced once, before it is sent, and what is sent is what was decided. Votes and
+-- acknowledgements are counted by what servers have prepared and settled.
+use Rattle.std.specs.List.{list_any}
+use Rattle.std.specs.Option.{option_map_or, option_or}
+use Rattle.std.proofs.Common.{Bool, IfSome, List, None, Option, Some, [], ap, cond, false, is_some, length, map, not, option_and_then, option_map, refl, slice_get, subst, suc, sym, true, zero, ℕ, ◌+◌, ◌==◌, ◌||◌, ◌∙◌, ◌∷◌, ◌≡◌}
+use Rattle.std.proofs.lemmas.Bool.{or_left, or_parts}
+use Rattle.std.proofs.lemmas.Map.Keys.{any_passes_from_place}
+use Rattle.std.proofs.lemmas.Option.{same_Some}
+use Rattle.tp_types.proofs.ListLemmas.{number_itself}
+use Rattle.tp_types.specs.Effect.{Effect, ignores, sends}
+use Rattle.tp_model.specs.Agreement.{has_item, has_item_at}
+use Rattle.tp_model.specs.Facts.{outcome_of}
+use Rattle.tp_model.specs.Queries.{is_at_server, item_of, query_at, servers_from, servers_of}
+use Rattle.tp_model.specs.Words.actor
+use Rattle.tp_model.specs.Words.body
+use Rattle.tp_model.specs.Words.cause
+use Rattle.tp_model.specs.Words.decision
+use Rattle.tp_model.specs.Words.log
+use Rattle.tp_model.specs.Words.outcome
+use Rattle.tp_model.specs.Words.vote
+use Rattle.tp_model.specs.Words.{AckReply, Actor, Body, Cause, DecideRequest, Decision, DoneReply, Item, Letter, Mail, Outcome, Query, Record, Scenario, ServerId, Staple, Transaction, TxnId, Verdict, Vote, VoteReply}
+use Rattle.tp_runs.proofs.basics.Homes.{IsHome, home_is}
+use Rattle.tp_runs.proofs.basics.Ids.{same_server_is}
+use Rattle.tp_types.proofs.EachLemmas.{by_cond, each_as, each_filter}
+use Rattle.tp_runs.proofs.basics.Rounds.{EachServer, all_in, each_missing, each_renewed, each_replied, each_started, is_in, judged_whole, missing_in, none_missing, replied_is, updated_is}
+use Rattle.tp_runs.proofs.basics.Logs.{appended, decided_with}
+use Rattle.tp_coord.proofs.Rows.{IsAck, IsYes, coordinator_by, submit_by}
+use Rattle.tp_machine.specs.Logs.{decided_in, decision_in}
+use Rattle.tp_machine.specs.Machine.{log_with, with_age}
+use Rattle.tp_types.specs.Each.{Each}
+use Rattle.tp_coord.specs.Opened.{servers_at}
+use Rattle.tp_coord.specs.Row.{aborts, asks, awaits_query, commit_round, commits, coordinator_row, denied_by, died_for, is_begun, next_number, prepare_letter, prepares, own_query, refused_by, request, sends_query, server_of, staple_of, submit_row, with_deed, without}
+use Rattle.tp_coord.specs.State.{Coordinator}
+use Rattle.tp_coord.specs.declared.coordinator.Phase.TheVariants as phase
+use Rattle.tp_coord.specs.declared.coordinator.Phase.{Phase}
+use Rattle.tp_round.specs.Judge.{after_judgement, after_reply, aim_in, judge, met_in, mets_in, new_target, next_round}
+use Rattle.tp_round.specs.Replies.{by_query, proofs_in}
+use Rattle.tp_round.specs.declared.round.Judged.TheVariants as judged
+use Rattle.tp_round.specs.declared.round.Judged.{Judged}
+use Rattle.tp_round.specs.declared.round.Round.{Round}
+use Rattle.tp_round.specs.declared.round.Wanted.{Wanted}
+
+-- ---- what is kept
+
+-- a coordinator that is ending has decided so on its log; another has not decided
+abbrev pub PhaseAgrees : Phase → Option Decision → Type 0
+PhaseAgrees (phase.Ending ended awaited) decided = option_map outcome_of decided ≡ Some ended
+PhaseAgrees _ decided = decided ≡ None
+
+-- the server has an item of the transaction
+abbrev pub HoldsItem : Scenario → TxnId → ServerId → Type 0
+HoldsItem sc txn at = has_item_at sc at txn ≡ true
+
+-- each of these servers has an item of the transaction
+abbrev pub HaveItems : Scenario → TxnId → List ServerId → Type 0
+HaveItems sc txn servers = Each (HoldsItem sc txn) servers
+
+-- each server that a phase speaks of has an item of the transaction
+abbrev pub PhaseHasItems : Scenario → TxnId → Phase → Type 0
+PhaseHasItems sc txn (phase.Asking round) = EachServer (HoldsItem sc txn) round.targets
+PhaseHasItems sc txn (phase.Checking round staple) = EachServer (HoldsItem sc txn) round.targets
+PhaseHasItems sc txn (phase.Ending ended awaited) = HaveItems sc txn awaited
+PhaseHasItems sc txn _ = Unit {0}
+
+-- a coordinator agrees with its log, its servers are those of its transaction, and it asks no other
+pub record CoordinatorAgrees (sc : Scenario) (c : Coordinator) (kept : List Record) : Type 0 where
+  pub decided : PhaseAgrees c.phase (decided_in kept)
+  pub servers : c.servers ≡ servers_at sc c.txn
+  pub awaited : PhaseHasItems sc c.txn c.phase
+
+-- each of a transaction's servers that is not awaited
+abbrev pub AllBut : (ServerId → Type 0) → List ServerId → List ServerId → Type 0
+AllBut P awaited servers = Each (λ (at : ServerId). is_in awaited at ≡ false → P at) servers
+
+-- who has voted has prepared, and who has acknowledged has settled; P and S say who has
+abbrev pub PhaseRests : (P S : ServerId → Type 0) → Phase → List ServerId → Type 0
+PhaseRests P S (phase.Asking round) servers = AllBut P (missing_in round.targets) servers
+PhaseRests P S (phase.Checking round staple) servers = AllBut P (missing_in round.targets) servers
+PhaseRests P S (phase.Ending ended awaited) servers = AllBut S awaited servers
+PhaseRests P S _ servers = Unit {0}
+
+-- the actor is a server with an item of the transaction
+abbrev pub HasItem : Scenario → Actor → TxnId → Type 0
+HasItem sc (actor.Server at) txn = has_item_at sc at txn ≡ true
+HasItem sc _ txn = ⊥
+
+-- a request of a transaction that was submitted goes to a server with an item of it
+pub record RequestAgrees (sc : Scenario) (txn : TxnId) (begun : Bool) (to : Actor) (asked : TxnId) : Type 0 where
+  pub same_txn : asked ≡ txn
+  pub item : HasItem sc to asked
+  pub submitted : begun ≡ true
+
+-- an order to end is such a request, and is the decision
+pub record OrderAgrees (sc : Scenario) (txn : TxnId) (begun : Bool) (decided : Option Decision) (to : Actor) (order : DecideRequest) : Type 0 where
+  pub asked : RequestAgrees sc txn begun to order.txn
+  pub decided_is : option_map outcome_of decided ≡ Some order.outcome
+
+-- what a letter of the transaction's coordinator says agrees with what it has decided; coordinators send no votes and acknowledge nothing
+abbrev pub BodyAgrees : Scenario → TxnId → Bool → Option Decision → Actor → Body → Type 0
+BodyAgrees sc txn begun decided to (body.Query q) = RequestAgrees sc txn begun to q.txn
+BodyAgrees sc txn begun decided to (body.Validate v) = RequestAgrees sc txn begun to v.txn
+BodyAgrees sc txn begun decided to (body.Prepare p) = RequestAgrees sc txn begun to p.txn
+BodyAgrees sc txn begun decided to (body.Decide order) = OrderAgrees sc txn begun decided to order
+BodyAgrees sc txn begun decided to (body.Vote reply) = ⊥
+BodyAgrees sc txn begun decided to (body.Ack ack) = ⊥
+BodyAgrees sc txn begun decided to _ = Unit {0}
+
+abbrev pub LetterAgrees : Scenario → TxnId → Bool → Option Decision → Letter → Type 0
+LetterAgrees sc txn begun decided letter = BodyAgrees sc txn begun decided letter.to letter.body
+
+-- a decision on a coordinator's log is its own transaction's
+abbrev pub IsOwn : TxnId → Record → Type 0
+IsOwn txn (log.Decided d) = d.txn ≡ txn
+IsOwn txn _ = Unit {0}
+
+-- a commit is decided where each of these servers has prepared
+abbrev pub DecisionRests : (ServerId → Type 0) → List ServerId → Decision → Type 0
+DecisionRests P servers (decision.Commit committed) = Each P servers
+DecisionRests P servers (decision.Abort why) = Unit {0}
+
+abbrev pub RecordServed : (ServerId → Type 0) → List ServerId → Record → Type 0
+RecordServed P servers (log.Decided d) = DecisionRests P servers d.decision
+RecordServed P servers _ = Unit {0}
+
+-- what is forced is the coordinator's own, comes where nothing was decided, and a commit where all servers have prepared
+pub record IsFirst (sc : Scenario) (P : ServerId → Type 0) (txn : TxnId) (kept : List Record) (forced : Record) : Type 0 where
+  pub undecided : decided_in kept ≡ None
+  pub own : IsOwn txn forced
+  pub prepared : RecordServed P (servers_at sc txn) forced
+
+-- what a reply says of its sender: while nothing is decided, a vote YES comes from one that has prepared; and who acknowledges has settled
+abbrev pub YesRests : Type 0 → Vote → Type 0
+YesRests prepared (vote.Yes verdicts) = prepared
+YesRests prepared (vote.No why) = Unit {0}
+
+abbrev pub ReplyRests : (P S : ServerId → Type 0) → Option Decision → Actor → Body → Type 0
+ReplyRests P S decided (actor.Server at) (body.Vote reply) = YesRests (decided ≡ None → P at) reply.vote
+ReplyRests P S decided (actor.Server at) (body.Ack ack) = S at
+ReplyRests P S decided _ _ = Unit {0}
+
+-- an act of a coordinator: it agrees with its log after it, it forces nothing after a decision, and its letters agree
+pub record CoordinatorLawful (sc : Scenario) (P S : ServerId → Type 0) (c : Coordinator) (kept : List Record) (effect : Effect Coordinator) : Type 0 where
+  pub agrees : CoordinatorAgrees sc effect.state (log_with kept effect.reaction.append)
+  pub replied : PhaseRests P S effect.state.phase (servers_at sc c.txn)
+  pub same_begun : is_begun effect.state.phase ≡ is_begun c.phase
+  pub same_txn : effect.state.txn ≡ c.txn
+  pub fresh : IfSome effect.reaction.append (IsFirst sc P c.txn kept)
+  pub letters : Each (LetterAgrees sc c.txn (is_begun effect.state.phase) (decided_in (log_with kept effect.reaction.append))) effect.reaction.letters
+
+-- ---- phases
+
+-- a coordinator whose transaction was not submitted is idle
+pub idle_is : (awaited : Phase) → is_begun awaited ≡ false → awaited ≡ phase.Idle
+idle_is phase.Idle e = refl
+idle_is (phase.Querying number staple) e = absurd (cc)
+idle_is (phase.Asking round) e = absurd (cc)
+idle_is (phase.Checking round staple) e = absurd (cc)
+idle_is (phase.Ending ended servers) e = absurd (cc)
+
+-- and has not decided
+pub undecided_idle : (awaited : Phase) (decided : Option Decision) → is_begun awaited ≡ false → PhaseAgrees awaited decided → decided ≡ None
+undecided_idle awaited decided e h = subst (λ (p : Phase). PhaseAgrees p decided) (idle_is awaited e) h
+
+-- one that has decided was submitted
+pub decided_begun : (awaited : Phase) (decided : Option Decision) → PhaseAgrees awaited decided → is_some decided ≡ true → is_begun awaited ≡ true
+decided_begun phase.Idle decided h e = let not : is_some decided ≡ false = ap is_some h in absurd (cc)
+decided_begun (phase.Querying number staple) decided h e = refl
+decided_begun (phase.Asking round) decided h e = refl
+decided_begun (phase.Checking round staple) decided h e = refl
+decided_begun (phase.Ending ended servers) decided h e = refl
+
+-- ---- servers
+
+servers_have_items : (sc : Scenario) (declared : Transaction) (low left : ℕ) → Each (λ (at : ServerId). has_item sc at declared ≡ true) (servers_from sc declared.queries low left)
+servers_have_items sc declared low zero = tt
+servers_have_items sc declared low (suc left) =
+    let later = servers_have_items sc declared (low + 1) left in
+    by_cond (Each (λ (at : ServerId). has_item sc at declared ≡ true)) (list_any (is_at_server sc low) declared.queries)
+    (λ here. (here, later)) (λ not_here. later)
+
+-- each of a transaction's servers has an item of it
+pub servers_at_have_items : (sc : Scenario) (txn : TxnId) → HaveItems sc txn (servers_at sc txn)
+servers_at_have_items sc txn = found (slice_get sc.txns txn.0)
+  where
+    found : (declared : Option Transaction) → Each (λ (at : ServerId). option_map_or (has_item sc at) declared false ≡ true) (option_map_or (servers_of sc) declared [])
+    found (Some declared) = servers_have_items sc declared 0 (length sc.servers)
+    found None = tt
+
+-- ---- the server of a query
+
+asked_among : (declared : Transaction) (number : ℕ) (asked : Query) (test : Query → Bool) → query_at declared number ≡ Some asked → test asked ≡ true → list_any test declared.queries ≡ true
+asked_among declared zero asked test e p = absurd (cc)
+asked_among declared (suc before) asked test e p = any_passes_from_place test declared.queries before asked e p
+
+item_there_in_agreement : (item : Option Item) (at : ServerId) → option_map (λ (i : Item). i.server) item ≡ Some at → option_map_or (λ (i : Item). i.server.0 == at.0) item false ≡ true
+item_there_in_agreement None at e = absurd (cc)
+item_there_in_agreement (Some item) at e = ap (λ (server : ServerId). server.0 == at.0) (same_Some item.server at e) ∙ number_itself at.0
+
+-- the server of a query has an item of the transaction
+asked_has_item : (sc : Scenario) (c : Coordinator) (number : ℕ) (asked : Query) (at : ServerId) → own_query sc c number ≡ Some asked → server_of sc asked ≡ Some at → has_item_at sc at c.txn ≡ true
+asked_has_item sc c number asked at e there = found (slice_get sc.txns c.txn.0) e
+  where
+    found : (declared : Option Transaction) → option_and_then (λ (txn : Transaction). query_at txn number) declared ≡ Some asked → option_map_or (has_item sc at) declared false ≡ true
+    found None f = absurd (cc)
+    found (Some declared) f = asked_among declared number asked (is_at_server sc at.0) f (item_there_in_agreement (slice_get sc.items (item_of asked).0) at there)
+
+-- ---- who is awaited
+
+-- where all are awaited nothing is said
+pub all_but_all : (P : ServerId → Type 0) (servers : List ServerId) → AllBut P servers servers
+all_but_all P servers =
+    each_as (λ (at : ServerId). is_in servers at ≡ true) (λ (at : ServerId). is_in servers at ≡ false → P at) (λ at e f. absurd (cc)) servers (all_in servers)
+
+all_new : (started : List ServerId) → missing_in (map new_target started) ≡ started
+all_new [] = refl
+all_new (server ∷ others) = ap (λ (rest : List ServerId). server ∷ rest) (all_new others)
+
+-- of servers that were asked anew nothing is said
+all_but_new : (P : ServerId → Type 0) (servers : List ServerId) → AllBut P (missing_in (map new_target servers)) servers
+all_but_new P servers = subst (λ (missing : List ServerId). AllBut P missing servers) (sym (all_new servers)) (all_but_all P servers)
+
+removed : (first : ServerId) (awaited left : List ServerId) (server at : ServerId) (b c : Bool) → (first.0 == server.0) ≡ b → (first.0 == at.0) ≡ c
+    → (is_in awaited at ≡ true → is_in left at ≡ false → at ≡ server) → (c || is_in awaited at) ≡ true → is_in (cond (not b) (first ∷ left) left) at ≡ false → at ≡ server
+removed first awaited left server at true true g k later e f = sym (same_server_is first at k) ∙ same_server_is first server g
+removed first awaited left server at true false g k later e f = later e f
+removed first awaited left server at false true g k later e f = let awaits = or_left (first.0 == at.0) (is_in left at) k in absurd (cc)
+removed first awaited left server at false false g k later e f = later e (or_parts (first.0 == at.0) (is_in left at) f).1
+
+-- a server that is awaited no more is the one that replied
+removed_is : (awaited : List ServerId) (server at : ServerId) → is_in awaited at ≡ true → is_in (without awaited server) at ≡ false → at ≡ server
+removed_is [] server at e f = absurd (cc)
+removed_is (first ∷ awaited) server at e f = removed first awaited (without awaited server) server at (first.0 == server.0) (first.0 == at.0) refl refl (removed_is awaited server at) e f
+
+-- once a server has replied
+all_but_one : (P : ServerId → Type 0) (awaited : List ServerId) (server : ServerId) (servers : List ServerId) → P server → AllBut P awaited servers → AllBut P (without awaited server) servers
+all_but_one P awaited server servers p h =
+    each_as (λ (at : ServerId). is_in awaited at ≡ false → P at) (λ (at : ServerId). is_in (without awaited server) at ≡ false → P at)
+    (λ at old gone. replied_by at (is_in awaited at) refl old gone) servers h
+  where
+    replied_by : (at : ServerId) (b : Bool) → is_in awaited at ≡ b → (is_in awaited at ≡ false → P at) → is_in (without awaited server) at ≡ false → P at
+    replied_by at true e old gone = subst P (sym (removed_is awaited server at e gone)) p
+    replied_by at false e old gone = old e
+
+-- once a server has replied in a round
+all_but_reply : (P : ServerId → Type 0) (round : Round) (server : ServerId) (verdicts : List Verdict) (servers : List ServerId) → P server → AllBut P (missing_in round.targets) servers
+    → AllBut P (missing_in (after_reply round server verdicts).targets) servers
+all_but_reply P round server verdicts servers p h =
+    each_as (λ (at : ServerId). is_in (missing_in round.targets) at ≡ false → P at) (λ (at : ServerId). is_in (missing_in (after_reply round server verdicts).targets) at ≡ false → P at)
+    (λ at old gone. replied_by at (is_in (missing_in round.targets) at) refl old gone) servers h
+  where
+    replied_by : (at : ServerId) (b : Bool) → is_in (missing_in round.targets) at ≡ b → (is_in (missing_in round.targets) at ≡ false → P at) → is_in (missing_in (after_reply round server verdicts).targets) at ≡ false → P at
+    replied_by at true e old gone = subst P (sym (replied_is round.targets server at verdicts e gone)) p
+    replied_by at false e old gone = old e
+
+-- none is awaited
+none_awaited : (P : ServerId → Type 0) (servers : List ServerId) → AllBut P [] servers → Each P servers
+none_awaited P servers h = each_as (λ (at : ServerId). is_in [] at ≡ false → P at) P (λ at replied. replied refl) servers h
+
+-- what holds of each that is awaited holds of those that are left
+left_have_items : (sc : Scenario) (txn : TxnId) (awaited : List ServerId) (server : ServerId) → HaveItems sc txn awaited → HaveItems sc txn (without awaited server)
+left_have_items sc txn awaited server h = each_filter (λ (at : ServerId). has_item_at sc at txn ≡ true) (λ (other : ServerId). not (other.0 == server.0)) awaited h
+
+-- ---- rows
+
+-- what a coordinator keeps, in an undecided phase or another
+pub record Keeps (sc : Scenario) (P S : ServerId → Type 0) (c : Coordinator) (kept : List Record) : Type 0 where
+  pub agrees : CoordinatorAgrees sc c kept
+  pub replied : PhaseRests P S c.phase (servers_at sc c.txn)
+
+ignores_lawful_in_coordinator : (sc : Scenario) (P S : ServerId → Type 0) (c : Coordinator) (kept : List Record) → Keeps sc P S c kept → CoordinatorLawful sc P S c kept (ignores c)
+ignores_lawful_in_coordinator sc P S c kept h = record { agrees = h.agrees; replied = h.replied; same_begun = refl; same_txn = refl; fresh = tt; letters = tt }
+
+-- the authority is asked by a coordinator that has not decided, before a round of which this holds
+asks_lawful : (sc : Scenario) (P S : ServerId → Type 0) (c : Coordinator) (kept : List Record) (round : Round) → decided_in kept ≡ None → is_begun c.phase ≡ true → c.servers ≡ servers_at sc c.txn
+    → EachServer (HoldsItem sc c.txn) round.targets → AllBut P (missing_in round.targets) (servers_at sc c.txn) → CoordinatorLawful sc P S c kept (asks c round)
+asks_lawful sc P S c kept round d b s items replied =
+    record {
+      agrees = record { decided = d; servers = s; awaited = items };
+      replied = replied;
+      same_begun = sym b;
+      same_txn = refl;
+      fresh = tt;
+      letters = (tt, tt);
+    }
+
+-- a query is asked, which is sent to a server with an item of the transaction
+sends_query_lawful : (sc : Scenario) (P S : ServerId → Type 0) (c : Coordinator) (kept : List Record) (number : ℕ) (at : ServerId) → decided_in kept ≡ None → is_begun c.phase ≡ true → c.servers ≡ servers_at sc c.txn
+    → IsHome sc c number at → CoordinatorLawful sc P S c kept (sends_query sc c number at)
+sends_query_lawful sc P S c kept number at d b s k =
+    record {
+      agrees = record { decided = d; servers = s; awaited = tt };
+      replied = tt;
+      same_begun = sym b;
+      same_txn = refl;
+      fresh = tt;
+      letters = (record { same_txn = refl; item = asked_has_item sc c number k.asked at k.asked_is k.server_is; submitted = refl }, tt);
+    }
+
+prepare_letters_lawful : (sc : Scenario) (c : Coordinator) (begun : Bool) (decided : Option Decision) (round : Round) (staple : Staple) (servers : List ServerId) → begun ≡ true → HaveItems sc c.txn servers
+    → Each (LetterAgrees sc c.txn begun decided) (map (prepare_letter c round staple) servers)
+prepare_letters_lawful sc c begun decided round staple [] b h = tt
+prepare_letters_lawful sc c begun decided round staple (at ∷ servers) b h =
+    (record { same_txn = refl; item = h.0; submitted = b }, prepare_letters_lawful sc c begun decided round staple servers b h.1)
+
+-- each awaited server is asked to prepare
+prepares_lawful : (sc : Scenario) (P S : ServerId → Type 0) (c : Coordinator) (kept : List Record) (round : Round) (staple : Staple) → Keeps sc P S c kept → c.phase ≡ phase.Asking round
+    → CoordinatorLawful sc P S c kept (prepares c round staple)
+prepares_lawful sc P S c kept round staple h e =
+    let items : EachServer (HoldsItem sc c.txn) round.targets = subst (PhaseHasItems sc c.txn) e h.agrees.awaited in
+    record {
+      agrees = record { decided = subst (λ (p : Phase). PhaseAgrees p (decided_in kept)) e h.agrees.decided; servers = h.agrees.servers; awaited = items };
+      replied = subst (λ (p : Phase). PhaseRests P S p (servers_at sc c.txn)) e h.replied;
+      same_begun = sym (ap is_begun e);
+      same_txn = refl;
+      fresh = tt;
+      letters = prepare_letters_lawful sc c true (decided_in kept) round staple (missing_in round.targets) refl (each_missing (HoldsItem sc c.txn) round.targets items);
+    }
+
+-- an order to each of these servers
+orders_lawful : (sc : Scenario) (txn : TxnId) (begun : Bool) (decided : Option Decision) (ended : Outcome) (c : Coordinator) (servers : List ServerId) → c.txn ≡ txn → begun ≡ true
+    → option_map outcome_of decided ≡ Some ended → HaveItems sc txn servers
+    → Each (LetterAgrees sc txn begun decided) (map (λ (at : ServerId). request c at (body.Decide (record { txn = c.txn; outcome = ended }))) servers)
+orders_lawful sc txn begun decided ended c [] same b d h = tt
+orders_lawful sc txn begun decided ended c (at ∷ servers) same b d h = (
+  record { asked = record { same_txn = same; item = subst (λ (t : TxnId). has_item_at sc at t ≡ true) (sym same) h.0; submitted = b }; decided_is = d },
+  orders_lawful sc txn begun decided ended c servers same b d h.1,
+)
+
+-- a commit is forced where nothing was decided and all have prepared, and then sent
+commits_lawful : (sc : Scenario) (P S : ServerId → Type 0) (c : Coordinator) (kept : List Record) (rounds : ℕ) (proofs : List Verdict) → Keeps sc P S c kept → decided_in kept ≡ None
+    → is_begun c.phase ≡ true → Each P (servers_at sc c.txn) → CoordinatorLawful sc P S c kept (commits c rounds proofs)
+commits_lawful sc P S c kept rounds proofs h d b prepared =
+    let forced = (commits c rounds proofs).reaction.append in
+    let now : option_map outcome_of (decided_in (log_with kept forced)) ≡ Some outcome.Commit = ap (option_map outcome_of) (decided_with kept forced ∙ ap (λ z. option_or z (appended decision_in forced)) d) in
+    let items : HaveItems sc c.txn c.servers = subst (HaveItems sc c.txn) (sym h.agrees.servers) (servers_at_have_items sc c.txn) in
+    record {
+      agrees = record { decided = now; servers = h.agrees.servers; awaited = items };
+      replied = subst (λ (servers : List ServerId). AllBut S servers (servers_at sc c.txn)) (sym h.agrees.servers) (all_but_all S (servers_at sc c.txn));
+      same_begun = sym b;
+      same_txn = refl;
+      fresh = record { undecided = d; own = refl; prepared = prepared };
+      letters = orders_lawful sc c.txn true (decided_in (log_with kept forced)) outcome.Commit c c.servers refl refl now items;
+    }
+
+-- an abort is forced where nothing was decided, and then sent
+aborts_lawful : (sc : Scenario) (P S : ServerId → Type 0) (c : Coordinator) (kept : List Record) (why : Cause) → Keeps sc P S c kept → decided_in kept ≡ None
+    → is_begun c.phase ≡ true → CoordinatorLawful sc P S c kept (aborts c why)
+aborts_lawful sc P S c kept why h d b =
+    let forced = (aborts c why).reaction.append in
+    let now : option_map outcome_of (decided_in (log_with kept forced)) ≡ Some outcome.Abort = ap (option_map outcome_of) (decided_with kept forced ∙ ap (λ z. option_or z (appended decision_in forced)) d) in
+    let items : HaveItems sc c.txn c.servers = subst (HaveItems sc c.txn) (sym h.agrees.servers) (servers_at_have_items sc c.txn) in
+    record {
+      agrees = record { decided = now; servers = h.agrees.servers; awaited = items };
+      replied = subst (λ (servers : List ServerId). AllBut S servers (servers_at sc c.txn)) (sym h.agrees.servers) (all_but_all S (servers_at sc c.txn));
+      same_begun = sym b;
+      same_txn = refl;
+      fresh = record { undecided = d; own = refl; prepared = tt };
+      letters = orders_lawful sc c.txn true (decided_in (log_with kept forced)) outcome.Abort c c.servers refl refl now items;
+    }
+
+-- what is known where a vote YES is awaited and comes
+record IsCounted (sc : Scenario) (P S : ServerId → Type 0) (c : Coordinator) (kept : List Record) (round : Round) : Type 0 where
+  pub undecided : decided_in kept ≡ None
+  pub begun : is_begun c.phase ≡ true
+  pub items : EachServer (HoldsItem sc c.txn) round.targets
+  pub prepared : AllBut P (missing_in round.targets) (servers_at sc c.txn)
+
+yes_counted : (sc : Scenario) (P S : ServerId → Type 0) (c : Coordinator) (kept : List Record) (mail : Mail) (reply : VoteReply) (round : Round) (staple : Staple) (server : ServerId) (verdicts : List Verdict)
+    → Keeps sc P S c kept → ReplyRests P S (decided_in kept) mail.letter.from mail.letter.body → IsYes c mail reply round staple server verdicts → IsCounted sc P S c kept (after_reply round server verdicts)
+yes_counted sc P S c kept mail reply round staple server verdicts h m y =
+    let undecided : decided_in kept ≡ None = subst (λ (p : Phase). PhaseAgrees p (decided_in kept)) y.checking h.agrees.decided in
+    let rests : YesRests (decided_in kept ≡ None → P server) reply.vote =
+    subst (λ (said : Body). ReplyRests P S (decided_in kept) (actor.Server server) said) y.said_is (subst (λ (from : Actor). ReplyRests P S (decided_in kept) from mail.letter.body) y.from_is m) in
+    let prepared : decided_in kept ≡ None → P server = subst (YesRests (decided_in kept ≡ None → P server)) y.vote_is rests in
+    record {
+      undecided = undecided;
+      begun = ap is_begun y.checking;
+      items = each_replied (HoldsItem sc c.txn) round.targets server verdicts (subst (PhaseHasItems sc c.txn) y.checking h.agrees.awaited);
+      prepared = all_but_reply P round server verdicts (servers_at sc c.txn) (prepared undecided) (subst (λ (p : Phase). PhaseRests P S p (servers_at sc c.txn)) y.checking h.replied);
+    }
+
+-- where all have replied each server has prepared
+whole_prepared : (sc : Scenario) (P S : ServerId → Type 0) (c : Coordinator) (kept : List Record) (round : Round) (answer : Judged) → IsCounted sc P S c kept round → judge round None ≡ answer
+    → (answer ≡ judged.Waiting → ⊥) → Each P (servers_at sc c.txn)
+whole_prepared sc P S c kept round answer k e other =
+    none_awaited P (servers_at sc c.txn) (subst (λ (missing : List ServerId). AllBut P missing (servers_at sc c.txn)) (none_missing round.targets (judged_whole round answer e other)) k.prepared)
+
+-- the next round after an update
+updated_lawful : (sc : Scenario) (P S : ServerId → Type 0) (c : Coordinator) (kept : List Record) (round : Round) (named : List Wanted) → IsCounted sc P S c kept round → c.servers ≡ servers_at sc c.txn
+    → judge round None ≡ judged.Update named → CoordinatorLawful sc P S c kept (asks c (after_judgement round None))
+updated_lawful sc P S c kept round named k s e =
+    let next = next_round round (aim_in round None) named (mets_in round (met_in round None)) in
+    let prepared : Each P (servers_at sc c.txn) = whole_prepared sc P S c kept round (judged.Update named) k e (λ f. cc) in
+    subst (λ (r : Round). CoordinatorLawful sc P S c kept (asks c r)) (sym (updated_is round named e))
+    (asks_lawful sc P S c kept next k.undecided k.begun s (each_renewed (HoldsItem sc c.txn) (aim_in round None) round.targets k.items)
+    (each_as P (λ (at : ServerId). is_in (missing_in next.targets) at ≡ false → P at) (λ at p left. p) (servers_at sc c.txn) prepared))
+
+acknowledged_lawful : (sc : Scenario) (P S : ServerId → Type 0) (c : Coordinator) (kept : List Record) (mail : Mail) (ack : AckReply) (ended : Outcome) (awaited : List ServerId) (server : ServerId)
+    → Keeps sc P S c kept → ReplyRests P S (decided_in kept) mail.letter.from mail.letter.body → IsAck c mail ack ended awaited server
+    → CoordinatorLawful sc P S c kept (sends (record c { phase = phase.Ending ended (without awaited server) }) [])
+acknowledged_lawful sc P S c kept mail ack ended awaited server h m a =
+    let settled : S server =
+    subst (λ (said : Body). ReplyRests P S (decided_in kept) (actor.Server server) said) a.said_is (subst (λ (from : Actor). ReplyRests P S (decided_in kept) from mail.letter.body) a.from_is m) in
+    record {
+      agrees = record {
+        decided = subst (λ (p : Phase). PhaseAgrees p (decided_in kept)) a.ending h.agrees.decided;
+        servers = h.agrees.servers;
+        awaited = left_have_items sc c.txn awaited server (subst (PhaseHasItems sc c.txn) a.ending h.agrees.awaited);
+      };
+      replied = all_but_one S awaited server (servers_at sc c.txn) settled (subst (λ (p : Phase). PhaseRests P S p (servers_at sc c.txn)) a.ending h.replied);
+      same_begun = sym (ap is_begun a.ending);
+      same_txn = refl;
+      fresh = tt;
+      letters = tt;
+    }
+
+-- only a coordinator that is ending has decided
+awaiting_query : (c : Coordinator) (awaited : Phase) (done : DoneReply) (decided : Option Decision) → awaits_query c awaited done ≡ true → PhaseAgrees awaited decided → (decided ≡ None) × (is_begun awaited ≡ true)
+awaiting_query c phase.Idle done decided e h = absurd (cc)
+awaiting_query c (phase.Querying number staple) done decided e h = (h, refl)
+awaiting_query c (phase.Asking round) done decided e h = absurd (cc)
+awaiting_query c (phase.Checking round staple) done decided e h = absurd (cc)
+awaiting_query c (phase.Ending ended awaited) done decided e h = absurd (cc)
+
+-- every row of a coordinator on receipt of a mail
+pub coordinator_row_lawful : (sc : Scenario) (P S : ServerId → Type 0) (c : Coordinator) (kept : List Record) (mail : Mail) → Keeps sc P S c kept
+    → ReplyRests P S (decided_in kept) mail.letter.from mail.letter.body → CoordinatorLawful sc P S c kept (coordinator_row sc c mail)
+coordinator_row_lawful sc P S c kept mail h m =
+    coordinator_by sc c mail (CoordinatorLawful sc P S c kept)
+    (record {
+      ignored = ignores_lawful_in_coordinator sc P S c kept h;
+      ran_next = λ done server asked value next k home.
+          let now = awaiting_query c c.phase done (decided_in kept) k.awaited h.agrees.decided in
+          let further : IsHome sc c (next_number done.query) next = home_is sc c (next_number done.query) next home in
+          let on = sends_query_lawful sc P S (with_deed c server done asked value) kept (next_number done.query) next now.0 now.1 h.agrees.servers
+          (record { asked = further.asked; asked_is = further.asked_is; server_is = further.server_is }) in
+          record { agrees = on.agrees; replied = on.replied; same_begun = sym now.1; same_txn = refl; fresh = tt; letters = on.letters };
+      ran_last = λ done server asked value k none.
+          let now = awaiting_query c c.phase done (decided_in kept) k.awaited h.agrees.decided in
+          let next = with_deed c server done asked value in
+          let on = asks_lawful sc P S next kept (commit_round next) now.0 now.1 h.agrees.servers
+          (each_started (HoldsItem sc c.txn) c.servers (subst (HaveItems sc c.txn) (sym h.agrees.servers) (servers_at_have_items sc c.txn)))
+          (subst (λ (servers : List ServerId). AllBut P (missing_in (map new_target servers)) (servers_at sc c.txn)) (sym h.agrees.servers) (all_but_new P (servers_at sc c.txn))) in
+          record { agrees = on.agrees; replied = on.replied; same_begun = sym now.1; same_txn = refl; fresh = tt; letters = on.letters };
+      died = λ done server asked other k.
+          let now = awaiting_query c c.phase done (decided_in kept) k.awaited h.agrees.decided in
+          aborts_lawful sc P S c kept (cause.Died (died_for server done other mail.sent)) h now.0 now.1;
+      told = λ tell round k. prepares_lawful sc P S c kept round (staple_of tell mail.sent) h k.asking;
+      counted = λ reply round staple server verdicts y e.
+          let k = yes_counted sc P S c kept mail reply round staple server verdicts h m y in
+          record {
+            agrees = record { decided = k.undecided; servers = h.agrees.servers; awaited = k.items };
+            replied = k.prepared;
+            same_begun = sym k.begun;
+            same_txn = refl;
+            fresh = tt;
+            letters = tt;
+          };
+      committed = λ reply round staple server verdicts y e.
+          let k = yes_counted sc P S c kept mail reply round staple server verdicts h m y in
+          commits_lawful sc P S c kept round.number (by_query (proofs_in (after_reply round server verdicts).targets)) h k.undecided k.begun
+          (whole_prepared sc P S c kept (after_reply round server verdicts) judged.AllTrue k e (λ f. cc));
+      denied = λ reply round staple server verdicts verdict y e.
+          let k = yes_counted sc P S c kept mail reply round staple server verdicts h m y in
+          aborts_lawful sc P S c kept (cause.Denied (denied_by verdict)) h k.undecided k.begun;
+      updated = λ reply round staple server verdicts named y e.
+          updated_lawful sc P S c kept (after_reply round server verdicts) named (yes_counted sc P S c kept mail reply round staple server verdicts h m y) h.agrees.servers e;
+      refused = λ reply round staple server number value k.
+          let undecided : decided_in kept ≡ None = subst (λ (p : Phase). PhaseAgrees p (decided_in kept)) k.checking h.agrees.decided in
+          aborts_lawful sc P S c kept (cause.No (refused_by server number value)) h undecided (ap is_begun k.checking);
+      acknowledged = λ ack ended awaited server a. acknowledged_lawful sc P S c kept mail ack ended awaited server h m a;
+    })
+
+-- ---- Submit
+
+-- a submission
+pub record SubmissionLawful (sc : Scenario) (P S : ServerId → Type 0) (c : Coordinator) (kept : List Record) (effect : Effect Coordinator) : Type 0 where
+  pub agrees : CoordinatorAgrees sc effect.state kept
+  pub replied : PhaseRests P S effect.state.phase (servers_at sc c.txn)
+  pub begun : is_begun effect.state.phase ≡ true
+  pub same_txn : effect.state.txn ≡ c.txn
+  pub forces : effect.reaction.append ≡ None
+  pub letters : Each (LetterAgrees sc c.txn (is_begun effect.state.phase) (decided_in kept)) effect.reaction.letters
+
+-- the submission of a transaction that was not submitted before, and whose first row begins it
+pub submit_row_lawful : (sc : Scenario) (P S : ServerId → Type 0) (c : Coordinator) (kept : List Record) (place : ℕ) → Keeps sc P S c kept → is_begun c.phase ≡ false
+    → is_begun (submit_row sc c).state.phase ≡ true → SubmissionLawful sc P S c kept (with_age (submit_row sc c) place)
+submit_row_lawful sc P S c kept place h e b =
+    submit_by sc c (λ (effect : Effect Coordinator). is_begun effect.state.phase ≡ true → SubmissionLawful sc P S c kept (with_age effect place))
+    (record {
+      ignored = λ begun.
+          record { agrees = record { decided = h.agrees.decided; servers = h.agrees.servers; awaited = h.agrees.awaited }; replied = h.replied; begun = begun; same_txn = refl; forces = refl; letters = tt };
+      sent = λ server home begun.
+          let k : IsHome sc c 1 server = home_is sc c 1 server home in
+          record {
+            agrees = record { decided = undecided_idle c.phase (decided_in kept) e h.agrees.decided; servers = h.agrees.servers; awaited = tt };
+            replied = tt;
+            begun = refl;
+            same_txn = refl;
+            forces = refl;
+            letters = (record { same_txn = refl; item = asked_has_item sc c 1 k.asked server k.asked_is k.server_is; submitted = refl }, tt);
+          };
+    }) b

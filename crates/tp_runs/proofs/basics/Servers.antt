@@ -1,0 +1,41 @@
+-- The servers of a transaction: what holds of them all holds of each that has an item of it.
+use Rattle.std.proofs.lemmas.Bool.{eqb-true}
+use Rattle.std.proofs.Common.{◌≡◌, ℕ, zero, suc, ◌+◌, ◌<◌, ◌≤◌, ◌==◌, List, [], ◌∷◌, length, slice_get, Bool, true, false, Option, Some, None, if◌then◌else◌, refl, sym, subst, arith}
+use Rattle.std.specs.List.{list_any}
+use Rattle.std.specs.Option.{option_map_or}
+use Rattle.std.proofs.lemmas.Bool.Decides.{nat_tests}
+use Rattle.tp_model.specs.Words.{Query, Scenario, ServerId, Transaction, TxnId}
+use Rattle.tp_model.specs.Agreement.{has_item, has_item_at}
+use Rattle.tp_model.specs.Queries.{is_at_server, servers_from, servers_of}
+use Rattle.tp_types.specs.Each.{Each}
+use Rattle.tp_machine.specs.Named.{IsServer}
+use Rattle.tp_coord.specs.Opened.{servers_at}
+
+split_cond : {A : Type 0} (P : A → Type 0) (b : Bool) (x : A) (xs : List A) → Each P (if b then x ∷ xs else xs) → Each P xs × (b ≡ true → P x)
+split_cond P true x xs h = (h.1, λ e. h.0)
+split_cond P false x xs h = (h, λ e. absurd (cc))
+
+next_above : (low k : ℕ) → low ≤ k → (low == k) ≡ false → low + 1 ≤ k
+next_above low k above apart = grind (arith, nat_tests)
+
+among_next : (P : ServerId → Type 0) (test : ℕ → Bool) (low k : ℕ) (b : Bool) → (low == k) ≡ b → low ≤ k → test k ≡ true → (test low ≡ true → P (record { 0 = low })) → (low + 1 ≤ k → P (record { 0 = k }))
+    → P (record { 0 = k })
+among_next P test low k true same above here first later =
+    let number : low ≡ k = eqb-true low k same in
+    subst (λ (n : ℕ). P (record { 0 = n })) number (first (subst (λ (n : ℕ). test n ≡ true) (sym number) here))
+among_next P test low k false apart above here first later = later (next_above low k above apart)
+
+among_from : (P : ServerId → Type 0) (sc : Scenario) (queries : List Query) (low left k : ℕ) → low ≤ k → k < low + left → list_any (is_at_server sc k) queries ≡ true
+    → Each P (servers_from sc queries low left) → P (record { 0 = k })
+among_from P sc queries low zero k above below here h = absurd (omega (arith, above, below))
+among_from P sc queries low (suc left) k above below here h =
+    let parts = split_cond P (list_any (is_at_server sc low) queries) (record { 0 = low }) (servers_from sc queries (low + 1) left) h in
+    among_next P (λ (n : ℕ). list_any (is_at_server sc n) queries) low k (low == k) refl above here parts.1 (λ next. among_from P sc queries (low + 1) left k next (omega (arith, below)) here parts.0)
+
+-- what holds of all of a transaction's servers holds of one with an item of it
+pub among_servers : (P : ServerId → Type 0) (sc : Scenario) (at : ServerId) (txn : TxnId) → IsServer sc at → has_item_at sc at txn ≡ true → Each P (servers_at sc txn) → P at
+among_servers P sc at txn exists item h = among (slice_get sc.txns txn.0) item h
+  where
+    among : (declared : Option Transaction) → option_map_or (has_item sc at) declared false ≡ true → Each P (option_map_or (servers_of sc) declared []) → P at
+    among (Some declared) e k = among_from P sc declared.queries 0 (length sc.servers) at.0 (omega arith) (omega (arith, exists)) e k
+    among None e k = absurd (cc)

@@ -1,0 +1,127 @@
+-- Bounds, the coordinator's rows: its deeds are of queries before the one that is awaited, so that the sum it asks for next is bounded.
+use Rattle.std.proofs.Common.{IfSome, List, None, Option, Some, [], arith, false, map, option_and_then, refl, slice_get, subst, true, ℕ, ℤ, ◌<◌, ◌∷◌, ◌≡◌}
+use Rattle.tp_types.specs.Effect.{Effect, ignores}
+use Rattle.tp_model.specs.Valid.{is_valid_txn}
+use Rattle.tp_model.specs.Words.body
+use Rattle.tp_model.specs.Words.outcome
+use Rattle.tp_model.specs.Words.{Deed, DoneReply, Mail, Outcome, Query, Scenario, ServerId, Staple, Transaction}
+use Rattle.tp_runs.proofs.agreement.Coordinator.{idle_is}
+use Rattle.tp_runs.proofs.basics.Homes.{HaveHomes, next_is}
+use Rattle.tp_types.proofs.EachLemmas.{each_as, each_get, each_more}
+use Rattle.tp_runs.proofs.basics.Phases.{awaits_is}
+use Rattle.tp_runs.proofs.bounds.Numbers.{AreBefore, asked_bounded}
+use Rattle.tp_runs.proofs.bounds.Server.{IsBoundedLetter}
+use Rattle.tp_runs.proofs.ids.Valid.{IsValid}
+use Rattle.tp_coord.proofs.Rows.{IsRanAnswer, coordinator_by, submit_by}
+use Rattle.tp_runs.specs.Bounded.{AreBoundedDeeds, IsBounded, IsBoundedAnswer, IsBoundedBody, IsBoundedDeed, IsBoundedRecord, IsBoundedVote}
+use Rattle.tp_machine.specs.Machine.{with_age}
+use Rattle.tp_model.specs.Deeds.{deed_of}
+use Rattle.tp_types.specs.Each.{Each}
+use Rattle.tp_coord.specs.Sums.{asked_value}
+use Rattle.tp_coord.specs.Row as coord
+use Rattle.tp_coord.specs.Row.{is_begun, next_number}
+use Rattle.tp_coord.specs.State.{Coordinator}
+use Rattle.tp_coord.specs.declared.coordinator.Phase.TheVariants as phase
+use Rattle.tp_coord.specs.declared.coordinator.Phase.{Phase}
+use Rattle.tp_round.specs.declared.round.Round.{Round}
+
+-- ---- what is kept
+
+-- the deeds are of queries before the one that is awaited; before the submission there are none
+abbrev pub PhaseLow : Phase → List Deed → Type 0
+PhaseLow phase.Idle deeds = AreBefore 1 deeds
+PhaseLow (phase.Querying number staple) deeds = AreBefore number deeds
+PhaseLow _ deeds = Unit {0}
+
+-- a coordinator that is up
+pub record CoordinatorLow (c : Coordinator) : Type 0 where
+  pub deeds : AreBoundedDeeds c.deeds
+  pub low : PhaseLow c.phase c.deeds
+
+-- an act of a coordinator
+pub record CoordinatorBounds (effect : Effect Coordinator) : Type 0 where
+  pub state : CoordinatorLow effect.state
+  pub forces : IfSome effect.reaction.append IsBoundedRecord
+  pub letters : Each IsBoundedLetter effect.reaction.letters
+
+still_bounded : (c : Coordinator) → CoordinatorLow c → CoordinatorBounds (ignores c)
+still_bounded c h = record { state = h; forces = tt; letters = tt }
+
+-- ---- what is asked
+
+some_bounded : (number : ℕ) (found : Option ℤ) → ((value : ℤ) → found ≡ Some value → IsBounded number value) → IfSome found (IsBounded number)
+some_bounded number None h = tt
+some_bounded number (Some value) h = h value refl
+
+-- what a query is asked with
+value_bounded : (sc : Scenario) (c : Coordinator) (number : ℕ) → IsValid sc → HaveHomes sc → AreBoundedDeeds c.deeds → AreBefore number c.deeds → IfSome (coord.value_of sc c number) (IsBounded number)
+value_bounded sc c number valid homes h low = found (slice_get sc.txns c.txn.0) refl
+  where
+    found : (declared : Option Transaction) → slice_get sc.txns c.txn.0 ≡ declared → IfSome (option_and_then (λ (txn : Transaction). asked_value txn c.deeds number) declared) (IsBounded number)
+    found None e = tt
+    found (Some declared) e =
+        some_bounded number (asked_value declared c.deeds number)
+        (λ value is. asked_bounded sc declared number c.deeds value (each_get (λ (txn : Transaction). is_valid_txn sc txn ≡ true) sc.txns c.txn.0 declared valid.txns e) (homes.few c.txn.0 declared e) low h is)
+
+asks_bounded : (sc : Scenario) (c : Coordinator) (number : ℕ) (server : ServerId) → IsValid sc → HaveHomes sc → AreBoundedDeeds c.deeds → AreBefore number c.deeds → CoordinatorBounds (coord.sends_query sc c number server)
+asks_bounded sc c number server valid homes h low =
+    record { state = record { deeds = h; low = low }; forces = tt; letters = (value_bounded sc c number valid homes h low, tt) }
+
+-- ---- Done
+
+-- the deeds with that of a query that ran
+deeds_more : (sc : Scenario) (c : Coordinator) (mail : Mail) (done : DoneReply) (server : ServerId) (asked : Query) (value : ℤ) → CoordinatorLow c → IsBoundedBody mail.letter.body
+    → IsRanAnswer sc c mail done server asked value → AreBoundedDeeds (coord.with_deed c server done asked value).deeds
+deeds_more sc c mail done server asked value h said k =
+    each_more IsBoundedDeed c.deeds (deed_of done.query asked value) h.deeds (subst (IsBoundedAnswer done.query) k.answer_is (subst IsBoundedBody k.said_is said))
+
+-- are of queries before the next one
+deeds_before : (sc : Scenario) (c : Coordinator) (mail : Mail) (done : DoneReply) (server : ServerId) (asked : Query) (value : ℤ) → HaveHomes sc → CoordinatorLow c
+    → IsRanAnswer sc c mail done server asked value → AreBefore (next_number done.query) (coord.with_deed c server done asked value).deeds
+deeds_before sc c mail done server asked value homes h k =
+    let next = next_is sc c done.query asked homes k.asked_is in
+    let low : AreBefore done.query c.deeds = subst (λ (p : Phase). PhaseLow p c.deeds) (awaits_is c c.phase done k.awaited k.plain) h.low in
+    each_more (λ (deed : Deed). deed.query < next_number done.query) c.deeds (deed_of done.query asked value)
+    (each_as (λ (deed : Deed). deed.query < done.query) (λ (deed : Deed). deed.query < next_number done.query) (λ deed less. omega (arith, less, next)) c.deeds low) (omega (arith, next))
+
+-- ---- letters without a value
+
+prepares_say_none : (c : Coordinator) (round : Round) (staple : Staple) (servers : List ServerId) → Each IsBoundedLetter (map (coord.prepare_letter c round staple) servers)
+prepares_say_none c round staple [] = tt
+prepares_say_none c round staple (at ∷ servers) = (tt, prepares_say_none c round staple servers)
+
+orders_say_none : (c : Coordinator) (ended : Outcome) (servers : List ServerId) → Each IsBoundedLetter (map (λ (at : ServerId). coord.request c at (body.Decide (record { txn = c.txn; outcome = ended }))) servers)
+orders_say_none c ended [] = tt
+orders_say_none c ended (at ∷ servers) = (tt, orders_say_none c ended servers)
+
+-- ---- all mails
+
+-- every row of a coordinator on receipt of a mail
+pub coordinator_row_bounds : (sc : Scenario) (c : Coordinator) (mail : Mail) → IsValid sc → HaveHomes sc → CoordinatorLow c → IsBoundedBody mail.letter.body → CoordinatorBounds (coord.coordinator_row sc c mail)
+coordinator_row_bounds sc c mail valid homes h said =
+    coordinator_by sc c mail CoordinatorBounds
+    (record {
+      ignored = still_bounded c h;
+      ran_next = λ done server asked value next k home.
+          asks_bounded sc (coord.with_deed c server done asked value) (next_number done.query) next valid homes (deeds_more sc c mail done server asked value h said k) (deeds_before sc c mail done server asked value homes h k);
+      ran_last = λ done server asked value k none. record { state = record { deeds = deeds_more sc c mail done server asked value h said k; low = tt }; forces = tt; letters = (tt, tt) };
+      died = λ done server asked other k. record { state = record { deeds = h.deeds; low = tt }; forces = tt; letters = orders_say_none c outcome.Abort c.servers };
+      told = λ tell round k. record { state = record { deeds = h.deeds; low = tt }; forces = tt; letters = prepares_say_none c round (coord.staple_of tell mail.sent) (coord.awaited_in round) };
+      counted = λ reply round staple server verdicts y e. record { state = record { deeds = h.deeds; low = tt }; forces = tt; letters = tt };
+      committed = λ reply round staple server verdicts y e. record { state = record { deeds = h.deeds; low = tt }; forces = h.deeds; letters = orders_say_none c outcome.Commit c.servers };
+      denied = λ reply round staple server verdicts verdict y e. record { state = record { deeds = h.deeds; low = tt }; forces = tt; letters = orders_say_none c outcome.Abort c.servers };
+      updated = λ reply round staple server verdicts named y e. record { state = record { deeds = h.deeds; low = tt }; forces = tt; letters = (tt, tt) };
+      refused = λ reply round staple server number value k.
+          record { state = record { deeds = h.deeds; low = tt }; forces = subst IsBoundedVote k.vote_is (subst IsBoundedBody k.said_is said); letters = orders_say_none c outcome.Abort c.servers };
+      acknowledged = λ ack ended awaited server a. record { state = record { deeds = h.deeds; low = tt }; forces = tt; letters = tt };
+    })
+
+-- the submission of a transaction
+pub submit_row_bounds : (sc : Scenario) (c : Coordinator) (place : ℕ) → IsValid sc → HaveHomes sc → CoordinatorLow c → is_begun c.phase ≡ false → CoordinatorBounds (with_age (coord.submit_row sc c) place)
+submit_row_bounds sc c place valid homes h new =
+    let low : AreBefore 1 c.deeds = subst (λ (p : Phase). PhaseLow p c.deeds) (idle_is c.phase new) h.low in
+    submit_by sc c (λ (effect : Effect Coordinator). CoordinatorBounds (with_age effect place))
+    (record {
+      ignored = record { state = record { deeds = h.deeds; low = h.low }; forces = tt; letters = tt };
+      sent = λ server home. record { state = record { deeds = h.deeds; low = low }; forces = tt; letters = (value_bounded sc c 1 valid homes h.deeds low, tt) };
+    })

@@ -1,0 +1,87 @@
+-- Deaths for an older transaction, the coordinator's rows: an abort by one is shown by the answer that it came of.
+use Rattle.std.proofs.Common.{IfSome, List, [], ap, arith, map, subst, true, ℕ, ◌<◌, ◌∷◌, ◌≡◌}
+use Rattle.std.proofs.lemmas.Bool.{eqb-true}
+use Rattle.tp_types.specs.Effect.{Effect}
+use Rattle.tp_model.specs.Facts.{was_submitted}
+use Rattle.tp_model.specs.Words.actor
+use Rattle.tp_model.specs.Words.answer
+use Rattle.tp_model.specs.Words.body
+use Rattle.tp_model.specs.Words.log
+use Rattle.tp_model.specs.Words.outcome
+use Rattle.tp_model.specs.Words.what
+use Rattle.tp_model.specs.Words.{Actor, Answer, DoneReply, Fact, Letter, Mail, Outcome, Record, Scenario, ServerId, TxnId}
+use Rattle.tp_coord.specs.Row.{awaited_in, coordinator_row, is_from, prepare_letter, requests, staple_of, submit_row}
+use Rattle.tp_coord.specs.State.{Coordinator}
+use Rattle.tp_runs.proofs.deaths.Fit.{Adds, AnswerSent, BodyDies, Death, LetterDies, WhatDies, body_dies_still, death_shown}
+use Rattle.tp_coord.proofs.Rows.{coordinator_by, submit_by}
+use Rattle.tp_machine.specs.Machine.{with_age}
+use Rattle.tp_types.specs.Each.{Each}
+
+-- what a coordinator forces, with the facts after it
+abbrev pub RecordDies : Scenario → List Fact → ℕ → Record → Type 0
+RecordDies sc facts place (log.Decided d) = WhatDies sc facts place (what.Decided d.txn d.decision)
+RecordDies sc facts place _ = Unit {0}
+
+-- an act of a coordinator in a step at this place; it answers no query
+pub record ActDies (sc : Scenario) (old : List Fact) (place : ℕ) (effect : Effect Coordinator) : Type 0 where
+  pub forces : (facts : List Fact) → Adds old facts place → IfSome effect.reaction.append (RecordDies sc facts place)
+  pub letters : Each (LetterDies sc old place) effect.reaction.letters
+
+orders_none : (sc : Scenario) (facts : List Fact) (place : ℕ) (c : Coordinator) (ended : Outcome) (servers : List ServerId)
+    → Each (LetterDies sc facts place) (requests c (body.Decide (record { txn = c.txn; outcome = ended })) servers)
+orders_none sc facts place c ended [] = tt
+orders_none sc facts place c ended (at ∷ servers) = (tt, orders_none sc facts place c ended servers)
+
+all_none : (sc : Scenario) (facts : List Fact) (place : ℕ) (f : ServerId → Letter) → ((at : ServerId) → LetterDies sc facts place (f at)) → (servers : List ServerId) → Each (LetterDies sc facts place) (map f servers)
+all_none sc facts place f h [] = tt
+all_none sc facts place f h (at ∷ servers) = (h at, all_none sc facts place f h servers)
+
+server_from : (from : Actor) (server : ServerId) → is_from from server ≡ true → from ≡ actor.Server server
+server_from (actor.Server at) server e = ap (λ (n : ℕ). actor.Server (record { 0 = n })) (eqb-true at.0 server.0 e)
+server_from (actor.Coordinator txn) server e = absurd (cc)
+server_from actor.Authority server e = absurd (cc)
+server_from actor.Master server e = absurd (cc)
+
+-- the answer names a death, and was sent after the submission
+told_death : (sc : Scenario) (facts : List Fact) (at : ServerId) (sent : ℕ) (done : DoneReply) (other : TxnId) (given : Answer) → given ≡ answer.Died other → AnswerSent sc facts at sent done given
+    → Death sc facts at done.txn other done.query × (was_submitted done.txn sent facts ≡ true)
+told_death sc facts at sent done other given e h = subst (AnswerSent sc facts at sent done) e h
+
+-- every row of a coordinator on receipt of a mail
+pub coordinator_row_dies : (sc : Scenario) (old : List Fact) (place : ℕ) (c : Coordinator) (mail : Mail) → mail.sent < place → BodyDies sc old mail.sent mail.letter.from mail.letter.body
+    → ((done : DoneReply) → mail.letter.body ≡ body.Done done → done.txn ≡ c.txn) → ActDies sc old place (coordinator_row sc c mail)
+coordinator_row_dies sc old place c mail less h own =
+    coordinator_by sc c mail (ActDies sc old place)
+    (record {
+      ignored = record { forces = λ facts a. tt; letters = tt };
+      ran_next = λ done server asked value next k home. record { forces = λ facts a. tt; letters = (tt, tt) };
+      ran_last = λ done server asked value k none. record { forces = λ facts a. tt; letters = (tt, tt) };
+      died = λ done server asked other k.
+          record {
+            forces = λ facts a declared there.
+                let still = body_dies_still sc old facts place mail.sent mail.letter.from mail.letter.body a (omega (arith, less)) h in
+                let said : BodyDies sc facts mail.sent (actor.Server server) (body.Done done) =
+                subst (λ (from : Actor). BodyDies sc facts mail.sent from (body.Done done)) (server_from mail.letter.from server k.from_is) (subst (BodyDies sc facts mail.sent mail.letter.from) k.said_is still) in
+                let told = told_death sc facts server mail.sent done other done.answer k.answer_is said in
+                let same : done.txn ≡ c.txn = own done k.said_is in
+                death_shown sc facts place server c.txn other done.query mail.sent declared (subst (λ (t : TxnId). Death sc facts server t other done.query) same told.0)
+                (subst (λ (t : TxnId). was_submitted t mail.sent facts ≡ true) same told.1) less there;
+            letters = orders_none sc old place c outcome.Abort c.servers;
+          };
+      told = λ tell round k. record { forces = λ facts a. tt; letters = all_none sc old place (prepare_letter c round (staple_of tell mail.sent)) (λ at. tt) (awaited_in round) };
+      counted = λ reply round staple server verdicts y e. record { forces = λ facts a. tt; letters = tt };
+      committed = λ reply round staple server verdicts y e. record { forces = λ facts a. tt; letters = orders_none sc old place c outcome.Commit c.servers };
+      denied = λ reply round staple server verdicts verdict y e. record { forces = λ facts a. tt; letters = orders_none sc old place c outcome.Abort c.servers };
+      updated = λ reply round staple server verdicts named y e. record { forces = λ facts a. tt; letters = (tt, tt) };
+      refused = λ reply round staple server number value k. record { forces = λ facts a. tt; letters = orders_none sc old place c outcome.Abort c.servers };
+      acknowledged = λ ack ended awaited server k. record { forces = λ facts a. tt; letters = tt };
+    })
+
+-- the submission of a transaction
+pub submit_row_dies : (sc : Scenario) (old : List Fact) (place : ℕ) (c : Coordinator) → ActDies sc old place (with_age (submit_row sc c) place)
+submit_row_dies sc old place c =
+    submit_by sc c (λ (effect : Effect Coordinator). ActDies sc old place (with_age effect place))
+    (record {
+      ignored = record { forces = λ facts a. tt; letters = tt };
+      sent = λ server home. record { forces = λ facts a. tt; letters = (tt, tt) };
+    })

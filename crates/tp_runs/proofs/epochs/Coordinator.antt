@@ -1,0 +1,171 @@
+-- Epochs, the coordinator's other rows: they name what is kept, and keep it.
+use Rattle.std.proofs.Common.{List, None, Option, Some, [], ap, false, is_some, map, refl, subst, sym, true, unwrap_or, ℕ, ◌∙◌, ◌∷◌, ◌≡◌}
+use Rattle.tp_types.specs.Effect.{Effect, ignores, sends}
+use Rattle.tp_model.specs.Words.body
+use Rattle.tp_model.specs.Words.cause
+use Rattle.tp_model.specs.Words.outcome
+use Rattle.tp_model.specs.Words.{Actor, Body, Mail, Outcome, Scenario, ServerId, Staple, Verdict}
+use Rattle.tp_runs.proofs.agreement.Coordinator.{idle_is}
+use Rattle.tp_runs.proofs.basics.Homes.{HaveHomes}
+use Rattle.tp_runs.proofs.basics.Phases.{has_run_at, is_undecided}
+use Rattle.tp_runs.proofs.epochs.Asked.{Asking, NamesKept, asked_then, kept_are_asked, kept_are_own, then_kept}
+use Rattle.tp_runs.proofs.epochs.Kept.{CoordinatorKeeps, IsDoneMail, KeepsAsked, KeepsEpoch, PhaseKept, RowKeeps, ignores_keeps, kept_epoch, plain_keeps, query_keeps, ran_last_keeps, ran_next_keeps}
+use Rattle.tp_runs.proofs.epochs.Server.{IsPlainLetter, LetterFirst, LetterTold}
+use Rattle.tp_coord.proofs.Rows.{coordinator_by, submit_by}
+use Rattle.tp_machine.specs.Machine.{with_age}
+use Rattle.tp_types.specs.Each.{Each}
+use Rattle.tp_coord.specs.Opened.{servers_at}
+use Rattle.tp_coord.specs.Row as coord
+use Rattle.tp_coord.specs.State.{Coordinator}
+use Rattle.tp_coord.specs.declared.coordinator.Phase.TheVariants as phase
+use Rattle.tp_coord.specs.declared.coordinator.Phase.{Phase}
+use Rattle.tp_runs.proofs.basics.Rounds.{EachServer, each_missing, each_renewed, each_replied, missing_in, updated_is}
+use Rattle.tp_round.specs.Judge.{after_judgement, after_reply, aim_in, judge}
+use Rattle.tp_round.specs.Replies.{by_query, proofs_in}
+use Rattle.tp_round.specs.declared.round.Judged.TheVariants as judged
+use Rattle.tp_round.specs.declared.round.Round.{Round}
+use Rattle.tp_round.specs.declared.round.Wanted.{Wanted}
+
+-- ---- Tell
+
+pub some_is : (kept : Option ℕ) → is_some kept ≡ true → kept ≡ Some (unwrap_or kept 0)
+some_is None e = absurd (cc)
+some_is (Some n) e = refl
+
+prepares_name : (c : Coordinator) (round : Round) (staple : Staple) (servers : List ServerId) → Each (KeepsEpoch c) servers → Each (NamesKept c.txn (kept_epoch c)) (map (coord.prepare_letter c round staple) servers)
+prepares_name c round staple [] h = tt
+prepares_name c round staple (at ∷ servers) h = ((refl, some_is (kept_epoch c at) h.0), prepares_name c round staple servers h.1)
+
+prepares_first : (sc : Scenario) (c : Coordinator) (round : Round) (staple : Staple) (servers : List ServerId) → Each (LetterFirst sc) (map (coord.prepare_letter c round staple) servers)
+prepares_first sc c round staple [] = tt
+prepares_first sc c round staple (at ∷ servers) = (tt, prepares_first sc c round staple servers)
+
+prepares_told : (sc : Scenario) (A : Asking) (E : ℕ → ℕ) (c : Coordinator) (round : Round) (staple : Staple) (servers : List ServerId) → Each (LetterTold sc A E) (map (coord.prepare_letter c round staple) servers)
+prepares_told sc A E c round staple [] = tt
+prepares_told sc A E c round staple (at ∷ servers) = (tt, prepares_told sc A E c round staple servers)
+
+prepares_keeps : (sc : Scenario) (E : ℕ → ℕ) (A : Asking) (c : Coordinator) (round : Round) (staple : Staple) → CoordinatorKeeps sc E (A c.txn) c → c.phase ≡ phase.Asking round
+    → RowKeeps sc E A c (coord.prepares c round staple)
+prepares_keeps sc E A c round staple h e =
+    let k : KeepsAsked sc (A c.txn) c = h.undecided (ap is_undecided e) in
+    let kept : EachServer (KeepsEpoch c) round.targets = subst (PhaseKept (KeepsEpoch c)) e k.round in
+    let letters = map (coord.prepare_letter c round staple) (missing_in round.targets) in
+    let names : Each (NamesKept c.txn (kept_epoch c)) letters = prepares_name c round staple (missing_in round.targets) (each_missing (KeepsEpoch c) round.targets kept) in
+    record {
+      keeps = record {
+        places = h.places;
+        past = h.past;
+        undecided = λ unsure. record {
+          asked = λ at epoch. then_kept A c.txn at (kept_epoch c) letters (k.asked at) names epoch;
+          ran = λ at. k.ran at ∙ ap (λ (p : Phase). has_run_at sc c.txn p at) e;
+          round = kept;
+        };
+      };
+      own = kept_are_own c.txn (kept_epoch c) letters names;
+      sent = record {
+        named = kept_are_asked A c.txn (kept_epoch c) letters k.asked names;
+        first = prepares_first sc c round staple (missing_in round.targets);
+        told = prepares_told sc (asked_then A letters) E c round staple (missing_in round.targets);
+      };
+    }
+
+-- ---- Vote
+
+orders_plain : (c : Coordinator) (ended : Outcome) (servers : List ServerId) → Each IsPlainLetter (coord.requests c (body.Decide (record { txn = c.txn; outcome = ended })) servers)
+orders_plain c ended [] = tt
+orders_plain c ended (at ∷ servers) = (tt, orders_plain c ended servers)
+
+counted_keeps : (sc : Scenario) (E : ℕ → ℕ) (A : Asking) (c : Coordinator) (round : Round) (staple : Staple) (at : ServerId) (verdicts : List Verdict) → CoordinatorKeeps sc E (A c.txn) c
+    → c.phase ≡ phase.Checking round staple → RowKeeps sc E A c (sends (record c { phase = phase.Checking (after_reply round at verdicts) staple }) [])
+counted_keeps sc E A c round staple at verdicts h e =
+    let k : KeepsAsked sc (A c.txn) c = h.undecided (ap is_undecided e) in
+    let kept : EachServer (KeepsEpoch c) round.targets = subst (PhaseKept (KeepsEpoch c)) e k.round in
+    plain_keeps sc E A c.txn (Some (record c { phase = phase.Checking (after_reply round at verdicts) staple })) []
+    (record {
+      places = h.places;
+      past = h.past;
+      undecided = λ unsure. record {
+        asked = k.asked;
+        ran = λ s. k.ran s ∙ ap (λ (p : Phase). has_run_at sc c.txn p s) e;
+        round = each_replied (KeepsEpoch c) round.targets at verdicts kept;
+      };
+    }) tt
+
+-- the authority is asked before a further round
+updated_keeps : (sc : Scenario) (E : ℕ → ℕ) (A : Asking) (c : Coordinator) (round : Round) (staple : Staple) (at : ServerId) (verdicts : List Verdict) (named : List Wanted) → CoordinatorKeeps sc E (A c.txn) c
+    → c.phase ≡ phase.Checking round staple → judge (after_reply round at verdicts) None ≡ judged.Update named
+    → RowKeeps sc E A c (coord.asks c (after_judgement (after_reply round at verdicts) None))
+updated_keeps sc E A c round staple at verdicts named h e judgement =
+    let k : KeepsAsked sc (A c.txn) c = h.undecided (ap is_undecided e) in
+    let replied = after_reply round at verdicts in
+    let kept : EachServer (KeepsEpoch c) replied.targets = each_replied (KeepsEpoch c) round.targets at verdicts (subst (PhaseKept (KeepsEpoch c)) e k.round) in
+    let next = after_judgement replied None in
+    let renewed : EachServer (KeepsEpoch c) next.targets =
+    subst (λ (r : Round). EachServer (KeepsEpoch c) r.targets) (sym (updated_is replied named judgement)) (each_renewed (KeepsEpoch c) (aim_in replied None) replied.targets kept) in
+    plain_keeps sc E A c.txn (Some (coord.asks c next).state) (coord.asks c next).reaction.letters
+    (record {
+      places = h.places;
+      past = h.past;
+      undecided = λ unsure. record { asked = k.asked; ran = λ s. k.ran s ∙ ap (λ (p : Phase). has_run_at sc c.txn p s) e; round = renewed };
+    }) (tt, tt)
+
+-- ---- all mails
+
+-- what a mail tells a coordinator of epochs
+abbrev pub IsMail : Scenario → (ℕ → ℕ) → Asking → Coordinator → Actor → Body → Type 0
+IsMail sc E A c from (body.Done done) = IsDoneMail sc E A c from done
+IsMail sc E A c from _ = Unit {0}
+
+-- every row of a coordinator on receipt of a mail
+pub coordinator_row_keeps : (sc : Scenario) (E : ℕ → ℕ) (A : Asking) (c : Coordinator) (mail : Mail) → HaveHomes sc → CoordinatorKeeps sc E (A c.txn) c → c.servers ≡ servers_at sc c.txn
+    → IsMail sc E A c mail.letter.from mail.letter.body → RowKeeps sc E A c (coord.coordinator_row sc c mail)
+coordinator_row_keeps sc E A c mail homes h servers m =
+    coordinator_by sc c mail (RowKeeps sc E A c)
+    (record {
+      ignored = ignores_keeps sc E A c h;
+      ran_next = λ done at asked value next k home. ran_next_keeps sc E A c mail done at asked value next homes h (subst (IsMail sc E A c mail.letter.from) k.said_is m) k;
+      ran_last = λ done at asked value k none. ran_last_keeps sc E A c mail done at asked value homes h servers (subst (IsMail sc E A c mail.letter.from) k.said_is m) k none;
+      died = λ done at asked other k.
+          plain_keeps sc E A c.txn (Some (coord.aborts c (cause.Died (coord.died_for at done other mail.sent))).state) (coord.decide_letters c outcome.Abort)
+          (record { places = h.places; past = h.past; undecided = λ unsure. absurd (cc) }) (orders_plain c outcome.Abort c.servers);
+      told = λ tell round k. prepares_keeps sc E A c round (coord.staple_of tell mail.sent) h k.asking;
+      counted = λ reply round staple at verdicts y e. counted_keeps sc E A c round staple at verdicts h y.checking;
+      committed = λ reply round staple at verdicts y e.
+          plain_keeps sc E A c.txn (Some (coord.commits c round.number (by_query (proofs_in (after_reply round at verdicts).targets))).state) (coord.decide_letters c outcome.Commit)
+          (record { places = h.places; past = h.past; undecided = λ unsure. absurd (cc) }) (orders_plain c outcome.Commit c.servers);
+      denied = λ reply round staple at verdicts verdict y e.
+          plain_keeps sc E A c.txn (Some (coord.aborts c (cause.Denied (coord.denied_by verdict))).state) (coord.decide_letters c outcome.Abort)
+          (record { places = h.places; past = h.past; undecided = λ unsure. absurd (cc) }) (orders_plain c outcome.Abort c.servers);
+      updated = λ reply round staple at verdicts named y e. updated_keeps sc E A c round staple at verdicts named h y.checking e;
+      refused = λ reply round staple at number value k.
+          plain_keeps sc E A c.txn (Some (coord.aborts c (cause.No (coord.refused_by at number value))).state) (coord.decide_letters c outcome.Abort)
+          (record { places = h.places; past = h.past; undecided = λ unsure. absurd (cc) }) (orders_plain c outcome.Abort c.servers);
+      acknowledged = λ ack ended awaited at k.
+          plain_keeps sc E A c.txn (Some (record c { phase = phase.Ending ended (coord.without awaited at) })) []
+          (record { places = h.places; past = h.past; undecided = λ unsure. absurd (cc) }) tt;
+    })
+
+-- ---- Submit
+
+-- what is kept of epochs does not hang on the age
+aged_keeps : (sc : Scenario) (E : ℕ → ℕ) (A : Asking) (c : Coordinator) (effect : Effect Coordinator) (age : ℕ) → RowKeeps sc E A c effect → RowKeeps sc E A c (with_age effect age)
+aged_keeps sc E A c effect age h =
+    record {
+      keeps = record { places = h.keeps.places; past = h.keeps.past; undecided = λ unsure. let k = h.keeps.undecided unsure in record { asked = k.asked; ran = k.ran; round = k.round } };
+      own = h.own;
+      sent = h.sent;
+    }
+
+sent_keeps : (sc : Scenario) (E : ℕ → ℕ) (A : Asking) (c : Coordinator) (at : ServerId) → CoordinatorKeeps sc E (A c.txn) c → c.phase ≡ phase.Idle → RowKeeps sc E A c (coord.sends_query sc c 1 at)
+sent_keeps sc E A c at h e =
+    let k : KeepsAsked sc (A c.txn) c = h.undecided (ap is_undecided e) in
+    query_keeps sc E A c 1 at h.places h.past k.asked (λ s. k.ran s ∙ ap (λ (p : Phase). has_run_at sc c.txn p s) e)
+
+-- the submission of a transaction
+pub submit_row_keeps : (sc : Scenario) (E : ℕ → ℕ) (A : Asking) (c : Coordinator) (age : ℕ) → CoordinatorKeeps sc E (A c.txn) c → coord.is_begun c.phase ≡ false → RowKeeps sc E A c (with_age (coord.submit_row sc c) age)
+submit_row_keeps sc E A c age h b =
+    submit_by sc c (λ (effect : Effect Coordinator). RowKeeps sc E A c (with_age effect age))
+    (record {
+      ignored = aged_keeps sc E A c (ignores c) age (ignores_keeps sc E A c h);
+      sent = λ at home. aged_keeps sc E A c (coord.sends_query sc c 1 at) age (sent_keeps sc E A c at h (idle_is c.phase b));
+    })

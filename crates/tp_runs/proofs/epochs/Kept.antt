@@ -1,0 +1,261 @@
+-- Epochs, what a coordinator keeps: of each server at which a query of its transaction ran, one that has not decided keeps an epoch, and
+-- all that was asked of a server is what it keeps. And its row on the answer to a query, which is where it learns an epoch.
+use Rattle.std.specs.List.{list_any}
+use Rattle.std.proofs.Common.{Bool, IfSome, List, None, Option, Some, [], ap, arith, false, if◌then◌else◌, is_none, is_some, length, not, option_map, refl, slice_get, slice_set, subst, sym, take, true, ℕ, ℤ, ◌+◌, ◌-◌, ◌<◌, ◌==◌, ◌||◌, ◌∙◌, ◌≡◌, ◌≤◌}
+use Rattle.std.proofs.lemmas.Bool.{eqb-true, not-true}
+use Rattle.std.proofs.lemmas.List.{length-set}
+use Rattle.std.proofs.lemmas.Option.{same_Some}
+use Rattle.tp_types.specs.Effect.{Effect, ignores}
+use Rattle.std.specs.Option.{option_flatten}
+use Rattle.tp_model.specs.Agreement.{has_item_at}
+use Rattle.tp_model.specs.Queries.{is_at_server}
+use Rattle.tp_model.specs.Words.actor
+use Rattle.tp_model.specs.Words.body
+use Rattle.tp_model.specs.Words.{Actor, DoneReply, Letter, Mail, Query, Scenario, ServerId, TxnId}
+use Rattle.tp_runs.proofs.agreement.Coordinator.{servers_at_have_items}
+use Rattle.tp_runs.proofs.basics.Homes.{HaveHomes, last_is, next_is}
+use Rattle.tp_runs.proofs.basics.Ids.{server_number}
+use Rattle.tp_types.proofs.EachLemmas.{each_as, missing, placed_set}
+use Rattle.tp_runs.proofs.basics.Logs.{get_set}
+use Rattle.tp_runs.proofs.basics.Phases.{all_ran, awaits_is, has_run_at, is_first_at, is_undecided, late_has_run, next_ran, queries_of, sent_to_server}
+use Rattle.tp_runs.proofs.basics.Rounds.{EachServer, each_started}
+use Rattle.tp_runs.proofs.epochs.Asked.{Asking, IsKeptNaming, NamesKept, NamesOwn, asked_then, kept_are_asked, kept_are_own, naming, none_then, then_kept}
+use Rattle.tp_runs.proofs.epochs.Server.{BodyTold, DoneMade, IsPlainLetter, LettersEpochs, has_restarted, plain_letters, plain_names_none, plain_names_own}
+use Rattle.tp_coord.proofs.Rows.{IsRanAnswer}
+use Rattle.tp_types.specs.Each.{Each, EachPlaced}
+use Rattle.tp_runs.specs.Sound.{IsActor, query_in}
+use Rattle.tp_coord.specs.Opened.{servers_at}
+use Rattle.tp_coord.specs.Row as coord
+use Rattle.tp_coord.specs.State.{Coordinator}
+use Rattle.tp_coord.specs.declared.coordinator.Phase.TheVariants as phase
+use Rattle.tp_coord.specs.declared.coordinator.Phase.{Phase}
+
+-- ---- what is kept
+
+-- the epoch that the coordinator keeps of a server
+abbrev pub kept_epoch : Coordinator → ServerId → Option ℕ
+kept_epoch c at = option_flatten (slice_get c.epochs at.0)
+
+abbrev pub KeepsEpoch : Coordinator → ServerId → Type 0
+KeepsEpoch c at = is_some (kept_epoch c at) ≡ true
+
+-- an epoch is kept of each server of a round
+abbrev pub PhaseKept : (ServerId → Type 0) → Phase → Type 0
+PhaseKept K (phase.Asking round) = EachServer K round.targets
+PhaseKept K (phase.Checking round staple) = EachServer K round.targets
+PhaseKept K _ = Unit {0}
+
+-- before the decision: what was asked is kept, and an epoch is kept of a server exactly where a query ran
+pub record KeepsAsked (sc : Scenario) (A : ServerId → Option ℕ) (c : Coordinator) : Type 0 where
+  pub asked : (at : ServerId) (epoch : ℕ) → A at ≡ Some epoch → kept_epoch c at ≡ Some epoch
+  pub ran : (at : ServerId) → is_some (kept_epoch c at) ≡ has_run_at sc c.txn c.phase at
+  pub round : PhaseKept (KeepsEpoch c) c.phase
+
+-- there is a place for each server, what is kept is an epoch that the server had, and it is what was asked until the decision
+pub record CoordinatorKeeps (sc : Scenario) (E : ℕ → ℕ) (A : ServerId → Option ℕ) (c : Coordinator) : Type 0 where
+  pub places : length c.epochs ≡ length sc.servers
+  pub past : EachPlaced (λ (n : ℕ) (epoch : ℕ). epoch ≤ E n) c.epochs
+  pub undecided : is_undecided c.phase ≡ true → KeepsAsked sc A c
+
+-- an act of a coordinator: what it keeps after it, if it is up, and its letters, which name what is asked then
+pub record CoordinatorEpochs (sc : Scenario) (E : ℕ → ℕ) (A : Asking) (txn : TxnId) (now : Option Coordinator) (letters : List Letter) : Type 0 where
+  pub keeps : IfSome now (CoordinatorKeeps sc E (asked_then A letters txn))
+  pub own : Each (NamesOwn txn) letters
+  pub sent : LettersEpochs sc (asked_then A letters) E letters
+
+-- that of a row
+abbrev pub RowKeeps : Scenario → (ℕ → ℕ) → Asking → Coordinator → Effect Coordinator → Type 0
+RowKeeps sc E A c effect = CoordinatorEpochs sc E A c.txn (Some effect.state) effect.reaction.letters
+
+-- one whose letters name no epoch and tell none
+pub plain_keeps : (sc : Scenario) (E : ℕ → ℕ) (A : Asking) (txn : TxnId) (now : Option Coordinator) (letters : List Letter) → IfSome now (CoordinatorKeeps sc E (A txn)) → Each IsPlainLetter letters
+    → CoordinatorEpochs sc E A txn now letters
+plain_keeps sc E A txn now letters h plain =
+    record {
+      keeps = subst (λ (B : Asking). IfSome now (CoordinatorKeeps sc E (B txn))) (sym (none_then A letters (plain_names_none letters plain))) h;
+      own = plain_names_own txn letters plain;
+      sent = plain_letters sc (asked_then A letters) E letters plain;
+    }
+
+pub ignores_keeps : (sc : Scenario) (E : ℕ → ℕ) (A : Asking) (c : Coordinator) → CoordinatorKeeps sc E (A c.txn) c → RowKeeps sc E A c (ignores c)
+ignores_keeps sc E A c h = plain_keeps sc E A c.txn (Some c) [] h tt
+
+-- ---- Done
+
+pub from_server : (from : Actor) (at : ServerId) → coord.is_from from at ≡ true → from ≡ actor.Server at
+from_server (actor.Server other) at e = ap (λ (n : ℕ). actor.Server (server_number n)) (eqb-true other.0 at.0 e)
+from_server (actor.Coordinator txn) at e = absurd (cc)
+from_server actor.Master at e = absurd (cc)
+from_server actor.Authority at e = absurd (cc)
+
+flat_chosen : (b : Bool) (epoch : ℕ) (other : Option (Option ℕ)) → option_flatten (if b then Some (Some epoch) else other) ≡ (if b then Some epoch else option_flatten other)
+flat_chosen true epoch other = refl
+flat_chosen false epoch other = refl
+
+-- the epoch of one server is kept anew
+pub kept_set : (epochs : List (Option ℕ)) (n m epoch : ℕ) → n < length epochs → option_flatten (slice_get (slice_set epochs n (Some epoch)) m) ≡ (if n == m then Some epoch else option_flatten (slice_get epochs m))
+kept_set epochs n m epoch within = by_found (slice_get epochs n) refl
+  where
+    by_found : (found : Option (Option ℕ)) → slice_get epochs n ≡ found → option_flatten (slice_get (slice_set epochs n (Some epoch)) m) ≡ (if n == m then Some epoch else option_flatten (slice_get epochs m))
+    by_found None e = absurd (missing epochs n within e)
+    by_found (Some old) e = ap option_flatten (get_set epochs n m old (Some epoch) e) ∙ flat_chosen (n == m) epoch (slice_get epochs m)
+
+some_chosen : (b : Bool) (epoch : ℕ) (other : Option ℕ) → is_some (if b then Some epoch else other) ≡ (is_some other || b)
+some_chosen true epoch None = refl
+some_chosen true epoch (Some n) = refl
+some_chosen false epoch None = refl
+some_chosen false epoch (Some n) = refl
+
+asked_chosen : (b : Bool) (epoch n : ℕ) (kept : Option ℕ) → (b ≡ true → epoch ≡ n) → kept ≡ Some n → (if b then Some epoch else kept) ≡ Some n
+asked_chosen true epoch n kept same e = ap (λ (k : ℕ). Some k) (same refl)
+asked_chosen false epoch n kept same e = e
+
+-- the reply to the query that is awaited, from its server
+record IsAnswer (sc : Scenario) (E : ℕ → ℕ) (A : Asking) (c : Coordinator) (done : DoneReply) (asked : Query) (at : ServerId) : Type 0 where
+  pub awaits : c.phase ≡ phase.Querying done.query None
+  pub asked_is : query_in sc c.txn done.query ≡ Some asked
+  pub at_is : coord.server_of sc asked ≡ Some at
+  pub exists : at.0 < length sc.servers
+  pub ran : has_restarted done.answer ≡ false
+  pub told : DoneMade sc A at (E at.0) done
+  pub own : done.txn ≡ c.txn
+
+-- what was asked of the server, if anything, is the epoch that the answer tells
+told_is_asked : (sc : Scenario) (E : ℕ → ℕ) (A : Asking) (c : Coordinator) (done : DoneReply) (asked : Query) (at : ServerId) (epoch : ℕ) (first : Bool) → is_first_at sc at c.txn done.query ≡ first
+    → IsAnswer sc E A c done asked at → KeepsAsked sc (A c.txn) c → A c.txn at ≡ Some epoch → done.epoch ≡ epoch
+told_is_asked sc E A c done asked at epoch true first m k e =
+    let none : has_run_at sc c.txn (phase.Querying done.query None) at ≡ false = not-true (has_run_at sc c.txn (phase.Querying done.query None) at) first in
+    let kept : is_some (kept_epoch c at) ≡ true = ap is_some (k.asked at epoch e) in
+    let ran : is_some (kept_epoch c at) ≡ false = k.ran at ∙ (ap (λ (p : Phase). has_run_at sc c.txn p at) m.awaits ∙ none) in
+    absurd (cc)
+told_is_asked sc E A c done asked at epoch false later m k e =
+    let told : A c.txn at ≡ Some done.epoch = subst (λ (t : TxnId). A t at ≡ Some done.epoch) m.own
+    (m.told.asked m.ran (subst (λ (t : TxnId). is_first_at sc at t done.query ≡ false) (sym m.own) later)) in
+    same_Some done.epoch epoch (sym told ∙ e)
+
+each_server : (sc : Scenario) (c : Coordinator) (K : ServerId → Type 0) → c.servers ≡ servers_at sc c.txn → ((at : ServerId) → has_item_at sc at c.txn ≡ true → K at) → Each K c.servers
+each_server sc c K e h =
+    subst (λ (servers : List ServerId). Each K servers) (sym e)
+    (each_as (λ (at : ServerId). has_item_at sc at c.txn ≡ true) K (λ at item. h at item) (servers_at sc c.txn) (servers_at_have_items sc c.txn))
+
+-- a coordinator once the answer's epoch is kept
+record DeedKept (sc : Scenario) (E : ℕ → ℕ) (A : Asking) (c : Coordinator) (number : ℕ) (next : Coordinator) : Type 0 where
+  pub places : length next.epochs ≡ length sc.servers
+  pub past : EachPlaced (λ (n : ℕ) (epoch : ℕ). epoch ≤ E n) next.epochs
+  pub asked : (s : ServerId) (epoch : ℕ) → A c.txn s ≡ Some epoch → kept_epoch next s ≡ Some epoch
+  pub ran : (s : ServerId) → is_some (kept_epoch next s) ≡ list_any (is_at_server sc s.0) (take number (queries_of sc c.txn))
+
+deed_keeps : (sc : Scenario) (E : ℕ → ℕ) (A : Asking) (c : Coordinator) (done : DoneReply) (asked : Query) (at : ServerId) (value : ℤ) → CoordinatorKeeps sc E (A c.txn) c
+    → IsAnswer sc E A c done asked at → DeedKept sc E A c done.query (coord.with_deed c at done asked value)
+deed_keeps sc E A c done asked at value h m =
+    let k : KeepsAsked sc (A c.txn) c = h.undecided (ap is_undecided m.awaits) in
+    let next = coord.with_deed c at done asked value in
+    let within : at.0 < length c.epochs = omega (arith, h.places, m.exists) in
+    let now : (s : ServerId) → kept_epoch next s ≡ (if at.0 == s.0 then Some done.epoch else kept_epoch c s) = λ s. kept_set c.epochs at.0 s.0 done.epoch within in
+    record {
+      places = length-set c.epochs at.0 (Some done.epoch) ∙ h.places;
+      past = placed_set (λ (n : ℕ) (epoch : ℕ). epoch ≤ E n) c.epochs at.0 done.epoch h.past m.told.past;
+      asked = λ s epoch e. now s
+          ∙ asked_chosen (at.0 == s.0) done.epoch epoch (kept_epoch c s)
+          (λ same. told_is_asked sc E A c done asked at epoch (is_first_at sc at c.txn done.query) refl m k
+          (subst (λ (t : ServerId). A c.txn t ≡ Some epoch) (ap server_number (sym (eqb-true at.0 s.0 same))) e))
+          (k.asked s epoch e);
+      ran = λ s. ap is_some (now s)
+          ∙ (some_chosen (at.0 == s.0) done.epoch (kept_epoch c s)
+          ∙ (ap (λ (b : Bool). b || (at.0 == s.0)) (k.ran s ∙ ap (λ (p : Phase). has_run_at sc c.txn p s) m.awaits)
+          ∙ (ap (λ (b : Bool). has_run_at sc c.txn (phase.Querying done.query None) s || b) (sym (sent_to_server sc asked at s.0 m.at_is))
+          ∙ sym (next_ran sc c.txn done.query asked (is_at_server sc s.0) m.asked_is))));
+    }
+
+-- the last query ran: all servers are asked to prepare
+last_keeps : (sc : Scenario) (E : ℕ → ℕ) (A : Asking) (c : Coordinator) (done : DoneReply) (asked : Query) (at : ServerId) (value : ℤ) → CoordinatorKeeps sc E (A c.txn) c → c.servers ≡ servers_at sc c.txn
+    → IsAnswer sc E A c done asked at → query_in sc c.txn (done.query + 1) ≡ None → RowKeeps sc E A c (coord.asks (coord.with_deed c at done asked value) (coord.commit_round (coord.with_deed c at done asked value)))
+last_keeps sc E A c done asked at value h servers m last =
+    let now = coord.with_deed c at done asked value in
+    let next = (coord.asks now (coord.commit_round now)).state in
+    let k = deed_keeps sc E A c done asked at value h m in
+    let ran : (s : ServerId) → is_some (kept_epoch next s) ≡ has_run_at sc c.txn next.phase s = λ s. k.ran s ∙ ap (list_any (is_at_server sc s.0)) (all_ran sc c.txn done.query last) in
+    plain_keeps sc E A c.txn (Some next) (coord.asks now (coord.commit_round now)).reaction.letters
+    (record {
+      places = k.places;
+      past = k.past;
+      undecided = λ unsure. record {
+        asked = k.asked;
+        ran = ran;
+        round = each_started (KeepsEpoch next) c.servers (each_server sc c (KeepsEpoch next) servers (λ s item. ran s ∙ (late_has_run sc c.txn next.phase s refl ∙ item)));
+      };
+    }) (tt, tt)
+
+-- ---- Query
+
+names_told : (c : Coordinator) (at : ServerId) (told : Option ℕ) → kept_epoch c at ≡ told → IfSome (option_map (naming c.txn) told) (IsKeptNaming c.txn (kept_epoch c) (actor.Server at))
+names_told c at None e = tt
+names_told c at (Some epoch) e = (refl, e)
+
+none_or_some : (told : Option ℕ) (b : Bool) → is_some told ≡ b → is_none told ≡ not b
+none_or_some None b e = ap not e
+none_or_some (Some epoch) b e = ap not e
+
+-- a query is asked, of the epoch that is kept of its server
+pub query_keeps : (sc : Scenario) (E : ℕ → ℕ) (A : Asking) (c : Coordinator) (number : ℕ) (at : ServerId) → length c.epochs ≡ length sc.servers → EachPlaced (λ (n : ℕ) (epoch : ℕ). epoch ≤ E n) c.epochs
+    → ((s : ServerId) (epoch : ℕ) → A c.txn s ≡ Some epoch → kept_epoch c s ≡ Some epoch) → ((s : ServerId) → is_some (kept_epoch c s) ≡ has_run_at sc c.txn (phase.Querying number None) s)
+    → RowKeeps sc E A c (coord.sends_query sc c number at)
+query_keeps sc E A c number at places past asked ran =
+    let letters = (coord.sends_query sc c number at).reaction.letters in
+    let names : Each (NamesKept c.txn (kept_epoch c)) letters = (names_told c at (kept_epoch c at) refl, tt) in
+    record {
+      keeps = record {
+        places = places;
+        past = past;
+        undecided = λ unsure. record { asked = λ s epoch. then_kept A c.txn s (kept_epoch c) letters (asked s) names epoch; ran = ran; round = tt };
+      };
+      own = kept_are_own c.txn (kept_epoch c) letters names;
+      sent = record {
+        named = kept_are_asked A c.txn (kept_epoch c) letters asked names;
+        first = (none_or_some (kept_epoch c at) (has_run_at sc c.txn (phase.Querying number None) at) (ran at), tt);
+        told = (tt, tt);
+      };
+    }
+
+-- a further query is to run
+next_keeps : (sc : Scenario) (E : ℕ → ℕ) (A : Asking) (c : Coordinator) (done : DoneReply) (asked : Query) (at next : ServerId) (value : ℤ) → CoordinatorKeeps sc E (A c.txn) c
+    → IsAnswer sc E A c done asked at → coord.next_number done.query ≡ done.query + 1 → RowKeeps sc E A c (coord.sends_query sc (coord.with_deed c at done asked value) (coord.next_number done.query) next)
+next_keeps sc E A c done asked at next value h m further =
+    let k = deed_keeps sc E A c done asked at value h m in
+    let before : done.query ≡ coord.next_number done.query - 1 = omega (arith, further) in
+    query_keeps sc E A (coord.with_deed c at done asked value) (coord.next_number done.query) next k.places k.past k.asked
+    (λ s. k.ran s ∙ ap (λ (n : ℕ). list_any (is_at_server sc s.0) (take n (queries_of sc c.txn))) before)
+
+-- what a coordinator knows of the mail's sender and transaction
+pub record IsDoneMail (sc : Scenario) (E : ℕ → ℕ) (A : Asking) (c : Coordinator) (from : Actor) (done : DoneReply) : Type 0 where
+  pub from_is_actor : IsActor sc from
+  pub told : BodyTold sc A E from (body.Done done)
+  pub own : done.txn ≡ c.txn
+
+is_answer : (sc : Scenario) (E : ℕ → ℕ) (A : Asking) (c : Coordinator) (mail : Mail) (done : DoneReply) (at : ServerId) (asked : Query) (value : ℤ) → IsDoneMail sc E A c mail.letter.from done
+    → IsRanAnswer sc c mail done at asked value → IsAnswer sc E A c done asked at
+is_answer sc E A c mail done at asked value m k =
+    let is : mail.letter.from ≡ actor.Server at = from_server mail.letter.from at k.from_is in
+    record {
+      awaits = awaits_is c c.phase done k.awaited k.plain;
+      asked_is = k.asked_is;
+      at_is = k.server_is;
+      exists = subst (IsActor sc) is m.from_is_actor;
+      ran = ap has_restarted k.answer_is;
+      told = subst (λ (a : Actor). BodyTold sc A E a (body.Done done)) is m.told;
+      own = m.own;
+    }
+
+-- the answer to the last query
+pub ran_last_keeps : (sc : Scenario) (E : ℕ → ℕ) (A : Asking) (c : Coordinator) (mail : Mail) (done : DoneReply) (at : ServerId) (asked : Query) (value : ℤ) → HaveHomes sc → CoordinatorKeeps sc E (A c.txn) c
+    → c.servers ≡ servers_at sc c.txn → IsDoneMail sc E A c mail.letter.from done → IsRanAnswer sc c mail done at asked value → coord.home_of sc c (coord.next_number done.query) ≡ None
+    → RowKeeps sc E A c (coord.asks (coord.with_deed c at done asked value) (coord.commit_round (coord.with_deed c at done asked value)))
+ran_last_keeps sc E A c mail done at asked value homes h servers m k none =
+    last_keeps sc E A c done asked at value h servers (is_answer sc E A c mail done at asked value m k) (last_is sc c done.query asked homes k.asked_is none)
+
+-- the answer to another one
+pub ran_next_keeps : (sc : Scenario) (E : ℕ → ℕ) (A : Asking) (c : Coordinator) (mail : Mail) (done : DoneReply) (at : ServerId) (asked : Query) (value : ℤ) (next : ServerId) → HaveHomes sc
+    → CoordinatorKeeps sc E (A c.txn) c → IsDoneMail sc E A c mail.letter.from done → IsRanAnswer sc c mail done at asked value
+    → RowKeeps sc E A c (coord.sends_query sc (coord.with_deed c at done asked value) (coord.next_number done.query) next)
+ran_next_keeps sc E A c mail done at asked value next homes h m k =
+    next_keeps sc E A c done asked at next value h (is_answer sc E A c mail done at asked value m k) (next_is sc c done.query asked homes k.asked_is)

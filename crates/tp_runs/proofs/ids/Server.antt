@@ -1,0 +1,411 @@
+-- The server's row keeps its state sound, forces a sound record, and sends sound letters.
+use Rattle.std.specs.List.{list_all, list_any}
+use Rattle.std.proofs.Common.{Bool, IfSome, List, MatchOption, None, Option, Some, [], ap, arith, false, is_none, is_some, length, option_map, refl, slice_get, slice_set, subst, suc, sym, true, unwrap_or, zero, ℕ, ℤ, ⊎_elim, ◌&&◌, ◌<◌, ◌==◌, ◌||◌, ◌∙◌, ◌∷◌, ◌≡◌}
+use Rattle.std.proofs.lemmas.Bool.{and_parts, eqb-true}
+use Rattle.std.proofs.lemmas.Option.{same_Some, slice_get_within}
+use Rattle.tp_types.specs.Effect.{Effect, ignores, sends}
+use Rattle.std.specs.Option.{option_flatten}
+use Rattle.tp_lock.specs.Rule.{without_grant}
+use Rattle.tp_lock.specs.Table.{Table}
+use Rattle.tp_lock.specs.declared.entry.Asked.TheVariants as asked
+use Rattle.tp_lock.specs.declared.entry.Asked.{Asked}
+use Rattle.tp_lock.specs.declared.entry.Grant.{Grant}
+use Rattle.tp_lock.specs.declared.entry.LockEntry.{LockEntry}
+use Rattle.tp_model.specs.Authorisation.{action_of, policy_at}
+use Rattle.tp_model.specs.Credentials.{is_among, is_presented}
+use Rattle.tp_model.specs.Ids.{same_cred}
+use Rattle.tp_model.specs.Queries.{item_of}
+use Rattle.tp_model.specs.Words.actor
+use Rattle.tp_model.specs.Words.answer
+use Rattle.tp_model.specs.Words.body
+use Rattle.tp_model.specs.Words.no
+use Rattle.tp_model.specs.Words.{Admin, AdminId, Answer, Body, CredId, DecideRequest, Deed, DoneReply, Item, ItemId, Letter, Mail, No, PrepareRequest, PushNotice, Query, QueryRequest, Scenario, ServerId, Settled, Staple, Transaction, TxnId, Version}
+use Rattle.tp_types.proofs.EachLemmas.{each_append, each_found, each_get, each_map, each_more, placed_emptied, placed_set}
+use Rattle.tp_runs.proofs.basics.Locks.{all_added, released_locks, requested_locks, stands_in_the_way}
+use Rattle.tp_runs.proofs.basics.Stores.{ended_each, ended_known, kept_each, kept_known, learnt_each}
+use Rattle.tp_runs.proofs.basics.Versions.{used_by}
+use Rattle.tp_runs.proofs.ids.Valid.{IsValid, IsValidItem}
+use Rattle.tp_server.proofs.RightVerdicts.{uses_presented}
+use Rattle.tp_server.proofs.Rows.{AreRightWaits, IsAsking, IsFirstHere, IsFurther, IsResumed, resuming, server_by_locks, unwaiting, with_locks}
+use Rattle.tp_model.specs.Deeds.{deed_of}
+use Rattle.tp_runs.specs.Sound.{AreCreds, AreSoundVerdicts, AreVersions, AreVersionsOf, AreWanted, HaveOwners, IsItemOf, IsQueryOf, IsReasonOf, IsSettledOf, IsSoundBody, IsSoundDeedAt, IsSoundDone, IsSoundEntry, IsSoundAnswer, IsSoundLetter, IsSoundNo, IsSoundQuery, IsSoundRefusal, IsSoundServer, IsSoundServerRecord, IsSoundSettled, IsSoundVerdict, IsSoundWait, IsVersion, IsVersionOf, IsWriteOf}
+use Rattle.tp_types.specs.Each.{Each}
+use Rattle.tp_machine.specs.Named.{IsAdmin, IsCred, IsTxn}
+use Rattle.tp_server.specs.declared.server.Ballot.{Ballot}
+use Rattle.tp_server.specs.declared.server.Entry.{Entry}
+use Rattle.tp_server.specs.Row.{ack_letter, after_asking, answers, asked_query, closes, completes, died_reply, dies, done_reply, entry_after, followed_by, learns, lock_answer, no_letter, refused_as, reply, restarted_reply, server_row, settled_as, votes_on, waits, yes_letter}
+use Rattle.tp_server.specs.State.{Server}
+use Rattle.tp_server.specs.Verdicts.{admin_of, with_wants, verdict_on, verdicts_on, version_known, version_used, with_versions}
+use Rattle.tp_store.proofs.OutsideLemmas.{first_is_least}
+use Rattle.tp_store.specs.Contents.{Contents}
+use Rattle.tp_store.specs.Laws.{IsLeastOutside}
+use Rattle.tp_store.specs.Rule.{first_outside_in, greater, newest_in, with_version, writes_of}
+use Rattle.tp_store.specs.Writes.{is_outside}
+
+-- what a server's act leaves is sound: its state, still of the same server, what it forces and what it sends
+pub record IsSoundServerEffect (sc : Scenario) (s : Server) (effect : Effect Server) : Type 0 where
+  pub same_server : effect.state.server ≡ s.server
+  pub state_is : IsSoundServer sc effect.state
+  pub forces : IfSome effect.reaction.append (IsSoundServerRecord sc s.server)
+  pub sends_only : Each (IsSoundLetter sc) effect.reaction.letters
+
+ignores_sound_in_server : (sc : Scenario) (s : Server) → IsSoundServer sc s → IsSoundServerEffect sc s (ignores s)
+ignores_sound_in_server sc s h = record { same_server = refl; state_is = h; forces = tt; sends_only = tt }
+
+-- a server's letter to the coordinator of an existing transaction
+reply_sound : (sc : Scenario) (s : Server) (txn : TxnId) (said : Body) → IsSoundServer sc s → IsTxn sc txn → IsSoundBody sc (actor.Coordinator txn) said
+    → IsSoundRefusal sc (actor.Server s.server) said → IsSoundLetter sc (reply s txn said)
+reply_sound sc s txn said h exists says refuses = record { from_is_actor = h.exists; to_is_actor = exists; says = says; refuses = refuses }
+
+-- ---- Query
+
+not_some : {A : Type 0} (found : Option A) (other : Bool) → (is_none found && other) ≡ true → is_some found ≡ false
+not_some None other e = refl
+not_some (Some x) other e = absurd (cc)
+
+-- an entry at which a query runs is sound
+run_entry_in_ids : (sc : Scenario) (s : Server) (mail : Mail) (q : QueryRequest) (query : Query) (entry : Entry) (value : ℤ) → IsSoundServer sc s → IsAsking sc s mail q query entry value
+    → IsSoundEntry sc s.server q.txn entry
+run_entry_in_ids sc s mail q query entry value h k =
+    ⊎_elim
+    (λ (first : IsFirstHere s mail.sent q entry). subst (IsSoundEntry sc s.server q.txn) (sym first.entry_is) (record { answers = tt; waiting = tt; deeds = tt; ballot = tt }))
+    (λ (further : IsFurther s q entry). h.entries q.txn.0 entry further.found) k.place
+
+-- a query without a staple is of a transaction whose queries are not each proved
+plain_done : (sc : Scenario) (s : Server) (q : QueryRequest) (answer : Answer) (epoch : ℕ) → IsSoundQuery sc (actor.Server s.server) q → (is_none q.staple && is_none q.pin) ≡ true → IsSoundAnswer sc q.txn answer
+    → IsSoundDone sc (actor.Coordinator q.txn) (record { txn = q.txn; turn = q.turn; query = q.query; epoch = epoch; answer = answer })
+plain_done sc s q answer epoch m plain sound =
+    record {
+      txn = m.txn;
+      goes_to = refl;
+      query = record { asked = m.asked; asked_is = m.asked_is };
+      answer_is_sound = sound;
+      proved = λ each. let stapled = m.stapled each in let unstapled = not_some q.staple (is_none q.pin) plain in absurd (cc);
+    }
+
+runs_sound : (sc : Scenario) (s : Server) (q : QueryRequest) (query : Query) (entry : Entry) (value : ℤ) → IsSoundServer sc s → IsSoundQuery sc (actor.Server s.server) q
+    → (is_none q.staple && is_none q.pin) ≡ true → asked_query sc q ≡ Some query → IsSoundEntry sc s.server q.txn entry → IsSoundServerEffect sc s (completes s q query entry (deed_of q.query query value))
+runs_sound sc s q query entry value h m plain query_is old =
+    let deed = deed_of q.query query value in
+    let same : query ≡ m.asked = same_Some query m.asked (sym query_is ∙ m.asked_is) in
+    let at_is : m.at ≡ s.server = cc in
+    let item_is : item_of m.asked ≡ item_of query = ap item_of (sym same) in
+    let kept : IsItemOf sc s.server deed.item = subst (IsItemOf sc s.server) item_is (subst (λ (at : ServerId). IsItemOf sc at (item_of m.asked)) at_is m.kept) in
+    let deed_sound : IsSoundDeedAt sc s.server q.txn deed =
+    record { sound = record { asked = m.asked; asked_is = m.asked_is; item_is = sym item_is }; kept = kept } in
+    let done_sound : IsSoundDone sc (actor.Coordinator q.txn) (done_reply q entry.epoch deed) = plain_done sc s q (answer.Ran value None) entry.epoch m plain tt in
+    record {
+      same_server = refl;
+      state_is = record {
+        exists = h.exists;
+        known = subst (AreVersions sc) (sym (kept_known s.store q query value)) h.known;
+        writes = kept_each (IsWriteOf sc s.server) s.store q query value h.writes
+            (record { query = record { asked = m.asked; asked_is = m.asked_is; kept = subst (λ (at : ServerId). IsItemOf sc at (item_of m.asked)) at_is m.kept }; item = kept });
+        settled = h.settled;
+        entries = placed_set (λ (n : ℕ) (found : Entry). IsSoundEntry sc s.server (record { 0 = n }) found) s.entries q.txn.0 (entry_after q entry deed) h.entries
+            (record {
+              answers = each_append (IsSoundDone sc (actor.Coordinator q.txn)) entry.answers (done_reply q entry.epoch deed ∷ []) old.answers (done_sound, tt);
+              waiting = old.waiting;
+              deeds = each_append (IsSoundDeedAt sc s.server q.txn) entry.deeds (deed ∷ []) old.deeds (deed_sound, tt);
+              ballot = old.ballot;
+            });
+        locks = h.locks;
+      };
+      forces = tt;
+      sends_only = (reply_sound sc s q.txn (body.Done (done_reply q entry.epoch deed)) h m.txn done_sound tt, tt);
+    }
+
+-- the entry of a query that waits
+waits_sound : (sc : Scenario) (s : Server) (q : QueryRequest) (entry : Entry) → IsSoundServer sc s → IsSoundQuery sc (actor.Server s.server) q → (is_none q.staple && is_none q.pin) ≡ true → IsSoundEntry sc s.server q.txn entry
+    → IsSoundServerEffect sc s (waits s q entry)
+waits_sound sc s q entry h m plain old =
+    record {
+      same_server = refl;
+      state_is = record {
+        exists = h.exists;
+        known = h.known;
+        writes = h.writes;
+        settled = h.settled;
+        entries = placed_set (λ (n : ℕ) (found : Entry). IsSoundEntry sc s.server (record { 0 = n }) found) s.entries q.txn.0 _ h.entries
+            (record { answers = old.answers; waiting = record { own = refl; plain = plain; sound = m }; deeds = old.deeds; ballot = old.ballot });
+        locks = h.locks;
+      };
+      forces = tt;
+      sends_only = tt;
+    }
+
+-- an older transaction stands in the way
+dies_sound : (sc : Scenario) (s : Server) (q : QueryRequest) (entry : Entry) (other : TxnId) → IsSoundServer sc s → IsSoundQuery sc (actor.Server s.server) q → (is_none q.staple && is_none q.pin) ≡ true
+    → IsSoundEntry sc s.server q.txn entry → IsTxn sc other → IsSoundServerEffect sc s (dies s q entry other)
+dies_sound sc s q entry other h m plain old exists =
+    let done_sound : IsSoundDone sc (actor.Coordinator q.txn) (died_reply q entry.epoch other) = plain_done sc s q (answer.Died other) entry.epoch m plain exists in
+    record {
+      same_server = refl;
+      state_is = record {
+        exists = h.exists;
+        known = h.known;
+        writes = h.writes;
+        settled = h.settled;
+        entries = placed_set (λ (n : ℕ) (found : Entry). IsSoundEntry sc s.server (record { 0 = n }) found) s.entries q.txn.0 _ h.entries
+            (record { answers = each_more (IsSoundDone sc (actor.Coordinator q.txn)) entry.answers _ old.answers done_sound; waiting = old.waiting; deeds = old.deeds; ballot = old.ballot });
+        locks = h.locks;
+      };
+      forces = tt;
+      sends_only = (reply_sound sc s q.txn (body.Done (died_reply q entry.epoch other)) h m.txn done_sound tt, tt);
+    }
+
+-- the same with other locks, which all have owners
+relocked_sound : (sc : Scenario) (s : Server) (effect : Effect Server) (locks : Table) → HaveOwners sc locks → IsSoundServerEffect sc s effect → IsSoundServerEffect sc s (with_locks effect locks)
+relocked_sound sc s effect locks owners h =
+    record {
+      same_server = h.same_server;
+      state_is = record { exists = h.state_is.exists; known = h.state_is.known; writes = h.state_is.writes; settled = h.state_is.settled; entries = h.state_is.entries; locks = owners };
+      forces = h.forces;
+      sends_only = h.sends_only;
+    }
+
+-- each lock has an owner
+abbrev OwnerExists : Scenario → ℕ → LockEntry → Type 0
+OwnerExists sc item lock = IsTxn sc lock.owner
+
+asked_owners : (sc : Scenario) (s : Server) (q : QueryRequest) (query : Query) (entry : Entry) (given : Asked) → lock_answer s q query entry ≡ given → IsSoundServer sc s → IsTxn sc q.txn → HaveOwners sc (after_asking s q query entry).locks
+asked_owners sc s q query entry given e h exists =
+    requested_locks (OwnerExists sc) q.txn entry.age (item_of query) (action_of query) s.locks given e h.locks (all_added (λ (lock : LockEntry). IsTxn sc lock.owner) q.txn entry.age (action_of query) (λ held. exists) given)
+
+-- what waited runs, after what was done before
+resumes_sound : (sc : Scenario) (s : Server) (effect : Effect Server) (grant : Grant) (q : QueryRequest) (query : Query) (entry : Entry) (value : ℤ) → IsResumed sc s.server effect.state grant q query entry value → IsSoundServerEffect sc s effect
+    → IsSoundServerEffect sc s (followed_by effect (resuming effect.state q query entry value))
+resumes_sound sc s effect grant q query entry value k h =
+    let old = h.state_is.entries q.txn.0 entry k.found in
+    let waited : IsSoundWait sc effect.state.server q.txn q = subst (λ (w : Option QueryRequest). IfSome w (IsSoundWait sc effect.state.server q.txn)) k.waiting_is old.waiting in
+    let ran = runs_sound sc effect.state q query (unwaiting entry) value h.state_is waited.sound k.plain k.asked_is (record { answers = old.answers; waiting = tt; deeds = old.deeds; ballot = old.ballot }) in
+    record { same_server = h.same_server; state_is = ran.state_is; forces = h.forces; sends_only = each_append (IsSoundLetter sc) effect.reaction.letters _ h.sends_only ran.sends_only }
+
+-- an answer that is given again, or for the first time
+answers_sound : (sc : Scenario) (s : Server) (q : QueryRequest) (given : DoneReply) → IsSoundServer sc s → IsTxn sc q.txn → IsSoundDone sc (actor.Coordinator q.txn) given
+    → IsSoundServerEffect sc s (answers s q.txn given)
+answers_sound sc s q given h exists d = record { same_server = refl; state_is = h; forces = tt; sends_only = (reply_sound sc s q.txn (body.Done given) h exists d tt, tt) }
+
+restarted_sound : (sc : Scenario) (s : Server) (q : QueryRequest) → IsSoundQuery sc (actor.Server s.server) q → IsSoundDone sc (actor.Coordinator q.txn) (restarted_reply q s.epoch)
+restarted_sound sc s q m = record { txn = m.txn; goes_to = refl; query = record { asked = m.asked; asked_is = m.asked_is }; answer_is_sound = tt; proved = λ each. tt }
+
+-- ---- Prepare
+
+-- of sound versions the one of an administrator that exists
+pub version_of : (admins : List Admin) (versions : List Version) (n : ℕ) (default : Version) → AreVersionsOf admins versions → n < length admins
+    → (declared : Admin) × (slice_get admins n ≡ Some declared) × IsVersionOf declared (unwrap_or (slice_get versions n) default)
+version_of [] versions n default h within = absurd (omega arith)
+version_of (admin ∷ admins) [] n default h within = absurd h
+version_of (admin ∷ admins) (version ∷ versions) zero default h within = (admin, refl, h.0)
+version_of (admin ∷ admins) (version ∷ versions) (suc n) default h within = version_of admins versions n default h.1 (omega arith)
+
+-- the version that a sound server knows of an administrator that exists
+pub known_version : (sc : Scenario) (s : Server) (admin : AdminId) → IsSoundServer sc s → IsAdmin sc admin → IsVersion sc admin (version_known s admin)
+known_version sc s admin h within =
+    let found = version_of sc.admins s.store.known admin.0 (record { 0 = 1 }) h.known within in
+    record { declared = found.0; declared_is = found.1; in_library = found.2 }
+
+greater_of : (declared : Admin) (one other : Version) → IsVersionOf declared one → IsVersionOf declared other → IsVersionOf declared (greater one other)
+greater_of declared one other h k = (omega (arith, h.0), omega (arith, h.1, k.1))
+
+pub versions_set : (admins : List Admin) (versions : List Version) (n : ℕ) (new : Version) → AreVersionsOf admins versions → ((declared : Admin) → slice_get admins n ≡ Some declared → IsVersionOf declared new)
+    → AreVersionsOf admins (slice_set versions n new)
+versions_set [] [] n new h of = tt
+versions_set [] (version ∷ versions) n new h of = absurd h
+versions_set (admin ∷ admins) [] n new h of = absurd h
+versions_set (admin ∷ admins) (version ∷ versions) zero new h of = (of admin refl, h.1)
+versions_set (admin ∷ admins) (version ∷ versions) (suc n) new h of = (h.0, versions_set admins versions n new h.1 of)
+
+-- what is known stays sound as a version is learnt that exists
+known_more : (sc : Scenario) (store : Contents) (admin : AdminId) (version : Version) → AreVersions sc store.known → IsVersion sc admin version → AreVersions sc (with_version store admin version).known
+known_more sc store admin version h v =
+    let old = version_of sc.admins store.known admin.0 (record { 0 = 1 }) h (slice_get_within sc.admins admin.0 v.declared v.declared_is) in
+    versions_set sc.admins store.known admin.0 (greater (newest_in store admin) version) h
+    (λ declared e.
+    let one : old.0 ≡ declared = same_Some old.0 declared (sym old.1 ∙ e) in
+    let other : v.declared ≡ declared = same_Some v.declared declared (sym v.declared_is ∙ e) in
+    greater_of declared (newest_in store admin) version (subst (λ (d : Admin). IsVersionOf d (newest_in store admin)) one old.2) (subst (λ (d : Admin). IsVersionOf d version) other v.in_library))
+
+-- what is among credentials that exist exists
+among_exists : (sc : Scenario) (creds : List CredId) (cred : CredId) → AreCreds sc creds → is_among creds cred ≡ true → IsCred sc cred
+among_exists sc [] cred h e = absurd (cc)
+among_exists sc (other ∷ creds) cred h e = by_same (same_cred cred other) refl (λ found. among_exists sc creds cred h.1 found) e
+  where
+    by_same : (b : Bool) → same_cred cred other ≡ b → (is_among creds cred ≡ true → IsCred sc cred) → (b || is_among creds cred) ≡ true → IsCred sc cred
+    by_same true same later found = subst (λ (n : ℕ). n < length sc.creds) (sym (eqb-true cred.0 other.0 same)) h.0
+    by_same false apart later found = later found
+
+presented_exist : (sc : Scenario) (txn : Transaction) (uses : List CredId) → AreCreds sc txn.creds → list_all (is_presented txn) uses ≡ true → AreCreds sc uses
+presented_exist sc txn [] h e = tt
+presented_exist sc txn (cred ∷ uses) h e =
+    let parts = and_parts (is_presented txn cred) (list_all (is_presented txn) uses) e in
+    (among_exists sc txn.creds cred h parts.0, presented_exist sc txn uses h parts.1)
+
+-- what is known stays sound as versions are learnt that exist
+learnt_known : (sc : Scenario) (store : Contents) (want : List (AdminId × Version)) → AreVersions sc store.known → AreWanted sc want → AreVersions sc (with_versions store want).known
+learnt_known sc store [] h w = h
+learnt_known sc store (wanted ∷ want) h w = learnt_known sc (with_version store wanted.0 wanted.1) want (known_more sc store wanted.0 wanted.1 h w.0) w.1
+
+pub learnt_sound : (sc : Scenario) (s : Server) (want : List (AdminId × Version)) → IsSoundServer sc s → AreWanted sc want → IsSoundServer sc (with_wants s want)
+learnt_sound sc s want h w =
+    record { exists = h.exists; known = learnt_known sc s.store want h.known w; writes = learnt_each (IsWriteOf sc s.server) s.store want h.writes; settled = h.settled; entries = h.entries; locks = h.locks }
+
+pub verdict_sound : (sc : Scenario) (s : Server) (txn : TxnId) (presenting : Transaction) (staple : Staple) (want : List (AdminId × Version)) (deed : Deed) → IsValid sc → IsSoundServer sc s → AreWanted sc want
+    → slice_get sc.txns txn.0 ≡ Some presenting → IsSoundDeedAt sc s.server txn deed → IsSoundVerdict sc txn (verdict_on sc s presenting staple want deed)
+verdict_sound sc s txn presenting staple want deed valid h w there d =
+    let item_is : IsValidItem sc d.kept.declared = each_get (IsValidItem sc) sc.items deed.item.0 d.kept.declared valid.items d.kept.declared_is in
+    let admin_is : d.kept.declared.admin ≡ admin_of sc deed.item =
+    sym (ap (λ (found : Option Item). unwrap_or (option_map (λ (i : Item). i.admin) found) (record { 0 = 0 })) d.kept.declared_is) in
+    record {
+      query = record {
+        asked = d.sound.asked;
+        asked_is = d.sound.asked_is;
+        kept = record {
+          declared = d.kept.declared;
+          declared_is = subst (λ (item : ItemId). slice_get sc.items item.0 ≡ Some d.kept.declared) d.sound.item_is d.kept.declared_is;
+          server_is = d.kept.server_is;
+        };
+        admin_is = admin_is;
+      };
+      version = subst (λ (admin : AdminId). IsVersion sc admin (version_used s want admin)) admin_is
+          (used_by (IsVersion sc) s want d.kept.declared.admin w (known_version sc s d.kept.declared.admin h item_is.admin));
+      uses = presented_exist sc presenting _ (each_get (λ (t : Transaction). AreCreds sc t.creds) sc.txns txn.0 presenting valid.creds there)
+          (uses_presented sc presenting staple deed.query (policy_at sc (admin_of sc deed.item) (version_used s want (admin_of sc deed.item))) _ refl);
+    }
+
+casts_sound : (sc : Scenario) (s : Server) (p : PrepareRequest) (txn : Transaction) (staple : Staple) (entry : Entry) → IsValid sc → IsSoundServer sc s → IsTxn sc p.txn → AreWanted sc p.want
+    → slice_get sc.txns p.txn.0 ≡ Some txn → IsSoundEntry sc s.server p.txn entry → IsSoundServerEffect sc s (votes_on sc (with_wants s p.want) p entry staple txn)
+casts_sound sc s p txn staple entry valid h exists w there k =
+    let now = with_wants s p.want in
+    let after : IsSoundServer sc now = learnt_sound sc s p.want h w in
+    let verdicts : AreSoundVerdicts sc p.txn (verdicts_on sc now txn staple p.want entry.deeds) =
+    each_map (IsSoundDeedAt sc s.server p.txn) (IsSoundVerdict sc p.txn) (verdict_on sc now txn staple p.want) (λ deed d. verdict_sound sc now p.txn txn staple p.want deed valid after w there d) entry.deeds k.deeds in
+    record {
+      same_server = refl;
+      state_is = record {
+        exists = h.exists;
+        known = after.known;
+        writes = after.writes;
+        settled = h.settled;
+        entries = placed_set (λ (n : ℕ) (found : Entry). IsSoundEntry sc s.server (record { 0 = n }) found) s.entries p.txn.0 _ h.entries
+            (record { answers = k.answers; waiting = k.waiting; deeds = k.deeds; ballot = verdicts });
+        locks = h.locks;
+      };
+      forces = record { txn = exists; deeds = k.deeds; verdicts = verdicts; told = after.known };
+      sends_only = (reply_sound sc s p.txn _ h exists (record { txn = exists; goes_to = refl; ballot = verdicts }) tt, tt);
+    }
+
+-- a vote that is given again
+votes_again_sound : (sc : Scenario) (s : Server) (p : PrepareRequest) (entry : Entry) (cast : Ballot) → IsSoundServer sc s → IsTxn sc p.txn → IsSoundEntry sc s.server p.txn entry → entry.ballot ≡ Some cast
+    → IsSoundServerEffect sc s (sends s (yes_letter s p.txn cast ∷ []))
+votes_again_sound sc s p entry cast h exists k ballot_is =
+    let verdicts : AreSoundVerdicts sc p.txn cast.verdicts = subst (λ (ballot : Option Ballot). IfSome ballot (λ (b : Ballot). AreSoundVerdicts sc p.txn b.verdicts)) ballot_is k.ballot in
+    record { same_server = refl; state_is = h; forces = tt; sends_only = (reply_sound sc s p.txn _ h exists (record { txn = exists; goes_to = refl; ballot = verdicts }) tt, tt) }
+
+-- ---- Decide
+
+closes_sound : (sc : Scenario) (s : Server) (order : Settled) (letter : Letter) → IsSoundServer sc s → IsSoundSettled sc s.server order → IsSoundLetter sc letter → IsSoundServerEffect sc s (closes s order letter)
+closes_sound sc s order letter h settled sent =
+    record {
+      same_server = refl;
+      state_is = record {
+        exists = h.exists;
+        known = subst (AreVersions sc) (sym (ended_known s.store order.txn order.outcome)) h.known;
+        writes = ended_each (IsWriteOf sc s.server) s.store order.txn order.outcome h.writes;
+        settled = placed_set (λ (n : ℕ) (found : Settled). IsSettledOf sc s.server (record { 0 = n }) found) s.settled order.txn.0 order h.settled (record { own = refl; sound = settled });
+        entries = placed_emptied (λ (n : ℕ) (found : Entry). IsSoundEntry sc s.server (record { 0 = n }) found) s.entries order.txn.0 h.entries;
+        locks = released_locks (OwnerExists sc) (OwnerExists sc) order.txn s.locks (λ item lock held k. k) (λ item lock apart k. k) h.locks;
+      };
+      forces = settled;
+      sends_only = (sent, tt);
+    }
+
+settles_sound : (sc : Scenario) (s : Server) (d : DecideRequest) → IsSoundServer sc s → IsTxn sc d.txn → IsSoundServerEffect sc s (closes s (settled_as d) (ack_letter s d.txn))
+settles_sound sc s d h exists =
+    closes_sound sc s (settled_as d) (ack_letter s d.txn) h (record { txn = exists; why = tt }) (reply_sound sc s d.txn _ h exists (record { txn = exists; goes_to = refl }) tt)
+
+-- a reason names a query of the transaction
+named_reason : (sc : Scenario) (at : ServerId) (txn : TxnId) (why : No) → IsReasonOf sc at txn why → IsSoundNo sc txn why
+named_reason sc at txn (no.Range number value) h = record { asked = h.asked; asked_is = h.asked_is }
+named_reason sc at txn no.Restarted h = tt
+
+-- the write that is refused is of a query of the transaction there
+refused_query : (sc : Scenario) (s : Server) (txn : TxnId) (number : ℕ) (value : ℤ) → IsSoundServer sc s → first_outside_in s.store txn ≡ Some (number, value) → IsQueryOf sc txn number s.server
+refused_query sc s txn number value h e = found (first_outside_in s.store txn) e (first_is_least s.store txn)
+  where
+    found : (first : Option (ℕ × ℤ)) → first ≡ Some (number, value) → MatchOption first (list_any (is_outside s.store.bounds) (writes_of s.store txn) ≡ false) (IsLeastOutside s.store txn) → IsQueryOf sc txn number s.server
+    found None f m = absurd (cc)
+    found (Some first) f m =
+        let same : first ≡ (number, value) = same_Some first (number, value) f in
+        let is : number ≡ m.write.query = ap (λ (x : ℕ × ℤ). x.0) (sym same) ∙ m.query in
+        subst (λ (n : ℕ). IsQueryOf sc txn n s.server) (sym is) (each_get (IsWriteOf sc s.server txn) (writes_of s.store txn) m.at m.write (h.writes txn) m.kept).query
+
+-- the reason of what was settled so is sound
+settled_reason : (sc : Scenario) (s : Server) (txn : TxnId) (settled : Settled) (why : No) → IsSoundServer sc s → option_flatten (slice_get s.settled txn.0) ≡ Some settled → settled.why ≡ Some why
+    → IsReasonOf sc s.server txn why
+settled_reason sc s txn settled why h found why_is =
+    let kept = h.settled txn.0 settled found in
+    subst (λ (t : TxnId). IsReasonOf sc s.server t why) kept.own (subst (λ (x : Option No). IfSome x (IsReasonOf sc s.server settled.txn)) why_is kept.sound.why)
+
+no_letter_sound : (sc : Scenario) (s : Server) (p : PrepareRequest) (why : No) → IsSoundServer sc s → IsTxn sc p.txn → IsReasonOf sc s.server p.txn why → IsSoundLetter sc (no_letter s p why)
+no_letter_sound sc s p why h exists reason = reply_sound sc s p.txn _ h exists (record { txn = exists; goes_to = refl; ballot = named_reason sc s.server p.txn why reason }) reason
+
+-- ---- Push
+
+learns_sound : (sc : Scenario) (s : Server) (push : PushNotice) → IsSoundServer sc s → IsVersion sc push.admin push.version → IsSoundServerEffect sc s (learns s push)
+learns_sound sc s push h v =
+    record {
+      same_server = refl;
+      state_is = record { exists = h.exists; known = known_more sc s.store push.admin push.version h.known v; writes = h.writes; settled = h.settled; entries = h.entries; locks = h.locks };
+      forces = v;
+      sends_only = tt;
+    }
+
+-- ---- all mails
+
+pub server_row_sound : (sc : Scenario) (s : Server) (mail : Mail) → IsValid sc → AreRightWaits sc s → IsSoundServer sc s → IsSoundBody sc (actor.Server s.server) mail.letter.body
+    → IsSoundServerEffect sc s (server_row sc s mail)
+server_row_sound sc s mail valid rightly h m =
+    server_by_locks sc s mail (IsSoundServerEffect sc s) rightly
+    (record {
+      ignored = ignores_sound_in_server sc s h;
+      ran = λ q query entry value k granted.
+          relocked_sound sc s (completes s q query entry (deed_of q.query query value)) (after_asking s q query entry).locks (asked_owners sc s q query entry asked.Granted granted h (said k.said_is).txn)
+          (runs_sound sc s q query entry value h (said k.said_is) k.plain k.asked_is (run_entry_in_ids sc s mail q query entry value h k));
+      waited = λ q query entry value k waiting.
+          relocked_sound sc s (waits s q entry) (after_asking s q query entry).locks (asked_owners sc s q query entry asked.Waits waiting h (said k.said_is).txn)
+          (waits_sound sc s q entry h (said k.said_is) k.plain (run_entry_in_ids sc s mail q query entry value h k));
+      died = λ q query entry value other k dying.
+          let way = stands_in_the_way (OwnerExists sc) q.txn entry.age (item_of query) (action_of query) s.locks other h.locks dying in
+          relocked_sound sc s (dies s q entry other) (after_asking s q query entry).locks (asked_owners sc s q query entry (asked.Dies other) dying h (said k.said_is).txn)
+          (dies_sound sc s q entry other h (said k.said_is) k.plain (run_entry_in_ids sc s mail q query entry value h k) (subst (IsTxn sc) way.owner_is way.is));
+      restarted = λ q k. answers_sound sc s q (restarted_reply q s.epoch) h (said k.said_is).txn (restarted_sound sc s q (said k.said_is));
+      answered = λ q entry given k.
+          answers_sound sc s q given h (said k.said_is).txn
+          (each_found (IsSoundDone sc (actor.Coordinator q.txn)) (λ (d : DoneReply). d.query == q.query) entry.answers given (h.entries q.txn.0 entry k.found).answers k.given_is);
+      voted = λ p entry staple txn k. casts_sound sc s p txn staple entry valid h (said k.said_is).txn (said k.said_is).want k.declared (h.entries p.txn.0 entry k.found);
+      voted_again = λ p entry cast k. votes_again_sound sc s p entry cast h (said k.said_is).txn (h.entries p.txn.0 entry k.found) k.ballot_is;
+      refused = λ p entry number value k.
+          let exists = (said k.said_is).txn in
+          let query : IsQueryOf sc p.txn number s.server = refused_query sc s p.txn number value h k.outside in
+          closes_sound sc s (refused_as p _) (no_letter s p _) h (record { txn = exists; why = query }) (no_letter_sound sc s p _ h exists query);
+      refused_again = λ p settled why k.
+          let exists = (said k.said_is).txn in
+          let reason : IsReasonOf sc s.server p.txn why = settled_reason sc s p.txn settled why h k.found k.why_is in
+          record { same_server = refl; state_is = h; forces = tt; sends_only = (no_letter_sound sc s p why h exists reason, tt) };
+      settled = λ d k. settles_sound sc s d h (said k.said_is).txn;
+      acknowledged = λ d settled k.
+          record {
+            same_server = refl;
+            state_is = h;
+            forces = tt;
+            sends_only = (reply_sound sc s d.txn _ h (said k.said_is).txn (record { txn = (said k.said_is).txn; goes_to = refl }) tt, tt);
+          };
+      pushed = λ push k. learns_sound sc s push h (said k.said_is).version;
+      passed = λ effect grant first nobody k. relocked_sound sc s effect (without_grant effect.state.locks) k.state_is.locks k;
+      resumed = λ effect grant q query entry value k now.
+          relocked_sound sc s (followed_by effect (resuming effect.state q query entry value)) (without_grant effect.state.locks) now.state_is.locks (resumes_sound sc s effect grant q query entry value k now);
+    })
+  where
+    said : {body : Body} → mail.letter.body ≡ body → IsSoundBody sc (actor.Server s.server) body
+    said e = subst (IsSoundBody sc (actor.Server s.server)) e m

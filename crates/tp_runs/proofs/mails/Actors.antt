@@ -1,0 +1,192 @@
+-- How many letters an act sends, the rows: a server sends one, and one for each query that waited and runs; and a coordinator one, or one to each of its servers or of those that it awaits.
+use Rattle.std.proofs.Common.{Bool, List, None, Option, Some, [], ap, arith, false, filter, is_some, length, map, not, refl, slice_get, slice_set, subst, suc, zero, ℕ, ℤ, ⊎_elim, ◌+◌, ◌++◌, ◌==◌, ◌∙◌, ◌≡◌, ◌≤◌, ◌∷◌}
+use Rattle.std.proofs.lemmas.List.{length-map, length_push}
+use Rattle.std.specs.Option.{option_flatten}
+use Rattle.tp_types.specs.Effect.{Effect}
+use Rattle.tp_model.specs.Words.body
+use Rattle.tp_model.specs.Words.outcome
+use Rattle.tp_model.specs.Words.{Mail, Outcome, Query, QueryRequest, Scenario, ServerId, Verdict}
+use Rattle.tp_model.specs.Deeds.{deed_of}
+use Rattle.tp_round.specs.Judge.{after_judgement, after_reply, aim_in, awaits, is_missing, judge, new_target, next_target, with_reply}
+use Rattle.tp_round.specs.declared.round.Judged.TheVariants as judged
+use Rattle.tp_round.specs.declared.round.Round.{Round}
+use Rattle.tp_round.specs.declared.round.Target.{Target}
+use Rattle.tp_round.specs.declared.round.Wanted.{Wanted}
+use Rattle.tp_runs.proofs.basics.Rounds.{missing_in, updated_is}
+use Rattle.tp_coord.specs.declared.coordinator.Phase.TheVariants as phase
+use Rattle.tp_types.proofs.EachLemmas.{by_cond}
+use Rattle.tp_coord.proofs.Rows.{coordinator_by, submit_by}
+use Rattle.tp_server.proofs.Rows.{AreRightWaits, IsAsking, IsFirstHere, IsFurther, server_by, unwaiting}
+use Rattle.tp_machine.specs.Machine.{with_age}
+use Rattle.tp_coord.specs.Row as coord
+use Rattle.tp_coord.specs.State.{Coordinator}
+use Rattle.tp_coord.specs.declared.coordinator.Phase.{Phase}
+use Rattle.tp_server.specs.declared.server.Entry.{Entry}
+use Rattle.tp_server.specs.Row as server
+use Rattle.tp_server.specs.State.{Server}
+use Rattle.tp_server.specs.Verdicts.{with_wants, verdicts_on}
+
+-- ---- a server's rows
+
+-- one for a query that waits
+abbrev pub one_for : Option QueryRequest → ℕ
+one_for None = 0
+one_for (Some q) = 1
+
+-- so for an entry
+abbrev pub waits_at : Option Entry → ℕ
+waits_at None = 0
+waits_at (Some entry) = one_for entry.waiting
+
+-- how many queries wait at the entries
+abbrev pub waits_in : List (Option Entry) → ℕ
+waits_in [] = 0
+waits_in (entry ∷ entries) = waits_at entry + waits_in entries
+
+-- one entry changes
+waits_set : (entries : List (Option Entry)) (n : ℕ) (entry : Option Entry) → waits_in (slice_set entries n entry) + waits_at (option_flatten (slice_get entries n)) ≤ waits_in entries + waits_at entry
+waits_set [] n entry = omega arith
+waits_set (first ∷ entries) zero entry =
+    let now : waits_in (slice_set (first ∷ entries) zero entry) ≡ waits_at entry + waits_in entries = refl in
+    let was : waits_at (option_flatten (slice_get (first ∷ entries) zero)) ≡ waits_at first = refl in
+    omega (arith, now, was)
+waits_set (first ∷ entries) (suc n) entry =
+    let now : waits_in (slice_set (first ∷ entries) (suc n) entry) ≡ waits_at first + waits_in (slice_set entries n entry) = refl in
+    let was : waits_at (option_flatten (slice_get (first ∷ entries) (suc n))) ≡ waits_at (option_flatten (slice_get entries n)) = refl in
+    omega (arith, now, was, waits_set entries n entry)
+
+-- an act of a server: for each query that ran and had waited there is one that waits no longer
+abbrev pub ServerSends : Server → Effect Server → Type 0
+ServerSends s effect = length effect.reaction.letters + waits_in effect.state.entries ≤ 1 + waits_in s.entries
+
+-- no query waits at an entry that a further one asks at
+idle_there : (sc : Scenario) (s : Server) (mail : Mail) (q : QueryRequest) (query : Query) (entry : Entry) (value : ℤ) → IsAsking sc s mail q query entry value → waits_at (Some entry) ≡ 0
+idle_there sc s mail q query entry value k =
+    ⊎_elim (λ (first : IsFirstHere s mail.sent q entry). ap (λ (e : Entry). waits_at (Some e)) first.entry_is)
+    (λ (further : IsFurther s q entry). none entry.waiting further.idle) k.place
+  where
+    none : (waiting : Option QueryRequest) → is_some waiting ≡ false → one_for waiting ≡ 0
+    none None e = refl
+    none (Some r) e = absurd (cc)
+
+-- one query waits at an entry at which one waits
+one_waits : (entry : Entry) (q : QueryRequest) → entry.waiting ≡ Some q → waits_at (Some entry) ≡ 1
+one_waits entry q e = ap one_for e
+
+-- a server answers with one letter, or not at all; and what waited with one
+pub server_row_sends : (sc : Scenario) (s : Server) (mail : Mail) → AreRightWaits sc s → ServerSends s (server.server_row sc s mail)
+server_row_sends sc s mail waits =
+    server_by sc s mail (ServerSends s) waits
+    (record {
+      relocked = λ effect locks k. k;
+      ignored = omega arith;
+      ran = λ q query entry value k.
+          omega (arith, idle_there sc s mail q query entry value k, waits_set s.entries q.txn.0 (Some (server.entry_after q entry (deed_of q.query query value))));
+      waited = λ q query entry value k. omega (arith, waits_set s.entries q.txn.0 (Some (record entry { waiting = Some q })));
+      died = λ q query entry value other k dying.
+          omega (arith, idle_there sc s mail q query entry value k, waits_set s.entries q.txn.0 (Some (record entry { answers = entry.answers ++ server.died_reply q entry.epoch other ∷ [] })));
+      restarted = λ q k. omega arith;
+      answered = λ q entry given k. omega arith;
+      voted = λ p entry staple txn k.
+          let same : waits_at (server.entry_at s p.txn) ≡ waits_at (Some entry) = ap waits_at k.found in
+          omega (arith, same, waits_set s.entries p.txn.0 (Some (record entry { ballot = Some (server.ballot_of (server.prepared_record (with_wants s p.want) p entry (verdicts_on sc (with_wants s p.want) txn staple p.want entry.deeds))) })));
+      voted_again = λ p entry cast k. omega arith;
+      refused = λ p entry number value k. omega (arith, waits_set s.entries p.txn.0 None);
+      refused_again = λ p settled why k. omega arith;
+      settled = λ d k. omega (arith, waits_set s.entries d.txn.0 None);
+      acknowledged = λ d settled k. omega arith;
+      pushed = λ push k. omega arith;
+      resumed = λ effect grant q query entry value k now.
+          let was : waits_at (server.entry_at effect.state q.txn) ≡ waits_at (Some entry) = ap waits_at k.found in
+          omega (
+            arith,
+            now,
+            was,
+            one_waits entry q k.waiting_is,
+            waits_set effect.state.entries q.txn.0 (Some (server.entry_after q (unwaiting entry) (deed_of q.query query value))),
+            length_push effect.reaction.letters (server.done_letter effect.state q (unwaiting entry) (deed_of q.query query value)),
+          );
+    })
+
+-- ---- a coordinator's rows
+
+-- how many servers a phase speaks of
+abbrev pub spoken_of : Phase → ℕ
+spoken_of (phase.Asking round) = length round.targets
+spoken_of (phase.Checking round staple) = length round.targets
+spoken_of (phase.Ending ended awaited) = length awaited
+spoken_of _ = 0
+
+-- a coordinator that speaks of at most so many servers
+abbrev pub AwaitsFew : ℕ → Coordinator → Type 0
+AwaitsFew most c = spoken_of c.phase ≤ most
+
+-- an act of a coordinator: it awaits few servers still, and sends few letters
+pub record SendsFew (most : ℕ) (effect : Effect Coordinator) : Type 0 where
+  pub awaits : AwaitsFew most effect.state
+  pub letters : length effect.reaction.letters ≤ most
+
+fewer_left : {A : Type 0} (test : A → Bool) (xs : List A) → length (filter test xs) ≤ length xs
+fewer_left test [] = omega arith
+fewer_left {A = A} test (x ∷ xs) =
+    let later = fewer_left test xs in
+    by_cond (λ (ys : List A). length ys ≤ length (x ∷ xs)) (test x) (λ y. omega (arith, later)) (λ n. omega (arith, later))
+
+-- fewer are awaited than before
+without_few : (most : ℕ) (awaited : List ServerId) (at : ServerId) → length awaited ≤ most → length (coord.without awaited at) ≤ most
+without_few most awaited at h = omega (arith, h, fewer_left (λ (other : ServerId). not (other.0 == at.0)) awaited)
+
+-- of what a phase speaks
+awaits_in : (most : ℕ) (c : Coordinator) (present : Phase) → AwaitsFew most c → c.phase ≡ present → spoken_of present ≤ most
+awaits_in most c present h e = subst (λ (p : Phase). spoken_of p ≤ most) e h
+
+-- a reply leaves as many servers
+replied_length : (targets : List Target) (server : ServerId) (verdicts : List Verdict) → length (with_reply targets server verdicts) ≡ length targets
+replied_length [] server verdicts = refl
+replied_length (target ∷ targets) server verdicts =
+    let later = replied_length targets server verdicts in
+    by_cond (λ (ts : List Target). length ts ≡ length (target ∷ targets)) (awaits server target) (λ e. refl) (λ e. omega (arith, later))
+
+-- so does an update
+updated_length : (round : Round) (named : List Wanted) → judge round None ≡ judged.Update named → length (after_judgement round None).targets ≡ length round.targets
+updated_length round named e = ap (λ (r : Round). length r.targets) (updated_is round named e) ∙ length-map round.targets (next_target (aim_in round None))
+
+-- the awaited servers of a round are some of its servers
+missing_few : (targets : List Target) → length (missing_in targets) ≤ length targets
+missing_few targets = omega (arith, length-map (filter is_missing targets) coord.server_of_target, fewer_left is_missing targets)
+
+-- a decision is sent to all of the transaction's servers
+decides_few : (most : ℕ) (c : Coordinator) (servers : List ServerId) (ended : Outcome) → length servers ≤ most
+    → length (map (λ (at : ServerId). coord.request c at (body.Decide (record { txn = c.txn; outcome = ended }))) servers) ≤ most
+decides_few most c servers ended h =
+    omega (arith, h, length-map servers (λ (at : ServerId). coord.request c at (body.Decide (record { txn = c.txn; outcome = ended }))))
+
+-- every row of a coordinator on receipt of a mail
+pub coordinator_row_sends : (most : ℕ) (sc : Scenario) (c : Coordinator) (mail : Mail) → 1 ≤ most → length c.servers ≤ most → AwaitsFew most c → SendsFew most (coord.coordinator_row sc c mail)
+coordinator_row_sends most sc c mail one servers h =
+    coordinator_by sc c mail (SendsFew most)
+    (record {
+      ignored = record { awaits = h; letters = omega arith };
+      ran_next = λ done server asked value next k home. record { awaits = omega arith; letters = one };
+      ran_last = λ done server asked value k none. record { awaits = omega (arith, servers, length-map c.servers new_target); letters = one };
+      died = λ done server asked other k. record { awaits = servers; letters = decides_few most c c.servers outcome.Abort servers };
+      told = λ tell round k.
+          let few = awaits_in most c _ h k.asking in
+          record { awaits = few; letters = omega (arith, few, missing_few round.targets, length-map (missing_in round.targets) (coord.prepare_letter c round (coord.staple_of tell mail.sent))) };
+      counted = λ reply round staple server verdicts y e. record { awaits = omega (arith, awaits_in most c _ h y.checking, replied_length round.targets server verdicts); letters = omega arith };
+      committed = λ reply round staple server verdicts y e. record { awaits = servers; letters = decides_few most c c.servers outcome.Commit servers };
+      denied = λ reply round staple server verdicts verdict y e. record { awaits = servers; letters = decides_few most c c.servers outcome.Abort servers };
+      updated = λ reply round staple server verdicts named y e.
+          record { awaits = omega (arith, awaits_in most c _ h y.checking, replied_length round.targets server verdicts, updated_length (after_reply round server verdicts) named e); letters = one };
+      refused = λ reply round staple server number value k. record { awaits = servers; letters = decides_few most c c.servers outcome.Abort servers };
+      acknowledged = λ ack ended awaited server a. record { awaits = without_few most awaited server (awaits_in most c _ h a.ending); letters = omega arith };
+    })
+
+-- the submission of a transaction
+pub submit_row_sends : (most place : ℕ) (sc : Scenario) (c : Coordinator) → 1 ≤ most → AwaitsFew most c → SendsFew most (with_age (coord.submit_row sc c) place)
+submit_row_sends most place sc c one h =
+    submit_by sc c (λ (effect : Effect Coordinator). SendsFew most (with_age effect place))
+    (record {
+      ignored = record { awaits = h; letters = omega arith };
+      sent = λ server home. record { awaits = omega arith; letters = one };
+    })

@@ -1,0 +1,463 @@
+-- Deeds and epochs, the coordinator's rows: each is an event at every server, as the coordinator's transaction is seen there.
+use Rattle.std.specs.Option.{option_flatten, option_map_or}
+use Rattle.std.proofs.Common.{Bool, List, None, Option, Some, [], ap, arith, false, if◌then◌else◌, length, map, option_and_then, option_map, refl, slice_get, slice_set, subst, suc, sym, true, zero, ℕ, ℤ, ◌++◌, ◌+◌, ◌<◌, ◌==◌, ◌∙◌, ◌∷◌, ◌≡◌, ◌≤◌, ◌⊎◌}
+use Rattle.std.proofs.lemmas.Bool.{and_parts, eq-eqb, eqb-true}
+use Rattle.std.proofs.lemmas.List.{length_push}
+use Rattle.std.proofs.lemmas.Option.{same_Some, slice_get_within}
+use Rattle.tp_types.proofs.ListLemmas.{number_itself}
+use Rattle.tp_types.specs.Effect.{Effect, ignores}
+use Rattle.tp_model.specs.Queries.{is_at_server, item_of, query_at}
+use Rattle.tp_model.specs.Limits.{is_empty}
+use Rattle.tp_model.specs.Words.actor
+use Rattle.tp_model.specs.Words.body
+use Rattle.tp_model.specs.Words.cause
+use Rattle.tp_model.specs.Words.outcome
+use Rattle.tp_model.specs.Words.{Actor, Body, Deed, DoneReply, Item, Letter, Mail, Outcome, PrepareRequest, Query, QueryRequest, Scenario, ServerId, Staple, Transaction, TxnId}
+use Rattle.tp_runs.proofs.agreement.Coordinator.{idle_is}
+use Rattle.tp_runs.proofs.basics.Homes.{HaveHomes, IsHome, home_is, last_is, next_is}
+use Rattle.tp_types.proofs.EachLemmas.{each_get, set_here}
+use Rattle.tp_runs.proofs.basics.Phases.{awaits_is, is_undecided, sent_to_server}
+use Rattle.tp_runs.proofs.epochs.Coordinator.{some_is}
+use Rattle.tp_runs.proofs.epochs.Kept.{KeepsEpoch, PhaseKept, from_server, kept_epoch}
+use Rattle.tp_runs.proofs.ids.Valid.{IsValid, IsValidItem}
+use Rattle.tp_runs.proofs.pairs.Actors.{asker_of, asker_up, site_of, stand_of}
+use Rattle.tp_runs.proofs.pairs.Answered.{Taken, answered, elsewhere, next_deed, taken, takes}
+use Rattle.tp_runs.proofs.pairs.Fits.{AnswerFits, AskerFits, DoneFits, Fits, Names, PrepareFits, QueryFits, RanFits}
+use Rattle.tp_runs.proofs.pairs.Follows.{Next, next_both, next_same}
+use Rattle.tp_runs.proofs.pairs.Letters.{asks, prepares}
+use Rattle.tp_runs.proofs.basics.Found.{of_some}
+use Rattle.tp_runs.proofs.pairs.Moves.{ends, moved, moves, with_asker}
+use Rattle.tp_runs.proofs.pairs.Pair.{Asker, Asks, Pair, Prepares, Rests, Stand}
+use Rattle.tp_runs.proofs.pairs.Site.{Site, count, here, one_home}
+use Rattle.tp_runs.proofs.basics.Folds.{set_elsewhere}
+use Rattle.tp_runs.proofs.deeds.Runs.{deed_asked, deed_at}
+use Rattle.tp_runs.proofs.basics.Turns.{turn_rises}
+use Rattle.tp_coord.proofs.Rows.{IsRanAnswer, coordinator_by, submit_by}
+use Rattle.tp_machine.specs.Machine.{with_age}
+use Rattle.tp_model.specs.Deeds.{deed_of}
+use Rattle.tp_types.specs.Each.{Each}
+use Rattle.tp_coord.specs.Sums.{asked_value}
+use Rattle.tp_coord.specs.Row as coord
+use Rattle.tp_coord.specs.Row.{awaits_query, next_number, next_turn, own_query, server_of}
+use Rattle.tp_coord.specs.State.{Coordinator}
+use Rattle.tp_coord.specs.declared.coordinator.Phase.TheVariants as phase
+use Rattle.tp_coord.specs.declared.coordinator.Phase.{Phase}
+use Rattle.tp_runs.proofs.basics.Rounds.{EachServer, each_missing, missing_in}
+use Rattle.tp_round.specs.Judge.{after_judgement, after_reply}
+use Rattle.tp_round.specs.Replies.{by_query, proofs_in}
+use Rattle.tp_round.specs.declared.round.Round.{Round}
+
+-- ---- an act
+
+-- the query that is awaited is the next one; before the submission there is no deed
+abbrev pub PhaseNumbered : Phase → List Deed → Type 0
+PhaseNumbered phase.Idle deeds = deeds ≡ []
+PhaseNumbered (phase.Querying number staple) deeds = number ≡ length deeds + 1
+PhaseNumbered _ deeds = Unit {0}
+
+abbrev pub QueryTo : Scenario → Transaction → TxnId → (ℕ → Pair) → Actor → QueryRequest → Type 0
+QueryTo sc declared txn Q (actor.Server at) q = (q.txn ≡ txn) × QueryFits (site_of sc at.0 declared) (Q at.0) q
+QueryTo sc declared txn Q _ q = Unit {0}
+
+abbrev pub PrepareTo : Scenario → Transaction → TxnId → (ℕ → Pair) → Actor → PrepareRequest → Type 0
+PrepareTo sc declared txn Q (actor.Server at) r = (r.txn ≡ txn) × PrepareFits (site_of sc at.0 declared) (Q at.0) r
+PrepareTo sc declared txn Q _ r = Unit {0}
+
+-- what a coordinator requests of its transaction; it answers nothing
+abbrev pub AskPairs : Scenario → Transaction → TxnId → (ℕ → Pair) → Actor → Body → Type 0
+AskPairs sc declared txn Q to (body.Query q) = QueryTo sc declared txn Q to q
+AskPairs sc declared txn Q to (body.Prepare r) = PrepareTo sc declared txn Q to r
+AskPairs sc declared txn Q to (body.Done done) = ⊥
+AskPairs sc declared txn Q to (body.Vote reply) = ⊥
+AskPairs sc declared txn Q to _ = Unit {0}
+
+-- an act of a coordinator that is up before and after it: its transaction goes on by events at each server, and requests say so
+pub record CoordinatorActsPairs (sc : Scenario) (declared : Transaction) (P : ℕ → Pair) (now : Coordinator) (letters : List Letter) : Type 0 where
+  pub next : (at : ℕ) → Next (site_of sc at declared) (P at) (with_asker (P at) (asker_up at now))
+  pub numbered : PhaseNumbered now.phase now.deeds
+  pub requests : Each (λ (letter : Letter). AskPairs sc declared now.txn (λ at. with_asker (P at) (asker_up at now)) letter.to letter.body) letters
+
+-- that of a row
+abbrev pub RowAsks : Scenario → Transaction → (ℕ → Pair) → Effect Coordinator → Type 0
+RowAsks sc declared P effect = CoordinatorActsPairs sc declared P effect.state effect.reaction.letters
+
+-- what a round wants of a server, if it wants anything, names all administrators there
+abbrev pub NamesAt : Scenario → Transaction → Round → ServerId → Type 0
+NamesAt sc declared round at = (is_empty (coord.want_for round at) ≡ true) ⊎ Names (site_of sc at.0 declared) (coord.want_for round at)
+
+-- a round before which the authority is asked
+abbrev pub PhaseNames : Scenario → Transaction → Phase → Type 0
+PhaseNames sc declared (phase.Asking round) = Each (NamesAt sc declared round) (missing_in round.targets)
+PhaseNames sc declared _ = Unit {0}
+
+-- a coordinator before its row
+pub record CoordinatorPaired (sc : Scenario) (declared : Transaction) (P : ℕ → Pair) (c : Coordinator) : Type 0 where
+  pub declared_is : slice_get sc.txns c.txn.0 ≡ Some declared
+  pub fits : (at : ℕ) → Fits (site_of sc at declared) (P at)
+  pub asker_is : (at : ℕ) → (P at).asker ≡ asker_up at c
+  pub numbered : PhaseNumbered c.phase c.deeds
+  pub low : c.turn ≤ 1000
+  pub places : length c.epochs ≡ length sc.servers
+  pub keeps : is_undecided c.phase ≡ true → PhaseKept (KeepsEpoch c) c.phase
+  pub names : PhaseNames sc declared c.phase
+
+-- ---- the asker
+
+undecided_asker : (at : ℕ) (c : Coordinator) → is_undecided c.phase ≡ true → asker_up at c ≡ Some (asker_of at c)
+undecided_asker at c e = ap (λ (b : Bool). if b then Some (asker_of at c) else None) e
+
+asker_there : (sc : Scenario) (declared : Transaction) (P : ℕ → Pair) (c : Coordinator) (at : ℕ) → CoordinatorPaired sc declared P c → is_undecided c.phase ≡ true → (P at).asker ≡ Some (asker_of at c)
+asker_there sc declared P c at h e = h.asker_is at ∙ undecided_asker at c e
+
+-- a coordinator that is seen as before
+still_asks : (sc : Scenario) (declared : Transaction) (P : ℕ → Pair) (c now : Coordinator) (at : ℕ) → CoordinatorPaired sc declared P c → asker_up at now ≡ asker_up at c
+    → Next (site_of sc at declared) (P at) (with_asker (P at) (asker_up at now))
+still_asks sc declared P c now at h same =
+    subst (λ (o : Option Asker). Next (site_of sc at declared) (P at) (with_asker (P at) o)) (h.asker_is at ∙ sym same) (next_same (site_of sc at declared) (P at) (h.fits at))
+
+ignores_asks : (sc : Scenario) (declared : Transaction) (P : ℕ → Pair) (c : Coordinator) → CoordinatorPaired sc declared P c → RowAsks sc declared P (ignores c)
+ignores_asks sc declared P c h = record { next = λ at. still_asks sc declared P c c at h refl; numbered = h.numbered; requests = tt }
+
+-- ---- Submit
+
+-- a query of a coordinator's transaction
+query_declared : (sc : Scenario) (c : Coordinator) (declared : Transaction) (number : ℕ) (asked : Query) → slice_get sc.txns c.txn.0 ≡ Some declared → own_query sc c number ≡ Some asked → query_at declared number ≡ Some asked
+query_declared sc c declared number asked e f = sym (ap (λ (found : Option Transaction). option_and_then (λ (d : Transaction). query_at d number) found) e) ∙ f
+
+-- it is at its server
+query_here_in_pairs : (sc : Scenario) (declared : Transaction) (number : ℕ) (asked : Query) (server : ServerId) → query_at declared number ≡ Some asked → server_of sc asked ≡ Some server → here (site_of sc server.0 declared) number ≡ true
+query_here_in_pairs sc declared number asked server e f =
+    ap (λ (found : Option Query). option_map_or (is_at_server sc server.0) found false) e ∙ (sent_to_server sc asked server server.0 f ∙ number_itself server.0)
+
+-- a coordinator that asks its next query
+query_requested : (sc : Scenario) (declared : Transaction) (p : Pair) (c : Coordinator) (number : ℕ) (server : ServerId) → slice_get sc.txns c.txn.0 ≡ Some declared → Fits (site_of sc server.0 declared) p
+    → p.asker ≡ Some (asker_of server.0 (coord.sends_query sc c number server).state) → number ≡ length c.deeds + 1 → IsHome sc c number server
+    → QueryFits (site_of sc server.0 declared) p (coord.query_request sc c server number)
+query_requested sc declared p c number server declared_is fits is number_is home =
+    let asked_is : query_at declared number ≡ Some home.asked = query_declared sc c declared number home.asked declared_is home.asked_is in
+    asks (site_of sc server.0 declared) p (asker_of server.0 (coord.sends_query sc c number server).state) (coord.query_request sc c server number) is fits refl
+    (subst (λ (n : ℕ). here (site_of sc server.0 declared) n ≡ true) number_is (query_here_in_pairs sc declared number home.asked server asked_is home.server_is))
+    (record {
+      turn = refl;
+      number = number_is;
+      epoch = refl;
+      value = ap (option_and_then (λ (d : Transaction). asked_value d c.deeds number)) declared_is ∙ ap (λ (n : ℕ). asked_value declared c.deeds n) number_is;
+    })
+
+sent_asks : (sc : Scenario) (declared : Transaction) (P : ℕ → Pair) (c : Coordinator) (age : ℕ) (server : ServerId) → CoordinatorPaired sc declared P c → c.phase ≡ phase.Idle → IsHome sc c 1 server
+    → RowAsks sc declared P (with_age (coord.sends_query sc c 1 server) age)
+sent_asks sc declared P c age server h idle home =
+    let next = coord.coordinator_with_age (coord.sends_query sc c 1 server).state age in
+    let undecided : is_undecided c.phase ≡ true = ap is_undecided idle in
+    let short : length c.deeds ≡ 0 = ap length (subst (λ (p : Phase). PhaseNumbered p c.deeds) idle h.numbered) in
+    let first : 1 ≡ length c.deeds + 1 = omega (arith, short) in
+    let rises : next_turn c ≡ c.turn + 1 = turn_rises c h.low in
+    let within : 0 < length declared.queries = slice_get_within declared.queries 0 home.asked (query_declared sc c declared 1 home.asked h.declared_is home.asked_is) in
+    let event : (at : ℕ) → Next (site_of sc at declared) (P at) (with_asker (P at) (asker_up at next)) = λ at.
+    moves (site_of sc at declared) (P at) (asker_of at c) Asks (next_turn c) (asker_there sc declared P c at h undecided) (h.fits at)
+    (record {
+      answered = λ asks. let rests = ap stand_of idle in cc;
+      turn_past = omega (arith, rises);
+      asks = λ e. (omega (arith, rises), omega (arith, short, within));
+      all = λ e. absurd (cc);
+      stays = λ e. let rests = ap stand_of idle in absurd (cc);
+    }) in
+    record {
+      next = event;
+      numbered = first;
+      requests = ((refl, query_requested sc declared (with_asker (P server.0) (asker_up server.0 next)) c 1 server h.declared_is (event server.0).fits refl first home), tt);
+    }
+
+-- a submission that sends nothing
+unsent_asks : (sc : Scenario) (declared : Transaction) (P : ℕ → Pair) (c : Coordinator) (age : ℕ) → CoordinatorPaired sc declared P c → RowAsks sc declared P (with_age (ignores c) age)
+unsent_asks sc declared P c age h = record { next = λ at. still_asks sc declared P c (coord.coordinator_with_age c age) at h refl; numbered = h.numbered; requests = tt }
+
+pub submit_row_asks : (sc : Scenario) (declared : Transaction) (P : ℕ → Pair) (c : Coordinator) (age : ℕ) → CoordinatorPaired sc declared P c → coord.is_begun c.phase ≡ false
+    → RowAsks sc declared P (with_age (coord.submit_row sc c) age)
+submit_row_asks sc declared P c age h new =
+    submit_by sc c (λ (effect : Effect Coordinator). RowAsks sc declared P (with_age effect age))
+    (record {
+      ignored = unsent_asks sc declared P c age h;
+      sent = λ server home. sent_asks sc declared P c age server h (idle_is c.phase new) (home_is sc c 1 server home);
+    })
+
+-- ---- Done
+
+-- the answer that is awaited
+record IsAwaited (sc : Scenario) (declared : Transaction) (P : ℕ → Pair) (c : Coordinator) (done : DoneReply) (asked : Query) (server : ServerId) (value : ℤ) : Type 0 where
+  pub awaits : c.phase ≡ phase.Querying done.query None
+  pub turn : done.turn ≡ c.turn
+  pub asked_is : query_at declared done.query ≡ Some asked
+  pub server_is : server_of sc asked ≡ Some server
+  pub ran : RanFits (site_of sc server.0 declared) (P server.0) done value
+  pub exists : server.0 < length sc.servers
+
+none_past : (queries : List Query) (n : ℕ) → slice_get queries n ≡ None → length queries ≤ n
+none_past [] n e = omega arith
+none_past (first ∷ queries) zero e = absurd (cc)
+none_past (first ∷ queries) (suc n) e = let later = none_past queries n e in omega (arith, later)
+
+-- so many queries have run once the last has
+ran_all : (declared : Transaction) (number : ℕ) (asked : Query) → query_at declared number ≡ Some asked → query_at declared (number + 1) ≡ None → number ≡ length declared.queries
+ran_all declared zero asked e f = absurd (cc)
+ran_all declared (suc before) asked e f =
+    let within = slice_get_within declared.queries before asked e in
+    let next : suc before + 1 ≡ suc (suc before) = omega arith in
+    let past = none_past declared.queries (suc before) (ap (query_at declared) (sym next) ∙ f) in
+    omega (arith, within, past)
+
+-- what all servers see of the answer: the coordinator has one deed more, and goes on
+moves_on : (s : Site) (p : Pair) (a : Asker) (b : Asker) (stand : Stand) (turn : ℕ) (value : ℤ) (epoch : Option ℕ) → b ≡ answered s a epoch value → a.turn < turn → (stand ≡ Asks → length a.deeds + 1 < count s)
+    → (stand ≡ Prepares → length a.deeds + 1 ≡ count s) → Next s p (with_asker p (Some b)) → Next s p (with_asker p (Some (moved b stand turn)))
+moves_on s p a b stand turn value epoch is past left all n =
+    let longer : length b.deeds ≡ length a.deeds + 1 = ap (λ (x : Asker). length x.deeds) is ∙ length_push a.deeds (next_deed s a value) in
+    let rests : b.stand ≡ Rests = ap (λ (x : Asker). x.stand) is in
+    let same_turn : b.turn ≡ a.turn = ap (λ (x : Asker). x.turn) is in
+    next_both s p (with_asker p (Some b)) (with_asker p (Some (moved b stand turn))) n
+    (moves s (with_asker p (Some b)) b stand turn refl n.fits
+    (record {
+      answered = λ again. absurd (cc);
+      turn_past = omega (arith, past, same_turn);
+      asks = λ e. let less = left e in (omega (arith, past, same_turn), omega (arith, longer, less));
+      all = λ e. let whole = all e in omega (arith, longer, whole);
+      stays = λ e. absurd (cc);
+    }))
+
+-- a coordinator that has the deed of the answer, in its next phase
+abbrev gone_on : Coordinator → ServerId → DoneReply → Query → ℤ → Phase → Coordinator
+gone_on c server done asked value now = record (coord.with_deed c server done asked value) { turn = next_turn c; phase = now }
+
+-- what the coordinator knows then, as the server of this number sees it
+ran_asker : (sc : Scenario) (declared : Transaction) (P : ℕ → Pair) (c : Coordinator) (done : DoneReply) (asked : Query) (server : ServerId) (value : ℤ) (now : Phase) (at : ℕ) (epoch : Option ℕ)
+    → CoordinatorPaired sc declared P c → IsAwaited sc declared P c done asked server value → option_flatten (slice_get (slice_set c.epochs server.0 (Some done.epoch)) at) ≡ epoch
+    → asker_of at (gone_on c server done asked value now) ≡ moved (answered (site_of sc at declared) (asker_of at c) epoch value) (stand_of now) (next_turn c)
+ran_asker sc declared P c done asked server value now at epoch h k e =
+    let number : done.query ≡ length c.deeds + 1 = subst (λ (p : Phase). PhaseNumbered p c.deeds) k.awaits h.numbered in
+    let deed : deed_of done.query asked value ≡ deed_at declared (length c.deeds + 1) value =
+    ap (λ (found : Option Query). deed_asked done.query found value) (sym k.asked_is) ∙ ap (λ (n : ℕ). deed_at declared n value) number in
+    ap (λ (x : Option ℕ). record { stand = stand_of now; turn = next_turn c; epoch = x; deeds = c.deeds ++ deed_of done.query asked value ∷ [] }) e
+    ∙ ap (λ (x : Deed). record { stand = stand_of now; turn = next_turn c; epoch = epoch; deeds = c.deeds ++ x ∷ [] }) deed
+
+-- the next phase: a query that is left is asked, or after all of them the servers are to prepare
+record GoesOn (declared : Transaction) (c : Coordinator) (now : Phase) : Type 0 where
+  pub asks : stand_of now ≡ Asks → length c.deeds + 1 < length declared.queries
+  pub all : stand_of now ≡ Prepares → length c.deeds + 1 ≡ length declared.queries
+
+-- at the server that was asked
+ran_here : (sc : Scenario) (declared : Transaction) (P : ℕ → Pair) (c : Coordinator) (done : DoneReply) (asked : Query) (server : ServerId) (value : ℤ) (now : Phase) → CoordinatorPaired sc declared P c
+    → IsAwaited sc declared P c done asked server value → GoesOn declared c now
+    → Next (site_of sc server.0 declared) (P server.0) (with_asker (P server.0) (Some (asker_of server.0 (gone_on c server done asked value now))))
+ran_here sc declared P c done asked server value now h k on =
+    let s = site_of sc server.0 declared in
+    let a = asker_of server.0 c in
+    let is = asker_there sc declared P c server.0 h (ap is_undecided k.awaits) in
+    let rises : next_turn c ≡ c.turn + 1 = turn_rises c h.low in
+    let kept : option_flatten (slice_get (slice_set c.epochs server.0 (Some done.epoch)) server.0) ≡ Some done.epoch = ap option_flatten (set_here c.epochs server.0 (Some done.epoch) (let exists = k.exists in let places = h.places in omega (arith, places, exists))) in
+    subst (λ (b : Asker). Next s (P server.0) (with_asker (P server.0) (Some b))) (sym (ran_asker sc declared P c done asked server value now server.0 (Some done.epoch) h k kept))
+    (moves_on s (P server.0) a (answered s a (Some done.epoch) value) (stand_of now) (next_turn c) value (Some done.epoch) refl (omega (arith, rises)) on.asks on.all
+    (takes s (P server.0) a done value is (h.fits server.0) (ap stand_of k.awaits) k.turn k.ran))
+
+-- and at every other
+ran_elsewhere : (sc : Scenario) (declared : Transaction) (P : ℕ → Pair) (c : Coordinator) (done : DoneReply) (asked : Query) (server : ServerId) (value : ℤ) (now : Phase) (at : ℕ) → (server.0 == at) ≡ false
+    → CoordinatorPaired sc declared P c → IsAwaited sc declared P c done asked server value → GoesOn declared c now
+    → Next (site_of sc at declared) (P at) (with_asker (P at) (Some (asker_of at (gone_on c server done asked value now))))
+ran_elsewhere sc declared P c done asked server value now at apart h k on =
+    let s0 = site_of sc server.0 declared in
+    let t : Taken s0 (P server.0) (asker_of server.0 c) done value =
+    taken s0 (P server.0) (asker_of server.0 c) done value (asker_there sc declared P c server.0 h (ap is_undecided k.awaits)) (ap stand_of k.awaits) k.turn k.ran in
+    let s = site_of sc at declared in
+    let a = asker_of at c in
+    let is = asker_there sc declared P c at h (ap is_undecided k.awaits) in
+    let rises : next_turn c ≡ c.turn + 1 = turn_rises c h.low in
+    let not_here : here s (length c.deeds + 1) ≡ false = one_home sc declared server.0 at (length c.deeds + 1) (λ same. let one = eq-eqb server.0 at same in cc) t.is_here in
+    let kept : option_flatten (slice_get (slice_set c.epochs server.0 (Some done.epoch)) at) ≡ a.epoch = ap option_flatten (set_elsewhere c.epochs server.0 at (Some done.epoch) apart) in
+    subst (λ (b : Asker). Next s (P at) (with_asker (P at) (Some b))) (sym (ran_asker sc declared P c done asked server value now at a.epoch h k kept))
+    (moves_on s (P at) a (answered s a a.epoch value) (stand_of now) (next_turn c) value a.epoch refl (omega (arith, rises)) on.asks on.all
+    (elsewhere s (P at) a value is (h.fits at) (ap stand_of k.awaits) not_here t.asked))
+
+ran_by : (sc : Scenario) (declared : Transaction) (P : ℕ → Pair) (c : Coordinator) (done : DoneReply) (asked : Query) (server : ServerId) (value : ℤ) (now : Phase) (at : ℕ) (b : Bool) → (server.0 == at) ≡ b
+    → CoordinatorPaired sc declared P c → IsAwaited sc declared P c done asked server value → GoesOn declared c now
+    → Next (site_of sc at declared) (P at) (with_asker (P at) (Some (asker_of at (gone_on c server done asked value now))))
+ran_by sc declared P c done asked server value now at false e h k on = ran_elsewhere sc declared P c done asked server value now at e h k on
+ran_by sc declared P c done asked server value now at true e h k on =
+    subst (λ (n : ℕ). Next (site_of sc n declared) (P n) (with_asker (P n) (Some (asker_of n (gone_on c server done asked value now))))) (eqb-true server.0 at e)
+    (ran_here sc declared P c done asked server value now h k on)
+
+ran_at_in_pairs : (sc : Scenario) (declared : Transaction) (P : ℕ → Pair) (c : Coordinator) (done : DoneReply) (asked : Query) (server : ServerId) (value : ℤ) (now : Phase) → CoordinatorPaired sc declared P c
+    → IsAwaited sc declared P c done asked server value → GoesOn declared c now → (at : ℕ)
+    → Next (site_of sc at declared) (P at) (with_asker (P at) (Some (asker_of at (gone_on c server done asked value now))))
+ran_at_in_pairs sc declared P c done asked server value now h k on at = ran_by sc declared P c done asked server value now at (server.0 == at) refl h k on
+
+-- the last query ran
+last_asks : (sc : Scenario) (declared : Transaction) (P : ℕ → Pair) (c : Coordinator) (done : DoneReply) (asked : Query) (server : ServerId) (value : ℤ) → CoordinatorPaired sc declared P c
+    → IsAwaited sc declared P c done asked server value → query_at declared (done.query + 1) ≡ None → RowAsks sc declared P (coord.asks (coord.with_deed c server done asked value) (coord.commit_round (coord.with_deed c server done asked value)))
+last_asks sc declared P c done asked server value h k none =
+    let number : done.query ≡ length c.deeds + 1 = subst (λ (p : Phase). PhaseNumbered p c.deeds) k.awaits h.numbered in
+    let all : done.query ≡ length declared.queries = ran_all declared done.query asked k.asked_is none in
+    record {
+      next = ran_at_in_pairs sc declared P c done asked server value (phase.Asking (coord.commit_round (coord.with_deed c server done asked value))) h k (record { asks = λ e. absurd (cc); all = λ e. sym number ∙ all });
+      numbered = tt;
+      requests = (tt, tt);
+    }
+
+-- a further query is asked
+next_asks : (sc : Scenario) (declared : Transaction) (P : ℕ → Pair) (c : Coordinator) (done : DoneReply) (asked : Query) (server next : ServerId) (value : ℤ) → CoordinatorPaired sc declared P c
+    → IsAwaited sc declared P c done asked server value → next_number done.query ≡ done.query + 1 → IsHome sc c (next_number done.query) next
+    → RowAsks sc declared P (coord.sends_query sc (coord.with_deed c server done asked value) (next_number done.query) next)
+next_asks sc declared P c done asked server next value h k further home =
+    let now = coord.with_deed c server done asked value in
+    let number : done.query ≡ length c.deeds + 1 = subst (λ (p : Phase). PhaseNumbered p c.deeds) k.awaits h.numbered in
+    let longer : length now.deeds ≡ length c.deeds + 1 = length_push c.deeds (deed_of done.query asked value) in
+    let numbered : next_number done.query ≡ length now.deeds + 1 = omega (arith, number, longer, further) in
+    let place : next_number done.query ≡ suc (length c.deeds + 1) = omega (arith, number, further) in
+    let asked_is : query_at declared (next_number done.query) ≡ Some home.asked = query_declared sc c declared (next_number done.query) home.asked h.declared_is home.asked_is in
+    let within : length c.deeds + 1 < length declared.queries = slice_get_within declared.queries (length c.deeds + 1) home.asked (subst (λ (n : ℕ). query_at declared n ≡ Some home.asked) place asked_is) in
+    let event = ran_at_in_pairs sc declared P c done asked server value (phase.Querying (next_number done.query) None) h k (record { asks = λ e. within; all = λ e. absurd (cc) }) in
+    record {
+      next = event;
+      numbered = numbered;
+      requests = (
+        (
+          refl,
+          query_requested sc declared (with_asker (P next.0) (Some (asker_of next.0 (coord.sends_query sc now (next_number done.query) next).state))) now (next_number done.query) next h.declared_is (event next.0).fits refl numbered
+              (record { asked = home.asked; asked_is = home.asked_is; server_is = home.server_is }),
+        ),
+        tt,
+      );
+    }
+
+-- ---- Tell
+
+-- a request to prepare names the epoch that is kept
+prepare_fits_in_pairs : (sc : Scenario) (declared : Transaction) (Q : ℕ → Pair) (c next : Coordinator) (round : Round) (staple : Staple) (servers : List ServerId) → c.txn ≡ next.txn
+    → ((at : ℕ) → (Q at).asker ≡ Some (asker_of at next)) → ((at : ℕ) → Fits (site_of sc at declared) (Q at)) → stand_of next.phase ≡ Prepares → c.epochs ≡ next.epochs → Each (KeepsEpoch c) servers → Each (NamesAt sc declared round) servers
+    → Each (λ (letter : Letter). AskPairs sc declared next.txn Q letter.to letter.body) (map (coord.prepare_letter c round staple) servers)
+prepare_fits_in_pairs sc declared Q c next round staple [] own is fits stand same h names = tt
+prepare_fits_in_pairs sc declared Q c next round staple (at ∷ servers) own is fits stand same h names =
+    let site = site_of sc at.0 declared in
+    let kept : (asker_of at.0 next).epoch ≡ Some (coord.epoch_of c at) =
+    ap (λ (epochs : List (Option ℕ)). option_flatten (slice_get epochs at.0)) (sym same) ∙ some_is (kept_epoch c at) h.0 in (
+      (own, prepares site (Q at.0) (asker_of at.0 next) (coord.prepare_request c round staple at) (is at.0) (fits at.0) stand kept names.0),
+      prepare_fits_in_pairs sc declared Q c next round staple servers own is fits stand same h.1 names.1,
+    )
+
+-- a coordinator that prepares, in a further turn
+prepares_on : (sc : Scenario) (declared : Transaction) (P : ℕ → Pair) (c next : Coordinator) → CoordinatorPaired sc declared P c → stand_of c.phase ≡ Prepares → is_undecided c.phase ≡ true
+    → ((at : ℕ) → asker_up at next ≡ Some (record { stand = Prepares; turn = next_turn c; epoch = option_flatten (slice_get c.epochs at); deeds = c.deeds }))
+    → (at : ℕ) → Next (site_of sc at declared) (P at) (with_asker (P at) (asker_up at next))
+prepares_on sc declared P c next h stands undecided is at =
+    let rises : next_turn c ≡ c.turn + 1 = turn_rises c h.low in
+    let old : AskerFits (site_of sc at declared) (P at) (asker_of at c) = of_some (AskerFits (site_of sc at declared) (P at)) (P at).asker (asker_of at c) (asker_there sc declared P c at h undecided) (h.fits at).asker in
+    subst (λ (a : Option Asker). Next (site_of sc at declared) (P at) (with_asker (P at) a)) (sym (is at))
+    (moves (site_of sc at declared) (P at) (asker_of at c) Prepares (next_turn c) (asker_there sc declared P c at h undecided) (h.fits at)
+    (record {
+      answered = λ asks. cc;
+      turn_past = omega (arith, rises);
+      asks = λ e. absurd (cc);
+      all = λ e. old.all stands;
+      stays = λ e. refl;
+    }))
+
+prepares_asks : (sc : Scenario) (declared : Transaction) (P : ℕ → Pair) (c : Coordinator) (round : Round) (staple : Staple) → CoordinatorPaired sc declared P c → c.phase ≡ phase.Asking round
+    → RowAsks sc declared P (coord.prepares c round staple)
+prepares_asks sc declared P c round staple h asking =
+    let next = (coord.prepares c round staple).state in
+    let undecided : is_undecided c.phase ≡ true = ap is_undecided asking in
+    let kept : EachServer (KeepsEpoch c) round.targets = subst (PhaseKept (KeepsEpoch c)) asking (h.keeps undecided) in
+    let event : (at : ℕ) → Next (site_of sc at declared) (P at) (with_asker (P at) (asker_up at next)) = prepares_on sc declared P c next h (ap stand_of asking) undecided (λ at. refl) in
+    record {
+      next = event;
+      numbered = tt;
+      requests = prepare_fits_in_pairs sc declared (λ at. with_asker (P at) (asker_up at next)) c next round staple (missing_in round.targets) refl (λ at. refl) (λ at. (event at).fits) refl refl
+          (each_missing (KeepsEpoch c) round.targets kept) (subst (PhaseNames sc declared) asking h.names);
+    }
+
+-- the authority is asked before a further round
+updated_asks : (sc : Scenario) (declared : Transaction) (P : ℕ → Pair) (c : Coordinator) (round next : Round) (staple : Staple) → CoordinatorPaired sc declared P c → c.phase ≡ phase.Checking round staple
+    → RowAsks sc declared P (coord.asks c next)
+updated_asks sc declared P c round next staple h checking =
+    record { next = prepares_on sc declared P c (coord.asks c next).state h (ap stand_of checking) (ap is_undecided checking) (λ at. refl); numbered = tt; requests = (tt, tt) }
+
+-- ---- Vote, and the end
+
+counted_asker : (at : ℕ) (c : Coordinator) (round other : Round) (staple : Staple) → c.phase ≡ phase.Checking round staple → asker_up at (record c { phase = phase.Checking other staple }) ≡ asker_up at c
+counted_asker at c round other staple e =
+    ap (λ (s : Stand). Some (record { stand = s; turn = c.turn; epoch = option_flatten (slice_get c.epochs at); deeds = c.deeds })) (sym (ap stand_of e)) ∙ sym (undecided_asker at c (ap is_undecided e))
+
+-- a decision
+ends_asks : (sc : Scenario) (declared : Transaction) (P : ℕ → Pair) (c next : Coordinator) (ended : Outcome) (servers : List ServerId) → CoordinatorPaired sc declared P c → is_undecided next.phase ≡ false
+    → PhaseNumbered next.phase next.deeds → CoordinatorActsPairs sc declared P next (coord.requests c (body.Decide (record { txn = c.txn; outcome = ended })) servers)
+ends_asks sc declared P c next ended servers h decided numbered =
+    record {
+      next = λ at. subst (λ (o : Option Asker). Next (site_of sc at declared) (P at) (with_asker (P at) o)) (sym (ap (λ (b : Bool). if b then Some (asker_of at next) else None) decided)) (ends (site_of sc at declared) (P at) (h.fits at));
+      numbered = numbered;
+      requests = orders servers;
+    }
+  where
+    orders : (others : List ServerId) → Each (λ (letter : Letter). AskPairs sc declared next.txn (λ at. with_asker (P at) (asker_up at next)) letter.to letter.body) (coord.requests c (body.Decide (record { txn = c.txn; outcome = ended })) others)
+    orders [] = tt
+    orders (at ∷ others) = (tt, orders others)
+
+-- ---- all mails
+
+-- what a mail to a coordinator says of its transaction
+abbrev pub AnswerPairs : Scenario → Transaction → (ℕ → Pair) → Actor → Body → Type 0
+AnswerPairs sc declared P (actor.Server at) (body.Done done) = DoneFits (site_of sc at.0 declared) (P at.0) done
+AnswerPairs sc declared P _ _ = Unit {0}
+
+answer_awaited : (sc : Scenario) (declared : Transaction) (P : ℕ → Pair) (c : Coordinator) (mail : Mail) (done : DoneReply) (server : ServerId) (asked : Query) (value : ℤ) → CoordinatorPaired sc declared P c
+    → AnswerPairs sc declared P mail.letter.from mail.letter.body → server.0 < length sc.servers → IsRanAnswer sc c mail done server asked value → IsAwaited sc declared P c done asked server value
+answer_awaited sc declared P c mail done server asked value h m exists k =
+    let awaits : c.phase ≡ phase.Querying done.query None = awaits_is c c.phase done k.awaited k.plain in
+    let present : awaits_query c (phase.Querying done.query None) done ≡ true = subst (λ (p : Phase). awaits_query c p done ≡ true) awaits k.awaited in
+    let fits : DoneFits (site_of sc server.0 declared) (P server.0) done = subst (λ (from : Actor). AnswerPairs sc declared P from (body.Done done)) (from_server mail.letter.from server k.from_is) (subst (AnswerPairs sc declared P mail.letter.from) k.said_is m) in
+    record {
+      awaits = awaits;
+      turn = eqb-true done.turn c.turn (and_parts (done.turn == c.turn) (done.query == done.query) present).0;
+      asked_is = query_declared sc c declared done.query asked h.declared_is k.asked_is;
+      server_is = k.server_is;
+      ran = subst (AnswerFits (site_of sc server.0 declared) (P server.0) done) k.answer_is fits;
+      exists = exists;
+    }
+
+-- a number that is no query of the transaction
+no_query : (sc : Scenario) (c : Coordinator) (declared : Transaction) (number : ℕ) → slice_get sc.txns c.txn.0 ≡ Some declared → own_query sc c number ≡ None → query_at declared number ≡ None
+no_query sc c declared number e f = sym (ap (λ (found : Option Transaction). option_and_then (λ (d : Transaction). query_at d number) found) e) ∙ f
+
+server_exists_in_pairs : (sc : Scenario) (asked : Query) (server : ServerId) → IsValid sc → server_of sc asked ≡ Some server → server.0 < length sc.servers
+server_exists_in_pairs sc asked server valid e = found (slice_get sc.items (item_of asked).0) refl e
+  where
+    found : (item : Option Item) → slice_get sc.items (item_of asked).0 ≡ item → option_map (λ (i : Item). i.server) item ≡ Some server → server.0 < length sc.servers
+    found None f g = absurd (cc)
+    found (Some item) f g = subst (λ (at : ServerId). at.0 < length sc.servers) (same_Some item.server server g) (each_get (IsValidItem sc) sc.items (item_of asked).0 item valid.items f).server
+
+-- every row of a coordinator on receipt of a mail
+pub coordinator_row_asks : (sc : Scenario) (declared : Transaction) (P : ℕ → Pair) (c : Coordinator) (mail : Mail) → IsValid sc → HaveHomes sc → CoordinatorPaired sc declared P c
+    → AnswerPairs sc declared P mail.letter.from mail.letter.body → RowAsks sc declared P (coord.coordinator_row sc c mail)
+coordinator_row_asks sc declared P c mail valid homes h m =
+    let awaited = λ (done : DoneReply) (server : ServerId) (asked : Query) (value : ℤ) (k : IsRanAnswer sc c mail done server asked value).
+    answer_awaited sc declared P c mail done server asked value h m (server_exists_in_pairs sc asked server valid k.server_is) k in
+    coordinator_by sc c mail (RowAsks sc declared P)
+    (record {
+      ignored = ignores_asks sc declared P c h;
+      ran_next = λ done server asked value next k home.
+          next_asks sc declared P c done asked server next value h (awaited done server asked value k) (next_is sc c done.query asked homes k.asked_is) (home_is sc c (next_number done.query) next home);
+      ran_last = λ done server asked value k none.
+          last_asks sc declared P c done asked server value h (awaited done server asked value k) (no_query sc c declared (done.query + 1) h.declared_is (last_is sc c done.query asked homes k.asked_is none));
+      died = λ done server asked other k. ends_asks sc declared P c (coord.aborts c (cause.Died (coord.died_for server done other mail.sent))).state outcome.Abort c.servers h refl tt;
+      told = λ tell round k. prepares_asks sc declared P c round (coord.staple_of tell mail.sent) h k.asking;
+      counted = λ reply round staple server verdicts y e. record {
+        next = λ at. still_asks sc declared P c (record c { phase = phase.Checking (after_reply round server verdicts) staple }) at h (counted_asker at c round (after_reply round server verdicts) staple y.checking);
+        numbered = tt;
+        requests = tt;
+      };
+      committed = λ reply round staple server verdicts y e. ends_asks sc declared P c (coord.commits c round.number (by_query (proofs_in (after_reply round server verdicts).targets))).state outcome.Commit c.servers h refl tt;
+      denied = λ reply round staple server verdicts verdict y e. ends_asks sc declared P c (coord.aborts c (cause.Denied (coord.denied_by verdict))).state outcome.Abort c.servers h refl tt;
+      updated = λ reply round staple server verdicts named y e. updated_asks sc declared P c round (after_judgement (after_reply round server verdicts) None) staple h y.checking;
+      refused = λ reply round staple server number value k. ends_asks sc declared P c (coord.aborts c (cause.No (coord.refused_by server number value))).state outcome.Abort c.servers h refl tt;
+      acknowledged = λ ack ended awaited server a. record {
+        next = λ at. still_asks sc declared P c (record c { phase = phase.Ending ended (coord.without awaited server) }) at h (sym (ap (λ (p : Phase). if is_undecided p then Some (asker_of at c) else None) a.ending));
+        numbered = tt;
+        requests = tt;
+      };
+    })

@@ -1,0 +1,103 @@
+-- What is sent fits the state in which it is sent.
+use Rattle.tp_coord.specs.Sums.{asked_value}
+use Rattle.std.proofs.Common.{◌≡◌, ⊎_elim, ℕ, ◌+◌, List, [], length, take, true, Option, Some, None, IfSome, Contains, refl, sym, ap, subst, ◌∙◌, arith, ◌⊎◌}
+use Rattle.std.proofs.lemmas.List.{take_all}
+use Rattle.tp_model.specs.Words.{Deed, DoneReply, PrepareRequest, QueryRequest}
+use Rattle.tp_coord.specs.Sums.{asked_value}
+use Rattle.tp_server.specs.declared.server.Entry.{Entry}
+use Rattle.tp_model.specs.Limits.{is_empty}
+use Rattle.tp_runs.proofs.pairs.Fits.{AskerFits, Covers, DoneFits, EntryFits, Fits, Matches, Names, OneMore, Pairing, PrepareFits, PrepareLive, QueryFits, QueryLive, Tells}
+use Rattle.tp_runs.proofs.pairs.Grows.{covers_more}
+use Rattle.tp_runs.proofs.basics.Found.{answer_each, answer_in, of_some, to_some}
+use Rattle.tp_runs.proofs.pairs.Loses.{tells_as}
+use Rattle.tp_runs.proofs.pairs.Pair.{Asker, Asks, Pair, Prepares, got}
+use Rattle.tp_runs.proofs.pairs.Site.{IsUpto, Site, here, here_within, in_upto, upto, upto_none}
+
+-- ---- what the coordinator got
+
+-- what the coordinator got covers all numbers so far
+covers_got : (s : Site) (p : Pair) (a : Asker) → AskerFits s p a → Covers s (length a.deeds) (got s a.deeds)
+covers_got s p a h number low high at =
+    subst (λ (all : List ℕ). Contains all number) (sym h.numbers_are) (in_upto s (length a.deeds) number (record { low = low; high = high; at = at }))
+
+-- and so does what matches it
+pub covers_matched : (s : Site) (p : Pair) (a : Asker) → AskerFits s p a → (deeds : List Deed) → Matches s a deeds → Covers s (length a.deeds) deeds
+covers_matched s p a h deeds m =
+    ⊎_elim (λ (same : deeds ≡ got s a.deeds). subst (Covers s (length a.deeds)) (sym same) (covers_got s p a h))
+    (λ (more : OneMore s a deeds). subst (Covers s (length a.deeds)) (sym more.more) (covers_more s (length a.deeds) (got s a.deeds) _ (covers_got s p a h)))
+    m
+
+-- what was begun in the epoch that is kept covers all numbers so far
+kept_covers : (s : Site) (p : Pair) (a : Asker) (kept : Option ℕ) → AskerFits s p a → Pairing s p a kept → IfSome kept (λ (e : ℕ). Tells p e (Covers s (length a.deeds)))
+kept_covers s p a None h pairing = tt
+kept_covers s p a (Some e) h pairing = tells_as p e (Matches s a) (Covers s (length a.deeds)) (covers_matched s p a h) pairing.told
+
+none_so_far : (s : Site) (p : Pair) (a : Asker) (kept : Option ℕ) → Pairing s p a kept → kept ≡ None → upto s (length a.deeds) ≡ []
+none_so_far s p a None pairing e = pairing.none
+none_so_far s p a (Some kept) pairing e = absurd (cc)
+
+epoch_there : (s : Site) (p : Pair) (a : Asker) (kept : Option ℕ) (number : ℕ) → Pairing s p a kept → IsUpto s (length a.deeds) number → (e : ℕ) × (kept ≡ Some e)
+epoch_there s p a None number pairing at = absurd (upto_none s (length a.deeds) number pairing.none at)
+epoch_there s p a (Some e) number pairing at = (e, refl)
+
+-- once a query at the server has run, an epoch is kept
+pub has_epoch : (s : Site) (p : Pair) (a : Asker) (number : ℕ) → AskerFits s p a → IsUpto s (length a.deeds) number → (e : ℕ) × (a.epoch ≡ Some e)
+has_epoch s p a number h at = epoch_there s p a a.epoch number h.pairing at
+
+-- a coordinator that prepares has kept the epoch of each server with a query
+pub late_epoch : (s : Site) (p : Pair) (a : Asker) (number : ℕ) → AskerFits s p a → a.stand ≡ Prepares → here s number ≡ true → (e : ℕ) × (a.epoch ≡ Some e)
+late_epoch s p a number h prepares at =
+    let within = here_within s number at in
+    let low = within.0 in
+    let high = within.1 in
+    let all = h.all prepares in
+    has_epoch s p a number h (record { low = low; high = omega (arith, high, all); at = at })
+
+-- ---- requests
+
+-- the request is for the query that is asked, in the present turn, with the epoch that is kept and the value of the sum
+pub record IsForNext (s : Site) (a : Asker) (q : QueryRequest) : Type 0 where
+  pub turn : q.turn ≡ a.turn
+  pub number : q.query ≡ length a.deeds + 1
+  pub epoch : q.epoch ≡ a.epoch
+  pub value : q.value ≡ asked_value s.txn a.deeds (length a.deeds + 1)
+
+some_itself : (kept : Option ℕ) → IfSome kept (λ (e : ℕ). kept ≡ Some e)
+some_itself None = tt
+some_itself (Some e) = refl
+
+-- a request to run a query, the first time or again
+pub asks : (s : Site) (p : Pair) (a : Asker) (q : QueryRequest) → p.asker ≡ Some a → Fits s p → a.stand ≡ Asks → here s (length a.deeds + 1) ≡ true → IsForNext s a q → QueryFits s p q
+asks s p a q is h stand at next =
+    let old : AskerFits s p a = of_some (AskerFits s p) p.asker a is h.asker in
+    let all : take (length a.deeds) a.deeds ≡ a.deeds = take_all (length a.deeds) a.deeds (omega arith) in
+    let same : a.epoch ≡ q.epoch = sym next.epoch in
+    record {
+      before = length a.deeds;
+      number_is = next.number;
+      is_here = at;
+      first = λ none. none_so_far s p a a.epoch old.pairing (same ∙ none);
+      covers = subst (λ (kept : Option ℕ). IfSome kept (λ (e : ℕ). Tells p e (Covers s (length a.deeds)))) same (kept_covers s p a a.epoch old old.pairing);
+      live = to_some (QueryLive s q (length a.deeds)) p.asker a is (record {
+        live = record { past = omega arith; now = λ e. stand; turn_past = let turn = next.turn in omega (arith, turn); turn_now = λ e f. refl };
+        epoch = subst (λ (kept : Option ℕ). IfSome kept (λ (e : ℕ). a.epoch ≡ Some e)) same (some_itself a.epoch);
+        value = next.value ∙ ap (λ (deeds : List Deed). asked_value s.txn deeds (length a.deeds + 1)) (sym all);
+      });
+    }
+
+-- a request to prepare that names the epoch that is kept, the first time or again
+pub prepares : (s : Site) (p : Pair) (a : Asker) (r : PrepareRequest) → p.asker ≡ Some a → Fits s p → a.stand ≡ Prepares → a.epoch ≡ Some r.epoch → ((is_empty r.want ≡ true) ⊎ Names s r.want) → PrepareFits s p r
+prepares s p a r is h stand epoch names =
+    let old : AskerFits s p a = of_some (AskerFits s p) p.asker a is h.asker in
+    let covers : Tells p r.epoch (Covers s (length a.deeds)) = of_some (λ (e : ℕ). Tells p e (Covers s (length a.deeds))) a.epoch r.epoch epoch (kept_covers s p a a.epoch old old.pairing) in
+    record {
+      covers = subst (λ (n : ℕ). Tells p r.epoch (Covers s n)) (old.all stand) covers;
+      names = names;
+      live = to_some (PrepareLive r) p.asker a is (record { epoch = epoch; prepares = stand });
+    }
+
+-- ---- answers
+
+-- an answer that the entry keeps is sent, the first time or again
+pub says : (s : Site) (p : Pair) (entry : Entry) (number : ℕ) (done : DoneReply) → p.entry ≡ Some entry → Fits s p → answer_in number entry.answers ≡ Some done → DoneFits s p done
+says s p entry number done is h found = answer_each (DoneFits s p) number entry.answers done (of_some (EntryFits s p) p.entry entry is h.entry).answers found

@@ -1,0 +1,400 @@
+-- Refusals over every list of steps: a vote NO is shown where the server settles, a coordinator that brings the servers to vote does nothing
+-- more until it decides, and it aborts for what is shown.
+use Rattle.std.specs.List.{list_any}
+use Rattle.std.proofs.Common.{Bool, IfSome, List, None, Option, Some, [], ap, arith, false, if◌then◌else◌, length, option_and_then, option_map, refl, slice_get, slice_set, subst, sym, true, ℕ, ℤ, ◌++◌, ◌+◌, ◌==◌, ◌∙◌, ◌∷◌, ◌≡◌}
+use Rattle.std.proofs.lemmas.Bool.{and_parts, eqb-true}
+use Rattle.std.proofs.lemmas.Option.{cond_some, none-some, same_Some}
+use Rattle.tp_types.specs.Effect.{Effect}
+use Rattle.tp_model.specs.Built.{is_built}
+use Rattle.tp_model.specs.Causes.{first_abort_of, is_abort_what, place_of}
+use Rattle.std.specs.Option.{option_or}
+use Rattle.tp_model.specs.Facts.{before, is_settled_as, outcome_of, same_outcome}
+use Rattle.tp_model.specs.Ids.{same_txn}
+use Rattle.tp_model.specs.Words.actor
+use Rattle.tp_model.specs.Words.body
+use Rattle.tp_model.specs.Words.cause
+use Rattle.tp_model.specs.Words.decision
+use Rattle.tp_model.specs.Words.log
+use Rattle.tp_model.specs.Words.no
+use Rattle.tp_model.specs.Words.outcome
+use Rattle.tp_model.specs.Words.step
+use Rattle.tp_model.specs.Words.vote
+use Rattle.tp_model.specs.Words.what
+use Rattle.tp_model.specs.Words.{Actor, Body, DecideRequest, Letter, Mail, Record, Scenario, ServerId, Settled, Step, Transaction, TxnId, VoteReply, What}
+use Rattle.tp_runs.proofs.agreement.Coordinator.{idle_is}
+use Rattle.tp_runs.proofs.agreement.CoordinatorActs.{coordinator_facts}
+use Rattle.tp_runs.proofs.agreement.ServerActs.{each_server_fact, server_facts}
+use Rattle.tp_runs.proofs.agreement.Steps.{mail_rests, own_txn}
+use Rattle.tp_runs.proofs.agreement.World.{Agrees, BodyRests, MailRests, VoteRests}
+use Rattle.tp_runs.proofs.basics.Facts.{ArePast, before_past, facts_after, grows_with_facts}
+use Rattle.tp_runs.proofs.basics.Ids.{same_txn_from, same_txn_is, server_number}
+use Rattle.tp_types.proofs.EachLemmas.{at_made, each_get}
+use Rattle.tp_runs.proofs.basics.Logs.{appended, gained, get_set, settled_with}
+use Rattle.tp_runs.proofs.basics.Phases.{awaits_is, is_undecided}
+use Rattle.tp_runs.proofs.pairs.Actors.{stand_of}
+use Rattle.tp_runs.proofs.pairs.Pair.{Asks, Prepares, Rests}
+use Rattle.tp_runs.proofs.known.World.{Pairs}
+use Rattle.tp_runs.proofs.refusals.Refusing.{asked_prepares, refusal_shown, run_at_abort}
+use Rattle.tp_runs.proofs.refusals.Running.{undecided_yet}
+use Rattle.tp_runs.proofs.refusals.Unbooted.{Unbooted, unbooted_next, unbooted_opening}
+use Rattle.tp_runs.proofs.refusals.World.{AreAbortedRuns, IsAwaiting, IsRunBefore, KeepsDeeds, MoveRefuses, ReasonShown, Refusals, WhatRefused, keeps_same, old_run, old_shown, refused_stays, state_after_refusals}
+use Rattle.tp_runs.proofs.serial_data.World.{Serial}
+use Rattle.tp_coord.proofs.Rows.{coordinator_by}
+use Rattle.tp_server.proofs.Rows.{server_by}
+use Rattle.tp_runs.proofs.walks.Steps.{Cases, IsCoordinatorUp, IsServerUp, SaysIdle, WasSent, WaitRightly, machine_after_by}
+use Rattle.tp_machine.specs.Logs.{decided_at, decided_by, settled_at, settled_by, settled_in, settlement_in}
+use Rattle.tp_machine.specs.Machine.{Machine, State, acts_by, coordinator_fact, coordinator_move, facts_of, idle_move, log_with, machine_after, opened_part, opening_state, refusal, server_fact, server_move, with_age}
+use Rattle.tp_machine.specs.Parts.{Part}
+use Rattle.tp_types.specs.Each.{Each}
+use Rattle.tp_runs.specs.Sound.{IsSound, IsSoundBody, IsSoundMail}
+use Rattle.tp_machine.specs.Named.{IsStepOf}
+use Rattle.tp_coord.specs.Row.{begins, coordinator_row, home_of, refused_by, submit_row}
+use Rattle.tp_coord.specs.State.{Coordinator}
+use Rattle.tp_machine.specs.declared.actors.Actors.{Actors}
+use Rattle.tp_coord.specs.declared.coordinator.Phase.TheVariants as phase
+use Rattle.tp_server.specs.Opened as server_opened
+use Rattle.tp_server.specs.Row.{server_row}
+use Rattle.tp_server.specs.State.{Server}
+use Rattle.tp_offices.specs.Authority as office
+use Rattle.tp_offices.specs.Master as master
+
+-- ---- a coordinator's part
+
+-- a coordinator that has not decided after an act had not before it; and while it brings the servers to vote it does nothing else
+record LeavesOpen (old new : Coordinator) : Type 0 where
+  undecided : is_undecided old.phase ≡ true
+  keeps : KeepsDeeds old new
+
+-- the coordinator was awaited before an act, too
+record WasAwaited (coordinators : List (Part Coordinator)) (txn : TxnId) (new : Coordinator) : Type 0 where
+  before : IsAwaiting coordinators txn
+  keeps : KeepsDeeds before.c new
+
+-- a coordinator that has not decided after an act of some coordinator had not before it
+awaited_before : (coordinators : List (Part Coordinator)) (txn other : TxnId) (part now : Part Coordinator) (c : Coordinator) → slice_get coordinators txn.0 ≡ Some part → part.up ≡ Some c
+    → ((next : Coordinator) → now.up ≡ Some next → is_undecided next.phase ≡ true → LeavesOpen c next) → (h : IsAwaiting (slice_set coordinators txn.0 now) other) → WasAwaited coordinators other h.c
+awaited_before coordinators txn other part now c found up opened h = by_txn (txn.0 == other.0) refl (sym (get_set coordinators txn.0 other.0 part now found) ∙ h.found)
+  where
+    by_txn : (b : Bool) → (txn.0 == other.0) ≡ b → (if b then Some now else slice_get coordinators other.0) ≡ Some h.part → WasAwaited coordinators other h.c
+    by_txn true same e =
+        let is : now ≡ h.part = same_Some now h.part e in
+        let left : LeavesOpen c h.c = opened h.c (ap (λ (p : Part Coordinator). p.up) is ∙ h.up) h.undecided in
+        record {
+          before = record { part = part; c = c; found = subst (λ (n : ℕ). slice_get coordinators n ≡ Some part) (eqb-true txn.0 other.0 same) found; up = up; undecided = left.undecided };
+          keeps = left.keeps;
+        }
+    by_txn false apart e = record { before = record { part = h.part; c = h.c; found = e; up = h.up; undecided = h.undecided }; keeps = keeps_same h.c }
+
+-- a coordinator in a phase that is not one of bringing servers to vote
+other_phase : (old new : Coordinator) → is_undecided old.phase ≡ true → (stand_of old.phase ≡ Prepares → ⊥) → LeavesOpen old new
+other_phase old new undecided other = record { undecided = undecided; keeps = λ prepares. absurd (other prepares) }
+
+-- one that awaits the answer to a query
+querying_open : (c new : Coordinator) (number : ℕ) → c.phase ≡ phase.Querying number None → LeavesOpen c new
+querying_open c new number is = other_phase c new (ap is_undecided is) (λ prepares. let stands : stand_of c.phase ≡ Asks = ap stand_of is in cc)
+
+-- a row that leaves the decision open
+still_undecided : (sc : Scenario) (c : Coordinator) (mail : Mail) → is_undecided (coordinator_row sc c mail).state.phase ≡ true → LeavesOpen c (coordinator_row sc c mail).state
+still_undecided sc c mail =
+    coordinator_by sc c mail (λ (effect : Effect Coordinator). is_undecided effect.state.phase ≡ true → LeavesOpen c effect.state)
+    (record {
+      ignored = λ e. record { undecided = e; keeps = keeps_same c };
+      ran_next = λ done server asked value next k home e. querying_open c _ done.query (awaits_is c c.phase done k.awaited k.plain);
+      ran_last = λ done server asked value k none e. querying_open c _ done.query (awaits_is c c.phase done k.awaited k.plain);
+      died = λ done server asked other k e. absurd (cc);
+      told = λ tell round k e. record { undecided = ap is_undecided k.asking; keeps = λ prepares. record { prepares = refl; deeds = refl } };
+      counted = λ reply round staple server verdicts y f e. record { undecided = ap is_undecided y.checking; keeps = λ prepares. record { prepares = refl; deeds = refl } };
+      committed = λ reply round staple server verdicts y f e. absurd (cc);
+      denied = λ reply round staple server verdicts verdict y f e. absurd (cc);
+      updated = λ reply round staple server verdicts named y f e. record { undecided = ap is_undecided y.checking; keeps = λ prepares. record { prepares = refl; deeds = refl } };
+      refused = λ reply round staple server number value k e. absurd (cc);
+      acknowledged = λ ack ended awaited server a e. absurd (cc);
+    })
+
+-- ---- a coordinator decides
+
+abbrev DecisionShown : Scenario → State → List What → Record → Type 0
+DecisionShown sc w happened (log.Decided d) = WhatRefused sc (facts_after w happened) (length w.steps) (what.Decided d.txn d.decision)
+DecisionShown sc w happened _ = Unit {0}
+
+told_shown : (sc : Scenario) (w : State) (append : Option Record) → IfSome append (DecisionShown sc w (coordinator_facts append)) → Each (WhatRefused sc (facts_after w (coordinator_facts append)) (length w.steps)) (coordinator_facts append)
+told_shown sc w None h = tt
+told_shown sc w (Some (log.Decided d)) h = (h, tt)
+told_shown sc w (Some log.Boot) h = tt
+told_shown sc w (Some (log.Told told)) h = tt
+told_shown sc w (Some (log.Prepared p)) h = tt
+told_shown sc w (Some (log.Settled s)) h = tt
+
+-- where what was settled is shown, so is the abort for it
+abort_shown : (sc : Scenario) (w : State) (happened : List What) (txn : TxnId) (server : ServerId) (number : ℕ) (value : ℤ) → ArePast (length w.steps) w.facts
+    → ReasonShown sc w.facts (length w.steps) server txn (no.Range number value) → WhatRefused sc (facts_after w happened) (length w.steps) (what.Decided txn (decision.Abort (cause.No (refused_by server number value))))
+abort_shown sc w happened txn server number value past h = λ declared e.
+    let place = length w.steps in
+    let all : before place (facts_after w happened) ≡ w.facts = (grows_with_facts w.facts place happened).same place (omega arith) ∙ before_past place w.facts past in
+    refused_stays sc w.facts w.facts (before place (facts_after w happened)) happened place place place txn (refused_by server number value) declared
+    (λ old. ap (list_any (is_settled_as server txn outcome.Abort)) all ∙ old) (omega arith) (omega arith) (h declared e)
+
+-- what a vote NO rests on
+no_settled : (w : State) (from : Actor) (said : Body) (reply : VoteReply) (server : ServerId) (number : ℕ) (value : ℤ) (sc : Scenario) (to : Actor) → BodyRests sc w.actors from to said → said ≡ body.Vote reply → from ≡ actor.Server server
+    → reply.vote ≡ vote.No (no.Range number value)
+    → settled_at w.actors.servers server.0 reply.txn ≡ Some (record { txn = reply.txn; outcome = outcome.Abort; why = Some (no.Range number value) })
+no_settled w from said reply server number value sc to rests e f g =
+    let here : BodyRests sc w.actors (actor.Server server) to (body.Vote reply) = subst (λ (b : Body). BodyRests sc w.actors (actor.Server server) to b) e (subst (λ (a : Actor). BodyRests sc w.actors a to said) f rests) in
+    subst (VoteRests w.actors server reply.txn) g here
+
+coordinator_row_shown : (sc : Scenario) (w : State) (txn : TxnId) (part : Part Coordinator) (c : Coordinator) (n : ℕ) (mail : Mail) → IsSound sc w → Agrees sc w → Refusals sc w → WasSent w n mail (actor.Coordinator txn)
+    → IsCoordinatorUp w txn part c → IfSome (coordinator_row sc c mail).reaction.append (DecisionShown sc w (coordinator_facts (coordinator_row sc c mail).reaction.append))
+coordinator_row_shown sc w txn part c n mail sound a h sent up =
+    coordinator_by sc c mail (λ (effect : Effect Coordinator). IfSome effect.reaction.append (DecisionShown sc w (coordinator_facts effect.reaction.append)))
+    (record {
+      ignored = tt;
+      ran_next = λ done server asked value next k home. tt;
+      ran_last = λ done server asked value k none. tt;
+      died = λ done server asked other k. tt;
+      told = λ tell round k. tt;
+      counted = λ reply round staple server verdicts y f. tt;
+      committed = λ reply round staple server verdicts y f. tt;
+      denied = λ reply round staple server verdicts verdict y f. tt;
+      updated = λ reply round staple server verdicts named y f. tt;
+      refused = λ reply round staple server number value k.
+          let own : c.txn ≡ txn = own_txn sc w txn part c sound up.found up.up in
+          let of_txn : reply.txn ≡ txn = reply_txn reply k.said_is in
+          let settled = no_settled w mail.letter.from mail.letter.body reply server number value sc mail.letter.to (each_get (MailRests sc w.actors) w.mails n mail a.mails sent.sent) k.said_is k.from_is k.vote_is in
+          let there : settled_at w.actors.servers server.0 txn ≡ Some (record { txn = txn; outcome = outcome.Abort; why = Some (no.Range number value) }) =
+          subst (λ (t : TxnId). settled_at w.actors.servers server.0 t ≡ Some (record { txn = t; outcome = outcome.Abort; why = Some (no.Range number value) })) of_txn settled in
+          let awaiting : IsAwaiting w.actors.coordinators txn = record { part = part; c = c; found = up.found; up = up.up; undecided = ap is_undecided k.checking } in
+          subst (λ (t : TxnId). WhatRefused sc (facts_after w (what.Decided t (decision.Abort (cause.No (refused_by server number value))) ∷ [])) (length w.steps) (what.Decided t (decision.Abort (cause.No (refused_by server number value))))) (sym own)
+          (abort_shown sc w (what.Decided txn (decision.Abort (cause.No (refused_by server number value))) ∷ []) txn server number value a.past
+          (h.settled server txn (record { txn = txn; outcome = outcome.Abort; why = Some (no.Range number value) }) there awaiting));
+      acknowledged = λ ack ended awaited server k. tt;
+    })
+  where
+    reply_txn : (reply : VoteReply) → mail.letter.body ≡ body.Vote reply → reply.txn ≡ txn
+    reply_txn reply e =
+        let says : IsSoundBody sc (actor.Coordinator txn) mail.letter.body =
+        subst (λ (to : Actor). IsSoundBody sc to mail.letter.body) sent.goes_to (each_get (IsSoundMail sc) w.mails n mail sound.mails_are sent.sent).says in
+        let said : IsSoundBody sc (actor.Coordinator txn) (body.Vote reply) = subst (IsSoundBody sc (actor.Coordinator txn)) e says in
+        same_txn_from txn reply.txn said.goes_to
+
+-- what a coordinator forces tells of no abort at a server
+none_told : (txn : TxnId) (place : ℕ) (append : Option Record) → first_abort_of txn (facts_of place (coordinator_facts append)) ≡ None
+none_told txn place None = refl
+none_told txn place (Some (log.Decided d)) = refl
+none_told txn place (Some _) = refl
+
+coordinator_moves_in_steps : (sc : Scenario) (w : State) (txn : TxnId) (part : Part Coordinator) (c : Coordinator) (effect : Effect Coordinator) (own : List What) → Refusals sc w → IsCoordinatorUp w txn part c
+    → (is_undecided effect.state.phase ≡ true → LeavesOpen c effect.state) → ((other : TxnId) → first_abort_of other (facts_of (length w.steps) (own ++ coordinator_facts effect.reaction.append)) ≡ None)
+    → Each (WhatRefused sc (facts_after w (own ++ coordinator_facts effect.reaction.append)) (length w.steps)) (own ++ coordinator_facts effect.reaction.append)
+    → MoveRefuses sc w (coordinator_move w.actors txn (acts_by coordinator_fact own part.log effect))
+coordinator_moves_in_steps sc w txn part c effect own h up opens none told =
+    let next : Part Coordinator = record { up = Some effect.state; log = log_with part.log effect.reaction.append } in
+    let actors : Actors = record w.actors { coordinators = slice_set w.actors.coordinators txn.0 next } in
+    let opened : (now : Coordinator) → next.up ≡ Some now → is_undecided now.phase ≡ true → LeavesOpen c now = λ now is.
+    subst (λ (s : Coordinator). is_undecided s.phase ≡ true → LeavesOpen c s) (same_Some effect.state now is) opens in
+    subst (λ (facts : List What). MoveRefuses sc w (record { actors = actors; happened = own ++ facts; letters = effect.reaction.letters })) (sym (gained coordinator_fact part.log effect.reaction.append))
+    (record {
+      settled = λ at other settled e awaiting. old_shown sc w (own ++ coordinator_facts effect.reaction.append) at other settled h e
+          (awaited_before w.actors.coordinators txn other part next c up.found up.up opened awaiting).before;
+      aborted = λ other declared first awaiting exists e.
+          let was : WasAwaited w.actors.coordinators other awaiting.c = awaited_before w.actors.coordinators txn other part next c up.found up.up opened awaiting in
+          old_run sc w (own ++ coordinator_facts effect.reaction.append) other declared first was.before awaiting.c h exists was.keeps (λ none_before now. let not_now = none other in absurd (cc)) e;
+      happened = told;
+    })
+
+-- ---- a server settles
+
+-- a server settles the transaction of a coordinator that has not decided: that one brings the servers to vote, and the reason is shown
+record IsSettlementShown (sc : Scenario) (w : State) (at : ServerId) (happened : List What) (s : Settled) (awaiting : IsAwaiting w.actors.coordinators s.txn) : Type 0 where
+  prepares : (declared : Transaction) → slice_get sc.txns s.txn.0 ≡ Some declared → stand_of awaiting.c.phase ≡ Prepares
+  why : IfSome s.why (ReasonShown sc (facts_after w happened) (length w.steps + 1) at s.txn)
+
+abbrev SettlementShown : Scenario → State → ServerId → List What → Record → Type 0
+SettlementShown sc w at happened (log.Settled s) = (awaiting : IsAwaiting w.actors.coordinators s.txn) → IsSettlementShown sc w at happened s awaiting
+SettlementShown sc w at happened _ = Unit {0}
+
+server_row_shown : (sc : Scenario) (w : State) (n : ℕ) (mail : Mail) (at : ServerId) (part : Part Server) (s : Server) → is_built sc ≡ true → WaitRightly sc w → IsSound sc w → Agrees sc w → Pairs sc w → Serial sc w → Refusals sc w
+    → WasSent w n mail (actor.Server at) → IsServerUp w at part s → IfSome (server_row sc s mail).reaction.append (SettlementShown sc w at (server_facts at (server_row sc s mail).reaction.append))
+server_row_shown sc w n mail at part s built rightly sound a pairs serial h sent up =
+    server_by sc s mail (λ (effect : Effect Server). IfSome effect.reaction.append (SettlementShown sc w at (server_facts at effect.reaction.append))) (rightly at part s up)
+    (record {
+      relocked = λ effect locks k. k;
+      ignored = tt;
+      ran = λ q query entry value k. tt;
+      waited = λ q query entry value k. tt;
+      died = λ q query entry value other k dying. tt;
+      restarted = λ q k. tt;
+      answered = λ q entry given k. tt;
+      voted = λ p entry staple txn k. tt;
+      voted_again = λ p entry cast k. tt;
+      refused = λ p entry number value k awaiting.
+          record {
+            prepares = λ declared there. asked_prepares sc w n mail at p declared awaiting pairs sent k.said_is there;
+            why = refusal_shown sc w n mail at part s p entry number value built sound a pairs serial h sent up k awaiting;
+          };
+      refused_again = λ p settled why k. tt;
+      settled = λ d k awaiting. record { prepares = λ declared there. absurd (not_ordered d k.said_is awaiting); why = tt };
+      acknowledged = λ d settled k. tt;
+      pushed = λ push k. tt;
+      resumed = λ effect grant q query entry value k now. now;
+    })
+  where
+    -- what is ordered was decided
+    not_ordered : (d : DecideRequest) → mail.letter.body ≡ body.Decide d → IsAwaiting w.actors.coordinators d.txn → ⊥
+    not_ordered d said awaiting =
+        let rests = subst (BodyRests sc w.actors mail.letter.from (actor.Server at)) said (mail_rests sc w n mail (actor.Server at) a sent) in
+        let none : decided_at w.actors.coordinators d.txn.0 ≡ None = ap (option_and_then decided_by) awaiting.found ∙ undecided_yet sc w d.txn awaiting a in
+        let no_outcome : option_map outcome_of (decided_at w.actors.coordinators d.txn.0) ≡ None = ap (option_map outcome_of) none in
+        let ordered : option_map outcome_of (decided_at w.actors.coordinators d.txn.0) ≡ Some d.outcome = rests.0 in
+        cc
+
+-- the first abort of a transaction is this server's
+new_run : (sc : Scenario) (w : State) (at : ServerId) (append : Option Record) (txn : TxnId) (declared : Transaction) (first : ℕ) (awaiting : IsAwaiting w.actors.coordinators txn) → is_built sc ≡ true → Agrees sc w → Pairs sc w → Serial sc w
+    → Refusals sc w → IfSome append (SettlementShown sc w at (server_facts at append)) → slice_get sc.txns txn.0 ≡ Some declared → first_abort_of txn w.facts ≡ None
+    → first_abort_of txn (facts_of (length w.steps) (server_facts at append)) ≡ Some first → IsRunBefore sc (facts_after w (server_facts at append)) (length w.steps + 1) first declared awaiting.c
+new_run sc w at (Some (log.Settled s)) txn declared first awaiting built a pairs serial h shown exists none now = by_test (is_abort_what txn (what.Settled at s.txn s.outcome)) refl now
+  where
+    by_test : (b : Bool) → is_abort_what txn (what.Settled at s.txn s.outcome) ≡ b → option_map place_of (if b then Some (record { place = length w.steps; what = what.Settled at s.txn s.outcome }) else None) ≡ Some first
+        → IsRunBefore sc (facts_after w (what.Settled at s.txn s.outcome ∷ [])) (length w.steps + 1) first declared awaiting.c
+    by_test true is e =
+        let own : s.txn ≡ txn = same_txn_is s.txn txn (and_parts (same_txn s.txn txn) (same_outcome s.outcome outcome.Abort) is).0 in
+        let prepares : stand_of awaiting.c.phase ≡ Prepares =
+        subst (λ (t : TxnId). (awaited : IsAwaiting w.actors.coordinators t) → slice_get sc.txns t.0 ≡ Some declared → stand_of awaited.c.phase ≡ Prepares) own
+        (λ awaited there. (shown awaited).prepares declared there) awaiting exists in
+        subst (λ (k : ℕ). IsRunBefore sc (facts_after w (what.Settled at s.txn s.outcome ∷ [])) (length w.steps + 1) k declared awaiting.c) (same_Some (length w.steps) first e)
+        (run_at_abort sc w txn (what.Settled at s.txn s.outcome ∷ []) declared awaiting built a pairs serial h exists prepares none)
+    by_test false is e = absurd (cc)
+new_run sc w at None txn declared first awaiting built a pairs serial h shown exists none now = absurd (cc)
+new_run sc w at (Some (log.Decided d)) txn declared first awaiting built a pairs serial h shown exists none now = absurd (cc)
+new_run sc w at (Some log.Boot) txn declared first awaiting built a pairs serial h shown exists none now = absurd (cc)
+new_run sc w at (Some (log.Told told)) txn declared first awaiting built a pairs serial h shown exists none now = absurd (cc)
+new_run sc w at (Some (log.Prepared p)) txn declared first awaiting built a pairs serial h shown exists none now = absurd (cc)
+
+-- what is settled after the act was settled before it, or by it
+newly_settled : (sc : Scenario) (w : State) (at : ServerId) (txn : TxnId) (kept : List Record) (append : Option Record) (settled : Settled) (R : Type 0) → option_or (settled_in txn kept) (appended (settlement_in txn) append) ≡ Some settled
+    → (settled_in txn kept ≡ Some settled → R) → ((s : Settled) → append ≡ Some (log.Settled s) → s.txn ≡ txn → s ≡ settled → R) → R
+newly_settled sc w at txn kept append settled R e old new = by_old (settled_in txn kept) refl e
+  where
+    by_record : (record_is : Option Record) → append ≡ record_is → appended (settlement_in txn) record_is ≡ Some settled → R
+    by_record None f g = absurd (cc)
+    by_record (Some (log.Settled s)) f g =
+        let parts = cond_some (same_txn s.txn txn) s settled g in
+        new s f (same_txn_is s.txn txn parts.0) parts.1
+    by_record (Some (log.Decided d)) f g = absurd (cc)
+    by_record (Some log.Boot) f g = absurd (cc)
+    by_record (Some (log.Told told)) f g = absurd (cc)
+    by_record (Some (log.Prepared p)) f g = absurd (cc)
+
+    by_old : (found : Option Settled) → settled_in txn kept ≡ found → option_or found (appended (settlement_in txn) append) ≡ Some settled → R
+    by_old None f g = by_record append refl g
+    by_old (Some was) f g = old (f ∙ g)
+
+shown_of : (sc : Scenario) (w : State) (at : ServerId) (told : List What) (append : Option Record) (order : Settled) → append ≡ Some (log.Settled order) → IfSome append (SettlementShown sc w at told) → SettlementShown sc w at told (log.Settled order)
+shown_of sc w at told append order e k = subst (λ (x : Option Record). IfSome x (SettlementShown sc w at told)) e k
+
+server_moves_in_steps : (sc : Scenario) (w : State) (at : ServerId) (part : Part Server) (s : Server) (effect : Effect Server) → is_built sc ≡ true → Agrees sc w → Pairs sc w → Serial sc w → Refusals sc w → IsServerUp w at part s
+    → IfSome effect.reaction.append (SettlementShown sc w at (server_facts at effect.reaction.append)) → MoveRefuses sc w (server_move w.actors at (acts_by (server_fact at) [] part.log effect))
+server_moves_in_steps sc w at part s effect built a pairs serial h up shown =
+    let append = effect.reaction.append in
+    let next : Part Server = record { up = Some effect.state; log = log_with part.log append } in
+    let actors : Actors = record w.actors { servers = slice_set w.actors.servers at.0 next } in
+    let facts = server_facts at append in
+    subst (λ (told : List What). MoveRefuses sc w (record { actors = actors; happened = told; letters = effect.reaction.letters })) (sym (gained (server_fact at) part.log append))
+    (record {
+      settled = λ other txn settled e awaiting.
+          by_server other txn settled awaiting (at.0 == other.0) refl (sym (ap (option_and_then (settled_by txn)) (get_set w.actors.servers at.0 other.0 part next up.found)) ∙ e);
+      aborted = λ txn declared first awaiting exists e.
+          old_run sc w facts txn declared first awaiting awaiting.c h exists (keeps_same awaiting.c)
+          (λ none now. new_run sc w at append txn declared first awaiting built a pairs serial h shown exists none now) e;
+      happened = each_server_fact (WhatRefused sc (facts_after w facts) (length w.steps)) at (λ txn ended. tt) append;
+    })
+  where
+    by_server : (other : ServerId) (txn : TxnId) (settled : Settled) → IsAwaiting w.actors.coordinators txn → (b : Bool) → (at.0 == other.0) ≡ b
+        → option_and_then (settled_by txn) (if b then Some (record { up = Some effect.state; log = log_with part.log effect.reaction.append }) else slice_get w.actors.servers other.0) ≡ Some settled
+        → IfSome settled.why (ReasonShown sc (facts_after w (server_facts at effect.reaction.append)) (length w.steps + 1) other txn)
+    by_server other txn settled awaiting false apart e = old_shown sc w (server_facts at effect.reaction.append) other txn settled h e awaiting
+    by_server other txn settled awaiting true same e =
+        let here : at ≡ other = ap server_number (eqb-true at.0 other.0 same) in
+        newly_settled sc w at txn part.log effect.reaction.append settled (IfSome settled.why (ReasonShown sc (facts_after w (server_facts at effect.reaction.append)) (length w.steps + 1) other txn))
+        (sym (settled_with txn part.log effect.reaction.append) ∙ e)
+        (λ old. old_shown sc w (server_facts at effect.reaction.append) other txn settled h
+        (ap (λ (k : ℕ). option_and_then (settled_by txn) (slice_get w.actors.servers k)) (sym (eqb-true at.0 other.0 same)) ∙ (ap (option_and_then (settled_by txn)) up.found ∙ old)) awaiting)
+        (λ order is own same_order.
+        let new : SettlementShown sc w at (server_facts at effect.reaction.append) (log.Settled order) = shown_of sc w at (server_facts at effect.reaction.append) effect.reaction.append order is shown in
+        let shown_order = (new (subst (IsAwaiting w.actors.coordinators) (sym own) awaiting)).why in
+        subst (λ (x : Settled). IfSome x.why (ReasonShown sc (facts_after w (server_facts at effect.reaction.append)) (length w.steps + 1) other txn)) same_order
+        (subst (λ (t : TxnId). IfSome order.why (ReasonShown sc (facts_after w (server_facts at effect.reaction.append)) (length w.steps + 1) other t)) own
+        (subst (λ (a : ServerId). IfSome order.why (ReasonShown sc (facts_after w (server_facts at effect.reaction.append)) (length w.steps + 1) a order.txn)) here shown_order)))
+
+-- ---- steps
+
+still_refuses : (sc : Scenario) (w : State) (happened : List What) (actors : Actors) (letters : List Letter) → Refusals sc w → actors.servers ≡ w.actors.servers → actors.coordinators ≡ w.actors.coordinators
+    → ((txn : TxnId) → first_abort_of txn (facts_of (length w.steps) happened) ≡ None) → Each (WhatRefused sc (facts_after w happened) (length w.steps)) happened
+    → MoveRefuses sc w (record { actors = actors; happened = happened; letters = letters })
+still_refuses sc w happened actors letters h servers coordinators none told =
+    record {
+      settled = λ at txn settled e awaiting.
+          old_shown sc w happened at txn settled h (subst (λ (parts : List (Part Server)). settled_at parts at.0 txn ≡ Some settled) servers e) (subst (λ (parts : List (Part Coordinator)). IsAwaiting parts txn) coordinators awaiting);
+      aborted = subst (λ (parts : List (Part Coordinator)). AreAbortedRuns sc parts (facts_after w happened) (length w.steps + 1)) (sym coordinators)
+          (λ txn declared first awaiting exists e. old_run sc w happened txn declared first awaiting awaiting.c h exists (keeps_same awaiting.c) (λ none_before now. let not_now = none txn in absurd (cc)) e);
+      happened = told;
+    }
+
+idle_refuses : (sc : Scenario) (w : State) (taken : Step) (happened : List What) → Refusals sc w → SaysIdle taken happened → MoveRefuses sc w (idle_move w.actors happened)
+idle_refuses sc w (step.Deliver mail) happened h e = subst (λ (hs : List What). MoveRefuses sc w (idle_move w.actors hs)) (sym e) (still_refuses sc w [] w.actors [] h refl refl (λ txn. refl) tt)
+idle_refuses sc w (step.Lose mail) happened h e = subst (λ (hs : List What). MoveRefuses sc w (idle_move w.actors hs)) (sym e) (still_refuses sc w (what.Lost mail ∷ []) w.actors [] h refl refl (λ txn. refl) (tt, tt))
+idle_refuses sc w _ happened h e = absurd e
+
+nothing_begun : (sc : Scenario) (c : Coordinator) (home : Option ServerId) → coordinator_facts (begins sc c home).reaction.append ≡ []
+nothing_begun sc c None = refl
+nothing_begun sc c (Some at) = refl
+
+refusals_cases : (sc : Scenario) (w : State) → is_built sc ≡ true → WaitRightly sc w → IsSound sc w → Agrees sc w → Pairs sc w → Serial sc w → Refusals sc w → Cases sc w (λ taken move. MoveRefuses sc w move)
+refusals_cases sc w built rightly sound a pairs serial h =
+    record {
+      idle = λ taken happened e. idle_refuses sc w taken happened h e;
+      server_received = λ n mail at part s sent up.
+          server_moves_in_steps sc w at part s (server_row sc s mail) built a pairs serial h up (server_row_shown sc w n mail at part s built rightly sound a pairs serial h sent up);
+      coordinator_received = λ n mail txn part c sent up.
+          coordinator_moves_in_steps sc w txn part c (coordinator_row sc c mail) [] h up (still_undecided sc c mail) (λ other. none_told other (length w.steps) (coordinator_row sc c mail).reaction.append)
+          (told_shown sc w (coordinator_row sc c mail).reaction.append (coordinator_row_shown sc w txn part c n mail sound a h sent up));
+      authority_told = λ n mail sent. still_refuses sc w [] w.actors (office.authority_row w.actors.authority mail).reaction.letters h refl refl (λ txn. refl) tt;
+      master_told = λ n mail sent. still_refuses sc w [] w.actors (master.master_row w.actors.master mail).reaction.letters h refl refl (λ txn. refl) tt;
+      published = λ admin exists more.
+          still_refuses sc w (what.Published admin (master.next_of w.actors.master admin) ∷ []) (record w.actors { master = master.after_publication admin w.actors.master }) [] h refl refl (λ txn. refl) (tt, tt);
+      pushed = λ admin server exists there. still_refuses sc w [] w.actors (master.pushes w.actors.master admin server).reaction.letters h refl refl (λ txn. refl) tt;
+      ticked = λ by. still_refuses sc w (what.Ticked by ∷ []) (record w.actors { authority = office.after_tick by w.actors.authority }) [] h refl refl (λ txn. refl) (tt, tt);
+      revoked = λ cred exists. still_refuses sc w (what.Revoked cred ∷ []) (record w.actors { authority = office.after_revocation cred w.actors.authority }) [] h refl refl (λ txn. refl) (tt, tt);
+      begun = λ txn part c exists up new.
+          let effect = with_age (submit_row sc c) (length w.steps) in
+          let none : coordinator_facts effect.reaction.append ≡ [] = nothing_begun sc c (home_of sc c 1) in
+          let idle : c.phase ≡ phase.Idle = idle_is c.phase new in
+          coordinator_moves_in_steps sc w txn part c effect (what.Submitted txn ∷ []) h up
+          (λ undecided. other_phase c effect.state (ap is_undecided idle) (λ prepares. let stands : stand_of c.phase ≡ Rests = ap stand_of idle in cc))
+          (λ other. none_told other (length w.steps) effect.reaction.append)
+          (subst (λ (facts : List What). Each (WhatRefused sc (facts_after w (what.Submitted txn ∷ facts)) (length w.steps)) (what.Submitted txn ∷ facts)) (sym none) (tt, tt));
+    }
+
+-- a step that is not refused keeps what is said of refusals
+pub refusals_next : (sc : Scenario) (m : Machine) (taken : Step) → is_built sc ≡ true → IsStepOf sc taken → refusal m.state taken ≡ None → WaitRightly sc m.state → IsSound sc m.state → Agrees sc m.state → Pairs sc m.state → Serial sc m.state
+    → Refusals sc m.state → Refusals sc (machine_after sc m taken).state
+refusals_next sc m taken built exists allowed rightly sound a pairs serial h =
+    machine_after_by sc m (λ taken move. MoveRefuses sc m.state move) (λ w. Unbooted w → Refusals sc w) (refusals_cases sc m.state built rightly sound a pairs serial h) a.coordinator_count
+    (λ taken move t unbooted. state_after_refusals sc m.state taken move a.past h t unbooted) (λ unbooted. h) taken exists allowed
+    (unbooted_next sc m taken a.coordinator_count exists allowed rightly h.unbooted)
+
+-- before the first step nothing is settled
+pub refusals_opening : (sc : Scenario) → Refusals sc (opening_state sc)
+refusals_opening sc =
+    record {
+      settled = λ at txn settled e awaiting.
+          let none = no_settlement sc at txn (slice_get (opening_state sc).actors.servers at.0) refl in
+          absurd (none-some settled (sym none ∙ e));
+      aborted = λ txn declared first awaiting exists e. absurd (cc);
+      facts = tt;
+      unbooted = unbooted_opening sc;
+    }
+  where
+    no_settlement : (sc : Scenario) (at : ServerId) (txn : TxnId) (part : Option (Part Server)) → slice_get (opening_state sc).actors.servers at.0 ≡ part → option_and_then (settled_by txn) part ≡ None
+    no_settlement sc at txn None e = refl
+    no_settlement sc at txn (Some part) e =
+        ap (settled_in txn) (at_made (λ (k : ℕ) (found : Part Server). found.log ≡ []) (λ (k : ℕ). opened_part (server_opened.opening sc (record { 0 = k }))) 0 (length sc.servers) (λ k within. refl) at.0 part e)

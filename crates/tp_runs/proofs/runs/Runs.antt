@@ -1,0 +1,159 @@
+-- All invariants together, after every list of steps that name what exists.
+use Rattle.std.proofs.Common.{List, None, Option, Some, [], ap, arith, if◌then◌else◌, is_some, length, refl, subst, sym, true, ◌*◌, ◌∙◌, ◌∷◌, ◌≡◌, ◌≤◌}
+use Rattle.tp_model.specs.Agreement.{is_agreed}
+use Rattle.tp_model.specs.Built.{is_built}
+use Rattle.tp_model.specs.Causes.{is_caused}
+use Rattle.tp_model.specs.Commits.{are_lone}
+use Rattle.tp_model.specs.Outside.{IsOutside}
+use Rattle.tp_model.specs.SerialRun.{is_serial}
+use Rattle.tp_model.specs.Trust.{is_trusted}
+use Rattle.tp_model.specs.Words.{Fact, Scenario, Step}
+use Rattle.tp_runs.proofs.ages.World.{Ages, ages_next, ages_opening}
+use Rattle.tp_runs.proofs.deaths.World.{Deaths, deaths_next, deaths_opening}
+use Rattle.tp_runs.proofs.bounds.World.{Bounds, all_bounded, bounds_next, bounds_opening}
+use Rattle.tp_runs.proofs.agreement.End.{facts_agreed}
+use Rattle.tp_runs.proofs.agreement.Steps.{agrees_next, agrees_opening}
+use Rattle.tp_runs.proofs.agreement.World.{Agrees}
+use Rattle.tp_runs.proofs.epochs.World.{Epochs, epochs_next, epochs_opening}
+use Rattle.tp_runs.proofs.ids.Queries.{homes_built}
+use Rattle.tp_runs.proofs.ids.Steps.{sound_next, sound_opening}
+use Rattle.tp_runs.proofs.mails.World.{FewMails, HasFewMails, few_mails, few_next, few_opening, steps_counted}
+use Rattle.tp_runs.proofs.outside.Steps.{outside_next, outside_opening}
+use Rattle.tp_runs.proofs.known.Waiting.{wait_rightly}
+use Rattle.tp_runs.proofs.known.World.{Pairs, pairs_next, pairs_opening}
+use Rattle.tp_runs.proofs.refusals.Steps.{refusals_next, refusals_opening}
+use Rattle.tp_runs.proofs.refusals.World.{Refusals}
+use Rattle.tp_runs.proofs.serial_data.End.{serial_facts, serial_values, values_at_end}
+use Rattle.tp_runs.proofs.serial_data.Lone.{AreLone, facts_lone, lone_next, lone_opening}
+use Rattle.tp_runs.proofs.serial_data.Steps.{serial_next, serial_opening}
+use Rattle.tp_runs.proofs.serial_data.World.{Serial}
+use Rattle.tp_runs.proofs.trusted.End.{facts_caused, facts_trusted}
+use Rattle.tp_runs.proofs.trusted.Steps.{trusts_next, trusts_opening}
+use Rattle.tp_runs.proofs.trust.World.{Trusts}
+use Rattle.tp_runs.specs.Bounded.{AreBounded}
+use Rattle.tp_runs.specs.Laws.{HasAllCommits, IsTrustedState}
+use Rattle.tp_machine.specs.Machine.{Machine, State, after, after_step, after_steps, machine_after, opening, opening_state, refusal}
+use Rattle.tp_types.specs.Each.{Each}
+use Rattle.tp_runs.specs.Sound.{IsSound}
+use Rattle.tp_machine.specs.Named.{IsStepOf}
+use Rattle.tp_machine.specs.declared.error.StepError.{StepError}
+
+-- what holds of every world: its ids exist, its actors agree, what servers hold of a transaction is what its coordinator knows, its
+-- commits are trusted and serial, what comes from outside is what its steps say, and its values are bounded
+pub record Holds (sc : Scenario) (w : State) : Type 0 where
+  pub sound : IsSound sc w
+  pub agrees : Agrees sc w
+  pub epochs : Epochs sc w
+  pub ages : Ages w
+  pub deaths : Deaths sc w
+  pub lone : AreLone w.facts
+  pub outside : IsOutside sc w.steps w.facts
+  pub trusts : Trusts sc w
+  pub pairs : Pairs sc w
+  pub serial : Serial sc w
+  pub refusals : Refusals sc w
+  pub bounds : Bounds sc w
+  pub few : FewMails w
+
+pub holds_opening : (sc : Scenario) → is_built sc ≡ true → Holds sc (opening_state sc)
+holds_opening sc built =
+    record { sound = sound_opening sc built; agrees = agrees_opening sc; epochs = epochs_opening sc; ages = ages_opening sc; deaths = deaths_opening sc; lone = lone_opening; outside = outside_opening sc; trusts = trusts_opening sc built; pairs = pairs_opening sc; serial = serial_opening sc built; refusals = refusals_opening sc; bounds = bounds_opening sc built; few = few_opening sc }
+
+-- each invariant may lean on all the others before the step
+pub holds_next : (sc : Scenario) (m : Machine) (taken : Step) → is_built sc ≡ true → IsStepOf sc taken → refusal m.state taken ≡ None → Holds sc m.state → Holds sc (machine_after sc m taken).state
+holds_next sc m taken built exists allowed h =
+    let rightly = wait_rightly sc m.state h.sound h.pairs in
+    record {
+      sound = sound_next sc m taken built exists allowed h.agrees.coordinator_count rightly h.sound;
+      agrees = agrees_next sc m taken built exists allowed rightly h.sound h.agrees;
+      epochs = epochs_next sc m taken (homes_built sc built) exists allowed rightly h.sound h.agrees h.epochs;
+      ages = ages_next sc m taken exists allowed rightly h.sound h.agrees h.ages;
+      deaths = deaths_next sc m taken exists allowed rightly h.sound h.agrees h.ages h.pairs h.deaths;
+      lone = lone_next sc m taken exists allowed h.agrees.coordinator_count h.agrees.past h.lone;
+      outside = outside_next sc m taken exists allowed h.agrees.coordinator_count h.agrees.past h.trusts.master h.outside;
+      trusts = trusts_next sc m taken built exists allowed rightly h.sound h.agrees h.pairs h.trusts;
+      pairs = pairs_next sc m taken built exists allowed rightly h.sound h.agrees h.epochs h.trusts h.pairs;
+      serial = serial_next sc m taken built exists allowed rightly h.sound h.agrees h.pairs h.serial;
+      refusals = refusals_next sc m taken built exists allowed rightly h.sound h.agrees h.pairs h.serial h.refusals;
+      bounds = bounds_next sc m taken built exists allowed rightly h.sound h.agrees h.pairs h.serial h.bounds;
+      few = few_next sc m taken built exists allowed rightly h.agrees h.few;
+    }
+
+step_holds : (sc : Scenario) (m : Machine) (taken : Step) (why : Option StepError) → refusal m.state taken ≡ why → is_built sc ≡ true → IsStepOf sc taken → Holds sc m.state
+    → Holds sc (if is_some why then m else machine_after sc m taken).state
+step_holds sc m taken None e built exists h = holds_next sc m taken built exists e h
+step_holds sc m taken (Some why) e built exists h = h
+
+steps_hold : (sc : Scenario) (m : Machine) (steps : List Step) → is_built sc ≡ true → Each (IsStepOf sc) steps → Holds sc m.state → Holds sc (after_steps sc m steps).state
+steps_hold sc m [] built exist h = h
+steps_hold sc m (taken ∷ steps) built exist h =
+    steps_hold sc (after_step sc m taken) steps built exist.1 (step_holds sc m taken (refusal m.state taken) refl built exist.0 h)
+
+-- after every list of steps
+pub holds_after : (sc : Scenario) (steps : List Step) → is_built sc ≡ true → Each (IsStepOf sc) steps → Holds sc (after sc steps).state
+holds_after sc steps built exist = steps_hold sc (opening sc) steps built exist (holds_opening sc built)
+
+-- ---- what the facts show
+
+shows : (sc : Scenario) (w : State) → is_built sc ≡ true → Holds sc w → IsTrustedState sc w
+shows sc w built h =
+    record {
+      outside = h.outside;
+      agreed = facts_agreed sc w h.agrees;
+      trusted = facts_trusted sc w built h.sound h.trusts;
+      caused = facts_caused sc w built h.sound h.refusals h.deaths h.trusts;
+      serial = serial_facts sc w h.serial;
+      lone = facts_lone w.facts h.lone;
+      values_are = serial_values sc w built h.sound h.agrees h.serial;
+    }
+
+-- after every list of steps the history is trusted so far
+pub always_trusted : (sc : Scenario) (steps : List Step) → is_built sc ≡ true → Each (IsStepOf sc) steps → IsTrustedState sc (after sc steps).state
+always_trusted sc steps built exist = shows sc (after sc steps).state built (holds_after sc steps built exist)
+
+-- and where all transactions have ended the values are those of all commits
+pub has_all_commits : (sc : Scenario) (steps : List Step) → is_built sc ≡ true → Each (IsStepOf sc) steps → HasAllCommits sc (after sc steps).state
+has_all_commits sc steps built exist ended =
+    let w = (after sc steps).state in
+    let h = holds_after sc steps built exist in
+    serial_values sc w built h.sound h.agrees h.serial ∙ values_at_end sc w built h.agrees h.serial ended
+
+-- and few mails were sent
+pub sends_few : (sc : Scenario) (steps : List Step) → is_built sc ≡ true → Each (IsStepOf sc) steps → length (after sc steps).state.mails ≤ 16 * length steps
+sends_few sc steps built exist = omega (arith, few_mails (after sc steps).state (holds_after sc steps built exist).few, steps_counted sc (opening sc) steps)
+
+-- ---- the same of a world that the steps give
+
+pub sound_after : (sc : Scenario) (steps : List Step) (m : Machine) → is_built sc ≡ true → Each (IsStepOf sc) steps → m ≡ after sc steps → IsSound sc m.state
+sound_after sc steps m built exist e = subst (λ (k : Machine). IsSound sc k.state) (sym e) (holds_after sc steps built exist).sound
+
+pub bounded_after : (sc : Scenario) (steps : List Step) (w : State) → is_built sc ≡ true → Each (IsStepOf sc) steps → w ≡ (after sc steps).state → AreBounded sc w
+bounded_after sc steps w built exist e =
+    let h = holds_after sc steps built exist in
+    subst (AreBounded sc) (sym e) (all_bounded sc (after sc steps).state built h.sound h.bounds)
+
+pub so_far_after : (sc : Scenario) (steps : List Step) (w : State) → is_built sc ≡ true → Each (IsStepOf sc) steps → w ≡ (after sc steps).state → IsTrustedState sc w
+so_far_after sc steps w built exist e = subst (IsTrustedState sc) (sym e) (always_trusted sc steps built exist)
+
+pub whole_after : (sc : Scenario) (steps : List Step) (w : State) → is_built sc ≡ true → Each (IsStepOf sc) steps → w ≡ (after sc steps).state → HasAllCommits sc w
+whole_after sc steps w built exist e = subst (HasAllCommits sc) (sym e) (has_all_commits sc steps built exist)
+
+pub few_after : (sc : Scenario) (steps : List Step) (w : State) → is_built sc ≡ true → Each (IsStepOf sc) steps → w ≡ (after sc steps).state → HasFewMails w
+few_after sc steps w built exist e = subst HasFewMails (sym e) (few_mails (after sc steps).state (holds_after sc steps built exist).few)
+
+-- of facts, which stand when a world is given up
+
+pub agreed_after : (sc : Scenario) (steps : List Step) (facts : List Fact) → is_built sc ≡ true → Each (IsStepOf sc) steps → facts ≡ (after sc steps).state.facts → is_agreed sc facts ≡ true
+agreed_after sc steps facts built exist e = ap (is_agreed sc) e ∙ (always_trusted sc steps built exist).agreed
+
+pub trusted_after : (sc : Scenario) (steps : List Step) (facts : List Fact) → is_built sc ≡ true → Each (IsStepOf sc) steps → facts ≡ (after sc steps).state.facts → is_trusted sc facts ≡ true
+trusted_after sc steps facts built exist e = ap (is_trusted sc) e ∙ (always_trusted sc steps built exist).trusted
+
+pub caused_after : (sc : Scenario) (steps : List Step) (facts : List Fact) → is_built sc ≡ true → Each (IsStepOf sc) steps → facts ≡ (after sc steps).state.facts → is_caused sc facts ≡ true
+caused_after sc steps facts built exist e = ap (is_caused sc) e ∙ (always_trusted sc steps built exist).caused
+
+pub serial_after : (sc : Scenario) (steps : List Step) (facts : List Fact) → is_built sc ≡ true → Each (IsStepOf sc) steps → facts ≡ (after sc steps).state.facts → is_serial sc facts ≡ true
+serial_after sc steps facts built exist e = ap (is_serial sc) e ∙ (always_trusted sc steps built exist).serial
+
+pub lone_after : (sc : Scenario) (steps : List Step) (facts : List Fact) → is_built sc ≡ true → Each (IsStepOf sc) steps → facts ≡ (after sc steps).state.facts → are_lone facts ≡ true
+lone_after sc steps facts built exist e = ap are_lone e ∙ (always_trusted sc steps built exist).lone

@@ -1,0 +1,477 @@
+-- Trust, the coordinator's rows: it commits on one instance whose proofs are right, true and of one version.
+use Rattle.std.specs.List.{list_all}
+use Rattle.std.proofs.Common.{IfSome, List, None, Option, Some, [], ap, arith, false, is_none, map, refl, slice_get, subst, sym, true, ℕ, ℤ, ◌++◌, ◌+◌, ◌∙◌, ◌∷◌, ◌≡◌, ◌≤◌, ◌⊎◌}
+use Rattle.std.proofs.lemmas.Bool.{eqb-true}
+use Rattle.tp_types.specs.Effect.{Effect, ignores, sends}
+use Rattle.tp_model.specs.Versions.{is_one_version}
+use Rattle.tp_model.specs.Words.actor
+use Rattle.tp_model.specs.Words.body
+use Rattle.tp_model.specs.Words.cause
+use Rattle.tp_model.specs.Words.decision
+use Rattle.tp_model.specs.Words.log
+use Rattle.tp_model.specs.Words.outcome
+use Rattle.tp_model.specs.Words.vote
+use Rattle.tp_model.specs.Words.{Actor, Body, Cause, CommitRecord, Decision, Denied, Died, DoneReply, Fact, Instance, Letter, Mail, Outcome, Query, Record, Scenario, ServerId, Staple, TxnId, Verdict, Vote, VoteReply}
+use Rattle.tp_runs.proofs.basics.Ids.{same_txn_from}
+use Rattle.tp_runs.proofs.basics.Verdicts.{numbers_of}
+use Rattle.tp_runs.proofs.agreement.Coordinator.{idle_is}
+use Rattle.tp_runs.proofs.basics.Homes.{HaveHomes, next_is}
+use Rattle.tp_runs.proofs.basics.Phases.{awaits_is, is_undecided}
+use Rattle.tp_runs.proofs.basics.Rounds.{missing_in}
+use Rattle.tp_runs.proofs.ids.Valid.{IsValid}
+use Rattle.tp_runs.proofs.pairs.Actors.{BodyPairs, VoteFrom, site_of}
+use Rattle.tp_runs.proofs.pairs.Fits as PairVote
+use Rattle.tp_runs.proofs.pairs.Pair.{Pair}
+use Rattle.tp_runs.proofs.trust.Fit.{AreAll, BodyFits, IsSubmitted, Right, StapleFits, VoteFits, has_rule}
+use Rattle.tp_runs.proofs.trust.Phases.{PhaseFits}
+use Rattle.tp_runs.proofs.trust.RoundAims.{round_updated}
+use Rattle.tp_runs.proofs.trust.RoundProofs.{round_closes}
+use Rattle.tp_runs.proofs.trust.Rounds.{AimedReply, AreNumbersAt, RoundFits, few_rounds, round_denies, round_replied, round_starts, round_wants, want_published}
+use Rattle.tp_runs.proofs.basics.Turns.{AreFew, IsAbove, IsOfPast, IsTimely, Now, PrepareNow, Stamp, TurnFits, VoteNow, WantNow, before_query, ceiling, ceiling_in, died_move, end_move, first_move, further_move, low_query, low_round, next_move, number_within, query_count, raised, round_move, stamp_of, turn_rises, until_round}
+use Rattle.tp_coord.proofs.Rows.{IsYes, coordinator_by, submit_by}
+use Rattle.tp_machine.specs.Machine.{with_age}
+use Rattle.tp_types.specs.Each.{Each}
+use Rattle.tp_runs.specs.Sound.{IsSoundBody, query_in}
+use Rattle.tp_coord.specs.Opened.{servers_at}
+use Rattle.tp_coord.specs.Row.{aborts, asks, commit_round, commits, coordinator_row, coordinator_with_age, denied_by, is_begun, next_number, next_turn, prepare_letter, prepares, refused_by, requests, sends_query, staple_of, submit_row, want_for, with_deed, without}
+use Rattle.tp_coord.specs.State.{Coordinator}
+use Rattle.tp_coord.specs.declared.coordinator.Phase.TheVariants as phase
+use Rattle.tp_coord.specs.declared.coordinator.Phase.{Phase}
+use Rattle.tp_round.specs.Judge.{after_judgement, after_reply, first_round, judge}
+use Rattle.tp_round.specs.Replies.{by_query, proofs_in}
+use Rattle.tp_round.specs.declared.round.Judged.TheVariants as judged
+use Rattle.tp_round.specs.declared.round.Round.{Round}
+use Rattle.tp_round.specs.declared.round.Wanted.{Wanted}
+
+-- ---- what is kept
+
+-- a coordinator awaits the answer to a request that fits, in a turn of its phase; before the decision no instance is closed (deferred
+-- commits have one), and what is closed or gathered is of the past
+pub record CoordinatorFits (sc : Scenario) (facts : List Fact) (place : ℕ) (c : Coordinator) : Type 0 where
+  pub awaits : PhaseFits sc facts place c.txn c.phase
+  pub unclosed : is_undecided c.phase ≡ true → c.instances ≡ []
+  pub above : is_undecided c.phase ≡ true → IsAbove place c.instances c.gathered
+  pub turn : c.turn ≤ ceiling sc c
+
+-- a commit rests on one instance, whose proofs are right, cover all queries, are true and have one version of each administrator
+pub record CommitFits (sc : Scenario) (facts : List Fact) (place : ℕ) (txn : TxnId) (committed : CommitRecord) : Type 0 where
+  pub rounds : (committed.rounds ≡ 1) ⊎ (committed.rounds ≡ 2)
+  pub proofs : List Verdict
+  pub instances : committed.instances ≡ record { reading = None; proofs = proofs } ∷ []
+  pub right : Each (Right sc facts place txn) proofs
+  pub all : AreAll sc txn (numbers_of proofs)
+  pub have_rules : list_all has_rule proofs ≡ true
+  pub one_version : is_one_version proofs ≡ true
+
+-- a denial is by a right verdict without a rule
+pub record DeniedFits (sc : Scenario) (facts : List Fact) (place : ℕ) (txn : TxnId) (denied : Denied) : Type 0 where
+  pub verdict : Verdict
+  pub denied_is : denied ≡ denied_by verdict
+  pub right : Right sc facts place txn verdict
+  pub ruleless : is_none verdict.rule ≡ true
+
+-- what a server refused, and a death for an older transaction, are shown elsewhere. No coordinator aborts for another cause yet
+abbrev pub CauseFits : Scenario → List Fact → ℕ → TxnId → Cause → Type 0
+CauseFits sc facts place txn (cause.Denied denied) = DeniedFits sc facts place txn denied
+CauseFits sc facts place txn (cause.No refused) = Unit {0}
+CauseFits sc facts place txn (cause.Died died) = Unit {0}
+CauseFits sc facts place txn _ = ⊥
+
+abbrev pub DecisionFits : Scenario → List Fact → ℕ → TxnId → Decision → Type 0
+DecisionFits sc facts place txn (decision.Commit committed) = CommitFits sc facts place txn committed
+DecisionFits sc facts place txn (decision.Abort why) = CauseFits sc facts place txn why
+
+abbrev pub RecordDecides : Scenario → List Fact → ℕ → Record → Type 0
+RecordDecides sc facts place (log.Decided d) = DecisionFits sc facts place d.txn d.decision
+RecordDecides sc facts place _ = Unit {0}
+
+-- a letter is of the coordinator's own transaction, and of its present turn; one that is down promises nothing
+pub record IsOfTurn (sc : Scenario) (txn : TxnId) (now : Option Coordinator) (sent : ℕ) (said : Body) (stamped : Stamp) : Type 0 where
+  pub own : stamped.txn ≡ txn
+  pub timely : IfSome now (TurnFits sc sent stamped.turn said)
+
+abbrev pub LetterOfTurn : Scenario → TxnId → Option Coordinator → ℕ → Letter → Type 0
+LetterOfTurn sc txn now sent letter = IfSome (stamp_of letter.body) (IsOfTurn sc txn now sent letter.body)
+
+-- an act of a coordinator that was up or down: what it is after it, if it is up, fits; so do the record that it forced and its letters,
+-- wherever they are sent; and mails of before stay timely
+pub record CoordinatorTrusts (sc : Scenario) (facts : List Fact) (place : ℕ) (txn : TxnId) (was now : Option Coordinator) (append : Option Record) (letters : List Letter) : Type 0 where
+  pub fits : IfSome now (CoordinatorFits sc facts place)
+  pub decides : IfSome append (RecordDecides sc facts place)
+  pub says : (sent : ℕ) → Each (λ (letter : Letter). BodyFits sc facts place sent letter.body) letters
+  pub timely : (sent : ℕ) → Each (LetterOfTurn sc txn now sent) letters
+  pub old : (sent turn : ℕ) (said : Body) → IfSome was (TurnFits sc sent turn said) → IfSome now (TurnFits sc sent turn said)
+
+-- that of a row
+abbrev pub RowTrusts : Scenario → List Fact → ℕ → Coordinator → Effect Coordinator → Type 0
+RowTrusts sc facts place c effect = CoordinatorTrusts sc facts place c.txn (Some c) (Some effect.state) effect.reaction.append effect.reaction.letters
+
+ignores_trusts_in_coordinator : (sc : Scenario) (facts : List Fact) (place : ℕ) (c : Coordinator) → CoordinatorFits sc facts place c → RowTrusts sc facts place c (ignores c)
+ignores_trusts_in_coordinator sc facts place c h = record { fits = h; decides = tt; says = λ sent. tt; timely = λ sent. tt; old = λ sent turn said t. t }
+
+-- ---- Done
+
+phase_fits : (sc : Scenario) (facts : List Fact) (place : ℕ) (c : Coordinator) (awaited : Phase) → CoordinatorFits sc facts place c → c.phase ≡ awaited → PhaseFits sc facts place c.txn awaited
+phase_fits sc facts place c awaited h e = subst (PhaseFits sc facts place c.txn) e h.awaits
+
+pub turn_low : (sc : Scenario) (facts : List Fact) (place : ℕ) (c : Coordinator) (awaited : Phase) → CoordinatorFits sc facts place c → c.phase ≡ awaited → c.turn ≤ ceiling_in (query_count sc c.txn) awaited
+turn_low sc facts place c awaited h e = subst (λ (p : Phase). c.turn ≤ ceiling_in (query_count sc c.txn) p) e h.turn
+
+ran_last_trusts : (sc : Scenario) (facts : List Fact) (place : ℕ) (c : Coordinator) (done : DoneReply) (asked : Query) (server : ServerId) (value : ℤ) → AreFew sc → CoordinatorFits sc facts place c
+    → c.phase ≡ phase.Querying done.query None → query_in sc c.txn done.query ≡ Some asked → c.servers ≡ servers_at sc c.txn → RowTrusts sc facts place c (asks (with_deed c server done asked value) (commit_round (with_deed c server done asked value)))
+ran_last_trusts sc facts place c done asked server value few h e q own =
+    let count = query_count sc c.txn in
+    let submitted : IsSubmitted facts c.txn = (phase_fits sc facts place c (phase.Querying done.query None) h e).0 in
+    let low : c.turn ≤ ceiling_in count (phase.Querying done.query None) = turn_low sc facts place c (phase.Querying done.query None) h e in
+    let number = number_within sc c.txn done.query asked q in
+    let rises : next_turn c ≡ c.turn + 1 = turn_rises c (low_query count done.query c.turn (few c.txn) number.0 number.1 low) in
+    let undecided : is_undecided c.phase ≡ true = ap is_undecided e in
+    record {
+      fits = record {
+        awaits = (submitted, subst (λ (servers : List ServerId). RoundFits sc facts place c.txn (first_round servers 2 [] false)) (sym own) (round_starts sc facts place c.txn));
+        unclosed = λ unsure. h.unclosed undecided;
+        above = λ unsure. h.above undecided;
+        turn = subst (λ (n : ℕ). n ≤ until_round count 1 1) (sym rises) (round_move count done.query c.turn number.0 number.1 low);
+      };
+      decides = tt;
+      says = λ sent. (submitted, tt);
+      timely = λ sent. (record { own = refl; timely = λ unsure. record { past = omega arith; now = λ same. tt } }, tt);
+      old = λ sent turn said t. raised sc c (asks (with_deed c server done asked value) (commit_round (with_deed c server done asked value))).state sent turn said undecided rises t;
+    }
+
+ran_next_trusts : (sc : Scenario) (facts : List Fact) (place : ℕ) (c : Coordinator) (done : DoneReply) (asked : Query) (server next : ServerId) (value : ℤ) → AreFew sc → CoordinatorFits sc facts place c
+    → c.phase ≡ phase.Querying done.query None → query_in sc c.txn done.query ≡ Some asked → next_number done.query ≡ done.query + 1
+    → RowTrusts sc facts place c (sends_query sc (with_deed c server done asked value) (next_number done.query) next)
+ran_next_trusts sc facts place c done asked server next value few h e q further =
+    let count = query_count sc c.txn in
+    let submitted : IsSubmitted facts c.txn = (phase_fits sc facts place c (phase.Querying done.query None) h e).0 in
+    let low : c.turn ≤ ceiling_in count (phase.Querying done.query None) = turn_low sc facts place c (phase.Querying done.query None) h e in
+    let number = number_within sc c.txn done.query asked q in
+    let rises : next_turn c ≡ c.turn + 1 = turn_rises c (low_query count done.query c.turn (few c.txn) number.0 number.1 low) in
+    let undecided : is_undecided c.phase ≡ true = ap is_undecided e in
+    record {
+      fits = record {
+        awaits = (submitted, tt);
+        unclosed = λ unsure. h.unclosed undecided;
+        above = λ unsure. h.above undecided;
+        turn = subst (λ (n : ℕ). n ≤ before_query (next_number done.query) + 2) (sym rises) (next_move done.query (next_number done.query) c.turn number.0 further low);
+      };
+      decides = tt;
+      says = λ sent. (tt, tt);
+      timely = λ sent. (record { own = refl; timely = λ unsure. record { past = omega arith; now = λ same. tt } }, tt);
+      old = λ sent turn said t. raised sc c (sends_query sc (with_deed c server done asked value) (next_number done.query) next).state sent turn said undecided rises t;
+    }
+
+-- ---- Tell
+
+-- a request to a server fits, as what is wanted of it is published
+prepare_letters_fit : (sc : Scenario) (facts : List Fact) (place sent : ℕ) (c : Coordinator) (round : Round) (staple : Staple) (servers : List ServerId) → StapleFits sc facts place c.txn staple
+    → RoundFits sc facts place c.txn round → Each (λ (letter : Letter). BodyFits sc facts place sent letter.body) (map (prepare_letter c round staple) servers)
+prepare_letters_fit sc facts place sent c round staple [] h r = tt
+prepare_letters_fit sc facts place sent c round staple (at ∷ servers) h r =
+    ((h, want_published sc facts place c.txn round at r), prepare_letters_fit sc facts place sent c round staple servers h r)
+
+prepare_letters_timely : (sc : Scenario) (c : Coordinator) (round : Round) (staple : Staple) (sent : ℕ) (servers : List ServerId) → Each (λ (at : ServerId). WantNow round (want_for round at)) servers
+    → Each (LetterOfTurn sc c.txn (Some (record c { turn = next_turn c; phase = phase.Checking round staple })) sent) (map (prepare_letter c round staple) servers)
+prepare_letters_timely sc c round staple sent [] h = tt
+prepare_letters_timely sc c round staple sent (at ∷ servers) h =
+    (record { own = refl; timely = λ unsure. record { past = omega arith; now = λ same. (refl, h.0) } }, prepare_letters_timely sc c round staple sent servers h.1)
+
+prepares_trusts : (sc : Scenario) (facts : List Fact) (place : ℕ) (c : Coordinator) (round : Round) (staple : Staple) → AreFew sc → CoordinatorFits sc facts place c → c.phase ≡ phase.Asking round
+    → StapleFits sc facts place c.txn staple → RowTrusts sc facts place c (prepares c round staple)
+prepares_trusts sc facts place c round staple few h e s =
+    let count = query_count sc c.txn in
+    let f = phase_fits sc facts place c (phase.Asking round) h e in
+    let low : c.turn ≤ until_round count round.number 1 = turn_low sc facts place c (phase.Asking round) h e in
+    let rises : next_turn c ≡ c.turn + 1 = turn_rises c (low_round count round.number 1 c.turn (few c.txn) (few_rounds sc facts place c.txn round f.1) (omega arith) low) in
+    let undecided : is_undecided c.phase ≡ true = ap is_undecided e in
+    let next = record c { turn = next_turn c; phase = phase.Checking round staple } in
+    record {
+      fits = record { awaits = (f.0, f.1, s); unclosed = λ unsure. h.unclosed undecided; above = λ unsure. h.above undecided; turn = omega (arith, rises, low) };
+      decides = tt;
+      says = λ sent. prepare_letters_fit sc facts place sent c round staple (missing_in round.targets) s f.1;
+      timely = λ sent. prepare_letters_timely sc c round staple sent (missing_in round.targets) (round_wants sc facts place c.txn round f.1);
+      old = λ sent turn said t. raised sc c next sent turn said undecided rises t;
+    }
+
+-- ---- Vote
+
+-- a reply that is kept leaves what mails say of the request
+now_kept : (sc : Scenario) (c : Coordinator) (round : Round) (staple : Staple) (server : ServerId) (verdicts : List Verdict) (sent : ℕ) (said : Body) → c.phase ≡ phase.Checking round staple → Now sc c sent said
+    → Now sc (record c { phase = phase.Checking (after_reply round server verdicts) staple }) sent said
+now_kept sc c round staple server verdicts sent (body.Tell tell) e h = tt
+now_kept sc c round staple server verdicts sent (body.Prepare p) e h = subst (λ (awaited : Phase). PrepareNow awaited p) e h
+now_kept sc c round staple server verdicts sent (body.Vote reply) e h = vote_kept reply.vote (subst (λ (awaited : Phase). VoteNow awaited reply.vote) e h)
+  where
+    vote_kept : (said : Vote) → VoteNow (phase.Checking round staple) said → VoteNow (phase.Checking (after_reply round server verdicts) staple) said
+    vote_kept (vote.Yes others) k = k
+    vote_kept (vote.No why) k = k
+now_kept sc c round staple server verdicts sent _ e h = tt
+
+orders_fit : (sc : Scenario) (facts : List Fact) (place sent : ℕ) (c : Coordinator) (ended : Outcome) (servers : List ServerId)
+    → Each (λ (letter : Letter). BodyFits sc facts place sent letter.body) (requests c (body.Decide (record { txn = c.txn; outcome = ended })) servers)
+orders_fit sc facts place sent c ended [] = tt
+orders_fit sc facts place sent c ended (at ∷ servers) = (tt, orders_fit sc facts place sent c ended servers)
+
+orders_timely : (sc : Scenario) (c : Coordinator) (now : Option Coordinator) (sent : ℕ) (ended : Outcome) (servers : List ServerId)
+    → Each (LetterOfTurn sc c.txn now sent) (requests c (body.Decide (record { txn = c.txn; outcome = ended })) servers)
+orders_timely sc c now sent ended [] = tt
+orders_timely sc c now sent ended (at ∷ servers) = (tt, orders_timely sc c now sent ended servers)
+
+-- the verdicts of an awaited vote YES, as facts, the pair of its server and the present turn show them
+pub record VoteTrusted (sc : Scenario) (facts : List Fact) (place : ℕ) (c : Coordinator) (round : Round) (server : ServerId) (verdicts : List Verdict) : Type 0 where
+  pub right : Each (Right sc facts place c.txn) verdicts
+  pub numbers : AreNumbersAt sc c.txn server verdicts
+  pub aimed : AimedReply round verdicts
+
+-- a coordinator whose round has one more reply
+record RoundTrusted (sc : Scenario) (facts : List Fact) (place : ℕ) (c : Coordinator) (round : Round) (staple : Staple) : Type 0 where
+  submitted : IsSubmitted facts c.txn
+  fits : RoundFits sc facts place c.txn round
+  stapled : StapleFits sc facts place c.txn staple
+  undecided : is_undecided c.phase ≡ true
+  unclosed : c.instances ≡ []
+  above : IsAbove place c.instances c.gathered
+  low : c.turn ≤ until_round (query_count sc c.txn) round.number 2
+
+replied_trusted : (sc : Scenario) (facts : List Fact) (place : ℕ) (c : Coordinator) (round : Round) (staple : Staple) (server : ServerId) (verdicts : List Verdict) → CoordinatorFits sc facts place c
+    → c.phase ≡ phase.Checking round staple → VoteTrusted sc facts place c round server verdicts → RoundTrusted sc facts place c (after_reply round server verdicts) staple
+replied_trusted sc facts place c round staple server verdicts h e v =
+    let f = phase_fits sc facts place c (phase.Checking round staple) h e in
+    let undecided : is_undecided c.phase ≡ true = ap is_undecided e in
+    record {
+      submitted = f.0;
+      fits = round_replied sc facts place c.txn round server verdicts f.1 v.right v.numbers v.aimed;
+      stapled = f.2;
+      undecided = undecided;
+      unclosed = h.unclosed undecided;
+      above = h.above undecided;
+      low = turn_low sc facts place c (phase.Checking round staple) h e;
+    }
+
+-- a round in which all is true closes the one instance
+committed_trusts : (sc : Scenario) (facts : List Fact) (place : ℕ) (c : Coordinator) (round : Round) (staple : Staple) → HaveHomes sc → IsValid sc → RoundTrusted sc facts place c round staple → judge round None ≡ judged.AllTrue
+    → RowTrusts sc facts place c (commits c round.number (by_query (proofs_in round.targets)))
+committed_trusts sc facts place c round staple homes valid h e =
+    let proofs = by_query (proofs_in round.targets) in
+    let closing = round_closes sc facts place c.txn round homes valid h.fits e in
+    record {
+      fits = record {
+        awaits = tt;
+        unclosed = λ unsure. absurd (cc);
+        above = λ unsure. absurd (cc);
+        turn = end_move (query_count sc c.txn) round.number 2 c.turn (few_rounds sc facts place c.txn round h.fits) (omega arith) h.low;
+      };
+      decides = record {
+        rounds = closing.number;
+        proofs = proofs;
+        instances = ap (λ (instances : List Instance). instances ++ record { reading = None; proofs = proofs } ∷ []) h.unclosed;
+        right = closing.right;
+        all = closing.numbers;
+        have_rules = closing.have_rules;
+        one_version = closing.one_version;
+      };
+      says = λ sent. orders_fit sc facts place sent c outcome.Commit c.servers;
+      timely = λ sent. orders_timely sc c (Some (commits c round.number proofs).state) sent outcome.Commit c.servers;
+      old = λ sent turn said t unsure. absurd (cc);
+    }
+
+-- an older transaction stood in the way
+died_trusts : (sc : Scenario) (facts : List Fact) (place : ℕ) (c : Coordinator) (done : DoneReply) (asked : Query) (died : Died) → CoordinatorFits sc facts place c → c.phase ≡ phase.Querying done.query None
+    → query_in sc c.txn done.query ≡ Some asked → RowTrusts sc facts place c (aborts c (cause.Died died))
+died_trusts sc facts place c done asked died h e q =
+    let low : c.turn ≤ ceiling_in (query_count sc c.txn) (phase.Querying done.query None) = turn_low sc facts place c (phase.Querying done.query None) h e in
+    let number = number_within sc c.txn done.query asked q in
+    let now = aborts c (cause.Died died) in
+    record {
+      fits = record {
+        awaits = tt;
+        unclosed = λ unsure. absurd (cc);
+        above = λ unsure. absurd (cc);
+        turn = died_move (query_count sc c.txn) done.query c.turn number.0 number.1 low;
+      };
+      decides = tt;
+      says = λ sent. orders_fit sc facts place sent c outcome.Abort c.servers;
+      timely = λ sent. orders_timely sc c (Some now.state) sent outcome.Abort c.servers;
+      old = λ sent turn said t unsure. absurd (cc);
+    }
+
+-- a vote NO ends the transaction
+refused_trusts : (sc : Scenario) (facts : List Fact) (place : ℕ) (c : Coordinator) (round : Round) (staple : Staple) (server : ServerId) (number : ℕ) (value : ℤ) → CoordinatorFits sc facts place c
+    → c.phase ≡ phase.Checking round staple → RowTrusts sc facts place c (aborts c (cause.No (refused_by server number value)))
+refused_trusts sc facts place c round staple server number value h e =
+    let f = phase_fits sc facts place c (phase.Checking round staple) h e in
+    let low : c.turn ≤ until_round (query_count sc c.txn) round.number 2 = turn_low sc facts place c (phase.Checking round staple) h e in
+    let now = aborts c (cause.No (refused_by server number value)) in
+    record {
+      fits = record {
+        awaits = tt;
+        unclosed = λ unsure. absurd (cc);
+        above = λ unsure. absurd (cc);
+        turn = end_move (query_count sc c.txn) round.number 2 c.turn (few_rounds sc facts place c.txn round f.1) (omega arith) low;
+      };
+      decides = tt;
+      says = λ sent. orders_fit sc facts place sent c outcome.Abort c.servers;
+      timely = λ sent. orders_timely sc c (Some now.state) sent outcome.Abort c.servers;
+      old = λ sent turn said t unsure. absurd (cc);
+    }
+
+-- a round in which a proof is false denies
+denied_trusts : (sc : Scenario) (facts : List Fact) (place : ℕ) (c : Coordinator) (round : Round) (staple : Staple) (verdict : Verdict) → RoundTrusted sc facts place c round staple → judge round None ≡ judged.False verdict
+    → RowTrusts sc facts place c (aborts c (cause.Denied (denied_by verdict)))
+denied_trusts sc facts place c round staple verdict h e =
+    let denies = round_denies sc facts place c.txn round verdict h.fits e in
+    record {
+      fits = record {
+        awaits = tt;
+        unclosed = λ unsure. absurd (cc);
+        above = λ unsure. absurd (cc);
+        turn = end_move (query_count sc c.txn) round.number 2 c.turn (few_rounds sc facts place c.txn round h.fits) (omega arith) h.low;
+      };
+      decides = record { verdict = verdict; denied_is = refl; right = denies.right; ruleless = denies.ruleless };
+      says = λ sent. orders_fit sc facts place sent c outcome.Abort c.servers;
+      timely = λ sent. orders_timely sc c (Some (aborts c (cause.Denied (denied_by verdict))).state) sent outcome.Abort c.servers;
+      old = λ sent turn said t unsure. absurd (cc);
+    }
+
+-- servers that are out of date are asked again
+updated_trusts : (sc : Scenario) (facts : List Fact) (place : ℕ) (c : Coordinator) (round : Round) (staple : Staple) (named : List Wanted) → AreFew sc → RoundTrusted sc facts place c round staple
+    → judge round None ≡ judged.Update named → RowTrusts sc facts place c (asks c (after_judgement round None))
+updated_trusts sc facts place c round staple named few h e =
+    let count = query_count sc c.txn in
+    let next = after_judgement round None in
+    let updated = round_updated sc facts place c.txn round named h.fits e in
+    let rises : next_turn c ≡ c.turn + 1 = turn_rises c (low_round count round.number 2 c.turn (few c.txn) (few_rounds sc facts place c.txn round h.fits) (omega arith) h.low) in
+    let number : next.number ≡ round.number + 1 = omega (arith, updated.first, updated.number) in
+    record {
+      fits = record {
+        awaits = (h.submitted, updated.fits);
+        unclosed = λ unsure. h.unclosed;
+        above = λ unsure. h.above;
+        turn = subst (λ (n : ℕ). next_turn c ≤ until_round count n 1) (sym number) (subst (λ (n : ℕ). n ≤ until_round count (round.number + 1) 1) (sym rises) (further_move count round.number c.turn (omega (arith, updated.first)) h.low));
+      };
+      decides = tt;
+      says = λ sent. (h.submitted, tt);
+      timely = λ sent. (record { own = refl; timely = λ unsure. record { past = omega arith; now = λ same. tt } }, tt);
+      old = λ sent turn said t. raised sc c (asks c next).state sent turn said h.undecided rises t;
+    }
+
+-- a reply is missing still
+counted_trusts : (sc : Scenario) (facts : List Fact) (place : ℕ) (c : Coordinator) (round : Round) (staple : Staple) (server : ServerId) (verdicts : List Verdict) → c.phase ≡ phase.Checking round staple
+    → RoundTrusted sc facts place c (after_reply round server verdicts) staple → RowTrusts sc facts place c (sends (record c { phase = phase.Checking (after_reply round server verdicts) staple }) [])
+counted_trusts sc facts place c round staple server verdicts e h =
+    record {
+      fits = record { awaits = (h.submitted, h.fits, h.stapled); unclosed = λ unsure. h.unclosed; above = λ unsure. h.above; turn = h.low };
+      decides = tt;
+      says = λ sent. tt;
+      timely = λ sent. tt;
+      old = λ sent turn said t unsure. let was : IsOfPast sc c sent turn said = t h.undecided in
+          record { past = was.past; now = λ same. now_kept sc c round staple server verdicts sent said e (was.now same) };
+    }
+
+-- what a mail says where its turn is the present one
+abbrev pub PresentMail : Scenario → Coordinator → ℕ → Body → Type 0
+PresentMail sc c sent said = IfSome (stamp_of said) (λ (stamped : Stamp). stamped.txn ≡ c.txn → IsTimely sc c sent stamped.turn said)
+
+-- the verdicts of an awaited vote YES
+yes_trusted : (sc : Scenario) (facts : List Fact) (place : ℕ) (P : TxnId → ℕ → Pair) (c : Coordinator) (mail : Mail) (reply : VoteReply) (round : Round) (staple : Staple) (server : ServerId) (verdicts : List Verdict)
+    → IsSoundBody sc (actor.Coordinator c.txn) mail.letter.body → BodyFits sc facts place mail.sent mail.letter.body → BodyPairs sc P mail.letter.from (actor.Coordinator c.txn) mail.letter.body → PresentMail sc c mail.sent mail.letter.body
+    → IsYes c mail reply round staple server verdicts → VoteTrusted sc facts place c round server verdicts
+yes_trusted sc facts place P c mail reply round staple server verdicts m f n t y =
+    let same : c.txn ≡ reply.txn = sym (same_txn_from c.txn reply.txn (subst (IsSoundBody sc (actor.Coordinator c.txn)) y.said_is m).goes_to) in
+    let fits : VoteFits sc facts place reply.txn reply.vote = subst (BodyFits sc facts place mail.sent) y.said_is f in
+    let right : VoteFits sc facts place c.txn (vote.Yes verdicts) = subst (VoteFits sc facts place c.txn) y.vote_is (subst (λ (x : TxnId). VoteFits sc facts place x reply.vote) (sym same) fits) in
+    let from : VoteFrom sc (actor.Server server) reply =
+    subst (λ (who : Actor). VoteFrom sc who reply) y.from_is (subst (BodyPairs sc P mail.letter.from (actor.Coordinator c.txn)) y.said_is n) in
+    let numbers : AreNumbersAt sc c.txn server verdicts = λ declared e.
+    subst (PairVote.VoteFits (site_of sc server.0 declared)) y.vote_is (from declared (ap (λ (x : TxnId). slice_get sc.txns x.0) (sym same) ∙ e)) in
+    let timely : IsTimely sc c mail.sent reply.turn (body.Vote reply) = subst (PresentMail sc c mail.sent) y.said_is t (sym same) in
+    let now : VoteNow c.phase reply.vote = (timely (ap is_undecided y.checking)).now (eqb-true reply.turn c.turn y.present) in
+    let checked : VoteNow (phase.Checking round staple) (vote.Yes verdicts) = subst (λ (awaited : Phase). VoteNow awaited (vote.Yes verdicts)) y.checking (subst (VoteNow c.phase) y.vote_is now) in
+    record { right = right; numbers = numbers; aimed = checked.1 }
+
+-- ---- Ack
+
+acknowledged_trusts : (sc : Scenario) (facts : List Fact) (place : ℕ) (c : Coordinator) (ended : Outcome) (awaited : List ServerId) (server : ServerId) → CoordinatorFits sc facts place c
+    → c.phase ≡ phase.Ending ended awaited → RowTrusts sc facts place c (sends (record c { phase = phase.Ending ended (without awaited server) }) [])
+acknowledged_trusts sc facts place c ended awaited server h e =
+    record {
+      fits = record { awaits = tt; unclosed = λ unsure. absurd (cc); above = λ unsure. absurd (cc); turn = turn_low sc facts place c (phase.Ending ended awaited) h e };
+      decides = tt;
+      says = λ sent. tt;
+      timely = λ sent. tt;
+      old = λ sent turn said t unsure. absurd (cc);
+    }
+
+-- ---- all mails
+
+-- every row of a coordinator on receipt of a mail
+pub coordinator_row_trusts : (sc : Scenario) (facts : List Fact) (place : ℕ) (P : TxnId → ℕ → Pair) (c : Coordinator) (mail : Mail) → AreFew sc → HaveHomes sc → IsValid sc → c.servers ≡ servers_at sc c.txn → CoordinatorFits sc facts place c
+    → IsSoundBody sc (actor.Coordinator c.txn) mail.letter.body → BodyFits sc facts place mail.sent mail.letter.body → BodyPairs sc P mail.letter.from (actor.Coordinator c.txn) mail.letter.body → PresentMail sc c mail.sent mail.letter.body
+    → RowTrusts sc facts place c (coordinator_row sc c mail)
+coordinator_row_trusts sc facts place P c mail few homes valid own h m f n t =
+    coordinator_by sc c mail (RowTrusts sc facts place c)
+    (record {
+      ignored = ignores_trusts_in_coordinator sc facts place c h;
+      ran_next = λ done server asked value next k home.
+          ran_next_trusts sc facts place c done asked server next value few h (awaits_is c c.phase done k.awaited k.plain) k.asked_is (next_is sc c done.query asked homes k.asked_is);
+      ran_last = λ done server asked value k none. ran_last_trusts sc facts place c done asked server value few h (awaits_is c c.phase done k.awaited k.plain) k.asked_is own;
+      died = λ done server asked other k. died_trusts sc facts place c done asked _ h (awaits_is c c.phase done k.awaited k.plain) k.asked_is;
+      told = λ tell round k.
+          let same : c.txn ≡ tell.txn = sym (same_txn_from c.txn tell.txn (subst (IsSoundBody sc (actor.Coordinator c.txn)) k.said_is m).goes_to) in
+          let fits : StapleFits sc facts place tell.txn (staple_of tell mail.sent) = subst (BodyFits sc facts place mail.sent) k.said_is f in
+          prepares_trusts sc facts place c round (staple_of tell mail.sent) few h k.asking (subst (λ (x : TxnId). StapleFits sc facts place x (staple_of tell mail.sent)) (sym same) fits);
+      counted = λ reply round staple server verdicts y e. counted_trusts sc facts place c round staple server verdicts y.checking (replied reply round staple server verdicts y);
+      committed = λ reply round staple server verdicts y e. committed_trusts sc facts place c (after_reply round server verdicts) staple homes valid (replied reply round staple server verdicts y) e;
+      denied = λ reply round staple server verdicts verdict y e. denied_trusts sc facts place c (after_reply round server verdicts) staple verdict (replied reply round staple server verdicts y) e;
+      updated = λ reply round staple server verdicts named y e. updated_trusts sc facts place c (after_reply round server verdicts) staple named few (replied reply round staple server verdicts y) e;
+      refused = λ reply round staple server number value k. refused_trusts sc facts place c round staple server number value h k.checking;
+      acknowledged = λ ack ended awaited server k. acknowledged_trusts sc facts place c ended awaited server h k.ending;
+    })
+  where
+    replied : (reply : VoteReply) (round : Round) (staple : Staple) (server : ServerId) (verdicts : List Verdict) → IsYes c mail reply round staple server verdicts → RoundTrusted sc facts place c (after_reply round server verdicts) staple
+    replied reply round staple server verdicts y = replied_trusted sc facts place c round staple server verdicts h y.checking (yes_trusted sc facts place P c mail reply round staple server verdicts m f n t y)
+
+-- ---- Submit
+
+unsent_trusts : (sc : Scenario) (facts : List Fact) (place age : ℕ) (c : Coordinator) → CoordinatorFits sc facts place c → RowTrusts sc facts place c (with_age (ignores c) age)
+unsent_trusts sc facts place age c h =
+    record {
+      fits = record { awaits = h.awaits; unclosed = h.unclosed; above = h.above; turn = h.turn };
+      decides = tt;
+      says = λ sent. tt;
+      timely = λ sent. tt;
+      old = λ sent turn said t unsure. record { past = (t unsure).past; now = λ same. now_placed sent said ((t unsure).now same) };
+    }
+  where
+    now_placed : (sent : ℕ) (said : Body) → Now sc c sent said → Now sc (coordinator_with_age c age) sent said
+    now_placed sent (body.Tell tell) k = k
+    now_placed sent (body.Prepare p) k = k
+    now_placed sent (body.Vote reply) k = k
+    now_placed sent _ k = tt
+
+sent_trusts : (sc : Scenario) (facts : List Fact) (place age : ℕ) (c : Coordinator) (server : ServerId) → CoordinatorFits sc facts place c → c.phase ≡ phase.Idle → IsSubmitted facts c.txn
+    → RowTrusts sc facts place c (with_age (sends_query sc c 1 server) age)
+sent_trusts sc facts place age c server h e submitted =
+    let low : c.turn ≤ 0 = turn_low sc facts place c phase.Idle h e in
+    let rises : next_turn c ≡ c.turn + 1 = turn_rises c (omega (arith, low)) in
+    let undecided : is_undecided c.phase ≡ true = ap is_undecided e in
+    record {
+      fits = record {
+        awaits = (submitted, tt);
+        unclosed = λ unsure. h.unclosed undecided;
+        above = λ unsure. h.above undecided;
+        turn = omega (arith, rises, first_move c.turn low);
+      };
+      decides = tt;
+      says = λ sent. (tt, tt);
+      timely = λ sent. (record { own = refl; timely = λ unsure. record { past = omega arith; now = λ same. tt } }, tt);
+      old = λ sent turn said t. raised sc c (with_age (sends_query sc c 1 server) age).state sent turn said undecided rises t;
+    }
+
+-- the submission of a transaction, among facts that tell of it
+pub submit_row_trusts : (sc : Scenario) (facts : List Fact) (place age : ℕ) (c : Coordinator) → CoordinatorFits sc facts place c → is_begun c.phase ≡ false → IsSubmitted facts c.txn
+    → RowTrusts sc facts place c (with_age (submit_row sc c) age)
+submit_row_trusts sc facts place age c h b submitted =
+    submit_by sc c (λ (effect : Effect Coordinator). RowTrusts sc facts place c (with_age effect age))
+    (record { ignored = unsent_trusts sc facts place age c h; sent = λ server home. sent_trusts sc facts place age c server h (idle_is c.phase b) submitted })

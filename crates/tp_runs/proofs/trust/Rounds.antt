@@ -1,0 +1,403 @@
+-- Rounds of a coordinator under view consistency: what a round rests on, at its start, as facts are added, and after each reply.
+use Rattle.std.specs.List.{list_all, list_any}
+use Rattle.std.specs.Option.{option_map_or}
+use Rattle.std.proofs.Common.{Bool, IfSome, List, None, Option, Some, [], ap, arith, cond, false, find, inl, inr, is_none, length, map, refl, slice_get, subst, suc, sym, true, zero, ℕ, ⊎_elim, ◌==◌, ◌||◌, ◌∙◌, ◌∷◌, ◌≡◌, ◌≤◌, ◌⊎◌}
+use Rattle.std.proofs.lemmas.Bool.{and_from, and_parts, eq-eqb, eqb-true}
+use Rattle.tp_types.proofs.ListLemmas.{number_itself}
+use Rattle.tp_model.specs.Authorisation.{is_item_at, is_own_query, is_query_at}
+use Rattle.tp_model.specs.Ids.{same_admin, same_server}
+use Rattle.tp_model.specs.Queries.{is_at_server, item_of, query_at, servers_of}
+use Rattle.tp_model.specs.Words.{AdminId, Fact, Item, Query, Scenario, ServerId, Transaction, TxnId, Verdict, Version}
+use Rattle.tp_round.specs.declared.round.Judged.TheVariants.{False}
+use Rattle.tp_round.specs.declared.round.Round.{Round}
+use Rattle.tp_round.specs.declared.round.Target.{Target}
+use Rattle.tp_round.specs.declared.round.Wanted.{Wanted}
+use Rattle.tp_round.specs.Judge.{after_reply, awaits, first_round, is_aimed, is_missing, judge, new_target, with_reply}
+use Rattle.tp_round.specs.Replies.{proofs_in, verdicts_in}
+use Rattle.tp_round.proofs.AgreedLemmas.{false_is_least}
+use Rattle.tp_round.proofs.KeptLemmas.{server_of, servers_replied}
+use Rattle.tp_round.proofs.RoundsLemmas.{aimed_has, are_wanted_at, is_wanted_at, reply_keeps}
+use Rattle.tp_round.proofs.VersionLemmas.{are_at, is_at}
+use Rattle.tp_runs.proofs.basics.Verdicts.{numbers_of}
+use Rattle.tp_types.proofs.EachLemmas.{by_cond, each_as, each_flat_map, each_get, each_more, each_of_all, each_two}
+use Rattle.tp_runs.proofs.agreement.Coordinator.{HaveItems, HoldsItem, servers_at_have_items}
+use Rattle.tp_runs.proofs.basics.Aims.{is_within}
+use Rattle.tp_runs.proofs.basics.Rounds.{EachServer, each_missing, missing_in}
+use Rattle.tp_runs.proofs.pairs.Actors.{site_of}
+use Rattle.tp_runs.proofs.pairs.CoordinatorRows.{NamesAt}
+use Rattle.tp_runs.proofs.pairs.Fits.{Names}
+use Rattle.tp_runs.proofs.basics.Turns.{WantNow}
+use Rattle.tp_coord.specs.Row.{server_of_target, want_for}
+use Rattle.tp_model.specs.Agreement.{has_item}
+use Rattle.tp_model.specs.Limits.{is_empty}
+use Rattle.tp_runs.proofs.pairs.Site.{Site, here, upto, with_number}
+use Rattle.tp_runs.proofs.trust.Fit.{IsPublished, Later, Right, newest_rises, right_stays}
+use Rattle.tp_types.specs.Each.{Each}
+use Rattle.tp_coord.specs.Opened.{servers_at}
+
+-- ---- what a round rests on
+
+-- the numbers of these verdicts are those of the transaction's queries at the server, in order
+abbrev pub AreNumbersAt : Scenario → TxnId → ServerId → List Verdict → Type 0
+AreNumbersAt sc txn at verdicts =
+    (declared : Transaction) → slice_get sc.txns txn.0 ≡ Some declared → numbers_of verdicts ≡ upto (site_of sc at.0 declared) (length declared.queries)
+
+-- what a server replied is right, and is of all its queries
+pub record TargetFits (sc : Scenario) (facts : List Fact) (place : ℕ) (txn : TxnId) (target : Target) : Type 0 where
+  pub right : Each (Right sc facts place txn) (verdicts_in target)
+  pub numbers : IfSome target.reply (AreNumbersAt sc txn target.server)
+
+abbrev pub want_in : List Wanted → ServerId → List (AdminId × Version)
+want_in named server = option_map_or (λ (one : Wanted). one.want) (find (λ (one : Wanted). same_server one.server server) named) []
+
+-- of each administrator of the transaction's queries at the server a version is wanted
+abbrev pub IsNamedFor : Scenario → TxnId → ServerId → List (AdminId × Version) → Type 0
+IsNamedFor sc txn at want =
+    (declared : Transaction) → slice_get sc.txns txn.0 ≡ Some declared → Names (site_of sc at.0 declared) want
+
+-- so it is of a server that is awaited
+abbrev pub IsCovered : Scenario → TxnId → List Wanted → Target → Type 0
+IsCovered sc txn named target = is_missing target ≡ true → IsNamedFor sc txn target.server (want_in named target.server)
+
+-- what is wanted of a server is at most the newest
+abbrev pub ArePublished : Scenario → List Fact → ℕ → Wanted → Type 0
+ArePublished sc facts place named = Each (IsPublished sc facts place) named.want
+
+-- what is wanted of a server is within what is aimed at
+abbrev pub IsWithin : List (AdminId × Version) → Wanted → Type 0
+IsWithin aim named = Each (λ (wanted : AdminId × Version). is_within aim wanted ≡ true) named.want
+
+-- a second round: there is one version of each administrator which kept replies have and which is wanted
+pub record IsSecondRound (sc : Scenario) (facts : List Fact) (place : ℕ) (txn : TxnId) (round : Round) : Type 0 where
+  pub number : round.number ≡ 2
+  pub aimed : AdminId → ℕ
+  pub kept : list_all (are_at aimed) round.targets ≡ true
+  pub aim : list_all (is_wanted_at aimed) round.aim ≡ true
+  pub named : list_all (are_wanted_at aimed) round.named ≡ true
+  pub published : Each (ArePublished sc facts place) round.named
+  pub covers : Each (IsCovered sc txn round.named) round.targets
+  pub within : Each (IsWithin round.aim) round.named
+
+-- a first round: nothing was wanted yet
+pub record IsFirstRound (round : Round) : Type 0 where
+  pub number : round.number ≡ 1
+  pub aim : round.aim ≡ []
+  pub named : round.named ≡ []
+
+-- a round of all the transaction's servers that reads no master, is the first or the second, and whose replies fit
+pub record RoundFits (sc : Scenario) (facts : List Fact) (place : ℕ) (txn : TxnId) (round : Round) : Type 0 where
+  pub levels : round.levels ≡ []
+  pub reads : round.reads ≡ false
+  pub servers : map server_of round.targets ≡ servers_at sc txn
+  pub targets : Each (TargetFits sc facts place txn) round.targets
+  pub count : IsFirstRound round ⊎ IsSecondRound sc facts place txn round
+
+-- ---- the start
+
+new_servers : (servers : List ServerId) → map server_of (map new_target servers) ≡ servers
+new_servers [] = refl
+new_servers (server ∷ servers) = ap (λ (others : List ServerId). server ∷ others) (new_servers servers)
+
+new_fit : (sc : Scenario) (facts : List Fact) (place : ℕ) (txn : TxnId) (servers : List ServerId) → Each (TargetFits sc facts place txn) (map new_target servers)
+new_fit sc facts place txn [] = tt
+new_fit sc facts place txn (server ∷ servers) = (record { right = tt; numbers = tt }, new_fit sc facts place txn servers)
+
+-- the first round, before any reply
+pub round_starts : (sc : Scenario) (facts : List Fact) (place : ℕ) (txn : TxnId) → RoundFits sc facts place txn (first_round (servers_at sc txn) 2 [] false)
+round_starts sc facts place txn =
+    record {
+      levels = refl;
+      reads = refl;
+      servers = new_servers (servers_at sc txn);
+      targets = new_fit sc facts place txn (servers_at sc txn);
+      count = inl (record { number = refl; aim = refl; named = refl });
+    }
+
+-- ---- the round's number
+
+number_of : (sc : Scenario) (facts : List Fact) (place : ℕ) (txn : TxnId) (round : Round) → IsFirstRound round ⊎ IsSecondRound sc facts place txn round → (round.number ≡ 1) ⊎ (round.number ≡ 2)
+number_of sc facts place txn round (inl first) = inl first.number
+number_of sc facts place txn round (inr second) = inr second.number
+
+pub one_or_two : (sc : Scenario) (facts : List Fact) (place : ℕ) (txn : TxnId) (round : Round) → RoundFits sc facts place txn round → (round.number ≡ 1) ⊎ (round.number ≡ 2)
+one_or_two sc facts place txn round h = number_of sc facts place txn round h.count
+
+pub few_rounds : (sc : Scenario) (facts : List Fact) (place : ℕ) (txn : TxnId) (round : Round) → RoundFits sc facts place txn round → round.number ≤ 17
+few_rounds sc facts place txn round h = ⊎_elim (λ (first : round.number ≡ 1). omega (arith, first)) (λ (second : round.number ≡ 2). omega (arith, second)) (one_or_two sc facts place txn round h)
+
+-- nothing is wanted of a server in a first round
+pub first_wants : (round : Round) (server : ServerId) → IsFirstRound round → want_for round server ≡ []
+first_wants round server first = ap (λ (named : List Wanted). want_in named server) first.named
+
+-- ---- it stays as facts are added
+
+target_stays : (sc : Scenario) (old new : List Fact) (low high : ℕ) (txn : TxnId) (target : Target) → Later old new low high → TargetFits sc old low txn target → TargetFits sc new high txn target
+target_stays sc old new low high txn target l h =
+    record {
+      right = each_as (Right sc old low txn) (Right sc new high txn) (λ verdict r. right_stays sc old new low high txn verdict l r) (verdicts_in target) h.right;
+      numbers = h.numbers;
+    }
+
+published_stays : (sc : Scenario) (old new : List Fact) (low high : ℕ) (wanted : AdminId × Version) → Later old new low high → IsPublished sc old low wanted → IsPublished sc new high wanted
+published_stays sc old new low high wanted l h = let rises = newest_rises sc wanted.0 old new low high l in omega (arith, h, rises)
+
+count_stays : (sc : Scenario) (old new : List Fact) (low high : ℕ) (txn : TxnId) (round : Round) → Later old new low high → IsFirstRound round ⊎ IsSecondRound sc old low txn round
+    → IsFirstRound round ⊎ IsSecondRound sc new high txn round
+count_stays sc old new low high txn round l (inl first) = inl first
+count_stays sc old new low high txn round l (inr second) =
+    inr (record {
+      number = second.number;
+      aimed = second.aimed;
+      kept = second.kept;
+      aim = second.aim;
+      named = second.named;
+      published = each_as (ArePublished sc old low) (ArePublished sc new high)
+          (λ (one : Wanted) p. each_as (IsPublished sc old low) (IsPublished sc new high) (λ wanted q. published_stays sc old new low high wanted l q) one.want p) round.named second.published;
+      covers = second.covers;
+      within = second.within;
+    })
+
+pub round_fits_later : (sc : Scenario) (old new : List Fact) (low high : ℕ) (txn : TxnId) (round : Round) → Later old new low high → RoundFits sc old low txn round → RoundFits sc new high txn round
+round_fits_later sc old new low high txn round l h =
+    record {
+      levels = h.levels;
+      reads = h.reads;
+      servers = h.servers;
+      targets = each_as (TargetFits sc old low txn) (TargetFits sc new high txn) (λ target f. target_stays sc old new low high txn target l f) round.targets h.targets;
+      count = count_stays sc old new low high txn round l h.count;
+    }
+
+-- ---- queries at a server
+
+-- a query has one administrator
+same_admin_of_item : (at other : ServerId) (admin one : AdminId) (item : Option Item) → option_map_or (is_item_at at admin) item false ≡ true → option_map_or (is_item_at other one) item false ≡ true
+    → same_admin one admin ≡ true
+same_admin_of_item at other admin one None e f = absurd (cc)
+same_admin_of_item at other admin one (Some item) e f =
+    let first = and_parts (same_server item.server at) (same_admin item.admin admin) e in
+    let second = and_parts (same_server item.server other) (same_admin item.admin one) f in
+    eq-eqb one.0 admin.0 (sym (eqb-true item.admin.0 one.0 second.1) ∙ eqb-true item.admin.0 admin.0 first.1)
+
+same_admin_of_query : (sc : Scenario) (at other : ServerId) (admin one : AdminId) (query : Option Query) → option_map_or (is_query_at sc at admin) query false ≡ true
+    → option_map_or (is_query_at sc other one) query false ≡ true → same_admin one admin ≡ true
+same_admin_of_query sc at other admin one None e f = absurd (cc)
+same_admin_of_query sc at other admin one (Some query) e f = same_admin_of_item at other admin one (slice_get sc.items (item_of query).0) e f
+
+pub same_admin_of : (sc : Scenario) (declared : Transaction) (number : ℕ) (at other : ServerId) (admin one : AdminId) → is_own_query sc declared number at admin ≡ true
+    → is_own_query sc declared number other one ≡ true → same_admin one admin ≡ true
+same_admin_of sc declared number at other admin one e f = same_admin_of_query sc at other admin one (query_at declared number) e f
+
+item_here : (at : ServerId) (admin : AdminId) (item : Option Item) → option_map_or (is_item_at at admin) item false ≡ true → option_map_or (λ (i : Item). i.server.0 == at.0) item false ≡ true
+item_here at admin None e = absurd (cc)
+item_here at admin (Some item) e = (and_parts (same_server item.server at) (same_admin item.admin admin) e).0
+
+query_here : (sc : Scenario) (at : ServerId) (admin : AdminId) (query : Option Query) → option_map_or (is_query_at sc at admin) query false ≡ true → option_map_or (is_at_server sc at.0) query false ≡ true
+query_here sc at admin None e = absurd (cc)
+query_here sc at admin (Some query) e = item_here at admin (slice_get sc.items (item_of query).0) e
+
+-- a query of an administrator at a server is at the server
+pub own_here : (sc : Scenario) (declared : Transaction) (number : ℕ) (at : ServerId) (admin : AdminId) → is_own_query sc declared number at admin ≡ true → here (site_of sc at.0 declared) number ≡ true
+own_here sc declared number at admin e = query_here sc at admin (query_at declared number) e
+
+item_own : (at other : ServerId) (admin : AdminId) (item : Option Item) → option_map_or (λ (i : Item). i.server.0 == at.0) item false ≡ true → option_map_or (is_item_at other admin) item false ≡ true
+    → option_map_or (is_item_at at admin) item false ≡ true
+item_own at other admin None e f = absurd (cc)
+item_own at other admin (Some item) e f = and_from (same_server item.server at) (same_admin item.admin admin) e (and_parts (same_server item.server other) (same_admin item.admin admin) f).1
+
+query_own : (sc : Scenario) (at other : ServerId) (admin : AdminId) (query : Option Query) → option_map_or (is_at_server sc at.0) query false ≡ true → option_map_or (is_query_at sc other admin) query false ≡ true
+    → option_map_or (is_query_at sc at admin) query false ≡ true
+query_own sc at other admin None e f = absurd (cc)
+query_own sc at other admin (Some query) e f = item_own at other admin (slice_get sc.items (item_of query).0) e f
+
+-- and one at the server is its administrator's there
+pub here_own : (sc : Scenario) (declared : Transaction) (number : ℕ) (at other : ServerId) (admin : AdminId) → here (site_of sc at.0 declared) number ≡ true → is_own_query sc declared number other admin ≡ true
+    → is_own_query sc declared number at admin ≡ true
+here_own sc declared number at other admin e f = query_own sc at other admin (query_at declared number) e f
+
+with_here : (s : Site) (last : ℕ) (b : Bool) → here s (suc last) ≡ b → Each (λ (number : ℕ). here s number ≡ true) (upto s last) → Each (λ (number : ℕ). here s number ≡ true) (with_number b (upto s last) (suc last))
+with_here s last true e h = each_more (λ (number : ℕ). here s number ≡ true) (upto s last) (suc last) h e
+with_here s last false e h = h
+
+each_here_in_trust : (s : Site) (last : ℕ) → Each (λ (number : ℕ). here s number ≡ true) (upto s last)
+each_here_in_trust s zero = tt
+each_here_in_trust s (suc last) = with_here s last (here s (suc last)) refl (each_here_in_trust s last)
+
+-- ---- what was named
+
+want_where : (P : List (AdminId × Version) → Type 0) (one : Wanted) (named : List Wanted) (server : ServerId) (b : Bool) → P one.want → P (want_in named server)
+    → P (option_map_or (λ (other : Wanted). other.want) (cond b (Some one) (find (λ (other : Wanted). same_server other.server server) named)) [])
+want_where P one named server true here rest = here
+want_where P one named server false here rest = rest
+
+-- what is so of all that is wanted is so of what is wanted of a server
+pub want_each : (P : List (AdminId × Version) → Type 0) (named : List Wanted) (server : ServerId) → P [] → Each (λ (one : Wanted). P one.want) named → P (want_in named server)
+want_each P [] server none h = none
+want_each P (one ∷ named) server none h = want_where P one named server (same_server one.server server) h.0 (want_each P named server none h.1)
+
+-- the versions that are wanted of a server are published
+pub want_published : (sc : Scenario) (facts : List Fact) (place : ℕ) (txn : TxnId) (round : Round) (server : ServerId) → RoundFits sc facts place txn round
+    → Each (IsPublished sc facts place) (want_for round server)
+want_published sc facts place txn round server h = published h.count
+  where
+    published : IsFirstRound round ⊎ IsSecondRound sc facts place txn round → Each (IsPublished sc facts place) (want_for round server)
+    published (inl first) = subst (Each (IsPublished sc facts place)) (sym (first_wants round server first)) tt
+    published (inr second) = want_each (λ (want : List (AdminId × Version)). Each (IsPublished sc facts place) want) round.named server tt second.published
+
+-- what a round wants of a server that is awaited names all administrators there
+named_missing : (sc : Scenario) (txn : TxnId) (named : List Wanted) (targets : List Target) → Each (IsCovered sc txn named) targets → Each (λ (at : ServerId). IsNamedFor sc txn at (want_in named at)) (missing_in targets)
+named_missing sc txn named [] h = tt
+named_missing sc txn named (target ∷ targets) h =
+    by_cond (λ (left : List Target). Each (λ (at : ServerId). IsNamedFor sc txn at (want_in named at)) (map server_of_target left)) (is_missing target)
+    (λ e. (h.0 e, named_missing sc txn named targets h.1)) (λ e. named_missing sc txn named targets h.1)
+
+names_by : (sc : Scenario) (facts : List Fact) (place : ℕ) (txn : TxnId) (round : Round) (declared : Transaction) → slice_get sc.txns txn.0 ≡ Some declared → IsFirstRound round ⊎ IsSecondRound sc facts place txn round
+    → Each (NamesAt sc declared round) (missing_in round.targets)
+names_by sc facts place txn round declared e (inl first) = each_of_all _ (λ at. inl (ap is_empty (first_wants round at first))) (missing_in round.targets)
+names_by sc facts place txn round declared e (inr second) =
+    each_as (λ (at : ServerId). IsNamedFor sc txn at (want_in round.named at)) (NamesAt sc declared round) (λ at named. inr (named declared e)) (missing_in round.targets) (named_missing sc txn round.named round.targets second.covers)
+
+pub round_names : (sc : Scenario) (facts : List Fact) (place : ℕ) (txn : TxnId) (round : Round) (declared : Transaction) → slice_get sc.txns txn.0 ≡ Some declared → RoundFits sc facts place txn round
+    → Each (NamesAt sc declared round) (missing_in round.targets)
+round_names sc facts place txn round declared e h = names_by sc facts place txn round declared e h.count
+
+-- a server of the transaction has a query of some administrator
+record HasOwn (sc : Scenario) (declared : Transaction) (at : ServerId) : Type 0 where
+  number : ℕ
+  admin : AdminId
+  own : is_own_query sc declared number at admin ≡ true
+
+own_item : (at : ServerId) (item : Option Item) → option_map_or (λ (i : Item). i.server.0 == at.0) item false ≡ true → (admin : AdminId) × (option_map_or (is_item_at at admin) item false ≡ true)
+own_item at None e = absurd (cc)
+own_item at (Some item) e = (item.admin, and_from (same_server item.server at) (same_admin item.admin item.admin) e (number_itself item.admin.0))
+
+own_among : (sc : Scenario) (at : ServerId) (queries : List Query) → list_any (is_at_server sc at.0) queries ≡ true → (n : ℕ) × (admin : AdminId) × (option_map_or (is_query_at sc at admin) (slice_get queries n) false ≡ true)
+own_among sc at [] e = absurd (cc)
+own_among sc at (query ∷ queries) e = by_first (is_at_server sc at.0 query) refl (own_among sc at queries) e
+  where
+    by_first : (b : Bool) → is_at_server sc at.0 query ≡ b → (list_any (is_at_server sc at.0) queries ≡ true → (n : ℕ) × (admin : AdminId) × (option_map_or (is_query_at sc at admin) (slice_get queries n) false ≡ true))
+        → (b || list_any (is_at_server sc at.0) queries) ≡ true → (n : ℕ) × (admin : AdminId) × (option_map_or (is_query_at sc at admin) (slice_get (query ∷ queries) n) false ≡ true)
+    by_first true here later some = let found = own_item at (slice_get sc.items (item_of query).0) here in (zero, found.0, found.1)
+    by_first false here later some = let found = later some in (suc found.0, found.1, found.2)
+
+has_own : (sc : Scenario) (declared : Transaction) (at : ServerId) → list_any (is_at_server sc at.0) declared.queries ≡ true → HasOwn sc declared at
+has_own sc declared at e = let found = own_among sc at declared.queries e in record { number = suc found.0; admin = found.1; own = found.2 }
+
+-- where all its administrators are named something is wanted
+not_empty : (sc : Scenario) (declared : Transaction) (at : ServerId) (want : List (AdminId × Version)) → HasOwn sc declared at → Names (site_of sc at.0 declared) want → is_empty want ≡ false
+not_empty sc declared at [] own names = let some = names own.number own.admin own.own in absurd (cc)
+not_empty sc declared at (first ∷ want) own names = refl
+
+item_declared : (sc : Scenario) (at : ServerId) (txn : TxnId) (found : Option Transaction) → slice_get sc.txns txn.0 ≡ found → option_map_or (has_item sc at) found false ≡ true
+    → (declared : Transaction) × (slice_get sc.txns txn.0 ≡ Some declared) × HasOwn sc declared at
+item_declared sc at txn None e h = absurd (cc)
+item_declared sc at txn (Some declared) e h = (declared, e, has_own sc declared at h)
+
+-- after an update what is wanted of a server that is awaited is something, and within what is aimed at
+wants_by : (sc : Scenario) (facts : List Fact) (place : ℕ) (txn : TxnId) (round : Round) → EachServer (HoldsItem sc txn) round.targets → IsFirstRound round ⊎ IsSecondRound sc facts place txn round
+    → Each (λ (at : ServerId). WantNow round (want_for round at)) (missing_in round.targets)
+wants_by sc facts place txn round items (inl first) = each_of_all _ (λ at. inl first.number) (missing_in round.targets)
+wants_by sc facts place txn round items (inr second) =
+    each_as (λ (at : ServerId). HoldsItem sc txn at × IsNamedFor sc txn at (want_in round.named at)) (λ (at : ServerId). WantNow round (want_for round at))
+    (λ at k. let there = item_declared sc at txn (slice_get sc.txns txn.0) refl k.0 in
+    inr (
+      not_empty sc there.0 at (want_for round at) there.2 (k.1 there.0 there.1),
+      want_each (λ (want : List (AdminId × Version)). Each (λ (wanted : AdminId × Version). is_within round.aim wanted ≡ true) want) round.named at tt second.within,
+    )) (missing_in round.targets)
+    (each_two (HoldsItem sc txn) (λ (at : ServerId). IsNamedFor sc txn at (want_in round.named at)) (missing_in round.targets) (each_missing (HoldsItem sc txn) round.targets items) (named_missing sc txn round.named round.targets second.covers))
+
+-- the transaction's servers have items of it
+servers_hold : (sc : Scenario) (txn : TxnId) (targets : List Target) (servers : List ServerId) → map server_of targets ≡ servers → HaveItems sc txn servers → EachServer (HoldsItem sc txn) targets
+servers_hold sc txn [] servers e h = tt
+servers_hold sc txn (target ∷ targets) [] e h = absurd (cc)
+servers_hold sc txn (target ∷ targets) (server ∷ servers) e h =
+    let here : target.server ≡ server = cc in
+    let later : map server_of targets ≡ servers = cc in
+    (subst (HoldsItem sc txn) (sym here) h.0, servers_hold sc txn targets servers later h.1)
+
+pub round_wants : (sc : Scenario) (facts : List Fact) (place : ℕ) (txn : TxnId) (round : Round) → RoundFits sc facts place txn round → Each (λ (at : ServerId). WantNow round (want_for round at)) (missing_in round.targets)
+round_wants sc facts place txn round h = wants_by sc facts place txn round (servers_hold sc txn round.targets (servers_at sc txn) h.servers (servers_at_have_items sc txn)) h.count
+
+-- ---- a reply
+
+-- a reply after an update has the versions that the round aims at
+abbrev pub AimedReply : Round → List Verdict → Type 0
+AimedReply round verdicts = (round.number ≡ 1) ⊎ (list_all (is_aimed round.aim) verdicts ≡ true)
+
+all_at : (f : AdminId → ℕ) (aim : List (AdminId × Version)) (verdicts : List Verdict) → list_all (is_wanted_at f) aim ≡ true → list_all (is_aimed aim) verdicts ≡ true → list_all (is_at f) verdicts ≡ true
+all_at f aim [] e h = refl
+all_at f aim (verdict ∷ verdicts) e h =
+    let parts = and_parts (is_aimed aim verdict) (list_all (is_aimed aim) verdicts) h in
+    and_from (is_at f verdict) (list_all (is_at f) verdicts) (aimed_has f aim verdict e parts.0) (all_at f aim verdicts e parts.1)
+
+aimed_reply : (sc : Scenario) (facts : List Fact) (place : ℕ) (txn : TxnId) (round : Round) (verdicts : List Verdict) (second : IsSecondRound sc facts place txn round) → AimedReply round verdicts
+    → list_all (is_at second.aimed) verdicts ≡ true
+aimed_reply sc facts place txn round verdicts second (inl first) = let number = second.number in absurd (cc)
+aimed_reply sc facts place txn round verdicts second (inr aimed) = all_at second.aimed round.aim verdicts second.aim aimed
+
+replied_where : (P : Target → Type 0) (new target : Target) (targets more : List Target) (b : Bool) → P new → P target → Each P targets → Each P more → Each P (cond b (new ∷ targets) (target ∷ more))
+replied_where P new target targets more true n t each rest = (n, each)
+replied_where P new target targets more false n t each rest = (t, rest)
+
+replied_each : (P : Target → Type 0) (targets : List Target) (server : ServerId) (verdicts : List Verdict) → P (record { server = server; reply = Some verdicts }) → Each P targets
+    → Each P (with_reply targets server verdicts)
+replied_each P [] server verdicts new h = tt
+replied_each P (target ∷ targets) server verdicts new h =
+    replied_where P (record { server = server; reply = Some verdicts }) target targets (with_reply targets server verdicts) (awaits server target) new h.0 h.1 (replied_each P targets server verdicts new h.1)
+
+-- a transaction with a server is one of the scenario's
+pub declared_with : (sc : Scenario) (txn : TxnId) (test : Target → Bool) (targets : List Target) → map server_of targets ≡ servers_at sc txn → list_any test targets ≡ true
+    → (declared : Transaction) × (slice_get sc.txns txn.0 ≡ Some declared)
+declared_with sc txn test [] e some = absurd (cc)
+declared_with sc txn test (target ∷ targets) e some = found (slice_get sc.txns txn.0) refl e
+  where
+    found : (declared : Option Transaction) → slice_get sc.txns txn.0 ≡ declared → target.server ∷ map server_of targets ≡ option_map_or (servers_of sc) declared []
+        → (declared : Transaction) × (slice_get sc.txns txn.0 ≡ Some declared)
+    found None f g = absurd (cc)
+    found (Some declared) f g = (declared, f)
+
+count_replied : (sc : Scenario) (facts : List Fact) (place : ℕ) (txn : TxnId) (round : Round) (server : ServerId) (verdicts : List Verdict) → AimedReply round verdicts
+    → IsFirstRound round ⊎ IsSecondRound sc facts place txn round → IsFirstRound (after_reply round server verdicts) ⊎ IsSecondRound sc facts place txn (after_reply round server verdicts)
+count_replied sc facts place txn round server verdicts has (inl first) = inl (record { number = first.number; aim = first.aim; named = first.named })
+count_replied sc facts place txn round server verdicts has (inr second) =
+    inr (record {
+      number = second.number;
+      aimed = second.aimed;
+      kept = reply_keeps second.aimed round.targets server verdicts second.kept (λ waits. aimed_reply sc facts place txn round verdicts second has);
+      aim = second.aim;
+      named = second.named;
+      published = second.published;
+      covers = replied_each (IsCovered sc txn round.named) round.targets server verdicts (λ missing. absurd (cc)) second.covers;
+      within = second.within;
+    })
+
+-- a server's reply
+pub round_replied : (sc : Scenario) (facts : List Fact) (place : ℕ) (txn : TxnId) (round : Round) (server : ServerId) (verdicts : List Verdict) → RoundFits sc facts place txn round
+    → Each (Right sc facts place txn) verdicts → AreNumbersAt sc txn server verdicts → AimedReply round verdicts → RoundFits sc facts place txn (after_reply round server verdicts)
+round_replied sc facts place txn round server verdicts h right numbers has =
+    record {
+      levels = h.levels;
+      reads = h.reads;
+      servers = servers_replied round.targets server verdicts ∙ h.servers;
+      targets = replied_each (TargetFits sc facts place txn) round.targets server verdicts (record { right = right; numbers = numbers }) h.targets;
+      count = count_replied sc facts place txn round server verdicts has h.count;
+    }
+
+-- ---- judged false, or spent
+
+-- all proofs of a round are right
+pub proofs_right : (sc : Scenario) (facts : List Fact) (place : ℕ) (txn : TxnId) (round : Round) → RoundFits sc facts place txn round → Each (Right sc facts place txn) (proofs_in round.targets)
+proofs_right sc facts place txn round h = each_flat_map (TargetFits sc facts place txn) (Right sc facts place txn) verdicts_in (λ target f. f.right) round.targets h.targets
+
+-- the verdict by which a round is judged false is right, and false
+pub record IsFalseRight (sc : Scenario) (facts : List Fact) (place : ℕ) (txn : TxnId) (verdict : Verdict) : Type 0 where
+  pub right : Right sc facts place txn verdict
+  pub ruleless : is_none verdict.rule ≡ true
+
+pub round_denies : (sc : Scenario) (facts : List Fact) (place : ℕ) (txn : TxnId) (round : Round) (verdict : Verdict) → RoundFits sc facts place txn round → judge round None ≡ False verdict
+    → IsFalseRight sc facts place txn verdict
+round_denies sc facts place txn round verdict h e =
+    let least = false_is_least round None verdict e in
+    record {
+      right = each_get (Right sc facts place txn) (proofs_in round.targets) least.place verdict (proofs_right sc facts place txn round h) least.there;
+      ruleless = least.untrue;
+    }

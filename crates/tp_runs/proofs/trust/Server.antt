@@ -1,0 +1,418 @@
+-- Trust, the server's rows: verdicts are right at the place of the staple, and there is one for each query.
+use Rattle.std.specs.List.{list_all}
+use Rattle.std.specs.Option.{option_map_or}
+use Rattle.std.proofs.Common.{IfSome, List, None, Option, Some, [], ap, arith, false, inl, inr, is_some, length, option_and_then, refl, slice_get, subst, suc, sym, true, unwrap_or, zero, ℕ, ℤ, ⊎_elim, ◌<◌, ◌==◌, ◌∙◌, ◌∷◌, ◌≡◌, ◌≤◌, ◌⊎◌}
+use Rattle.std.proofs.lemmas.Bool.{and_from}
+use Rattle.std.proofs.lemmas.Option.{same_Some, slice_get_within}
+use Rattle.tp_types.proofs.ListLemmas.{number_itself}
+use Rattle.tp_types.specs.Effect.{Effect, ignores, sends}
+use Rattle.tp_lock.specs.declared.entry.Grant.{Grant}
+use Rattle.tp_model.specs.Authorisation.{is_item_at, is_own_query, is_query_at, policy_at, library_version, version_of}
+use Rattle.tp_model.specs.Queries.{query_at}
+use Rattle.tp_model.specs.Versions.{newest}
+use Rattle.tp_model.specs.Words.actor
+use Rattle.tp_model.specs.Words.body
+use Rattle.tp_model.specs.Words.vote
+use Rattle.tp_model.specs.Words.{Actor, AdminId, Body, Deed, DoneReply, Fact, Item, Letter, Mail, No, Policy, PrepareRequest, PushNotice, Query, QueryRequest, Record, Scenario, ServerId, Settled, Staple, Transaction, TxnId, Verdict, Version}
+use Rattle.tp_types.proofs.EachLemmas.{each_append, each_as, each_found, each_map, each_more, placed_emptied, placed_set}
+use Rattle.tp_runs.proofs.basics.Ids.{admin_number}
+use Rattle.tp_runs.proofs.basics.Stores.{ended_known, kept_known}
+use Rattle.tp_runs.proofs.basics.Versions.{known_most, learnt_most, used_by}
+use Rattle.tp_runs.proofs.ids.Server.{learnt_sound, verdict_sound}
+use Rattle.tp_runs.proofs.ids.Valid.{IsValid}
+use Rattle.tp_server.proofs.RightVerdicts.{evaluate_right}
+use Rattle.tp_runs.proofs.trust.Fit.{BodyFits, IsPublished, IsRight, Right, ServerFits, StapleFits}
+use Rattle.tp_runs.proofs.trust.Kept.{AreKept, IsKept, IsTrusted, RecordKept, vote_cast}
+use Rattle.tp_runs.proofs.basics.Turns.{AimedVote, Answers, IsClosed, PrepareNow, Stamp, VoteNow, WantNow, stamp_of}
+use Rattle.tp_runs.proofs.basics.Aims.{is_within, wanted_aimed}
+use Rattle.tp_runs.proofs.pairs.Actors.{BodyPairs, site_of}
+use Rattle.tp_runs.proofs.pairs.Pair.{Pair}
+use Rattle.tp_runs.proofs.pairs.Fits.{Names}
+use Rattle.tp_model.specs.Limits.{is_empty}
+use Rattle.tp_round.specs.Judge.{is_aimed}
+use Rattle.tp_round.specs.Laws.{wanted_of}
+use Rattle.tp_round.specs.declared.round.Round.{Round}
+use Rattle.tp_server.proofs.Rows.{AreRightWaits, IsAsking, IsFirstHere, IsFurther, IsResumed, resuming, server_by, unwaiting}
+use Rattle.tp_server.specs.Evaluation.{IsRightVerdict}
+use Rattle.tp_model.specs.Deeds.{deed_of}
+use Rattle.tp_runs.specs.Sound.{AreWanted, IsQueryAt, IsSoundBody, IsSoundDeedAt, IsSoundEntry, IsSoundServer, IsSoundVerdict, IsVersion, query_in}
+use Rattle.tp_types.specs.Each.{Each}
+use Rattle.tp_machine.specs.Named.{IsAdmin}
+use Rattle.tp_coord.specs.declared.coordinator.Phase.TheVariants as phase
+use Rattle.tp_coord.specs.declared.coordinator.Phase.{Phase}
+use Rattle.tp_server.specs.declared.server.Ballot.{Ballot}
+use Rattle.tp_server.specs.declared.server.Entry.{Entry}
+use Rattle.tp_server.specs.Row.{ack_letter, answers, closes, completes, died_reply, done_reply, entry_after, entry_at, followed_by, learns, no_letter, refused_as, restarted_reply, server_row, settled_as, votes_on, with_entry, yes_letter}
+use Rattle.tp_server.specs.State.{Server}
+use Rattle.tp_server.specs.Verdicts.{with_wants, verdict_on, verdicts_on, version_known, version_or, version_used}
+
+-- an act of a server: what it is after it, if it is up, fits; what it keeps and forced, and its letters, fit too and T of them. T is closed
+-- under answers, and is so of the mail
+pub record ServerTrusts (sc : Scenario) (facts : List Fact) (place : ℕ) (T : Body → Type 0) (now : Option Server) (append : Option Record) (letters : List Letter) : Type 0 where
+  pub fits : IfSome now (ServerFits sc facts place)
+  pub keeps : IfSome now (AreKept (IsTrusted sc facts place T))
+  pub forces : IfSome append (RecordKept (IsTrusted sc facts place T))
+  pub says : Each (λ (letter : Letter). BodyFits sc facts place place letter.body) letters
+  pub timely : Each (λ (letter : Letter). IfSome (stamp_of letter.body) (λ (stamped : Stamp). T letter.body)) letters
+
+-- that of a row
+abbrev pub RowTrusts : Scenario → List Fact → ℕ → (Body → Type 0) → Effect Server → Type 0
+RowTrusts sc facts place T effect = ServerTrusts sc facts place T (Some effect.state) effect.reaction.append effect.reaction.letters
+
+-- a server before its row
+pub record ServerTrusted (sc : Scenario) (facts : List Fact) (place : ℕ) (T : Body → Type 0) (s : Server) : Type 0 where
+  pub fits : ServerFits sc facts place s
+  pub keeps : AreKept (IsTrusted sc facts place T) s
+
+ignores_trusts_in_server : (sc : Scenario) (facts : List Fact) (place : ℕ) (T : Body → Type 0) (s : Server) → ServerTrusted sc facts place T s → RowTrusts sc facts place T (ignores s)
+ignores_trusts_in_server sc facts place T s h = record { fits = h.fits; keeps = h.keeps; forces = tt; says = tt; timely = tt }
+
+-- ---- verdicts
+
+found_query : (sc : Scenario) (txn : TxnId) (declared : Transaction) (number : ℕ) (asked : Query) → slice_get sc.txns txn.0 ≡ Some declared → query_in sc txn number ≡ Some asked → query_at declared number ≡ Some asked
+found_query sc txn declared number asked e f = sym (ap (λ (found : Option Transaction). option_and_then (λ (d : Transaction). query_at d number) found) e) ∙ f
+
+-- the verdict names a query of the transaction with its server and its administrator
+own_query : (sc : Scenario) (txn : TxnId) (declared : Transaction) (number : ℕ) (at : ServerId) (admin : AdminId) → slice_get sc.txns txn.0 ≡ Some declared → (q : IsQueryAt sc txn number at admin)
+    → is_own_query sc declared number at admin ≡ true
+own_query sc txn declared number at admin e q =
+    ap (λ (found : Option Query). option_map_or (is_query_at sc at admin) found false) (found_query sc txn declared number q.asked e q.asked_is)
+    ∙ (ap (λ (found : Option Item). option_map_or (is_item_at at admin) found false) q.kept.declared_is
+    ∙ and_from (q.kept.declared.server.0 == at.0) (q.kept.declared.admin.0 == admin.0)
+    (ap (λ (s : ServerId). s.0 == at.0) q.kept.server_is ∙ number_itself at.0) (ap (λ (a : AdminId). a.0 == admin.0) q.admin_is ∙ number_itself admin.0))
+
+library_has : (library : List Policy) (version : ℕ) → 1 ≤ version → version ≤ length library → (policy : Policy) × (library_version library version ≡ Some policy)
+library_has library zero low high = absurd (omega (arith, low))
+library_has [] (suc before) low high = absurd (omega (arith, high))
+library_has (policy ∷ library) (suc zero) low high = (policy, refl)
+library_has (policy ∷ library) (suc (suc before)) low high = library_has library (suc before) (omega arith) (omega (arith, high))
+
+-- a version that exists has a policy
+pub policy_there : (sc : Scenario) (admin : AdminId) (version : Version) → IsVersion sc admin version → is_some (policy_at sc admin version) ≡ true
+policy_there sc admin version v =
+    let found = library_has v.declared.library version.0 v.in_library.0 v.in_library.1 in
+    ap is_some (ap (option_and_then (version_of version.0)) v.declared_is ∙ found.1)
+
+-- a server evaluates no version above the newest
+used_published : (sc : Scenario) (facts : List Fact) (place : ℕ) (s : Server) (want : List (AdminId × Version)) (admin : AdminId) → ServerFits sc facts place s → Each (IsPublished sc facts place) want → IsAdmin sc admin
+    → (version_used s want admin).0 ≤ newest sc admin place facts
+used_published sc facts place s want admin h w within = used_by (λ (a : AdminId) (version : Version). version.0 ≤ newest sc a place facts) s want admin w (h.known admin within)
+
+-- what a server's evaluation gives is right: a staple has the clock and the revocations of its place
+verdict_right : (sc : Scenario) (facts : List Fact) (place : ℕ) (s : Server) (txn : TxnId) (presenting : Transaction) (staple : Staple) (want : List (AdminId × Version)) (deed : Deed) → IsValid sc → IsSoundServer sc s
+    → AreWanted sc want → ServerFits sc facts place s → Each (IsPublished sc facts place) want → slice_get sc.txns txn.0 ≡ Some presenting → StapleFits sc facts place txn staple → IsSoundDeedAt sc s.server txn deed
+    → Right sc facts place txn (verdict_on sc s presenting staple want deed)
+verdict_right sc facts place s txn presenting staple want deed valid sound wanted h published there fits d declared e =
+    let verdict = verdict_on sc s presenting staple want deed in
+    let v : IsSoundVerdict sc txn verdict = verdict_sound sc s txn presenting staple want deed valid sound wanted there d in
+    let within : verdict.admin.0 < length sc.admins = slice_get_within sc.admins verdict.admin.0 v.version.declared v.version.declared_is in
+    let right : IsRightVerdict sc facts presenting verdict =
+    evaluate_right sc facts presenting staple s.server deed.query verdict.admin verdict.version (record { clock = fits.clock_is; revocations = fits.revoked_is }) in
+    subst (λ (t : Transaction). IsRight sc facts place txn t verdict) (same_Some presenting declared (sym there ∙ e))
+    (record {
+      own = own_query sc txn presenting verdict.query verdict.server verdict.admin there v.query;
+      fits = right.fits;
+      proved = right.proved;
+      begun = fits.begun;
+      past = fits.past;
+      published = used_published sc facts place s want verdict.admin h published within;
+    })
+
+-- ---- Query
+
+-- what a server knows
+knows_as : (sc : Scenario) (facts : List Fact) (place : ℕ) (s now : Server) → now.store.known ≡ s.store.known → ServerFits sc facts place s → ServerFits sc facts place now
+knows_as sc facts place s now same h =
+    record { known = λ admin within. subst (λ (known : List Version). (unwrap_or (slice_get known admin.0) (record { 0 = 1 })).0 ≤ newest sc admin place facts) (sym same) (h.known admin within) }
+
+-- an answer of the turn of its query
+done_answers : (q : QueryRequest) (done : DoneReply) → done.txn ≡ q.txn → done.turn ≡ q.turn → Answers (body.Query q) (body.Done done) (record { txn = done.txn; turn = done.turn })
+done_answers q done same turn =
+    record {
+      asked = record { txn = q.txn; turn = q.turn };
+      asked_is = refl;
+      reply_is = refl;
+      same_txn = sym same;
+      timely = λ sc c sent place t unsure. let was = (t unsure).past in record { past = omega (arith, was, turn); now = λ e. tt };
+    }
+
+-- an entry at which a query runs is kept
+run_kept : (sc : Scenario) (facts : List Fact) (place : ℕ) (T : Body → Type 0) (s : Server) (mail : Mail) (q : QueryRequest) (query : Query) (entry : Entry) (value : ℤ) → ServerTrusted sc facts place T s
+    → IsAsking sc s mail q query entry value → IsKept (IsTrusted sc facts place T) q.txn entry
+run_kept sc facts place T s mail q query entry value h k =
+    ⊎_elim
+    (λ (first : IsFirstHere s mail.sent q entry). subst (IsKept (IsTrusted sc facts place T) q.txn) (sym first.entry_is) (record { answers = tt; waiting = tt; ballot = tt }))
+    (λ (further : IsFurther s q entry). h.keeps q.txn.0 entry further.found) k.place
+
+runs_trusts : (sc : Scenario) (facts : List Fact) (place : ℕ) (T : Body → Type 0) (s : Server) (q : QueryRequest) (query : Query) (entry : Entry) (value : ℤ) → ServerTrusted sc facts place T s
+    → IsClosed T → T (body.Query q) → IsKept (IsTrusted sc facts place T) q.txn entry → RowTrusts sc facts place T (completes s q query entry (deed_of q.query query value))
+runs_trusts sc facts place T s q query entry value h closed t old =
+    let deed = deed_of q.query query value in
+    let answer = done_reply q entry.epoch deed in
+    let timely : T (body.Done answer) = closed (body.Query q) (body.Done answer) (record { txn = q.txn; turn = q.turn }) (done_answers q answer refl refl) t in
+    let effect = completes s q query entry deed in
+    record {
+      fits = knows_as sc facts place s effect.state (kept_known s.store q query value) h.fits;
+      keeps = placed_set (λ (n : ℕ) (found : Entry). IsKept (IsTrusted sc facts place T) (record { 0 = n }) found) s.entries q.txn.0 (entry_after q entry deed) h.keeps
+          (record {
+            answers = each_append (λ (d : DoneReply). IsTrusted sc facts place T (body.Done d)) entry.answers (answer ∷ []) old.answers (record { fits = λ sent. tt; timely = timely }, tt);
+            waiting = old.waiting;
+            ballot = old.ballot;
+          });
+      forces = tt;
+      says = (tt, tt);
+      timely = (timely, tt);
+    }
+
+-- the entry at which a query asks waits, or answers that an older transaction stands in the way
+entry_trusts : (sc : Scenario) (facts : List Fact) (place : ℕ) (T : Body → Type 0) (s : Server) (txn : TxnId) (entry : Entry) (letters : List Letter) → ServerTrusted sc facts place T s → IsKept (IsTrusted sc facts place T) txn entry
+    → Each (λ (letter : Letter). BodyFits sc facts place place letter.body) letters → Each (λ (letter : Letter). IfSome (stamp_of letter.body) (λ (stamped : Stamp). T letter.body)) letters
+    → RowTrusts sc facts place T (sends (with_entry s txn (Some entry)) letters)
+entry_trusts sc facts place T s txn entry letters h kept says timely =
+    record {
+      fits = record { known = h.fits.known };
+      keeps = placed_set (λ (n : ℕ) (found : Entry). IsKept (IsTrusted sc facts place T) (record { 0 = n }) found) s.entries txn.0 entry h.keeps kept;
+      forces = tt;
+      says = says;
+      timely = timely;
+    }
+
+-- what waited runs, after what was done before
+resumes_trusts : (sc : Scenario) (facts : List Fact) (place : ℕ) (T : Body → Type 0) (s : Server) (effect : Effect Server) (grant : Grant) (q : QueryRequest) (query : Query) (entry : Entry) (value : ℤ) → IsClosed T
+    → IsResumed sc s.server effect.state grant q query entry value → RowTrusts sc facts place T effect → RowTrusts sc facts place T (followed_by effect (resuming effect.state q query entry value))
+resumes_trusts sc facts place T s effect grant q query entry value closed k h =
+    let old : IsKept (IsTrusted sc facts place T) q.txn entry = h.keeps q.txn.0 entry k.found in
+    let asked : IsTrusted sc facts place T (body.Query q) = subst (λ (w : Option QueryRequest). IfSome w (λ (r : QueryRequest). IsTrusted sc facts place T (body.Query r))) k.waiting_is old.waiting in
+    let ran = runs_trusts sc facts place T effect.state q query (unwaiting entry) value (record { fits = h.fits; keeps = h.keeps }) closed asked.timely (record { answers = old.answers; waiting = tt; ballot = old.ballot }) in
+    record {
+      fits = ran.fits;
+      keeps = ran.keeps;
+      forces = h.forces;
+      says = each_append (λ (letter : Letter). BodyFits sc facts place place letter.body) effect.reaction.letters _ h.says ran.says;
+      timely = each_append (λ (letter : Letter). IfSome (stamp_of letter.body) (λ (stamped : Stamp). T letter.body)) effect.reaction.letters _ h.timely ran.timely;
+    }
+
+-- an answer that is given again fits as it did
+answers_trusts : (sc : Scenario) (facts : List Fact) (place : ℕ) (T : Body → Type 0) (s : Server) (q : QueryRequest) (given : DoneReply) → ServerTrusted sc facts place T s
+    → IsTrusted sc facts place T (body.Done given) → RowTrusts sc facts place T (answers s q.txn given)
+answers_trusts sc facts place T s q given h k = record { fits = h.fits; keeps = h.keeps; forces = tt; says = (k.fits place, tt); timely = (k.timely, tt) }
+
+restarted_trusted : (sc : Scenario) (facts : List Fact) (place : ℕ) (T : Body → Type 0) (s : Server) (q : QueryRequest) → IsClosed T → T (body.Query q)
+    → IsTrusted sc facts place T (body.Done (restarted_reply q s.epoch))
+restarted_trusted sc facts place T s q closed t =
+    let given = restarted_reply q s.epoch in
+    record { fits = λ sent. tt; timely = closed (body.Query q) (body.Done given) (record { txn = q.txn; turn = q.turn }) (done_answers q given refl refl) t }
+
+-- ---- Prepare
+
+rights_of : (sc : Scenario) (facts : List Fact) (place : ℕ) (s : Server) (txn : TxnId) (presenting : Transaction) (staple : Staple) (want : List (AdminId × Version)) (deeds : List Deed) → IsValid sc → IsSoundServer sc s
+    → AreWanted sc want → ServerFits sc facts place s → Each (IsPublished sc facts place) want → slice_get sc.txns txn.0 ≡ Some presenting → StapleFits sc facts place txn staple → Each (IsSoundDeedAt sc s.server txn) deeds
+    → Each (Right sc facts place txn) (verdicts_on sc s presenting staple want deeds)
+rights_of sc facts place s txn presenting staple want deeds valid sound wanted h published there fits d =
+    each_map (IsSoundDeedAt sc s.server txn) (Right sc facts place txn) (verdict_on sc s presenting staple want)
+    (λ deed k. verdict_right sc facts place s txn presenting staple want deed valid sound wanted h published there fits k) deeds d
+
+-- what is known once the wanted versions are learnt is none above the newest
+learnt_fits : (sc : Scenario) (facts : List Fact) (place : ℕ) (s : Server) (want : List (AdminId × Version)) → ServerFits sc facts place s → Each (IsPublished sc facts place) want → ServerFits sc facts place (with_wants s want)
+learnt_fits sc facts place s want h w =
+    record {
+      known = λ admin within.
+          learnt_most s.store want admin (newest sc admin place facts) (h.known admin within)
+          (each_as (IsPublished sc facts place) (λ (wanted : AdminId × Version). wanted.0.0 ≡ admin.0 → wanted.1.0 ≤ newest sc admin place facts)
+          (λ wanted below same. subst (λ (a : AdminId). wanted.1.0 ≤ newest sc a place facts) (ap admin_number same) below) want w);
+    }
+
+placed_there : (sc : Scenario) (s : Server) (txn : Transaction) (staple : Staple) (want : List (AdminId × Version)) (other : ℕ) (deeds : List Deed) → staple.place ≡ other
+    → Each (λ (verdict : Verdict). verdict.place ≡ other) (verdicts_on sc s txn staple want deeds)
+placed_there sc s txn staple want other [] e = tt
+placed_there sc s txn staple want other (deed ∷ deeds) e = (e, placed_there sc s txn staple want other deeds e)
+
+-- a verdict at a version that is wanted
+used_aimed : (s : Server) (want aim : List (AdminId × Version)) (verdict : Verdict) (wanted : Option ℕ) → wanted_of want verdict.admin ≡ wanted → is_some wanted ≡ true → verdict.version ≡ version_used s want verdict.admin
+    → Each (λ (one : AdminId × Version). is_within aim one ≡ true) want → is_aimed aim verdict ≡ true
+used_aimed s want aim verdict None e some used within = absurd (cc)
+used_aimed s want aim verdict (Some version) e some used within =
+    wanted_aimed aim want verdict version within e (ap (λ (v : Version). v.0) used ∙ ap (λ (w : Option ℕ). (version_or w (version_known s verdict.admin)).0) e)
+
+-- where all administrators are named all verdicts are at wanted versions
+verdicts_aimed : (sc : Scenario) (facts : List Fact) (place : ℕ) (s : Server) (txn : TxnId) (presenting : Transaction) (staple : Staple) (want aim : List (AdminId × Version)) (deeds : List Deed)
+    → slice_get sc.txns txn.0 ≡ Some presenting → Names (site_of sc s.server.0 presenting) want → Each (λ (one : AdminId × Version). is_within aim one ≡ true) want
+    → Each (Right sc facts place txn) (verdicts_on sc s presenting staple want deeds) → list_all (is_aimed aim) (verdicts_on sc s presenting staple want deeds) ≡ true
+verdicts_aimed sc facts place s txn presenting staple want aim [] there names within rights = refl
+verdicts_aimed sc facts place s txn presenting staple want aim (deed ∷ deeds) there names within rights =
+    let verdict = verdict_on sc s presenting staple want deed in
+    and_from (is_aimed aim verdict) (list_all (is_aimed aim) (verdicts_on sc s presenting staple want deeds))
+    (used_aimed s want aim verdict (wanted_of want verdict.admin) refl (names verdict.query verdict.admin (rights.0 presenting there).own) refl within)
+    (verdicts_aimed sc facts place s txn presenting staple want aim deeds there names within rights.1)
+
+-- what is wanted, if anything is, names all administrators of the transaction's queries at the server
+abbrev pub IsNamed : Scenario → ServerId → PrepareRequest → Type 0
+IsNamed sc at p = (declared : Transaction) → slice_get sc.txns p.txn.0 ≡ Some declared → (is_empty p.want ≡ true) ⊎ Names (site_of sc at.0 declared) p.want
+
+abbrev pub NamedMail : Scenario → ServerId → Body → Type 0
+NamedMail sc at (body.Prepare p) = IsNamed sc at p
+NamedMail sc at _ = Unit {0}
+
+-- so a mail to the server says
+pub named_mail : (sc : Scenario) (P : TxnId → ℕ → Pair) (from : Actor) (at : ServerId) (said : Body) → BodyPairs sc P from (actor.Server at) said → NamedMail sc at said
+named_mail sc P from at (body.Prepare p) h = λ declared e. (h declared e).names
+named_mail sc P from at _ h = tt
+
+-- a vote has the versions of a round whose request it answers
+aimed_vote : (sc : Scenario) (facts : List Fact) (place : ℕ) (s : Server) (p : PrepareRequest) (round : Round) (txn : Transaction) (staple : Staple) (deeds : List Deed) → slice_get sc.txns p.txn.0 ≡ Some txn
+    → Each (Right sc facts place p.txn) (verdicts_on sc s txn staple p.want deeds) → (is_empty p.want ≡ true) ⊎ Names (site_of sc s.server.0 txn) p.want → WantNow round p.want
+    → AimedVote round (vote.Yes (verdicts_on sc s txn staple p.want deeds))
+aimed_vote sc facts place s p round txn staple deeds there rights names (inl first) = inl first
+aimed_vote sc facts place s p round txn staple deeds there rights (inl none) (inr wants) = let some = wants.0 in absurd (cc)
+aimed_vote sc facts place s p round txn staple deeds there rights (inr names) (inr wants) = inr (verdicts_aimed sc facts place s p.txn txn staple p.want round.aim deeds there names wants.1 rights)
+
+vote_now : (sc : Scenario) (facts : List Fact) (place : ℕ) (s : Server) (awaited : Phase) (p : PrepareRequest) (txn : Transaction) (staple : Staple) (deeds : List Deed) → p.staple ≡ Some staple → slice_get sc.txns p.txn.0 ≡ Some txn
+    → Each (Right sc facts place p.txn) (verdicts_on sc s txn staple p.want deeds) → IsNamed sc s.server p → PrepareNow awaited p → VoteNow awaited (vote.Yes (verdicts_on sc s txn staple p.want deeds))
+vote_now sc facts place s (phase.Checking round st) p txn staple deeds e there rights names h =
+    (placed_there sc s txn staple p.want st.place deeds (ap (λ (x : Staple). x.place) (same_Some staple st (sym e ∙ h.0))), aimed_vote sc facts place s p round txn staple deeds there rights (names txn there) h.1)
+vote_now sc facts place s _ p txn staple deeds e there rights names h = tt
+
+-- a vote of the turn of its request, at the place of its staple
+vote_answers : (sc : Scenario) (facts : List Fact) (place : ℕ) (s : Server) (p : PrepareRequest) (txn : Transaction) (staple : Staple) (deeds : List Deed) → p.staple ≡ Some staple → slice_get sc.txns p.txn.0 ≡ Some txn
+    → Each (Right sc facts place p.txn) (verdicts_on sc s txn staple p.want deeds) → IsNamed sc s.server p
+    → Answers (body.Prepare p) (body.Vote (record { txn = p.txn; turn = p.turn; vote = vote.Yes (verdicts_on sc s txn staple p.want deeds) })) (record { txn = p.txn; turn = p.turn })
+vote_answers sc facts place s p txn staple deeds e there rights names =
+    record {
+      asked = record { txn = p.txn; turn = p.turn };
+      asked_is = refl;
+      reply_is = refl;
+      same_txn = refl;
+      timely = λ any c sent again t unsure. record { past = (t unsure).past; now = λ same. vote_now sc facts place s c.phase p txn staple deeds e there rights names ((t unsure).now same) };
+    }
+
+votes_trusts : (sc : Scenario) (facts : List Fact) (place : ℕ) (T : Body → Type 0) (s : Server) (p : PrepareRequest) (txn : Transaction) (staple : Staple) (entry : Entry) → IsValid sc → IsSoundServer sc s
+    → AreWanted sc p.want → ServerTrusted sc facts place T s → IsClosed T → T (body.Prepare p) → p.staple ≡ Some staple → slice_get sc.txns p.txn.0 ≡ Some txn → StapleFits sc facts place p.txn staple
+    → Each (IsPublished sc facts place) p.want → entry_at s p.txn ≡ Some entry → IsNamed sc s.server p → RowTrusts sc facts place T (votes_on sc (with_wants s p.want) p entry staple txn)
+votes_trusts sc facts place T s p txn staple entry valid sound wanted h closed t e there fits published found names =
+    let now = with_wants s p.want in
+    let after : ServerFits sc facts place now = learnt_fits sc facts place s p.want h.fits published in
+    let k : IsSoundEntry sc s.server p.txn entry = sound.entries p.txn.0 entry found in
+    let old : IsKept (IsTrusted sc facts place T) p.txn entry = h.keeps p.txn.0 entry found in
+    let verdicts = verdicts_on sc now txn staple p.want entry.deeds in
+    let fit : Each (Right sc facts place p.txn) verdicts =
+    rights_of sc facts place now p.txn txn staple p.want entry.deeds valid (learnt_sound sc s p.want sound wanted) wanted after published there fits k.deeds in
+    let said = body.Vote (record { txn = p.txn; turn = p.turn; vote = vote.Yes verdicts }) in
+    let timely : T said = closed (body.Prepare p) said (record { txn = p.txn; turn = p.turn }) (vote_answers sc facts place now p txn staple entry.deeds e there fit names) t in
+    let trusted : IsTrusted sc facts place T said = record { fits = λ sent. fit; timely = timely } in
+    record {
+      fits = record { known = after.known };
+      keeps = placed_set (λ (n : ℕ) (other : Entry). IsKept (IsTrusted sc facts place T) (record { 0 = n }) other) s.entries p.txn.0 _ h.keeps
+          (record { answers = old.answers; waiting = old.waiting; ballot = trusted });
+      forces = trusted;
+      says = (fit, tt);
+      timely = (timely, tt);
+    }
+
+-- a vote that is given again fits as it did
+votes_again_trusts : (sc : Scenario) (facts : List Fact) (place : ℕ) (T : Body → Type 0) (s : Server) (p : PrepareRequest) (entry : Entry) (cast : Ballot) → ServerTrusted sc facts place T s → entry_at s p.txn ≡ Some entry
+    → entry.ballot ≡ Some cast → RowTrusts sc facts place T (sends s (yes_letter s p.txn cast ∷ []))
+votes_again_trusts sc facts place T s p entry cast h found ballot_is =
+    let old : IsTrusted sc facts place T (vote_cast p.txn cast) =
+    subst (λ (ballot : Option Ballot). IfSome ballot (λ (b : Ballot). IsTrusted sc facts place T (vote_cast p.txn b))) ballot_is (h.keeps p.txn.0 entry found).ballot in
+    record { fits = h.fits; keeps = h.keeps; forces = tt; says = (old.fits place, tt); timely = (old.timely, tt) }
+
+-- ---- the end of a transaction
+
+-- a letter that says nothing of authorisation fits, and is timely if it answers a request
+record LetterTrusts (sc : Scenario) (facts : List Fact) (place : ℕ) (T : Body → Type 0) (letter : Letter) : Type 0 where
+  says : BodyFits sc facts place place letter.body
+  timely : IfSome (stamp_of letter.body) (λ (stamped : Stamp). T letter.body)
+
+no_now : (awaited : Phase) (why : No) → VoteNow awaited (vote.No why)
+no_now (phase.Checking round staple) why = (tt, tt)
+no_now phase.Idle why = tt
+no_now (phase.Querying number staple) why = tt
+no_now (phase.Asking round) why = tt
+no_now (phase.Ending ended awaited) why = tt
+
+-- a vote NO answers the request to prepare
+no_letter_trusts : (sc : Scenario) (facts : List Fact) (place : ℕ) (T : Body → Type 0) (s : Server) (p : PrepareRequest) (why : No) → IsClosed T → T (body.Prepare p) → LetterTrusts sc facts place T (no_letter s p why)
+no_letter_trusts sc facts place T s p why closed t =
+    record {
+      says = tt;
+      timely = closed (body.Prepare p) (no_letter s p why).body (record { txn = p.txn; turn = p.turn })
+          (record {
+            asked = record { txn = p.txn; turn = p.turn };
+            asked_is = refl;
+            reply_is = refl;
+            same_txn = refl;
+            timely = λ sc c sent place t unsure. record { past = (t unsure).past; now = λ e. no_now c.phase why };
+          }) t;
+    }
+
+ends_trusts : (sc : Scenario) (facts : List Fact) (place : ℕ) (T : Body → Type 0) (s : Server) (d : Settled) (letter : Letter) → ServerTrusted sc facts place T s → LetterTrusts sc facts place T letter → RowTrusts sc facts place T (closes s d letter)
+ends_trusts sc facts place T s d letter h l =
+    record {
+      fits = knows_as sc facts place s (closes s d letter).state (ended_known s.store d.txn d.outcome) h.fits;
+      keeps = placed_emptied (λ (n : ℕ) (entry : Entry). IsKept (IsTrusted sc facts place T) (record { 0 = n }) entry) s.entries d.txn.0 h.keeps;
+      forces = tt;
+      says = (l.says, tt);
+      timely = (l.timely, tt);
+    }
+
+-- ---- Push
+
+learns_trusts : (sc : Scenario) (facts : List Fact) (place : ℕ) (T : Body → Type 0) (s : Server) (push : PushNotice) → ServerTrusted sc facts place T s → IsPublished sc facts place (push.admin, push.version)
+    → RowTrusts sc facts place T (learns s push)
+learns_trusts sc facts place T s push h new =
+    record {
+      fits = record {
+        known = λ admin within.
+            known_most s.store push.admin admin push.version (newest sc admin place facts) (h.fits.known admin within)
+            (λ same. subst (λ (a : AdminId). push.version.0 ≤ newest sc a place facts) (ap admin_number same) new);
+      };
+      keeps = h.keeps;
+      forces = tt;
+      says = tt;
+      timely = tt;
+    }
+
+-- every row of a server on receipt of a mail
+pub server_row_trusts : (sc : Scenario) (facts : List Fact) (place : ℕ) (T : Body → Type 0) (s : Server) (mail : Mail) → IsValid sc → AreRightWaits sc s → IsSoundServer sc s → IsSoundBody sc (actor.Server s.server) mail.letter.body → ServerTrusted sc facts place T s
+    → BodyFits sc facts place mail.sent mail.letter.body → NamedMail sc s.server mail.letter.body → IsClosed T → T mail.letter.body → RowTrusts sc facts place T (server_row sc s mail)
+server_row_trusts sc facts place T s mail valid waits sound m h f named closed t =
+    server_by sc s mail (RowTrusts sc facts place T) waits
+    (record {
+      relocked = λ effect locks k. record { fits = record { known = k.fits.known }; keeps = k.keeps; forces = k.forces; says = k.says; timely = k.timely };
+      ignored = ignores_trusts_in_server sc facts place T s h;
+      ran = λ q query entry value k. runs_trusts sc facts place T s q query entry value h closed (subst T k.said_is t) (run_kept sc facts place T s mail q query entry value h k);
+      waited = λ q query entry value k.
+          let old = run_kept sc facts place T s mail q query entry value h k in
+          let asked : BodyFits sc facts place mail.sent (body.Query q) = subst (BodyFits sc facts place mail.sent) k.said_is f in
+          entry_trusts sc facts place T s q.txn (record entry { waiting = Some q }) [] h
+          (record { answers = old.answers; waiting = record { fits = λ sent. asked; timely = subst T k.said_is t }; ballot = old.ballot }) tt tt;
+      died = λ q query entry value other k dying.
+          let old = run_kept sc facts place T s mail q query entry value h k in
+          let answer = died_reply q entry.epoch other in
+          let timely : T (body.Done answer) = closed (body.Query q) (body.Done answer) (record { txn = q.txn; turn = q.turn }) (done_answers q answer refl refl) (subst T k.said_is t) in
+          entry_trusts sc facts place T s q.txn _ _ h
+          (record {
+            answers = each_more (λ (d : DoneReply). IsTrusted sc facts place T (body.Done d)) entry.answers answer old.answers (record { fits = λ sent. tt; timely = timely });
+            waiting = old.waiting;
+            ballot = old.ballot;
+          }) (tt, tt) (timely, tt);
+      restarted = λ q k. answers_trusts sc facts place T s q (restarted_reply q s.epoch) h (restarted_trusted sc facts place T s q closed (subst T k.said_is t));
+      answered = λ q entry given k.
+          answers_trusts sc facts place T s q given h
+          (each_found (λ (d : DoneReply). IsTrusted sc facts place T (body.Done d)) (λ (d : DoneReply). d.query == q.query) entry.answers given (h.keeps q.txn.0 entry k.found).answers k.given_is);
+      voted = λ p entry staple txn k.
+          let asked : BodyFits sc facts place mail.sent (body.Prepare p) = subst (BodyFits sc facts place mail.sent) k.said_is f in
+          votes_trusts sc facts place T s p txn staple entry valid sound (subst (IsSoundBody sc (actor.Server s.server)) k.said_is m).want h closed (subst T k.said_is t) k.stapled k.declared
+          (subst (λ (x : Option Staple). IfSome x (StapleFits sc facts place p.txn)) k.stapled asked.0) asked.1 k.found
+          (subst (NamedMail sc s.server) k.said_is named);
+      voted_again = λ p entry cast k. votes_again_trusts sc facts place T s p entry cast h k.found k.ballot_is;
+      refused = λ p entry number value k.
+          ends_trusts sc facts place T s (refused_as p _) (no_letter s p _) h (no_letter_trusts sc facts place T s p _ closed (subst T k.said_is t));
+      refused_again = λ p settled why k.
+          let l = no_letter_trusts sc facts place T s p why closed (subst T k.said_is t) in
+          record { fits = h.fits; keeps = h.keeps; forces = tt; says = (l.says, tt); timely = (l.timely, tt) };
+      settled = λ d k. ends_trusts sc facts place T s (settled_as d) (ack_letter s d.txn) h (record { says = tt; timely = tt });
+      acknowledged = λ d settled k. record { fits = h.fits; keeps = h.keeps; forces = tt; says = (tt, tt); timely = (tt, tt) };
+      pushed = λ push k. learns_trusts sc facts place T s push h (subst (BodyFits sc facts place mail.sent) k.said_is f);
+      resumed = λ effect grant q query entry value k now. resumes_trusts sc facts place T s effect grant q query entry value closed k now;
+    })

@@ -1,0 +1,3 @@
+-- Commits are trusted, and aborts have causes, in every world.
+pub mod End
+pub mod Steps

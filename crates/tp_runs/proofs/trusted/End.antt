@@ -1,0 +1,167 @@
+-- Trust of the facts: where the invariant holds, every commit is trusted and every abort has its cause.
+use Rattle.std.specs.Cmp.Lexicographic.{pointwise}
+use Rattle.std.specs.List.{list_all, range_with_len}
+use Rattle.std.specs.Option.{option_map_or}
+use Rattle.std.proofs.Common.{Bool, List, None, Option, Some, [], ap, arith, false, if◌then◌else◌, inl, inr, is_none, is_some, length, nat_le, not, refl, slice_get, subst, true, ℕ, ◌&&◌, ◌==◌, ◌||◌, ◌∙◌, ◌∷◌, ◌≡◌, ◌⊎◌}
+use Rattle.std.proofs.lemmas.Bool.{and_from, and_parts, le-leb, lt-ltb, or_right}
+use Rattle.tp_types.proofs.ListLemmas.{number_itself, three_from}
+use Rattle.tp_model.specs.Authorisation.{is_allowed, is_certified, is_own_query, is_true_verdict, policy_at, question_of}
+use Rattle.tp_model.specs.Built.{is_built}
+use Rattle.tp_model.specs.Causes.{denies_at_newest, is_caused, is_denied, is_denied_version, is_explained_at, is_refused, is_shown, keeps_causes, keeps_causes_what, lost_work}
+use Rattle.tp_model.specs.Demand.{is_deferred_demand, is_final_instance, is_over, is_round_count, meets_scheme, most_rounds}
+use Rattle.tp_model.specs.Facts.{before}
+use Rattle.tp_model.specs.Levels.{is_global, level_of, reads_master}
+use Rattle.tp_model.specs.Trust.{is_trusted, is_trusted_commit, is_trusted_instance, is_trusted_proof, is_within, keeps_trust, keeps_trust_what}
+use Rattle.tp_model.specs.Versions.{meets_readings, newest}
+use Rattle.tp_model.specs.Words.cause
+use Rattle.tp_model.specs.Words.decision
+use Rattle.tp_model.specs.Words.scheme
+use Rattle.tp_model.specs.Words.what
+use Rattle.tp_model.specs.Words.{AdminId, Cause, CommitRecord, Denied, Fact, OutOfRange, Scenario, Scheme, Transaction, TxnId, Verdict, What}
+use Rattle.tp_runs.proofs.basics.Facts.{all_from_each}
+use Rattle.tp_types.proofs.EachLemmas.{all_four, each_get, each_placed, missing}
+use Rattle.tp_runs.proofs.deaths.Fit.{FactDies, WhatDies}
+use Rattle.tp_runs.proofs.deaths.World.{Deaths}
+use Rattle.tp_runs.proofs.refusals.World.{FactRefused, IsRefused, Refusals, WhatRefused}
+use Rattle.tp_runs.proofs.trust.Built.{ArePlain, are_plain}
+use Rattle.tp_runs.proofs.trust.Coordinator.{CauseFits, CommitFits}
+use Rattle.tp_runs.proofs.trust.Fit.{IsRight, Right, has_rule}
+use Rattle.tp_runs.proofs.trust.Server.{policy_there}
+use Rattle.tp_runs.proofs.trust.World.{FactFits, Trusts, WhatFits}
+use Rattle.tp_machine.specs.Machine.{State}
+use Rattle.tp_types.specs.Each.{Each}
+use Rattle.tp_runs.specs.Sound.{IsSound, IsSoundCause, IsSoundFact, IsSoundWhat, IsVersion}
+use Rattle.tp_machine.specs.Named.{IsTxn}
+use Rattle.tp_coord.specs.Row as row
+
+-- ---- a proof
+
+-- a right verdict with a rule is a trusted proof
+trusted_proof : (sc : Scenario) (txn : TxnId) (declared : Transaction) (place : ℕ) (facts : List Fact) (proof : Verdict) → IsRight sc facts place txn declared proof → is_some proof.rule ≡ true
+    → is_trusted_proof sc txn declared place facts proof ≡ true
+trusted_proof sc txn declared place facts proof h has_rule =
+    three_from (is_true_verdict sc facts declared proof) (is_within txn place facts proof.place) (nat_le proof.version.0 (newest sc proof.admin place facts))
+    (three_from (is_own_query sc declared proof.query proof.server proof.admin) (is_allowed sc facts declared (question_of proof)) (is_certified sc facts declared proof)
+    h.own (h.fits ∙ has_rule) (h.proved has_rule))
+    (and_from _ _ h.begun (lt-ltb proof.place place h.past))
+    (le-leb proof.version.0 (newest sc proof.admin place facts) h.published)
+
+trusted_proofs : (sc : Scenario) (txn : TxnId) (declared : Transaction) (place : ℕ) (facts : List Fact) (proofs : List Verdict) → slice_get sc.txns txn.0 ≡ Some declared
+    → Each (Right sc facts place txn) proofs → list_all has_rule proofs ≡ true → list_all (is_trusted_proof sc txn declared place facts) proofs ≡ true
+trusted_proofs sc txn declared place facts [] e h t = refl
+trusted_proofs sc txn declared place facts (proof ∷ proofs) e h t =
+    let parts = and_parts (has_rule proof) (list_all has_rule proofs) t in
+    and_from _ _ (trusted_proof sc txn declared place facts proof (h.0 declared e) parts.0) (trusted_proofs sc txn declared place facts proofs e h.1 parts.1)
+
+-- ---- an instance
+
+same_numbers : (numbers : List ℕ) → pointwise ◌==◌ numbers numbers ≡ true
+same_numbers [] = refl
+same_numbers (n ∷ numbers) = and_from (n == n) (pointwise ◌==◌ numbers numbers) (number_itself n) (same_numbers numbers)
+
+-- the proofs of a commit close the instance of a deferred transaction that reads no master
+closes_instance : (sc : Scenario) (txn : TxnId) (declared : Transaction) (place : ℕ) (facts : List Fact) (committed : CommitRecord) → reads_master sc declared ≡ false → slice_get sc.txns txn.0 ≡ Some declared
+    → (h : CommitFits sc facts place txn committed)
+    → (is_final_instance sc facts declared (record { reading = None; proofs = h.proofs }) ≡ true) × (is_trusted_instance sc txn declared place facts (record { reading = None; proofs = h.proofs }) ≡ true)
+closes_instance sc txn declared place facts committed view e h =
+    let over : is_over (length declared.queries) h.proofs ≡ true = ap (λ (numbers : List ℕ). pointwise ◌==◌ numbers (range_with_len 1 (length declared.queries))) (h.all declared e) ∙ same_numbers (range_with_len 1 (length declared.queries)) in
+    let reading : (if reads_master sc declared then meets_readings sc declared None facts h.proofs else true) ≡ true = ap (λ (b : Bool). if b then meets_readings sc declared None facts h.proofs else true) view in
+    (and_from _ _ over (and_from _ _ h.one_version reading), and_from _ true (trusted_proofs sc txn declared place facts h.proofs e h.right h.have_rules) refl)
+
+-- ---- a commit
+
+round_count : (sc : Scenario) (declared : Transaction) (rounds : ℕ) → reads_master sc declared ≡ false → (rounds ≡ 1) ⊎ (rounds ≡ 2) → is_round_count sc declared rounds ≡ true
+round_count sc declared rounds view (inl one) =
+    ap (λ (n : ℕ). nat_le 1 n && nat_le n (most_rounds sc declared)) one ∙ ap (λ (b : Bool). nat_le 1 1 && nat_le 1 (if b then declared.rounds else 2)) view
+round_count sc declared rounds view (inr two) =
+    ap (λ (n : ℕ). nat_le 1 n && nat_le n (most_rounds sc declared)) two ∙ ap (λ (b : Bool). nat_le 1 2 && nat_le 2 (if b then declared.rounds else 2)) view
+
+trusted_commit : (sc : Scenario) (txn : TxnId) (place : ℕ) (facts : List Fact) (committed : CommitRecord) (declared : Transaction) → ArePlain sc → slice_get sc.txns txn.0 ≡ Some declared
+    → CommitFits sc facts place txn committed → is_trusted_commit sc txn place facts committed declared ≡ true
+trusted_commit sc txn place facts committed declared form e h =
+    let deferred : declared.scheme ≡ scheme.Deferred = each_get (λ (t : Transaction). t.scheme ≡ scheme.Deferred) sc.txns txn.0 declared form.deferred e in
+    let view : reads_master sc declared ≡ false = each_get (λ (t : Transaction). reads_master sc t ≡ false) sc.txns txn.0 declared form.view e in
+    let closed = closes_instance sc txn declared place facts committed view e h in
+    and_from _ _
+    (ap (λ (s : Scheme). meets_scheme s sc facts declared committed) deferred
+    ∙ and_from _ _ (ap (is_deferred_demand sc facts declared) h.instances ∙ closed.0) (round_count sc declared committed.rounds view h.rounds))
+    (ap (list_all (is_trusted_instance sc txn declared place facts)) h.instances ∙ and_from _ true closed.1 refl)
+
+exists_txn : (sc : Scenario) (txn : TxnId) (found : Option Transaction) → slice_get sc.txns txn.0 ≡ found → IsTxn sc txn → (declared : Transaction) × (slice_get sc.txns txn.0 ≡ Some declared)
+exists_txn sc txn None e within = absurd (missing sc.txns txn.0 within e)
+exists_txn sc txn (Some declared) e within = (declared, e)
+
+-- ---- every fact
+
+what_trusted : (sc : Scenario) (facts : List Fact) (place : ℕ) (w : What) → ArePlain sc → IsSoundWhat sc w → WhatFits sc facts place w → keeps_trust_what sc facts place w ≡ true
+what_trusted sc facts place (what.Decided txn (decision.Commit committed)) form sound h =
+    let found = exists_txn sc txn (slice_get sc.txns txn.0) refl sound.0 in
+    ap (λ (d : Option Transaction). option_map_or (is_trusted_commit sc txn place facts committed) d false) found.1 ∙ trusted_commit sc txn place facts committed found.0 form found.1 h
+what_trusted sc facts place (what.Decided txn (decision.Abort why)) form sound h = refl
+what_trusted sc facts place _ form sound h = refl
+
+-- ---- an abort
+
+unbound : (global newest fresh : Bool) → global ≡ false → (not (global && newest) || fresh) ≡ true
+unbound global newest fresh e = grind arith
+
+no_rule : (rule : Option ℕ) → is_none rule ≡ true → is_some rule ≡ false
+no_rule None e = refl
+no_rule (Some rule) e = absurd (cc)
+
+-- a right verdict without a rule, of a version that exists, shows a denial
+denial_shown : (sc : Scenario) (txn : TxnId) (declared : Transaction) (place : ℕ) (facts : List Fact) (verdict : Verdict) → is_global (level_of declared verdict.admin) ≡ false
+    → IsVersion sc verdict.admin verdict.version → IsRight sc facts place txn declared verdict → is_none verdict.rule ≡ true
+    → is_denied sc txn place facts (row.denied_by verdict) declared ≡ true
+denial_shown sc txn declared place facts verdict view version h ruleless =
+    all_four (is_own_query sc declared verdict.query verdict.server verdict.admin) (is_within txn place facts verdict.place) (is_denied_version sc place facts declared (row.denied_by verdict))
+    (is_allowed sc facts declared (question_of verdict))
+    h.own
+    (and_from _ _ h.begun (lt-ltb verdict.place place h.past))
+    (three_from (is_some (policy_at sc verdict.admin verdict.version)) (nat_le verdict.version.0 (newest sc verdict.admin place facts)) _
+    (policy_there sc verdict.admin verdict.version version) (le-leb verdict.version.0 (newest sc verdict.admin place facts) h.published)
+    (unbound (is_global (level_of declared verdict.admin)) (denies_at_newest declared.scheme) (nat_le (newest sc verdict.admin verdict.place facts) verdict.version.0) view))
+    (h.fits ∙ no_rule verdict.rule ruleless)
+
+-- a refusal that facts show
+is_refused_shown : (sc : Scenario) (txn : TxnId) (place : ℕ) (facts : List Fact) (refused : OutOfRange) (declared : Transaction) → IsRefused sc facts (before place facts) place txn refused declared → is_refused sc txn place facts refused declared ≡ true
+is_refused_shown sc txn place facts refused declared h =
+    and_from _ _ (and_from _ _ h.write h.aborted)
+    (ap (λ (first : Option ℕ). option_map_or (is_explained_at sc txn facts refused declared) first false) h.first_is ∙ or_right (lost_work sc txn facts declared h.first) _ h.run)
+
+cause_shown : (sc : Scenario) (facts : List Fact) (place : ℕ) (txn : TxnId) (why : Cause) (declared : Transaction) → ArePlain sc → slice_get sc.txns txn.0 ≡ Some declared → IsSoundCause sc txn why
+    → WhatRefused sc facts place (what.Decided txn (decision.Abort why)) → WhatDies sc facts place (what.Decided txn (decision.Abort why)) → CauseFits sc facts place txn why → is_shown sc txn place facts why declared ≡ true
+cause_shown sc facts place txn (cause.Denied denied) declared form e sound r d h =
+    let version : IsVersion sc h.verdict.admin h.verdict.version = subst (λ (d : Denied). IsVersion sc d.admin d.version) h.denied_is sound.version in
+    let view = each_get (λ (t : Transaction). (admin : AdminId) → is_global (level_of t admin) ≡ false) sc.txns txn.0 declared form.levels e in
+    ap (λ (d : Denied). is_denied sc txn place facts d declared) h.denied_is
+    ∙ denial_shown sc txn declared place facts h.verdict (view h.verdict.admin) version (h.right declared e) h.ruleless
+cause_shown sc facts place txn (cause.No refused) declared form e sound r d h = is_refused_shown sc txn place facts refused declared (r declared e)
+cause_shown sc facts place txn (cause.Died died) declared form e sound r d h = d declared e
+cause_shown sc facts place txn (cause.Newer newer) declared form e sound r d h = absurd h
+cause_shown sc facts place txn (cause.Rounds mets) declared form e sound r d h = absurd h
+cause_shown sc facts place txn (cause.Restarted at) declared form e sound r d h = absurd h
+cause_shown sc facts place txn cause.Halted declared form e sound r d h = absurd h
+
+what_caused : (sc : Scenario) (facts : List Fact) (place : ℕ) (w : What) → ArePlain sc → IsSoundWhat sc w → WhatRefused sc facts place w → WhatDies sc facts place w → WhatFits sc facts place w → keeps_causes_what sc facts place w ≡ true
+what_caused sc facts place (what.Decided txn (decision.Commit committed)) form sound r d h = refl
+what_caused sc facts place (what.Decided txn (decision.Abort why)) form sound r d h =
+    let found = exists_txn sc txn (slice_get sc.txns txn.0) refl sound.0 in
+    ap (λ (d : Option Transaction). option_map_or (is_shown sc txn place facts why) d false) found.1 ∙ cause_shown sc facts place txn why found.0 form found.1 sound.1 r d h
+what_caused sc facts place _ form sound r d h = refl
+
+-- the commits of a world are trusted
+pub facts_trusted : (sc : Scenario) (w : State) → is_built sc ≡ true → IsSound sc w → Trusts sc w → is_trusted sc w.facts ≡ true
+facts_trusted sc w built sound h =
+    let form : ArePlain sc = are_plain sc built in
+    all_from_each (λ (fact : Fact). keeps_trust sc w.facts fact ≡ true) (keeps_trust sc w.facts) (λ fact k. k) w.facts
+    (each_placed (λ (fact : Fact). keeps_trust sc w.facts fact ≡ true) w.facts
+    (λ n fact e. what_trusted sc w.facts fact.place fact.what form (each_get (IsSoundFact sc) w.facts n fact sound.facts_are e) (each_get (FactFits sc w.facts) w.facts n fact h.facts_fit e)))
+
+-- and its aborts have causes
+pub facts_caused : (sc : Scenario) (w : State) → is_built sc ≡ true → IsSound sc w → Refusals sc w → Deaths sc w → Trusts sc w → is_caused sc w.facts ≡ true
+facts_caused sc w built sound r d h =
+    let form : ArePlain sc = are_plain sc built in
+    all_from_each (λ (fact : Fact). keeps_causes sc w.facts fact ≡ true) (keeps_causes sc w.facts) (λ fact k. k) w.facts
+    (each_placed (λ (fact : Fact). keeps_causes sc w.facts fact ≡ true) w.facts
+    (λ n fact e. what_caused sc w.facts fact.place fact.what form (each_get (IsSoundFact sc) w.facts n fact sound.facts_are e) (each_get (FactRefused sc w.facts) w.facts n fact r.facts e) (each_get (FactDies sc w.facts) w.facts n fact d.facts e) (each_get (FactFits sc w.facts) w.facts n fact h.facts_fit e)))

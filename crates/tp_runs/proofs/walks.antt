@@ -1,0 +1,2 @@
+-- What all theorems walk: each step once.
+pub mod Steps

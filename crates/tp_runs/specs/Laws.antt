@@ -1,0 +1,41 @@
+-- What holds of every run of the machine.
+use Rattle.std.specs.Prelude.{◌≡◌, ◌*◌, ◌≤◌, List, length, true}
+use Rattle.tp_model.specs.Words.{Scenario, Step}
+use Rattle.tp_model.specs.Built.{is_built}
+use Rattle.tp_model.specs.SerialRun.{store_of}
+use Rattle.tp_model.specs.TrustedHistory.{TrustedSoFar, have_ended}
+use Rattle.tp_machine.specs.Machine.{State, after, ending_of}
+use Rattle.tp_machine.specs.WorldView.{WorldView}
+use Rattle.tp_types.specs.Each.{Each}
+use Rattle.tp_machine.specs.Named.{IsStepOf}
+
+-- the history of a state is trusted at this moment
+abbrev pub IsTrustedState : Scenario → State → Type 0
+IsTrustedState sc w = TrustedSoFar sc w.steps w.facts (ending_of sc w).values
+
+-- what a world shows at any moment is a trusted history
+abbrev pub IsTrustedSoFar : WorldView → Type 0
+IsTrustedSoFar world = IsTrustedState world.scenario world.machine.state
+
+-- where all transactions have ended at all their servers, the values are those that all commits leave
+abbrev pub HasAllCommits : Scenario → State → Type 0
+HasAllCommits sc w =
+    have_ended sc w.facts 0 sc.txns ≡ true → (ending_of sc w).values ≡ store_of sc w.facts
+
+-- of every scenario that is run, after every list of steps that name what exists, the history is trusted so far
+abbrev pub IsAlwaysTrusted : Type 0
+IsAlwaysTrusted =
+    (sc : Scenario) (steps : List Step) → is_built sc ≡ true → Each (IsStepOf sc) steps
+    → IsTrustedState sc (after sc steps).state
+
+-- and where all transactions have ended, nothing that was committed is missing
+abbrev pub HasAlwaysAllCommits : Type 0
+HasAlwaysAllCommits =
+    (sc : Scenario) (steps : List Step) → is_built sc ≡ true → Each (IsStepOf sc) steps
+    → HasAllCommits sc (after sc steps).state
+
+-- of every scenario that is run a list of steps that name what exists sends few mails: at most 16 times as many as it has steps
+abbrev pub SendsFewMails : Type 0
+SendsFewMails =
+    (sc : Scenario) (steps : List Step) → is_built sc ≡ true → Each (IsStepOf sc) steps
+    → length (after sc steps).state.mails ≤ 16 * length steps

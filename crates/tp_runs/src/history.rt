@@ -1,0 +1,62 @@
+//! What a world has seen so far, with what holds of it at every moment.
+ghost use Rattle.std.specs.Prelude.{◌≡◌, ◌≤◌, ◌*◌, length, true, false, IfOk, IsErr};
+ghost use Rattle.tp_model.specs.SerialRun.{overlay, store_of};
+ghost use Rattle.tp_model.specs.TrustedHistory.{have_ended};
+ghost use Rattle.tp_machine.specs.Machine.{ending_of};
+ghost use Rattle.tp_runs.specs.Bounded.{AreBounded};
+ghost use Rattle.tp_runs.specs.Laws.{IsTrustedSoFar};
+ghost use Rattle.tp_runs.specs.Sound.{IsSound};
+
+use std::alloc::Global;
+use tp_machine::World;
+use tp_types::{Ending, Fact, List, NoMemory};
+
+/// What happened so far, in order. It is a trusted history at every moment; all that mails, records and facts name exists; and all
+/// values are far from the ends of their numbers.
+pub fn facts(world: &World) -> &List<Fact>
+    ensures value { result.now ≡ world.now.machine.state.facts }
+    ensures so_far { world.now.given_up ≡ false → IsTrustedSoFar world.now }
+    ensures sound { world.now.given_up ≡ false
+        → IsSound world.now.scenario world.now.machine.state }
+    ensures bounded { world.now.given_up ≡ false
+        → AreBounded world.now.scenario world.now.machine.state }
+{
+    world.facts()
+}
+
+/// The number of mails sent so far: at most 16 times as many as there were steps.
+pub fn mails(world: &World) -> u64
+    ensures value { result ≡ length world.now.machine.state.mails }
+    ensures few { world.now.given_up ≡ false
+        → result ≤ 16 * length world.now.machine.state.steps }
+{
+    let _facts = world.facts();
+    world.mails()
+}
+
+/// How many mails are undelivered. It takes a time in the number of all mails.
+pub fn undelivered_count(world: &World) -> u64
+    ensures value { result ≡ length world.now.machine.undelivered }
+    ensures few { world.now.given_up ≡ false
+        → result ≤ 16 * length world.now.machine.state.steps }
+{
+    let _facts = world.facts();
+    world.undelivered_count()
+}
+
+/// How many steps and mails there were, and the value of each item: its opening value, overlaid by the commits that its
+/// server has settled. Where every transaction has ended at all its servers these are the values that all commits leave.
+pub fn ending(world: &World, alloc: Global) -> Result<Ending, NoMemory>
+    ensures value { IfOk result (λ ending.
+        ending ≡ ending_of world.now.scenario world.now.machine.state) }
+    ensures overlaid { IfOk result (λ ending.
+        ending.values ≡ overlay world.now.scenario world.now.machine.state.facts) }
+    ensures whole { IfOk result (λ ending.
+        have_ended world.now.scenario world.now.machine.state.facts 0 world.now.scenario.txns
+        ≡ true
+        → ending.values ≡ store_of world.now.scenario world.now.machine.state.facts) }
+    ensures given_up { world.now.given_up ≡ true → IsErr result }
+{
+    let _facts = world.facts();
+    world.ending(alloc)
+}

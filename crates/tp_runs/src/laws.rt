@@ -1,0 +1,18 @@
+//! What holds of every run of the machine.
+ghost use Rattle.tp_runs.specs.Laws.{HasAlwaysAllCommits, IsAlwaysTrusted, SendsFewMails};
+
+/// Of every scenario that is run, after every list of steps that name what exists, in any order and with any mail delivered again, the
+/// history is trusted so far: its facts agree, its commits are trusted, serial and apart, its aborts have causes, what comes from
+/// outside is what the steps say, and the values are those that the servers have settled. Where all transactions have ended at all
+/// their servers, the values are those that all commits leave.
+pub fn histories_are_trusted()
+    ensures trusted { IsAlwaysTrusted }
+    ensures whole { HasAlwaysAllCommits }
+{}
+
+/// Of every scenario that is run, a list of steps that name what exists sends at most 16 times as many mails as it has steps: a step sends
+/// one, or one to each of the servers of a transaction, or none; and where it ends a transaction, one more for each query that waited for it,
+/// whose own step sent none.
+pub fn mails_are_few()
+    ensures { SendsFewMails }
+{}

@@ -1,0 +1,40 @@
+//! What holds of every run of the machine, after every list of steps: the history is trusted, values are bounded, and mails are few.
+//!
+//! What is promised, with the contract that carries it:
+//!
+//! - In a world that is not given up what each actor's state, each mail, record and fact names is what the
+//!   scenario has: transactions, queries, servers, items, administrators and credentials (`Sound.IsSound`)
+//!   (`history::facts`: `sound`)
+//! - In a world that is not given up each value of query number i, in an actor's state, a mail, a record or a
+//!   fact, is within 10^15 * 5^i, and each item's value is in its range, within 10^15; so the sums over what a
+//!   coordinator has read are exact, and no step of them stops at an end of an i128 (`Bounded.AreBounded`)
+//!   (`history::facts`: `bounded`)
+//! - The facts of every world agree (`agree::agreed`: `agreement`)
+//! - Every commit of every world is trusted, and every decided abort has its cause (`views::trusted`: `trust`,
+//!   `causes`)
+//! - Every commit of every world is serial, and the only one of its place (`data::serial`: `data`, `lone`)
+//! - The history that a world shows is trusted at every moment: all of the above, and what comes from outside
+//!   is what its steps say (`TrustedSoFar`) (`history::facts`: `so_far`)
+//! - Each item's value at any moment is its opening value, overlaid by the commits that its server has settled;
+//!   where every transaction has ended at all its servers these are the values that all commits leave
+//!   (`history::ending`: `overlaid`, `whole`)
+//! - The law behind these: of every scenario that is run, after every list of steps that name what exists, the
+//!   history is trusted so far; and where all transactions have ended the values are those of all commits
+//!   (`laws::histories_are_trusted`: `trusted`, `whole`)
+//! - In a world that is not given up at most 16 times as many mails were sent as steps were done, though a
+//!   single step may send more; so no more are undelivered (`history::mails`: `few`;
+//!   `history::undelivered_count`: `few`)
+//! - The law behind it: of every scenario that is run, no list of steps that name what exists sends more than
+//!   16 times as many mails as it has steps (`laws::mails_are_few`)
+//!
+//! These hold after every list of steps, in any order, with deliveries of any mail ever sent; agreement, trust
+//! with causes, and serial data also of a world that was given up. They lean on the condition of
+//! `World::start`, that the scenario has the built form, and on nothing else. `World::facts` is the one door:
+//! each call takes from it that the world is what its steps give.
+#![tactic(auto)]
+
+pub mod agree;
+pub mod data;
+pub mod history;
+pub mod laws;
+pub mod views;
