@@ -6,6 +6,8 @@
 #[cfg(test)]
 mod copies;
 #[cfg(test)]
+mod counted;
+#[cfg(test)]
 mod evaluation;
 #[cfg(test)]
 mod io;
