@@ -3,8 +3,8 @@ use crate::made::assert_case;
 use std::io::{self, ErrorKind, Read, Write};
 use std::process::Abort;
 use tp_io::{
-    Failed, MemorySink, MemorySource, ReadError, ReadSource, Source, SteadySource, WriteSink,
-    read_to_end, write_all,
+    Failed, MemorySink, MemorySource, ReadError, ReadSource, Source, SteadySink, SteadySource,
+    WriteSink, read_to_end, write_all,
 };
 use tp_types::List;
 
@@ -139,4 +139,11 @@ fn goes_on_behind_a_stumble(rt: &impl AllocGlobal, takes_nothing: bool) -> bool 
 #[test]
 fn a_writer_that_fails_in_mid_stream(rt: HostRuntime) {
     assert!(rt; goes_on_behind_a_stumble(&rt, false) && goes_on_behind_a_stumble(&rt, true));
+}
+
+#[test]
+fn a_steady_sink_takes_all(rt: HostRuntime) {
+    let mut sink = SteadySink::new();
+    let is_whole = write_all(&mut sink, TEXT).is_ok();
+    assert!(rt; is_whole);
 }
