@@ -1,13 +1,21 @@
 -- The headline, which names no machine: what was printed is the report of a trusted history of what was read.
-use Rattle.std.specs.Prelude.{List, Option, ℕ, ◌++◌}
+use Rattle.std.specs.Prelude.{Bool, List, Option, false, true, ℕ, ◌++◌, ◌≡◌}
 use Rattle.std.specs.Io.KnownBytes.{Appends}
+use Rattle.std.specs.List.{list_all}
 use Rattle.tp_model.specs.TrustedHistory.{TrustedHistory}
+use Rattle.tp_model.specs.Words.step
 use Rattle.tp_model.specs.Words.{Ending, Fact, Scenario, Step}
 use Rattle.tp_top.specs.Input.{Reads, TakesAll}
 use Rattle.tp_top.specs.ReportText.{report_text}
 
--- the input was read whole as a scenario, and exactly the report of a trusted history of it was written, whose steps begin with
--- the listed ones
+-- a step that comes by itself, as nothing from outside does: a submission of a transaction, or the delivery of a mail
+abbrev pub comes_by_itself : Step → Bool
+comes_by_itself (step.Submit txn) = true
+comes_by_itself (step.Deliver mail) = true
+comes_by_itself _ = false
+
+-- the input was read whole as a scenario, and exactly the report of a trusted history of it was written, whose steps are the listed ones and then such
+-- as come by themselves
 pub record PrintsTrusted (input input' out out' : Option (List ℕ)) : Type 0 where
   pub bytes : List ℕ
   pub scenario : Scenario
@@ -16,5 +24,6 @@ pub record PrintsTrusted (input input' out out' : Option (List ℕ)) : Type 0 wh
   pub ending : Ending
   pub taken : TakesAll input input' bytes
   pub read : Reads bytes scenario
+  pub by_themselves : list_all comes_by_itself later ≡ true
   pub trusted : TrustedHistory scenario (scenario.steps ++ later) facts ending
   pub written : Appends out out' (report_text scenario facts ending)

@@ -2,8 +2,9 @@
 //!
 //! What is promised, with the contract that carries it:
 //!
-//! - The headline, which names no machine: at Done the input was read whole as a scenario, and exactly the
-//!   report of a trusted history of it, whose steps begin with the listed ones, was written (`tpvc`: `printed`)
+//! - The headline, which names no machine: at Done the input was read whole as a scenario, and exactly the report
+//!   of a trusted history of it was written, whose steps are the listed ones and then such as come by themselves
+//!   (`tpvc`: `printed`)
 //! - The report's text is exactly the defined one, for any scenario, facts and ending (`report::print`)
 //! - Each status has its number (`Status::number`)
 //! - The next step is the defined one, or None exactly where the world is quiet; it is one that `World::step`
