@@ -16,6 +16,7 @@ use Rattle.tp_model.specs.Words.what
 use Rattle.tp_model.specs.Words.{Answer, Body, Cause, Decision, Deed, DoneReply, Fact, ItemId, Mail, No, Prepared, QueryRequest, Record, Scenario, Settled, Term, Transaction, TxnId, Vote, What}
 use Rattle.tp_machine.specs.Machine.{State}
 use Rattle.tp_machine.specs.Parts.{Part}
+use Rattle.tp_recover.specs.Log.{values_in}
 use Rattle.tp_types.specs.Each.{Each, EachAt, EachPlaced}
 use Rattle.tp_coord.specs.Sums.{clamped_sum, registers_after}
 use Rattle.tp_coord.specs.State.{Coordinator}
@@ -128,10 +129,11 @@ pub record IsBoundedServer (sc : Scenario) (s : Server) : Type 0 where
   pub settled : EachPlaced (λ (n : ℕ) (done : Settled). IsBoundedSettled done) s.settled
   pub entries : EachPlaced (λ (n : ℕ) (entry : Entry). IsBoundedEntry entry) s.entries
 
--- a server that is up, and its log
+-- a server, if it is up, and its log, which leaves each item a value in its range
 pub record IsBoundedServerPart (sc : Scenario) (part : Part Server) : Type 0 where
   pub state : IfSome part.up (IsBoundedServer sc)
   pub records : Each IsBoundedRecord part.log
+  pub in_range : are_in_range sc.items (values_in sc part.log) ≡ true
 
 -- the sums that a transaction's queries ask for after these deeds are exact: no step of them is cut at an end of an i128
 abbrev pub AreExact : Transaction → List Deed → Type 0

@@ -6,9 +6,9 @@
 //!   scenario has: transactions, queries, servers, items, administrators and credentials (`Sound.IsSound`)
 //!   (`history::facts`: `sound`)
 //! - In a world that is not given up each value of query number i, in an actor's state, a mail, a record or a
-//!   fact, is within 10^15 * 5^i, and each item's value is in its range, within 10^15; so the sums over what a
-//!   coordinator has read are exact, and no step of them stops at an end of an i128 (`Bounded.AreBounded`)
-//!   (`history::facts`: `bounded`)
+//!   fact, is within 10^15 * 5^i, and each item's value, at a server and by its log, is in its range, within
+//!   10^15; so the sums over what a coordinator has read are exact, and no step of them stops at an end of an
+//!   i128 (`Bounded.AreBounded`) (`history::facts`: `bounded`)
 //! - The facts of every world agree (`agree::agreed`: `agreement`)
 //! - Every commit of every world is trusted, and every decided abort has its cause (`views::trusted`: `trust`,
 //!   `causes`)
@@ -28,9 +28,10 @@
 //!   16 times as many mails as it has steps (`laws::mails_are_few`)
 //!
 //! These hold after every list of steps, in any order, with deliveries of any mail ever sent; agreement, trust
-//! with causes, and serial data also of a world that was given up. They lean on the condition of
-//! `World::start`, that the scenario has the built form, and on nothing else. `World::facts` is the one door:
-//! each call takes from it that the world is what its steps give.
+//! with causes, and serial data also of a world that was given up. The calls lean on the condition of
+//! `World::start`, that the scenario has the built form, and on that of `World::step`; the laws ask both of
+//! their scenario and their steps. `World::facts` is the one door: each call takes from it that the world is
+//! what its steps give.
 #![tactic(auto)]
 
 pub mod agree;

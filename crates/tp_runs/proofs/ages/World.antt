@@ -12,7 +12,7 @@ use Rattle.tp_runs.proofs.basics.Facts.{each_new_mail}
 use Rattle.tp_types.proofs.EachLemmas.{at_made, at_set, each_append, each_as, each_get, placed_none}
 use Rattle.tp_runs.proofs.basics.Logs.{prepared_grown}
 use Rattle.tp_runs.proofs.walks.Steps.{Cases, IsCoordinatorUp, WaitRightly, machine_after_by}
-use Rattle.tp_machine.specs.Logs.{prepared_in}
+use Rattle.tp_recover.specs.Log.{prepared_in}
 use Rattle.tp_machine.specs.Machine.{Machine, Move, State, acts, acts_by, coordinator_fact, coordinator_move, log_with, machine_after, mails_of, opened_part, opening_state, refusal, server_fact, server_move, state_after, with_age}
 use Rattle.tp_machine.specs.Parts.{Part}
 use Rattle.tp_types.specs.Each.{Each, EachAt, EachPlaced}

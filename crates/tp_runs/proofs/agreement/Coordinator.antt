@@ -25,7 +25,7 @@ use Rattle.tp_types.proofs.EachLemmas.{by_cond, each_as, each_filter}
 use Rattle.tp_runs.proofs.basics.Rounds.{EachServer, all_in, each_missing, each_renewed, each_replied, each_started, is_in, judged_whole, missing_in, none_missing, replied_is, updated_is}
 use Rattle.tp_runs.proofs.basics.Logs.{appended, decided_with}
 use Rattle.tp_coord.proofs.Rows.{IsAck, IsYes, coordinator_by, submit_by}
-use Rattle.tp_machine.specs.Logs.{decided_in, decision_in}
+use Rattle.tp_recover.specs.Log.{decided_in, decision_in}
 use Rattle.tp_machine.specs.Machine.{log_with, with_age}
 use Rattle.tp_types.specs.Each.{Each}
 use Rattle.tp_coord.specs.Opened.{servers_at}

@@ -13,7 +13,7 @@ use Rattle.tp_runs.proofs.basics.Stores.{ended_known, kept_known}
 use Rattle.tp_runs.proofs.basics.Versions.{set_keeps}
 use Rattle.tp_server.proofs.Rows.{AreRightWaits, resuming, server_by}
 use Rattle.tp_round.specs.Judge.{version_number}
-use Rattle.tp_machine.specs.Logs.{known_in}
+use Rattle.tp_recover.specs.Log.{known_in}
 use Rattle.tp_machine.specs.Machine.{log_with}
 use Rattle.tp_runs.specs.Sound.{AreVersions, AreVersionsOf}
 use Rattle.tp_machine.specs.Named.{IsAdmin}

@@ -19,7 +19,8 @@ use Rattle.tp_model.specs.Words.what
 use Rattle.tp_model.specs.Agreement.{has_item_at}
 use Rattle.tp_model.specs.Facts.{is_decided_as, is_submission, outcome_of, same_outcome}
 use Rattle.tp_model.specs.Ids.{same_server, same_txn}
-use Rattle.tp_machine.specs.Logs.{decided_at, decided_by, decided_in, has_voted, prepared_by, prepared_in, settled_at, settled_by, settled_in, settlement_in, voted_by}
+use Rattle.tp_recover.specs.Log.{decided_in, has_voted, prepared_in, settled_in, settlement_in}
+use Rattle.tp_machine.specs.Logs.{decided_at, decided_by, prepared_by, settled_at, settled_by, voted_by}
 use Rattle.tp_machine.specs.Machine.{State, acts, log_with, server_fact, server_move}
 use Rattle.tp_types.specs.Each.{Each}
 use Rattle.tp_machine.specs.Named.{IsServer}

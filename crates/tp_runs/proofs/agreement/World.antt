@@ -11,7 +11,8 @@ use Rattle.tp_model.specs.Words.vote
 use Rattle.tp_model.specs.Words.what
 use Rattle.tp_model.specs.Agreement.{has_item_at}
 use Rattle.tp_model.specs.Facts.{before, is_decided_as, is_submission}
-use Rattle.tp_machine.specs.Logs.{decided_at, decided_in, settled_at, settled_in}
+use Rattle.tp_recover.specs.Log.{decided_in, settled_in}
+use Rattle.tp_machine.specs.Logs.{decided_at, settled_at}
 use Rattle.tp_machine.specs.Machine.{Move, State, facts_of, mails_of, state_after}
 use Rattle.tp_types.specs.Each.{Each, EachAt}
 use Rattle.tp_coord.specs.Opened.{servers_at}

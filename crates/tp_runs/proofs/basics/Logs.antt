@@ -8,7 +8,7 @@ use Rattle.std.proofs.lemmas.List.{append-nil}
 use Rattle.tp_model.specs.Ids.{same_txn}
 use Rattle.tp_model.specs.Words.{AdminId, Prepared, Record, Settled, TxnId, What}
 use Rattle.tp_model.specs.Words.log
-use Rattle.tp_machine.specs.Logs.{decided_in, decision_in, has_voted, is_prepared_or_settled, known_in, preparation_in, prepared_in, settled_in, settlement_in, told_in, voted_in, while_unsettled}
+use Rattle.tp_recover.specs.Log.{decided_in, decision_in, has_voted, is_prepared_or_settled, known_in, preparation_in, prepared_in, settled_in, settlement_in, told_in, voted_in, while_unsettled}
 use Rattle.tp_machine.specs.Machine.{log_with}
 use Rattle.tp_runs.proofs.basics.Ids.{same_txn_is}
 

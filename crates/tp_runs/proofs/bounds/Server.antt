@@ -13,7 +13,8 @@ use Rattle.tp_types.proofs.EachLemmas.{each_append, each_found, each_get, each_m
 use Rattle.tp_runs.proofs.basics.Stores.{EachWrite, ended_each, kept_each, learnt_each}
 use Rattle.tp_runs.proofs.bounds.Numbers.{bounded_item, bounded_later}
 use Rattle.tp_runs.proofs.basics.Found.{of_some}
-use Rattle.tp_runs.proofs.serial_data.Rows.{IsRunAt, RequestClear, ServerKeeps, ServerReads, deeds_in, keeps_cases, resumed_at, resumes_keep, run_at, values_by, values_with}
+use Rattle.tp_recover.specs.Log.{values_by}
+use Rattle.tp_runs.proofs.serial_data.Rows.{IsRunAt, RequestClear, ServerKeeps, ServerReads, deeds_in, keeps_cases, resumed_at, resumes_keep, run_at, values_with}
 use Rattle.tp_runs.proofs.deeds.Tentative.{last_upto}
 use Rattle.tp_server.proofs.Rows.{AreRightWaits, IsAsking, IsFirstHere, IsFurther, IsOrder, IsResumed, resuming, server_by, unwaiting}
 use Rattle.tp_runs.specs.Bounded.{IsAtMost, IsBounded, IsBoundedBody, IsBoundedDeed, IsBoundedDone, IsBoundedEntry, IsBoundedNo, IsBoundedQuery, IsBoundedRecord, IsBoundedSettled, IsBoundedWrite}

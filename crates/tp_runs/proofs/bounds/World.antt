@@ -4,7 +4,7 @@ use Rattle.std.specs.List.{flat_map}
 use Rattle.std.proofs.lemmas.List.{length-map}
 use Rattle.tp_model.specs.Built.{is_built}
 use Rattle.tp_model.specs.Queries.{query_at}
-use Rattle.tp_model.specs.SerialRun.{are_in_range, opening_store, opening_value, overlay}
+use Rattle.tp_model.specs.SerialRun.{are_in_range, opening_store, opening_value}
 use Rattle.tp_model.specs.Valid.{is_valid_txn}
 use Rattle.tp_model.specs.Words.actor
 use Rattle.tp_model.specs.Words.body
@@ -22,15 +22,18 @@ use Rattle.tp_runs.proofs.basics.Stores.{opened_each}
 use Rattle.tp_runs.proofs.bounds.Coordinator.{CoordinatorBounds, CoordinatorLow, coordinator_row_bounds, submit_row_bounds}
 use Rattle.tp_runs.proofs.bounds.Numbers.{AreBefore, number_low, sums_exact, values_most}
 use Rattle.tp_runs.proofs.bounds.Server.{IsBoundedLetter, OrdersBounded, ServerBefore, server_row_bounds}
-use Rattle.tp_runs.proofs.bounds.Values.{values_in_range}
+use Rattle.tp_runs.proofs.bounds.Values.{grown_in_range, log_in_range}
 use Rattle.tp_runs.proofs.ids.Queries.{homes_built}
 use Rattle.tp_runs.proofs.ids.Valid.{valid_built}
 use Rattle.tp_runs.proofs.basics.Found.{of_some}
 use Rattle.tp_runs.proofs.known.World.{Pairs}
 use Rattle.tp_runs.proofs.deeds.Built.{opening_in_range}
-use Rattle.tp_runs.proofs.serial_data.Rows.{RequestClear, deeds_in, server_row_keeps, values_by, values_length}
+use Rattle.tp_recover.specs.Log.{values_by}
+use Rattle.tp_runs.proofs.serial_data.Rows.{RequestClear, deeds_in, server_row_keeps, values_length}
 use Rattle.tp_runs.proofs.serial_data.Steps.{received_clear}
-use Rattle.tp_runs.proofs.serial_data.World.{Serial, ServerUpSerial}
+use Rattle.tp_runs.proofs.serial_data.UpOnLog.{EndsOnce, UpOnLog, acts_on_log, values_by_log}
+use Rattle.tp_runs.proofs.serial_data.Receiving.{record_ends}
+use Rattle.tp_runs.proofs.serial_data.World.{Serial, up_on_log}
 use Rattle.tp_runs.proofs.walks.Steps.{Cases, IsCoordinatorUp, IsServerUp, SaysIdle, WaitRightly, WasSent, machine_after_by}
 use Rattle.tp_runs.specs.Bounded.{AreBounded, IsBoundedCoordinator, IsBoundedEntry, IsBoundedFact, IsBoundedMail, IsBoundedRecord, IsBoundedServer, IsBoundedServerPart, IsBoundedSettled, IsBoundedWhat, IsBoundedWrite}
 use Rattle.tp_machine.specs.Machine.{Machine, Move, State, acts, acts_by, coordinator_fact, coordinator_move, facts_of, idle_move, is_part_submitted, log_with, machine_after, mails_of, opened_part, opening_state, refusal, server_fact, server_move, state_after, with_age}
@@ -133,17 +136,18 @@ told_by fact own old kept tells said h =
 
 -- ---- a server acts
 
-server_acts_bounds : (sc : Scenario) (w : State) (at : ServerId) (part : Part Server) (now : Option Server) (append : Option Record) (letters : List Letter) → Bounds sc w → slice_get w.actors.servers at.0 ≡ Some part
-    → IfSome now (IsBoundedServer sc) → IfSome append IsBoundedRecord → Each IsBoundedLetter letters
-    → MoveBounds sc (server_move w.actors at (acts (server_fact at) [] part.log now (log_with part.log append) letters))
-server_acts_bounds sc w at part now append letters h found state forces said =
+server_acts_bounds : (sc : Scenario) (w : State) (at : ServerId) (part : Part Server) (now : Option Server) (own : List What) (append : Option Record) (letters : List Letter) → Serial sc w → Bounds sc w
+    → slice_get w.actors.servers at.0 ≡ Some part → IfSome now (IsBoundedServer sc) → Each IsBoundedWhat own → IfSome append IsBoundedRecord → Each IsBoundedLetter letters
+    → MoveBounds sc (server_move w.actors at (acts (server_fact at) own part.log now (log_with part.log append) letters))
+server_acts_bounds sc w at part now own append letters serial h found state told forces said =
     let records : Each IsBoundedRecord (log_with part.log append) = records_with part.log append (h.servers at.0 part found).records forces in
+    let range = log_in_range sc part.log append (serial.servers at.0 part found).tested (h.servers at.0 part found).in_range in
     let next : Part Server = record { up = now; log = log_with part.log append } in
     record {
-      servers = at_set (λ (n : ℕ) (p : Part Server). IsBoundedServerPart sc p) w.actors.servers at.0 next h.servers (record { state = state; records = records });
+      servers = at_set (λ (n : ℕ) (p : Part Server). IsBoundedServerPart sc p) w.actors.servers at.0 next h.servers (record { state = state; records = records; in_range = range });
       coordinators = h.coordinators;
       letters = said;
-      happened = told_by (server_fact at) [] part.log (log_with part.log append) (server_tells at) tt records;
+      happened = told_by (server_fact at) own part.log (log_with part.log append) (server_tells at) told records;
     }
 
 -- what an order leaves of the values is in range, as its transaction was decided
@@ -154,8 +158,12 @@ orders_bounded sc w built agrees serial n mail at part s sent up in_range items_
     let M = IsAsked sc w.actors.coordinators at in
     let here = server_agrees sc w at part s agrees up in
     let rests = subst (RequestRests V M) k.said_is (request_rests sc w mail.letter.from at mail.letter.body (mail_rests sc w n mail (actor.Server at) agrees sent)) in
-    let range = values_in_range sc w at part s (Some (log.Settled (settled_as d))) agrees serial (record { found = up.found; agrees = here; in_range = in_range })
+    let ends : IfSome (Some (log.Settled (settled_as d))) (EndsOnce part.log) =
+    record_ends sc w at part (Some (log.Settled (settled_as d))) agrees up.found
     (record { fresh = open_unsettled s part.log d.txn here k.unsettled; asked = rests.1; ordered = λ none. rests.0; refused = λ some. absurd (cc) }) in
+    let range : are_in_range sc.items (values_by s.store.values d.outcome (deeds_in (entry_at s d.txn))) ≡ true =
+    ap (are_in_range sc.items) (values_by_log s part.log (Some (log.Settled (settled_as d))) here ends)
+    ∙ grown_in_range sc s.store.values part.log (Some (log.Settled (settled_as d))) (serial.servers at.0 part up.found).tested in_range in
     values_most sc (values_by s.store.values d.outcome (deeds_in (entry_at s d.txn))) (valid_built sc built) (values_length (length sc.items) d.outcome s.store.values (deeds_in (entry_at s d.txn)) items_are) range
 
 receipt_by_server_in_bounds : (sc : Scenario) (w : State) → is_built sc ≡ true → WaitRightly sc w → IsSound sc w → Agrees sc w → Pairs sc w → Serial sc w → Bounds sc w → (n : ℕ) (mail : Mail) (at : ServerId) (part : Part Server) (s : Server)
@@ -164,23 +172,24 @@ receipt_by_server_in_bounds sc w built rightly sound agrees pairs serial h n mai
     let M = IsAsked sc w.actors.coordinators at in
     let effect = server_row sc s mail in
     let old : IsBoundedServer sc s = of_some (IsBoundedServer sc) part.up s up.up (h.servers at.0 part up.found).state in
-    let was : ServerUpSerial sc (overlay sc w.facts) at s = of_some (ServerUpSerial sc (overlay sc w.facts) at) part.up s up.up (serial.servers at.0 part up.found).state in
+    let was : UpOnLog sc s part.log = up_on_log sc w at part s serial up.found up.up in
     let clear : RequestClear sc M s mail.letter.body = received_clear sc w built sound agrees pairs serial n mail at part s sent up in
     let keeps = server_row_keeps sc M s mail (rightly at part s up) was.reads clear in
     let before : ServerBefore s = record { values = old.values; kept = record { writes = old.writes; settled = old.settled; entries = old.entries } } in
     let row = server_row_bounds sc M s mail (rightly at part s up) before (each_get IsBoundedMail w.mails n mail h.mails sent.sent) was.reads clear
     (orders_bounded sc w built agrees serial n mail at part s sent up old.in_range was.reads.items_are) in
+    let after : UpOnLog sc effect.state (log_with part.log effect.reaction.append) =
+    acts_on_log sc M s part.log effect was (server_agrees sc w at part s agrees up) keeps (record_ends sc w at part effect.reaction.append agrees up.found (server_lawful sc w rightly agrees n mail at part s sent up).rests) in
     let range : are_in_range sc.items effect.state.store.values ≡ true =
-    ap (are_in_range sc.items) keeps.values
-    ∙ values_in_range sc w at part s effect.reaction.append agrees serial (record { found = up.found; agrees = server_agrees sc w at part s agrees up; in_range = old.in_range }) (server_lawful sc w rightly agrees n mail at part s sent up).rests in
-    server_acts_bounds sc w at part (Some effect.state) effect.reaction.append effect.reaction.letters h up.found
+    ap (are_in_range sc.items) after.values ∙ log_in_range sc part.log effect.reaction.append (serial.servers at.0 part up.found).tested (h.servers at.0 part up.found).in_range in
+    server_acts_bounds sc w at part (Some effect.state) [] effect.reaction.append effect.reaction.letters serial h up.found
     (record {
       in_range = range;
       values = values_most sc effect.state.store.values (valid_built sc built) keeps.reads.items_are range;
       writes = row.kept.writes;
       settled = row.kept.settled;
       entries = row.kept.entries;
-    }) row.forces row.letters
+    }) tt row.forces row.letters
 
 -- ---- a coordinator acts
 
@@ -255,7 +264,7 @@ pub bounds_opening : (sc : Scenario) → is_built sc ≡ true → Bounds sc (ope
 bounds_opening sc built =
     record {
       servers = λ n part e. at_made (λ (k : ℕ) (found : Part Server). IsBoundedServerPart sc found) (λ (k : ℕ). opened_part (server_opened.opening sc (record { 0 = k }))) 0 (length sc.servers)
-          (λ k within. record { state = opening_server sc (record { 0 = k }) built; records = tt }) n part e;
+          (λ k within. record { state = opening_server sc (record { 0 = k }) built; records = tt; in_range = opening_in_range sc built }) n part e;
       coordinators = λ n part e. at_made (λ (k : ℕ) (found : Part Coordinator). CoordinatorPartLow found) (λ (k : ℕ). opened_part (coord_opened.idle sc (record { 0 = k }))) 0 (length sc.txns)
           (λ k within. record { state = record { deeds = tt; low = tt }; records = tt }) n part e;
       mails = tt;

@@ -30,7 +30,8 @@ use Rattle.tp_runs.proofs.deaths.Told.{Told, told_next}
 use Rattle.tp_runs.proofs.basics.Found.{of_some}
 use Rattle.tp_runs.proofs.known.World.{HasPlaces, Pairs}
 use Rattle.tp_runs.proofs.walks.Steps.{Cases, IsServerUp, SaysIdle, WaitRightly, WasSent, machine_after_by}
-use Rattle.tp_machine.specs.Logs.{settled_by, settled_in}
+use Rattle.tp_recover.specs.Log.{settled_in}
+use Rattle.tp_machine.specs.Logs.{settled_by}
 use Rattle.tp_machine.specs.Machine.{Machine, Move, State, acts_by, coordinator_fact, coordinator_move, facts_of, idle_move, log_with, machine_after, mails_of, opened_part, opening_state, refusal, server_fact, server_move, state_after, with_age}
 use Rattle.tp_machine.specs.Parts.{Part}
 use Rattle.tp_types.specs.Each.{Each, EachAt, EachPlaced}

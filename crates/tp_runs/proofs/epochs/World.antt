@@ -26,7 +26,8 @@ use Rattle.tp_runs.proofs.epochs.Kept.{CoordinatorEpochs, CoordinatorKeeps}
 use Rattle.tp_runs.proofs.epochs.Server.{BodyTold, DoneMade, DoneTold, EntryMade, IsPlainLetter, LetterFirst, LetterTold, LettersEpochs, PreparedMade, QueryFirst, RecordMade, ReplyMade, ServerEpochs, ServerMade, WaitsMade, epoch_rises, plain_letters, plain_names_none, server_row_made}
 use Rattle.tp_server.proofs.Rows.{AreRightWaits}
 use Rattle.tp_runs.proofs.walks.Steps.{Cases, IsCoordinatorUp, IsServerUp, WaitRightly, WasSent, machine_after_by}
-use Rattle.tp_machine.specs.Logs.{epoch_at, epoch_by, epoch_in, preparation_in, prepared_in}
+use Rattle.tp_recover.specs.Log.{epoch_in, preparation_in, prepared_in}
+use Rattle.tp_machine.specs.Logs.{epoch_at, epoch_by}
 use Rattle.tp_machine.specs.Machine.{Machine, Move, State, acts, acts_by, coordinator_fact, coordinator_move, is_part_submitted, log_with, machine_after, mails_of, opened_part, opening_state, refusal, server_fact, server_move, state_after, with_age}
 use Rattle.tp_machine.specs.Parts.{Part}
 use Rattle.tp_types.specs.Each.{Each, EachAt}

@@ -39,7 +39,8 @@ use Rattle.tp_runs.proofs.deeds.Joined.{share_at}
 use Rattle.tp_runs.proofs.deeds.Refused.{last_is_refused, last_is_run, last_kept_share}
 use Rattle.tp_runs.proofs.serial_data.Rows.{ServerReads, deeds_in}
 use Rattle.tp_runs.proofs.deeds.Tentative.{AreLast, last_kept}
-use Rattle.tp_runs.proofs.serial_data.World.{Serial, ServerUpSerial}
+use Rattle.tp_runs.proofs.serial_data.UpOnLog.{UpOnLog}
+use Rattle.tp_runs.proofs.serial_data.World.{Serial, up_on_log}
 use Rattle.tp_server.proofs.Rows.{IsRefusal}
 use Rattle.tp_runs.proofs.walks.Steps.{IsServerUp, WasSent}
 use Rattle.tp_machine.specs.Machine.{State, facts_of}
@@ -221,7 +222,7 @@ refusal_shown sc w n mail at part s p entry number value built sound a pairs ser
     first_now sc w at txn declared awaiting built a pairs serial h there (asked_prepares sc w n mail at p declared awaiting pairs sent k.said_is there) in
     let store = store_of sc (before found.first (facts_after w happened)) in
     let runs : awaiting.c.deeds ≡ serial_run declared store = found.run.runs in
-    let here : ServerUpSerial sc (overlay sc w.facts) at s = subst (λ (u : Option Server). IfSome u (ServerUpSerial sc (overlay sc w.facts) at)) up.up (serial.servers at.0 part up.found).state in
+    let here : UpOnLog sc s part.log = up_on_log sc w at part s serial up.found up.up in
     let out : IsOutsideWrite sc at entry.deeds number value = subst (λ (server : ServerId). IsOutsideWrite sc server entry.deeds number value) server_sound.server_is (outside_write sc s txn entry number value server_sound.sound here.reads k.found k.outside) in
     let own : IsItemAt sc at.0 out.write.item.0 = record { declared = out.item.declared; declared_is = out.item.declared_is; at_is = ap (λ (server : ServerId). server.0) out.item.server_is } in
     let last : last_kept out.write.item (serial_run declared store) ≡ Some out.write =

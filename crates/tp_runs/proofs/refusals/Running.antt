@@ -33,7 +33,7 @@ use Rattle.tp_runs.proofs.pairs.Pair.{Held, Prepares, entry_held, got, held, hel
 use Rattle.tp_runs.proofs.known.World.{Pairs}
 use Rattle.tp_runs.proofs.refusals.Unbooted.{Unbooted, coordinator_is}
 use Rattle.tp_runs.proofs.refusals.World.{IsAwaiting}
-use Rattle.tp_runs.proofs.serial_data.Clear.{HasShare, HasShares, commit_clear}
+use Rattle.tp_runs.proofs.serial_data.Clear.{HasShare, HasShares, commit_clear, entry_share}
 use Rattle.tp_runs.proofs.deeds.Commits.{commit_serial}
 use Rattle.tp_runs.proofs.deeds.Joined.{share_at}
 use Rattle.tp_runs.proofs.deeds.Lengths.{store_length}
@@ -41,9 +41,10 @@ use Rattle.tp_runs.proofs.deeds.Ranges.{store_within}
 use Rattle.tp_runs.proofs.deeds.Reads.{ReadsFrom}
 use Rattle.tp_runs.proofs.serial_data.Shares.{no_share, server_there, share_reads}
 use Rattle.tp_runs.proofs.serial_data.Unsettled.{IsUnsettled}
-use Rattle.tp_runs.proofs.serial_data.World.{Serial, ServerUpSerial}
+use Rattle.tp_runs.proofs.serial_data.World.{Serial}
 use Rattle.tp_runs.proofs.walks.Steps.{IsServerUp}
-use Rattle.tp_machine.specs.Logs.{decided_at, decided_by, decided_in, epoch_by, settled_at, settled_by, settled_in}
+use Rattle.tp_recover.specs.Log.{decided_in, settled_in, values_in}
+use Rattle.tp_machine.specs.Logs.{decided_at, decided_by, epoch_by, settled_at, settled_by}
 use Rattle.tp_machine.specs.Machine.{State}
 use Rattle.tp_machine.specs.Parts.{Part}
 use Rattle.tp_coord.specs.State.{Coordinator}
@@ -112,11 +113,11 @@ record IsUpAt (w : State) (at : ServerId) : Type 0 where
   s : Server
   up : IsServerUp w at part s
 
-server_up : (sc : Scenario) (w : State) (at : ServerId) → Agrees sc w → Serial sc w → at.0 < length sc.servers → IsUpAt w at
-server_up sc w at agrees serial within = by_part (slice_get w.actors.servers at.0) refl
+server_up : (sc : Scenario) (w : State) (at : ServerId) → Agrees sc w → Unbooted w → at.0 < length sc.servers → IsUpAt w at
+server_up sc w at agrees unbooted within = by_part (slice_get w.actors.servers at.0) refl
   where
     by_up : (part : Part Server) (up : Option Server) → slice_get w.actors.servers at.0 ≡ Some part → part.up ≡ up → IsUpAt w at
-    by_up part None found e = absurd (let there = serial.up at.0 part found in let none = ap is_some e in cc)
+    by_up part None found e = absurd (let there = (unbooted.servers at.0 part found).up in let none = ap is_some e in cc)
     by_up part (Some s) found e = record { part = part; s = s; up = record { found = found; up = e } }
 
     by_part : (part : Option (Part Server)) → slice_get w.actors.servers at.0 ≡ part → IsUpAt w at
@@ -160,11 +161,11 @@ held_entry w txn at there =
     let up_is : pair.up ≡ true = ap (λ (found : Option (Part Server)). option_map_or is_part_up found false) there.up.found ∙ ap is_some there.up.up in
     held_up pair.up pair.entry pair.prepared up_is ∙ ap (option_map entry_held) (ap (option_and_then (entry_by txn)) there.up.found ∙ ap (option_and_then (entry_up txn)) there.up.up)
 
-there_share : (sc : Scenario) (w : State) (txn : TxnId) (at : ServerId) (deeds : List Deed) (there : IsUpAt w at) (h : Held) (entry : Option Entry) → entry_at there.s txn ≡ entry → option_map entry_held entry ≡ Some h
+there_share : (sc : Scenario) (w : State) (txn : TxnId) (at : ServerId) (deeds : List Deed) (there : IsUpAt w at) (h : Held) (entry : Option Entry) → Agrees sc w → Serial sc w → entry_at there.s txn ≡ entry → option_map entry_held entry ≡ Some h
     → h.deeds ≡ share_at sc at.0 deeds → HasShare sc w txn deeds at.0
-there_share sc w txn at deeds there h None found e same = absurd (cc)
-there_share sc w txn at deeds there h (Some entry) found e same =
-    record { part = there.part; s = there.s; up = there.up; entry = entry; found = found; deeds_are = ap (λ (x : Held). x.deeds) (same_Some (entry_held entry) h e) ∙ same }
+there_share sc w txn at deeds there h None agrees serial found e same = absurd (cc)
+there_share sc w txn at deeds there h (Some entry) agrees serial found e same =
+    entry_share sc w txn deeds at.0 there.part there.s entry agrees serial there.up found (ap (λ (x : Held). x.deeds) (same_Some (entry_held entry) h e) ∙ same)
 
 -- nothing of the first epoch is lost at a server that is up, while it has not settled the transaction
 none_gone : (sc : Scenario) (w : State) (txn : TxnId) (declared : Transaction) (awaiting : IsAwaiting w.actors.coordinators txn) (at : ServerId) (there : IsUpAt w at) (epoch : ℕ) → Agrees sc w → Unbooted w
@@ -181,14 +182,14 @@ none_gone sc w txn declared awaiting at there epoch agrees unbooted running kept
     let boots = (unbooted.servers at.0 there.part there.up.found).boots in
     omega (arith, less, first, own, boots)) later) gone.over
 
-kept_share : (sc : Scenario) (w : State) (txn : TxnId) (declared : Transaction) (awaiting : IsAwaiting w.actors.coordinators txn) (at : ServerId) (there : IsUpAt w at) (kept : Option ℕ) → Agrees sc w → Pairs sc w → Unbooted w
+kept_share : (sc : Scenario) (w : State) (txn : TxnId) (declared : Transaction) (awaiting : IsAwaiting w.actors.coordinators txn) (at : ServerId) (there : IsUpAt w at) (kept : Option ℕ) → Agrees sc w → Pairs sc w → Serial sc w → Unbooted w
     → IsRunning sc w txn declared awaiting → (asker_of at.0 awaiting.c).epoch ≡ kept → Pairing (site_of sc at.0 declared) (pair_at w.actors txn at.0) (asker_of at.0 awaiting.c) kept
     → (share_at sc at.0 awaiting.c.deeds ≡ []) ⊎ HasShare sc w txn awaiting.c.deeds at.0
-kept_share sc w txn declared awaiting at there None agrees pairs unbooted running is first =
+kept_share sc w txn declared awaiting at there None agrees pairs serial unbooted running is first =
     let site = site_of sc at.0 declared in
     let old = asker_fits sc w txn at.0 declared awaiting pairs running.declared_is in
     inl (sym (got_part site awaiting.c.deeds old.runs) ∙ numbers_none (got site awaiting.c.deeds) (old.numbers_are ∙ first.none))
-kept_share sc w txn declared awaiting at there (Some epoch) agrees pairs unbooted running is kept =
+kept_share sc w txn declared awaiting at there (Some epoch) agrees pairs serial unbooted running is kept =
     let site = site_of sc at.0 declared in
     let pair = pair_at w.actors txn at.0 in
     let a = asker_of at.0 awaiting.c in
@@ -196,7 +197,7 @@ kept_share sc w txn declared awaiting at there (Some epoch) agrees pairs unboote
     ⊎_elim
     (λ (t : There pair epoch (Matches site a)).
     let same : t.deeds ≡ share_at sc at.0 awaiting.c.deeds = matched site a t.deeds (λ asks. let prepares = running.prepares in cc) t.says ∙ got_part site awaiting.c.deeds old.runs in
-    inr (there_share sc w txn at awaiting.c.deeds there (record { epoch = epoch; deeds = t.deeds }) (entry_at there.s txn) refl (sym (held_entry w txn at there) ∙ t.found) same))
+    inr (there_share sc w txn at awaiting.c.deeds there (record { epoch = epoch; deeds = t.deeds }) (entry_at there.s txn) agrees serial refl (sym (held_entry w txn at there) ∙ t.found) same))
     (λ (gone : IsGone pair epoch). absurd (none_gone sc w txn declared awaiting at there epoch agrees unbooted running is gone))
     kept.told
 
@@ -207,18 +208,16 @@ shares_at sc w txn declared awaiting at false item valid agrees pairs serial unb
     let runs = (asker_fits sc w txn at.0 declared awaiting pairs running.declared_is).runs in
     inl (no_share sc at.0 txn declared awaiting.c.deeds running.declared_is runs item)
 shares_at sc w txn declared awaiting at true item valid agrees pairs serial unbooted running =
-    let there : IsUpAt w at = server_up sc w at agrees serial (server_there sc at txn valid item) in
+    let there : IsUpAt w at = server_up sc w at agrees unbooted (server_there sc at txn valid item) in
     let a = asker_of at.0 awaiting.c in
-    kept_share sc w txn declared awaiting at there a.epoch agrees pairs unbooted running refl (asker_fits sc w txn at.0 declared awaiting pairs running.declared_is).pairing
+    kept_share sc w txn declared awaiting at there a.epoch agrees pairs serial unbooted running refl (asker_fits sc w txn at.0 declared awaiting pairs running.declared_is).pairing
 
--- what stands in an entry was read from the server's values, which the store has
+-- its share is read from the values that its server's log leaves, which the store has
 share_read : (sc : Scenario) (w : State) (txn : TxnId) (deeds : List Deed) (at : ℕ) → Serial sc w → (share_at sc at deeds ≡ []) ⊎ HasShare sc w txn deeds at → ReadsFrom (overlay sc w.facts) (share_at sc at deeds)
 share_read sc w txn deeds at serial shares =
     ⊎_elim (λ (nothing : share_at sc at deeds ≡ []). subst (ReadsFrom (overlay sc w.facts)) (sym nothing) tt)
     (λ (h : HasShare sc w txn deeds at).
-    let here : ServerUpSerial sc (overlay sc w.facts) (server_number at) h.s = of_some (ServerUpSerial sc (overlay sc w.facts) (server_number at)) h.part.up h.s h.up.up (serial.servers at h.part h.up.found).state in
-    share_reads sc at h.s.store.values (overlay sc w.facts) deeds (λ k item item_there home. here.values k item item_there (ap server_number home))
-    (subst (ReadsFrom h.s.store.values) h.deeds_are (here.reads.reads txn.0 h.entry h.found))) shares
+    share_reads sc at (values_in sc h.part.log) (overlay sc w.facts) deeds (λ k item item_there home. (serial.servers at h.part h.found).kept k item item_there (ap server_number home)) h.reads) shares
 
 -- ---- its run
 

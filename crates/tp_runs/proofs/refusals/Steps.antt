@@ -42,7 +42,8 @@ use Rattle.tp_runs.proofs.serial_data.World.{Serial}
 use Rattle.tp_coord.proofs.Rows.{coordinator_by}
 use Rattle.tp_server.proofs.Rows.{server_by}
 use Rattle.tp_runs.proofs.walks.Steps.{Cases, IsCoordinatorUp, IsServerUp, SaysIdle, WasSent, WaitRightly, machine_after_by}
-use Rattle.tp_machine.specs.Logs.{decided_at, decided_by, settled_at, settled_by, settled_in, settlement_in}
+use Rattle.tp_recover.specs.Log.{settled_in, settlement_in}
+use Rattle.tp_machine.specs.Logs.{decided_at, decided_by, settled_at, settled_by}
 use Rattle.tp_machine.specs.Machine.{Machine, State, acts_by, coordinator_fact, coordinator_move, facts_of, idle_move, log_with, machine_after, opened_part, opening_state, refusal, server_fact, server_move, with_age}
 use Rattle.tp_machine.specs.Parts.{Part}
 use Rattle.tp_types.specs.Each.{Each}

@@ -1,5 +1,5 @@
 -- No server was ever booted: each is in its first epoch, and no entry, no answer and no coordinator tells of another. This goes when boots are built.
-use Rattle.std.proofs.Common.{IfSome, List, None, Option, Some, [], arith, length, map, refl, slice_get, slice_set, subst, sym, ℕ, ℤ, ⊎_elim, ◌==◌, ◌∷◌, ◌≡◌}
+use Rattle.std.proofs.Common.{IfSome, List, None, Option, Some, [], arith, is_some, length, map, refl, slice_get, slice_set, subst, sym, true, ℕ, ℤ, ⊎_elim, ◌==◌, ◌∷◌, ◌≡◌}
 use Rattle.tp_types.specs.Effect.{Effect}
 use Rattle.tp_model.specs.Words.body
 use Rattle.tp_model.specs.Words.what
@@ -10,7 +10,7 @@ use Rattle.tp_runs.proofs.epochs.Server.{boot_of, boots_push}
 use Rattle.tp_coord.proofs.Rows.{coordinator_by, submit_by}
 use Rattle.tp_server.proofs.Rows.{AreRightWaits, IsAsking, IsFirstHere, IsFurther, server_by}
 use Rattle.tp_runs.proofs.walks.Steps.{Cases, IsCoordinatorUp, IsServerUp, WaitRightly, machine_after_by}
-use Rattle.tp_machine.specs.Logs.{boots_in}
+use Rattle.tp_recover.specs.Log.{boots_in}
 use Rattle.tp_machine.specs.Machine.{Machine, Move, State, acts_by, coordinator_fact, coordinator_move, log_with, machine_after, mails_of, opened_part, opening_state, refusal, server_fact, server_move, state_after, with_age}
 use Rattle.tp_machine.specs.Parts.{Part}
 use Rattle.tp_types.specs.Each.{Each, EachAt, EachPlaced}
@@ -54,8 +54,9 @@ pub record ServerUnbooted (s : Server) : Type 0 where
   pub epoch : s.epoch ≡ 1
   pub entries : EachPlaced (λ (n : ℕ) (entry : Entry). EntryUnbooted entry) s.entries
 
--- no boot stands on a server's log
+-- a server is up, and no boot stands on its log
 pub record PartUnbooted (part : Part Server) : Type 0 where
+  pub up : is_some part.up ≡ true
   pub boots : boots_in part.log ≡ 0
   pub state : IfSome part.up ServerUnbooted
 
@@ -219,7 +220,7 @@ server_moves_in_unbooted w at part effect h found t =
     record {
       actors_are = record {
         servers = at_set (λ (n : ℕ) (p : Part Server). PartUnbooted p) w.actors.servers at.0 next h.servers
-            (record { boots = unbooted_log part.log effect.reaction.append (h.servers at.0 part found).boots t.append; state = t.state });
+            (record { up = refl; boots = unbooted_log part.log effect.reaction.append (h.servers at.0 part found).boots t.append; state = t.state });
         coordinators = h.coordinators;
         mails = h.mails;
       };
@@ -297,7 +298,7 @@ pub unbooted_opening : (sc : Scenario) → Unbooted (opening_state sc)
 unbooted_opening sc =
     record {
       servers = λ n part e. at_made (λ (k : ℕ) (found : Part Server). PartUnbooted found) (λ (k : ℕ). opened_part (server_opened.opening sc (record { 0 = k }))) 0 (length sc.servers)
-          (λ k within. record { boots = refl; state = record { epoch = refl; entries = placed_none (λ (m : ℕ) (entry : Entry). EntryUnbooted entry) (length sc.txns) } }) n part e;
+          (λ k within. record { up = refl; boots = refl; state = record { epoch = refl; entries = placed_none (λ (m : ℕ) (entry : Entry). EntryUnbooted entry) (length sc.txns) } }) n part e;
       coordinators = λ n part e. at_made (λ (k : ℕ) (found : Part Coordinator). IfSome found.up CoordinatorUnbooted) (λ (k : ℕ). opened_part (coord_opened.idle sc (record { 0 = k }))) 0 (length sc.txns)
           (λ k within. placed_none (λ (m : ℕ) (epoch : ℕ). epoch ≡ 1) (length sc.servers)) n part e;
       mails = tt;

@@ -104,7 +104,7 @@ shows sc w built h =
       caused = facts_caused sc w built h.sound h.refusals h.deaths h.trusts;
       serial = serial_facts sc w h.serial;
       lone = facts_lone w.facts h.lone;
-      values_are = serial_values sc w built h.sound h.agrees h.serial;
+      values_are = serial_values sc w built h.agrees h.serial (λ n part found. (h.refusals.unbooted.servers n part found).up);
     }
 
 -- after every list of steps the history is trusted so far
@@ -116,7 +116,7 @@ pub has_all_commits : (sc : Scenario) (steps : List Step) → is_built sc ≡ tr
 has_all_commits sc steps built exist ended =
     let w = (after sc steps).state in
     let h = holds_after sc steps built exist in
-    serial_values sc w built h.sound h.agrees h.serial ∙ values_at_end sc w built h.agrees h.serial ended
+    serial_values sc w built h.agrees h.serial (λ n part found. (h.refusals.unbooted.servers n part found).up) ∙ values_at_end sc w built h.agrees h.serial ended
 
 -- and few mails were sent
 pub sends_few : (sc : Scenario) (steps : List Step) → is_built sc ≡ true → Each (IsStepOf sc) steps → length (after sc steps).state.mails ≤ 16 * length steps

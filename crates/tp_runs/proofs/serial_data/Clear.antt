@@ -12,6 +12,7 @@ use Rattle.tp_model.specs.Words.{Decision, Deed, Item, ItemId, Prepared, Scenari
 use Rattle.tp_runs.proofs.agreement.Coordinator.{DecisionRests}
 use Rattle.tp_runs.proofs.agreement.Logs.{IsPrepared, IsServed, settled_outcome}
 use Rattle.tp_runs.proofs.agreement.Server.{ServerAgrees}
+use Rattle.tp_runs.proofs.agreement.Steps.{server_agrees}
 use Rattle.tp_runs.proofs.agreement.World.{Agrees}
 use Rattle.tp_runs.proofs.basics.Homes.{on_item}
 use Rattle.tp_types.proofs.EachLemmas.{each_as, each_both, missing}
@@ -24,15 +25,17 @@ use Rattle.tp_runs.proofs.basics.Found.{of_some}
 use Rattle.tp_runs.proofs.deeds.Commits.{IsClearAtHome}
 use Rattle.tp_runs.proofs.serial_data.Deciding.{IsClearCommit, IsPreparer, IsReady, preparer, preparer_is}
 use Rattle.tp_runs.proofs.deeds.Joined.{at_home, is_at, share_at}
-use Rattle.tp_runs.proofs.deeds.Reads.{AreClear, IsClear}
+use Rattle.tp_runs.proofs.deeds.Reads.{AreClear, IsClear, ReadsFrom}
 use Rattle.tp_runs.proofs.serial_data.Rows.{IsClearOfOthers, deeds_in}
 use Rattle.tp_runs.proofs.deeds.Runs.{IsDeedOf, RunsSoFar, runs_each}
-use Rattle.tp_runs.proofs.serial_data.Settling.{IsPreparedEntry, prepared_here}
+use Rattle.tp_runs.proofs.serial_data.OnLog.{LogReads}
+use Rattle.tp_runs.proofs.serial_data.UpOnLog.{entry_apart, entry_read}
 use Rattle.tp_runs.proofs.serial_data.Shares.{no_share, server_there}
 use Rattle.tp_runs.proofs.serial_data.Unsettled.{IsUnsettled}
-use Rattle.tp_runs.proofs.serial_data.World.{Serial}
+use Rattle.tp_runs.proofs.serial_data.World.{Serial, up_on_log}
 use Rattle.tp_runs.proofs.walks.Steps.{IsServerUp}
-use Rattle.tp_machine.specs.Logs.{decided_at, decided_by, decided_in, prepared_at}
+use Rattle.tp_recover.specs.Log.{decided_in, prepared_in, values_in}
+use Rattle.tp_machine.specs.Logs.{decided_at, decided_by, prepared_at}
 use Rattle.tp_machine.specs.Machine.{State}
 use Rattle.tp_machine.specs.Parts.{Part}
 use Rattle.tp_types.specs.Each.{Each}
@@ -51,34 +54,46 @@ clear_of_others sc s txn h = λ n other found apart. by_entry (entry_at s txn) r
     by_entry None e n other found apart = tt
     by_entry (Some entry) e n other found apart = entries_apart sc s.entries s.locks txn.0 n entry other h (λ same. apart (sym same)) e found
 
--- ---- what stands in an entry
+-- ---- a share
 
--- a server that is up has in its entry the transaction's share of these deeds
+-- a server, up or down, has of the transaction its share of these deeds: it is read from the values of the server's log, and is clear of all
+-- that others have prepared there
 pub record HasShare (sc : Scenario) (w : State) (txn : TxnId) (deeds : List Deed) (at : ℕ) : Type 0 where
   pub part : Part Server
-  pub s : Server
-  pub up : IsServerUp w (record { 0 = at }) part s
-  pub entry : Entry
-  pub found : entry_at s txn ≡ Some entry
-  pub deeds_are : entry.deeds ≡ share_at sc at deeds
+  pub found : slice_get w.actors.servers at ≡ Some part
+  pub clear : (other : TxnId) (q : Prepared) → (txn.0 ≡ other.0 → ⊥) → prepared_in other part.log ≡ Some q → AreClear (share_at sc at deeds) q.deeds
+  pub reads : ReadsFrom (values_in sc part.log) (share_at sc at deeds)
 
 -- so has each server at which the transaction has done something
 abbrev pub HasShares : Scenario → State → TxnId → List Deed → Type 0
 HasShares sc w txn deeds = (at : ℕ) → (share_at sc at deeds ≡ []) ⊎ HasShare sc w txn deeds at
 
-share_up : (sc : Scenario) (w : State) (txn : TxnId) (deeds : List Deed) (at : ℕ) (h : IsPreparer w txn at) (up : Option Server) → h.part.up ≡ up → is_some up ≡ true → IfSome up (λ (s : Server). ServerAgrees s h.part.log) → h.p.deeds ≡ share_at sc at deeds
-    → HasShare sc w txn deeds at
-share_up sc w txn deeds at h None e there agrees share = absurd (cc)
-share_up sc w txn deeds at h (Some s) e there agrees share =
-    let entry : IsPreparedEntry s txn h.p = prepared_here s h.part.log txn h.p agrees h.prepared_is in
-    record { part = h.part; s = s; up = record { found = h.found; up = e }; entry = entry.entry; found = entry.found; deeds_are = entry.deeds_are ∙ share }
+-- an entry of a server that is up which has done the share
+pub entry_share : (sc : Scenario) (w : State) (txn : TxnId) (deeds : List Deed) (at : ℕ) (part : Part Server) (s : Server) (entry : Entry) → Agrees sc w → Serial sc w → IsServerUp w (record { 0 = at }) part s → entry_at s txn ≡ Some entry
+    → entry.deeds ≡ share_at sc at deeds → HasShare sc w txn deeds at
+entry_share sc w txn deeds at part s entry agrees serial up found same =
+    let locked : IsLockedServer sc s = of_some (IsLockedServer sc) part.up s up.up (serial.locked at part up.found) in
+    let own : ServerAgrees s part.log = server_agrees sc w (record { 0 = at }) part s agrees up in
+    record {
+      part = part;
+      found = up.found;
+      clear = λ other q apart prepared. subst (λ (ds : List Deed). AreClear ds q.deeds) same (entry_apart sc s part.log txn other entry q locked own found prepared apart);
+      reads = subst (ReadsFrom (values_in sc part.log)) same (entry_read sc s part.log txn entry (up_on_log sc w (record { 0 = at }) part s serial up.found up.up) found);
+    }
 
 -- a server that prepared it has its share
-pub share_prepared : (sc : Scenario) (w : State) (txn : TxnId) (deeds : List Deed) (at : ℕ) → Agrees sc w → Serial sc w → is_some (prepared_at w.actors.servers at txn) ≡ true
+pub share_prepared : (sc : Scenario) (w : State) (txn : TxnId) (deeds : List Deed) (at : ℕ) → Serial sc w → is_some (prepared_at w.actors.servers at txn) ≡ true
     → ((p : Prepared) → prepared_at w.actors.servers at txn ≡ Some p → p.deeds ≡ share_at sc at deeds) → HasShare sc w txn deeds at
-share_prepared sc w txn deeds at agrees serial is share =
+share_prepared sc w txn deeds at serial is share =
     let h : IsPreparer w txn at = preparer w txn at is in
-    share_up sc w txn deeds at h h.part.up refl (serial.up at h.part h.found) (agrees.servers at h.part h.found).state (share h.p (preparer_is w txn at h))
+    let same = share h.p (preparer_is w txn at h) in
+    let kept : LogReads sc h.part.log = (serial.servers at h.part h.found).log in
+    record {
+      part = h.part;
+      found = h.found;
+      clear = λ other q apart prepared. subst (λ (ds : List Deed). AreClear ds q.deeds) same (kept.apart txn other h.p q h.prepared_is prepared apart);
+      reads = subst (ReadsFrom (values_in sc h.part.log)) same (kept.reads txn h.p h.prepared_is);
+    }
 
 -- ---- a commit that is not settled
 
@@ -104,11 +119,6 @@ unsettled_prepared sc w at others valid agrees u =
     ⊎_elim (λ (prepared : IsPrepared w.actors.servers u.txn (record { 0 = at })). prepared)
     (λ (settled : settled_outcome w.actors.servers (record { 0 = at }) u.txn ≡ Some outcome.Commit). let none = u.unsettled in absurd (cc))
     (among_servers (IsServed w.actors.servers u.txn) sc (record { 0 = at }) u.txn (server_there sc (record { 0 = at }) u.txn valid u.item) u.item served)
-
-unsettled_share : (sc : Scenario) (w : State) (at : ℕ) (others : List Deed) → IsValid sc → Agrees sc w → Serial sc w → (u : IsUnsettled sc w.actors at others) → HasShare sc w u.txn others at
-unsettled_share sc w at others valid agrees serial u =
-    subst (λ (deeds : List Deed). HasShare sc w u.txn deeds at) u.deeds_are
-    (share_prepared sc w u.txn u.committed.deeds at agrees serial (unsettled_prepared sc w at others valid agrees u) (λ p e. serial.shares u.txn at u.committed p u.decided e))
 
 -- ---- shares
 
@@ -149,14 +159,12 @@ shares_clear : (sc : Scenario) (w : State) (txn : TxnId) (deeds : List Deed) (ot
     → HasShare sc w txn deeds other.at → AreClear (share_at sc other.at deeds) (share_at sc other.at other.others)
 shares_clear sc w txn deeds other valid agrees serial none own =
     let u = other.unsettled in
-    let theirs : HasShare sc w u.txn other.others other.at = unsettled_share sc w other.at other.others valid agrees serial u in
-    let same_part : own.part ≡ theirs.part = same_Some own.part theirs.part (sym own.up.found ∙ theirs.up.found) in
-    let same : own.s ≡ theirs.s = same_Some own.s theirs.s (sym own.up.up ∙ ap (λ (p : Part Server). p.up) same_part ∙ theirs.up.up) in
-    let found : entry_at own.s u.txn ≡ Some theirs.entry = ap (λ (s : Server). entry_at s u.txn) same ∙ theirs.found in
-    let here : IsLockedServer sc own.s = of_some (IsLockedServer sc) own.part.up own.s own.up.up (serial.locked other.at own.part own.up.found) in
+    let h : IsPreparer w u.txn other.at = preparer w u.txn other.at (unsettled_prepared sc w other.at other.others valid agrees u) in
+    let same : h.p.deeds ≡ share_at sc other.at other.others = serial.shares u.txn other.at u.committed h.p u.decided (preparer_is w u.txn other.at h) ∙ ap (share_at sc other.at) u.deeds_are in
+    let part_is : h.part ≡ own.part = same_Some h.part own.part (sym h.found ∙ own.found) in
+    let prepared : prepared_in u.txn own.part.log ≡ Some h.p = ap (λ (part : Part Server). prepared_in u.txn part.log) (sym part_is) ∙ h.prepared_is in
     let apart : txn.0 ≡ u.txn.0 → ⊥ = λ is. let decided = u.decided in let undecided : decided_at w.actors.coordinators u.txn.0 ≡ None = ap (decided_at w.actors.coordinators) (sym is) ∙ none in cc in
-    let clear : AreClear own.entry.deeds theirs.entry.deeds = entries_apart sc own.s.entries own.s.locks txn.0 u.txn.0 own.entry theirs.entry here apart own.found found in
-    subst (λ (ds : List Deed). AreClear ds (share_at sc other.at other.others)) own.deeds_are (subst (AreClear own.entry.deeds) theirs.deeds_are clear)
+    subst (AreClear (share_at sc other.at deeds)) same (own.clear u.txn h.p apart prepared)
 
 other_clear : (sc : Scenario) (w : State) (txn : TxnId) (deeds : List Deed) → IsValid sc → Agrees sc w → Serial sc w → decided_at w.actors.coordinators txn.0 ≡ None → HasShares sc w txn deeds → (other : IsOther sc w)
     → Each (IsClearOf sc w other) deeds
@@ -190,15 +198,15 @@ commit_clear sc w txn declared deeds built agrees serial exists none runs shares
     (each_for_all (IsClearOf sc w) deeds (other_clear sc w txn deeds (valid_built sc built) agrees serial none shares))
 
 -- where its servers have prepared it they have its shares
-pub ready_shares : (sc : Scenario) (w : State) (txn : TxnId) (declared : Transaction) (deeds : List Deed) → Agrees sc w → Serial sc w → IsReady sc w txn declared deeds → HasShares sc w txn deeds
-ready_shares sc w txn declared deeds agrees serial r = λ at. by_item at (has_item_at sc (record { 0 = at }) txn) refl
+pub ready_shares : (sc : Scenario) (w : State) (txn : TxnId) (declared : Transaction) (deeds : List Deed) → Serial sc w → IsReady sc w txn declared deeds → HasShares sc w txn deeds
+ready_shares sc w txn declared deeds serial r = λ at. by_item at (has_item_at sc (record { 0 = at }) txn) refl
   where
     by_item : (at : ℕ) (b : Bool) → has_item_at sc (record { 0 = at }) txn ≡ b → (share_at sc at deeds ≡ []) ⊎ HasShare sc w txn deeds at
-    by_item at true item = inr (share_prepared sc w txn deeds at agrees serial (r.prepared at item) (r.shares at))
+    by_item at true item = inr (share_prepared sc w txn deeds at serial (r.prepared at item) (r.shares at))
     by_item at false item = inl (no_share sc at txn declared deeds r.declared_is r.runs item)
 
 -- a coordinator that is about to commit
 pub commit_ready : (sc : Scenario) (w : State) (txn : TxnId) (part : Part Coordinator) (c : Coordinator) (declared : Transaction) → is_built sc ≡ true → Agrees sc w → Serial sc w → slice_get w.actors.coordinators txn.0 ≡ Some part
     → decided_in part.log ≡ None → IsReady sc w txn declared c.deeds → IsClearCommit sc w c
 commit_ready sc w txn part c declared built agrees serial found none r =
-    commit_clear sc w txn declared c.deeds built agrees serial r.declared_is (ap (option_and_then decided_by) found ∙ none) r.runs (ready_shares sc w txn declared c.deeds agrees serial r)
+    commit_clear sc w txn declared c.deeds built agrees serial r.declared_is (ap (option_and_then decided_by) found ∙ none) r.runs (ready_shares sc w txn declared c.deeds serial r)

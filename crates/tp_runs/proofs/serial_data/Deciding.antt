@@ -14,7 +14,6 @@ use Rattle.tp_model.specs.Words.{Cause, CommitRecord, Decided, Decision, Deed, L
 use Rattle.tp_runs.proofs.agreement.Coordinator.{DecisionRests, IsFirst}
 use Rattle.tp_runs.proofs.agreement.CoordinatorActs.{coordinator_facts}
 use Rattle.tp_runs.proofs.agreement.Logs.{IsPrepared, prepared_open}
-use Rattle.tp_runs.proofs.agreement.Server.{ServerAgrees}
 use Rattle.tp_runs.proofs.agreement.World.{Agrees}
 use Rattle.tp_types.proofs.EachLemmas.{each_append, each_get}
 use Rattle.tp_runs.proofs.basics.Logs.{appended, decided_with, gained}
@@ -32,14 +31,15 @@ use Rattle.tp_runs.proofs.deeds.Lengths.{store_length}
 use Rattle.tp_runs.proofs.deeds.Ranges.{AreTested, range_at, store_within, stored_in_range}
 use Rattle.tp_runs.proofs.deeds.Reads.{ReadsFrom}
 use Rattle.tp_runs.proofs.deeds.Runs.{RunsSoFar}
-use Rattle.tp_runs.proofs.serial_data.Settling.{IsPreparedEntry, IsQuiet, prepared_here, quiet_facts, quiet_store, quiet_values}
+use Rattle.tp_runs.proofs.serial_data.Settling.{IsQuiet, quiet_facts, quiet_store, quiet_values}
 use Rattle.tp_runs.proofs.serial_data.Shares.{no_share, server_there, share_reads, shares_tested}
 use Rattle.tp_runs.proofs.deeds.Stores.{HasPlace, StoreFits}
 use Rattle.tp_runs.proofs.serial_data.Unsettled.{DecidesFirst, IsUnsettled, SameEnds, commit_adds, decision_same, either_decided, fits_same, nothing_decided, same_commit, with_coordinator}
-use Rattle.tp_runs.proofs.serial_data.World.{AreShares, MoveSerial, Serial, ServerUpSerial, ServersSerial, StoreStands, WhatSerial, overlaid_by, run_is_serial, store_by}
+use Rattle.tp_runs.proofs.serial_data.World.{AreShares, MoveSerial, Serial, ServersSerial, StoreStands, WhatSerial, overlaid_by, run_is_serial, store_by}
 use Rattle.tp_coord.proofs.Rows.{coordinator_by}
 use Rattle.tp_runs.proofs.walks.Steps.{IsCoordinatorUp}
-use Rattle.tp_machine.specs.Logs.{decided_at, decided_in, decision_in, prepared_at, prepared_by, prepared_in, settled_at, settled_by}
+use Rattle.tp_recover.specs.Log.{decided_in, decision_in, prepared_in, values_in}
+use Rattle.tp_machine.specs.Logs.{decided_at, prepared_at, prepared_by, settled_at, settled_by}
 use Rattle.tp_machine.specs.Machine.{State, acts, coordinator_fact, coordinator_move, log_with}
 use Rattle.tp_machine.specs.Parts.{Part}
 use Rattle.tp_types.specs.Each.{Each}
@@ -119,7 +119,6 @@ left_serial_in_deciding sc w txn next own told letters h quiet l =
     fold-append with_what (store_of sc w.facts) own told ∙ ap (λ (xs : List ℤ). fold with_what xs told) (quiet_store own (store_of sc w.facts) quiet) in
     record {
       servers = subst (λ (xs : List ℤ). ServersSerial sc xs w.actors.servers) (sym values) h.servers;
-      up = h.up;
       shares = l.shares;
       store = subst (λ (xs : List ℤ). StoreStands sc actors xs (store_by sc w (own ++ told))) (sym values) (subst (StoreStands sc actors (overlay sc w.facts)) (sym store) l.store);
       happened = each_append (WhatSerial sc w.facts) own told (quiet_facts sc w.facts own quiet) l.serial;
@@ -227,21 +226,15 @@ preparer w txn at is = preparer_of w txn at (slice_get w.actors.servers at) refl
 pub preparer_is : (w : State) (txn : TxnId) (at : ℕ) (h : IsPreparer w txn at) → prepared_at w.actors.servers at txn ≡ Some h.p
 preparer_is w txn at h = ap (option_and_then (prepared_by txn)) h.found ∙ h.prepared_is
 
-read_up : (sc : Scenario) (w : State) (txn : TxnId) (at : ℕ) (deeds : List Deed) (h : IsPreparer w txn at) (up : Option Server) → h.part.up ≡ up → is_some up ≡ true → IfSome up (ServerUpSerial sc (overlay sc w.facts) (record { 0 = at }))
-    → IfSome up (λ (s : Server). ServerAgrees s h.part.log) → h.p.deeds ≡ share_at sc at deeds → ReadsFrom (overlay sc w.facts) (share_at sc at deeds)
-read_up sc w txn at deeds h None e there serial agrees share = absurd (cc)
-read_up sc w txn at deeds h (Some s) e there serial agrees share =
-    let entry : IsPreparedEntry s txn h.p = prepared_here s h.part.log txn h.p agrees h.prepared_is in
-    let reads : ReadsFrom s.store.values (share_at sc at deeds) = subst (ReadsFrom s.store.values) (entry.deeds_are ∙ share) (serial.reads.reads txn.0 entry.entry entry.found) in
-    share_reads sc at s.store.values (overlay sc w.facts) deeds (λ n item found home. serial.values n item found (ap (λ (m : ℕ). record { 0 = m }) home)) reads
-
-read_here : (sc : Scenario) (w : State) (txn : TxnId) (declared : Transaction) (deeds : List Deed) (at : ℕ) (b : Bool) → has_item_at sc (record { 0 = at }) txn ≡ b → Agrees sc w → Serial sc w → IsReady sc w txn declared deeds
+read_here : (sc : Scenario) (w : State) (txn : TxnId) (declared : Transaction) (deeds : List Deed) (at : ℕ) (b : Bool) → has_item_at sc (record { 0 = at }) txn ≡ b → Serial sc w → IsReady sc w txn declared deeds
     → ReadsFrom (overlay sc w.facts) (share_at sc at deeds)
-read_here sc w txn declared deeds at false item agrees h r = subst (ReadsFrom (overlay sc w.facts)) (sym (no_share sc at txn declared deeds r.declared_is r.runs item)) tt
-read_here sc w txn declared deeds at true item agrees h r =
+read_here sc w txn declared deeds at false item h r = subst (ReadsFrom (overlay sc w.facts)) (sym (no_share sc at txn declared deeds r.declared_is r.runs item)) tt
+read_here sc w txn declared deeds at true item h r =
     let there : IsPreparer w txn at = preparer w txn at (r.prepared at item) in
-    read_up sc w txn at deeds there there.part.up refl (h.up at there.part there.found) (h.servers at there.part there.found).state (agrees.servers at there.part there.found).state
-    (r.shares at there.p (preparer_is w txn at there))
+    let kept = (h.servers at there.part there.found).kept in
+    let reads : ReadsFrom (values_in sc there.part.log) (share_at sc at deeds) =
+    subst (ReadsFrom (values_in sc there.part.log)) (r.shares at there.p (preparer_is w txn at there)) ((h.servers at there.part there.found).log.reads txn there.p there.prepared_is) in
+    share_reads sc at (values_in sc there.part.log) (overlay sc w.facts) deeds (λ n item found home. kept n item found (ap (λ (m : ℕ). record { 0 = m }) home)) reads
 
 tested_here : (sc : Scenario) (w : State) (txn : TxnId) (declared : Transaction) (deeds : List Deed) (at : ℕ) → has_item_at sc (record { 0 = at }) txn ≡ true → Serial sc w → IsReady sc w txn declared deeds
     → AreTested sc (share_at sc at deeds)
@@ -277,7 +270,7 @@ commit_leaves_in_deciding sc w txn named part next declared committed own valid 
     let runs : committed.deeds ≡ serial_run declared (store_of sc w.facts) =
     commit_serial sc declared (IsUnsettled sc w.actors) (λ (n : ℕ). overlay sc w.facts) (store_of sc w.facts) committed.deeds valid_txn
     (store_within sc (store_of sc w.facts) valid (store_length sc w.facts) h.range) r.runs r.all
-    (λ at. read_here sc w txn declared committed.deeds at (has_item_at sc (record { 0 = at }) txn) refl agrees h r) h.store clear in
+    (λ at. read_here sc w txn declared committed.deeds at (has_item_at sc (record { 0 = at }) txn) refl h r) h.store clear in
     let tested : AreTested sc committed.deeds = shares_tested sc txn declared committed.deeds r.declared_is r.runs (λ at item. tested_here sc w txn declared committed.deeds at item h r) in
     let range : are_in_range sc.items (with_deeds (store_of sc w.facts) committed.deeds) ≡ true = stored_in_range sc (store_of sc w.facts) committed.deeds tested h.range in
     record {

@@ -24,13 +24,12 @@ use Rattle.tp_runs.proofs.basics.Servers.{among_servers}
 use Rattle.tp_runs.proofs.ids.Valid.{IsValid, IsValidItem, valid_built}
 use Rattle.tp_runs.proofs.deeds.Lengths.{overlaid_length, store_length}
 use Rattle.tp_runs.proofs.serial_data.Unsettled.{IsUnsettled}
-use Rattle.tp_runs.proofs.serial_data.World.{Serial, ServerUpSerial}
+use Rattle.tp_runs.proofs.serial_data.World.{Serial, values_here}
 use Rattle.tp_machine.specs.Logs.{settled_at}
 use Rattle.tp_machine.specs.Machine.{State, ending_of, item_value, item_values, value_up}
 use Rattle.tp_machine.specs.Parts.{Part}
-use Rattle.tp_types.specs.Each.{Each}
+use Rattle.tp_types.specs.Each.{Each, EachAt}
 use Rattle.tp_machine.specs.Named.{IsServer}
-use Rattle.tp_runs.specs.Sound.{IsSound}
 use Rattle.tp_coord.specs.Opened.{servers_at}
 use Rattle.tp_server.specs.State.{Server}
 
@@ -64,30 +63,32 @@ values_from servers first (item ∷ items) (value ∷ store) e h =
     next : (n : ℕ) → first + suc n ≡ (first + 1) + n
     next n = omega arith
 
+-- each server is up
+abbrev pub ServersUp : List (Part Server) → Type 0
+ServersUp servers = EachAt (λ (n : ℕ) (part : Part Server). is_some part.up ≡ true) servers
+
 -- the value of an item at a server that is up is the store's
 value_here : (sc : Scenario) (w : State) (n : ℕ) (item : Item) (part : Part Server) (up : Option Server) → Serial sc w → slice_get sc.items n ≡ Some item → slice_get w.actors.servers item.server.0 ≡ Some part
     → part.up ≡ up → is_some up ≡ true → slice_get (overlay sc w.facts) n ≡ Some (value_up up n item.value)
 value_here sc w n item part None h found there e up = absurd (cc)
 value_here sc w n item part (Some s) h found there e up =
-    let here : ServerUpSerial sc (overlay sc w.facts) item.server s =
-    subst (λ (u : Option Server). IfSome u (ServerUpSerial sc (overlay sc w.facts) item.server)) e (h.servers item.server.0 part there).state in
-    let same : slice_get s.store.values n ≡ slice_get (overlay sc w.facts) n = here.values n item found refl in
+    let same : slice_get s.store.values n ≡ slice_get (overlay sc w.facts) n = values_here sc w item.server part s h there e n item found refl in
     let within : n < length (overlay sc w.facts) = omega (arith, slice_get_within sc.items n item found, overlaid_length sc w.facts) in
     unwrapped (slice_get (overlay sc w.facts) n) item.value (missing (overlay sc w.facts) n within)
     ∙ ap (λ (v : Option ℤ). Some (unwrap_or v item.value)) (sym same)
 
-value_at : (sc : Scenario) (w : State) (n : ℕ) (item : Item) (part : Option (Part Server)) → is_built sc ≡ true → Agrees sc w → Serial sc w → slice_get sc.items n ≡ Some item → slice_get w.actors.servers item.server.0 ≡ part
+value_at : (sc : Scenario) (w : State) (n : ℕ) (item : Item) (part : Option (Part Server)) → is_built sc ≡ true → Agrees sc w → Serial sc w → ServersUp w.actors.servers → slice_get sc.items n ≡ Some item → slice_get w.actors.servers item.server.0 ≡ part
     → slice_get (overlay sc w.facts) n ≡ Some (option_map_or (λ (p : Part Server). value_up p.up n item.value) part item.value)
-value_at sc w n item None built agrees h found there =
+value_at sc w n item None built agrees h up found there =
     let exists : IsServer sc item.server = (each_get (IsValidItem sc) sc.items n item (valid_built sc built).items found).server in
     absurd (missing w.actors.servers item.server.0 (omega (arith, exists, agrees.server_count)) there)
-value_at sc w n item (Some part) built agrees h found there = value_here sc w n item part part.up h found there refl (h.up item.server.0 part there)
+value_at sc w n item (Some part) built agrees h up found there = value_here sc w n item part part.up h found there refl (up item.server.0 part there)
 
--- each item has the value that settled commits leave
-pub serial_values : (sc : Scenario) (w : State) → is_built sc ≡ true → IsSound sc w → Agrees sc w → Serial sc w → (ending_of sc w).values ≡ overlay sc w.facts
-serial_values sc w built sound agrees h =
+-- where each server is up, each item has the value that settled commits leave
+pub serial_values : (sc : Scenario) (w : State) → is_built sc ≡ true → Agrees sc w → Serial sc w → ServersUp w.actors.servers → (ending_of sc w).values ≡ overlay sc w.facts
+serial_values sc w built agrees h up =
     values_from w.actors.servers 0 sc.items (overlay sc w.facts) (overlaid_length sc w.facts)
-    (λ n item found. value_at sc w n item (slice_get w.actors.servers item.server.0) built agrees h found refl ∙ ap (λ (m : ℕ). Some (item_value w.actors.servers m item)) (none_before n))
+    (λ n item found. value_at sc w n item (slice_get w.actors.servers item.server.0) built agrees h up found refl ∙ ap (λ (m : ℕ). Some (item_value w.actors.servers m item)) (none_before n))
   where
     none_before : (n : ℕ) → n ≡ 0 + n
     none_before n = omega arith

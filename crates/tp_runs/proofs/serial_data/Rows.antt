@@ -15,6 +15,7 @@ use Rattle.tp_model.specs.Words.outcome
 use Rattle.tp_model.specs.Words.query
 use Rattle.tp_model.specs.Words.{AdminId, Body, Deed, Letter, Mail, Outcome, PrepareRequest, Prepared, PushNotice, Query, QueryRequest, Record, Scenario, ServerId, Settled, Staple, Transaction, TxnId, Version}
 use Rattle.tp_server.proofs.Tables.{written_over}
+use Rattle.tp_recover.specs.Log.{values_by}
 use Rattle.tp_runs.proofs.basics.Ids.{same_txn_is}
 use Rattle.tp_types.proofs.EachLemmas.{missing, placed_emptied_others, placed_set, set_here}
 use Rattle.tp_runs.proofs.basics.Logs.{Prepares}
@@ -50,10 +51,6 @@ entry_deeds entry = entry.deeds
 -- what a transaction has done at the server
 abbrev pub deeds_in : Option Entry → List Deed
 deeds_in entry = option_map_or entry_deeds entry []
-
-abbrev pub values_by : List ℤ → Outcome → List Deed → List ℤ
-values_by values outcome.Commit deeds = with_deeds values deeds
-values_by values outcome.Abort deeds = values
 
 -- the values after a record: a settled commit applies what its transaction has done
 abbrev pub values_with : Server → Option Record → List ℤ

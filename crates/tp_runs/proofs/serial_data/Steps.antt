@@ -31,11 +31,15 @@ use Rattle.tp_runs.proofs.serial_data.Deciding.{RecordOwn, coordinator_acts_seri
 use Rattle.tp_runs.proofs.deeds.Ranges.{AreTested}
 use Rattle.tp_runs.proofs.deeds.Reads.{ReadsFrom}
 use Rattle.tp_runs.proofs.serial_data.Rows.{QueryRises, RequestClear, ServerReads, deeds_in, server_row_keeps}
-use Rattle.tp_runs.proofs.serial_data.Settling.{server_acts_serial, unmoved_serial}
+use Rattle.tp_runs.proofs.serial_data.OnLog.{no_log_reads}
+use Rattle.tp_runs.proofs.serial_data.Receiving.{server_receives_serial}
+use Rattle.tp_runs.proofs.serial_data.Settling.{unmoved_serial}
+use Rattle.tp_runs.proofs.serial_data.UpOnLog.{UpOnLog}
 use Rattle.tp_runs.proofs.deeds.Tentative.{AreLast, none_last}
-use Rattle.tp_runs.proofs.serial_data.World.{MoveSerial, Serial, ServerPartSerial, ServerUpSerial, state_after_serial}
+use Rattle.tp_runs.proofs.serial_data.World.{MoveSerial, Serial, ServerPartSerial, state_after_serial, up_on_log}
 use Rattle.tp_runs.proofs.walks.Steps.{Cases, IsCoordinatorUp, IsServerUp, SaysIdle, WaitRightly, WasSent, machine_after_by}
-use Rattle.tp_machine.specs.Logs.{decided_at, decided_by, prepared_in}
+use Rattle.tp_recover.specs.Log.{prepared_in}
+use Rattle.tp_machine.specs.Logs.{decided_at, decided_by}
 use Rattle.tp_machine.specs.Machine.{Machine, State, acts_by, coordinator_fact, coordinator_move, idle_move, is_part_submitted, machine_after, opened_part, opening_state, refusal, server_fact, server_move, with_age}
 use Rattle.tp_machine.specs.Parts.{Part}
 use Rattle.tp_runs.specs.Sound.{IsSound, IsSoundBody, IsSoundQuery}
@@ -111,11 +115,12 @@ received_clear sc w built sound agrees pairs serial n mail at part s sent up =
 receipt_by_server_in_serial_data : (sc : Scenario) (w : State) → is_built sc ≡ true → WaitRightly sc w → IsSound sc w → Agrees sc w → Pairs sc w → Serial sc w → (n : ℕ) (mail : Mail) (at : ServerId) (part : Part Server) (s : Server)
     → WasSent w n mail (actor.Server at) → IsServerUp w at part s → MoveSerial sc w (server_move w.actors at (acts_by (server_fact at) [] part.log (server_row sc s mail)))
 receipt_by_server_in_serial_data sc w built rightly sound agrees pairs h n mail at part s sent up =
-    let was : ServerUpSerial sc (overlay sc w.facts) at s = subst (λ (u : Option Server). IfSome u (ServerUpSerial sc (overlay sc w.facts) at)) up.up (h.servers at.0 part up.found).state in
-    server_acts_serial sc w at part s (server_row sc s mail) agrees h
+    let was : UpOnLog sc s part.log = up_on_log sc w at part s h up.found up.up in
+    server_receives_serial sc w at part s (server_row sc s mail) agrees h
     (record {
       found = up.found;
       up = up.up;
+      locked = of_some (IsLockedServer sc) part.up s up.up (h.locked at.0 part up.found);
       agrees = server_agrees sc w at part s agrees up;
       keeps = server_row_keeps sc (IsAsked sc w.actors.coordinators at) s mail (rightly at part s up) was.reads
           (received_clear sc w built sound agrees pairs h n mail at part s sent up);
@@ -202,8 +207,10 @@ opening_reads sc at =
 opening_serial : (sc : Scenario) (k : ℕ) → ServerPartSerial sc (overlay sc []) (record { 0 = k }) (opened_part (server.opening sc (record { 0 = k })))
 opening_serial sc k =
     record {
-      state = record { reads = opening_reads sc (record { 0 = k }); values = λ n item found here. refl };
+      kept = λ n item found here. refl;
+      log = no_log_reads sc;
       tested = λ txn p e. absurd (cc);
+      state = record { reads = opening_reads sc (record { 0 = k }); values = refl };
     }
 
 none_decided : (sc : Scenario) (txn : ℕ) → decided_at (opening_state sc).actors.coordinators txn ≡ None
@@ -222,7 +229,6 @@ serial_opening sc built =
           (at_made (λ (k : ℕ) (found : Part Server). ServerPartSerial sc (overlay sc []) (record { 0 = k }) found) (λ (k : ℕ). opened_part (server.opening sc (record { 0 = k }))) 0 (length sc.servers)
           (λ k within. opening_serial sc k) n part e);
       locked = locked_opening sc;
-      up = λ n part e. at_made (λ (k : ℕ) (found : Part Server). is_some found.up ≡ true) (λ (k : ℕ). opened_part (server.opening sc (record { 0 = k }))) 0 (length sc.servers) (λ k within. refl) n part e;
       shares = λ txn at committed p d e. absurd (let none = none_decided sc txn.0 in cc);
       store = λ at. record { covered = λ item deeds v own u e. absurd (let none = none_decided sc u.txn.0 in let some = u.decided in cc); bare = λ item own none. refl };
       facts = tt;

@@ -3,7 +3,7 @@ use Rattle.std.specs.Cmp.Lexicographic.{pointwise}
 use Rattle.std.specs.List.{list_any}
 use Rattle.std.specs.Option.{option_map_or, option_or}
 use Rattle.std.specs.Ordering.{int_eq}
-use Rattle.std.proofs.Common.{Bool, IfSome, List, None, Some, [], ap, arith, false, fold, if◌then◌else◌, is_some, length, refl, slice_get, subst, sym, true, ℕ, ℤ, ◌&&◌, ◌++◌, ◌==◌, ◌||◌, ◌∙◌, ◌∷◌, ◌≡◌}
+use Rattle.std.proofs.Common.{Bool, IfSome, List, None, Option, Some, [], ap, arith, false, fold, if◌then◌else◌, is_some, length, refl, slice_get, subst, sym, true, ℕ, ℤ, ◌&&◌, ◌++◌, ◌==◌, ◌||◌, ◌∙◌, ◌∷◌, ◌≡◌}
 use Rattle.std.proofs.lemmas.Bool.Decides.{Decides-int_eq}
 use Rattle.std.proofs.lemmas.Bool.{and_from}
 use Rattle.std.proofs.lemmas.List.Sums.{fold-append}
@@ -26,10 +26,12 @@ use Rattle.tp_runs.proofs.deeds.Commits.{IsItemAt}
 use Rattle.tp_runs.proofs.deeds.Joined.{share_at}
 use Rattle.tp_runs.proofs.basics.Folds.{any_filtered, fold_as, pointwise_itself}
 use Rattle.tp_runs.proofs.deeds.Ranges.{AreTested}
-use Rattle.tp_runs.proofs.serial_data.Rows.{ServerReads}
+use Rattle.tp_runs.proofs.serial_data.OnLog.{LogReads}
+use Rattle.tp_runs.proofs.serial_data.UpOnLog.{UpOnLog}
 use Rattle.tp_runs.proofs.deeds.Stores.{StoreFits}
 use Rattle.tp_runs.proofs.serial_data.Unsettled.{IsUnsettled}
-use Rattle.tp_machine.specs.Logs.{decided_at, prepared_at, prepared_in}
+use Rattle.tp_recover.specs.Log.{prepared_in, values_in}
+use Rattle.tp_machine.specs.Logs.{decided_at, prepared_at}
 use Rattle.tp_machine.specs.Machine.{Move, State, facts_of, state_after}
 use Rattle.tp_machine.specs.Parts.{Part}
 use Rattle.tp_types.specs.Each.{Each, EachAt}
@@ -42,21 +44,16 @@ use Rattle.tp_server.specs.State.{Server}
 abbrev pub HoldsValues : Scenario → ServerId → List ℤ → List ℤ → Type 0
 HoldsValues sc at store values = (n : ℕ) (item : Item) → slice_get sc.items n ≡ Some item → item.server ≡ at → slice_get values n ≡ slice_get store n
 
--- the entries of a server that is up read its values, and its items have the values of the store
-pub record ServerUpSerial (sc : Scenario) (store : List ℤ) (at : ServerId) (s : Server) : Type 0 where
-  pub reads : ServerReads sc s
-  pub values : HoldsValues sc at store s.store.values
-
--- and what the server has prepared was tested against the ranges of items
+-- of a server, up or down: its log leaves its items the values of the store; what is prepared there has read those values, is apart, and
+-- was tested against the ranges of items. Of one that is up: its entries have read its values, which are its log's
 pub record ServerPartSerial (sc : Scenario) (store : List ℤ) (at : ServerId) (part : Part Server) : Type 0 where
-  pub state : IfSome part.up (ServerUpSerial sc store at)
+  pub kept : HoldsValues sc at store (values_in sc part.log)
+  pub log : LogReads sc part.log
   pub tested : (txn : TxnId) (p : Prepared) → prepared_in txn part.log ≡ Some p → AreTested sc p.deeds
+  pub state : IfSome part.up (λ (s : Server). UpOnLog sc s part.log)
 
 abbrev pub ServersSerial : Scenario → List ℤ → List (Part Server) → Type 0
 ServersSerial sc store servers = EachAt (λ (n : ℕ) (part : Part Server). ServerPartSerial sc store (record { 0 = n }) part) servers
-
-abbrev pub ServersUp : List (Part Server) → Type 0
-ServersUp servers = EachAt (λ (n : ℕ) (part : Part Server). is_some part.up ≡ true) servers
 
 -- what a server has prepared of a commit is its share of the commit's deeds
 abbrev pub AreShares : Scenario → Actors → Type 0
@@ -69,12 +66,10 @@ StoreStands sc actors values store = (at : ℕ) → StoreFits (IsItemAt sc at) (
 
 -- all that serial data rests on
 pub record Serial (sc : Scenario) (w : State) : Type 0 where
-  -- what entries have read are the servers' values, which are those that settled commits leave
+  -- servers' values, by their logs, are those that settled commits leave; what is prepared, and what entries have read, are these values
   pub servers : ServersSerial sc (overlay sc w.facts) w.actors.servers
   -- locks keep the deeds of transactions apart
   pub locked : ServersLocked sc w.actors.servers
-  -- each server is up, which goes when crashes are built
-  pub up : ServersUp w.actors.servers
   -- servers prepare their shares of commits
   pub shares : AreShares sc w.actors
   -- the store differs from what is settled in what is not settled yet
@@ -108,7 +103,6 @@ store_by sc w happened = fold with_what (store_of sc w.facts) happened
 -- a step leaves actors and facts that are serial
 pub record MoveSerial (sc : Scenario) (w : State) (move : Move) : Type 0 where
   pub servers : ServersSerial sc (overlaid_by sc w move.happened) move.actors.servers
-  pub up : ServersUp move.actors.servers
   pub shares : AreShares sc move.actors
   pub store : StoreStands sc move.actors (overlaid_by sc w move.happened) (store_by sc w move.happened)
   pub happened : Each (WhatSerial sc w.facts) move.happened
@@ -244,7 +238,6 @@ state_after_serial sc w taken move agrees h t locked =
     record {
       servers = subst (λ (store : List ℤ). ServersSerial sc store move.actors.servers) values t.servers;
       locked = locked;
-      up = t.up;
       shares = t.shares;
       store = subst (λ (left : List ℤ). StoreStands sc move.actors left (store_of sc now)) values (subst (StoreStands sc move.actors (overlaid_by sc w move.happened)) store t.store);
       facts = each_append (λ (fact : Fact). keeps_serial sc now fact ≡ true) w.facts (facts_of place move.happened)
@@ -252,3 +245,14 @@ state_after_serial sc w taken move agrees h t locked =
           (new_facts_serial sc w.facts now place move.happened all t.happened);
       range = subst (λ (left : List ℤ). are_in_range sc.items left ≡ true) store t.range;
     }
+
+-- ---- a server that is up
+
+-- what is known of a server that is up
+pub up_on_log : (sc : Scenario) (w : State) (at : ServerId) (part : Part Server) (s : Server) → Serial sc w → slice_get w.actors.servers at.0 ≡ Some part → part.up ≡ Some s → UpOnLog sc s part.log
+up_on_log sc w at part s h found up = subst (λ (u : Option Server). IfSome u (λ (now : Server). UpOnLog sc now part.log)) up (h.servers at.0 part found).state
+
+-- its items have the values that settled commits leave
+pub values_here : (sc : Scenario) (w : State) (at : ServerId) (part : Part Server) (s : Server) → Serial sc w → slice_get w.actors.servers at.0 ≡ Some part → part.up ≡ Some s → HoldsValues sc at (overlay sc w.facts) s.store.values
+values_here sc w at part s h found up n item item_is here =
+    ap (λ (values : List ℤ). slice_get values n) (up_on_log sc w at part s h found up).values ∙ (h.servers at.0 part found).kept n item item_is here
