@@ -136,7 +136,7 @@ told_by fact own old kept tells said h =
 
 -- ---- a server acts
 
-server_acts_bounds : (sc : Scenario) (w : State) (at : ServerId) (part : Part Server) (now : Option Server) (own : List What) (append : Option Record) (letters : List Letter) → Serial sc w → Bounds sc w
+pub server_acts_bounds : (sc : Scenario) (w : State) (at : ServerId) (part : Part Server) (now : Option Server) (own : List What) (append : Option Record) (letters : List Letter) → Serial sc w → Bounds sc w
     → slice_get w.actors.servers at.0 ≡ Some part → IfSome now (IsBoundedServer sc) → Each IsBoundedWhat own → IfSome append IsBoundedRecord → Each IsBoundedLetter letters
     → MoveBounds sc (server_move w.actors at (acts (server_fact at) own part.log now (log_with part.log append) letters))
 server_acts_bounds sc w at part now own append letters serial h found state told forces said =
@@ -193,7 +193,7 @@ receipt_by_server_in_bounds sc w built rightly sound agrees pairs serial h n mai
 
 -- ---- a coordinator acts
 
-coordinator_acts_bounds : (sc : Scenario) (w : State) (txn : TxnId) (part : Part Coordinator) (now : Option Coordinator) (own : List What) (append : Option Record) (letters : List Letter) → Bounds sc w
+pub coordinator_acts_bounds : (sc : Scenario) (w : State) (txn : TxnId) (part : Part Coordinator) (now : Option Coordinator) (own : List What) (append : Option Record) (letters : List Letter) → Bounds sc w
     → slice_get w.actors.coordinators txn.0 ≡ Some part → IfSome now CoordinatorLow → Each IsBoundedWhat own → IfSome append IsBoundedRecord → Each IsBoundedLetter letters
     → MoveBounds sc (coordinator_move w.actors txn (acts coordinator_fact own part.log now (log_with part.log append) letters))
 coordinator_acts_bounds sc w txn part now own append letters h found state told forces said =

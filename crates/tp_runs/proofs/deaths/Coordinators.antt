@@ -1,5 +1,5 @@
 -- Deaths for an older transaction, the coordinator's rows: an abort by one is shown by the answer that it came of.
-use Rattle.std.proofs.Common.{IfSome, List, [], ap, arith, map, subst, true, ℕ, ◌<◌, ◌∷◌, ◌≡◌}
+use Rattle.std.proofs.Common.{IfSome, List, Option, [], ap, arith, map, subst, true, ℕ, ◌<◌, ◌∷◌, ◌≡◌}
 use Rattle.std.proofs.lemmas.Bool.{eqb-true}
 use Rattle.tp_types.specs.Effect.{Effect}
 use Rattle.tp_model.specs.Facts.{was_submitted}
@@ -22,10 +22,14 @@ abbrev pub RecordDies : Scenario → List Fact → ℕ → Record → Type 0
 RecordDies sc facts place (log.Decided d) = WhatDies sc facts place (what.Decided d.txn d.decision)
 RecordDies sc facts place _ = Unit {0}
 
--- an act of a coordinator in a step at this place; it answers no query
-pub record ActDies (sc : Scenario) (old : List Fact) (place : ℕ) (effect : Effect Coordinator) : Type 0 where
-  pub forces : (facts : List Fact) → Adds old facts place → IfSome effect.reaction.append (RecordDies sc facts place)
-  pub letters : Each (LetterDies sc old place) effect.reaction.letters
+-- an act of a coordinator in a step at this place, whatever it leaves of its state; it answers no query
+pub record CoordinatorActsDie (sc : Scenario) (old : List Fact) (place : ℕ) (append : Option Record) (letters : List Letter) : Type 0 where
+  pub forces : (facts : List Fact) → Adds old facts place → IfSome append (RecordDies sc facts place)
+  pub sends : Each (LetterDies sc old place) letters
+
+-- that of a row
+abbrev pub ActDies : Scenario → List Fact → ℕ → Effect Coordinator → Type 0
+ActDies sc old place effect = CoordinatorActsDie sc old place effect.reaction.append effect.reaction.letters
 
 orders_none : (sc : Scenario) (facts : List Fact) (place : ℕ) (c : Coordinator) (ended : Outcome) (servers : List ServerId)
     → Each (LetterDies sc facts place) (requests c (body.Decide (record { txn = c.txn; outcome = ended })) servers)
@@ -53,9 +57,9 @@ pub coordinator_row_dies : (sc : Scenario) (old : List Fact) (place : ℕ) (c : 
 coordinator_row_dies sc old place c mail less h own =
     coordinator_by sc c mail (ActDies sc old place)
     (record {
-      ignored = record { forces = λ facts a. tt; letters = tt };
-      ran_next = λ done server asked value next k home. record { forces = λ facts a. tt; letters = (tt, tt) };
-      ran_last = λ done server asked value k none. record { forces = λ facts a. tt; letters = (tt, tt) };
+      ignored = record { forces = λ facts a. tt; sends = tt };
+      ran_next = λ done server asked value next k home. record { forces = λ facts a. tt; sends = (tt, tt) };
+      ran_last = λ done server asked value k none. record { forces = λ facts a. tt; sends = (tt, tt) };
       died = λ done server asked other k.
           record {
             forces = λ facts a declared there.
@@ -66,15 +70,15 @@ coordinator_row_dies sc old place c mail less h own =
                 let same : done.txn ≡ c.txn = own done k.said_is in
                 death_shown sc facts place server c.txn other done.query mail.sent declared (subst (λ (t : TxnId). Death sc facts server t other done.query) same told.0)
                 (subst (λ (t : TxnId). was_submitted t mail.sent facts ≡ true) same told.1) less there;
-            letters = orders_none sc old place c outcome.Abort c.servers;
+            sends = orders_none sc old place c outcome.Abort c.servers;
           };
-      told = λ tell round k. record { forces = λ facts a. tt; letters = all_none sc old place (prepare_letter c round (staple_of tell mail.sent)) (λ at. tt) (awaited_in round) };
-      counted = λ reply round staple server verdicts y e. record { forces = λ facts a. tt; letters = tt };
-      committed = λ reply round staple server verdicts y e. record { forces = λ facts a. tt; letters = orders_none sc old place c outcome.Commit c.servers };
-      denied = λ reply round staple server verdicts verdict y e. record { forces = λ facts a. tt; letters = orders_none sc old place c outcome.Abort c.servers };
-      updated = λ reply round staple server verdicts named y e. record { forces = λ facts a. tt; letters = (tt, tt) };
-      refused = λ reply round staple server number value k. record { forces = λ facts a. tt; letters = orders_none sc old place c outcome.Abort c.servers };
-      acknowledged = λ ack ended awaited server k. record { forces = λ facts a. tt; letters = tt };
+      told = λ tell round k. record { forces = λ facts a. tt; sends = all_none sc old place (prepare_letter c round (staple_of tell mail.sent)) (λ at. tt) (awaited_in round) };
+      counted = λ reply round staple server verdicts y e. record { forces = λ facts a. tt; sends = tt };
+      committed = λ reply round staple server verdicts y e. record { forces = λ facts a. tt; sends = orders_none sc old place c outcome.Commit c.servers };
+      denied = λ reply round staple server verdicts verdict y e. record { forces = λ facts a. tt; sends = orders_none sc old place c outcome.Abort c.servers };
+      updated = λ reply round staple server verdicts named y e. record { forces = λ facts a. tt; sends = (tt, tt) };
+      refused = λ reply round staple server number value k. record { forces = λ facts a. tt; sends = orders_none sc old place c outcome.Abort c.servers };
+      acknowledged = λ ack ended awaited server k. record { forces = λ facts a. tt; sends = tt };
     })
 
 -- the submission of a transaction
@@ -82,6 +86,6 @@ pub submit_row_dies : (sc : Scenario) (old : List Fact) (place : ℕ) (c : Coord
 submit_row_dies sc old place c =
     submit_by sc c (λ (effect : Effect Coordinator). ActDies sc old place (with_age effect place))
     (record {
-      ignored = record { forces = λ facts a. tt; letters = tt };
-      sent = λ server home. record { forces = λ facts a. tt; letters = (tt, tt) };
+      ignored = record { forces = λ facts a. tt; sends = tt };
+      sent = λ server home. record { forces = λ facts a. tt; sends = (tt, tt) };
     })

@@ -2,7 +2,6 @@
 use Rattle.std.proofs.Common.{IfSome, List, None, Option, Some, [], ap, arith, drop, flat_map, length, option_and_then, option_map, refl, slice_get, subst, sym, ℕ, ◌++◌, ◌+◌, ◌<◌, ◌∙◌, ◌∷◌, ◌≡◌}
 use Rattle.std.proofs.lemmas.List.{length_push}
 use Rattle.std.proofs.lemmas.Option.{same_Some}
-use Rattle.tp_types.specs.Effect.{Effect}
 use Rattle.tp_model.specs.Authorisation.{action_of}
 use Rattle.tp_model.specs.Queries.{item_of}
 use Rattle.tp_model.specs.Words.actor
@@ -22,7 +21,7 @@ use Rattle.tp_runs.proofs.basics.Facts.{ArePast, each_new_fact, each_new_mail, f
 use Rattle.tp_types.proofs.EachLemmas.{at_made, at_set, each_append, each_as, each_get, placed_none}
 use Rattle.tp_runs.proofs.basics.Locks.{no_locks, stands_in_the_way}
 use Rattle.tp_runs.proofs.basics.Logs.{gained, listed}
-use Rattle.tp_runs.proofs.deaths.Coordinators.{ActDies, RecordDies, coordinator_row_dies, submit_row_dies}
+use Rattle.tp_runs.proofs.deaths.Coordinators.{CoordinatorActsDie, RecordDies, coordinator_row_dies, submit_row_dies}
 use Rattle.tp_runs.proofs.deaths.Dying.{dies_for}
 use Rattle.tp_runs.proofs.deaths.Fit.{Adds, BodyDies, Death, DoneDies, FactDies, LetterDies, LockFits, WhatDies, body_dies_still, done_stays, what_dies_still}
 use Rattle.tp_runs.proofs.deaths.Servers.{AnswersDie, AskerKnown, ServerDies, server_row_dies}
@@ -32,7 +31,7 @@ use Rattle.tp_runs.proofs.known.World.{HasPlaces, Pairs}
 use Rattle.tp_runs.proofs.walks.Steps.{Cases, IsServerUp, SaysIdle, WaitRightly, WasSent, machine_after_by}
 use Rattle.tp_recover.specs.Log.{settled_in}
 use Rattle.tp_machine.specs.Logs.{settled_by}
-use Rattle.tp_machine.specs.Machine.{Machine, Move, State, acts_by, coordinator_fact, coordinator_move, facts_of, idle_move, log_with, machine_after, mails_of, opened_part, opening_state, refusal, server_fact, server_move, state_after, with_age}
+use Rattle.tp_machine.specs.Machine.{Machine, Move, State, acts, acts_by, coordinator_fact, coordinator_move, facts_of, idle_move, log_with, machine_after, mails_of, opened_part, opening_state, refusal, server_fact, server_move, state_after, with_age}
 use Rattle.tp_machine.specs.Parts.{Part}
 use Rattle.tp_types.specs.Each.{Each, EachAt, EachPlaced}
 use Rattle.tp_runs.specs.Sound.{IsItemOf, IsSound, IsSoundBody, IsSoundQuery, IsSoundServerUp}
@@ -67,7 +66,7 @@ pub record Deaths (sc : Scenario) (w : State) : Type 0 where
 
 -- ---- a move
 
-record MoveDies (sc : Scenario) (w : State) (move : Move) : Type 0 where
+pub record MoveDies (sc : Scenario) (w : State) (move : Move) : Type 0 where
   pub servers : ServersDie sc w.facts move.actors.servers
   pub letters : Each (LetterDies sc w.facts (length w.steps)) move.letters
   pub happened : Each (WhatDies sc (facts_after w move.happened) (length w.steps)) move.happened
@@ -190,6 +189,33 @@ asker_known sc w n mail at part s sound a ages pairs h sent up own =
     server_is : (other : ServerId) → actor.Server at ≡ actor.Server other → other ≡ at
     server_is other e = cc
 
+-- what a step says by itself shows no death, with any facts
+abbrev pub SaysNoDeath : Scenario → ℕ → List What → Type 0
+SaysNoDeath sc place own = Each (λ (x : What). (facts : List Fact) → WhatDies sc facts place x) own
+
+says_no_death : (sc : Scenario) (place : ℕ) (facts : List Fact) (own : List What) → SaysNoDeath sc place own → Each (WhatDies sc facts place) own
+says_no_death sc place facts own plain = each_as (λ (x : What). (now : List Fact) → WhatDies sc now place x) (WhatDies sc facts place) (λ x d. d facts) own plain
+
+-- what an act of a server leaves and says in a step at this place, whether the server is up after it or down
+pub record ServerActsDie (sc : Scenario) (facts : List Fact) (place : ℕ) (at : ServerId) (now : Option Server) (own : List What) (letters : List Letter) : Type 0 where
+  pub state : IfSome now (ServerDies sc facts at)
+  pub own_says : SaysNoDeath sc place own
+  pub sends : Each (LetterDies sc facts place) letters
+
+-- the move of such an act
+pub server_acts_deaths : (sc : Scenario) (w : State) (at : ServerId) (part : Part Server) (now : Option Server) (own : List What) (append : Option Record) (letters : List Letter) → Deaths sc w
+    → ServerActsDie sc w.facts (length w.steps) at now own letters → MoveDies sc w (server_move w.actors at (acts (server_fact at) own part.log now (log_with part.log append) letters))
+server_acts_deaths sc w at part now own append letters h k =
+    let new : Part Server = record { up = now; log = log_with part.log append } in
+    let gains = flat_map (server_fact at) (drop (length part.log) (log_with part.log append)) in
+    let tells : gains ≡ server_facts at append = gained (server_fact at) part.log append in
+    let P = WhatDies sc (facts_after w (own ++ gains)) (length w.steps) in
+    record {
+      servers = at_set (λ (m : ℕ) (p : Part Server). IfSome p.up (ServerDies sc w.facts (record { 0 = m }))) w.actors.servers at.0 new h.servers k.state;
+      letters = k.sends;
+      happened = each_append P own gains (says_no_death sc (length w.steps) (facts_after w (own ++ gains)) own k.own_says) (subst (Each P) (sym tells) (each_server_fact P at (λ txn ended. tt) append));
+    }
+
 server_moves_in_deaths : (sc : Scenario) (w : State) (n : ℕ) (mail : Mail) (at : ServerId) (part : Part Server) (s : Server) → WaitRightly sc w → IsSound sc w → Agrees sc w → Ages w → Pairs sc w → Deaths sc w → WasSent w n mail (actor.Server at)
     → IsServerUp w at part s → MoveDies sc w (server_move w.actors at (acts_by (server_fact at) [] part.log (server_row sc s mail)))
 server_moves_in_deaths sc w n mail at part s rightly sound a ages pairs h sent up =
@@ -198,31 +224,25 @@ server_moves_in_deaths sc w n mail at part s rightly sound a ages pairs h sent u
     let here : ServerDies sc w.facts at s = of_some (ServerDies sc w.facts at) part.up s up.up (h.servers at.0 part up.found) in
     let row = server_row_dies sc w.facts (length w.steps) s mail a.past (rightly at part s up) (asker_known sc w n mail at part s sound a ages pairs h sent up own.server_is)
     (subst (λ (x : ServerId). ServerDies sc w.facts x s) (sym own.server_is) here) in
-    let new : Part Server = record { up = Some effect.state; log = log_with part.log effect.reaction.append } in
-    let tells : flat_map (server_fact at) (drop (length part.log) (log_with part.log effect.reaction.append)) ≡ server_facts at effect.reaction.append = gained (server_fact at) part.log effect.reaction.append in
-    let happened = flat_map (server_fact at) (drop (length part.log) (log_with part.log effect.reaction.append)) in
-    record {
-      servers = at_set (λ (m : ℕ) (p : Part Server). IfSome p.up (ServerDies sc w.facts (record { 0 = m }))) w.actors.servers at.0 new h.servers
-          (subst (λ (x : ServerId). ServerDies sc w.facts x effect.state) own.server_is row.state);
-      letters = row.letters;
-      happened = subst (Each (WhatDies sc (facts_after w happened) (length w.steps))) (sym tells) (each_server_fact (WhatDies sc (facts_after w happened) (length w.steps)) at (λ txn ended. tt) effect.reaction.append);
-    }
+    server_acts_deaths sc w at part (Some effect.state) [] effect.reaction.append effect.reaction.letters h
+    (record { state = subst (λ (x : ServerId). ServerDies sc w.facts x effect.state) own.server_is row.state; own_says = tt; sends = row.letters })
 
 -- ---- a coordinator acts
 
-coordinator_moves_in_deaths : (sc : Scenario) (w : State) (txn : TxnId) (part : Part Coordinator) (effect : Effect Coordinator) (own : List What) → ArePast (length w.steps) w.facts → Deaths sc w
-    → Each (λ (x : What). (facts : List Fact) → WhatDies sc facts (length w.steps) x) own → ActDies sc w.facts (length w.steps) effect
-    → MoveDies sc w (coordinator_move w.actors txn (acts_by coordinator_fact own part.log effect))
-coordinator_moves_in_deaths sc w txn part effect own past h plain row =
-    let gains = flat_map coordinator_fact (drop (length part.log) (log_with part.log effect.reaction.append)) in
-    let tells : gains ≡ coordinator_facts effect.reaction.append = gained coordinator_fact part.log effect.reaction.append in
-    let now = facts_after w (own ++ gains) in
+-- the move of a coordinator that acts so, whether it is up after it or down
+pub coordinator_acts_deaths : (sc : Scenario) (w : State) (txn : TxnId) (part : Part Coordinator) (now : Option Coordinator) (own : List What) (append : Option Record) (letters : List Letter) → ArePast (length w.steps) w.facts → Deaths sc w
+    → SaysNoDeath sc (length w.steps) own → CoordinatorActsDie sc w.facts (length w.steps) append letters
+    → MoveDies sc w (coordinator_move w.actors txn (acts coordinator_fact own part.log now (log_with part.log append) letters))
+coordinator_acts_deaths sc w txn part now own append letters past h plain row =
+    let gains = flat_map coordinator_fact (drop (length part.log) (log_with part.log append)) in
+    let tells : gains ≡ coordinator_facts append = gained coordinator_fact part.log append in
+    let after = facts_after w (own ++ gains) in
+    let P = WhatDies sc after (length w.steps) in
     record {
       servers = h.servers;
-      letters = row.letters;
-      happened = each_append (WhatDies sc now (length w.steps)) own gains
-          (each_as (λ (x : What). (facts : List Fact) → WhatDies sc facts (length w.steps) x) (WhatDies sc now (length w.steps)) (λ x d. d now) own plain)
-          (subst (Each (WhatDies sc now (length w.steps))) (sym tells) (decided_by_death sc now (length w.steps) effect.reaction.append (row.forces now (adds w (own ++ gains) past))));
+      letters = row.sends;
+      happened = each_append P own gains (says_no_death sc (length w.steps) after own plain)
+          (subst (Each P) (sym tells) (decided_by_death sc after (length w.steps) append (row.forces after (adds w (own ++ gains) past))));
     }
 
 -- ---- steps
@@ -235,7 +255,8 @@ deaths_cases sc w rightly sound a ages pairs h =
       coordinator_received = λ n mail txn part c sent up.
           let heard : IsSoundBody sc (actor.Coordinator txn) mail.letter.body = mail_sound sc w n mail (actor.Coordinator txn) sound sent in
           let same : c.txn ≡ txn = own_txn sc w txn part c sound up.found up.up in
-          coordinator_moves_in_deaths sc w txn part (coordinator_row sc c mail) [] a.past h tt
+          let effect = coordinator_row sc c mail in
+          coordinator_acts_deaths sc w txn part (Some effect.state) [] effect.reaction.append effect.reaction.letters a.past h tt
           (coordinator_row_dies sc w.facts (length w.steps) c mail (each_get (λ (m : Mail). m.sent < length w.steps) w.mails n mail h.sent sent.sent) (each_get (MailDies sc w.facts) w.mails n mail h.mails sent.sent)
           (λ done e. own_done txn done (subst (IsSoundBody sc (actor.Coordinator txn)) e heard).goes_to ∙ sym same));
       authority_told = λ n mail sent. still_deaths sc w [] (office.authority_row w.actors.authority mail).reaction.letters w.actors h refl tt (tells_no_death sc w.facts (length w.steps) w.actors.authority mail.letter.body);
@@ -246,7 +267,8 @@ deaths_cases sc w rightly sound a ages pairs h =
       ticked = λ by. still_deaths sc w (what.Ticked by ∷ []) [] (record w.actors { authority = office.after_tick by w.actors.authority }) h refl (λ facts. tt, tt) tt;
       revoked = λ cred exists. still_deaths sc w (what.Revoked cred ∷ []) [] (record w.actors { authority = office.after_revocation cred w.actors.authority }) h refl (λ facts. tt, tt) tt;
       begun = λ txn part c exists up new.
-          coordinator_moves_in_deaths sc w txn part (with_age (submit_row sc c) (length w.steps)) (what.Submitted txn ∷ []) a.past h (λ facts. tt, tt) (submit_row_dies sc w.facts (length w.steps) c);
+          let effect = with_age (submit_row sc c) (length w.steps) in
+          coordinator_acts_deaths sc w txn part (Some effect.state) (what.Submitted txn ∷ []) effect.reaction.append effect.reaction.letters a.past h (λ facts. tt, tt) (submit_row_dies sc w.facts (length w.steps) c);
     }
   where
     own_done : (txn : TxnId) (done : DoneReply) → actor.Coordinator txn ≡ actor.Coordinator done.txn → done.txn ≡ txn

@@ -20,7 +20,7 @@ use Rattle.tp_runs.proofs.ids.Coordinator.{IsSoundCoordinatorEffect, coordinator
 use Rattle.tp_runs.proofs.ids.Server.{IsSoundServerEffect, server_row_sound, version_of, versions_set}
 use Rattle.tp_runs.proofs.ids.Valid.{IsValid}
 use Rattle.tp_server.proofs.Rows.{AreRightWaits}
-use Rattle.tp_machine.specs.Machine.{PartMove, acts_by, coordinator_fact, log_with, opened_part, server_fact, with_age}
+use Rattle.tp_machine.specs.Machine.{PartMove, acts, acts_by, coordinator_fact, log_with, opened_part, server_fact, with_age}
 use Rattle.tp_machine.specs.Parts.{Part}
 use Rattle.tp_runs.specs.Sound.{AreCreds, AreVersions, IsActor, IsSettledOf, IsSoundAuthority, IsSoundBody, IsSoundCoordinatorPart, IsSoundCoordinatorRecord, IsSoundCoordinatorUp, IsSoundDecision, IsSoundEntry, IsSoundLetter, IsSoundMaster, IsSoundRefusal, IsSoundServerPart, IsSoundServerRecord, IsSoundServerUp, IsSoundWhat, IsVersion, IsVersionOf, IsWriteOf}
 use Rattle.tp_types.specs.Each.{Each}
@@ -68,15 +68,23 @@ server_fact_sound : (sc : Scenario) (at : ServerId) → IsServer sc at → (forc
 server_fact_sound sc at exists (log.Settled settled) h = ((exists, h.txn), tt)
 server_fact_sound sc at exists _ h = tt
 
-server_acts_sound : (sc : Scenario) (s : Server) (own : List What) (kept : List Record) (effect : Effect Server) → IsServer sc s.server → IsSoundServerEffect sc s effect
-    → Each (IsSoundServerRecord sc s.server) kept → Each (IsSoundWhat sc) own → IsSoundServerMove sc s.server (acts_by (server_fact s.server) own kept effect)
-server_acts_sound sc s own kept effect exists e k o =
-    let longer : Each (IsSoundServerRecord sc s.server) (log_with kept effect.reaction.append) = log_sound (IsSoundServerRecord sc s.server) kept effect.reaction.append k e.forces in
+-- what an act of a server leaves and says: its state, where it is up after it, what it forced if anything, what the step says by
+-- itself, and letters
+pub record IsSoundServerAct (sc : Scenario) (at : ServerId) (now : Option Server) (own : List What) (append : Option Record) (letters : List Letter) : Type 0 where
+  pub state_is : IfSome now (IsSoundServerUp sc at)
+  pub own_are : Each (IsSoundWhat sc) own
+  pub forces : IfSome append (IsSoundServerRecord sc at)
+  pub sends_only : Each (IsSoundLetter sc) letters
+
+-- such an act, of a server that was up or down before it
+pub server_acts_sound : (sc : Scenario) (at : ServerId) (part : Part Server) (now : Option Server) (own : List What) (append : Option Record) (letters : List Letter) → IsSoundServerPart sc at part
+    → IsSoundServerAct sc at now own append letters → IsSoundServerMove sc at (acts (server_fact at) own part.log now (log_with part.log append) letters)
+server_acts_sound sc at part now own append letters h e =
+    let longer : Each (IsSoundServerRecord sc at) (log_with part.log append) = log_sound (IsSoundServerRecord sc at) part.log append h.records e.forces in
     record {
-      part_is = record { exists = exists; state = record { server_is = e.same_server; sound = e.state_is }; records = longer };
+      part_is = record { exists = h.exists; state = e.state_is; records = longer };
       left = record {
-        facts_are = facts_sound sc (IsSoundServerRecord sc s.server) (server_fact s.server) own kept (log_with kept effect.reaction.append)
-            (server_fact_sound sc s.server exists) o longer;
+        facts_are = facts_sound sc (IsSoundServerRecord sc at) (server_fact at) own part.log (log_with part.log append) (server_fact_sound sc at h.exists) e.own_are longer;
         letters_are = e.sends_only;
       };
     }
@@ -86,10 +94,15 @@ pub server_receipt_sound : (sc : Scenario) (at : ServerId) (part : Part Server) 
     → IsSoundBody sc (actor.Server at) mail.letter.body → IsSoundServerMove sc at (acts_by (server_fact at) [] part.log (server_row sc s mail))
 server_receipt_sound sc at part s mail valid waits h e m =
     let state : IsSoundServerUp sc at s = subst (λ (up : Option Server). IfSome up (IsSoundServerUp sc at)) e h.state in
-    let P = λ (to : ServerId). IsSoundBody sc (actor.Server to) mail.letter.body → Each (IsSoundServerRecord sc to) part.log
-    → IsSoundServerMove sc to (acts_by (server_fact to) [] part.log (server_row sc s mail)) in
-    let act : P s.server = λ said kept. server_acts_sound sc s [] part.log (server_row sc s mail) state.sound.exists (server_row_sound sc s mail valid waits state.sound said) kept tt in
-    subst P state.server_is act m h.records
+    let effect = server_row sc s mail in
+    let row : IsSoundServerEffect sc s effect = server_row_sound sc s mail valid waits state.sound (subst (λ (to : ServerId). IsSoundBody sc (actor.Server to) mail.letter.body) (sym state.server_is) m) in
+    server_acts_sound sc at part (Some effect.state) [] effect.reaction.append effect.reaction.letters h
+    (record {
+      state_is = record { server_is = row.same_server ∙ state.server_is; sound = row.state_is };
+      own_are = tt;
+      forces = subst (λ (to : ServerId). IfSome effect.reaction.append (IsSoundServerRecord sc to)) state.server_is row.forces;
+      sends_only = row.sends_only;
+    })
 
 -- ---- coordinators
 
@@ -103,17 +116,36 @@ coordinator_fact_sound sc txn exists (log.Decided d) h =
     ((subst (IsTxn sc) (sym h.txn_is) exists, subst (λ (t : TxnId). IsSoundDecision sc t d.decision) (sym h.txn_is) h.rests_on), tt)
 coordinator_fact_sound sc txn exists _ h = tt
 
-coordinator_acts_sound : (sc : Scenario) (c : Coordinator) (own : List What) (kept : List Record) (effect : Effect Coordinator) → IsTxn sc c.txn → IsSoundCoordinatorEffect sc c effect
-    → Each (IsSoundCoordinatorRecord sc c.txn) kept → Each (IsSoundWhat sc) own → IsSoundCoordinatorMove sc c.txn (acts_by coordinator_fact own kept effect)
-coordinator_acts_sound sc c own kept effect exists e k o =
-    let longer : Each (IsSoundCoordinatorRecord sc c.txn) (log_with kept effect.reaction.append) = log_sound (IsSoundCoordinatorRecord sc c.txn) kept effect.reaction.append k e.forces in
+-- what an act of a coordinator leaves and says: its state, where it is up after it, what it forced if anything, what the step says by
+-- itself, and letters
+pub record IsSoundCoordinatorAct (sc : Scenario) (txn : TxnId) (now : Option Coordinator) (own : List What) (append : Option Record) (letters : List Letter) : Type 0 where
+  pub state_is : IfSome now (IsSoundCoordinatorUp sc txn)
+  pub own_are : Each (IsSoundWhat sc) own
+  pub forces : IfSome append (IsSoundCoordinatorRecord sc txn)
+  pub sends_only : Each (IsSoundLetter sc) letters
+
+-- such an act, of a coordinator that was up or down before it
+pub coordinator_acts_sound : (sc : Scenario) (txn : TxnId) (part : Part Coordinator) (now : Option Coordinator) (own : List What) (append : Option Record) (letters : List Letter) → IsSoundCoordinatorPart sc txn part
+    → IsSoundCoordinatorAct sc txn now own append letters → IsSoundCoordinatorMove sc txn (acts coordinator_fact own part.log now (log_with part.log append) letters)
+coordinator_acts_sound sc txn part now own append letters h e =
+    let longer : Each (IsSoundCoordinatorRecord sc txn) (log_with part.log append) = log_sound (IsSoundCoordinatorRecord sc txn) part.log append h.records e.forces in
     record {
-      part_is = record { exists = exists; state = record { txn_is = e.same_txn; sound = e.state_is }; records = longer };
+      part_is = record { exists = h.exists; state = e.state_is; records = longer };
       left = record {
-        facts_are = facts_sound sc (IsSoundCoordinatorRecord sc c.txn) coordinator_fact own kept (log_with kept effect.reaction.append)
-            (coordinator_fact_sound sc c.txn exists) o longer;
+        facts_are = facts_sound sc (IsSoundCoordinatorRecord sc txn) coordinator_fact own part.log (log_with part.log append) (coordinator_fact_sound sc txn h.exists) e.own_are longer;
         letters_are = e.sends_only;
       };
+    }
+
+-- a row of a coordinator that is up is such an act
+coordinator_row_acts : (sc : Scenario) (txn : TxnId) (c : Coordinator) (own : List What) (effect : Effect Coordinator) → c.txn ≡ txn → Each (IsSoundWhat sc) own → IsSoundCoordinatorEffect sc c effect
+    → IsSoundCoordinatorAct sc txn (Some effect.state) own effect.reaction.append effect.reaction.letters
+coordinator_row_acts sc txn c own effect same told e =
+    record {
+      state_is = record { txn_is = e.same_txn ∙ same; sound = e.state_is };
+      own_are = told;
+      forces = subst (λ (to : TxnId). IfSome effect.reaction.append (IsSoundCoordinatorRecord sc to)) same e.forces;
+      sends_only = e.sends_only;
     }
 
 -- a coordinator that is up and receives a mail to it
@@ -121,10 +153,10 @@ pub coordinator_receipt_sound : (sc : Scenario) (txn : TxnId) (part : Part Coord
     → IsActor sc mail.letter.from → IsSoundRefusal sc mail.letter.from mail.letter.body → IsSoundBody sc (actor.Coordinator txn) mail.letter.body → IsSoundCoordinatorMove sc txn (acts_by coordinator_fact [] part.log (coordinator_row sc c mail))
 coordinator_receipt_sound sc txn part c mail valid h e a r m =
     let state : IsSoundCoordinatorUp sc txn c = subst (λ (up : Option Coordinator). IfSome up (IsSoundCoordinatorUp sc txn)) e h.state in
-    let P = λ (to : TxnId). IsSoundBody sc (actor.Coordinator to) mail.letter.body → Each (IsSoundCoordinatorRecord sc to) part.log
-    → IsSoundCoordinatorMove sc to (acts_by coordinator_fact [] part.log (coordinator_row sc c mail)) in
-    let act : P c.txn = λ said kept. coordinator_acts_sound sc c [] part.log (coordinator_row sc c mail) state.sound.exists (coordinator_row_sound sc c mail valid state.sound a r said) kept tt in
-    subst P state.txn_is act m h.records
+    let effect = coordinator_row sc c mail in
+    let said : IsSoundBody sc (actor.Coordinator c.txn) mail.letter.body = subst (λ (to : TxnId). IsSoundBody sc (actor.Coordinator to) mail.letter.body) (sym state.txn_is) m in
+    coordinator_acts_sound sc txn part (Some effect.state) [] effect.reaction.append effect.reaction.letters h
+    (coordinator_row_acts sc txn c [] effect state.txn_is tt (coordinator_row_sound sc c mail valid state.sound a r said))
 
 with_age_sound : (sc : Scenario) (c : Coordinator) (effect : Effect Coordinator) (place : ℕ) → IsSoundCoordinatorEffect sc c effect → IsSoundCoordinatorEffect sc c (with_age effect place)
 with_age_sound sc c effect place e =
@@ -135,11 +167,9 @@ pub coordinator_begun_sound : (sc : Scenario) (txn : TxnId) (part : Part Coordin
     → IsSoundCoordinatorMove sc txn (acts_by coordinator_fact (what.Submitted txn ∷ []) part.log (with_age (submit_row sc c) place))
 coordinator_begun_sound sc txn part c place valid h e =
     let state : IsSoundCoordinatorUp sc txn c = subst (λ (up : Option Coordinator). IfSome up (IsSoundCoordinatorUp sc txn)) e h.state in
-    let P = λ (to : TxnId). Each (IsSoundCoordinatorRecord sc to) part.log
-    → IsSoundCoordinatorMove sc to (acts_by coordinator_fact (what.Submitted txn ∷ []) part.log (with_age (submit_row sc c) place)) in
-    let act : P c.txn = λ kept. coordinator_acts_sound sc c (what.Submitted txn ∷ []) part.log (with_age (submit_row sc c) place) state.sound.exists
-    (with_age_sound sc c (submit_row sc c) place (submit_row_sound sc c valid state.sound)) kept (h.exists, tt) in
-    subst P state.txn_is act h.records
+    let effect = with_age (submit_row sc c) place in
+    coordinator_acts_sound sc txn part (Some effect.state) (what.Submitted txn ∷ []) effect.reaction.append effect.reaction.letters h
+    (coordinator_row_acts sc txn c (what.Submitted txn ∷ []) effect state.txn_is (h.exists, tt) (with_age_sound sc c (submit_row sc c) place (submit_row_sound sc c valid state.sound)))
 
 -- ---- the authority
 

@@ -26,8 +26,8 @@ use Rattle.tp_runs.proofs.epochs.Server.{ServerMade}
 use Rattle.tp_runs.proofs.epochs.World.{Epochs, made_from_zero}
 use Rattle.tp_runs.proofs.ids.Queries.{homes_built}
 use Rattle.tp_runs.proofs.ids.Valid.{IsValid, valid_built}
-use Rattle.tp_runs.proofs.pairs.Actors.{BodyPairs, DoneFrom, LetterPairs, PrepareAt, QueryAt, VoteFrom, asker_at, asker_by, asker_of, asker_up, body_stays, pair_at, pair_by, pair_up, site_of, stand_of}
-use Rattle.tp_runs.proofs.pairs.CoordinatorRows.{AnswerPairs, AskPairs, CoordinatorActsPairs, CoordinatorPaired, PhaseNames, PhaseNumbered, PrepareTo, QueryTo, coordinator_row_asks, submit_row_asks}
+use Rattle.tp_runs.proofs.pairs.Actors.{BodyPairs, DoneFrom, LetterPairs, PrepareAt, QueryAt, VoteFrom, asker_at, asker_by, asker_in, asker_of, asker_up, body_stays, pair_at, pair_by, pair_of, pair_up, site_of, stand_of}
+use Rattle.tp_runs.proofs.pairs.CoordinatorRows.{AnswerPairs, AskPairs, CoordinatorActsPairs, CoordinatorPaired, PhaseNames, PhaseNumbered, PrepareTo, QueryTo, RowAsks, coordinator_row_asks, submit_row_asks}
 use Rattle.tp_runs.proofs.pairs.Fits.{AskerFits, DoneFits, Fits, PrepareFits, QueryFits}
 use Rattle.tp_runs.proofs.pairs.Follows.{Next, next_same}
 use Rattle.tp_runs.proofs.basics.Found.{of_some, some_as}
@@ -46,6 +46,7 @@ use Rattle.tp_recover.specs.Log.{decided_in}
 use Rattle.tp_machine.specs.Logs.{decided_at, decided_by, epoch_at}
 use Rattle.tp_machine.specs.Machine.{Machine, Move, State, acts, acts_by, coordinator_fact, coordinator_move, idle_coordinators, is_part_submitted, log_with, machine_after, mails_of, opened_part, opened_servers, opening_state, refusal, server_fact, server_move, state_after, with_age}
 use Rattle.tp_machine.specs.Parts.{Part}
+use Rattle.tp_types.specs.Effect.{Effect}
 use Rattle.tp_types.specs.Each.{Each, EachAt}
 use Rattle.tp_runs.specs.Sound.{IsSound, IsSoundBody, IsSoundServerUp}
 use Rattle.tp_machine.specs.Named.{IsStepOf, IsTxn}
@@ -118,26 +119,31 @@ still_pairs sc w happened letters actors h servers coordinators plain =
 
 -- ---- a server acts
 
--- what a server that is up is to its transactions
+-- what a server is to its transactions
+pub pair_of_part : (actors : Actors) (at : ServerId) (part : Part Server) (txn : TxnId) → slice_get actors.servers at.0 ≡ Some part
+    → pair_at actors txn at.0 ≡ pair_of txn (asker_at actors.coordinators txn.0 at.0) part.up part.log
+pair_of_part actors at part txn found = ap (pair_by txn (asker_at actors.coordinators txn.0 at.0)) found
+
+-- and one that is up
 pub pair_of_up : (actors : Actors) (at : ServerId) (part : Part Server) (s : Server) (txn : TxnId) → slice_get actors.servers at.0 ≡ Some part → part.up ≡ Some s
     → pair_at actors txn at.0 ≡ pair_up txn (asker_at actors.coordinators txn.0 at.0) s part.log
 pair_of_up actors at part s txn found up =
-    ap (pair_by txn (asker_at actors.coordinators txn.0 at.0)) found ∙ ap (λ (u : Option Server). pair_by txn (asker_at actors.coordinators txn.0 at.0) (Some (record { up = u; log = part.log }))) up
+    pair_of_part actors at part txn found ∙ ap (λ (u : Option Server). pair_of txn (asker_at actors.coordinators txn.0 at.0) u part.log) up
 
-server_next : (sc : Scenario) (w : State) (at : ServerId) (part : Part Server) (s now : Server) (append : Option Record) (txn : TxnId) (other : ℕ) (declared : Transaction) (b : Bool) → (at.0 == other) ≡ b → Pairs sc w
-    → slice_get w.actors.servers at.0 ≡ Some part → part.up ≡ Some s → slice_get sc.txns txn.0 ≡ Some declared
-    → Next (site_of sc at.0 declared) (pair_up txn (asker_at w.actors.coordinators txn.0 at.0) s part.log) (pair_up txn (asker_at w.actors.coordinators txn.0 at.0) now (log_with part.log append))
+server_next : (sc : Scenario) (w : State) (at : ServerId) (part : Part Server) (now : Option Server) (append : Option Record) (txn : TxnId) (other : ℕ) (declared : Transaction) (b : Bool) → (at.0 == other) ≡ b → Pairs sc w
+    → slice_get w.actors.servers at.0 ≡ Some part → slice_get sc.txns txn.0 ≡ Some declared
+    → Next (site_of sc at.0 declared) (pair_of txn (asker_at w.actors.coordinators txn.0 at.0) part.up part.log) (pair_of txn (asker_at w.actors.coordinators txn.0 at.0) now (log_with part.log append))
     → Next (site_of sc other declared) (pair_at w.actors txn other)
-    (pair_by txn (asker_at w.actors.coordinators txn.0 other) (slice_get (slice_set w.actors.servers at.0 (record { up = Some now; log = log_with part.log append })) other))
-server_next sc w at part s now append txn other declared false e h found up exists n =
+    (pair_by txn (asker_at w.actors.coordinators txn.0 other) (slice_get (slice_set w.actors.servers at.0 (record { up = now; log = log_with part.log append })) other))
+server_next sc w at part now append txn other declared false e h found exists n =
     subst (λ (x : Option (Part Server)). Next (site_of sc other declared) (pair_at w.actors txn other) (pair_by txn (asker_at w.actors.coordinators txn.0 other) x))
-    (sym (set_elsewhere w.actors.servers at.0 other (record { up = Some now; log = log_with part.log append }) e)) (next_same (site_of sc other declared) (pair_at w.actors txn other) (h.fits txn other declared exists))
-server_next sc w at part s now append txn other declared true e h found up exists n =
-    let new : Part Server = record { up = Some now; log = log_with part.log append } in
+    (sym (set_elsewhere w.actors.servers at.0 other (record { up = now; log = log_with part.log append }) e)) (next_same (site_of sc other declared) (pair_at w.actors txn other) (h.fits txn other declared exists))
+server_next sc w at part now append txn other declared true e h found exists n =
+    let new : Part Server = record { up = now; log = log_with part.log append } in
     let there : slice_get (slice_set w.actors.servers at.0 new) at.0 ≡ Some new = set_here w.actors.servers at.0 new (slice_get_within w.actors.servers at.0 part found) in
     let after : Next (site_of sc at.0 declared) (pair_at w.actors txn at.0) (pair_by txn (asker_at w.actors.coordinators txn.0 at.0) (slice_get (slice_set w.actors.servers at.0 new) at.0)) =
     subst (λ (x : Option (Part Server)). Next (site_of sc at.0 declared) (pair_at w.actors txn at.0) (pair_by txn (asker_at w.actors.coordinators txn.0 at.0) x)) (sym there)
-    (subst (λ (p : Pair). Next (site_of sc at.0 declared) p (pair_up txn (asker_at w.actors.coordinators txn.0 at.0) now (log_with part.log append))) (sym (pair_of_up w.actors at part s txn found up)) n) in
+    (subst (λ (p : Pair). Next (site_of sc at.0 declared) p (pair_of txn (asker_at w.actors.coordinators txn.0 at.0) now (log_with part.log append))) (sym (pair_of_part w.actors at part txn found)) n) in
     subst (λ (m : ℕ). Next (site_of sc m declared) (pair_at w.actors txn m) (pair_by txn (asker_at w.actors.coordinators txn.0 m) (slice_get (slice_set w.actors.servers at.0 new) m))) (eqb-true at.0 other e) after
 
 -- what a reply says, it says of its server
@@ -149,22 +155,23 @@ reply_pairs sc at P Q from to (body.Query q) is same h = absurd h
 reply_pairs sc at P Q from to (body.Prepare r) is same h = absurd h
 reply_pairs sc at P Q from to _ is same h = tt
 
-server_acts_pairs : (sc : Scenario) (w : State) (at : ServerId) (part : Part Server) (s now : Server) (append : Option Record) (letters : List Letter) → Pairs sc w → slice_get w.actors.servers at.0 ≡ Some part → part.up ≡ Some s
-    → ServerActsPairs sc at (λ txn. asker_at w.actors.coordinators txn.0 at.0) s part.log now append letters
-    → MovePairs sc w (server_move w.actors at (acts (server_fact at) [] part.log (Some now) (log_with part.log append) letters))
-server_acts_pairs sc w at part s now append letters h found up k =
-    let new : Part Server = record { up = Some now; log = log_with part.log append } in
+-- the move of a server whose act goes on so, whether it is up before and after it or down
+pub server_acts_pairs : (sc : Scenario) (w : State) (at : ServerId) (part : Part Server) (now : Option Server) (own : List What) (append : Option Record) (letters : List Letter) → Pairs sc w
+    → slice_get w.actors.servers at.0 ≡ Some part → ServerActsPairs sc at (λ txn. asker_at w.actors.coordinators txn.0 at.0) part.up part.log now append letters
+    → MovePairs sc w (server_move w.actors at (acts (server_fact at) own part.log now (log_with part.log append) letters))
+server_acts_pairs sc w at part now own append letters h found k =
+    let new : Part Server = record { up = now; log = log_with part.log append } in
     let servers = slice_set w.actors.servers at.0 new in
     let actors : Actors = record w.actors { servers = servers } in
-    let here : (txn : TxnId) → pair_at actors txn at.0 ≡ pair_up txn (asker_at w.actors.coordinators txn.0 at.0) now (log_with part.log append) = λ txn.
+    let Q : TxnId → Pair = λ txn. pair_of txn (asker_at w.actors.coordinators txn.0 at.0) now (log_with part.log append) in
+    let here : (txn : TxnId) → pair_at actors txn at.0 ≡ Q txn = λ txn.
     ap (pair_by txn (asker_at w.actors.coordinators txn.0 at.0)) (set_here w.actors.servers at.0 new (slice_get_within w.actors.servers at.0 part found)) in
-    let old : HasPlaces sc s = of_some (HasPlaces sc) part.up s up (h.places at.0 part found) in
     record {
-      next = λ txn other declared e. server_next sc w at part s now append txn other declared (at.0 == other) refl h found up e (k.next txn declared e);
+      next = λ txn other declared e. server_next sc w at part now append txn other declared (at.0 == other) refl h found e (k.next txn declared e);
       numbered = h.numbered;
-      places = at_set (λ (n : ℕ) (p : Part Server). IfSome p.up (HasPlaces sc)) w.actors.servers at.0 new h.places (k.places ∙ old);
-      letters = each_as (IsReply sc at (λ txn. pair_up txn (asker_at w.actors.coordinators txn.0 at.0) now (log_with part.log append))) (LetterPairs sc (pair_at actors))
-          (λ letter reply. reply_pairs sc at (pair_at actors) (λ txn. pair_up txn (asker_at w.actors.coordinators txn.0 at.0) now (log_with part.log append)) letter.from letter.to letter.body reply.from_is here reply.says) letters k.replies;
+      places = at_set (λ (n : ℕ) (p : Part Server). IfSome p.up (HasPlaces sc)) w.actors.servers at.0 new h.places k.places;
+      letters = each_as (IsReply sc at Q) (LetterPairs sc (pair_at actors))
+          (λ letter reply. reply_pairs sc at (pair_at actors) Q letter.from letter.to letter.body reply.from_is here reply.says) letters k.replies;
     }
 
 -- what a mail to a server says of it
@@ -220,27 +227,29 @@ receipt_by_server_in_known sc w rightly sound a epochs h n mail at part s sent u
     let row : RowPairs sc A s part.log effect =
     server_row_pairs sc A s part.log mail (rightly at part s up) paired own.sound (subst (λ (m : ServerId). IsSoundBody sc (actor.Server m) mail.letter.body) (sym own.server_is) (mail_sound sc w n mail (actor.Server at) sound sent))
     (subst (λ (m : ServerId). RequestPairs sc m A (λ txn. pair_up txn (A txn) s part.log) mail.letter.body) (sym own.server_is) asked) in
-    server_acts_pairs sc w at part s effect.state effect.reaction.append effect.reaction.letters h up.found up.up
-    (subst (λ (m : ServerId). ServerActsPairs sc m A s part.log effect.state effect.reaction.append effect.reaction.letters) own.server_is row)
+    let now = Some effect.state in
+    server_acts_pairs sc w at part now [] effect.reaction.append effect.reaction.letters h up.found
+    (subst (λ (was : Option Server). ServerActsPairs sc at A was part.log now effect.reaction.append effect.reaction.letters) (sym up.up)
+    (subst (λ (m : ServerId). ServerActsPairs sc m A (Some s) part.log now effect.reaction.append effect.reaction.letters) own.server_is row))
 
 -- ---- a coordinator acts
 
 asker_of_up : (w : State) (txn : TxnId) (part : Part Coordinator) (c : Coordinator) (at : ℕ) → IsCoordinatorUp w txn part c → asker_at w.actors.coordinators txn.0 at ≡ asker_up at c
 asker_of_up w txn part c at up = ap (option_and_then (asker_by at)) up.found ∙ ap (option_and_then (asker_up at)) up.up
 
-coordinator_next : (sc : Scenario) (w : State) (txn : TxnId) (part : Part Coordinator) (c now : Coordinator) (kept : List Record) (other : TxnId) (at : ℕ) (declared : Transaction) (b : Bool) → same_txn txn other ≡ b → Pairs sc w
-    → IsCoordinatorUp w txn part c → slice_get sc.txns other.0 ≡ Some declared
-    → ((own : Transaction) → slice_get sc.txns txn.0 ≡ Some own → Next (site_of sc at own) (pair_at w.actors txn at) (with_asker (pair_at w.actors txn at) (asker_up at now)))
+coordinator_next : (sc : Scenario) (w : State) (txn : TxnId) (part : Part Coordinator) (now : Option Coordinator) (kept : List Record) (other : TxnId) (at : ℕ) (declared : Transaction) (b : Bool) → same_txn txn other ≡ b → Pairs sc w
+    → slice_get w.actors.coordinators txn.0 ≡ Some part → slice_get sc.txns other.0 ≡ Some declared
+    → ((own : Transaction) → slice_get sc.txns txn.0 ≡ Some own → Next (site_of sc at own) (pair_at w.actors txn at) (with_asker (pair_at w.actors txn at) (asker_in at now)))
     → Next (site_of sc at declared) (pair_at w.actors other at)
-    (pair_by other (asker_at (slice_set w.actors.coordinators txn.0 (record { up = Some now; log = kept })) other.0 at) (slice_get w.actors.servers at))
-coordinator_next sc w txn part c now kept other at declared false e h up exists n =
+    (pair_by other (asker_at (slice_set w.actors.coordinators txn.0 (record { up = now; log = kept })) other.0 at) (slice_get w.actors.servers at))
+coordinator_next sc w txn part now kept other at declared false e h found exists n =
     subst (λ (x : Option (Part Coordinator)). Next (site_of sc at declared) (pair_at w.actors other at) (pair_by other (option_and_then (asker_by at) x) (slice_get w.actors.servers at)))
-    (sym (set_elsewhere w.actors.coordinators txn.0 other.0 (record { up = Some now; log = kept }) e)) (next_same (site_of sc at declared) (pair_at w.actors other at) (h.fits other at declared exists))
-coordinator_next sc w txn part c now kept other at declared true e h up exists n =
-    let new : Part Coordinator = record { up = Some now; log = kept } in
+    (sym (set_elsewhere w.actors.coordinators txn.0 other.0 (record { up = now; log = kept }) e)) (next_same (site_of sc at declared) (pair_at w.actors other at) (h.fits other at declared exists))
+coordinator_next sc w txn part now kept other at declared true e h found exists n =
+    let new : Part Coordinator = record { up = now; log = kept } in
     let is : txn ≡ other = same_txn_is txn other e in
-    let there : asker_at (slice_set w.actors.coordinators txn.0 new) txn.0 at ≡ asker_up at now =
-    ap (option_and_then (asker_by at)) (set_here w.actors.coordinators txn.0 new (slice_get_within w.actors.coordinators txn.0 part up.found)) in
+    let there : asker_at (slice_set w.actors.coordinators txn.0 new) txn.0 at ≡ asker_in at now =
+    ap (option_and_then (asker_by at)) (set_here w.actors.coordinators txn.0 new (slice_get_within w.actors.coordinators txn.0 part found)) in
     let after : Next (site_of sc at declared) (pair_at w.actors txn at) (pair_by txn (asker_at (slice_set w.actors.coordinators txn.0 new) txn.0 at) (slice_get w.actors.servers at)) =
     subst (λ (a : Option Asker). Next (site_of sc at declared) (pair_at w.actors txn at) (pair_by txn a (slice_get w.actors.servers at))) (sym there) (n declared (ap (λ (t : TxnId). slice_get sc.txns t.0) is ∙ exists)) in
     subst (λ (t : TxnId). Next (site_of sc at declared) (pair_at w.actors t at) (pair_by t (asker_at (slice_set w.actors.coordinators txn.0 new) t.0 at) (slice_get w.actors.servers at))) is after
@@ -268,25 +277,32 @@ ask_pairs sc declared txn P Q from to (body.Done done) exists same h = absurd h
 ask_pairs sc declared txn P Q from to (body.Vote reply) exists same h = absurd h
 ask_pairs sc declared txn P Q from to _ exists same h = tt
 
-coordinator_acts_pairs : (sc : Scenario) (w : State) (declared : Transaction) (txn : TxnId) (part : Part Coordinator) (c now : Coordinator) (own : List What) (kept : List Record) (letters : List Letter) → Pairs sc w
-    → IsCoordinatorUp w txn part c → slice_get sc.txns txn.0 ≡ Some declared → now.txn ≡ txn → CoordinatorActsPairs sc declared (pair_at w.actors txn) now letters
-    → MovePairs sc w (coordinator_move w.actors txn (acts coordinator_fact own part.log (Some now) kept letters))
-coordinator_acts_pairs sc w declared txn part c now own kept letters h up exists same k =
-    let new : Part Coordinator = record { up = Some now; log = kept } in
+-- the move of a coordinator whose act goes on so, whether it is up after it or down
+pub coordinator_acts_pairs : (sc : Scenario) (w : State) (declared : Transaction) (txn : TxnId) (part : Part Coordinator) (now : Option Coordinator) (own : List What) (append : Option Record) (letters : List Letter) → Pairs sc w
+    → slice_get w.actors.coordinators txn.0 ≡ Some part → slice_get sc.txns txn.0 ≡ Some declared → CoordinatorActsPairs sc declared txn (pair_at w.actors txn) now letters
+    → MovePairs sc w (coordinator_move w.actors txn (acts coordinator_fact own part.log now (log_with part.log append) letters))
+coordinator_acts_pairs sc w declared txn part now own append letters h found exists k =
+    let kept = log_with part.log append in
+    let new : Part Coordinator = record { up = now; log = kept } in
     let coordinators = slice_set w.actors.coordinators txn.0 new in
     let actors : Actors = record w.actors { coordinators = coordinators } in
-    let there : (at : ℕ) → pair_at actors txn at ≡ with_asker (pair_at w.actors txn at) (asker_up at now) = λ at.
-    ap (λ (a : Option Asker). pair_by txn a (slice_get w.actors.servers at)) (ap (option_and_then (asker_by at)) (set_here w.actors.coordinators txn.0 new (slice_get_within w.actors.coordinators txn.0 part up.found))) in
+    let Q : ℕ → Pair = λ at. with_asker (pair_at w.actors txn at) (asker_in at now) in
+    let there : (at : ℕ) → pair_at actors txn at ≡ Q at = λ at.
+    ap (λ (a : Option Asker). pair_by txn a (slice_get w.actors.servers at)) (ap (option_and_then (asker_by at)) (set_here w.actors.coordinators txn.0 new (slice_get_within w.actors.coordinators txn.0 part found))) in
     record {
-      next = λ other at found e.
-          coordinator_next sc w txn part c now kept other at found (same_txn txn other) refl h up e
-          (λ mine f. subst (λ (d : Transaction). Next (site_of sc at d) (pair_at w.actors txn at) (with_asker (pair_at w.actors txn at) (asker_up at now))) (same_Some declared mine (sym exists ∙ f)) (k.next at));
+      next = λ other at its e.
+          coordinator_next sc w txn part now kept other at its (same_txn txn other) refl h found e
+          (λ mine f. subst (λ (d : Transaction). Next (site_of sc at d) (pair_at w.actors txn at) (Q at)) (same_Some declared mine (sym exists ∙ f)) (k.next at));
       numbered = at_set (λ (n : ℕ) (p : Part Coordinator). IfSome p.up IsNumbered) w.actors.coordinators txn.0 new h.numbered k.numbered;
       places = h.places;
-      letters = each_as (λ (letter : Letter). AskPairs sc declared now.txn (λ at. with_asker (pair_at w.actors txn at) (asker_up at now)) letter.to letter.body) (LetterPairs sc (pair_at actors))
-          (λ letter asks. ask_pairs sc declared txn (pair_at actors) (λ at. with_asker (pair_at w.actors txn at) (asker_up at now)) letter.from letter.to letter.body exists there
-          (subst (λ (t : TxnId). AskPairs sc declared t (λ at. with_asker (pair_at w.actors txn at) (asker_up at now)) letter.to letter.body) same asks)) letters k.requests;
+      letters = each_as (λ (letter : Letter). AskPairs sc declared txn Q letter.to letter.body) (LetterPairs sc (pair_at actors))
+          (λ letter asks. ask_pairs sc declared txn (pair_at actors) Q letter.from letter.to letter.body exists there asks) letters k.requests;
     }
+
+-- the act of one that is up before and after it, of its own transaction
+row_asks : (sc : Scenario) (declared : Transaction) (txn : TxnId) (P : ℕ → Pair) (effect : Effect Coordinator) → effect.state.txn ≡ txn → RowAsks sc declared P effect
+    → CoordinatorActsPairs sc declared txn P (Some effect.state) effect.reaction.letters
+row_asks sc declared txn P effect same k = subst (λ (t : TxnId). CoordinatorActsPairs sc declared t P (Some effect.state) effect.reaction.letters) same k
 
 abbrev PhaseWithin : ℕ → Phase → Type 0
 PhaseWithin count (phase.Querying number staple) = (1 ≤ number) × (number ≤ count)
@@ -375,9 +391,10 @@ receipt_by_coordinator_in_known sc w valid homes few sound a epochs trusts h n m
     let d = declared_by sc txn exists in
     let said : BodyPairs sc (pair_at w.actors) mail.letter.from (actor.Coordinator txn) mail.letter.body =
     subst (λ (to : Actor). BodyPairs sc (pair_at w.actors) mail.letter.from to mail.letter.body) sent.goes_to (each_get (λ (m : Mail). LetterPairs sc (pair_at w.actors) m.letter) w.mails n mail h.mails sent.sent) in
-    coordinator_acts_pairs sc w d.0 txn part c effect.state [] (log_with part.log effect.reaction.append) effect.reaction.letters h up d.1 (same_txn_row sc w sound a n mail txn part c sent up)
+    coordinator_acts_pairs sc w d.0 txn part (Some effect.state) [] effect.reaction.append effect.reaction.letters h up.found d.1
+    (row_asks sc d.0 txn (pair_at w.actors txn) effect (same_txn_row sc w sound a n mail txn part c sent up)
     (coordinator_row_asks sc d.0 (pair_at w.actors txn) c mail valid homes (coordinator_paired sc w d.0 txn part c few sound epochs trusts h up d.1)
-    (answer_pairs sc w d.0 txn mail.letter.from mail.letter.body d.1 (mail_sound sc w n mail (actor.Coordinator txn) sound sent) said))
+    (answer_pairs sc w d.0 txn mail.letter.from mail.letter.body d.1 (mail_sound sc w n mail (actor.Coordinator txn) sound sent) said)))
 
 begun_pairs : (sc : Scenario) (w : State) → is_built sc ≡ true → AreFew sc → IsSound sc w → Agrees sc w → Epochs sc w → Trusts sc w → Pairs sc w → (txn : TxnId) (part : Part Coordinator) (c : Coordinator) → IsTxn sc txn
     → IsCoordinatorUp w txn part c → is_part_submitted (Some c) ≡ false
@@ -386,8 +403,9 @@ begun_pairs sc w built few sound a epochs trusts h txn part c exists up new =
     let effect = with_age (submit_row sc c) (length w.steps) in
     let d = declared_by sc txn exists in
     let same = (begun_lawful sc w built sound a txn part c exists up new).same_txn ∙ own_txn sc w txn part c sound up.found up.up in
-    coordinator_acts_pairs sc w d.0 txn part c effect.state (what.Submitted txn ∷ []) (log_with part.log effect.reaction.append) effect.reaction.letters h up d.1 same
-    (submit_row_asks sc d.0 (pair_at w.actors txn) c (length w.steps) (coordinator_paired sc w d.0 txn part c few sound epochs trusts h up d.1) new)
+    coordinator_acts_pairs sc w d.0 txn part (Some effect.state) (what.Submitted txn ∷ []) effect.reaction.append effect.reaction.letters h up.found d.1
+    (row_asks sc d.0 txn (pair_at w.actors txn) effect same
+    (submit_row_asks sc d.0 (pair_at w.actors txn) c (length w.steps) (coordinator_paired sc w d.0 txn part c few sound epochs trusts h up d.1) new))
 
 -- ---- steps
 

@@ -1,5 +1,5 @@
 -- Locks over every list of steps.
-use Rattle.std.proofs.Common.{IfSome, List, None, Some, [], arith, length, replicate, subst, sym, ℕ, ◌<◌, ◌∙◌, ◌≡◌}
+use Rattle.std.proofs.Common.{IfSome, List, None, Option, Some, [], arith, length, replicate, subst, sym, ℕ, ◌<◌, ◌∙◌, ◌≡◌}
 use Rattle.std.proofs.lemmas.List.{length-replicate}
 use Rattle.std.proofs.lemmas.Option.{same_Some, slice_get_within}
 use Rattle.tp_lock.proofs.RequestLaws.{opening_orderly}
@@ -7,7 +7,7 @@ use Rattle.tp_lock.specs.Rule.{opening}
 use Rattle.tp_lock.specs.declared.entry.LockEntry.{LockEntry}
 use Rattle.tp_model.specs.Queries.{item_of}
 use Rattle.tp_model.specs.Words.actor
-use Rattle.tp_model.specs.Words.{Mail, Query, Scenario, ServerId, Step}
+use Rattle.tp_model.specs.Words.{Letter, Mail, Query, Record, Scenario, ServerId, Step, What}
 use Rattle.tp_runs.proofs.agreement.Steps.{mail_sound}
 use Rattle.tp_runs.proofs.agreement.World.{Agrees}
 use Rattle.tp_types.proofs.EachLemmas.{at_made, at_set, placed_none}
@@ -18,7 +18,7 @@ use Rattle.tp_runs.proofs.locked.Servers.{AskerPlaced, server_row_locked}
 use Rattle.tp_runs.proofs.basics.Found.{of_some}
 use Rattle.tp_runs.proofs.known.World.{HasPlaces, Pairs}
 use Rattle.tp_runs.proofs.walks.Steps.{Cases, IsServerUp, WaitRightly, WasSent, machine_after_by}
-use Rattle.tp_machine.specs.Machine.{Machine, State, acts_by, log_with, machine_after, opened_part, opening_state, refusal, server_fact, server_move}
+use Rattle.tp_machine.specs.Machine.{Machine, State, acts, acts_by, log_with, machine_after, opened_part, opening_state, refusal, server_fact, server_move}
 use Rattle.tp_machine.specs.Parts.{Part}
 use Rattle.tp_types.specs.Each.{EachAt}
 use Rattle.tp_runs.specs.Sound.{IsSound, IsSoundBody, IsSoundQuery}
@@ -51,13 +51,19 @@ asker_placed sc w n mail at part s sound pairs sent up =
           subst (λ (x : Query). (item_of x).0 < length sc.items) same (slice_get_within sc.items (item_of m.asked).0 m.kept.declared m.kept.declared_is);
     }
 
+-- an act of a server, whether it was up before it or down, and is up after it or down
+pub server_acts_locked : (sc : Scenario) (w : State) (at : ServerId) (part : Part Server) (now : Option Server) (own : List What) (append : Option Record) (letters : List Letter) → ServersLocked sc w.actors.servers → IfSome now (IsLockedServer sc)
+    → ServersLocked sc (server_move w.actors at (acts (server_fact at) own part.log now (log_with part.log append) letters)).actors.servers
+server_acts_locked sc w at part now own append letters h state =
+    let new : Part Server = record { up = now; log = log_with part.log append } in
+    at_set (λ (m : ℕ) (p : Part Server). IfSome p.up (IsLockedServer sc)) w.actors.servers at.0 new h state
+
 server_moves_in_locked : (sc : Scenario) (w : State) (n : ℕ) (mail : Mail) (at : ServerId) (part : Part Server) (s : Server) → WaitRightly sc w → IsSound sc w → Pairs sc w → ServersLocked sc w.actors.servers → WasSent w n mail (actor.Server at) → IsServerUp w at part s
     → ServersLocked sc (server_move w.actors at (acts_by (server_fact at) [] part.log (server_row sc s mail))).actors.servers
 server_moves_in_locked sc w n mail at part s rightly sound pairs h sent up =
     let effect = server_row sc s mail in
-    let new : Part Server = record { up = Some effect.state; log = log_with part.log effect.reaction.append } in
     let row = server_row_locked sc s mail (rightly at part s up) (asker_placed sc w n mail at part s sound pairs sent up) (of_some (IsLockedServer sc) part.up s up.up (h at.0 part up.found)) in
-    at_set (λ (m : ℕ) (p : Part Server). IfSome p.up (IsLockedServer sc)) w.actors.servers at.0 new h row.state
+    server_acts_locked sc w at part (Some effect.state) [] effect.reaction.append effect.reaction.letters h row.state
 
 locked_cases : (sc : Scenario) (w : State) → WaitRightly sc w → IsSound sc w → Pairs sc w → ServersLocked sc w.actors.servers → Cases sc w (λ taken move. ServersLocked sc move.actors.servers)
 locked_cases sc w rightly sound pairs h =

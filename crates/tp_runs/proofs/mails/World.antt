@@ -9,7 +9,8 @@ use Rattle.tp_model.specs.Built.{is_built}
 use Rattle.tp_model.specs.Queries.{is_at_server, servers_from, servers_of}
 use Rattle.tp_model.specs.Words.body
 use Rattle.tp_model.specs.Words.step
-use Rattle.tp_model.specs.Words.{Body, Mail, Query, Scenario, ServerId, Step, Transaction, TxnId}
+use Rattle.tp_model.specs.Words.what
+use Rattle.tp_model.specs.Words.{Body, Letter, Mail, Query, Record, Scenario, ServerId, Step, Transaction, TxnId, What}
 use Rattle.tp_model.proofs.RuleLemmas.{few_servers, valid_built}
 use Rattle.tp_runs.proofs.agreement.Steps.{coordinator_agrees}
 use Rattle.tp_runs.proofs.agreement.World.{Agrees}
@@ -17,11 +18,12 @@ use Rattle.tp_machine.proofs.basics.Flags.{length_mails_of}
 use Rattle.tp_types.proofs.EachLemmas.{at_made, at_set, by_cond}
 use Rattle.tp_runs.proofs.mails.Actors.{AwaitsFew, coordinator_row_sends, server_row_sends, submit_row_sends, waits_in}
 use Rattle.tp_runs.proofs.walks.Steps.{Cases, IsCoordinatorUp, IsServerUp, WaitRightly, machine_after_by}
-use Rattle.tp_machine.specs.Machine.{Machine, Move, PartMove, State, acts_by, after_step, after_steps, coordinator_move, log_with, machine_after, mails_of, opened_part, opening_state, refusal, server_fact, server_move, state_after}
+use Rattle.tp_machine.specs.Machine.{Machine, Move, State, acts, acts_by, after_step, after_steps, coordinator_fact, coordinator_move, log_with, machine_after, mails_of, opened_part, opening_state, refusal, server_fact, server_move, state_after, with_age}
 use Rattle.tp_machine.specs.Parts.{Part}
 use Rattle.tp_types.specs.Each.{EachAt}
 use Rattle.tp_machine.specs.Named.{IsStepOf}
 use Rattle.tp_coord.specs.Opened.{idle, servers_at}
+use Rattle.tp_coord.specs.Row.{coordinator_row, submit_row}
 use Rattle.tp_coord.specs.State.{Coordinator}
 use Rattle.tp_machine.specs.declared.error.StepError.{StepError}
 use Rattle.tp_server.specs.Opened as server_opened
@@ -61,7 +63,7 @@ few_mails w h = omega (arith, h.mails)
 
 -- ---- a move
 
-record MoveFew (w : State) (move : Move) : Type 0 where
+pub record MoveFew (w : State) (move : Move) : Type 0 where
   pub awaits : AwaitFew move.actors.coordinators
   pub letters : length move.letters + waiting move.actors.servers ≤ 16 + waiting w.actors.servers
 
@@ -104,9 +106,12 @@ own_awaits w txn part c h up = subst (λ (u : Option Coordinator). IfSome u (Awa
 
 -- ---- acts
 
-coordinator_acts_few : (w : State) (txn : TxnId) (move : PartMove Coordinator) → FewMails w → IfSome move.part.up (AwaitsFew 16) → length move.letters ≤ 16 → MoveFew w (coordinator_move w.actors txn move)
-coordinator_acts_few w txn move h awaits letters =
-    record { awaits = at_set (λ (n : ℕ) (part : Part Coordinator). IfSome part.up (AwaitsFew 16)) w.actors.coordinators txn.0 move.part h.awaits awaits; letters = omega (arith, letters) }
+-- an act of a coordinator, whether it was up before it or down, and is up after it or down
+pub coordinator_acts_few : (w : State) (txn : TxnId) (part : Part Coordinator) (now : Option Coordinator) (own : List What) (append : Option Record) (letters : List Letter) → FewMails w → IfSome now (AwaitsFew 16) → length letters ≤ 16
+    → MoveFew w (coordinator_move w.actors txn (acts coordinator_fact own part.log now (log_with part.log append) letters))
+coordinator_acts_few w txn part now own append letters h awaits few =
+    let new : Part Coordinator = record { up = now; log = log_with part.log append } in
+    record { awaits = at_set (λ (n : ℕ) (other : Part Coordinator). IfSome other.up (AwaitsFew 16)) w.actors.coordinators txn.0 new h.awaits awaits; letters = omega (arith, few) }
 
 -- one server changes
 waiting_set : (parts : List (Part Server)) (n : ℕ) (old new : Part Server) → slice_get parts n ≡ Some old → waiting (slice_set parts n new) + waits_of old.up ≡ waiting parts + waits_of new.up
@@ -119,13 +124,19 @@ waiting_set (part ∷ parts) (suc n) old new e =
     let now : waiting (slice_set (part ∷ parts) (suc n) new) ≡ waits_of part.up + waiting (slice_set parts n new) = refl in
     omega (arith, now, waiting_set parts n old new e)
 
-server_acts_few : (sc : Scenario) (w : State) (at : ServerId) (part : Part Server) (s : Server) (mail : Mail) → WaitRightly sc w → FewMails w → IsServerUp w at part s
+-- an act of a server, whether it was up before it or down, and is up after it or down
+pub server_acts_few : (w : State) (at : ServerId) (part : Part Server) (now : Option Server) (own : List What) (append : Option Record) (letters : List Letter) → FewMails w → slice_get w.actors.servers at.0 ≡ Some part
+    → length letters + waits_of now ≤ 16 + waits_of part.up → MoveFew w (server_move w.actors at (acts (server_fact at) own part.log now (log_with part.log append) letters))
+server_acts_few w at part now own append letters h found few =
+    let new : Part Server = record { up = now; log = log_with part.log append } in
+    record { awaits = h.awaits; letters = omega (arith, few, waiting_set w.actors.servers at.0 part new found) }
+
+receipt_few : (sc : Scenario) (w : State) (at : ServerId) (part : Part Server) (s : Server) (mail : Mail) → WaitRightly sc w → FewMails w → IsServerUp w at part s
     → MoveFew w (server_move w.actors at (acts_by (server_fact at) [] part.log (server_row sc s mail)))
-server_acts_few sc w at part s mail rightly h up =
+receipt_few sc w at part s mail rightly h up =
     let effect = server_row sc s mail in
-    let new : Part Server = record { up = Some effect.state; log = log_with part.log effect.reaction.append } in
     let was : waits_of part.up ≡ waits_in s.entries = ap waits_of up.up in
-    record { awaits = h.awaits; letters = omega (arith, was, server_row_sends sc s mail (rightly at part s up), waiting_set w.actors.servers at.0 part new up.found) }
+    server_acts_few w at part (Some effect.state) [] effect.reaction.append effect.reaction.letters h up.found (omega (arith, was, server_row_sends sc s mail (rightly at part s up)))
 
 authority_sends : (authority : Authority) (said : Body) → length (office.on_body authority said).reaction.letters ≤ 16
 authority_sends authority (body.Ask ask) = omega arith
@@ -141,10 +152,11 @@ few_cases : (sc : Scenario) (w : State) → is_built sc ≡ true → WaitRightly
 few_cases sc w built rightly a h =
     record {
       idle = λ taken happened e. record { awaits = h.awaits; letters = omega arith };
-      server_received = λ n mail at part s sent up. server_acts_few sc w at part s mail rightly h up;
+      server_received = λ n mail at part s sent up. receipt_few sc w at part s mail rightly h up;
       coordinator_received = λ n mail txn part c sent up.
+          let effect = coordinator_row sc c mail in
           let few = coordinator_row_sends 16 sc c mail (omega arith) (own_servers_few sc w txn part c built a up) (own_awaits w txn part c h up) in
-          coordinator_acts_few w txn _ h few.awaits few.letters;
+          coordinator_acts_few w txn part (Some effect.state) [] effect.reaction.append effect.reaction.letters h few.awaits few.letters;
       authority_told = λ n mail sent. record { awaits = h.awaits; letters = omega (arith, authority_sends w.actors.authority mail.letter.body) };
       master_told = λ n mail sent. record { awaits = h.awaits; letters = omega (arith, master_sends w.actors.master mail.letter.body) };
       published = λ admin exists more. record { awaits = h.awaits; letters = omega arith };
@@ -152,8 +164,9 @@ few_cases sc w built rightly a h =
       ticked = λ by. record { awaits = h.awaits; letters = omega arith };
       revoked = λ cred exists. record { awaits = h.awaits; letters = omega arith };
       begun = λ txn part c exists up new.
+          let effect = with_age (submit_row sc c) (length w.steps) in
           let few = submit_row_sends 16 (length w.steps) sc c (omega arith) (own_awaits w txn part c h up) in
-          coordinator_acts_few w txn _ h few.awaits few.letters;
+          coordinator_acts_few w txn part (Some effect.state) (what.Submitted txn ∷ []) effect.reaction.append effect.reaction.letters h few.awaits few.letters;
     }
 
 -- a step that is not refused sends few mails

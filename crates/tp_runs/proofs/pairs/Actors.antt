@@ -40,8 +40,12 @@ asker_of at c = record {
 abbrev pub asker_up : ℕ → Coordinator → Option Asker
 asker_up at c = if is_undecided c.phase then Some (asker_of at c) else None
 
+-- nor is down
+abbrev pub asker_in : ℕ → Option Coordinator → Option Asker
+asker_in at up = option_and_then (asker_up at) up
+
 abbrev pub asker_by : ℕ → Part Coordinator → Option Asker
-asker_by at part = option_and_then (asker_up at) part.up
+asker_by at part = asker_in at part.up
 
 abbrev pub asker_at : List (Part Coordinator) → ℕ → ℕ → Option Asker
 asker_at coordinators txn at = option_and_then (asker_by at) (slice_get coordinators txn)
@@ -69,9 +73,13 @@ pair_by txn asker part = record {
   asker = asker;
 }
 
--- that of a server which is up, with its log
+-- that of a server which is up or down, with its log
+abbrev pub pair_of : TxnId → Option Asker → Option Server → List Record → Pair
+pair_of txn asker up kept = pair_by txn asker (Some (record { up = up; log = kept }))
+
+-- that of a server which is up
 abbrev pub pair_up : TxnId → Option Asker → Server → List Record → Pair
-pair_up txn asker s kept = pair_by txn asker (Some (record { up = Some s; log = kept }))
+pair_up txn asker s kept = pair_of txn asker (Some s) kept
 
 -- a transaction at a server, by its number
 abbrev pub pair_at : Actors → TxnId → ℕ → Pair

@@ -1,6 +1,6 @@
 -- Deeds and epochs, the coordinator's rows: each is an event at every server, as the coordinator's transaction is seen there.
 use Rattle.std.specs.Option.{option_flatten, option_map_or}
-use Rattle.std.proofs.Common.{Bool, List, None, Option, Some, [], ap, arith, false, if◌then◌else◌, length, map, option_and_then, option_map, refl, slice_get, slice_set, subst, suc, sym, true, zero, ℕ, ℤ, ◌++◌, ◌+◌, ◌<◌, ◌==◌, ◌∙◌, ◌∷◌, ◌≡◌, ◌≤◌, ◌⊎◌}
+use Rattle.std.proofs.Common.{Bool, IfSome, List, None, Option, Some, [], ap, arith, false, if◌then◌else◌, length, map, option_and_then, option_map, refl, slice_get, slice_set, subst, suc, sym, true, zero, ℕ, ℤ, ◌++◌, ◌+◌, ◌<◌, ◌==◌, ◌∙◌, ◌∷◌, ◌≡◌, ◌≤◌, ◌⊎◌}
 use Rattle.std.proofs.lemmas.Bool.{and_parts, eq-eqb, eqb-true}
 use Rattle.std.proofs.lemmas.List.{length_push}
 use Rattle.std.proofs.lemmas.Option.{same_Some, slice_get_within}
@@ -20,7 +20,7 @@ use Rattle.tp_runs.proofs.basics.Phases.{awaits_is, is_undecided, sent_to_server
 use Rattle.tp_runs.proofs.epochs.Coordinator.{some_is}
 use Rattle.tp_runs.proofs.epochs.Kept.{KeepsEpoch, PhaseKept, from_server, kept_epoch}
 use Rattle.tp_runs.proofs.ids.Valid.{IsValid, IsValidItem}
-use Rattle.tp_runs.proofs.pairs.Actors.{asker_of, asker_up, site_of, stand_of}
+use Rattle.tp_runs.proofs.pairs.Actors.{asker_in, asker_of, asker_up, site_of, stand_of}
 use Rattle.tp_runs.proofs.pairs.Answered.{Taken, answered, elsewhere, next_deed, taken, takes}
 use Rattle.tp_runs.proofs.pairs.Fits.{AnswerFits, AskerFits, DoneFits, Fits, Names, PrepareFits, QueryFits, RanFits}
 use Rattle.tp_runs.proofs.pairs.Follows.{Next, next_both, next_same}
@@ -71,15 +71,15 @@ AskPairs sc declared txn Q to (body.Done done) = ⊥
 AskPairs sc declared txn Q to (body.Vote reply) = ⊥
 AskPairs sc declared txn Q to _ = Unit {0}
 
--- an act of a coordinator that is up before and after it: its transaction goes on by events at each server, and requests say so
-pub record CoordinatorActsPairs (sc : Scenario) (declared : Transaction) (P : ℕ → Pair) (now : Coordinator) (letters : List Letter) : Type 0 where
-  pub next : (at : ℕ) → Next (site_of sc at declared) (P at) (with_asker (P at) (asker_up at now))
-  pub numbered : PhaseNumbered now.phase now.deeds
-  pub requests : Each (λ (letter : Letter). AskPairs sc declared now.txn (λ at. with_asker (P at) (asker_up at now)) letter.to letter.body) letters
+-- an act of a coordinator that is up or down after it: its transaction goes on by events at each server, and requests say so
+pub record CoordinatorActsPairs (sc : Scenario) (declared : Transaction) (txn : TxnId) (P : ℕ → Pair) (now : Option Coordinator) (letters : List Letter) : Type 0 where
+  pub next : (at : ℕ) → Next (site_of sc at declared) (P at) (with_asker (P at) (asker_in at now))
+  pub numbered : IfSome now (λ (c : Coordinator). PhaseNumbered c.phase c.deeds)
+  pub requests : Each (λ (letter : Letter). AskPairs sc declared txn (λ at. with_asker (P at) (asker_in at now)) letter.to letter.body) letters
 
--- that of a row
+-- that of a row, of a coordinator that is up before and after it
 abbrev pub RowAsks : Scenario → Transaction → (ℕ → Pair) → Effect Coordinator → Type 0
-RowAsks sc declared P effect = CoordinatorActsPairs sc declared P effect.state effect.reaction.letters
+RowAsks sc declared P effect = CoordinatorActsPairs sc declared effect.state.txn P (Some effect.state) effect.reaction.letters
 
 -- what a round wants of a server, if it wants anything, names all administrators there
 abbrev pub NamesAt : Scenario → Transaction → Round → ServerId → Type 0
@@ -386,7 +386,7 @@ counted_asker at c round other staple e =
 
 -- a decision
 ends_asks : (sc : Scenario) (declared : Transaction) (P : ℕ → Pair) (c next : Coordinator) (ended : Outcome) (servers : List ServerId) → CoordinatorPaired sc declared P c → is_undecided next.phase ≡ false
-    → PhaseNumbered next.phase next.deeds → CoordinatorActsPairs sc declared P next (coord.requests c (body.Decide (record { txn = c.txn; outcome = ended })) servers)
+    → PhaseNumbered next.phase next.deeds → CoordinatorActsPairs sc declared next.txn P (Some next) (coord.requests c (body.Decide (record { txn = c.txn; outcome = ended })) servers)
 ends_asks sc declared P c next ended servers h decided numbered =
     record {
       next = λ at. subst (λ (o : Option Asker). Next (site_of sc at declared) (P at) (with_asker (P at) o)) (sym (ap (λ (b : Bool). if b then Some (asker_of at next) else None) decided)) (ends (site_of sc at declared) (P at) (h.fits at));

@@ -21,7 +21,7 @@ use Rattle.tp_runs.proofs.basics.Logs.{appended, first_none, prepared_still, set
 use Rattle.tp_server.proofs.Tables.{placed_within}
 use Rattle.tp_runs.proofs.basics.Verdicts.{numbers_kept}
 use Rattle.tp_runs.proofs.epochs.Server.{boots_push}
-use Rattle.tp_runs.proofs.pairs.Actors.{AllFit, AllNext, pair_up, site_of}
+use Rattle.tp_runs.proofs.pairs.Actors.{AllFit, AllNext, pair_of, pair_up, site_of}
 use Rattle.tp_runs.proofs.pairs.Ends as end
 use Rattle.tp_runs.proofs.pairs.Ends.{ordered}
 use Rattle.tp_runs.proofs.pairs.Entries.{begun, changed, denies, keeps, makes, with_entry}
@@ -63,15 +63,16 @@ pub record IsReply (sc : Scenario) (at : ServerId) (Q : TxnId → Pair) (letter 
   pub from_is : letter.from ≡ actor.Server at
   pub says : ReplyPairs sc at Q letter.body
 
--- an act of a server that is up before and after it: each transaction goes on by events, and replies say so. A says what the coordinators know
-pub record ServerActsPairs (sc : Scenario) (at : ServerId) (A : TxnId → Option Asker) (s : Server) (kept : List Record) (now : Server) (append : Option Record) (letters : List Letter) : Type 0 where
-  pub next : AllNext sc at.0 (λ txn. pair_up txn (A txn) s kept) (λ txn. pair_up txn (A txn) now (log_with kept append))
-  pub places : length now.entries ≡ length s.entries
-  pub replies : Each (IsReply sc at (λ txn. pair_up txn (A txn) now (log_with kept append))) letters
+-- an act of a server that was up or down (was), and is up or down after it (now): each transaction goes on by events, and replies
+-- say so. A says what the coordinators know
+pub record ServerActsPairs (sc : Scenario) (at : ServerId) (A : TxnId → Option Asker) (was : Option Server) (kept : List Record) (now : Option Server) (append : Option Record) (letters : List Letter) : Type 0 where
+  pub next : AllNext sc at.0 (λ txn. pair_of txn (A txn) was kept) (λ txn. pair_of txn (A txn) now (log_with kept append))
+  pub places : IfSome now (λ (s : Server). length s.entries ≡ length sc.txns)
+  pub replies : Each (IsReply sc at (λ txn. pair_of txn (A txn) now (log_with kept append))) letters
 
--- that of a row
+-- that of a row, of a server that is up before and after it
 abbrev pub RowPairs : Scenario → (TxnId → Option Asker) → Server → List Record → Effect Server → Type 0
-RowPairs sc A s kept effect = ServerActsPairs sc s.server A s kept effect.state effect.reaction.append effect.reaction.letters
+RowPairs sc A s kept effect = ServerActsPairs sc s.server A (Some s) kept (Some effect.state) effect.reaction.append effect.reaction.letters
 
 -- a server before its row
 pub record ServerPaired (sc : Scenario) (A : TxnId → Option Asker) (s : Server) (kept : List Record) : Type 0 where
@@ -183,13 +184,13 @@ still_next : (sc : Scenario) (A : TxnId → Option Asker) (s : Server) (kept : L
 still_next sc A s kept h txn declared found = next_same (site_of sc s.server.0 declared) (pair_up txn (A txn) s kept) (h.fits txn declared found)
 
 ignores_pairs : (sc : Scenario) (A : TxnId → Option Asker) (s : Server) (kept : List Record) → ServerPaired sc A s kept → RowPairs sc A s kept (ignores s)
-ignores_pairs sc A s kept h = record { next = still_next sc A s kept h; places = refl; replies = tt }
+ignores_pairs sc A s kept h = record { next = still_next sc A s kept h; places = h.places; replies = tt }
 
 restarts_pairs : (sc : Scenario) (A : TxnId → Option Asker) (s : Server) (kept : List Record) (q : QueryRequest) → ServerPaired sc A s kept → RowPairs sc A s kept (restarts s q)
-restarts_pairs sc A s kept q h = record { next = still_next sc A s kept h; places = refl; replies = (record { from_is = refl; says = λ declared found. tt }, tt) }
+restarts_pairs sc A s kept q h = record { next = still_next sc A s kept h; places = h.places; replies = (record { from_is = refl; says = λ declared found. tt }, tt) }
 
 acknowledges_pairs : (sc : Scenario) (A : TxnId → Option Asker) (s : Server) (kept : List Record) (d : DecideRequest) → ServerPaired sc A s kept → RowPairs sc A s kept (sends s (ack_letter s d.txn ∷ []))
-acknowledges_pairs sc A s kept d h = record { next = still_next sc A s kept h; places = refl; replies = (record { from_is = refl; says = tt }, tt) }
+acknowledges_pairs sc A s kept d h = record { next = still_next sc A s kept h; places = h.places; replies = (record { from_is = refl; says = tt }, tt) }
 
 -- an answer that is given again is kept
 answers_pairs : (sc : Scenario) (A : TxnId → Option Asker) (s : Server) (kept : List Record) (q : QueryRequest) (entry : Entry) (given : DoneReply) → ServerPaired sc A s kept → entry_at s q.txn ≡ Some entry
@@ -197,7 +198,7 @@ answers_pairs : (sc : Scenario) (A : TxnId → Option Asker) (s : Server) (kept 
 answers_pairs sc A s kept q entry given h there own found =
     record {
       next = still_next sc A s kept h;
-      places = refl;
+      places = h.places;
       replies = (
         record {
           from_is = refl;
@@ -335,7 +336,7 @@ entry_pairs sc A s kept txn new letters h exists event replies =
     record {
       next = own_next sc s.server.0 P Q txn h.fits (λ declared found. subst (Next (site_of sc s.server.0 declared) (P txn)) whole (event declared found))
           (λ other apart. other_pair (A other) txn other s now kept None apart (record { entry = Some new; entries = refl; own = tt }));
-      places = length-set s.entries txn.0 (Some new);
+      places = length-set s.entries txn.0 (Some new) ∙ h.places;
       replies = replies;
     }
 
@@ -428,7 +429,7 @@ runs_pairs sc A s kept sent q query entry value h fresh k place asked =
     in
     record {
       next = own_next sc s.server.0 P Q q.txn h.fits event (λ txn apart. other_pair (A txn) q.txn txn s now kept None apart (record { entry = Some new; entries = refl; own = tt }));
-      places = length-set s.entries q.txn.0 (Some new);
+      places = length-set s.entries q.txn.0 (Some new) ∙ h.places;
       replies = (
         record {
           from_is = refl;
@@ -524,7 +525,7 @@ votes_pairs sc A s kept r entry forced h fresh there same exists own on asked =
     in
     record {
       next = own_next sc s.server.0 P Q r.txn h.fits event (λ txn apart. other_pair (A txn) r.txn txn s now kept append apart act);
-      places = ap length entries ∙ length-set s.entries r.txn.0 (Some new);
+      places = ap length entries ∙ (length-set s.entries r.txn.0 (Some new) ∙ h.places);
       replies = (
         record {
           from_is = refl;
@@ -541,7 +542,7 @@ votes_again_pairs : (sc : Scenario) (A : TxnId → Option Asker) (s : Server) (k
 votes_again_pairs sc A s kept r entry cast h there ballot_is =
     record {
       next = still_next sc A s kept h;
-      places = refl;
+      places = h.places;
       replies = (
         record {
           from_is = refl;
@@ -590,7 +591,7 @@ settles_pairs sc A s kept d h fresh exists decided =
     record {
       next = ends_next sc A s kept (settled_as d) (ack_letter s d.txn) h fresh exists
           (λ declared found. ordered (site_of sc s.server.0 declared) (pair_up d.txn (A d.txn) s kept) refl decided (h.fits d.txn declared found));
-      places = length-set s.entries d.txn.0 None;
+      places = length-set s.entries d.txn.0 None ∙ h.places;
       replies = (record { from_is = refl; says = tt }, tt);
     }
 
@@ -602,7 +603,7 @@ refuses_pairs sc A s kept p entry why h fresh exists found unvoted asked =
       next = ends_next sc A s kept (refused_as p why) (no_letter s p why) h fresh exists
           (λ declared there. end.refuses (site_of sc s.server.0 declared) (pair_up p.txn (A p.txn) s kept) p refl (h.fits p.txn declared there) (asked declared there)
           (λ other is epoch. subst (λ (e : Entry). e.ballot ≡ None) (same_Some entry other (sym found ∙ is)) unvoted));
-      places = length-set s.entries p.txn.0 None;
+      places = length-set s.entries p.txn.0 None ∙ h.places;
       replies = (record { from_is = refl; says = λ declared there. tt }, tt);
     }
 
@@ -620,7 +621,7 @@ learns_pairs sc A s kept push h =
           let p = pair_up txn (A txn) s kept in
           subst (Next (site_of sc s.server.0 declared) p) (sym (still_pair (A txn) txn s (learns s push).state kept (Some forced) refl (omega (arith, boots_push kept forced)) refl refl))
           (next_same (site_of sc s.server.0 declared) p (h.fits txn declared found));
-      places = refl;
+      places = h.places;
       replies = tt;
     }
 
