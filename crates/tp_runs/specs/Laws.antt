@@ -1,5 +1,5 @@
 -- What holds of every run of the machine.
-use Rattle.std.specs.Prelude.{◌≡◌, ◌*◌, ◌≤◌, List, length, true}
+use Rattle.std.specs.Prelude.{◌≡◌, ◌*◌, ◌≤◌, List, length, true, ℕ}
 use Rattle.tp_model.specs.Words.{Scenario, Step}
 use Rattle.tp_model.specs.Built.{is_built}
 use Rattle.tp_model.specs.SerialRun.{store_of}
@@ -34,8 +34,13 @@ HasAlwaysAllCommits =
     (sc : Scenario) (steps : List Step) → is_built sc ≡ true → Each (IsStepOf sc) steps
     → HasAllCommits sc (after sc steps).state
 
--- of every scenario that is run a list of steps that name what exists sends few mails: at most 16 times as many as it has steps
+-- so many mails come on each step, if each query that waits counts as one more: a server that boots asks the coordinator of each
+-- transaction that it has prepared, and a scenario has at most 128 transactions; no other step sends more
+abbrev pub mails_most : ℕ
+mails_most = 128
+
+-- of every scenario that is run a list of steps that name what exists sends few mails: at most 128 times as many as it has steps
 abbrev pub SendsFewMails : Type 0
 SendsFewMails =
     (sc : Scenario) (steps : List Step) → is_built sc ≡ true → Each (IsStepOf sc) steps
-    → length (after sc steps).state.mails ≤ 16 * length steps
+    → length (after sc steps).state.mails ≤ mails_most * length steps

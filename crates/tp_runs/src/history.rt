@@ -4,7 +4,7 @@ ghost use Rattle.tp_model.specs.SerialRun.{overlay, store_of};
 ghost use Rattle.tp_model.specs.TrustedHistory.{have_ended};
 ghost use Rattle.tp_machine.specs.Machine.{ending_of};
 ghost use Rattle.tp_runs.specs.Bounded.{AreBounded};
-ghost use Rattle.tp_runs.specs.Laws.{IsTrustedSoFar};
+ghost use Rattle.tp_runs.specs.Laws.{IsTrustedSoFar, mails_most};
 ghost use Rattle.tp_runs.specs.Sound.{IsSound};
 
 use std::alloc::Global;
@@ -24,11 +24,11 @@ pub fn facts(world: &World) -> &List<Fact>
     world.facts()
 }
 
-/// The number of mails sent so far: at most 16 times as many as there were steps.
+/// The number of mails sent so far: at most 128 times as many as there were steps.
 pub fn mails(world: &World) -> u64
     ensures value { result ≡ length world.now.machine.state.mails }
     ensures few { world.now.given_up ≡ false
-        → result ≤ 16 * length world.now.machine.state.steps }
+        → result ≤ mails_most * length world.now.machine.state.steps }
 {
     let _facts = world.facts();
     world.mails()
@@ -38,7 +38,7 @@ pub fn mails(world: &World) -> u64
 pub fn undelivered_count(world: &World) -> u64
     ensures value { result ≡ length world.now.machine.undelivered }
     ensures few { world.now.given_up ≡ false
-        → result ≤ 16 * length world.now.machine.state.steps }
+        → result ≤ mails_most * length world.now.machine.state.steps }
 {
     let _facts = world.facts();
     world.undelivered_count()

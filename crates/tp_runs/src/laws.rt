@@ -10,9 +10,10 @@ pub fn histories_are_trusted()
     ensures whole { HasAlwaysAllCommits }
 {}
 
-/// Of every scenario that is run, a list of steps that name what exists sends at most 16 times as many mails as it has steps: a step sends
-/// one, or one to each of the servers of a transaction, or none; and where it ends a transaction, one more for each query that waited for it,
-/// whose own step sent none.
+/// Of every scenario that is run, a list of steps that name what exists sends at most 128 times as many mails as it has steps. A step
+/// sends one, or one to each of the at most 16 servers of a transaction, or none; and where it ends a transaction, one more for each query
+/// that waited for it, whose own step sent none. The bound leaves room for a server that boots, which is to ask the coordinator of each of
+/// at most 128 transactions that it has prepared.
 pub fn mails_are_few()
     ensures { SendsFewMails }
 {}

@@ -21,11 +21,11 @@
 //! - The law behind these: of every scenario that is run, after every list of steps that name what exists, the
 //!   history is trusted so far; and where all transactions have ended the values are those of all commits
 //!   (`laws::histories_are_trusted`: `trusted`, `whole`)
-//! - In a world that is not given up at most 16 times as many mails were sent as steps were done, though a
+//! - In a world that is not given up at most 128 times as many mails were sent as steps were done, though a
 //!   single step may send more; so no more are undelivered (`history::mails`: `few`;
 //!   `history::undelivered_count`: `few`)
 //! - The law behind it: of every scenario that is run, no list of steps that name what exists sends more than
-//!   16 times as many mails as it has steps (`laws::mails_are_few`)
+//!   128 times as many mails as it has steps (`laws::mails_are_few`)
 //!
 //! These hold after every list of steps, in any order, with deliveries of any mail ever sent; agreement, trust
 //! with causes, and serial data also of a world that was given up. The calls lean on the condition of

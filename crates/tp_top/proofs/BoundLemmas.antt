@@ -11,6 +11,7 @@ use Rattle.tp_model.specs.Built.{is_built}
 use Rattle.tp_model.proofs.RuleLemmas.{count_most, few_servers, few_txns, valid_built}
 use Rattle.tp_machine.specs.Machine.{Machine}
 use Rattle.tp_machine.specs.WorldView.{WorldView}
+use Rattle.tp_runs.specs.Laws.{mails_most}
 use Rattle.tp_top.specs.Auto.{most_queries, greatest_rounds}
 use Rattle.tp_top.specs.mirrors.Answers.{IsListed}
 use Rattle.tp_top.proofs.TrustedRun.{listed_steps}
@@ -74,8 +75,8 @@ work_is_small txns queries rounds servers t q r s =
 few_steps : (sc : Scenario) → is_built sc ≡ true → length sc.steps ≤ 100000
 few_steps sc h = count_most 0 steps_limit (length sc.steps) (and_parts (has_count 0 steps_limit sc.steps) (list_all (is_valid_step sc) sc.steps) (valid_built sc h).steps).0
 
--- a world after its listed steps has few of them, as these send at most 16 times as many mails
-pub few_undelivered : (world : WorldView) (undelivered : ℕ) → is_built world.scenario ≡ true → IsListed world → (world.given_up ≡ false → undelivered ≤ 16 * length world.machine.state.steps) → undelivered < 2 ^ 32
+-- a world after its listed steps has few of them, as these send at most 128 times as many mails
+pub few_undelivered : (world : WorldView) (undelivered : ℕ) → is_built world.scenario ≡ true → IsListed world → (world.given_up ≡ false → undelivered ≤ mails_most * length world.machine.state.steps) → undelivered < 2 ^ 32
 few_undelivered world undelivered h listed_is few =
     let done : length world.machine.state.steps ≡ length world.scenario.steps =
     ap (λ (m : Machine). length m.state.steps) listed_is.now ∙ ap length (listed_steps world.scenario h listed_is.lawful) in

@@ -123,7 +123,7 @@ fn finish(alloc: Global, world: &mut World) -> Result<Answer, NoMemory>
 }
 
 /// How many automatic steps a world is allowed after all of its listed ones. Its undelivered mails are few: at most 100,000 steps are
-/// listed, and they send at most 16 times as many mails.
+/// listed, and they send at most 128 times as many mails.
 fn budget_of(world: &World) -> u64
     requires here { IsListed world.now }
     ensures { result ≡ automatic_bound world.now.scenario }

@@ -1,5 +1,5 @@
--- Mails over every list of steps: a step sends at most 16, one to each server that a scenario may have, and one for each query that waited until it. Such a
--- query was a step that sent none, so no more than 16 mails come on each step.
+-- Mails over every list of steps: a step sends no more than `mails_most`, and one for each query that waited until it. Such a query was a
+-- step that sent none, so no more than `mails_most` mails come on each step.
 use Rattle.std.specs.List.{list_any}
 use Rattle.std.specs.Option.{option_map_or}
 use Rattle.std.proofs.Common.{IfSome, List, None, Option, Some, [], arith, ap, if◌then◌else◌, is_some, length, refl, replicate, slice_get, slice_set, subst, suc, sym, zero, ℕ, ◌*◌, ◌+◌, ◌≡◌, ◌≤◌, ◌∷◌, true}
@@ -21,6 +21,7 @@ use Rattle.tp_runs.proofs.walks.Steps.{Cases, IsCoordinatorUp, IsServerUp, WaitR
 use Rattle.tp_machine.specs.Machine.{Machine, Move, State, acts, acts_by, after_step, after_steps, coordinator_fact, coordinator_move, log_with, machine_after, mails_of, opened_part, opening_state, refusal, server_fact, server_move, state_after, with_age}
 use Rattle.tp_machine.specs.Parts.{Part}
 use Rattle.tp_types.specs.Each.{EachAt}
+use Rattle.tp_runs.specs.Laws.{mails_most}
 use Rattle.tp_machine.specs.Named.{IsStepOf}
 use Rattle.tp_coord.specs.Opened.{idle, servers_at}
 use Rattle.tp_coord.specs.Row.{coordinator_row, submit_row}
@@ -41,7 +42,7 @@ AwaitFew coordinators = EachAt (λ (n : ℕ) (part : Part Coordinator). IfSome p
 
 -- few mails were sent
 abbrev pub HasFewMails : State → Type 0
-HasFewMails w = length w.mails ≤ 16 * length w.steps
+HasFewMails w = length w.mails ≤ mails_most * length w.steps
 
 -- how many queries wait at a server
 abbrev pub waits_of : Option Server → ℕ
@@ -56,7 +57,7 @@ waiting (part ∷ parts) = waits_of part.up + waiting parts
 -- few mails were sent, those among them that are still to come for queries that wait; and coordinators that are up await few servers
 pub record FewMails (w : State) : Type 0 where
   pub awaits : AwaitFew w.actors.coordinators
-  pub mails : length w.mails + waiting w.actors.servers ≤ 16 * length w.steps
+  pub mails : length w.mails + waiting w.actors.servers ≤ mails_most * length w.steps
 
 pub few_mails : (w : State) → FewMails w → HasFewMails w
 few_mails w h = omega (arith, h.mails)
@@ -65,7 +66,7 @@ few_mails w h = omega (arith, h.mails)
 
 pub record MoveFew (w : State) (move : Move) : Type 0 where
   pub awaits : AwaitFew move.actors.coordinators
-  pub letters : length move.letters + waiting move.actors.servers ≤ 16 + waiting w.actors.servers
+  pub letters : length move.letters + waiting move.actors.servers ≤ mails_most + waiting w.actors.servers
 
 state_after_few : (w : State) (taken : Step) (move : Move) → FewMails w → MoveFew w move → FewMails (state_after w taken move)
 state_after_few w taken move h t =
@@ -107,7 +108,7 @@ own_awaits w txn part c h up = subst (λ (u : Option Coordinator). IfSome u (Awa
 -- ---- acts
 
 -- an act of a coordinator, whether it was up before it or down, and is up after it or down
-pub coordinator_acts_few : (w : State) (txn : TxnId) (part : Part Coordinator) (now : Option Coordinator) (own : List What) (append : Option Record) (letters : List Letter) → FewMails w → IfSome now (AwaitsFew 16) → length letters ≤ 16
+pub coordinator_acts_few : (w : State) (txn : TxnId) (part : Part Coordinator) (now : Option Coordinator) (own : List What) (append : Option Record) (letters : List Letter) → FewMails w → IfSome now (AwaitsFew 16) → length letters ≤ mails_most
     → MoveFew w (coordinator_move w.actors txn (acts coordinator_fact own part.log now (log_with part.log append) letters))
 coordinator_acts_few w txn part now own append letters h awaits few =
     let new : Part Coordinator = record { up = now; log = log_with part.log append } in
@@ -126,7 +127,7 @@ waiting_set (part ∷ parts) (suc n) old new e =
 
 -- an act of a server, whether it was up before it or down, and is up after it or down
 pub server_acts_few : (w : State) (at : ServerId) (part : Part Server) (now : Option Server) (own : List What) (append : Option Record) (letters : List Letter) → FewMails w → slice_get w.actors.servers at.0 ≡ Some part
-    → length letters + waits_of now ≤ 16 + waits_of part.up → MoveFew w (server_move w.actors at (acts (server_fact at) own part.log now (log_with part.log append) letters))
+    → length letters + waits_of now ≤ mails_most + waits_of part.up → MoveFew w (server_move w.actors at (acts (server_fact at) own part.log now (log_with part.log append) letters))
 server_acts_few w at part now own append letters h found few =
     let new : Part Server = record { up = now; log = log_with part.log append } in
     record { awaits = h.awaits; letters = omega (arith, few, waiting_set w.actors.servers at.0 part new found) }
@@ -138,11 +139,11 @@ receipt_few sc w at part s mail rightly h up =
     let was : waits_of part.up ≡ waits_in s.entries = ap waits_of up.up in
     server_acts_few w at part (Some effect.state) [] effect.reaction.append effect.reaction.letters h up.found (omega (arith, was, server_row_sends sc s mail (rightly at part s up)))
 
-authority_sends : (authority : Authority) (said : Body) → length (office.on_body authority said).reaction.letters ≤ 16
+authority_sends : (authority : Authority) (said : Body) → length (office.on_body authority said).reaction.letters ≤ mails_most
 authority_sends authority (body.Ask ask) = omega arith
 authority_sends authority _ = omega arith
 
-master_sends : (held : Master) (said : Body) → length (master.on_body held said).reaction.letters ≤ 16
+master_sends : (held : Master) (said : Body) → length (master.on_body held said).reaction.letters ≤ mails_most
 master_sends held (body.Probe probe) = omega arith
 master_sends held _ = omega arith
 
@@ -156,7 +157,7 @@ few_cases sc w built rightly a h =
       coordinator_received = λ n mail txn part c sent up.
           let effect = coordinator_row sc c mail in
           let few = coordinator_row_sends 16 sc c mail (omega arith) (own_servers_few sc w txn part c built a up) (own_awaits w txn part c h up) in
-          coordinator_acts_few w txn part (Some effect.state) [] effect.reaction.append effect.reaction.letters h few.awaits few.letters;
+          coordinator_acts_few w txn part (Some effect.state) [] effect.reaction.append effect.reaction.letters h few.awaits (omega (arith, few.letters));
       authority_told = λ n mail sent. record { awaits = h.awaits; letters = omega (arith, authority_sends w.actors.authority mail.letter.body) };
       master_told = λ n mail sent. record { awaits = h.awaits; letters = omega (arith, master_sends w.actors.master mail.letter.body) };
       published = λ admin exists more. record { awaits = h.awaits; letters = omega arith };
@@ -166,7 +167,7 @@ few_cases sc w built rightly a h =
       begun = λ txn part c exists up new.
           let effect = with_age (submit_row sc c) (length w.steps) in
           let few = submit_row_sends 16 (length w.steps) sc c (omega arith) (own_awaits w txn part c h up) in
-          coordinator_acts_few w txn part (Some effect.state) (what.Submitted txn ∷ []) effect.reaction.append effect.reaction.letters h few.awaits few.letters;
+          coordinator_acts_few w txn part (Some effect.state) (what.Submitted txn ∷ []) effect.reaction.append effect.reaction.letters h few.awaits (omega (arith, few.letters));
     }
 
 -- a step that is not refused sends few mails

@@ -31,7 +31,7 @@ use Rattle.tp_runs.proofs.trusted.End.{facts_caused, facts_trusted}
 use Rattle.tp_runs.proofs.trusted.Steps.{trusts_next, trusts_opening}
 use Rattle.tp_runs.proofs.trust.World.{Trusts}
 use Rattle.tp_runs.specs.Bounded.{AreBounded}
-use Rattle.tp_runs.specs.Laws.{HasAllCommits, IsTrustedState}
+use Rattle.tp_runs.specs.Laws.{HasAllCommits, IsTrustedState, mails_most}
 use Rattle.tp_machine.specs.Machine.{Machine, State, after, after_step, after_steps, machine_after, opening, opening_state, refusal}
 use Rattle.tp_types.specs.Each.{Each}
 use Rattle.tp_runs.specs.Sound.{IsSound}
@@ -119,7 +119,7 @@ has_all_commits sc steps built exist ended =
     serial_values sc w built h.agrees h.serial (λ n part found. (h.refusals.unbooted.servers n part found).up) ∙ values_at_end sc w built h.agrees h.serial ended
 
 -- and few mails were sent
-pub sends_few : (sc : Scenario) (steps : List Step) → is_built sc ≡ true → Each (IsStepOf sc) steps → length (after sc steps).state.mails ≤ 16 * length steps
+pub sends_few : (sc : Scenario) (steps : List Step) → is_built sc ≡ true → Each (IsStepOf sc) steps → length (after sc steps).state.mails ≤ mails_most * length steps
 sends_few sc steps built exist = omega (arith, few_mails (after sc steps).state (holds_after sc steps built exist).few, steps_counted sc (opening sc) steps)
 
 -- ---- the same of a world that the steps give
