@@ -1,1 +1,5 @@
+pub mod Held
+pub mod Kept
+pub mod Laws
 pub mod Log
+pub mod mirrors

@@ -1,5 +1,5 @@
 -- What a log says: look-ups on the list of its records, and the values that it leaves. Nothing else reads a log.
-use Rattle.std.specs.Prelude.{ℕ, ℤ, max, ◌+◌, ◌++◌, ◌||◌, List, [], ◌∷◌, slice_get, Bool, false, Option, Some, None, is_some, if◌then◌else◌}
+use Rattle.std.specs.Prelude.{ℕ, ℤ, max, ◌+◌, ◌++◌, ◌||◌, List, [], ◌∷◌, slice_get, Bool, Option, Some, None, is_some, if◌then◌else◌}
 use Rattle.std.specs.Option.{option_map_or, option_or}
 use Rattle.tp_model.specs.Words.{AdminId, Decision, Deed, Outcome, Prepared, Record, Scenario, Settled, TxnId, Version}
 use Rattle.tp_model.specs.Words.log
@@ -28,6 +28,20 @@ settlement_in txn _ = None
 abbrev pub settled_in : TxnId → List Record → Option Settled
 settled_in txn [] = None
 settled_in txn (first ∷ kept) = option_or (settlement_in txn first) (settled_in txn kept)
+
+-- a settlement that no settlement of the same transaction stands before
+abbrev pub first_settlement : List Record → Record → List Settled
+first_settlement before (log.Settled s) = if is_some (settled_in s.txn before) then [] else s ∷ []
+first_settlement before _ = []
+
+abbrev pub settlements_from : List Record → List Record → List Settled
+settlements_from before [] = []
+settlements_from before (first ∷ kept) =
+    first_settlement before first ++ settlements_from (before ++ first ∷ []) kept
+
+-- how each transaction was settled first, in the order of the log
+abbrev pub settlements_in : List Record → List Settled
+settlements_in kept = settlements_from [] kept
 
 abbrev pub preparation_in : TxnId → Record → Option Prepared
 preparation_in txn (log.Prepared p) = if same_txn p.txn txn then Some p else None

@@ -3,8 +3,30 @@
 //! What is promised, with the contract that carries it:
 //!
 //! - What a coordinator has decided is its first decision on record (`decision_of`)
+//! - What a server has of its log is exactly as defined, record by record (`held`: `held`)
+//! - Of every log whose records are of transactions of the scenario it is what the look-ups on the log say (`held`:
+//!   `says`). The epoch is one, and one more for each boot. Of each administrator the newest version is the greatest
+//!   that is told, or the one known at first where none is greater. The values are those that settled commits leave,
+//!   each of what was prepared of it. A vote is listed exactly where it is the last of its transaction, which is not
+//!   settled; the older first, and of one age by transaction. A settlement is listed exactly where it is the first of
+//!   its transaction, in the order of the log
+//! - What is kept while records are taken in is what the log says so far, and stays so with each record
+//!   (`logs_are_kept`: `whole`, `step`)
+//!
+//! No call asks a condition of its caller: of a transaction that is not there nothing is prepared, and each of its
+//! settlements is listed; what is told of an administrator, or written of an item, that is not there is lost.
 #![tactic(auto)]
 
+mod ages;
+mod answer;
 mod decided;
+mod kept;
+mod laws;
+mod recovery;
+mod values;
+mod versions;
 
+pub use answer::Held;
 pub use decided::decision_of;
+pub use laws::logs_are_kept;
+pub use recovery::held;

@@ -3,7 +3,8 @@
 //!
 //! What is promised, with the contract that carries it:
 //!
-//! - A store begins as the scenario says (`Store::opened`)
+//! - A store begins as the scenario says (`Store::opened`), and what it begins with is told (`opening_values`,
+//!   `known_at_first`)
 //! - A transaction reads what it has written itself, or else the item's value (`Store::read`, `Store::value`)
 //! - Of two writes of one item the last by query is kept; where memory is refused the store stays
 //!   (`Store::write`: `ok`, `err`)
@@ -32,5 +33,6 @@ mod store;
 mod writes;
 
 pub use laws::{first_outside_is_least, own_writes_are_read, writes_are_applied_in_order};
+pub use opening::{known_at_first, opening_values};
 pub use store::Store;
 pub use writes::{Bounds, TentativeWrite};

@@ -1,0 +1,4 @@
+pub mod AgeLemmas
+pub mod HeldLemmas
+pub mod KeptLemmas
+pub mod LogLemmas

@@ -1,0 +1,127 @@
+//! What the records of a server's log come to, taken in one after another.
+ghost use Rattle.std.specs.Prelude.{◌≡◌, ◌+◌, ◌<◌, ◌^◌, None, fold, IfOk, OnOk};
+ghost use Rattle.tp_recover.specs.Kept as rule;
+
+use crate::values::end;
+use crate::versions::{tell, tell_all};
+use std::alloc::Global;
+use tp_store::{known_at_first, opening_values};
+use tp_types::{
+    List, NoMemory, Prepared, Record, Scenario, ServerId, Settled, TryClone, TxnId, Version, both,
+    none_for_each, take_at,
+};
+
+/// What the records so far come to.
+#[derive(Drop)]
+pub struct Kept {
+    pub epoch: u64,
+    /// The newest version known of each administrator.
+    pub newest: List<Version>,
+    /// The value of each item of the scenario.
+    pub values: List<i128>,
+    /// The last vote YES of each transaction that is not settled.
+    pub prepared: List<Option<Prepared>>,
+    /// How each transaction was settled first.
+    pub settled: List<Option<Settled>>,
+    /// These settlements in the order of the log.
+    pub in_order: List<Settled>,
+}
+
+fn settled_of(settled: &List<Option<Settled>>, txn: TxnId) -> Option<Settled>
+    ensures { result ≡ rule.of_txn settled.now txn }
+{
+    match settled.get(txn.0 as usize) {
+        None => None,
+        Some(place) => *place,
+    }
+}
+
+impl Kept {
+    /// Before the first record.
+    pub fn opened(alloc: Global, scenario: &Scenario, server: ServerId) -> Result<Kept, NoMemory>
+        ensures { IfOk result (λ made. made ≡ rule.kept_first scenario.now server) }
+    {
+        let txns = scenario.txns.len();
+        let numbers = both(
+            known_at_first(alloc, scenario, server),
+            opening_values(alloc, scenario.items.as_slice()),
+        );
+        let tables = both(none_for_each(alloc, txns), none_for_each(alloc, txns));
+        let ((newest, values), (prepared, settled)) = both(numbers, tables)?;
+        Ok(Kept {
+            epoch: 1,
+            newest,
+            values,
+            prepared,
+            settled,
+            in_order: List::new(alloc),
+        })
+    }
+
+    fn vote(&mut self, alloc: Global, vote: &Prepared) -> Result<(), NoMemory>
+        ensures { OnOk result (self.new ≡ rule.with_vote self.old vote.now) }
+    {
+        match settled_of(&self.settled, vote.txn) {
+            Some(_) => Ok(()),
+            None => {
+                let copy = vote.try_clone(alloc)?;
+                self.prepared.put(vote.txn.0 as usize, Some(copy));
+                Ok(())
+            }
+        }
+    }
+
+    fn settle_first(&mut self, settled: Settled) -> Result<(), NoMemory>
+        ensures { OnOk result (self.new ≡ rule.kept_end self.old settled None) }
+    {
+        let at = settled.txn.0 as usize;
+        let vote = take_at(&mut self.prepared, at);
+        end(&mut self.values, settled.outcome, &vote);
+        self.settled.put(at, Some(settled));
+        self.in_order.push(settled)
+    }
+
+    fn settle(&mut self, settled: Settled) -> Result<(), NoMemory>
+        ensures { OnOk result (self.new ≡ rule.with_end self.old settled) }
+    {
+        match settled_of(&self.settled, settled.txn) {
+            Some(_) => Ok(()),
+            None => self.settle_first(settled),
+        }
+    }
+
+    /// Takes in one more record. It is only asked that the epoch can be counted on.
+    fn take_in(&mut self, alloc: Global, next: &Record) -> Result<(), NoMemory>
+        requires { self.old.epoch + 1 < 2 ^ 64 }
+        ensures { OnOk result (self.new ≡ rule.kept_step self.old next.now) }
+    {
+        match next {
+            Record::Boot => {
+                self.epoch += 1;
+                Ok(())
+            }
+            Record::Told(told) => {
+                tell(&mut self.newest, told.admin.0 as usize, told.version);
+                Ok(())
+            }
+            Record::Prepared(vote) => {
+                tell_all(&mut self.newest, vote.told.as_slice());
+                self.vote(alloc, vote)
+            }
+            Record::Settled(settled) => self.settle(*settled),
+            Record::Decided(_) => Ok(()),
+        }
+    }
+
+    /// Takes in these records, in their order. The epoch can be counted on, since it begins at 1 and no list is that
+    /// long.
+    pub fn take_all(&mut self, alloc: Global, records: &[Record]) -> Result<(), NoMemory>
+        requires { self.old.epoch ≡ 1 }
+        ensures { OnOk result (self.new ≡ fold rule.kept_step self.old records.now) }
+    {
+        for forced in records {
+            self.take_in(alloc, forced)?;
+        }
+        Ok(())
+    }
+}

@@ -1,0 +1,9 @@
+//! The laws of what is kept of a log, on a function that does nothing.
+ghost use Rattle.tp_recover.specs.Laws as laws;
+
+/// What is kept of a log whose records are of transactions of the scenario is what the log says, and stays so with each
+/// record.
+pub fn logs_are_kept()
+    ensures step { laws.StepSaysLog }
+    ensures whole { laws.KeptSaysLog }
+{}

@@ -1,0 +1,43 @@
+//! What a server's log says.
+ghost use Rattle.std.specs.Prelude.{◌≡◌, IfOk};
+ghost use Rattle.tp_types.specs.Each.{Each};
+ghost use Rattle.tp_recover.specs.Held as rule;
+ghost use Rattle.tp_recover.specs.Laws.{HeldSays, IsOfScenario};
+
+use crate::answer::{Held, answer};
+use crate::kept::Kept;
+use std::alloc::Global;
+use tp_types::{List, NoMemory, Record, Scenario, ServerId};
+
+fn recovered(
+    alloc: Global,
+    scenario: &Scenario,
+    server: ServerId,
+    records: &List<Record>,
+) -> Result<Held, NoMemory>
+    ensures { IfOk result (λ made. made ≡ rule.held_in scenario.now server records.now) }
+{
+    let mut kept = Kept::opened(alloc, scenario, server)?;
+    match kept.take_all(alloc, records.as_slice()) {
+        Err(error) => Err(error),
+        Ok(()) => answer(alloc, kept),
+    }
+}
+
+/// What the records of a server's log come to, over what the scenario says of the server at first. A vote of a
+/// transaction that is settled is none, and of the settlements of a transaction the first counts.
+/// It asks nothing of the records. Of a transaction that is not there nothing is prepared, so that it leaves no values,
+/// and each of its settlements is listed. What is told of an administrator, or written of an item, that is not there is
+/// lost.
+pub fn held(
+    alloc: Global,
+    scenario: &Scenario,
+    server: ServerId,
+    records: &List<Record>,
+) -> Result<Held, NoMemory>
+    ensures held { IfOk result (λ made. made ≡ rule.held_in scenario.now server records.now) }
+    ensures says { IfOk result (λ made. Each (IsOfScenario scenario.now) records.now
+        → HeldSays scenario.now server made records.now) }
+{
+    recovered(alloc, scenario, server, records)
+}
