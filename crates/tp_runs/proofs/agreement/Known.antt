@@ -49,12 +49,16 @@ known_count [] (version ∷ versions) h = absurd h
 known_count (admin ∷ admins) [] h = absurd h
 known_count (admin ∷ admins) (version ∷ versions) h = ap suc (known_count admins versions h.1)
 
+-- what is forced tells no version above the one known after it
+pub learns_told : (sc : Scenario) (s : Server) (effect : Effect Server) (admin : AdminId) → AreVersions sc s.store.known → Learns s effect → IsAdmin sc admin
+    → told_by admin effect.reaction.append ≤ (version_known effect.state admin).0
+learns_told sc s effect admin versions l exists = l.forces admin (omega (arith, exists, known_count sc.admins s.store.known versions))
+
 -- such an act keeps what is known no less than what is told
 pub learns_knows : (sc : Scenario) (at : ServerId) (s : Server) (kept : List Record) (effect : Effect Server) → AreVersions sc s.store.known → KnowsTold sc at kept s → Learns s effect
     → KnowsTold sc at (log_with kept effect.reaction.append) effect.state
 learns_knows sc at s kept effect versions h l admin exists =
-    let within : admin.0 < length s.store.known = omega (arith, exists, known_count sc.admins s.store.known versions) in
-    omega (arith, known_with (first_known sc at admin) admin kept effect.reaction.append, h admin exists, l.raises admin, l.forces admin within)
+    omega (arith, known_with (first_known sc at admin) admin kept effect.reaction.append, h admin exists, l.raises admin, learns_told sc s effect admin versions l exists)
 
 -- ---- versions are learnt
 

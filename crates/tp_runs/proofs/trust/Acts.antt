@@ -1,17 +1,19 @@
 -- Trust, actor by actor: what an act leaves fits, whether the actor was up or down before it, and is up or down after it.
 use Rattle.std.specs.List.{filter_map, list_any, sum_by}
-use Rattle.std.proofs.Common.{Bool, IfSome, List, None, Option, Some, [], ap, arith, drop, false, flat_map, if◌then◌else◌, length, option_and_then, refl, slice_get, slice_set, subst, sym, true, ℕ, ◌++◌, ◌+◌, ◌∙◌, ◌≡◌}
+use Rattle.std.proofs.Common.{Bool, IfSome, List, None, Option, Some, [], ap, arith, drop, false, flat_map, if◌then◌else◌, length, option_and_then, refl, slice_get, slice_set, subst, sym, true, ℕ, ◌++◌, ◌+◌, ◌∙◌, ◌≡◌, ◌≤◌}
 use Rattle.std.proofs.lemmas.Bool.{eqb-true}
 use Rattle.tp_types.proofs.ListLemmas.{number_itself}
 use Rattle.tp_model.specs.Credentials.{is_among, revoked_by, tick_of}
 use Rattle.tp_model.specs.Facts.{before, is_submission}
 use Rattle.tp_model.specs.Ids.{same_txn}
-use Rattle.tp_model.specs.Words.{AskRequest, Body, Fact, Letter, Record, Scenario, ServerId, TxnId, What}
+use Rattle.tp_model.specs.Versions.{newest}
+use Rattle.tp_model.specs.Words.{AdminId, AskRequest, Body, Fact, Letter, Record, Scenario, ServerId, TxnId, What}
 use Rattle.tp_model.specs.Words.body
 use Rattle.tp_model.specs.Words.log
 use Rattle.tp_machine.specs.Machine.{State, acts, coordinator_fact, coordinator_move, log_with, server_fact, server_move}
 use Rattle.tp_machine.specs.Parts.{Part}
 use Rattle.tp_types.specs.Each.{Each}
+use Rattle.tp_machine.specs.Named.{IsAdmin}
 use Rattle.tp_coord.specs.State.{Coordinator}
 use Rattle.tp_coord.specs.declared.coordinator.Phase.TheVariants as phase
 use Rattle.tp_coord.specs.declared.coordinator.Phase.{Phase}
@@ -19,12 +21,13 @@ use Rattle.tp_offices.specs.Authority as office
 use Rattle.tp_server.specs.State.{Server}
 use Rattle.tp_runs.proofs.agreement.ServerActs.{server_facts}
 use Rattle.tp_runs.proofs.agreement.CoordinatorActs.{coordinator_facts}
+use Rattle.tp_runs.proofs.agreement.Known.{first_known}
 use Rattle.tp_runs.proofs.agreement.World.{Agrees}
 use Rattle.tp_runs.proofs.basics.Facts.{ArePast, before_past, facts_after}
-use Rattle.tp_runs.proofs.basics.Logs.{gained, look_set}
+use Rattle.tp_runs.proofs.basics.Logs.{gained, known_with, look_set, told_by}
 use Rattle.tp_types.proofs.EachLemmas.{at_set, each_append, each_as}
 use Rattle.tp_runs.proofs.trust.Coordinator.{CoordinatorFits, CoordinatorTrusts, IsOfTurn, LetterOfTurn, RecordDecides}
-use Rattle.tp_runs.proofs.trust.Fit.{AuthorityFits, BodyFits, IsSubmitted, Later, ServerFits, StapleFits, body_stays, maybe_stays, server_stays}
+use Rattle.tp_runs.proofs.trust.Fit.{AuthorityFits, BodyFits, IsSubmitted, Later, ServerFits, StapleFits, body_stays, maybe_stays, newest_rises, server_stays}
 use Rattle.tp_runs.proofs.trust.Kept.{IsTrusted, part_as, part_keeps, trusted_stays}
 use Rattle.tp_runs.proofs.trust.Server.{ServerTrusts}
 use Rattle.tp_runs.proofs.basics.Turns.{Answers, IsAbove, IsClosed, Stamp, TellNow, TurnFits, stamp_of}
@@ -51,7 +54,7 @@ unmoved_trusts sc w happened letters past h own fit timely =
     record {
       authority = authority_stays sc w happened w.actors.authority past own.still h.authority;
       master = master_stays sc w happened w.actors.master past own.still h.master;
-      servers = λ n part e. server_part_stays sc w.facts (facts_after w happened) place (place + 1) T T part l (λ said t. t) (h.servers n part e);
+      servers = λ n part e. server_part_stays sc w.facts (facts_after w happened) place (place + 1) T T (record { 0 = n }) part l (λ said t. t) (h.servers n part e);
       coordinators = λ n part e. coordinator_up_stays sc w.facts (facts_after w happened) place (place + 1) part.up l (h.coordinators n part e);
       letters = fit;
       old_timely = h.mails_timely;
@@ -101,11 +104,16 @@ letters_stay : (sc : Scenario) (old new : List Fact) (low high sent : ℕ) (lett
 letters_stay sc old new low high sent letters l h =
     each_as (λ (letter : Letter). BodyFits sc old low sent letter.body) (λ (letter : Letter). BodyFits sc new high sent letter.body) (λ letter f. body_stays sc old new low high sent letter.body l f) letters h
 
+-- what is forced tells of no version above the newest
+abbrev pub ForcesPublished : Scenario → List Fact → ℕ → Option Record → Type 0
+ForcesPublished sc facts place append = (admin : AdminId) → IsAdmin sc admin → told_by admin append ≤ newest sc admin place facts
+
 -- the move of a server whose act fits
 pub server_acts_trusts : (sc : Scenario) (w : State) (at : ServerId) (part : Part Server) (own : List What) (now : Option Server) (append : Option Record) (letters : List Letter) → ArePast (length w.steps) w.facts
-    → Trusts sc w → slice_get w.actors.servers at.0 ≡ Some part → SaysFit sc (length w.steps) own → ServerTrusts sc w.facts (length w.steps) (Timely sc w.actors.coordinators) now append letters
+    → Trusts sc w → slice_get w.actors.servers at.0 ≡ Some part → SaysFit sc (length w.steps) own → ForcesPublished sc w.facts (length w.steps) append
+    → ServerTrusts sc w.facts (length w.steps) (Timely sc w.actors.coordinators) now append letters
     → MoveTrusts sc w (server_move w.actors at (acts (server_fact at) own part.log now (log_with part.log append) letters))
-server_acts_trusts sc w at part own now append letters past h found says t =
+server_acts_trusts sc w at part own now append letters past h found says new t =
     let place = length w.steps in
     let T = Timely sc w.actors.coordinators in
     let kept = log_with part.log append in
@@ -119,12 +127,14 @@ server_acts_trusts sc w at part own now append letters past h found says t =
     record {
       authority = authority_stays sc w happened w.actors.authority past still h.authority;
       master = master_stays sc w happened w.actors.master past still h.master;
-      servers = at_set (λ (n : ℕ) (p : Part Server). ServerPartFits sc after (place + 1) T p) w.actors.servers at.0 next
-          (λ n p e. server_part_stays sc w.facts after place (place + 1) T T p l (λ said k. k) (h.servers n p e))
+      servers = at_set (λ (n : ℕ) (p : Part Server). ServerPartFits sc after (place + 1) T (record { 0 = n }) p) w.actors.servers at.0 next
+          (λ n p e. server_part_stays sc w.facts after place (place + 1) T T (record { 0 = n }) p l (λ said k. k) (h.servers n p e))
           (record {
             state = maybe_stays (ServerFits sc w.facts place) (ServerFits sc after (place + 1)) now (λ s k. server_stays sc w.facts after place (place + 1) s l k) t.fits;
             kept = part_as (IsTrusted sc w.facts place T) (IsTrusted sc after (place + 1) T) next (λ said k. trusted_stays sc w.facts after place (place + 1) T T said l (λ other u. u) k)
                 (part_keeps (IsTrusted sc w.facts place T) part now append here.kept t.keeps t.forces);
+            told = λ admin exists.
+                omega (arith, known_with (first_known sc at admin) admin part.log append, here.told admin exists, new admin exists, newest_rises sc admin w.facts after place (place + 1) l);
           });
       coordinators = λ n p e. coordinator_up_stays sc w.facts after place (place + 1) p.up l (h.coordinators n p e);
       letters = letters_stay sc w.facts after place (place + 1) place letters l t.says;
@@ -208,7 +218,7 @@ coordinator_acts_trusts sc w txn part own now append letters past h found t =
     record {
       authority = authority_stays sc w happened w.actors.authority past quiet h.authority;
       master = master_stays sc w happened w.actors.master past quiet h.master;
-      servers = λ n p e. server_part_stays sc w.facts after place (place + 1) (Timely sc w.actors.coordinators) (Timely sc coordinators) p l (λ said k sent. still sent said (k sent)) (h.servers n p e);
+      servers = λ n p e. server_part_stays sc w.facts after place (place + 1) (Timely sc w.actors.coordinators) (Timely sc coordinators) (record { 0 = n }) p l (λ said k sent. still sent said (k sent)) (h.servers n p e);
       coordinators = at_set (λ (n : ℕ) (p : Part Coordinator). CoordinatorPartFits sc after (place + 1) p) w.actors.coordinators txn.0 next
           (λ n p e. coordinator_up_stays sc w.facts after place (place + 1) p.up l (h.coordinators n p e)) (t.fits after after_is);
       letters = t.letters after after_is;

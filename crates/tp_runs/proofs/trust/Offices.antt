@@ -136,7 +136,7 @@ offices_trust sc w authority held happened h fits master_fits facts =
     record {
       authority = fits;
       master = master_fits;
-      servers = λ n part e. server_part_stays sc w.facts (facts_after w happened) place (place + 1) T T part l (λ said t. t) (h.servers n part e);
+      servers = λ n part e. server_part_stays sc w.facts (facts_after w happened) place (place + 1) T T (record { 0 = n }) part l (λ said t. t) (h.servers n part e);
       coordinators = λ n part e. coordinator_up_stays sc w.facts (facts_after w happened) place (place + 1) part.up l (h.coordinators n part e);
       letters = tt;
       old_timely = h.mails_timely;

@@ -6,7 +6,7 @@ use Rattle.tp_model.specs.Words.cause
 use Rattle.tp_model.specs.Credentials.{clock_at, is_among, revoked_at, revoked_by, revoked_what, tick_of, tick_of_what}
 use Rattle.tp_model.specs.Facts.{is_submission}
 use Rattle.tp_model.specs.Versions.{is_publication, is_publication_what, newest, opening_version}
-use Rattle.tp_model.specs.Words.{AdminId, Body, Cause, CredId, Decision, Fact, Instance, Letter, Mail, Scenario, Step, TxnId, Verdict, What}
+use Rattle.tp_model.specs.Words.{AdminId, Body, Cause, CredId, Decision, Fact, Instance, Letter, Mail, Scenario, ServerId, Step, TxnId, Verdict, What}
 use Rattle.std.proofs.lemmas.Bool.{or_left}
 use Rattle.std.proofs.lemmas.List.{append-nil, length_push}
 use Rattle.std.proofs.lemmas.List.Folds.{list_any-append}
@@ -23,21 +23,25 @@ use Rattle.tp_offices.specs.Master.{version_for}
 use Rattle.tp_offices.specs.declared.authority.Authority.{Authority}
 use Rattle.tp_offices.specs.declared.master.Master.{Master}
 use Rattle.tp_server.specs.State.{Server}
+use Rattle.tp_recover.specs.Log.{known_in}
+use Rattle.tp_runs.proofs.agreement.Known.{first_known}
 use Rattle.tp_runs.proofs.agreement.World.{Agrees}
 use Rattle.tp_runs.proofs.basics.Facts.{ArePast, before_past, count_append, each_new_fact, each_new_mail, facts_after, grows_with_facts, new_facts_past, past_as}
 use Rattle.tp_types.proofs.EachLemmas.{each_append, each_as}
 use Rattle.tp_runs.proofs.trust.Coordinator.{CauseFits, CoordinatorFits, DecisionFits}
-use Rattle.tp_runs.proofs.trust.Fit.{AuthorityFits, BodyFits, Later, MailFits, ServerFits, body_stays, maybe_stays, right_stays, rights_stay, server_stays}
+use Rattle.tp_runs.proofs.trust.Fit.{AuthorityFits, BodyFits, Later, MailFits, ServerFits, body_stays, maybe_stays, newest_rises, right_stays, rights_stay, server_stays}
 use Rattle.tp_runs.proofs.trust.Phases.{phase_stays}
 use Rattle.tp_runs.proofs.trust.Kept.{IsTrusted, PartKept, part_as, trusted_stays}
 use Rattle.tp_runs.proofs.basics.Turns.{AreEarlier, IsAbove, Stamp, TurnFits, stamp_of}
 
 -- ---- the invariant
 
--- a server that is up fits; and all that it keeps, and has prepared on its log, fits too, and T of it
-pub record ServerPartFits (sc : Scenario) (facts : List Fact) (place : ℕ) (T : Body → Type 0) (part : Part Server) : Type 0 where
+-- a server that is up fits; all that it keeps, and has prepared on its log, fits too, and T of it; and whether it is up or down, its
+-- log tells of no version above the newest, nor is one known at first
+pub record ServerPartFits (sc : Scenario) (facts : List Fact) (place : ℕ) (T : Body → Type 0) (at : ServerId) (part : Part Server) : Type 0 where
   pub state : IfSome part.up (ServerFits sc facts place)
   pub kept : PartKept (IsTrusted sc facts place T) part
+  pub told : (admin : AdminId) → IsAdmin sc admin → known_in (first_known sc at admin) admin part.log ≤ newest sc admin place facts
 
 abbrev pub CoordinatorPartFits : Scenario → List Fact → ℕ → Part Coordinator → Type 0
 CoordinatorPartFits sc facts place part = IfSome part.up (CoordinatorFits sc facts place)
@@ -80,7 +84,7 @@ FactFits sc facts fact = WhatFits sc facts fact.place fact.what
 pub record TrustsAt (sc : Scenario) (facts : List Fact) (place : ℕ) (actors : Actors) (mails : List Mail) : Type 0 where
   pub authority : AuthorityFits sc facts place actors.authority
   pub master : MasterFits sc facts place actors.master
-  pub servers : EachAt (λ (n : ℕ) (part : Part Server). ServerPartFits sc facts place (Timely sc actors.coordinators) part) actors.servers
+  pub servers : EachAt (λ (n : ℕ) (part : Part Server). ServerPartFits sc facts place (Timely sc actors.coordinators) (record { 0 = n }) part) actors.servers
   pub coordinators : EachAt (λ (n : ℕ) (part : Part Coordinator). CoordinatorPartFits sc facts place part) actors.coordinators
   pub mails_fit : Each (MailFits sc facts place) mails
   pub mails_timely : Each (MailTimely sc actors.coordinators) mails
@@ -95,7 +99,7 @@ Trusts sc w = TrustsAt sc w.facts (length w.steps) w.actors w.mails
 pub record MoveTrusts (sc : Scenario) (w : State) (move : Move) : Type 0 where
   pub authority : AuthorityFits sc (facts_after w move.happened) (length w.steps + 1) move.actors.authority
   pub master : MasterFits sc (facts_after w move.happened) (length w.steps + 1) move.actors.master
-  pub servers : EachAt (λ (n : ℕ) (part : Part Server). ServerPartFits sc (facts_after w move.happened) (length w.steps + 1) (Timely sc move.actors.coordinators) part) move.actors.servers
+  pub servers : EachAt (λ (n : ℕ) (part : Part Server). ServerPartFits sc (facts_after w move.happened) (length w.steps + 1) (Timely sc move.actors.coordinators) (record { 0 = n }) part) move.actors.servers
   pub coordinators : EachAt (λ (n : ℕ) (part : Part Coordinator). CoordinatorPartFits sc (facts_after w move.happened) (length w.steps + 1) part) move.actors.coordinators
   pub letters : Each (λ (letter : Letter). BodyFits sc (facts_after w move.happened) (length w.steps + 1) (length w.steps) letter.body) move.letters
   pub old_timely : Each (MailTimely sc move.actors.coordinators) w.mails
@@ -113,12 +117,13 @@ later_with_facts w happened high le =
       more = λ txn e. list_any-append (is_submission txn) w.facts (facts_of (length w.steps) happened) ∙ or_left _ _ e;
     }
 
-pub server_part_stays : (sc : Scenario) (old new : List Fact) (low high : ℕ) (T U : Body → Type 0) (part : Part Server) → Later old new low high → ((said : Body) → T said → U said)
-    → ServerPartFits sc old low T part → ServerPartFits sc new high U part
-server_part_stays sc old new low high T U part l step h =
+pub server_part_stays : (sc : Scenario) (old new : List Fact) (low high : ℕ) (T U : Body → Type 0) (at : ServerId) (part : Part Server) → Later old new low high → ((said : Body) → T said → U said)
+    → ServerPartFits sc old low T at part → ServerPartFits sc new high U at part
+server_part_stays sc old new low high T U at part l step h =
     record {
       state = maybe_stays (ServerFits sc old low) (ServerFits sc new high) part.up (λ s k. server_stays sc old new low high s l k) h.state;
       kept = part_as (IsTrusted sc old low T) (IsTrusted sc new high U) part (λ said k. trusted_stays sc old new low high T U said l step k) h.kept;
+      told = λ admin exists. omega (arith, h.told admin exists, newest_rises sc admin old new low high l);
     }
 
 -- what was made before a place was made before a later one

@@ -38,6 +38,8 @@ use Rattle.tp_machine.specs.Parts.{Part}
 use Rattle.tp_types.specs.Each.{Each}
 use Rattle.tp_runs.specs.Sound.{IsSound, IsSoundBody, IsSoundLetter, IsSoundMail, IsSoundServerUp}
 use Rattle.tp_machine.specs.Named.{IsStepOf}
+use Rattle.tp_runs.proofs.agreement.Known.{learns_told, row_learns}
+use Rattle.tp_runs.proofs.epochs.World.{made_from_zero}
 use Rattle.tp_coord.specs.Opened as coord
 use Rattle.tp_coord.specs.Opened.{idle}
 use Rattle.tp_coord.specs.Row.{begins, coordinator_row, home_of, is_begun, submit_row}
@@ -99,10 +101,13 @@ receipt_by_server_in_trusted sc w valid rightly sound past pairs h n mail at par
     } in
     let said : BodyPairs sc (pair_at w.actors) mail.letter.from (actor.Server at) mail.letter.body =
     subst (λ (to : Actor). BodyPairs sc (pair_at w.actors) mail.letter.from to mail.letter.body) sent.goes_to (each_get (λ (m : Mail). LetterPairs sc (pair_at w.actors) m.letter) w.mails n mail pairs.mails sent.sent) in
-    server_acts_trusts sc w at part [] (Some effect.state) effect.reaction.append effect.reaction.letters past h up.found (record { still = tt; fit = λ facts. tt })
-    (server_row_trusts sc w.facts place T s mail valid (rightly at part s up) here.sound (subst (λ (a : ServerId). IsSoundBody sc (actor.Server a) mail.letter.body) (sym here.server_is) m.says) trusted m.fits
+    let row =
+    server_row_trusts sc w.facts place T s mail valid (rightly at part s up) here.sound (subst (λ (a : ServerId). IsSoundBody sc (actor.Server a) mail.letter.body) (sym here.server_is) m.says) trusted m.fits
     (subst (λ (a : ServerId). NamedMail sc a mail.letter.body) (sym here.server_is) (named_mail sc (pair_at w.actors) mail.letter.from at mail.letter.body said))
-    (timely_closed sc w.actors.coordinators) (heard_anywhere sc w.actors.coordinators mail.sent mail.letter.body (no_tell sc at mail.letter.body m.says) m.timely))
+    (timely_closed sc w.actors.coordinators) (heard_anywhere sc w.actors.coordinators mail.sent mail.letter.body (no_tell sc at mail.letter.body m.says) m.timely) in
+    server_acts_trusts sc w at part [] (Some effect.state) effect.reaction.append effect.reaction.letters past h up.found (record { still = tt; fit = λ facts. tt })
+    (λ admin exists. let fits : ServerFits sc w.facts place effect.state = row.fits in
+    omega (arith, learns_told sc s effect admin here.sound.known (row_learns sc s mail (rightly at part s up)) exists, fits.known admin exists)) row
 
 coordinator_fits : (sc : Scenario) (w : State) (txn : TxnId) (part : Part Coordinator) (c : Coordinator) → Trusts sc w → IsCoordinatorUp w txn part c → CoordinatorFits sc w.facts (length w.steps) c
 coordinator_fits sc w txn part c h up = subst (λ (u : Option Coordinator). IfSome u (CoordinatorFits sc w.facts (length w.steps))) up.up (h.coordinators txn.0 part up.found)
@@ -226,8 +231,8 @@ trusts_opening sc built =
         places = length-replicate {A = Option CredId} (length sc.creds) None;
       };
       master = opening_fits sc;
-      servers = λ n part e. at_made (λ (k : ℕ) (found : Part Server). ServerPartFits sc [] 0 T found) (λ (k : ℕ). opened_part (server.opening sc (record { 0 = k }))) 0 (length sc.servers)
-          (λ k within. record {
+      servers = made_from_zero (λ (k : ℕ) (found : Part Server). ServerPartFits sc [] 0 T (record { 0 = k }) found) (λ (k : ℕ). opened_part (server.opening sc (record { 0 = k }))) (length sc.servers)
+          (λ k. record {
             state = record {
               known = λ admin exists. let low = known_at_first sc k admin built exists in omega (arith, low);
             };
@@ -235,7 +240,8 @@ trusts_opening sc built =
               state = placed_none (λ (m : ℕ) (entry : Entry). IsKept (IsTrusted sc [] 0 T) (record { 0 = m }) entry) (length sc.txns);
               prepared = λ txn p f. absurd (cc);
             };
-          }) n part e;
+            told = λ admin exists. let low = known_at_first sc k admin built exists in omega (arith, low);
+          });
       coordinators = λ n part e. at_made (λ (k : ℕ) (found : Part Coordinator). CoordinatorPartFits sc [] 0 found) (λ (k : ℕ). opened_part (coord.idle sc (record { 0 = k }))) 0 (length sc.txns)
           (λ k within. record { awaits = tt; unclosed = λ unsure. refl; above = λ unsure. record { closed = tt; gathered_before = tt }; turn = omega arith }) n part e;
       mails_fit = tt;
