@@ -1,5 +1,6 @@
 -- What is asked of each mail, record and fact of a world: that all they name exists, and that their values are bounded.
 use Rattle.std.specs.Prelude.{Bool, IfSome, List, Option, Some, [], false, is_some, length, option_and_then, option_map, slice_get, true, ℕ, ℤ, ◌<◌, ◌∷◌, ◌≡◌, ◌≤◌, is_none, ◌&&◌}
+use Rattle.tp_model.specs.Authorisation.{action_of}
 use Rattle.tp_model.specs.Queries.{item_of, query_at}
 use Rattle.tp_model.specs.Words.actor
 use Rattle.tp_model.specs.Words.answer
@@ -156,11 +157,12 @@ pub record IsSoundNewer (sc : Scenario) (newer : Newer) : Type 0 where
 
 -- ---- deeds
 
--- the deed is of a query of the transaction, on that query's item
+-- the deed is of a query of the transaction, on that query's item and with its action
 pub record IsSoundDeed (sc : Scenario) (txn : TxnId) (deed : Deed) : Type 0 where
   pub asked : Query
   pub asked_is : query_in sc txn deed.query ≡ Some asked
   pub item_is : deed.item ≡ item_of asked
+  pub action_is : deed.action ≡ action_of asked
 
 -- a sound deed on an item of this server
 pub record IsSoundDeedAt (sc : Scenario) (at : ServerId) (txn : TxnId) (deed : Deed) : Type 0 where

@@ -155,7 +155,7 @@ with_deed_sound sc c server done asked value h e =
     record {
       exists = h.exists;
       servers = h.servers;
-      deeds = each_more (IsSoundDeed sc c.txn) c.deeds (deed_of done.query asked value) h.deeds (record { asked = asked; asked_is = e; item_is = refl });
+      deeds = each_more (IsSoundDeed sc c.txn) c.deeds (deed_of done.query asked value) h.deeds (record { asked = asked; asked_is = e; item_is = refl; action_is = refl });
       gathered = h.gathered;
       instances = h.instances;
       awaits = h.awaits;

@@ -92,7 +92,7 @@ runs_sound sc s q query entry value h m plain query_is old =
     let item_is : item_of m.asked ≡ item_of query = ap item_of (sym same) in
     let kept : IsItemOf sc s.server deed.item = subst (IsItemOf sc s.server) item_is (subst (λ (at : ServerId). IsItemOf sc at (item_of m.asked)) at_is m.kept) in
     let deed_sound : IsSoundDeedAt sc s.server q.txn deed =
-    record { sound = record { asked = m.asked; asked_is = m.asked_is; item_is = sym item_is }; kept = kept } in
+    record { sound = record { asked = m.asked; asked_is = m.asked_is; item_is = sym item_is; action_is = ap action_of same }; kept = kept } in
     let done_sound : IsSoundDone sc (actor.Coordinator q.txn) (done_reply q entry.epoch deed) = plain_done sc s q (answer.Ran value None) entry.epoch m plain tt in
     record {
       same_server = refl;
