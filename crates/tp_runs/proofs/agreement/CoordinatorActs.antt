@@ -319,6 +319,7 @@ coordinator_acts_agrees sc w txn part now own append letters h found l =
           record {
             state = was.state;
             knows = was.knows;
+            prepared = λ t p f. let asked = was.prepared t p f in record { item = asked.item; submitted = stays.submitted t asked.submitted };
             settled = λ t s f.
                 let rests = was.settled t s f in
                 record {

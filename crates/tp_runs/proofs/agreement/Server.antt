@@ -69,9 +69,10 @@ pub record SettlementRests (V : TxnId → Outcome → Type 0) (M : TxnId → Typ
   pub ordered : forced.why ≡ None → V forced.txn forced.outcome
   pub refused : is_some forced.why ≡ true → (forced.outcome ≡ outcome.Abort) × (prepared_in forced.txn kept ≡ None)
 
--- what a record of a server rests on
+-- what a record of a server rests on; a vote YES follows a request too
 abbrev pub RecordRests : (TxnId → Outcome → Type 0) → (TxnId → Type 0) → List Record → Record → Type 0
 RecordRests V M kept (log.Settled forced) = SettlementRests V M kept forced
+RecordRests V M kept (log.Prepared p) = M p.txn
 RecordRests V M kept _ = Unit {0}
 
 -- a vote as the log has it, after it was forced
@@ -261,8 +262,8 @@ votes_cast s kept txn other forced entry now h new own e cast false apart =
 
 -- a vote YES settles nothing, and is prepared
 votes_lawful : (V : TxnId → Outcome → Type 0) (M : TxnId → Type 0) (s : Server) (kept : List Record) (p : PrepareRequest) (verdicts : List Verdict) (entry : Entry) → ServerAgrees s kept
-    → settled_in p.txn kept ≡ None → entry_at s p.txn ≡ Some entry → ServerLawful V M s kept (votes (with_wants s p.want) p verdicts entry)
-votes_lawful V M s kept p verdicts entry h new e =
+    → settled_in p.txn kept ≡ None → entry_at s p.txn ≡ Some entry → M p.txn → ServerLawful V M s kept (votes (with_wants s p.want) p verdicts entry)
+votes_lawful V M s kept p verdicts entry h new e asked =
     let voting = prepared_record (with_wants s p.want) p entry verdicts in
     let forced = (votes (with_wants s p.want) p verdicts entry).reaction.append in
     let now : Entry = record entry { ballot = Some (ballot_of voting) } in
@@ -274,7 +275,7 @@ votes_lawful V M s kept p verdicts entry h new e =
             (λ n found at_n. same (record { 0 = n }) ∙ h.unsettled n found at_n) (same p.txn ∙ new);
         prepared = λ txn. votes_cast s kept p.txn txn voting entry now h new refl e refl (same_txn p.txn txn) refl;
       };
-      rests = tt;
+      rests = asked;
       replies = (record { from_is = refl; says = ap is_some (prepared_now p.txn kept voting refl new) }, tt);
     }
 
@@ -466,7 +467,7 @@ server_row_lawful V M sc s kept mail waits h aborts m =
           entry_lawful V M s kept q.txn _ _ h (open_unsettled s kept q.txn h k.unsettled) u.unvoted u.entry_unvoted (record { from_is = refl; says = tt }, tt);
       restarted = λ q k. answers_lawful V M s kept q (restarted_reply q s.epoch) h;
       answered = λ q entry given k. answers_lawful V M s kept q given h;
-      voted = λ p entry staple txn k. votes_lawful V M s kept p (verdicts_on sc (with_wants s p.want) txn staple p.want entry.deeds) entry h (open_unsettled s kept p.txn h k.unsettled) k.found;
+      voted = λ p entry staple txn k. votes_lawful V M s kept p (verdicts_on sc (with_wants s p.want) txn staple p.want entry.deeds) entry h (open_unsettled s kept p.txn h k.unsettled) k.found (subst (RequestRests V M) k.said_is m);
       voted_again = λ p entry cast k. votes_again_lawful V M s kept p entry cast h k.found k.ballot_is;
       refused = λ p entry number value k.
           refuses_lawful V M s kept p entry _ h k.unsettled k.found k.unvoted (subst (RequestRests V M) k.said_is m);

@@ -5,10 +5,10 @@ use Rattle.std.specs.Option.{option_map_or, option_or}
 use Rattle.std.proofs.Common.{Bool, IfSome, List, None, Option, Some, [], ap, arith, drop, false, flat_map, if◌then◌else◌, inl, inr, is_some, length, option_and_then, option_map, refl, slice_get, slice_set, subst, sym, true, ℕ, ⊎_elim, ◌&&◌, ◌++◌, ◌+◌, ◌==◌, ◌||◌, ◌∙◌, ◌∷◌, ◌≡◌, ◌⊎◌}
 use Rattle.std.proofs.lemmas.Bool.{eqb-true}
 use Rattle.std.proofs.lemmas.List.{append-nil, length-set}
-use Rattle.std.proofs.lemmas.Option.{same_Some, slice_get_within}
+use Rattle.std.proofs.lemmas.Option.{cond_some, same_Some, slice_get_within}
 use Rattle.std.proofs.lemmas.List.Elements.{filter_map-append}
 use Rattle.tp_types.proofs.ListLemmas.{number_itself}
-use Rattle.tp_model.specs.Words.{Actor, Body, Decision, Fact, Letter, No, Outcome, Record, Scenario, ServerId, Settled, TxnId, Vote, What}
+use Rattle.tp_model.specs.Words.{Actor, Body, Decision, Fact, Letter, No, Outcome, Prepared, Record, Scenario, ServerId, Settled, TxnId, Vote, What}
 use Rattle.tp_model.specs.Words.actor
 use Rattle.tp_model.specs.Words.body
 use Rattle.tp_model.specs.Words.decision
@@ -19,7 +19,7 @@ use Rattle.tp_model.specs.Words.what
 use Rattle.tp_model.specs.Agreement.{has_item_at}
 use Rattle.tp_model.specs.Facts.{is_decided_as, is_submission, outcome_of, same_outcome}
 use Rattle.tp_model.specs.Ids.{same_server, same_txn}
-use Rattle.tp_recover.specs.Log.{decided_in, has_voted, prepared_in, settled_in, settlement_in}
+use Rattle.tp_recover.specs.Log.{decided_in, has_voted, preparation_in, prepared_in, settled_in, settlement_in}
 use Rattle.tp_machine.specs.Logs.{decided_at, decided_by, prepared_by, settled_at, settled_by, voted_by}
 use Rattle.tp_machine.specs.Machine.{State, acts, log_with, server_fact, server_move}
 use Rattle.tp_types.specs.Each.{Each}
@@ -40,7 +40,7 @@ use Rattle.tp_runs.proofs.agreement.Server.{LetterKept, RecordRests, ReplyKept, 
 use Rattle.tp_runs.proofs.agreement.World.{Agrees, BodyRests, CoordinatorPartAgrees, CoordinatorUpAgrees, CoordinatorsAgree, Follows, LetterRests, MoveAgrees, ServerPartAgrees, SettledRests, VoteRests, WhatFollows}
 use Rattle.tp_runs.proofs.basics.Servers.{among_servers}
 use Rattle.tp_runs.proofs.basics.Facts.{any_decided, any_submitted, decided_what, decisions, outcome_itself, said, settled_what, settlements, submissions, submitted_what}
-use Rattle.tp_runs.proofs.basics.Logs.{IsFresh, appended, first_stays, gained, get_set, has_voted_with, listed, listed_first, look_set, map_first, settled_with}
+use Rattle.tp_runs.proofs.basics.Logs.{IsFresh, appended, first_stays, gained, get_set, has_voted_with, listed, listed_first, look_set, map_first, prepared_either, settled_with}
 use Rattle.tp_types.proofs.EachLemmas.{at_set, each_append, each_as, some_mapped}
 
 -- ---- what the facts tell
@@ -438,6 +438,15 @@ letters_rest_in_server_acts sc w at part next [] found h = tt
 letters_rest_in_server_acts sc w at part next (letter ∷ letters) found h =
     (letter_rests_in_server_acts sc w.actors.servers w.actors at part next letter.from letter.to letter.body found h.0.from_is h.0.says, letters_rest_in_server_acts sc w at part next letters found h.1)
 
+-- a vote YES that was forced follows a request
+voted_asked : (V : TxnId → Outcome → Type 0) (M : TxnId → Type 0) (kept : List Record) (txn : TxnId) (append : Option Record) → IfSome append (RecordRests V M kept) → (p : Prepared) → appended (preparation_in txn) append ≡ Some p → M txn
+voted_asked V M kept txn (Some (log.Prepared q)) r p e = subst M (same_txn_is q.txn txn (cond_some (same_txn q.txn txn) q p e).0) r
+voted_asked V M kept txn (Some log.Boot) r p e = absurd (cc)
+voted_asked V M kept txn (Some (log.Told t)) r p e = absurd (cc)
+voted_asked V M kept txn (Some (log.Settled s)) r p e = absurd (cc)
+voted_asked V M kept txn (Some (log.Decided d)) r p e = absurd (cc)
+voted_asked V M kept txn None r p e = absurd (cc)
+
 -- the move of a server that acts lawfully, whether it is up after it or down
 pub server_acts_agrees : (sc : Scenario) (w : State) (at : ServerId) (part : Part Server) (now : Option Server) (own : List What) (append : Option Record) (letters : List Letter) → Agrees sc w
     → slice_get w.actors.servers at.0 ≡ Some part → ServerActs sc w at part.log now own append letters
@@ -460,6 +469,7 @@ server_acts_agrees sc w at part now own append letters h found l =
             state = l.state;
             knows = l.knows;
             settled = λ txn s e. settled_after_in_agreement sc w at part append txn (settled_in txn part.log) s h found (here.settled txn) l.rests (sym (settled_with txn part.log append) ∙ e);
+            prepared = λ txn. prepared_either txn part.log append (λ (p : Prepared). M txn) (here.prepared txn) (λ p e. voted_asked V M part.log txn append l.rests p e);
           });
       letters = letters_rest_in_server_acts sc w at part next letters found l.replies;
       stays = stays;

@@ -26,7 +26,7 @@ use Rattle.tp_types.proofs.EachLemmas.{at_made, each_get, placed_none, unset_at}
 use Rattle.tp_runs.proofs.basics.Logs.{listed}
 use Rattle.tp_runs.proofs.ids.Queries.{homes_built}
 use Rattle.tp_runs.proofs.walks.Steps.{Cases, IsCoordinatorUp, IsServerUp, SaysIdle, WasSent, WaitRightly, machine_after_by}
-use Rattle.tp_recover.specs.Log.{decided_in, settled_in}
+use Rattle.tp_recover.specs.Log.{decided_in, prepared_in, settled_in}
 use Rattle.tp_machine.specs.Logs.{decided_at, decided_by, settled_by}
 use Rattle.tp_machine.specs.Machine.{Machine, State, acts_by, coordinator_fact, coordinator_move, idle_move, is_part_submitted, log_with, machine_after, opened_actors, opened_part, opening_state, refusal, server_fact, server_move, with_age}
 use Rattle.tp_machine.specs.Parts.{Part}
@@ -315,6 +315,7 @@ agrees_opening sc =
         state = (open_ones n part e).agrees;
         knows = (open_ones n part e).knows;
         settled = λ txn s f. absurd (none_settled_in_steps (settled_in txn part.log) s (ap (settled_in txn) (open_ones n part e).empty) f);
+        prepared = λ txn p f. let none : prepared_in txn part.log ≡ None = ap (prepared_in txn) (open_ones n part e).empty in absurd (cc);
       };
       mails = tt;
       numbered = tt;

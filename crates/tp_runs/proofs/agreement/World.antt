@@ -3,7 +3,7 @@ use Rattle.std.specs.List.{filter_map, list_any}
 use Rattle.std.proofs.Common.{IfSome, List, None, Option, Some, [], ap, arith, length, refl, slice_get, subst, suc, sym, true, zero, ℕ, ◌++◌, ◌+◌, ◌<◌, ◌∙◌, ◌∷◌, ◌≡◌}
 use Rattle.std.proofs.lemmas.List.{length-append, length_push}
 use Rattle.std.proofs.lemmas.List.Elements.{filter_map-append}
-use Rattle.tp_model.specs.Words.{Actor, Body, Decision, Fact, Letter, Mail, Outcome, Record, Scenario, ServerId, Settled, Step, TxnId, Vote, What}
+use Rattle.tp_model.specs.Words.{Actor, Body, Decision, Fact, Letter, Mail, Outcome, Prepared, Record, Scenario, ServerId, Settled, Step, TxnId, Vote, What}
 use Rattle.tp_model.specs.Words.actor
 use Rattle.tp_model.specs.Words.body
 use Rattle.tp_model.specs.Words.outcome
@@ -11,7 +11,7 @@ use Rattle.tp_model.specs.Words.vote
 use Rattle.tp_model.specs.Words.what
 use Rattle.tp_model.specs.Agreement.{has_item_at}
 use Rattle.tp_model.specs.Facts.{before, is_decided_as, is_submission}
-use Rattle.tp_recover.specs.Log.{decided_in, settled_in}
+use Rattle.tp_recover.specs.Log.{decided_in, prepared_in, settled_in}
 use Rattle.tp_machine.specs.Logs.{decided_at, settled_at}
 use Rattle.tp_machine.specs.Machine.{Move, State, facts_of, mails_of, state_after}
 use Rattle.tp_types.specs.Each.{Each, EachAt}
@@ -52,11 +52,13 @@ pub record SettledRests (sc : Scenario) (coordinators : List (Part Coordinator))
   pub commit : settled.outcome ≡ outcome.Commit → (settled.why ≡ None) × DecidedAs coordinators txn outcome.Commit
   pub abort : settled.outcome ≡ outcome.Abort → DecidedAs coordinators txn outcome.Commit → ⊥
 
--- a server that is up agrees with its log, and knows no less than it tells; and its log agrees with the coordinators'
+-- a server that is up agrees with its log, and knows no less than it tells; and whether it is up or down, its log agrees with the
+-- coordinators', and what is prepared on it is of a transaction that was submitted and has an item there
 pub record ServerPartAgrees (sc : Scenario) (coordinators : List (Part Coordinator)) (at : ServerId) (part : Part Server) : Type 0 where
   pub state : IfSome part.up (λ (s : Server). ServerAgrees s part.log)
   pub knows : IfSome part.up (KnowsTold sc at part.log)
   pub settled : (txn : TxnId) (settled : Settled) → settled_in txn part.log ≡ Some settled → SettledRests sc coordinators at txn settled
+  pub prepared : (txn : TxnId) (p : Prepared) → prepared_in txn part.log ≡ Some p → IsAsked sc coordinators at txn
 
 -- a request of a transaction that was submitted goes to a server with an item of it
 abbrev pub RequestMade : Scenario → List (Part Coordinator) → Actor → TxnId → Type 0
