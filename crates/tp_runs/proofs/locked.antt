@@ -2,4 +2,5 @@
 pub mod Apart
 pub mod Fit
 pub mod Servers
+pub mod Taken
 pub mod World

@@ -1,7 +1,7 @@
 -- How many locks an owner waits for, and how many of its grants nobody has taken.
 use Rattle.std.specs.List.{list_any}
-use Rattle.std.proofs.Common.{Bool, List, Some, [], ap, arith, drop, false, filter, if◌then◌else◌, map, not, refl, slice_get, slice_index_or, slice_set, subst, suc, true, zero, ℕ, ◌&&◌, ◌+◌, ◌++◌, ◌==◌, ◌||◌, ◌∙◌, ◌∷◌, ◌≡◌, ◌≤◌}
-use Rattle.std.proofs.lemmas.Bool.{and_parts, eqb-true, not-true}
+use Rattle.std.proofs.Common.{Bool, List, Some, [], ap, arith, drop, false, filter, if◌then◌else◌, length, map, not, refl, slice_get, slice_index_or, slice_set, subst, suc, sym, true, zero, ℕ, ◌&&◌, ◌+◌, ◌++◌, ◌<◌, ◌==◌, ◌||◌, ◌∙◌, ◌∷◌, ◌≡◌, ◌≤◌}
+use Rattle.std.proofs.lemmas.Bool.{and_parts, eqb-true, ne_eqb, not-false, not-true}
 use Rattle.tp_types.proofs.ListLemmas.{number_itself}
 use Rattle.tp_model.specs.Words.{Action, TxnId}
 use Rattle.tp_lock.specs.Rule.{answer, answer_to_new, grant_of, grants_from, grants_in, grants_of, is_clear, is_granted, is_of_other, left_by, lock_of, serves, with_answer, with_grant, with_grants_from, with_lock}
@@ -139,6 +139,61 @@ pub request_count : (n : ℕ) (owner : TxnId) (age place : ℕ) (mode : Action) 
 request_count n owner age place mode lists given e =
     omega (arith, set_count n place lists (with_lock owner age mode (slice_index_or lists place [])), requested_count n owner age mode (slice_index_or lists place []) given e)
 
+-- ---- counts that stay exactly
+
+other_none : (own held : Bool) → own ≡ false → one_if (own && not held) ≡ 0
+other_none true held e = absurd (cc)
+other_none false held e = refl
+
+-- the locks of others wait as before
+others_count : (n : ℕ) (owner : TxnId) (entries : List LockEntry) → (owner.0 ≡ n → ⊥) → waiting_in n (filter (is_of_other owner) entries) ≡ waiting_in n entries
+others_count n owner [] apart = refl
+others_count n owner (entry ∷ entries) apart =
+    let later = others_count n owner entries apart in
+    by_cond (λ (es : List LockEntry). waiting_in n es ≡ waiting_in n (entry ∷ entries)) (is_of_other owner entry)
+    (λ kept. omega (arith, later)) (λ dropped. omega (arith, later, gone dropped))
+  where
+    gone : is_of_other owner entry ≡ false → one_if (is_waiting n entry) ≡ 0
+    gone dropped =
+        let its : entry.owner.0 ≡ owner.0 = eqb-true entry.owner.0 owner.0 (not-false (entry.owner.0 == owner.0) dropped) in
+        other_none (entry.owner.0 == n) entry.held (ne_eqb entry.owner.0 n (λ same. apart (sym its ∙ same)))
+
+left_exact : (n item : ℕ) (owner : TxnId) (entries : List LockEntry) → (owner.0 ≡ n → ⊥) → waiting_in n (left_by owner entries) + granted_to n (grants_in owner item entries) ≡ waiting_in n entries
+left_exact n item owner entries apart = omega (arith, granted_count n item [] (filter (is_of_other owner) entries), others_count n owner entries apart)
+
+-- what waits of others waits still, or moves to the grants
+pub release_exact : (n item : ℕ) (owner : TxnId) (lists : List (List LockEntry)) → (owner.0 ≡ n → ⊥) → waiting_on n (map (left_by owner) lists) + granted_to n (grants_of owner item lists) ≡ waiting_on n lists
+release_exact n item owner [] apart = refl
+release_exact n item owner (entries ∷ lists) apart =
+    let here = left_exact n item owner entries apart in
+    let later = release_exact n (suc item) owner lists apart in
+    let both : granted_to n (grants_in owner item entries ++ grants_of owner (suc item) lists) ≡ granted_to n (grants_in owner item entries) + granted_to n (grants_of owner (suc item) lists) =
+    granted_append n (grants_in owner item entries) (grants_of owner (suc item) lists) in
+    omega (arith, here, later, both)
+
+asked_exact : (n : ℕ) (owner : TxnId) (age : ℕ) (mode : Action) (entries : List LockEntry) (given new : Asked) (served : Bool) → (if served then asked.Granted else new) ≡ given
+    → waiting_in n (if served then entries else with_answer owner age mode new entries) ≡ waiting_in n entries + more_waiting n owner given
+asked_exact n owner age mode entries given new true e = subst (λ (a : Asked). waiting_in n entries ≡ waiting_in n entries + more_waiting n owner a) e (omega arith)
+asked_exact n owner age mode entries given new false e = subst (λ (a : Asked). waiting_in n (with_answer owner age mode new entries) ≡ waiting_in n entries + more_waiting n owner a) e (added_count n owner age mode entries new)
+
+set_exact : (n place : ℕ) (lists : List (List LockEntry)) (new : List LockEntry) → place < length lists → waiting_on n (slice_set lists place new) + waiting_in n (slice_index_or lists place []) ≡ waiting_on n lists + waiting_in n new
+set_exact n place [] new within = absurd (omega (arith, within))
+set_exact n zero (entries ∷ lists) new within =
+    let now : waiting_on n (slice_set (entries ∷ lists) zero new) ≡ waiting_in n new + waiting_on n lists = refl in
+    let was : waiting_in n (slice_index_or (entries ∷ lists) zero []) ≡ waiting_in n entries = refl in
+    omega (arith, now, was)
+set_exact n (suc place) (entries ∷ lists) new within =
+    let now : waiting_on n (slice_set (entries ∷ lists) (suc place) new) ≡ waiting_in n entries + waiting_on n (slice_set lists place new) = refl in
+    let was : waiting_in n (slice_index_or (entries ∷ lists) (suc place) []) ≡ waiting_in n (slice_index_or lists place []) = refl in
+    omega (arith, now, was, set_exact n place lists new (omega (arith, within)))
+
+-- a request adds a lock that waits just where it is to wait
+pub request_exact : (n : ℕ) (owner : TxnId) (age place : ℕ) (mode : Action) (lists : List (List LockEntry)) (given : Asked) → place < length lists → answer owner age mode (slice_index_or lists place []) ≡ given
+    → waiting_on n (slice_set lists place (with_lock owner age mode (slice_index_or lists place []))) ≡ waiting_on n lists + more_waiting n owner given
+request_exact n owner age place mode lists given within e =
+    let entries = slice_index_or lists place [] in
+    omega (arith, set_exact n place lists (with_lock owner age mode entries) within, asked_exact n owner age mode entries given (answer_to_new owner age mode entries) (list_any (serves owner mode) entries) e)
+
 -- ---- none waits
 
 -- each lock of the owner is held
@@ -197,6 +252,16 @@ dropped_count n [] = omega arith
 dropped_count n (grant ∷ grants) =
     let now : granted_to n (grant ∷ grants) ≡ one_if (grant.owner.0 == n) + granted_to n grants = refl in
     omega (arith, now)
+
+-- where the first grant is another's
+pub first_of_other : (n : ℕ) (grants : List Grant) (grant : Grant) → slice_get grants 0 ≡ Some grant → (grant.owner.0 ≡ n → ⊥) → granted_to n grants ≡ granted_to n (drop 1 grants)
+first_of_other n [] grant e apart = absurd (cc)
+first_of_other n (first ∷ grants) grant e apart =
+    let same : first ≡ grant = grind arith in
+    let other : (first.owner.0 == n) ≡ false = ap (λ (g : Grant). g.owner.0 == n) same ∙ ne_eqb grant.owner.0 n apart in
+    let counted : one_if (first.owner.0 == n) ≡ 0 = ap one_if other in
+    let now : granted_to n (first ∷ grants) ≡ one_if (first.owner.0 == n) + granted_to n grants = refl in
+    omega (arith, now, counted)
 
 -- where the first grant is the owner's
 pub first_count : (n : ℕ) (grants : List Grant) (grant : Grant) → slice_get grants 0 ≡ Some grant → grant.owner.0 ≡ n → granted_to n grants ≡ 1 + granted_to n (drop 1 grants)

@@ -1,5 +1,5 @@
 -- Locks at a server: what is kept of each, of grants that nobody has taken, and of deeds.
-use Rattle.std.proofs.Common.{List, Option, Some, false, length, slice_get, ℕ, ◌+◌, ◌≡◌, ◌≤◌}
+use Rattle.std.proofs.Common.{List, Option, Some, [], ap, arith, false, is_some, length, slice_get, subst, sym, true, ℕ, ◌+◌, ◌≡◌, ◌≤◌}
 use Rattle.std.specs.Option.{option_flatten}
 use Rattle.tp_model.specs.Words.{Action, Deed, Query, QueryRequest, Scenario, TxnId}
 use Rattle.tp_lock.specs.Laws.{Holds}
@@ -49,12 +49,56 @@ DeedLocked locks owner deed = Holds owner deed.action (entries_at deed.item lock
 abbrev pub EntryLocked : Table → ℕ → Entry → Type 0
 EntryLocked locks n entry = Each (DeedLocked locks (record { 0 = n })) entry.deeds
 
--- the locks of a server with these entries: there is a list for each item and each is orderly, deeds have their locks, what waits is what queries
--- wait for, and of an owner at most one lock waits or grant is left
-pub record Locked (sc : Scenario) (entries : List (Option Entry)) (locks : Table) : Type 0 where
+-- an entry at which a query waits has a lock that waits, or a grant that nobody has taken
+abbrev pub EntryAsks : Table → ℕ → Entry → Type 0
+EntryAsks locks n entry = is_some entry.waiting ≡ true → 1 ≤ waiting_on n locks.lists + granted_to n locks.grants
+
+-- the locks of a server with these entries while it takes grants: there is a list for each item and each is orderly, deeds have their locks,
+-- what waits is what queries wait for, each query that waits has asked, and of an owner at most one lock waits or grant is left
+pub record LockedMeanwhile (sc : Scenario) (entries : List (Option Entry)) (locks : Table) : Type 0 where
   pub items : length locks.lists ≡ length sc.items
   pub orderly : AreOrderly locks
   pub deeds : EachPlaced (EntryLocked locks) entries
   pub waits : EachLock (LockWaits sc entries) locks
   pub grants : Each (GrantFits sc entries locks) locks.grants
+  pub asks : EachPlaced (EntryAsks locks) entries
   pub once : (n : ℕ) → waiting_on n locks.lists + granted_to n locks.grants ≤ 1
+
+-- and between receipts: no grant is left, so each query that waits has a lock that waits
+pub record Locked (sc : Scenario) (entries : List (Option Entry)) (locks : Table) : Type 0 where
+  pub items : length locks.lists ≡ length sc.items
+  pub orderly : AreOrderly locks
+  pub deeds : EachPlaced (EntryLocked locks) entries
+  pub waits : EachLock (LockWaits sc entries) locks
+  pub asks : EachPlaced (λ (n : ℕ) (entry : Entry). is_some entry.waiting ≡ true → 1 ≤ waiting_on n locks.lists) entries
+  pub once : (n : ℕ) → waiting_on n locks.lists ≤ 1
+  pub taken : locks.grants ≡ []
+
+none_left_of : (n : ℕ) (locks : Table) → locks.grants ≡ [] → granted_to n locks.grants ≡ 0
+none_left_of n locks e = ap (granted_to n) e
+
+-- a receipt begins between receipts
+pub locked_first : (sc : Scenario) (entries : List (Option Entry)) (locks : Table) → Locked sc entries locks → LockedMeanwhile sc entries locks
+locked_first sc entries locks h =
+    record {
+      items = h.items;
+      orderly = h.orderly;
+      deeds = h.deeds;
+      waits = h.waits;
+      grants = subst (Each (GrantFits sc entries locks)) (sym h.taken) tt;
+      asks = λ n entry found some. let one = h.asks n entry found some in omega (arith, one);
+      once = λ n. let one = h.once n in let none = none_left_of n locks h.taken in omega (arith, one, none);
+    }
+
+-- and ends so, once all grants are taken
+pub locked_last : (sc : Scenario) (entries : List (Option Entry)) (locks : Table) → locks.grants ≡ [] → LockedMeanwhile sc entries locks → Locked sc entries locks
+locked_last sc entries locks taken h =
+    record {
+      items = h.items;
+      orderly = h.orderly;
+      deeds = h.deeds;
+      waits = h.waits;
+      asks = λ n entry found some. let one = h.asks n entry found some in let none = none_left_of n locks taken in omega (arith, one, none);
+      once = λ n. let one = h.once n in omega (arith, one);
+      taken = taken;
+    }

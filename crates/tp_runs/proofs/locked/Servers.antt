@@ -1,5 +1,5 @@
 -- Locks at a server, its rows.
-use Rattle.std.proofs.Common.{Bool, List, None, Option, Some, [], ap, arith, drop, false, length, refl, slice_get, slice_set, subst, sym, true, ℕ, ℤ, ⊎_elim, ◌+◌, ◌++◌, ◌<◌, ◌==◌, ◌||◌, ◌∙◌, ◌∷◌, ◌≡◌, ◌≤◌}
+use Rattle.std.proofs.Common.{Bool, List, None, Option, Some, [], ap, arith, drop, false, is_some, length, option_and_then, refl, slice_get, slice_set, subst, sym, true, ℕ, ℤ, ⊎_elim, ◌+◌, ◌++◌, ◌<◌, ◌==◌, ◌||◌, ◌∙◌, ◌∷◌, ◌≡◌, ◌≤◌}
 use Rattle.std.proofs.lemmas.Bool.{eqb-true, ne_eqb, or_parts}
 use Rattle.std.proofs.lemmas.List.{length-map, length-set}
 use Rattle.std.proofs.lemmas.Option.{same_Some}
@@ -22,10 +22,11 @@ use Rattle.tp_model.specs.Deeds.{deed_of}
 use Rattle.tp_model.specs.Queries.{item_of}
 use Rattle.tp_runs.proofs.basics.Held.{IsGrantOf, holds_granted, holds_released, holds_requested, released_grants}
 use Rattle.tp_types.proofs.EachLemmas.{each_as, each_both, each_dropped, each_get, each_more, filtered, none_if_not_some, placed_emptied_others, placed_set, set_here}
-use Rattle.tp_runs.proofs.basics.LockCounts.{IsHeldOf, dropped_count, first_count, granted_to, held_on, more_waiting, none_granted, none_on, not_granted, one_if, release_count, request_count, waiting_on}
+use Rattle.tp_runs.proofs.basics.LockCounts.{IsHeldOf, dropped_count, first_count, first_of_other, granted_to, held_on, more_waiting, none_granted, none_on, not_granted, one_if, release_count, release_exact, request_count, request_exact, waiting_on}
 use Rattle.tp_runs.proofs.basics.Locks.{EachLock, IsAdded, locks_as, released_locks, requested_locks}
 use Rattle.tp_server.proofs.Tables.{placed_within}
-use Rattle.tp_runs.proofs.locked.Fit.{DeedLocked, EntryLocked, GrantFits, IsWaitedFor, LockWaits, Locked, WaitFits}
+use Rattle.tp_runs.proofs.locked.Fit.{DeedLocked, EntryAsks, EntryLocked, GrantFits, IsWaitedFor, LockWaits, Locked, LockedMeanwhile, WaitFits, locked_first, locked_last}
+use Rattle.tp_runs.proofs.locked.Taken.{server_row_taken}
 use Rattle.tp_runs.proofs.basics.Folds.{set_elsewhere}
 use Rattle.tp_server.proofs.Rows.{AreRightWaits, IsAsking, IsFirstHere, IsFurther, IsResumed, server_by_locks, unwaiting}
 use Rattle.tp_types.specs.Each.{Each, EachPlaced}
@@ -34,7 +35,12 @@ use Rattle.tp_server.specs.Row.{after_asking, asked_query, ballot_of, died_reply
 use Rattle.tp_server.specs.State.{Server}
 use Rattle.tp_server.specs.Verdicts.{with_wants, verdicts_on}
 
--- an act of a server: its locks are kept, and there is a place for each transaction
+-- a receipt of a server, as far as grants were taken: its locks are kept, and there is a place for each transaction
+record RowTaking (sc : Scenario) (s : Server) (effect : Effect Server) : Type 0 where
+  state : LockedMeanwhile sc effect.state.entries effect.state.locks
+  places : length effect.state.entries ≡ length s.entries
+
+-- and once all were taken
 pub record RowLocked (sc : Scenario) (s : Server) (effect : Effect Server) : Type 0 where
   pub state : Locked sc effect.state.entries effect.state.locks
   pub places : length effect.state.entries ≡ length s.entries
@@ -43,6 +49,21 @@ pub record RowLocked (sc : Scenario) (s : Server) (effect : Effect Server) : Typ
 
 elsewhere_in_locked : (entries : List (Option Entry)) (n m : ℕ) (v : Option Entry) (entry : Entry) → (n ≡ m → ⊥) → option_flatten (slice_get entries m) ≡ Some entry → option_flatten (slice_get (slice_set entries n v) m) ≡ Some entry
 elsewhere_in_locked entries n m v entry apart found = ap option_flatten (set_elsewhere entries n m v (ne_eqb n m apart)) ∙ found
+
+-- what is so of a new entry, and of each entry of another transaction
+placed_others : (P : ℕ → Entry → Type 0) (entries : List (Option Entry)) (k : ℕ) (new : Entry) → k < length entries → ((n : ℕ) (entry : Entry) → option_flatten (slice_get entries n) ≡ Some entry → (k ≡ n → ⊥) → P n entry) → P k new
+    → EachPlaced P (slice_set entries k (Some new))
+placed_others P entries k new within others own n entry found = by_number (k == n) refl
+  where
+    by_number : (b : Bool) → (k == n) ≡ b → P n entry
+    by_number true e =
+        let is : k ≡ n = eqb-true k n e in
+        let there : option_flatten (slice_get (slice_set entries k (Some new)) k) ≡ Some new = ap option_flatten (set_here entries k (Some new) within) in
+        let same : new ≡ entry = same_Some new entry (sym there ∙ subst (λ (m : ℕ). option_flatten (slice_get (slice_set entries k (Some new)) m) ≡ Some entry) (sym is) found) in
+        subst (λ (m : ℕ). P m entry) is (subst (P k) same own)
+    by_number false e =
+        others n entry (sym (ap option_flatten (set_elsewhere entries k n (Some new) e)) ∙ found)
+        (λ same. let its : (k == n) ≡ true = ap (λ (m : ℕ). k == m) (sym same) ∙ number_itself k in cc)
 
 -- what waits at the entry of a transaction waits at the one that takes its place
 abbrev pub KeepsWaiting : Scenario → List (Option Entry) → ℕ → Entry → Type 0
@@ -95,8 +116,8 @@ deeds_kept locks after entries holds h n entry found =
     each_as (DeedLocked locks (record { 0 = n })) (DeedLocked after (record { 0 = n })) (λ deed k. holds (record { 0 = n }) deed.action deed.item k) entry.deeds (h n entry found)
 
 -- the locks stay, and the entry of one transaction changes, with its deeds and the query that waits there as they were
-pub voted_locked : (sc : Scenario) (entries : List (Option Entry)) (locks : Table) (n : ℕ) (old new : Entry) → option_flatten (slice_get entries n) ≡ Some old → new.waiting ≡ old.waiting → new.deeds ≡ old.deeds → Locked sc entries locks
-    → Locked sc (slice_set entries n (Some new)) locks
+pub voted_locked : (sc : Scenario) (entries : List (Option Entry)) (locks : Table) (n : ℕ) (old new : Entry) → option_flatten (slice_get entries n) ≡ Some old → new.waiting ≡ old.waiting → new.deeds ≡ old.deeds → LockedMeanwhile sc entries locks
+    → LockedMeanwhile sc (slice_set entries n (Some new)) locks
 voted_locked sc entries locks n old new found waits deeds h =
     let within = placed_within entries n old found in
     record {
@@ -105,6 +126,7 @@ voted_locked sc entries locks n old new found waits deeds h =
       deeds = placed_set (EntryLocked locks) entries n new h.deeds (subst (Each (DeedLocked locks (record { 0 = n }))) (sym deeds) (h.deeds n old found));
       waits = locks_as (LockWaits sc entries) (LockWaits sc (slice_set entries n (Some new))) locks (λ item lock k. wait_moved sc entries n new within item lock (λ own. keeps) k) h.waits;
       grants = each_as (GrantFits sc entries locks) (GrantFits sc (slice_set entries n (Some new)) locks) (λ grant k. grant_moved sc entries locks locks n new within (λ owner mode item held. held) grant (λ own. keeps) k) locks.grants h.grants;
+      asks = placed_set (EntryAsks locks) entries n new h.asks (λ some. h.asks n old found (ap (λ (q : Option QueryRequest). is_some q) (sym waits) ∙ some));
       once = h.once;
     }
   where
@@ -130,7 +152,7 @@ deeds_then sc s mail q query entry value locks k h =
     ⊎_elim (λ (first : IsFirstHere s mail.sent q entry). subst (EntryLocked locks q.txn.0) (sym first.entry_is) tt) (λ (further : IsFurther s q entry). h q.txn.0 entry further.found) k.place
 
 -- where the owner has no lock that waits and no grant that is left
-none_left_in_locked : (sc : Scenario) (entries : List (Option Entry)) (locks : Table) (n : ℕ) → Locked sc entries locks → ((old : Entry) → option_flatten (slice_get entries n) ≡ Some old → old.waiting ≡ None) → waiting_on n locks.lists + granted_to n locks.grants ≡ 0
+none_left_in_locked : (sc : Scenario) (entries : List (Option Entry)) (locks : Table) (n : ℕ) → LockedMeanwhile sc entries locks → ((old : Entry) → option_flatten (slice_get entries n) ≡ Some old → old.waiting ≡ None) → waiting_on n locks.lists + granted_to n locks.grants ≡ 0
 none_left_in_locked sc entries locks n h idle =
     let held : EachLock (λ (item : ℕ) (lock : LockEntry). IsHeldOf n lock) locks = locks_as (LockWaits sc entries) (λ item lock. IsHeldOf n lock) locks lock_held h.waits in
     let waits : waiting_on n locks.lists ≡ 0 = none_on n locks.lists held in
@@ -170,9 +192,9 @@ once_asked n owner (asked.Dies other) before after grants more one none = omega 
 
 -- a query asked, and its entry is as it is then: where it is to wait it waits there
 asked_locked : (sc : Scenario) (s : Server) (mail : Mail) (q : QueryRequest) (query : Query) (entry new : Entry) (value : ℤ) (given : Asked) → lock_answer s q query entry ≡ given → IsAsking sc s mail q query entry value → q.txn.0 < length s.entries
-    → (given ≡ asked.Waits → new.waiting ≡ Some q) → EntryLocked (after_asking s q query entry).locks q.txn.0 new → Locked sc s.entries s.locks
-    → Locked sc (slice_set s.entries q.txn.0 (Some new)) (after_asking s q query entry).locks
-asked_locked sc s mail q query entry new value given e k within waits deeds h =
+    → (given ≡ asked.Waits → new.waiting ≡ Some q) → (is_some new.waiting ≡ true → given ≡ asked.Waits) → (item_of query).0 < length sc.items → EntryLocked (after_asking s q query entry).locks q.txn.0 new → LockedMeanwhile sc s.entries s.locks
+    → LockedMeanwhile sc (slice_set s.entries q.txn.0 (Some new)) (after_asking s q query entry).locks
+asked_locked sc s mail q query entry new value given e k within waits waiting_only on deeds h =
     let entries = slice_set s.entries q.txn.0 (Some new) in
     let after = (after_asking s q query entry).locks in
     let holds : KeepsHeld s.locks after = holds_after in
@@ -184,6 +206,9 @@ asked_locked sc s mail q query entry new value given e k within waits deeds h =
           (locks_as (LockWaits sc s.entries) (LockWaits sc entries) s.locks (λ item lock p. wait_moved sc s.entries q.txn.0 new within item lock (λ own. none_waits) p) h.waits)
           (added sc entries s q query entry new given (ap option_flatten (set_here s.entries q.txn.0 (Some new) within)) k.asked_is waits);
       grants = each_as (GrantFits sc s.entries s.locks) (GrantFits sc entries after) (λ grant p. grant_moved sc s.entries s.locks after q.txn.0 new within holds grant (λ own. none_waits) p) s.locks.grants h.grants;
+      asks = placed_others (EntryAsks after) s.entries q.txn.0 new within
+          (λ n other found apart some. let one = h.asks n other found some in let more = exact n in omega (arith, one, more))
+          (λ some. let more = exact q.txn.0 in let one = its_own (waiting_only some) in omega (arith, more, one));
       once = λ n. once_asked n q.txn given (waiting_on n s.locks.lists) (waiting_on n after.lists) (granted_to n s.locks.grants)
           (request_count n q.txn entry.age (item_of query).0 (action_of query) s.locks.lists given e) (h.once n)
           (λ waiting own. subst (λ (m : ℕ). waiting_on m s.locks.lists + granted_to m s.locks.grants ≡ 0) own (none_left_in_locked sc s.entries s.locks q.txn.0 h idle));
@@ -198,16 +223,22 @@ asked_locked sc s mail q query entry new value given e k within waits deeds h =
     holds_after : KeepsHeld s.locks (after_asking s q query entry).locks
     holds_after owner mode item held = holds_requested owner mode item q.txn entry.age (item_of query) (action_of query) s.locks held
 
+    exact : (n : ℕ) → waiting_on n (after_asking s q query entry).locks.lists ≡ waiting_on n s.locks.lists + more_waiting n q.txn given
+    exact n = request_exact n q.txn entry.age (item_of query).0 (action_of query) s.locks.lists given (let items = h.items in omega (arith, on, items)) e
+
+    its_own : given ≡ asked.Waits → more_waiting q.txn.0 q.txn given ≡ 1
+    its_own waiting = ap (more_waiting q.txn.0 q.txn) waiting ∙ ap one_if (number_itself q.txn.0)
+
 -- the deeds of the entry as it was have their locks still
-asked_deeds : (sc : Scenario) (s : Server) (mail : Mail) (q : QueryRequest) (query : Query) (entry : Entry) (value : ℤ) → IsAsking sc s mail q query entry value → Locked sc s.entries s.locks → EntryLocked (after_asking s q query entry).locks q.txn.0 entry
+asked_deeds : (sc : Scenario) (s : Server) (mail : Mail) (q : QueryRequest) (query : Query) (entry : Entry) (value : ℤ) → IsAsking sc s mail q query entry value → LockedMeanwhile sc s.entries s.locks → EntryLocked (after_asking s q query entry).locks q.txn.0 entry
 asked_deeds sc s mail q query entry value k h =
     each_as (DeedLocked s.locks q.txn) (DeedLocked (after_asking s q query entry).locks q.txn)
     (λ deed held. holds_requested q.txn deed.action deed.item q.txn entry.age (item_of query) (action_of query) s.locks held) entry.deeds (deeds_then sc s mail q query entry value s.locks k h.deeds)
 
 -- ---- a transaction ends
 
-closed_locked : (sc : Scenario) (entries : List (Option Entry)) (locks : Table) (owner : TxnId) → Locked sc entries locks → Locked sc (slice_set entries owner.0 None) (after_release owner locks)
-closed_locked sc entries locks owner h =
+closed_locked : (sc : Scenario) (entries : List (Option Entry)) (locks : Table) (owner : TxnId) → locks.grants ≡ [] → LockedMeanwhile sc entries locks → LockedMeanwhile sc (slice_set entries owner.0 None) (after_release owner locks)
+closed_locked sc entries locks owner taken h =
     let left = slice_set entries owner.0 None in
     record {
       items = length-map locks.lists (left_by owner) ∙ h.items;
@@ -217,6 +248,12 @@ closed_locked sc entries locks owner h =
           (λ deed held. holds_released (record { 0 = n }) deed.action deed.item owner locks apart held) entry.deeds (h.deeds n entry found));
       waits = released_locks (LockWaits sc entries) (LockWaits sc left) owner locks more_held left_others h.waits;
       grants = released_grants (GrantFits sc left (after_release owner locks)) owner locks grant_fits;
+      asks = placed_emptied_others (EntryAsks (after_release owner locks)) entries owner.0
+          (λ n entry found apart some.
+          let one = h.asks n entry found some in
+          let none : granted_to n locks.grants ≡ 0 = ap (granted_to n) taken in
+          let moved = release_exact n 0 owner locks.lists (λ same. apart (sym same)) in
+          omega (arith, one, none, moved));
       once = λ n. let moved = release_count n 0 owner locks.lists in let one = h.once n in omega (arith, moved, one);
     }
   where
@@ -251,21 +288,33 @@ left_grant : (sc : Scenario) (entries : List (Option Entry)) (locks : Table) (gr
 left_grant sc entries locks grant h = record { entry = h.entry; found = h.found; mode = h.mode; waited = h.waited; held = h.held }
 
 -- nothing waits for it
-passed_locked : (sc : Scenario) (entries : List (Option Entry)) (locks : Table) → Locked sc entries locks → Locked sc entries (without_grant locks)
-passed_locked sc entries locks h =
+passed_locked : (sc : Scenario) (entries : List (Option Entry)) (locks : Table) (grant : Grant) → slice_get locks.grants 0 ≡ Some grant → option_and_then (λ (entry : Entry). entry.waiting) (option_flatten (slice_get entries grant.owner.0)) ≡ None
+    → LockedMeanwhile sc entries locks → LockedMeanwhile sc entries (without_grant locks)
+passed_locked sc entries locks grant first nobody h =
     record {
       items = h.items;
       orderly = taken_orderly locks h.orderly;
       deeds = h.deeds;
       waits = h.waits;
       grants = each_as (GrantFits sc entries locks) (GrantFits sc entries (without_grant locks)) (left_grant sc entries locks) (drop 1 locks.grants) (each_dropped (GrantFits sc entries locks) locks.grants h.grants);
+      asks = λ n entry found some.
+          let one = h.asks n entry found some in
+          let same = first_of_other n locks.grants grant first (λ own. idle n entry found some own) in
+          omega (arith, one, same);
       once = λ n. let fewer = dropped_count n locks.grants in let one = h.once n in omega (arith, fewer, one);
     }
+  where
+    idle : (n : ℕ) (entry : Entry) → option_flatten (slice_get entries n) ≡ Some entry → is_some entry.waiting ≡ true → grant.owner.0 ≡ n → ⊥
+    idle n entry found some own =
+        let there : option_flatten (slice_get entries grant.owner.0) ≡ Some entry = subst (λ (m : ℕ). option_flatten (slice_get entries m) ≡ Some entry) (sym own) found in
+        let none : entry.waiting ≡ None = sym (ap (option_and_then (λ (e : Entry). e.waiting)) there) ∙ nobody in
+        let is_none_there = ap (λ (q : Option QueryRequest). is_some q) none in
+        cc
 
 -- what waits for it runs
-resumed_locked : (sc : Scenario) (s : Server) (at : ServerId) (grant : Grant) (q : QueryRequest) (query : Query) (entry new : Entry) (value : ℤ) (deed : Deed) → IsResumed sc at s grant q query entry value → new.deeds ≡ entry.deeds ++ deed ∷ []
-    → deed.item ≡ item_of query → deed.action ≡ action_of query → Locked sc s.entries s.locks → Locked sc (slice_set s.entries q.txn.0 (Some new)) (without_grant s.locks)
-resumed_locked sc s at grant q query entry new value deed k deeds item_is action_is h =
+resumed_locked : (sc : Scenario) (s : Server) (at : ServerId) (grant : Grant) (q : QueryRequest) (query : Query) (entry new : Entry) (value : ℤ) (deed : Deed) → IsResumed sc at s grant q query entry value → new.waiting ≡ None → new.deeds ≡ entry.deeds ++ deed ∷ []
+    → deed.item ≡ item_of query → deed.action ≡ action_of query → LockedMeanwhile sc s.entries s.locks → LockedMeanwhile sc (slice_set s.entries q.txn.0 (Some new)) (without_grant s.locks)
+resumed_locked sc s at grant q query entry new value deed k idle deeds item_is action_is h =
     let first : GrantFits sc s.entries s.locks grant = each_get (GrantFits sc s.entries s.locks) s.locks.grants 0 grant h.grants k.granted in
     let within = placed_within s.entries q.txn.0 entry k.found in
     let entries = slice_set s.entries q.txn.0 (Some new) in
@@ -287,6 +336,12 @@ resumed_locked sc s at grant q query entry new value deed k deeds item_is action
           (λ lock own p. wait_moved_others sc s.entries q.txn.0 new within item lock own p) list (held item list found) (h.waits item list found);
       grants = each_both (λ (g : Grant). g.owner.0 ≡ q.txn.0 → ⊥) (GrantFits sc s.entries s.locks) (GrantFits sc entries (without_grant s.locks))
           (λ g other p. left_grant sc entries s.locks g (grant_moved sc s.entries s.locks s.locks q.txn.0 new within (λ owner mode item held. held) g (λ own. absurd (other own)) p)) (drop 1 s.locks.grants) others granted;
+      asks = placed_others (EntryAsks (without_grant s.locks)) s.entries q.txn.0 new within
+          (λ n other found apart some.
+          let one = h.asks n other found some in
+          let same = first_of_other n s.locks.grants grant k.granted (λ own. apart (sym owner ∙ own)) in
+          omega (arith, one, same))
+          (λ some. let none = ap (λ (w : Option QueryRequest). is_some w) idle in absurd (cc));
       once = λ n. let fewer = dropped_count n s.locks.grants in let each = h.once n in omega (arith, fewer, each);
     }
   where
@@ -310,10 +365,10 @@ pub record AskerPlaced (sc : Scenario) (s : Server) (mail : Mail) : Type 0 where
   pub exists : (q : QueryRequest) → mail.letter.body ≡ body.Query q → q.txn.0 < length sc.txns
   pub on_item : (q : QueryRequest) (query : Query) → mail.letter.body ≡ body.Query q → asked_query sc q ≡ Some query → (item_of query).0 < length sc.items
 
--- every row of a server on receipt of a mail
-pub server_row_locked : (sc : Scenario) (s : Server) (mail : Mail) → AreRightWaits sc s → AskerPlaced sc s mail → Locked sc s.entries s.locks → RowLocked sc s (server_row sc s mail)
-server_row_locked sc s mail rightly known h =
-    server_by_locks sc s mail (RowLocked sc s) rightly
+-- every row of a server on receipt of a mail, as grants are taken
+row_taking : (sc : Scenario) (s : Server) (mail : Mail) → AreRightWaits sc s → AskerPlaced sc s mail → s.locks.grants ≡ [] → LockedMeanwhile sc s.entries s.locks → RowTaking sc s (server_row sc s mail)
+row_taking sc s mail rightly known taken h =
+    server_by_locks sc s mail (RowTaking sc s) rightly
     (record {
       ignored = record { state = h; places = refl };
       ran = λ q query entry value k granted.
@@ -324,35 +379,42 @@ server_row_locked sc s mail rightly known h =
           let within : (item_of query).0 < length s.locks.lists = omega (arith, on, items) in
           let has : DeedLocked (after_asking s q query entry).locks q.txn deed = holds_granted q.txn entry.age (item_of query) (action_of query) s.locks granted within in
           record {
-            state = asked_locked sc s mail q query entry new value asked.Granted granted k (within_for q k.said_is) (λ e. absurd (cc))
+            state = asked_locked sc s mail q query entry new value asked.Granted granted k (within_for q k.said_is) (λ e. absurd (cc)) (λ some. let none = ap (λ (w : Option QueryRequest). is_some w) (idle_then sc s mail q query entry value k) in absurd (cc)) on
                 (each_more (DeedLocked (after_asking s q query entry).locks q.txn) entry.deeds deed (asked_deeds sc s mail q query entry value k h) has) h;
             places = length-set s.entries q.txn.0 (Some new);
           };
       waited = λ q query entry value k waiting.
           let new : Entry = record entry { waiting = Some q } in
-          record { state = asked_locked sc s mail q query entry new value asked.Waits waiting k (within_for q k.said_is) (λ e. refl) (asked_deeds sc s mail q query entry value k h) h; places = length-set s.entries q.txn.0 (Some new) };
+          record { state = asked_locked sc s mail q query entry new value asked.Waits waiting k (within_for q k.said_is) (λ e. refl) (λ some. refl) (known.on_item q query k.said_is k.asked_is) (asked_deeds sc s mail q query entry value k h) h; places = length-set s.entries q.txn.0 (Some new) };
       died = λ q query entry value other k dying.
           let new : Entry = record entry { answers = entry.answers ++ died_reply q entry.epoch other ∷ [] } in
-          record { state = asked_locked sc s mail q query entry new value (asked.Dies other) dying k (within_for q k.said_is) (λ e. absurd (cc)) (asked_deeds sc s mail q query entry value k h) h; places = length-set s.entries q.txn.0 (Some new) };
+          record { state = asked_locked sc s mail q query entry new value (asked.Dies other) dying k (within_for q k.said_is) (λ e. absurd (cc)) (λ some. let none = ap (λ (w : Option QueryRequest). is_some w) (idle_then sc s mail q query entry value k) in absurd (cc)) (known.on_item q query k.said_is k.asked_is) (asked_deeds sc s mail q query entry value k h) h; places = length-set s.entries q.txn.0 (Some new) };
       restarted = λ q k. record { state = h; places = refl };
       answered = λ q entry given k. record { state = h; places = refl };
       voted = λ p entry staple txn k.
           let voted : Entry = record entry { ballot = Some (ballot_of (prepared_record (with_wants s p.want) p entry (verdicts_on sc (with_wants s p.want) txn staple p.want entry.deeds))) } in
           record { state = voted_locked sc s.entries s.locks p.txn.0 entry voted k.found refl refl h; places = length-set s.entries p.txn.0 (Some voted) };
       voted_again = λ p entry cast k. record { state = h; places = refl };
-      refused = λ p entry number value k. record { state = closed_locked sc s.entries s.locks p.txn h; places = length-set s.entries p.txn.0 None };
+      refused = λ p entry number value k. record { state = closed_locked sc s.entries s.locks p.txn taken h; places = length-set s.entries p.txn.0 None };
       refused_again = λ p settled why k. record { state = h; places = refl };
-      settled = λ d k. record { state = closed_locked sc s.entries s.locks d.txn h; places = length-set s.entries d.txn.0 None };
+      settled = λ d k. record { state = closed_locked sc s.entries s.locks d.txn taken h; places = length-set s.entries d.txn.0 None };
       acknowledged = λ d settled k. record { state = h; places = refl };
       pushed = λ push k. record { state = h; places = refl };
-      passed = λ effect grant first nobody k. record { state = passed_locked sc effect.state.entries effect.state.locks k.state; places = k.places };
+      passed = λ effect grant first nobody k. record { state = passed_locked sc effect.state.entries effect.state.locks grant first nobody k.state; places = k.places };
       resumed = λ effect grant q query entry value k now.
           let new = entry_after q (unwaiting entry) (deed_of q.query query value) in
           record {
-            state = resumed_locked sc effect.state s.server grant q query entry new value (deed_of q.query query value) k refl refl refl now.state;
+            state = resumed_locked sc effect.state s.server grant q query entry new value (deed_of q.query query value) k refl refl refl refl now.state;
             places = length-set effect.state.entries q.txn.0 (Some new) ∙ now.places;
           };
     })
   where
     within_for : (q : QueryRequest) → mail.letter.body ≡ body.Query q → q.txn.0 < length s.entries
     within_for q e = let exists = known.exists q e in let places = known.places in omega (arith, exists, places)
+
+-- every row of a server on receipt of a mail
+pub server_row_locked : (sc : Scenario) (s : Server) (mail : Mail) → AreRightWaits sc s → AskerPlaced sc s mail → Locked sc s.entries s.locks → RowLocked sc s (server_row sc s mail)
+server_row_locked sc s mail rightly known h =
+    let effect = server_row sc s mail in
+    let row = row_taking sc s mail rightly known h.taken (locked_first sc s.entries s.locks h) in
+    record { state = locked_last sc effect.state.entries effect.state.locks (server_row_taken sc s mail h.taken) row.state; places = row.places }

@@ -1,5 +1,5 @@
 -- Locks over every list of steps.
-use Rattle.std.proofs.Common.{IfSome, List, None, Option, Some, [], arith, length, replicate, subst, sym, ℕ, ◌<◌, ◌∙◌, ◌≡◌}
+use Rattle.std.proofs.Common.{IfSome, List, None, Option, Some, [], arith, is_some, true, length, refl, replicate, subst, sym, ℕ, ◌<◌, ◌∙◌, ◌≡◌, ◌≤◌}
 use Rattle.std.proofs.lemmas.List.{length-replicate}
 use Rattle.std.proofs.lemmas.Option.{same_Some, slice_get_within}
 use Rattle.tp_lock.proofs.RequestLaws.{opening_orderly}
@@ -23,6 +23,7 @@ use Rattle.tp_machine.specs.Parts.{Part}
 use Rattle.tp_types.specs.Each.{EachAt}
 use Rattle.tp_runs.specs.Sound.{IsSound, IsSoundBody, IsSoundQuery}
 use Rattle.tp_machine.specs.Named.{IsStepOf}
+use Rattle.tp_server.specs.declared.server.Entry.{Entry}
 use Rattle.tp_server.specs.Opened as server_opened
 use Rattle.tp_server.specs.Row.{server_row}
 use Rattle.tp_server.specs.State.{Server}
@@ -97,7 +98,8 @@ opening_locked sc at =
       orderly = opening_orderly items;
       deeds = placed_none (EntryLocked (opening items)) (length sc.txns);
       waits = no_locks (LockWaits sc (server_opened.opening sc at).entries) items;
-      grants = tt;
+      asks = placed_none (λ (n : ℕ) (entry : Entry). is_some entry.waiting ≡ true → 1 ≤ waiting_on n (opening items).lists) (length sc.txns);
+      taken = refl;
       once = λ n. let none : waiting_on n (replicate items []) ≡ 0 = none_on n (replicate items []) (no_locks (λ (item : ℕ) (lock : LockEntry). IsHeldOf n lock) items) in omega (arith, none);
     }
 
