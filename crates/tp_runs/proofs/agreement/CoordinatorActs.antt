@@ -324,6 +324,7 @@ coordinator_acts_agrees sc w txn part now own append letters h found l =
                 let rests = was.settled t s f in
                 record {
                   item = rests.item;
+                  ordered = λ none. decided_stays w.actors actors t s.outcome stays (rests.ordered none);
                   commit = λ commit. let before = rests.commit commit in (before.0, decided_stays w.actors actors t outcome.Commit stays before.1);
                   abort = λ abort d. abort_stays sc w txn t part next append n p s h found refl l.fresh e f rests abort d;
                 };

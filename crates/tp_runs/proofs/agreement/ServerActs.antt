@@ -258,6 +258,7 @@ settled_after_in_agreement sc w at part append txn None now a found h r e =
     subst (λ (t : TxnId). SettledRests sc w.actors.coordinators at t now) settles.txn_is
     (record {
       item = rests.asked.item;
+      ordered = rests.ordered;
       commit = λ commit. ordered_commit (DecidedAs w.actors.coordinators) (IsAsked sc w.actors.coordinators at) part.log now now.why refl rests commit;
       abort = λ abort d. not_committed sc w at part now now.why a found refl rests abort d;
     })

@@ -45,10 +45,11 @@ pub record CoordinatorPartAgrees (sc : Scenario) (servers : List (Part Server)) 
   pub state : IfSome part.up (CoordinatorUpAgrees sc servers txn part.log)
   pub served : DecidedServed sc servers txn part.log
 
--- what is settled on a server's log is of a transaction with an item there; a commit has no reason of the server's own and was decided,
--- and an abort is of what was not decided as a commit
+-- what is settled on a server's log is of a transaction with an item there; without a reason of the server's own it is what was decided;
+-- a commit has no such reason, and an abort is of what was not decided as a commit
 pub record SettledRests (sc : Scenario) (coordinators : List (Part Coordinator)) (at : ServerId) (txn : TxnId) (settled : Settled) : Type 0 where
   pub item : has_item_at sc at txn ≡ true
+  pub ordered : settled.why ≡ None → DecidedAs coordinators txn settled.outcome
   pub commit : settled.outcome ≡ outcome.Commit → (settled.why ≡ None) × DecidedAs coordinators txn outcome.Commit
   pub abort : settled.outcome ≡ outcome.Abort → DecidedAs coordinators txn outcome.Commit → ⊥
 
