@@ -2,10 +2,11 @@
 use Rattle.std.proofs.Common.{◌≡◌, ◌⊎◌, inl, inr, ⊎_elim, ℕ, ◌+◌, ℤ, List, [], ◌∷◌, ◌++◌, length, take, false, true, Option, Some, None, Contains, refl, sym, ap, subst, ◌∙◌, arith}
 use Rattle.std.proofs.lemmas.List.{length_push, take_all}
 use Rattle.std.proofs.lemmas.List.Elements.{Contains-push_cases}
-use Rattle.tp_model.specs.Words.{Deed, DoneReply}
-use Rattle.tp_runs.proofs.pairs.Fits.{AskerFits, Fits, IsAsked, IsGone, IsThere, Matches, OneMore, Pairing, RanFits, RanLive, Tells, There}
+use Rattle.tp_model.specs.Words.answer
+use Rattle.tp_model.specs.Words.{Answer, Deed, DoneReply}
+use Rattle.tp_runs.proofs.pairs.Fits.{AnswerFits, AnsweredFits, AskerFits, DoneFits, Fits, IsAsked, IsGone, IsThere, Live, Matches, OneMore, Pairing, RanFits, RanLive, Tells, There}
 use Rattle.tp_runs.proofs.pairs.Follows.{Later, Next}
-use Rattle.tp_runs.proofs.basics.Found.{contains_mapped, of_some}
+use Rattle.tp_runs.proofs.basics.Found.{contains_mapped, of_some, some_as}
 use Rattle.tp_runs.proofs.pairs.Loses.{pairing_as, same_held, tells_lost}
 use Rattle.tp_runs.proofs.pairs.Moves.{asker_loses, with_asker, with_asker_fits}
 use Rattle.tp_runs.proofs.pairs.Pair.{Asker, Asks, Pair, Rests, got, got_elsewhere, got_here, number_of, numbers, numbers_more}
@@ -26,7 +27,7 @@ answered_later s a epoch value asks keeps =
       live = λ t before l.
           let past = l.past in
           let longer = length_push a.deeds (next_deed s a value) in
-          record { past = omega (arith, past, longer); now = λ same. absurd (omega (arith, past, longer, same)); turn_past = l.turn_past; turn_now = λ again same. absurd (cc) };
+          record { past = omega (arith, past, longer); now = λ same. absurd (omega (arith, past, longer, same)); present = λ same. absurd (omega (arith, past, longer, same)); turn_past = l.turn_past; turn_now = λ again same. absurd (cc) };
       more = next_deed s a value ∷ [];
       deeds = refl;
       epoch = keeps;
@@ -50,6 +51,21 @@ answered_fits s p a epoch value h asks asked numbers_are pairing =
       most = omega (arith, longer, least);
       all = λ prepares. absurd (cc);
     }
+
+-- ---- the query that is asked
+
+-- an answer of any kind is one that a query ran or did not run
+answered_as : (s : Site) (p : Pair) (done : DoneReply) (said : Answer) → AnswerFits s p done said → AnsweredFits s p done
+answered_as s p done (answer.Ran value verdict) h =
+    record { before = h.before; number_is = h.number_is; is_here = h.is_here; live = some_as (RanLive s done value h.before) (Live done.turn h.before) p.asker (λ a is ran. ran.live) h.live }
+answered_as s p done _ h = h
+
+-- an answer of any kind to the query that is asked now is of the present turn
+pub answer_present : (s : Site) (p : Pair) (a : Asker) (done : DoneReply) → p.asker ≡ Some a → done.query ≡ length a.deeds + 1 → DoneFits s p done → done.turn ≡ a.turn
+answer_present s p a done is asked h =
+    let k : AnsweredFits s p done = answered_as s p done done.answer h in
+    let live : Live done.turn k.before a = of_some (Live done.turn k.before) p.asker a is k.live in
+    live.present (omega (arith, asked, k.number_is))
 
 -- ---- elsewhere
 

@@ -97,10 +97,12 @@ pub record AskerFits (s : Site) (p : Pair) (a : Asker) : Type 0 where
 
 -- ---- mails
 
--- a request of this turn for the query after so many, or the answer to it: it is of the past, or of the query that is asked now
+-- a request of this turn for the query after so many, or the answer to it: it is of the past, or of the query that is asked now, and
+-- just then of the present turn
 pub record Live (turn before : ℕ) (a : Asker) : Type 0 where
   pub past : before ≤ length a.deeds
   pub now : before ≡ length a.deeds → a.stand ≡ Asks
+  pub present : before ≡ length a.deeds → turn ≡ a.turn
   pub turn_past : turn ≤ a.turn
   pub turn_now : a.stand ≡ Asks → turn ≡ a.turn → before ≡ length a.deeds
 
@@ -138,11 +140,18 @@ pub record RanFits (s : Site) (p : Pair) (done : DoneReply) (value : ℤ) : Type
   pub told : Tells p done.epoch (λ (deeds : List Deed). Contains deeds (deed_at s.txn (before + 1) value))
   pub live : IfSome p.asker (RanLive s done value before)
 
+-- an answer that a query did not run: it is to a query at the server
+pub record AnsweredFits (s : Site) (p : Pair) (done : DoneReply) : Type 0 where
+  pub before : ℕ
+  pub number_is : done.query ≡ before + 1
+  pub is_here : here s (before + 1) ≡ true
+  pub live : IfSome p.asker (Live done.turn before)
+
 abbrev pub AnswerFits : Site → Pair → DoneReply → Answer → Type 0
 AnswerFits s p done (answer.Ran value verdict) = RanFits s p done value
-AnswerFits s p done _ = Unit {0}
+AnswerFits s p done _ = AnsweredFits s p done
 
--- an answer; of one that a query did not run nothing is said
+-- an answer
 abbrev pub DoneFits : Site → Pair → DoneReply → Type 0
 DoneFits s p done = AnswerFits s p done done.answer
 

@@ -9,7 +9,7 @@ use Rattle.tp_server.specs.declared.server.Entry.{Entry}
 use Rattle.tp_types.specs.Each.{Each}
 use Rattle.tp_coord.specs.Sums.{asked_value}
 use Rattle.tp_types.proofs.EachLemmas.{each_as}
-use Rattle.tp_runs.proofs.pairs.Fits.{AnswerFits, Covers, DoneFits, EntryFits, Fits, IsAsked, Live, PrepareFits, PrepareLive, QueryFits, QueryLive, RanFits, RanLive, Tells, Waits}
+use Rattle.tp_runs.proofs.pairs.Fits.{AnswerFits, AnsweredFits, Covers, DoneFits, EntryFits, Fits, IsAsked, Live, PrepareFits, PrepareLive, QueryFits, QueryLive, RanFits, RanLive, Tells, Waits}
 use Rattle.tp_runs.proofs.pairs.Grows.{Grows, covers_more, grows_both, loses_grows, tells_grown}
 use Rattle.tp_runs.proofs.basics.Found.{some_as}
 use Rattle.tp_runs.proofs.pairs.Loses.{Loses, loses_same}
@@ -138,9 +138,13 @@ ran_follows s p q done value f h =
       live = some_onward (RanLive s done value h.before) p.asker q.asker (ran_live s done value h.before) f.onward h.live;
     }
 
+answered_follows : (s : Site) (p q : Pair) (done : DoneReply) → Follows p q → AnsweredFits s p done → AnsweredFits s q done
+answered_follows s p q done f h =
+    record { before = h.before; number_is = h.number_is; is_here = h.is_here; live = some_onward (Live done.turn h.before) p.asker q.asker (λ a b later live. later.live done.turn h.before live) f.onward h.live }
+
 answer_follows : (s : Site) (p q : Pair) (done : DoneReply) (said : Answer) → Follows p q → AnswerFits s p done said → AnswerFits s q done said
 answer_follows s p q done (answer.Ran value verdict) f h = ran_follows s p q done value f h
-answer_follows s p q done _ f h = tt
+answer_follows s p q done _ f h = answered_follows s p q done f h
 
 -- an answer fits what follows
 pub done_follows : (s : Site) (p q : Pair) (done : DoneReply) → Follows p q → DoneFits s p done → DoneFits s q done

@@ -79,7 +79,7 @@ asks s p a q is h stand at next =
       first = λ none. none_so_far s p a a.epoch old.pairing (same ∙ none);
       covers = subst (λ (kept : Option ℕ). IfSome kept (λ (e : ℕ). Tells p e (Covers s (length a.deeds)))) same (kept_covers s p a a.epoch old old.pairing);
       live = to_some (QueryLive s q (length a.deeds)) p.asker a is (record {
-        live = record { past = omega arith; now = λ e. stand; turn_past = let turn = next.turn in omega (arith, turn); turn_now = λ e f. refl };
+        live = record { past = omega arith; now = λ e. stand; present = λ e. next.turn; turn_past = let turn = next.turn in omega (arith, turn); turn_now = λ e f. refl };
         epoch = subst (λ (kept : Option ℕ). IfSome kept (λ (e : ℕ). a.epoch ≡ Some e)) same (some_itself a.epoch);
         value = next.value ∙ ap (λ (deeds : List Deed). asked_value s.txn deeds (length a.deeds + 1)) (sym all);
       });

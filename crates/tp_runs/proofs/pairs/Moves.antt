@@ -65,6 +65,7 @@ moved_later s a stand turn may =
       live = λ t before l. record {
         past = l.past;
         now = λ same. absurd (may.answered (l.now same));
+        present = λ same. absurd (may.answered (l.now same));
         turn_past = let old = l.turn_past in let past = may.turn_past in omega (arith, old, past);
         turn_now = λ asks same. let old = l.turn_past in let less = (may.asks asks).0 in absurd (omega (arith, old, less, same));
       };

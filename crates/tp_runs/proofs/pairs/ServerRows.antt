@@ -25,9 +25,9 @@ use Rattle.tp_runs.proofs.pairs.Actors.{AllFit, AllNext, pair_of, pair_up, site_
 use Rattle.tp_runs.proofs.pairs.Ends as end
 use Rattle.tp_runs.proofs.pairs.Ends.{ordered}
 use Rattle.tp_runs.proofs.pairs.Entries.{begun, changed, denies, keeps, makes, with_entry}
-use Rattle.tp_runs.proofs.pairs.Fits.{AreOnAll, DoneFits, EntryFits, Fits, PrepareFits, QueryFits, VoteFits}
+use Rattle.tp_runs.proofs.pairs.Fits.{AnsweredFits, AreOnAll, DoneFits, EntryFits, Fits, Live, PrepareFits, QueryFits, QueryLive, VoteFits}
 use Rattle.tp_runs.proofs.pairs.Follows.{Next, done_follows, next_both, next_same, query_follows}
-use Rattle.tp_runs.proofs.basics.Found.{answer_in, of_some}
+use Rattle.tp_runs.proofs.basics.Found.{answer_in, of_some, some_as}
 use Rattle.tp_runs.proofs.pairs.Pair.{Asker, Pair}
 use Rattle.tp_runs.proofs.pairs.Ran.{IsAnswer, ran, runs}
 use Rattle.tp_runs.proofs.pairs.Site.{Site}
@@ -45,7 +45,7 @@ use Rattle.tp_coord.specs.Sums.{clamped_sum, registers_after, sum_asked}
 use Rattle.tp_server.specs.declared.server.Ballot.{Ballot}
 use Rattle.tp_server.specs.declared.server.Entry.{Entry}
 use Rattle.tp_server.specs.Row as server
-use Rattle.tp_server.specs.Row.{ack_letter, age_of, answer_to, answers, asked_query, ballot_of, casts, closes, completes, died_reply, dies, done_letter, done_reply, entry_after, entry_at, followed_by, learns, no_letter, prepared_record, refused_as, restarts, server_row, settled_as, told_of, value_of_run, waits, yes_letter}
+use Rattle.tp_server.specs.Row.{ack_letter, age_of, answer_to, answers, asked_query, ballot_of, casts, closes, completes, died_reply, dies, done_letter, done_reply, entry_after, entry_at, followed_by, learns, no_letter, prepared_record, refused_as, restarted_reply, restarts, server_row, settled_as, told_of, value_of_run, waits, yes_letter}
 use Rattle.tp_server.specs.State.{Server}
 use Rattle.tp_server.specs.Verdicts.{with_wants, verdicts_on}
 
@@ -186,8 +186,24 @@ still_next sc A s kept h txn declared found = next_same (site_of sc s.server.0 d
 ignores_pairs : (sc : Scenario) (A : TxnId → Option Asker) (s : Server) (kept : List Record) → ServerPaired sc A s kept → RowPairs sc A s kept (ignores s)
 ignores_pairs sc A s kept h = record { next = still_next sc A s kept h; places = h.places; replies = tt }
 
-restarts_pairs : (sc : Scenario) (A : TxnId → Option Asker) (s : Server) (kept : List Record) (q : QueryRequest) → ServerPaired sc A s kept → RowPairs sc A s kept (restarts s q)
-restarts_pairs sc A s kept q h = record { next = still_next sc A s kept h; places = h.places; replies = (record { from_is = refl; says = λ declared found. tt }, tt) }
+-- an answer that a query does not run is of the request's turn and query
+answers_query : (s : Site) (p : Pair) (q : QueryRequest) (done : DoneReply) → done.turn ≡ q.turn → done.query ≡ q.query → QueryFits s p q → AnsweredFits s p done
+answers_query s p q done turn number h =
+    record {
+      before = h.before;
+      number_is = number ∙ h.number_is;
+      is_here = h.is_here;
+      live = some_as (QueryLive s q h.before) (Live done.turn h.before) p.asker (λ a is live. subst (λ (t : ℕ). Live t h.before a) (sym turn) live.live) h.live;
+    }
+
+restarts_pairs : (sc : Scenario) (A : TxnId → Option Asker) (s : Server) (kept : List Record) (q : QueryRequest) → ServerPaired sc A s kept → RequestPairs sc s.server A (λ txn. pair_up txn (A txn) s kept) (body.Query q)
+    → RowPairs sc A s kept (restarts s q)
+restarts_pairs sc A s kept q h asked =
+    record {
+      next = still_next sc A s kept h;
+      places = h.places;
+      replies = (record { from_is = refl; says = λ declared found. answers_query (site_of sc s.server.0 declared) (pair_up q.txn (A q.txn) s kept) q (restarted_reply q s.epoch) refl refl (asked declared found) }, tt);
+    }
 
 acknowledges_pairs : (sc : Scenario) (A : TxnId → Option Asker) (s : Server) (kept : List Record) (d : DecideRequest) → ServerPaired sc A s kept → RowPairs sc A s kept (sends s (ack_letter s d.txn ∷ []))
 acknowledges_pairs sc A s kept d h = record { next = still_next sc A s kept h; places = h.places; replies = (record { from_is = refl; says = tt }, tt) }
@@ -340,6 +356,13 @@ entry_pairs sc A s kept txn new letters h exists event replies =
       replies = replies;
     }
 
+-- what a request says of the pair with its new entry, it says after the act
+entry_asked : (sc : Scenario) (A : TxnId → Option Asker) (s : Server) (kept : List Record) (txn : TxnId) (new : Entry) → ServerPaired sc A s kept → txn.0 < length sc.txns → (declared : Transaction) (q : QueryRequest)
+    → QueryFits (site_of sc s.server.0 declared) (with_entry (pair_up txn (A txn) s kept) new) q → QueryFits (site_of sc s.server.0 declared) (pair_up txn (A txn) (server.with_entry s txn (Some new)) kept) q
+entry_asked sc A s kept txn new h exists declared q asked =
+    let there : entry_at (server.with_entry s txn (Some new)) txn ≡ Some new = ap option_flatten (set_here s.entries txn.0 (Some new) (omega (arith, exists, h.places))) in
+    subst (λ (n : Option Entry). QueryFits (site_of sc s.server.0 declared) (made_pair (A txn) (epoch_in kept) (settled_in txn kept) n (prepared_in txn kept)) q) (sym there) asked
+
 -- the pair once a query has its entry: the one that is there, or the one that is made
 record IsEntered (site : Site) (p : Pair) (q : QueryRequest) (entry : Entry) : Type 0 where
   next : Next site p (with_entry p entry)
@@ -390,14 +413,25 @@ dies_pairs : (sc : Scenario) (A : TxnId → Option Asker) (s : Server) (kept : L
 dies_pairs sc A s kept sent q entry other h fresh exists place asked =
     let answers = entry.answers ++ died_reply q entry.epoch other ∷ [] in
     let idle : changed entry None answers ≡ changed entry entry.waiting answers = ap (λ (waiting : Option QueryRequest). changed entry waiting answers) (sym (idle_entry s sent q entry place)) in
-    entry_pairs sc A s kept q.txn (changed entry entry.waiting answers) _ h exists
-    (λ declared found.
-    let site = site_of sc s.server.0 declared in
     let p = pair_up q.txn (A q.txn) s kept in
+    let reply = died_reply q entry.epoch other in
+    let event : (declared : Transaction) → slice_get sc.txns q.txn.0 ≡ Some declared → Next (site_of sc s.server.0 declared) p (with_entry p (changed entry entry.waiting answers)) = λ declared found.
+    let site = site_of sc s.server.0 declared in
     let e = entered sc A s kept sent q entry declared h fresh found (asked declared found) place in
     subst (λ (new : Entry). Next site p (with_entry p new)) idle
-    (next_both site p (with_entry p entry) (with_entry p (changed entry None answers)) e.next (denies site (with_entry p entry) entry (died_reply q entry.epoch other) refl e.next.fits tt)))
-    (record { from_is = refl; says = λ declared found. tt }, tt)
+    (next_both site p (with_entry p entry) (with_entry p (changed entry None answers)) e.next
+    (denies site (with_entry p entry) entry reply refl e.next.fits (answers_query site (with_entry p entry) q reply refl refl e.fits)))
+    in
+    entry_pairs sc A s kept q.txn (changed entry entry.waiting answers) _ h exists event (
+      record {
+        from_is = refl;
+        says = λ declared found.
+            let site = site_of sc s.server.0 declared in
+            let now = pair_up q.txn (A q.txn) (server.with_entry s q.txn (Some (changed entry entry.waiting answers))) kept in
+            answers_query site now q reply refl refl (entry_asked sc A s kept q.txn (changed entry entry.waiting answers) h exists declared q (query_follows site p (with_entry p (changed entry entry.waiting answers)) q (event declared found).follows (asked declared found)));
+      },
+      tt,
+    )
 
 -- a query that runs
 runs_pairs : (sc : Scenario) (A : TxnId → Option Asker) (s : Server) (kept : List Record) (sent : ℕ) (q : QueryRequest) (query : Query) (entry : Entry) (value : ℤ) → ServerPaired sc A s kept → settled_in q.txn kept ≡ None
@@ -647,7 +681,7 @@ server_row_pairs sc A s kept mail rightly h sound m asked =
       died = λ q query entry value other k dying.
           let request : IsSoundQuery sc to q = subst (IsSoundBody sc to) k.said_is m in
           dies_pairs sc A s kept mail.sent q entry other h (open_unsettled s kept q.txn h.agrees k.unsettled) request.txn k.place (subst (RequestPairs sc s.server A P) k.said_is asked);
-      restarted = λ q k. restarts_pairs sc A s kept q h;
+      restarted = λ q k. restarts_pairs sc A s kept q h (subst (RequestPairs sc s.server A P) k.said_is asked);
       answered = λ q entry given k.
           answers_pairs sc A s kept q entry given h k.found
           (same_txn_from q.txn given.txn (each_found (λ (d : DoneReply). IsSoundDone sc (actor.Coordinator q.txn) d) (λ (d : DoneReply). d.query == q.query) entry.answers given (sound.entries q.txn.0 entry k.found).answers k.given_is).goes_to) k.given_is;
