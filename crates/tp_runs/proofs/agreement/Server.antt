@@ -2,8 +2,9 @@
 -- ---- what is kept
 -- the transaction of an entry is not settled on this log
 use Rattle.std.specs.Prelude.{if◌then◌else◌}
-use Rattle.std.proofs.Common.{Bool, IfSome, List, None, Option, Some, [], ap, false, is_some, option_and_then, option_map, refl, slice_get, slice_set, subst, suc, sym, true, zero, ℕ, ℤ, ⊎_elim, ◌==◌, ◌∙◌, ◌∷◌, ◌≡◌}
+use Rattle.std.proofs.Common.{Bool, IfSome, List, None, Option, Some, [], ap, arith, false, is_some, option_and_then, option_map, refl, slice_get, slice_set, subst, suc, sym, true, zero, ℕ, ℤ, ⊎_elim, ◌<◌, ◌==◌, ◌∙◌, ◌∷◌, ◌≡◌, ◌⊎◌}
 use Rattle.std.proofs.lemmas.Bool.{eqb-true}
+use Rattle.std.proofs.lemmas.Option.{same_Some}
 use Rattle.tp_types.proofs.ListLemmas.{number_itself}
 use Rattle.tp_types.specs.Effect.{Effect, ignores, sends}
 use Rattle.std.specs.Option.{option_flatten, option_or}
@@ -22,7 +23,7 @@ use Rattle.tp_types.proofs.EachLemmas.{each_more, none_if_not_some, placed_empti
 use Rattle.tp_runs.proofs.basics.Logs.{first_none, get_set, prepared_still, prepared_with, settled_still, settled_with}
 use Rattle.tp_server.proofs.Tables.{written_over}
 use Rattle.tp_runs.proofs.basics.Folds.{set_elsewhere}
-use Rattle.tp_server.proofs.Rows.{AreRightWaits, IsAsking, IsFirstHere, IsFurther, IsResumed, resuming, server_by, unwaiting}
+use Rattle.tp_server.proofs.Rows.{AreRightWaits, IsAsking, IsFirstHere, IsFirstVote, IsFurther, IsLaterVote, IsResumed, resuming, server_by, unwaiting}
 use Rattle.tp_recover.specs.Log.{prepared_in, settled_in, voted_in, while_unsettled}
 use Rattle.tp_machine.specs.Machine.{log_with}
 use Rattle.tp_model.specs.Deeds.{deed_of}
@@ -69,10 +70,15 @@ pub record SettlementRests (V : TxnId → Outcome → Type 0) (M : TxnId → Typ
   pub ordered : forced.why ≡ None → V forced.txn forced.outcome
   pub refused : is_some forced.why ≡ true → (forced.outcome ≡ outcome.Abort) × (prepared_in forced.txn kept ≡ None)
 
--- what a record of a server rests on; a vote YES follows a request too
+-- a vote YES follows a request, and is of a greater turn than the last vote YES of the same transaction
+pub record PreparedRests (M : TxnId → Type 0) (kept : List Record) (forced : Prepared) : Type 0 where
+  pub asked : M forced.txn
+  pub later : (last : Prepared) → voted_in forced.txn kept ≡ Some last → last.turn < forced.turn
+
+-- what a record of a server rests on
 abbrev pub RecordRests : (TxnId → Outcome → Type 0) → (TxnId → Type 0) → List Record → Record → Type 0
 RecordRests V M kept (log.Settled forced) = SettlementRests V M kept forced
-RecordRests V M kept (log.Prepared p) = M p.txn
+RecordRests V M kept (log.Prepared p) = PreparedRests M kept p
 RecordRests V M kept _ = Unit {0}
 
 -- a vote as the log has it, after it was forced
@@ -260,10 +266,28 @@ votes_cast s kept txn other forced entry now h new own e cast false apart =
     ap (option_map vote_of) (prepared_else other kept forced (ap (λ (t : TxnId). same_txn t other) own ∙ apart))
     ∙ (h.prepared other ∙ sym (ap (option_and_then cast_in) (entry_elsewhere s txn other (Some now) apart)))
 
+turn_rises : (p : PrepareRequest) (entry : Entry) (last : Prepared) (ballot : Option Ballot) → entry.ballot ≡ ballot → Some (vote_of last) ≡ option_map (vote_by entry) ballot → ((cast : Ballot) → ballot ≡ Some cast → cast.turn < p.turn)
+    → last.turn < p.turn
+turn_rises p entry last None e same later = absurd (cc)
+turn_rises p entry last (Some cast) e same later =
+    let turn : last.turn ≡ cast.turn = ap (λ (v : CastVote). v.turn) (same_Some (vote_of last) (vote_by entry cast) same) in
+    omega (arith, turn, later cast refl)
+
+-- a further vote YES is of a greater turn than the one that is prepared
+vote_rises : (s : Server) (kept : List Record) (p : PrepareRequest) (entry : Entry) (last : Prepared) → ServerAgrees s kept → entry_at s p.txn ≡ Some entry → IsFirstVote s p entry ⊎ IsLaterVote p entry
+    → prepared_in p.txn kept ≡ Some last → last.turn < p.turn
+vote_rises s kept p entry last h found place prepared =
+    turn_rises p entry last entry.ballot refl (sym (ap (option_map vote_of) prepared) ∙ (h.prepared p.txn ∙ ap (option_and_then cast_in) found)) (by_place place)
+  where
+    by_place : IsFirstVote s p entry ⊎ IsLaterVote p entry → (cast : Ballot) → entry.ballot ≡ Some cast → cast.turn < p.turn
+    by_place place cast e =
+        ⊎_elim (λ (first : IsFirstVote s p entry). let none = first.unvoted in absurd (cc))
+        (λ (later : IsLaterVote p entry). subst (λ (b : Ballot). b.turn < p.turn) (same_Some later.cast cast (sym later.ballot_is ∙ e)) later.later) place
+
 -- a vote YES settles nothing, and is prepared
 votes_lawful : (V : TxnId → Outcome → Type 0) (M : TxnId → Type 0) (s : Server) (kept : List Record) (p : PrepareRequest) (verdicts : List Verdict) (entry : Entry) → ServerAgrees s kept
-    → settled_in p.txn kept ≡ None → entry_at s p.txn ≡ Some entry → M p.txn → ServerLawful V M s kept (votes (with_wants s p.want) p verdicts entry)
-votes_lawful V M s kept p verdicts entry h new e asked =
+    → settled_in p.txn kept ≡ None → entry_at s p.txn ≡ Some entry → M p.txn → IsFirstVote s p entry ⊎ IsLaterVote p entry → ServerLawful V M s kept (votes (with_wants s p.want) p verdicts entry)
+votes_lawful V M s kept p verdicts entry h new e asked place =
     let voting = prepared_record (with_wants s p.want) p entry verdicts in
     let forced = (votes (with_wants s p.want) p verdicts entry).reaction.append in
     let now : Entry = record entry { ballot = Some (ballot_of voting) } in
@@ -275,7 +299,7 @@ votes_lawful V M s kept p verdicts entry h new e asked =
             (λ n found at_n. same (record { 0 = n }) ∙ h.unsettled n found at_n) (same p.txn ∙ new);
         prepared = λ txn. votes_cast s kept p.txn txn voting entry now h new refl e refl (same_txn p.txn txn) refl;
       };
-      rests = asked;
+      rests = record { asked = asked; later = λ last voted. vote_rises s kept p entry last h e place (ap (λ (ended : Option Settled). while_unsettled ended (voted_in p.txn kept)) new ∙ voted) };
       replies = (record { from_is = refl; says = ap is_some (prepared_now p.txn kept voting refl new) }, tt);
     }
 
@@ -467,7 +491,7 @@ server_row_lawful V M sc s kept mail waits h aborts m =
           entry_lawful V M s kept q.txn _ _ h (open_unsettled s kept q.txn h k.unsettled) u.unvoted u.entry_unvoted (record { from_is = refl; says = tt }, tt);
       restarted = λ q k. answers_lawful V M s kept q (restarted_reply q s.epoch) h;
       answered = λ q entry given k. answers_lawful V M s kept q given h;
-      voted = λ p entry staple txn k. votes_lawful V M s kept p (verdicts_on sc (with_wants s p.want) txn staple p.want entry.deeds) entry h (open_unsettled s kept p.txn h k.unsettled) k.found (subst (RequestRests V M) k.said_is m);
+      voted = λ p entry staple txn k. votes_lawful V M s kept p (verdicts_on sc (with_wants s p.want) txn staple p.want entry.deeds) entry h (open_unsettled s kept p.txn h k.unsettled) k.found (subst (RequestRests V M) k.said_is m) k.place;
       voted_again = λ p entry cast k. votes_again_lawful V M s kept p entry cast h k.found k.ballot_is;
       refused = λ p entry number value k.
           refuses_lawful V M s kept p entry _ h k.unsettled k.found k.unvoted (subst (RequestRests V M) k.said_is m);

@@ -441,7 +441,7 @@ letters_rest_in_server_acts sc w at part next (letter ∷ letters) found h =
 
 -- a vote YES that was forced follows a request
 voted_asked : (V : TxnId → Outcome → Type 0) (M : TxnId → Type 0) (kept : List Record) (txn : TxnId) (append : Option Record) → IfSome append (RecordRests V M kept) → (p : Prepared) → appended (preparation_in txn) append ≡ Some p → M txn
-voted_asked V M kept txn (Some (log.Prepared q)) r p e = subst M (same_txn_is q.txn txn (cond_some (same_txn q.txn txn) q p e).0) r
+voted_asked V M kept txn (Some (log.Prepared q)) r p e = subst M (same_txn_is q.txn txn (cond_some (same_txn q.txn txn) q p e).0) r.asked
 voted_asked V M kept txn (Some log.Boot) r p e = absurd (cc)
 voted_asked V M kept txn (Some (log.Told t)) r p e = absurd (cc)
 voted_asked V M kept txn (Some (log.Settled s)) r p e = absurd (cc)
