@@ -32,6 +32,8 @@ mod record_kinds;
 #[cfg(test)]
 mod records;
 #[cfg(test)]
+mod recovery;
+#[cfg(test)]
 mod small_scenario;
 #[cfg(test)]
 mod store;
