@@ -12,6 +12,7 @@ pub mod mails
 pub mod outside
 pub mod pairs
 pub mod refusals
+pub mod restarts
 pub mod runs
 pub mod serial_data
 pub mod trust

@@ -3,6 +3,7 @@ use Rattle.std.specs.Option.{option_flatten, option_map_or}
 use Rattle.std.proofs.Common.{IfSome, List, None, Option, Some, [], ap, append-nil, drop, false, inl, inr, is_none, is_some, arith, length, nat_lt, not, option_and_then, option_map, refl, slice_get, slice_set, subst, sym, true, ℕ, ℤ, ◌&&◌, ◌++◌, ◌<◌, ◌==◌, ◌∙◌, ◌∷◌, ◌≡◌, ◌≤◌, ◌⊎◌}
 use Rattle.std.proofs.lemmas.Bool.{not-false}
 use Rattle.std.proofs.lemmas.Bool.Decides.{nat_tests}
+use Rattle.std.proofs.lemmas.Option.{same_Some}
 use Rattle.tp_types.specs.Effect.{Effect, ignores, sends}
 use Rattle.tp_lock.specs.Rule.{after_release, first_grant, without_grant}
 use Rattle.tp_lock.specs.Table.{Table}
@@ -101,10 +102,12 @@ pub record IsOrder (s : Server) (mail : Mail) (d : DecideRequest) : Type 0 where
   pub said_is : mail.letter.body ≡ body.Decide d
   pub unsettled : is_open s d.txn ≡ true
 
--- a query of an epoch that no entry has
-pub record IsLost (mail : Mail) (q : QueryRequest) : Type 0 where
+-- a query of a transaction that is not settled, which names an epoch that no entry of it has
+pub record IsLost (s : Server) (mail : Mail) (q : QueryRequest) : Type 0 where
   pub said_is : mail.letter.body ≡ body.Query q
+  pub unsettled : is_open s q.txn ≡ true
   pub named : is_some q.epoch ≡ true
+  pub elsewhere : (entry : Entry) → entry_at s q.txn ≡ Some entry → names_another_epoch q entry ≡ true
 
 -- a query that the entry has answered
 pub record IsAnswered (s : Server) (mail : Mail) (q : QueryRequest) (entry : Entry) (given : DoneReply) : Type 0 where
@@ -177,7 +180,7 @@ pub record LockCases (sc : Scenario) (s : Server) (mail : Mail) (P : Effect Serv
   pub waited : (q : QueryRequest) (query : Query) (entry : Entry) (value : ℤ) → IsAsking sc s mail q query entry value → lock_answer s q query entry ≡ asked.Waits → P (waits (after_asking s q query entry) q entry)
   pub died : (q : QueryRequest) (query : Query) (entry : Entry) (value : ℤ) (other : TxnId) → IsAsking sc s mail q query entry value → lock_answer s q query entry ≡ asked.Dies other
       → P (dies (after_asking s q query entry) q entry other)
-  pub restarted : (q : QueryRequest) → IsLost mail q → P (restarts s q)
+  pub restarted : (q : QueryRequest) → IsLost s mail q → P (restarts s q)
   pub answered : (q : QueryRequest) (entry : Entry) (given : DoneReply) → IsAnswered s mail q entry given → P (answers s q.txn given)
   pub voted : (p : PrepareRequest) (entry : Entry) (staple : Staple) (txn : Transaction) → IsVote sc s mail p entry staple txn → P (votes_on sc (with_wants s p.want) p entry staple txn)
   pub voted_again : (p : PrepareRequest) (entry : Entry) (cast : Ballot) → IsVoteAgain s mail p entry cast → P (sends s (yes_letter s p.txn cast ∷ []))
@@ -199,7 +202,7 @@ pub record ServerCases (sc : Scenario) (s : Server) (mail : Mail) (P : Effect Se
   pub ran : (q : QueryRequest) (query : Query) (entry : Entry) (value : ℤ) → IsAsking sc s mail q query entry value → P (completes s q query entry (deed_of q.query query value))
   pub waited : (q : QueryRequest) (query : Query) (entry : Entry) (value : ℤ) → IsAsking sc s mail q query entry value → P (waits s q entry)
   pub died : (q : QueryRequest) (query : Query) (entry : Entry) (value : ℤ) (other : TxnId) → IsAsking sc s mail q query entry value → lock_answer s q query entry ≡ asked.Dies other → P (dies s q entry other)
-  pub restarted : (q : QueryRequest) → IsLost mail q → P (restarts s q)
+  pub restarted : (q : QueryRequest) → IsLost s mail q → P (restarts s q)
   pub answered : (q : QueryRequest) (entry : Entry) (given : DoneReply) → IsAnswered s mail q entry given → P (answers s q.txn given)
   pub voted : (p : PrepareRequest) (entry : Entry) (staple : Staple) (txn : Transaction) → IsVote sc s mail p entry staple txn → P (votes_on sc (with_wants s p.want) p entry staple txn)
   pub voted_again : (p : PrepareRequest) (entry : Entry) (cast : Ballot) → IsVoteAgain s mail p entry cast → P (sends s (yes_letter s p.txn cast ∷ []))
@@ -363,11 +366,17 @@ another_named None entry e = absurd (cc)
 on_open_query_by : (sc : Scenario) (s : Server) (mail : Mail) (P : Effect Server → Type 0) → LockCases sc s mail P → (q : QueryRequest) (entry : Option Entry) → mail.letter.body ≡ body.Query q
     → is_open s q.txn ≡ true → entry_at s q.txn ≡ entry → P (on_open_query sc s mail.sent q entry)
 on_open_query_by sc s mail P cases q None e unsettled found =
-    by_cond P (is_some q.epoch) (λ named. cases.restarted q (record { said_is = e; named = named }))
+    by_cond P (is_some q.epoch) (λ named. cases.restarted q (record { said_is = e; unsettled = unsettled; named = named; elsewhere = λ entry there. absurd (cc) }))
     (λ unnamed. asks_by sc s mail P cases q (new_entry s (age_of q mail.sent)) e unsettled (inl (record { no_entry = found; unnamed = unnamed; entry_is = refl })))
 on_open_query_by sc s mail P cases q (Some entry) e unsettled found =
     by_cond P (is_some entry.ballot) (λ voted. cases.ignored)
-    (λ unvoted. by_cond P (names_another_epoch q entry) (λ another. cases.restarted q (record { said_is = e; named = another_named q.epoch entry another }))
+    (λ unvoted. by_cond P (names_another_epoch q entry)
+    (λ another. cases.restarted q (record {
+      said_is = e;
+      unsettled = unsettled;
+      named = another_named q.epoch entry another;
+      elsewhere = λ other there. subst (λ (x : Entry). names_another_epoch q x ≡ true) (same_Some entry other (sym found ∙ there)) another;
+    }))
     (λ same. unlost_by sc s mail P cases q entry (answer_to entry q.query) e unsettled found unvoted same refl))
 
 -- ---- Prepare

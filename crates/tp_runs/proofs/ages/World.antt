@@ -60,7 +60,7 @@ Ages w = AreAged (IsSubmission w.steps) w.actors w.mails
 abbrev Widens : (TxnId → ℕ → Type 0) → (TxnId → ℕ → Type 0) → Type 0
 Widens A B = (txn : TxnId) (place : ℕ) → A txn place → B txn place
 
-found_still : {X : Type 0} (xs ys : List X) (n : ℕ) (x : X) → slice_get xs n ≡ Some x → slice_get (xs ++ ys) n ≡ Some x
+pub found_still : {X : Type 0} (xs ys : List X) (n : ℕ) (x : X) → slice_get xs n ≡ Some x → slice_get (xs ++ ys) n ≡ Some x
 found_still [] ys n x e = absurd (cc)
 found_still (y ∷ xs) ys zero x e = e
 found_still (y ∷ xs) ys (suc n) x e = found_still xs ys n x e

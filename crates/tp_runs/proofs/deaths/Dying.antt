@@ -62,7 +62,7 @@ before_first test fact facts place later false false other early rest e less =
     grind arith
 
 -- what is found first at a place is before each later place
-found_before : (test : Fact → Bool) (facts : List Fact) (place later : ℕ) → option_map place_of (find test facts) ≡ Some place → place < later → list_any test (before later facts) ≡ true
+pub found_before : (test : Fact → Bool) (facts : List Fact) (place later : ℕ) → option_map place_of (find test facts) ≡ Some place → place < later → list_any test (before later facts) ≡ true
 found_before test [] place later e less = absurd (cc)
 found_before test (fact ∷ facts) place later e less =
     before_first test fact facts place later (test fact) (is_earlier later fact) refl refl (λ rest. found_before test facts place later rest less) e less

@@ -136,7 +136,7 @@ abbrev pub NamesKept : TxnId → (ServerId → Option ℕ) → Letter → Type 0
 NamesKept txn K letter = IfSome (naming_of letter.body) (IsKeptNaming txn K letter.to)
 
 -- one of two that are found
-either_found : {A : Type 0} (x y : Option A) (P : A → Type 0) → ((found : A) → x ≡ Some found → P found) → ((found : A) → y ≡ Some found → P found) → (found : A) → option_or x y ≡ Some found → P found
+pub either_found : {A : Type 0} (x y : Option A) (P : A → Type 0) → ((found : A) → x ≡ Some found → P found) → ((found : A) → y ≡ Some found → P found) → (found : A) → option_or x y ≡ Some found → P found
 either_found None y P first second found e = second found e
 either_found (Some z) y P first second found e = first found e
 

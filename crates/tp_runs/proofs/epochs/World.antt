@@ -243,7 +243,7 @@ server_acts_epochs sc w at part own now append letters h found t =
 
 -- ---- a coordinator acts
 
-set_apart : {X : Type 0} (P : ℕ → X → Type 0) (xs : List X) (k : ℕ) (old new : X) → slice_get xs k ≡ Some old → ((n : ℕ) (x : X) → (k == n) ≡ false → slice_get xs n ≡ Some x → P n x) → P k new
+pub set_apart : {X : Type 0} (P : ℕ → X → Type 0) (xs : List X) (k : ℕ) (old new : X) → slice_get xs k ≡ Some old → ((n : ℕ) (x : X) → (k == n) ≡ false → slice_get xs n ≡ Some x → P n x) → P k new
     → EachAt P (slice_set xs k new)
 set_apart P xs k old new found others here n x e = by_number (k == n) refl (sym (get_set xs k n old new found) ∙ e)
   where

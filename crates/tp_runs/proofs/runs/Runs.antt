@@ -1,5 +1,5 @@
 -- All invariants together, after every list of steps that name what exists.
-use Rattle.std.proofs.Common.{List, None, Option, Some, [], ap, arith, if◌then◌else◌, is_some, length, refl, subst, sym, true, ◌*◌, ◌∙◌, ◌∷◌, ◌≡◌, ◌≤◌}
+use Rattle.std.proofs.Common.{List, None, Option, Some, [], ap, arith, false, if◌then◌else◌, is_some, length, refl, subst, sym, true, ◌*◌, ◌∙◌, ◌∷◌, ◌≡◌, ◌≤◌}
 use Rattle.tp_model.specs.Agreement.{is_agreed}
 use Rattle.tp_model.specs.Built.{is_built}
 use Rattle.tp_model.specs.Causes.{is_caused}
@@ -7,7 +7,7 @@ use Rattle.tp_model.specs.Commits.{are_lone}
 use Rattle.tp_model.specs.Outside.{IsOutside}
 use Rattle.tp_model.specs.SerialRun.{is_serial}
 use Rattle.tp_model.specs.Trust.{is_trusted}
-use Rattle.tp_model.specs.Words.{Fact, Scenario, Step}
+use Rattle.tp_model.specs.Words.{Actor, Fact, Scenario, Step}
 use Rattle.tp_runs.proofs.ages.World.{Ages, ages_next, ages_opening}
 use Rattle.tp_runs.proofs.deaths.World.{Deaths, deaths_next, deaths_opening}
 use Rattle.tp_runs.proofs.bounds.World.{Bounds, all_bounded, bounds_next, bounds_opening}
@@ -23,6 +23,9 @@ use Rattle.tp_runs.proofs.known.Waiting.{wait_rightly}
 use Rattle.tp_runs.proofs.known.World.{Pairs, pairs_next, pairs_opening}
 use Rattle.tp_runs.proofs.refusals.Steps.{refusals_next, refusals_opening}
 use Rattle.tp_runs.proofs.refusals.World.{Refusals}
+use Rattle.tp_runs.proofs.restarts.Steps.{restarts_next, restarts_opening}
+use Rattle.tp_runs.proofs.restarts.Uncrashed.{Uncrashed, nobody_is_down, servers_up, uncrashed_next, uncrashed_opening}
+use Rattle.tp_runs.proofs.restarts.World.{Restarts}
 use Rattle.tp_runs.proofs.serial_data.End.{serial_facts, serial_values, values_at_end}
 use Rattle.tp_runs.proofs.serial_data.Lone.{AreLone, facts_lone, lone_next, lone_opening}
 use Rattle.tp_runs.proofs.serial_data.Steps.{serial_next, serial_opening}
@@ -32,20 +35,21 @@ use Rattle.tp_runs.proofs.trusted.Steps.{trusts_next, trusts_opening}
 use Rattle.tp_runs.proofs.trust.World.{Trusts}
 use Rattle.tp_runs.specs.Bounded.{AreBounded}
 use Rattle.tp_runs.specs.Laws.{HasAllCommits, IsTrustedState, mails_most}
-use Rattle.tp_machine.specs.Machine.{Machine, State, after, after_step, after_steps, machine_after, opening, opening_state, refusal}
+use Rattle.tp_machine.specs.Machine.{Machine, State, after, after_step, after_steps, is_down, machine_after, opening, opening_state, refusal}
 use Rattle.tp_types.specs.Each.{Each}
 use Rattle.tp_runs.specs.Sound.{IsSound}
 use Rattle.tp_machine.specs.Named.{IsStepOf}
 use Rattle.tp_machine.specs.declared.error.StepError.{StepError}
 
 -- what holds of every world: its ids exist, its actors agree, what servers hold of a transaction is what its coordinator knows, its
--- commits are trusted and serial, what comes from outside is what its steps say, and its values are bounded
+-- commits are trusted and serial, what comes from outside is what its steps say, its crashes are counted, and its values are bounded
 pub record Holds (sc : Scenario) (w : State) : Type 0 where
   pub sound : IsSound sc w
   pub agrees : Agrees sc w
   pub epochs : Epochs sc w
   pub ages : Ages w
   pub deaths : Deaths sc w
+  pub restarts : Restarts w
   pub lone : AreLone w.facts
   pub outside : IsOutside sc w.steps w.facts
   pub trusts : Trusts sc w
@@ -57,7 +61,7 @@ pub record Holds (sc : Scenario) (w : State) : Type 0 where
 
 pub holds_opening : (sc : Scenario) → is_built sc ≡ true → Holds sc (opening_state sc)
 holds_opening sc built =
-    record { sound = sound_opening sc built; agrees = agrees_opening sc; epochs = epochs_opening sc; ages = ages_opening sc; deaths = deaths_opening sc; lone = lone_opening; outside = outside_opening sc; trusts = trusts_opening sc built; pairs = pairs_opening sc; serial = serial_opening sc built; refusals = refusals_opening sc; bounds = bounds_opening sc built; few = few_opening sc }
+    record { sound = sound_opening sc built; agrees = agrees_opening sc; epochs = epochs_opening sc; ages = ages_opening sc; deaths = deaths_opening sc; restarts = restarts_opening sc; lone = lone_opening; outside = outside_opening sc; trusts = trusts_opening sc built; pairs = pairs_opening sc; serial = serial_opening sc built; refusals = refusals_opening sc; bounds = bounds_opening sc built; few = few_opening sc }
 
 -- each invariant may lean on all the others before the step
 pub holds_next : (sc : Scenario) (m : Machine) (taken : Step) → is_built sc ≡ true → IsStepOf sc taken → refusal m.state taken ≡ None → Holds sc m.state → Holds sc (machine_after sc m taken).state
@@ -69,6 +73,7 @@ holds_next sc m taken built exists allowed h =
       epochs = epochs_next sc m taken (homes_built sc built) exists allowed rightly h.sound h.agrees h.epochs;
       ages = ages_next sc m taken exists allowed rightly h.sound h.agrees h.ages;
       deaths = deaths_next sc m taken exists allowed rightly h.sound h.agrees h.ages h.pairs h.deaths;
+      restarts = restarts_next sc m taken exists allowed rightly h.sound h.agrees h.epochs h.ages h.pairs h.deaths.told h.restarts;
       lone = lone_next sc m taken exists allowed h.agrees.coordinator_count h.agrees.past h.lone;
       outside = outside_next sc m taken exists allowed h.agrees.coordinator_count h.agrees.past h.trusts.master h.outside;
       trusts = trusts_next sc m taken built exists allowed rightly h.sound h.agrees h.pairs h.trusts;
@@ -93,10 +98,29 @@ steps_hold sc m (taken ∷ steps) built exist h =
 pub holds_after : (sc : Scenario) (steps : List Step) → is_built sc ≡ true → Each (IsStepOf sc) steps → Holds sc (after sc steps).state
 holds_after sc steps built exist = steps_hold sc (opening sc) steps built exist (holds_opening sc built)
 
+-- ---- nobody is down, as long as no step crashes an actor
+
+step_uncrashed : (sc : Scenario) (m : Machine) (taken : Step) (why : Option StepError) → refusal m.state taken ≡ why → IsStepOf sc taken → Agrees sc m.state → Uncrashed m.state
+    → Uncrashed (if is_some why then m else machine_after sc m taken).state
+step_uncrashed sc m taken None e exists a h = uncrashed_next sc m taken exists e a h
+step_uncrashed sc m taken (Some why) e exists a h = h
+
+steps_uncrashed : (sc : Scenario) (m : Machine) (steps : List Step) → is_built sc ≡ true → Each (IsStepOf sc) steps → Holds sc m.state → Uncrashed m.state → Uncrashed (after_steps sc m steps).state
+steps_uncrashed sc m [] built exist h u = u
+steps_uncrashed sc m (taken ∷ steps) built exist h u =
+    steps_uncrashed sc (after_step sc m taken) steps built exist.1 (step_holds sc m taken (refusal m.state taken) refl built exist.0 h)
+    (step_uncrashed sc m taken (refusal m.state taken) refl exist.0 h.agrees u)
+
+pub uncrashed_after : (sc : Scenario) (steps : List Step) → is_built sc ≡ true → Each (IsStepOf sc) steps → Uncrashed (after sc steps).state
+uncrashed_after sc steps built exist = steps_uncrashed sc (opening sc) steps built exist (holds_opening sc built) (uncrashed_opening sc)
+
+pub nobody_down_after : (sc : Scenario) (steps : List Step) → is_built sc ≡ true → Each (IsStepOf sc) steps → (who : Actor) → is_down (after sc steps).state.actors who ≡ false
+nobody_down_after sc steps built exist who = nobody_is_down (after sc steps).state (uncrashed_after sc steps built exist) (holds_after sc steps built exist).restarts who
+
 -- ---- what the facts show
 
-shows : (sc : Scenario) (w : State) → is_built sc ≡ true → Holds sc w → IsTrustedState sc w
-shows sc w built h =
+shows : (sc : Scenario) (w : State) → is_built sc ≡ true → Holds sc w → Uncrashed w → IsTrustedState sc w
+shows sc w built h none =
     record {
       outside = h.outside;
       agreed = facts_agreed sc w h.agrees;
@@ -104,19 +128,19 @@ shows sc w built h =
       caused = facts_caused sc w built h.sound h.refusals h.deaths h.trusts;
       serial = serial_facts sc w h.serial;
       lone = facts_lone w.facts h.lone;
-      values_are = serial_values sc w built h.agrees h.serial (λ n part found. (h.refusals.unbooted.servers n part found).up);
+      values_are = serial_values sc w built h.agrees h.serial (servers_up w none h.restarts);
     }
 
 -- after every list of steps the history is trusted so far
 pub always_trusted : (sc : Scenario) (steps : List Step) → is_built sc ≡ true → Each (IsStepOf sc) steps → IsTrustedState sc (after sc steps).state
-always_trusted sc steps built exist = shows sc (after sc steps).state built (holds_after sc steps built exist)
+always_trusted sc steps built exist = shows sc (after sc steps).state built (holds_after sc steps built exist) (uncrashed_after sc steps built exist)
 
 -- and where all transactions have ended the values are those of all commits
 pub has_all_commits : (sc : Scenario) (steps : List Step) → is_built sc ≡ true → Each (IsStepOf sc) steps → HasAllCommits sc (after sc steps).state
 has_all_commits sc steps built exist ended =
     let w = (after sc steps).state in
     let h = holds_after sc steps built exist in
-    serial_values sc w built h.agrees h.serial (λ n part found. (h.refusals.unbooted.servers n part found).up) ∙ values_at_end sc w built h.agrees h.serial ended
+    serial_values sc w built h.agrees h.serial (servers_up w (uncrashed_after sc steps built exist) h.restarts) ∙ values_at_end sc w built h.agrees h.serial ended
 
 -- and few mails were sent
 pub sends_few : (sc : Scenario) (steps : List Step) → is_built sc ≡ true → Each (IsStepOf sc) steps → length (after sc steps).state.mails ≤ mails_most * length steps

@@ -1,0 +1,206 @@
+-- Restarts over every list of steps.
+use Rattle.std.proofs.Common.{IfSome, List, None, Option, Some, [], arith, is_none, length, refl, subst, sym, true, ℕ, ◌+◌, ◌∙◌, ◌∷◌, ◌≡◌}
+use Rattle.tp_model.specs.Causes.{is_server_actor}
+use Rattle.tp_model.specs.Words.actor
+use Rattle.tp_model.specs.Words.body
+use Rattle.tp_model.specs.Words.no
+use Rattle.tp_model.specs.Words.step
+use Rattle.tp_model.specs.Words.what
+use Rattle.tp_model.specs.Words.{Actor, Body, DoneReply, Mail, PrepareRequest, QueryRequest, Scenario, ServerId, Settled, Step, TxnId, What}
+use Rattle.tp_machine.specs.Logs.{epoch_at}
+use Rattle.tp_machine.specs.Machine.{Machine, State, acts_by, coordinator_fact, coordinator_move, idle_move, machine_after, opened_part, opening_state, refusal, server_fact, server_move, with_age}
+use Rattle.tp_machine.specs.Named.{IsStepOf}
+use Rattle.tp_machine.specs.Parts.{Part}
+use Rattle.tp_types.proofs.EachLemmas.{each_get, placed_none, some_value}
+use Rattle.tp_types.specs.Each.{Each}
+use Rattle.tp_coord.specs.Opened as coord_opened
+use Rattle.tp_coord.specs.Row.{coordinator_row, submit_row}
+use Rattle.tp_coord.specs.State.{Coordinator}
+use Rattle.tp_server.proofs.Rows.{IsLateRequest, IsLost}
+use Rattle.tp_server.specs.Opened as server_opened
+use Rattle.tp_server.specs.Row.{age_of, server_row}
+use Rattle.tp_server.specs.State.{Server}
+use Rattle.tp_offices.specs.Authority as office
+use Rattle.tp_offices.specs.Master as master
+use Rattle.tp_offices.specs.declared.authority.Authority.{Authority}
+use Rattle.tp_offices.specs.declared.master.Master.{Master}
+use Rattle.tp_runs.proofs.ages.Actors.{BodyAged}
+use Rattle.tp_runs.proofs.ages.World.{Ages, IsSubmission, MailAged}
+use Rattle.tp_runs.proofs.agreement.Logs.{once}
+use Rattle.tp_runs.proofs.agreement.Steps.{mail_sound, own_server, own_txn, server_agrees}
+use Rattle.tp_runs.proofs.agreement.World.{Agrees}
+use Rattle.tp_runs.proofs.basics.Found.{of_some}
+use Rattle.tp_runs.proofs.basics.Ids.{server_number, txn_number}
+use Rattle.tp_runs.proofs.basics.Phases.{is_undecided}
+use Rattle.tp_runs.proofs.deaths.Told.{Told}
+use Rattle.tp_runs.proofs.epochs.Asked.{asked_in}
+use Rattle.tp_runs.proofs.epochs.Kept.{CoordinatorKeeps, KeepsEpoch, PhaseKept}
+use Rattle.tp_runs.proofs.epochs.Server.{ServerMade}
+use Rattle.tp_runs.proofs.epochs.World.{Epochs, made_from_zero}
+use Rattle.tp_runs.proofs.known.World.{Pairs, declared_by}
+use Rattle.tp_runs.proofs.pairs.Actors.{BodyPairs, LetterPairs, pair_at, site_of}
+use Rattle.tp_runs.proofs.pairs.Fits.{Covers, QueryFits, Tells}
+use Rattle.tp_runs.proofs.restarts.Coordinators.{ActSince, coordinator_row_since, submit_row_since}
+use Rattle.tp_runs.proofs.restarts.Counted.{IsCounted, since_made}
+use Rattle.tp_runs.proofs.restarts.Servers.{IsKnownMail, RowSince, server_row_since}
+use Rattle.tp_runs.proofs.restarts.Shown.{other_epoch, restart_shown}
+use Rattle.tp_runs.proofs.restarts.Since.{BodySince, EntriesSince, EntrySince, KeptSince, LetterSince, PartSince, QuerySince}
+use Rattle.tp_runs.proofs.restarts.World.{IsHalted, MailSince, MoveSince, Restarts, ShownIn, SinceIn, coordinator_acts_since, server_acts_since, state_after_since, still_since}
+use Rattle.tp_runs.proofs.walks.Steps.{Cases, IsCoordinatorUp, IsServerUp, SaysIdle, WaitRightly, WasSent, machine_after_by}
+use Rattle.tp_runs.specs.Sound.{IsSound, IsSoundBody, IsSoundQuery}
+
+-- ---- a server receives a mail
+
+-- the present epoch of a server is of after the submission of a transaction that asks there
+present_since : (sc : Scenario) (w : State) (n : ℕ) (mail : Mail) (at : ServerId) (part : Part Server) (s : Server) (q : QueryRequest) → Epochs sc w → Ages w → Restarts w → WasSent w n mail (actor.Server at) → IsServerUp w at part s
+    → mail.letter.body ≡ body.Query q → SinceIn w.steps w.facts q.txn at s.epoch
+present_since sc w n mail at part s q epochs ages h sent up said_is =
+    let submitted : IsSubmission w.steps q.txn (age_of q mail.sent) = subst (BodyAged (IsSubmission w.steps) mail.sent) said_is (each_get (MailAged (IsSubmission w.steps)) w.mails n mail ages.sent sent.sent) in
+    let made : ServerMade sc (asked_in w.mails) at s part.log = of_some (λ (t : Server). ServerMade sc (asked_in w.mails) at t part.log) part.up s up.up (epochs.servers at.0 part up.found).state in
+    subst (SinceIn w.steps w.facts q.txn at) (sym made.epoch_is)
+    (since_made w.steps w.facts q.txn (is_server_actor at) part s (age_of q mail.sent) (h.counted at.0 part up.found) up.up submitted)
+
+-- where a query's work was lost the server has crashed since
+lost_shown : (sc : Scenario) (w : State) (n : ℕ) (mail : Mail) (at : ServerId) (part : Part Server) (s : Server) (q : QueryRequest) → IsSound sc w → Agrees sc w → Pairs sc w → Told w → Restarts w → WasSent w n mail (actor.Server at)
+    → IsServerUp w at part s → IsLost s mail q → ShownIn w.facts (length w.steps) q.txn at
+lost_shown sc w n mail at part s q sound a pairs told h sent up k =
+    let named = some_value q.epoch k.named in
+    let asked : IsSoundQuery sc (actor.Server at) q = subst (IsSoundBody sc (actor.Server at)) k.said_is (mail_sound sc w n mail (actor.Server at) sound sent) in
+    let there = declared_by sc q.txn asked.txn in
+    let heard : BodySince (SinceIn w.steps w.facts) (ShownIn w.facts mail.sent) mail.letter.from (actor.Server at) mail.letter.body =
+    subst (λ (to : Actor). BodySince (SinceIn w.steps w.facts) (ShownIn w.facts mail.sent) mail.letter.from to mail.letter.body) sent.goes_to (each_get (MailSince w.steps w.facts) w.mails n mail h.mails sent.sent) in
+    let since : QuerySince (SinceIn w.steps w.facts) (actor.Server at) q = subst (BodySince (SinceIn w.steps w.facts) (ShownIn w.facts mail.sent) mail.letter.from (actor.Server at)) k.said_is heard in
+    let paired : BodyPairs sc (pair_at w.actors) mail.letter.from (actor.Server at) mail.letter.body =
+    subst (λ (to : Actor). BodyPairs sc (pair_at w.actors) mail.letter.from to mail.letter.body) sent.goes_to (each_get (λ (m : Mail). LetterPairs sc (pair_at w.actors) m.letter) w.mails n mail pairs.mails sent.sent) in
+    let fits : QueryFits (site_of sc at.0 there.0) (pair_at w.actors q.txn at.0) q = subst (BodyPairs sc (pair_at w.actors) mail.letter.from (actor.Server at)) k.said_is paired there.0 there.1 in
+    let covered = Covers (site_of sc at.0 there.0) fits.before in
+    restart_shown sc w at part s q.txn named.0 covered a told h up k.unsettled (λ entry found. other_epoch q entry named.0 named.1 (k.elsewhere entry found))
+    (of_some (SinceIn w.steps w.facts q.txn at) q.epoch named.0 named.1 since) (of_some (λ (epoch : ℕ). Tells (pair_at w.actors q.txn at.0) epoch covered) q.epoch named.0 named.1 fits.covers)
+
+-- where the server has settled a transaction for a restart
+settled_shown : (sc : Scenario) (w : State) (mail : Mail) (at : ServerId) (part : Part Server) (s : Server) (p : PrepareRequest) (settled : Settled) → Agrees sc w → Restarts w → IsServerUp w at part s
+    → IsLateRequest s mail p settled no.Restarted → ShownIn w.facts (length w.steps) p.txn at
+settled_shown sc w mail at part s p settled a h up k =
+    (h.servers at.0 part up.found).settled p.txn settled (sym ((server_agrees sc w at part s a up).settled p.txn) ∙ k.found) k.why_is
+
+mail_known : (sc : Scenario) (w : State) (n : ℕ) (mail : Mail) (at : ServerId) (part : Part Server) (s : Server) → IsSound sc w → Agrees sc w → Epochs sc w → Ages w → Pairs sc w → Told w → Restarts w → WasSent w n mail (actor.Server at)
+    → IsServerUp w at part s → s.server ≡ at → IsKnownMail (SinceIn w.steps w.facts) (ShownIn w.facts (length w.steps)) s mail
+mail_known sc w n mail at part s sound a epochs ages pairs told h sent up own =
+    record {
+      present = λ q e. subst (λ (x : ServerId). SinceIn w.steps w.facts q.txn x s.epoch) (sym own) (present_since sc w n mail at part s q epochs ages h sent up e);
+      lost = λ q k. subst (ShownIn w.facts (length w.steps) q.txn) (sym own) (lost_shown sc w n mail at part s q sound a pairs told h sent up k);
+      refused = λ p settled k. subst (ShownIn w.facts (length w.steps) p.txn) (sym own) (settled_shown sc w mail at part s p settled a h up k);
+    }
+
+stays_up : {S : Type 0} (up : Option S) (s : S) (boots : ℕ) → up ≡ Some s → boots ≡ 0 → 0 + once (is_none up) ≡ boots + 0
+stays_up None s boots e none = absurd (cc)
+stays_up (Some t) s boots e none = omega (arith, none)
+
+receipt_by_server_in_restarts : (sc : Scenario) (w : State) (n : ℕ) (mail : Mail) (at : ServerId) (part : Part Server) (s : Server) → WaitRightly sc w → IsSound sc w → Agrees sc w → Epochs sc w → Ages w → Pairs sc w → Told w → Restarts w
+    → WasSent w n mail (actor.Server at) → IsServerUp w at part s → MoveSince w (server_move w.actors at (acts_by (server_fact at) [] part.log (server_row sc s mail)))
+receipt_by_server_in_restarts sc w n mail at part s rightly sound a epochs ages pairs told h sent up =
+    let S = SinceIn w.steps w.facts in
+    let R = ShownIn w.facts (length w.steps) in
+    let own : s.server ≡ at = own_server sc w at part s sound up.found up.up in
+    let effect = server_row sc s mail in
+    let here : EntriesSince S R at s = of_some (EntriesSince S R at) part.up s up.up (h.servers at.0 part up.found).state in
+    let row : RowSince S R at effect =
+    subst (λ (x : ServerId). RowSince S R x effect) own
+    (server_row_since S R sc s mail (rightly at part s up) (subst (λ (x : ServerId). EntriesSince S R x s) (sym own) here) (mail_known sc w n mail at part s sound a epochs ages pairs told h sent up own)) in
+    server_acts_since w at part (Some effect.state) [] effect.reaction.append effect.reaction.letters h up.found
+    (record { state = row.entries; forces = row.forces; letters_are = row.letters; even = stays_up part.up s _ up.up row.no_boot; others = λ other apart. refl })
+
+-- ---- a coordinator receives a mail, or its transaction is submitted
+
+-- the epochs that a coordinator which is up keeps
+kept_here : (sc : Scenario) (w : State) (txn : TxnId) (part : Part Coordinator) (c : Coordinator) → Restarts w → IsCoordinatorUp w txn part c → c.txn ≡ txn → KeptSince (SinceIn w.steps w.facts) c.txn c
+kept_here sc w txn part c h up same =
+    subst (λ (t : TxnId). KeptSince (SinceIn w.steps w.facts) t c) (sym same) (of_some (KeptSince (SinceIn w.steps w.facts) txn) part.up c up.up (h.coordinators txn.0 part up.found))
+
+round_kept : (sc : Scenario) (w : State) (txn : TxnId) (part : Part Coordinator) (c : Coordinator) → Epochs sc w → IsCoordinatorUp w txn part c → is_undecided c.phase ≡ true → PhaseKept (KeepsEpoch c) c.phase
+round_kept sc w txn part c epochs up undecided =
+    let asked = asked_in w.mails txn in
+    let keeps : CoordinatorKeeps sc (epoch_at w.actors.servers) asked c = of_some (CoordinatorKeeps sc (epoch_at w.actors.servers) asked) part.up c up.up (epochs.coordinators txn.0 part up.found) in
+    (keeps.undecided undecided).round
+
+own_done_in_restarts : (txn : TxnId) (done : DoneReply) → actor.Coordinator txn ≡ actor.Coordinator done.txn → done.txn ≡ txn
+own_done_in_restarts txn done e = cc
+
+receipt_by_coordinator_in_restarts : (sc : Scenario) (w : State) (n : ℕ) (mail : Mail) (txn : TxnId) (part : Part Coordinator) (c : Coordinator) → IsSound sc w → Epochs sc w → Restarts w → WasSent w n mail (actor.Coordinator txn)
+    → IsCoordinatorUp w txn part c → MoveSince w (coordinator_move w.actors txn (acts_by coordinator_fact [] part.log (coordinator_row sc c mail)))
+receipt_by_coordinator_in_restarts sc w n mail txn part c sound epochs h sent up =
+    let S = SinceIn w.steps w.facts in
+    let same : c.txn ≡ txn = own_txn sc w txn part c sound up.found up.up in
+    let effect = coordinator_row sc c mail in
+    let heard : IsSoundBody sc (actor.Coordinator txn) mail.letter.body = mail_sound sc w n mail (actor.Coordinator txn) sound sent in
+    let row : ActSince S (ShownIn w.facts (length w.steps)) c.txn effect =
+    coordinator_row_since S (ShownIn w.facts mail.sent) (ShownIn w.facts (length w.steps)) sc c mail (kept_here sc w txn part c h up same) (round_kept sc w txn part c epochs up)
+    (each_get (MailSince w.steps w.facts) w.mails n mail h.mails sent.sent)
+    (λ done e. own_done_in_restarts txn done (subst (IsSoundBody sc (actor.Coordinator txn)) e heard).goes_to ∙ sym same) in
+    coordinator_acts_since w txn part.log (Some effect.state) [] effect.reaction.append effect.reaction.letters h
+    (record { state = subst (λ (t : TxnId). KeptSince S t effect.state) same row.kept; letters_are = row.letters; servers = λ other. refl; down = λ down. absurd (cc) })
+
+begun_since : (sc : Scenario) (w : State) (txn : TxnId) (part : Part Coordinator) (c : Coordinator) → IsSound sc w → Restarts w → IsCoordinatorUp w txn part c
+    → MoveSince w (coordinator_move w.actors txn (acts_by coordinator_fact (what.Submitted txn ∷ []) part.log (with_age (submit_row sc c) (length w.steps))))
+begun_since sc w txn part c sound h up =
+    let S = SinceIn w.steps w.facts in
+    let same : c.txn ≡ txn = own_txn sc w txn part c sound up.found up.up in
+    let effect = with_age (submit_row sc c) (length w.steps) in
+    let row : ActSince S (ShownIn w.facts (length w.steps)) c.txn effect = submit_row_since S (ShownIn w.facts (length w.steps)) sc c (length w.steps) (kept_here sc w txn part c h up same) in
+    coordinator_acts_since w txn part.log (Some effect.state) (what.Submitted txn ∷ []) effect.reaction.append effect.reaction.letters h
+    (record { state = subst (λ (t : TxnId). KeptSince S t effect.state) same row.kept; letters_are = row.letters; servers = λ other. refl; down = λ down. absurd (cc) })
+
+-- ---- the others
+
+tells_no_epoch : (S : TxnId → ServerId → ℕ → Type 0) (R : TxnId → ServerId → Type 0) (authority : Authority) (said : Body) → Each (LetterSince S R) (office.on_body authority said).reaction.letters
+tells_no_epoch S R authority (body.Ask ask) = (tt, tt)
+tells_no_epoch S R authority _ = tt
+
+newest_no_epoch : (S : TxnId → ServerId → ℕ → Type 0) (R : TxnId → ServerId → Type 0) (held : Master) (said : Body) → Each (LetterSince S R) (master.on_body held said).reaction.letters
+newest_no_epoch S R held (body.Probe probe) = (tt, tt)
+newest_no_epoch S R held _ = tt
+
+idle_since : (w : State) (taken : Step) (happened : List What) → Restarts w → SaysIdle taken happened → MoveSince w (idle_move w.actors happened)
+idle_since w (step.Deliver mail) happened h e = subst (λ (hs : List What). MoveSince w (idle_move w.actors hs)) (sym e) (still_since w w.actors [] [] h refl refl (λ n. refl) tt)
+idle_since w (step.Lose mail) happened h e = subst (λ (hs : List What). MoveSince w (idle_move w.actors hs)) (sym e) (still_since w w.actors (what.Lost mail ∷ []) [] h refl refl (λ n. refl) tt)
+idle_since w _ happened h e = absurd e
+
+-- ---- steps
+
+restarts_cases : (sc : Scenario) (w : State) → WaitRightly sc w → IsSound sc w → Agrees sc w → Epochs sc w → Ages w → Pairs sc w → Told w → Restarts w → Cases sc w (λ taken move. MoveSince w move)
+restarts_cases sc w rightly sound a epochs ages pairs told h =
+    let S = SinceIn w.steps w.facts in
+    let R = ShownIn w.facts (length w.steps) in
+    record {
+      idle = λ taken happened e. idle_since w taken happened h e;
+      server_received = λ n mail at part s sent up. receipt_by_server_in_restarts sc w n mail at part s rightly sound a epochs ages pairs told h sent up;
+      coordinator_received = λ n mail txn part c sent up. receipt_by_coordinator_in_restarts sc w n mail txn part c sound epochs h sent up;
+      authority_told = λ n mail sent. still_since w w.actors [] (office.authority_row w.actors.authority mail).reaction.letters h refl refl (λ other. refl) (tells_no_epoch S R w.actors.authority mail.letter.body);
+      master_told = λ n mail sent. still_since w w.actors [] (master.master_row w.actors.master mail).reaction.letters h refl refl (λ other. refl) (newest_no_epoch S R w.actors.master mail.letter.body);
+      published = λ admin exists more.
+          still_since w (record w.actors { master = master.after_publication admin w.actors.master }) (what.Published admin (master.next_of w.actors.master admin) ∷ []) [] h refl refl (λ other. refl) tt;
+      pushed = λ admin server exists there. still_since w w.actors [] (master.pushes w.actors.master admin server).reaction.letters h refl refl (λ other. refl) (tt, tt);
+      ticked = λ by. still_since w (record w.actors { authority = office.after_tick by w.actors.authority }) (what.Ticked by ∷ []) [] h refl refl (λ other. refl) tt;
+      revoked = λ cred exists. still_since w (record w.actors { authority = office.after_revocation cred w.actors.authority }) (what.Revoked cred ∷ []) [] h refl refl (λ other. refl) tt;
+      begun = λ txn part c exists up new. begun_since sc w txn part c sound h up;
+    }
+
+-- a step that is not refused keeps what is said of restarts
+pub restarts_next : (sc : Scenario) (m : Machine) (taken : Step) → IsStepOf sc taken → refusal m.state taken ≡ None → WaitRightly sc m.state → IsSound sc m.state → Agrees sc m.state → Epochs sc m.state → Ages m.state → Pairs sc m.state
+    → Told m.state → Restarts m.state → Restarts (machine_after sc m taken).state
+restarts_next sc m taken exists allowed rightly sound a epochs ages pairs told h =
+    machine_after_by sc m (λ taken_is move. MoveSince m.state move) Restarts (restarts_cases sc m.state rightly sound a epochs ages pairs told h) a.coordinator_count
+    (λ taken_is move t. state_after_since m.state taken_is move h t) h taken exists allowed
+
+-- before the first step nobody has crashed, and nobody keeps an epoch
+pub restarts_opening : (sc : Scenario) → Restarts (opening_state sc)
+restarts_opening sc =
+    record {
+      servers = made_from_zero (λ (k : ℕ) (found : Part Server). PartSince (SinceIn [] []) (ShownIn [] 0) (server_number k) found) (λ (k : ℕ). opened_part (server_opened.opening sc (record { 0 = k }))) (length sc.servers)
+          (λ k. record { state = placed_none (EntrySince (SinceIn [] []) (ShownIn [] 0) (server_number k)) (length sc.txns); prepared = λ txn p e. absurd (cc); settled = λ txn s e. absurd (cc) });
+      counted = made_from_zero (λ (k : ℕ) (found : Part Server). IsCounted (is_server_actor (server_number k)) [] found) (λ (k : ℕ). opened_part (server_opened.opening sc (record { 0 = k }))) (length sc.servers) (λ k. refl);
+      coordinators = made_from_zero (λ (k : ℕ) (found : Part Coordinator). IfSome found.up (KeptSince (SinceIn [] []) (txn_number k))) (λ (k : ℕ). opened_part (coord_opened.idle sc (record { 0 = k }))) (length sc.txns)
+          (λ k. placed_none (λ (m : ℕ) (epoch : ℕ). SinceIn [] [] (txn_number k) (server_number m) epoch) (length sc.servers));
+      down = made_from_zero (λ (k : ℕ) (found : Part Coordinator). found.up ≡ None → IsHalted [] 0 (txn_number k)) (λ (k : ℕ). opened_part (coord_opened.idle sc (record { 0 = k }))) (length sc.txns) (λ k down. absurd (cc));
+      mails = tt;
+    }
