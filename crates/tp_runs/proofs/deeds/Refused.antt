@@ -1,9 +1,9 @@
--- The last write of an item where a transaction runs by itself: no later query writes the item, and the value is that of its query in
--- the run. So a last write that is outside its item's range is one that may be refused. A server's share of deeds has the last writes of
--- its items.
+-- The last write of an item by a transaction whose queries all ran: no later query writes the item. So one that is outside its item's range is one
+-- that may be refused. Where the transaction runs by itself, its value is that of its query in the run. A server's share of deeds has the last
+-- writes of its items.
 use Rattle.std.specs.List.{list_any}
 use Rattle.std.specs.Option.{option_map_or, option_or}
-use Rattle.std.proofs.Common.{Bool, List, None, Option, Some, [], ap, arith, cond, drop, false, find, if◌then◌else◌, not, option_map, refl, slice_get, slice_set, subst, suc, sym, true, ℕ, ℤ, ◌+◌, ◌==◌, ◌∙◌, ◌∷◌, ◌≡◌, ◌≤◌}
+use Rattle.std.proofs.Common.{Bool, List, None, Option, Some, [], ap, arith, cond, drop, false, find, if◌then◌else◌, length, not, option_map, refl, slice_get, slice_set, subst, suc, sym, true, ℕ, ℤ, ◌+◌, ◌==◌, ◌∙◌, ◌∷◌, ◌≡◌, ◌≤◌}
 use Rattle.std.proofs.lemmas.Bool.{and_from, eq-eqb, eqb-true, ne_eqb, or_from}
 use Rattle.std.proofs.lemmas.Option.{same_Some}
 use Rattle.tp_types.specs.declared.scenario.Query.TheVariants.{Read, Write}
@@ -16,6 +16,8 @@ use Rattle.tp_types.proofs.EachLemmas.{not_kept}
 use Rattle.tp_runs.proofs.basics.Logs.{first_none}
 use Rattle.tp_runs.proofs.deeds.Commits.{IsItemAt}
 use Rattle.tp_runs.proofs.deeds.Joined.{at_home, is_at, share_at}
+use Rattle.tp_runs.proofs.deeds.Runs.{IsRun, RunsFrom, RunsSoFar}
+use Rattle.tp_coord.specs.Sums.{registers_with}
 use Rattle.tp_runs.proofs.deeds.Tentative.{kept_by_action, kept_one, last_kept, write_of}
 use Rattle.tp_store.specs.declared.writes.TentativeWrite.{TentativeWrite}
 
@@ -29,19 +31,27 @@ both_none (Some found) y e = absurd (cc)
 abbrev one_write : ℕ → ItemId → ℤ → TentativeWrite
 one_write number item value = record { query = number; item = item; value = value }
 
+-- a write that ran is kept as such
+wrote : (number : ℕ) (other item : ItemId) (expr : List Term) (registers : List ℤ) (deed : Deed) → IsRun number (Write other expr) registers deed
+    → kept_one item deed ≡ (if other.0 == item.0 then Some (one_write number other deed.value) else None)
+wrote number other item expr registers deed run = ap (kept_one item) run.deed_is
+
+-- a read that ran is no write
+read_none : (number : ℕ) (other item : ItemId) (into : ℕ) (registers : List ℤ) (deed : Deed) → IsRun number (Read other into) registers deed → kept_one item deed ≡ None
+read_none number other item into registers deed run = ap (kept_one item) run.deed_is
+
 -- queries whose deeds do not write the item
-no_write : (number : ℕ) (queries : List Query) (registers store : List ℤ) (item : ItemId) → last_kept item (deeds_from number queries registers store) ≡ None
+no_write : (number : ℕ) (queries : List Query) (registers : List ℤ) (deeds : List Deed) (item : ItemId) → RunsFrom number queries registers deeds → length deeds ≡ length queries → last_kept item deeds ≡ None
     → list_any (is_write_of item) queries ≡ false
-no_write number [] registers store item e = refl
-no_write number (Read other into ∷ queries) registers store item e =
-    let after = slice_set registers into (number_at store other.0) in
-    no_write (number + 1) queries after store item (both_none (last_kept item (deeds_from (number + 1) queries after store)) None e).0
-no_write number (Write other expr ∷ queries) registers store item e =
-    let value = sum_in registers expr in
-    let after = slice_set store other.0 value in
-    let new = one_write number other value in
-    let none = both_none (last_kept item (deeds_from (number + 1) queries registers after)) (if other.0 == item.0 then Some new else None) e in
-    or_from (other.0 == item.0) (list_any (is_write_of item) queries) (not_kept new (other.0 == item.0) none.1) (no_write (number + 1) queries registers after item none.0)
+no_write number [] registers deeds item h all e = refl
+no_write number (query ∷ queries) registers [] item h all e = absurd (omega (arith, all))
+no_write number (Read other into ∷ queries) registers (deed ∷ deeds) item h all e =
+    no_write (number + 1) queries (registers_with (Read other into) deed.value registers) deeds item h.1 (omega (arith, all)) (both_none (last_kept item deeds) (kept_one item deed) e).0
+no_write number (Write other expr ∷ queries) registers (deed ∷ deeds) item h all e =
+    let none = both_none (last_kept item deeds) (kept_one item deed) e in
+    or_from (other.0 == item.0) (list_any (is_write_of item) queries)
+    (not_kept (one_write number other deed.value) (other.0 == item.0) (sym (wrote number other item expr registers deed h.0) ∙ none.1))
+    (no_write (number + 1) queries (registers_with (Write other expr) deed.value registers) deeds item h.1 (omega (arith, all)) none.0)
 
 -- the query of this number, where they count from a number on, writes the item, and no later one does
 record IsLastWrite (number : ℕ) (queries : List Query) (item : ItemId) (asked : ℕ) : Type 0 where
@@ -72,18 +82,18 @@ write_here number expr queries other item value None w true test none later e =
       unwritten = none refl;
     }
 
-last_is_write : (number : ℕ) (queries : List Query) (registers store : List ℤ) (item : ItemId) (w : TentativeWrite) → last_kept item (deeds_from number queries registers store) ≡ Some w
-    → IsLastWrite number queries item w.query
-last_is_write number [] registers store item w e = absurd (cc)
-last_is_write number (Read other into ∷ queries) registers store item w e =
-    let after = slice_set registers into (number_at store other.0) in
+last_is_write : (number : ℕ) (queries : List Query) (registers : List ℤ) (deeds : List Deed) (item : ItemId) (w : TentativeWrite) → RunsFrom number queries registers deeds → length deeds ≡ length queries
+    → last_kept item deeds ≡ Some w → IsLastWrite number queries item w.query
+last_is_write number queries registers [] item w h all e = absurd (cc)
+last_is_write number [] registers (deed ∷ deeds) item w h all e = absurd h
+last_is_write number (Read other into ∷ queries) registers (deed ∷ deeds) item w h all e =
     write_later number (Read other into) queries item w.query
-    (last_is_write (number + 1) queries after store item w (sym (first_none (last_kept item (deeds_from (number + 1) queries after store))) ∙ e))
-last_is_write number (Write other expr ∷ queries) registers store item w e =
-    let value = sum_in registers expr in
-    let after = slice_set store other.0 value in
-    write_here number expr queries other item value (last_kept item (deeds_from (number + 1) queries registers after)) w (other.0 == item.0) refl
-    (no_write (number + 1) queries registers after item) (last_is_write (number + 1) queries registers after item) e
+    (last_is_write (number + 1) queries (registers_with (Read other into) deed.value registers) deeds item w h.1 (omega (arith, all))
+    (sym (first_none (last_kept item deeds)) ∙ (ap (option_or (last_kept item deeds)) (sym (read_none number other item into registers deed h.0)) ∙ e)))
+last_is_write number (Write other expr ∷ queries) registers (deed ∷ deeds) item w h all e =
+    let rest = registers_with (Write other expr) deed.value registers in
+    write_here number expr queries other item deed.value (last_kept item deeds) w (other.0 == item.0) refl (no_write (number + 1) queries rest deeds item h.1 (omega (arith, all)))
+    (λ x f. last_is_write (number + 1) queries rest deeds item x h.1 (omega (arith, all)) f) (ap (option_or (last_kept item deeds)) (sym (wrote number other item expr registers deed h.0)) ∙ e)
 
 refused_here : (sc : Scenario) (at : ServerId) (value : ℤ) (later : List Query) (item : ItemId) (expr : List Term) (found : Option Query) → found ≡ Some (Write item expr)
     → list_any (is_write_of item) later ≡ false → option_map_or (is_outside_range at value) (slice_get sc.items item.0) false ≡ true
@@ -93,10 +103,10 @@ refused_here sc at value later item expr found is none outside =
     ∙ and_from (not (list_any (is_write_of item) later)) (option_map_or (is_outside_range at value) (slice_get sc.items item.0) false) (ap not none) outside
 
 -- the last write of an item, outside the item's range, is one that its server refuses
-pub last_is_refused : (sc : Scenario) (declared : Transaction) (store : List ℤ) (refused : OutOfRange) (item : ItemId) (write : TentativeWrite) → last_kept item (serial_run declared store) ≡ Some write
-    → write.query ≡ refused.query → option_map_or (is_outside_range refused.server refused.value) (slice_get sc.items item.0) false ≡ true → has_refused_write sc declared refused ≡ true
-last_is_refused sc declared store refused item write e same outside =
-    let last = last_is_write 1 declared.queries cleared_registers store item write e in
+pub last_is_refused : (sc : Scenario) (declared : Transaction) (deeds : List Deed) (refused : OutOfRange) (item : ItemId) (write : TentativeWrite) → RunsSoFar declared deeds → length deeds ≡ length declared.queries
+    → last_kept item deeds ≡ Some write → write.query ≡ refused.query → option_map_or (is_outside_range refused.server refused.value) (slice_get sc.items item.0) false ≡ true → has_refused_write sc declared refused ≡ true
+last_is_refused sc declared deeds refused item write runs all e same outside =
+    let last = last_is_write 1 declared.queries cleared_registers deeds item write runs all e in
     let number_is : suc last.before ≡ refused.query = omega (arith, last.number_is, same) in
     subst (λ (n : ℕ). option_map_or (is_refused_write sc refused.server refused.value (drop n declared.queries)) (query_at declared n) false ≡ true) number_is
     (refused_here sc refused.server refused.value (drop (suc last.before) declared.queries) item last.expr (slice_get declared.queries last.before) last.query_is last.unwritten outside)

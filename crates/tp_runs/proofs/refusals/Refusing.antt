@@ -1,5 +1,5 @@
--- A server refuses: the value is outside its item's range, and it is that of the transaction's run by itself on the store where it first aborted,
--- since the server holds its share of what the coordinator has done, and that is the run.
+-- A server refuses: the value is outside its item's range, and where no work of the transaction was lost it is that of the transaction's run by itself
+-- on the store where it first aborted, since the server holds its share of what the coordinator has done, and that is the run.
 use Rattle.std.specs.List.{list_any}
 use Rattle.std.specs.Option.{option_map_or, option_or}
 use Rattle.std.specs.Ordering.{int_eq}
@@ -10,17 +10,17 @@ use Rattle.std.proofs.lemmas.List.Folds.{list_any-append}
 use Rattle.std.proofs.lemmas.Option.{same_Some, slice_get-map}
 use Rattle.tp_types.proofs.ListLemmas.{number_itself}
 use Rattle.tp_model.specs.Built.{is_built}
-use Rattle.tp_model.specs.Causes.{first_abort_of, is_outside_range, place_of}
+use Rattle.tp_model.specs.Causes.{first_abort_of, is_explained_at, is_outside_range, is_run_value, lost_work, place_of}
 use Rattle.tp_model.specs.Facts.{before, is_settled_as}
 use Rattle.tp_model.specs.Ids.{same_item, same_server, same_txn}
 use Rattle.tp_model.specs.Limits.{is_between}
-use Rattle.tp_model.specs.SerialRun.{overlay, run_value, serial_run, store_of}
+use Rattle.tp_model.specs.SerialRun.{run_value, serial_run, store_of}
 use Rattle.tp_model.specs.Words.actor
 use Rattle.tp_model.specs.Words.body
 use Rattle.tp_model.specs.Words.no
 use Rattle.tp_model.specs.Words.outcome
 use Rattle.tp_model.specs.Words.what
-use Rattle.tp_model.specs.Words.{Actor, Deed, Fact, Item, ItemId, Mail, PrepareRequest, Scenario, ServerId, Transaction, TxnId, What}
+use Rattle.tp_model.specs.Words.{Actor, Deed, Fact, Item, ItemId, Mail, OutOfRange, PrepareRequest, Scenario, ServerId, Transaction, TxnId, What}
 use Rattle.tp_runs.proofs.agreement.World.{Agrees}
 use Rattle.tp_runs.proofs.basics.Facts.{before_past, facts_after, grows_with_facts, said}
 use Rattle.tp_types.proofs.EachLemmas.{each_get}
@@ -32,8 +32,8 @@ use Rattle.tp_runs.proofs.pairs.Moves.{matched}
 use Rattle.tp_runs.proofs.pairs.Outcomes.{got_part}
 use Rattle.tp_runs.proofs.pairs.Pair.{Prepares, entry_held, held_up}
 use Rattle.tp_runs.proofs.known.World.{Pairs}
-use Rattle.tp_runs.proofs.refusals.Running.{asker_fits, asker_is, run_now}
-use Rattle.tp_runs.proofs.refusals.World.{IsAwaiting, IsRunBefore, ReasonShown, Refusals, first_abort_append, keeps_same, run_stays}
+use Rattle.tp_runs.proofs.refusals.Running.{Remembers, asker_fits, asker_is, run_now}
+use Rattle.tp_runs.proofs.refusals.World.{IsAwaiting, IsRunBefore, ReasonShown, Refusals, first_abort_append, keeps_same, lost_same, run_stays}
 use Rattle.tp_runs.proofs.deeds.Commits.{IsItemAt}
 use Rattle.tp_runs.proofs.deeds.Joined.{share_at}
 use Rattle.tp_runs.proofs.deeds.Refused.{last_is_refused, last_is_run, last_kept_share}
@@ -165,27 +165,30 @@ outside_write sc s txn entry number value sound reads found e = least_of (first_
 pub record IsFirstAbort (sc : Scenario) (facts : List Fact) (place : ℕ) (txn : TxnId) (declared : Transaction) (c : Coordinator) : Type 0 where
   pub first : ℕ
   pub first_is : first_abort_of txn facts ≡ Some first
-  pub run : IsRunBefore sc facts place first declared c
+  pub run : IsRunBefore sc facts place first txn declared c
 
--- once a server aborts the transaction its coordinator has done the transaction's run by itself on the store: now, where it is the first abort
+-- once a server aborts the transaction, and no work of it was lost, its coordinator has done the transaction's run by itself on the store: now, where
+-- it is the first abort
 pub run_at_abort : (sc : Scenario) (w : State) (txn : TxnId) (happened : List What) (declared : Transaction) (awaiting : IsAwaiting w.actors.coordinators txn) → is_built sc ≡ true → Agrees sc w → Pairs sc w → Serial sc w
-    → Refusals sc w → slice_get sc.txns txn.0 ≡ Some declared → stand_of awaiting.c.phase ≡ Prepares → first_abort_of txn w.facts ≡ None
-    → IsRunBefore sc (facts_after w happened) (length w.steps + 1) (length w.steps) declared awaiting.c
-run_at_abort sc w txn happened declared awaiting built a pairs serial h there prepares none =
+    → Remembers sc w → slice_get sc.txns txn.0 ≡ Some declared → stand_of awaiting.c.phase ≡ Prepares → first_abort_of txn w.facts ≡ None
+    → IsRunBefore sc (facts_after w happened) (length w.steps + 1) (length w.steps) txn declared awaiting.c
+run_at_abort sc w txn happened declared awaiting built a pairs serial known there prepares none =
     let place = length w.steps in
     let all : before place (facts_after w happened) ≡ w.facts = (grows_with_facts w.facts place happened).same place (omega arith) ∙ before_past place w.facts a.past in
     record {
       prepares = prepares;
       past = omega arith;
-      runs = run_now sc w txn declared awaiting built a pairs serial h.unbooted (record { declared_is = there; prepares = prepares; none = none })
+      runs = λ kept.
+          run_now sc w txn declared awaiting built a pairs serial known
+          (record { declared_is = there; prepares = prepares; none = none; kept = sym (lost_same sc txn w.facts declared place place happened (omega arith)) ∙ kept })
           ∙ ap (λ (found : List Fact). serial_run declared (store_of sc found)) (sym all);
     }
 
 -- the first abort after a server aborts: one of before, or this one
-first_now : (sc : Scenario) (w : State) (at : ServerId) (txn : TxnId) (declared : Transaction) (awaiting : IsAwaiting w.actors.coordinators txn) → is_built sc ≡ true → Agrees sc w → Pairs sc w → Serial sc w → Refusals sc w
-    → slice_get sc.txns txn.0 ≡ Some declared → stand_of awaiting.c.phase ≡ Prepares
+first_now : (sc : Scenario) (w : State) (at : ServerId) (txn : TxnId) (declared : Transaction) (awaiting : IsAwaiting w.actors.coordinators txn) → is_built sc ≡ true → Agrees sc w → Pairs sc w → Serial sc w → Remembers sc w
+    → Refusals sc w → slice_get sc.txns txn.0 ≡ Some declared → stand_of awaiting.c.phase ≡ Prepares
     → IsFirstAbort sc (facts_after w (what.Settled at txn outcome.Abort ∷ [])) (length w.steps + 1) txn declared awaiting.c
-first_now sc w at txn declared awaiting built a pairs serial h there prepares = by_old (first_abort_of txn w.facts) refl
+first_now sc w at txn declared awaiting built a pairs serial known h there prepares = by_old (first_abort_of txn w.facts) refl
   where
     by_old : (old : Option ℕ) → first_abort_of txn w.facts ≡ old → IsFirstAbort sc (facts_after w (what.Settled at txn outcome.Abort ∷ [])) (length w.steps + 1) txn declared awaiting.c
     by_old (Some first) found =
@@ -193,7 +196,7 @@ first_now sc w at txn declared awaiting built a pairs serial h there prepares = 
         record {
           first = first;
           first_is = first_abort_append txn w.facts (facts_of (length w.steps) happened) ∙ ap (λ (old : Option ℕ). option_or old (first_abort_of txn (facts_of (length w.steps) happened))) found;
-          run = run_stays sc w.facts happened (length w.steps) first declared awaiting.c awaiting.c (keeps_same awaiting.c) (h.aborted txn declared first awaiting there found);
+          run = run_stays sc w.facts happened (length w.steps) first txn declared awaiting.c awaiting.c (keeps_same awaiting.c) (h.aborted txn declared first awaiting there found);
         }
     by_old None none =
         let happened = what.Settled at txn outcome.Abort ∷ [] in
@@ -203,38 +206,49 @@ first_now sc w at txn declared awaiting built a pairs serial h there prepares = 
           first = length w.steps;
           first_is = first_abort_append txn w.facts (facts_of (length w.steps) happened)
               ∙ (ap (λ (old : Option ℕ). option_or old (first_abort_of txn (facts_of (length w.steps) happened))) none ∙ new);
-          run = run_at_abort sc w txn happened declared awaiting built a pairs serial h there prepares none;
+          run = run_at_abort sc w txn happened declared awaiting built a pairs serial known there prepares none;
         }
 
 -- ---- it is shown
 
+-- where no work was lost the value is that of the run
+value_explained : (sc : Scenario) (txn : TxnId) (facts : List Fact) (refused : OutOfRange) (declared : Transaction) (first : ℕ) → (lost_work sc txn facts declared first ≡ false → is_run_value sc facts refused declared first ≡ true)
+    → is_explained_at sc txn facts refused declared first ≡ true
+value_explained sc txn facts refused declared first run = by_lost (lost_work sc txn facts declared first) refl
+  where
+    by_lost : (lost : Bool) → lost_work sc txn facts declared first ≡ lost → is_explained_at sc txn facts refused declared first ≡ true
+    by_lost true e = or_left (lost_work sc txn facts declared first) (is_run_value sc facts refused declared first) e
+    by_lost false e = or_right (lost_work sc txn facts declared first) (is_run_value sc facts refused declared first) (run e)
+
 pub refusal_shown : (sc : Scenario) (w : State) (n : ℕ) (mail : Mail) (at : ServerId) (part : Part Server) (s : Server) (p : PrepareRequest) (entry : Entry) (number : ℕ) (value : ℤ) → is_built sc ≡ true → IsSound sc w → Agrees sc w → Pairs sc w
-    → Serial sc w → Refusals sc w → WasSent w n mail (actor.Server at) → IsServerUp w at part s → IsRefusal s mail p entry number value → IsAwaiting w.actors.coordinators p.txn
+    → Serial sc w → Remembers sc w → Refusals sc w → WasSent w n mail (actor.Server at) → IsServerUp w at part s → IsRefusal s mail p entry number value → IsAwaiting w.actors.coordinators p.txn
     → ReasonShown sc (facts_after w (what.Settled at p.txn outcome.Abort ∷ [])) (length w.steps + 1) at p.txn (no.Range number value)
-refusal_shown sc w n mail at part s p entry number value built sound a pairs serial h sent up k awaiting = λ declared there.
+refusal_shown sc w n mail at part s p entry number value built sound a pairs serial known h sent up k awaiting = λ declared there.
     let txn = p.txn in
     let place = length w.steps in
     let happened = what.Settled at txn outcome.Abort ∷ [] in
     let part_sound = sound.actors_are.servers at.0 part up.found in
     let server_sound : IsSoundServerUp sc at s = subst (λ (u : Option Server). IfSome u (IsSoundServerUp sc at)) up.up part_sound.state in
     let share : entry.deeds ≡ share_at sc at.0 awaiting.c.deeds = asked_share sc w n mail at part s p entry declared awaiting pairs sent up k.said_is there k.found (eqb-true entry.epoch p.epoch k.same_epoch) in
-    let found : IsFirstAbort sc (facts_after w happened) (place + 1) txn declared awaiting.c =
-    first_now sc w at txn declared awaiting built a pairs serial h there (asked_prepares sc w n mail at p declared awaiting pairs sent k.said_is there) in
+    let prepares = asked_prepares sc w n mail at p declared awaiting pairs sent k.said_is there in
+    let found : IsFirstAbort sc (facts_after w happened) (place + 1) txn declared awaiting.c = first_now sc w at txn declared awaiting built a pairs serial known h there prepares in
     let store = store_of sc (before found.first (facts_after w happened)) in
-    let runs : awaiting.c.deeds ≡ serial_run declared store = found.run.runs in
     let here : UpOnLog sc s part.log = up_on_log sc w at part s serial up.found up.up in
     let out : IsOutsideWrite sc at entry.deeds number value = subst (λ (server : ServerId). IsOutsideWrite sc server entry.deeds number value) server_sound.server_is (outside_write sc s txn entry number value server_sound.sound here.reads k.found k.outside) in
     let own : IsItemAt sc at.0 out.write.item.0 = record { declared = out.item.declared; declared_is = out.item.declared_is; at_is = ap (λ (server : ServerId). server.0) out.item.server_is } in
-    let last : last_kept out.write.item (serial_run declared store) ≡ Some out.write =
-    ap (last_kept out.write.item) (sym runs) ∙ (sym (last_kept_share sc at.0 out.write.item awaiting.c.deeds own) ∙ (ap (last_kept out.write.item) (sym share) ∙ out.last)) in
-    let value_then : run_value declared store number ≡ Some value =
-    ap (run_value declared store) (sym out.query_is) ∙ (last_is_run declared store out.write.item out.write last ∙ ap (λ (v : ℤ). Some v) out.value_is) in
+    let last : last_kept out.write.item awaiting.c.deeds ≡ Some out.write = sym (last_kept_share sc at.0 out.write.item awaiting.c.deeds own) ∙ (ap (last_kept out.write.item) (sym share) ∙ out.last) in
+    let fits : AskerFits (site_of sc at.0 declared) (pair_at w.actors txn at.0) (asker_of at.0 awaiting.c) = asker_fits sc w txn at.0 declared awaiting pairs there in
     record {
-      write = last_is_refused sc declared store (refused_by at number value) out.write.item out.write last out.query_is out.outside;
+      write = last_is_refused sc declared awaiting.c.deeds (refused_by at number value) out.write.item out.write fits.runs (fits.all prepares) last out.query_is out.outside;
       aborted = list_any-append (is_settled_as at txn outcome.Abort) w.facts (facts_of place happened)
           ∙ or_right _ _ (or_left _ false (and_from _ _ (and_from (same_server at at) (same_txn txn txn) (number_itself at.0) (number_itself txn.0)) refl));
       first = found.first;
       first_is = found.first_is;
       past = found.run.past;
-      run = ap (λ (v : Option ℤ). option_map_or (int_eq value) v false) value_then ∙ (Decides-int_eq value value).1 refl;
+      run = value_explained sc txn (facts_after w happened) (refused_by at number value) declared found.first
+          (λ kept.
+          let run_last : last_kept out.write.item (serial_run declared store) ≡ Some out.write = ap (last_kept out.write.item) (sym (found.run.runs kept)) ∙ last in
+          let value_then : run_value declared store number ≡ Some value =
+          ap (run_value declared store) (sym out.query_is) ∙ (last_is_run declared store out.write.item out.write run_last ∙ ap (λ (v : ℤ). Some v) out.value_is) in
+          ap (λ (v : Option ℤ). option_map_or (int_eq value) v false) value_then ∙ (Decides-int_eq value value).1 refl);
     }

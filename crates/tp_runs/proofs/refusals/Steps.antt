@@ -1,12 +1,12 @@
 -- Refusals over every list of steps: a vote NO is shown where the server settles, a coordinator that brings the servers to vote does nothing
 -- more until it decides, and it aborts for what is shown.
 use Rattle.std.specs.List.{list_any}
-use Rattle.std.proofs.Common.{Bool, IfSome, List, None, Option, Some, [], ap, arith, false, if◌then◌else◌, length, option_and_then, option_map, refl, slice_get, slice_set, subst, sym, true, ℕ, ℤ, ◌++◌, ◌+◌, ◌==◌, ◌∙◌, ◌∷◌, ◌≡◌}
+use Rattle.std.proofs.Common.{Bool, IfSome, List, None, Option, Some, [], ap, arith, false, find, if◌then◌else◌, length, option_and_then, option_map, refl, slice_get, slice_set, subst, sym, true, ℕ, ℤ, ◌++◌, ◌+◌, ◌==◌, ◌∙◌, ◌∷◌, ◌≡◌}
 use Rattle.std.proofs.lemmas.Bool.{and_parts, eqb-true}
 use Rattle.std.proofs.lemmas.Option.{cond_some, none-some, same_Some}
 use Rattle.tp_types.specs.Effect.{Effect}
 use Rattle.tp_model.specs.Built.{is_built}
-use Rattle.tp_model.specs.Causes.{first_abort_of, is_abort_what, place_of}
+use Rattle.tp_model.specs.Causes.{first_abort_of, is_abort, is_abort_what, place_of}
 use Rattle.std.specs.Option.{option_or}
 use Rattle.tp_model.specs.Facts.{before, is_settled_as, outcome_of, same_outcome}
 use Rattle.tp_model.specs.Ids.{same_txn}
@@ -20,7 +20,7 @@ use Rattle.tp_model.specs.Words.outcome
 use Rattle.tp_model.specs.Words.step
 use Rattle.tp_model.specs.Words.vote
 use Rattle.tp_model.specs.Words.what
-use Rattle.tp_model.specs.Words.{Actor, Body, DecideRequest, Letter, Mail, Record, Scenario, ServerId, Settled, Step, Transaction, TxnId, VoteReply, What}
+use Rattle.tp_model.specs.Words.{Actor, Body, DecideRequest, Fact, Letter, Mail, Record, Scenario, ServerId, Settled, Step, Transaction, TxnId, VoteReply, What}
 use Rattle.tp_runs.proofs.agreement.Coordinator.{idle_is}
 use Rattle.tp_runs.proofs.agreement.CoordinatorActs.{coordinator_facts}
 use Rattle.tp_runs.proofs.agreement.ServerActs.{each_server_fact, server_facts}
@@ -28,23 +28,23 @@ use Rattle.tp_runs.proofs.agreement.Steps.{mail_rests, own_txn}
 use Rattle.tp_runs.proofs.agreement.World.{Agrees, BodyRests, MailRests, VoteRests}
 use Rattle.tp_runs.proofs.basics.Facts.{ArePast, before_past, facts_after, grows_with_facts}
 use Rattle.tp_runs.proofs.basics.Ids.{same_txn_from, same_txn_is, server_number}
-use Rattle.tp_types.proofs.EachLemmas.{at_made, each_get}
+use Rattle.tp_types.proofs.EachLemmas.{at_made, each_append, each_as, each_get}
 use Rattle.tp_runs.proofs.basics.Logs.{appended, gained, get_set, settled_with}
 use Rattle.tp_runs.proofs.basics.Phases.{awaits_is, is_undecided}
 use Rattle.tp_runs.proofs.pairs.Actors.{stand_of}
 use Rattle.tp_runs.proofs.pairs.Pair.{Asks, Prepares, Rests}
 use Rattle.tp_runs.proofs.known.World.{Pairs}
 use Rattle.tp_runs.proofs.refusals.Refusing.{asked_prepares, refusal_shown, run_at_abort}
-use Rattle.tp_runs.proofs.refusals.Running.{undecided_yet}
-use Rattle.tp_runs.proofs.refusals.Unbooted.{Unbooted, unbooted_next, unbooted_opening}
+use Rattle.tp_runs.proofs.refusals.Running.{Remembers, undecided_yet}
 use Rattle.tp_runs.proofs.refusals.World.{AreAbortedRuns, IsAwaiting, IsRunBefore, KeepsDeeds, MoveRefuses, ReasonShown, Refusals, WhatRefused, keeps_same, old_run, old_shown, refused_stays, state_after_refusals}
+use Rattle.tp_runs.proofs.serial_data.Settling.{IsQuiet}
 use Rattle.tp_runs.proofs.serial_data.World.{Serial}
 use Rattle.tp_coord.proofs.Rows.{coordinator_by}
 use Rattle.tp_server.proofs.Rows.{server_by}
 use Rattle.tp_runs.proofs.walks.Steps.{Cases, IsCoordinatorUp, IsServerUp, SaysIdle, WasSent, WaitRightly, machine_after_by}
 use Rattle.tp_recover.specs.Log.{settled_in, settlement_in}
 use Rattle.tp_machine.specs.Logs.{decided_at, decided_by, settled_at, settled_by}
-use Rattle.tp_machine.specs.Machine.{Machine, State, acts_by, coordinator_fact, coordinator_move, facts_of, idle_move, log_with, machine_after, opened_part, opening_state, refusal, server_fact, server_move, with_age}
+use Rattle.tp_machine.specs.Machine.{Machine, State, acts, coordinator_fact, coordinator_move, facts_of, idle_move, log_with, machine_after, opened_part, opening_state, refusal, server_fact, server_move, with_age}
 use Rattle.tp_machine.specs.Parts.{Part}
 use Rattle.tp_types.specs.Each.{Each}
 use Rattle.tp_runs.specs.Sound.{IsSound, IsSoundBody, IsSoundMail}
@@ -66,25 +66,47 @@ record LeavesOpen (old new : Coordinator) : Type 0 where
   undecided : is_undecided old.phase ≡ true
   keeps : KeepsDeeds old new
 
+-- so it was up before the act
+record WasOpen (was : Option Coordinator) (new : Coordinator) : Type 0 where
+  old : Coordinator
+  up : was ≡ Some old
+  leaves : LeavesOpen old new
+
+-- what an act leaves awaited was awaited before it
+abbrev OpensNone : Option Coordinator → Option Coordinator → Type 0
+OpensNone was now = (next : Coordinator) → now ≡ Some next → is_undecided next.phase ≡ true → WasOpen was next
+
 -- the coordinator was awaited before an act, too
 record WasAwaited (coordinators : List (Part Coordinator)) (txn : TxnId) (new : Coordinator) : Type 0 where
   before : IsAwaiting coordinators txn
   keeps : KeepsDeeds before.c new
 
 -- a coordinator that has not decided after an act of some coordinator had not before it
-awaited_before : (coordinators : List (Part Coordinator)) (txn other : TxnId) (part now : Part Coordinator) (c : Coordinator) → slice_get coordinators txn.0 ≡ Some part → part.up ≡ Some c
-    → ((next : Coordinator) → now.up ≡ Some next → is_undecided next.phase ≡ true → LeavesOpen c next) → (h : IsAwaiting (slice_set coordinators txn.0 now) other) → WasAwaited coordinators other h.c
-awaited_before coordinators txn other part now c found up opened h = by_txn (txn.0 == other.0) refl (sym (get_set coordinators txn.0 other.0 part now found) ∙ h.found)
+awaited_before : (coordinators : List (Part Coordinator)) (txn other : TxnId) (part now : Part Coordinator) → slice_get coordinators txn.0 ≡ Some part → OpensNone part.up now.up
+    → (h : IsAwaiting (slice_set coordinators txn.0 now) other) → WasAwaited coordinators other h.c
+awaited_before coordinators txn other part now found opened h = by_txn (txn.0 == other.0) refl (sym (get_set coordinators txn.0 other.0 part now found) ∙ h.found)
   where
     by_txn : (b : Bool) → (txn.0 == other.0) ≡ b → (if b then Some now else slice_get coordinators other.0) ≡ Some h.part → WasAwaited coordinators other h.c
     by_txn true same e =
         let is : now ≡ h.part = same_Some now h.part e in
-        let left : LeavesOpen c h.c = opened h.c (ap (λ (p : Part Coordinator). p.up) is ∙ h.up) h.undecided in
+        let was : WasOpen part.up h.c = opened h.c (ap (λ (p : Part Coordinator). p.up) is ∙ h.up) h.undecided in
         record {
-          before = record { part = part; c = c; found = subst (λ (n : ℕ). slice_get coordinators n ≡ Some part) (eqb-true txn.0 other.0 same) found; up = up; undecided = left.undecided };
-          keeps = left.keeps;
+          before = record {
+            part = part;
+            c = was.old;
+            found = subst (λ (n : ℕ). slice_get coordinators n ≡ Some part) (eqb-true txn.0 other.0 same) found;
+            up = was.up;
+            undecided = was.leaves.undecided;
+          };
+          keeps = was.leaves.keeps;
         }
     by_txn false apart e = record { before = record { part = h.part; c = h.c; found = e; up = h.up; undecided = h.undecided }; keeps = keeps_same h.c }
+
+-- a row of a coordinator that is up
+row_opens : (was : Option Coordinator) (c new : Coordinator) → was ≡ Some c → (is_undecided new.phase ≡ true → LeavesOpen c new) → OpensNone was (Some new)
+row_opens was c new up leaves = λ next is undecided.
+    let same : new ≡ next = same_Some new next is in
+    record { old = c; up = up; leaves = subst (λ (s : Coordinator). is_undecided s.phase ≡ true → LeavesOpen c s) same leaves undecided }
 
 -- a coordinator in a phase that is not one of bringing servers to vote
 other_phase : (old new : Coordinator) → is_undecided old.phase ≡ true → (stand_of old.phase ≡ Prepares → ⊥) → LeavesOpen old new
@@ -118,13 +140,13 @@ abbrev DecisionShown : Scenario → State → List What → Record → Type 0
 DecisionShown sc w happened (log.Decided d) = WhatRefused sc (facts_after w happened) (length w.steps) (what.Decided d.txn d.decision)
 DecisionShown sc w happened _ = Unit {0}
 
-told_shown : (sc : Scenario) (w : State) (append : Option Record) → IfSome append (DecisionShown sc w (coordinator_facts append)) → Each (WhatRefused sc (facts_after w (coordinator_facts append)) (length w.steps)) (coordinator_facts append)
-told_shown sc w None h = tt
-told_shown sc w (Some (log.Decided d)) h = (h, tt)
-told_shown sc w (Some log.Boot) h = tt
-told_shown sc w (Some (log.Told told)) h = tt
-told_shown sc w (Some (log.Prepared p)) h = tt
-told_shown sc w (Some (log.Settled s)) h = tt
+told_shown : (sc : Scenario) (w : State) (happened : List What) (append : Option Record) → IfSome append (DecisionShown sc w happened) → Each (WhatRefused sc (facts_after w happened) (length w.steps)) (coordinator_facts append)
+told_shown sc w happened None h = tt
+told_shown sc w happened (Some (log.Decided d)) h = (h, tt)
+told_shown sc w happened (Some log.Boot) h = tt
+told_shown sc w happened (Some (log.Told told)) h = tt
+told_shown sc w happened (Some (log.Prepared p)) h = tt
+told_shown sc w happened (Some (log.Settled s)) h = tt
 
 -- where what was settled is shown, so is the abort for it
 abort_shown : (sc : Scenario) (w : State) (happened : List What) (txn : TxnId) (server : ServerId) (number : ℕ) (value : ℤ) → ArePast (length w.steps) w.facts
@@ -177,29 +199,51 @@ coordinator_row_shown sc w txn part c n mail sound a h sent up =
         let said : IsSoundBody sc (actor.Coordinator txn) (body.Vote reply) = subst (IsSoundBody sc (actor.Coordinator txn)) e says in
         same_txn_from txn reply.txn said.goes_to
 
+-- ---- what a step says by itself
+
+-- it aborts nothing at a server, and decides nothing
+abbrev IsQuietOwn : List What → Type 0
+IsQuietOwn own = Each IsQuiet own
+
+quiet_is_no_abort : (txn : TxnId) (w : What) → IsQuiet w → is_abort_what txn w ≡ false
+quiet_is_no_abort txn (what.Settled at other ended) h = absurd h
+quiet_is_no_abort txn _ h = refl
+
+-- the first abort is among what is said besides
+quiet_abort : (txn : TxnId) (place : ℕ) (own more : List What) → IsQuietOwn own → first_abort_of txn (facts_of place (own ++ more)) ≡ first_abort_of txn (facts_of place more)
+quiet_abort txn place [] more h = refl
+quiet_abort txn place (w ∷ own) more h =
+    ap (λ (b : Bool). option_map place_of (if b then Some (record { place = place; what = w }) else find (is_abort txn) (facts_of place (own ++ more)))) (quiet_is_no_abort txn w h.0) ∙ quiet_abort txn place own more h.1
+
+quiet_shown : (sc : Scenario) (facts : List Fact) (place : ℕ) (w : What) → IsQuiet w → WhatRefused sc facts place w
+quiet_shown sc facts place (what.Decided txn decided) h = absurd h
+quiet_shown sc facts place _ h = tt
+
+-- ---- a coordinator acts
+
 -- what a coordinator forces tells of no abort at a server
 none_told : (txn : TxnId) (place : ℕ) (append : Option Record) → first_abort_of txn (facts_of place (coordinator_facts append)) ≡ None
 none_told txn place None = refl
 none_told txn place (Some (log.Decided d)) = refl
 none_told txn place (Some _) = refl
 
-coordinator_moves_in_steps : (sc : Scenario) (w : State) (txn : TxnId) (part : Part Coordinator) (c : Coordinator) (effect : Effect Coordinator) (own : List What) → Refusals sc w → IsCoordinatorUp w txn part c
-    → (is_undecided effect.state.phase ≡ true → LeavesOpen c effect.state) → ((other : TxnId) → first_abort_of other (facts_of (length w.steps) (own ++ coordinator_facts effect.reaction.append)) ≡ None)
-    → Each (WhatRefused sc (facts_after w (own ++ coordinator_facts effect.reaction.append)) (length w.steps)) (own ++ coordinator_facts effect.reaction.append)
-    → MoveRefuses sc w (coordinator_move w.actors txn (acts_by coordinator_fact own part.log effect))
-coordinator_moves_in_steps sc w txn part c effect own h up opens none told =
-    let next : Part Coordinator = record { up = Some effect.state; log = log_with part.log effect.reaction.append } in
+-- a coordinator that was up or down, and is up or down after it
+coordinator_moves_in_steps : (sc : Scenario) (w : State) (txn : TxnId) (part : Part Coordinator) (now : Option Coordinator) (own : List What) (append : Option Record) (letters : List Letter) → Refusals sc w
+    → slice_get w.actors.coordinators txn.0 ≡ Some part → OpensNone part.up now → IsQuietOwn own → IfSome append (DecisionShown sc w (own ++ coordinator_facts append))
+    → MoveRefuses sc w (coordinator_move w.actors txn (acts coordinator_fact own part.log now (log_with part.log append) letters))
+coordinator_moves_in_steps sc w txn part now own append letters h found opens quiet shown =
+    let next : Part Coordinator = record { up = now; log = log_with part.log append } in
     let actors : Actors = record w.actors { coordinators = slice_set w.actors.coordinators txn.0 next } in
-    let opened : (now : Coordinator) → next.up ≡ Some now → is_undecided now.phase ≡ true → LeavesOpen c now = λ now is.
-    subst (λ (s : Coordinator). is_undecided s.phase ≡ true → LeavesOpen c s) (same_Some effect.state now is) opens in
-    subst (λ (facts : List What). MoveRefuses sc w (record { actors = actors; happened = own ++ facts; letters = effect.reaction.letters })) (sym (gained coordinator_fact part.log effect.reaction.append))
+    let happened = own ++ coordinator_facts append in
+    subst (λ (facts : List What). MoveRefuses sc w (record { actors = actors; happened = own ++ facts; letters = letters })) (sym (gained coordinator_fact part.log append))
     (record {
-      settled = λ at other settled e awaiting. old_shown sc w (own ++ coordinator_facts effect.reaction.append) at other settled h e
-          (awaited_before w.actors.coordinators txn other part next c up.found up.up opened awaiting).before;
+      settled = λ at other settled e awaiting. old_shown sc w happened at other settled h e (awaited_before w.actors.coordinators txn other part next found opens awaiting).before;
       aborted = λ other declared first awaiting exists e.
-          let was : WasAwaited w.actors.coordinators other awaiting.c = awaited_before w.actors.coordinators txn other part next c up.found up.up opened awaiting in
-          old_run sc w (own ++ coordinator_facts effect.reaction.append) other declared first was.before awaiting.c h exists was.keeps (λ none_before now. let not_now = none other in absurd (cc)) e;
-      happened = told;
+          let was : WasAwaited w.actors.coordinators other awaiting.c = awaited_before w.actors.coordinators txn other part next found opens awaiting in
+          old_run sc w happened other declared first was.before awaiting.c h exists was.keeps
+          (λ none_before later. let not_now = quiet_abort other (length w.steps) own (coordinator_facts append) quiet ∙ none_told other (length w.steps) append in absurd (cc)) e;
+      happened = each_append (WhatRefused sc (facts_after w happened) (length w.steps)) own (coordinator_facts append)
+          (each_as IsQuiet (WhatRefused sc (facts_after w happened) (length w.steps)) (quiet_shown sc (facts_after w happened) (length w.steps)) own quiet) (told_shown sc w happened append shown);
     })
 
 -- ---- a server settles
@@ -213,9 +257,9 @@ abbrev SettlementShown : Scenario → State → ServerId → List What → Recor
 SettlementShown sc w at happened (log.Settled s) = (awaiting : IsAwaiting w.actors.coordinators s.txn) → IsSettlementShown sc w at happened s awaiting
 SettlementShown sc w at happened _ = Unit {0}
 
-server_row_shown : (sc : Scenario) (w : State) (n : ℕ) (mail : Mail) (at : ServerId) (part : Part Server) (s : Server) → is_built sc ≡ true → WaitRightly sc w → IsSound sc w → Agrees sc w → Pairs sc w → Serial sc w → Refusals sc w
-    → WasSent w n mail (actor.Server at) → IsServerUp w at part s → IfSome (server_row sc s mail).reaction.append (SettlementShown sc w at (server_facts at (server_row sc s mail).reaction.append))
-server_row_shown sc w n mail at part s built rightly sound a pairs serial h sent up =
+server_row_shown : (sc : Scenario) (w : State) (n : ℕ) (mail : Mail) (at : ServerId) (part : Part Server) (s : Server) → is_built sc ≡ true → WaitRightly sc w → IsSound sc w → Agrees sc w → Pairs sc w → Serial sc w → Remembers sc w
+    → Refusals sc w → WasSent w n mail (actor.Server at) → IsServerUp w at part s → IfSome (server_row sc s mail).reaction.append (SettlementShown sc w at (server_facts at (server_row sc s mail).reaction.append))
+server_row_shown sc w n mail at part s built rightly sound a pairs serial known h sent up =
     server_by sc s mail (λ (effect : Effect Server). IfSome effect.reaction.append (SettlementShown sc w at (server_facts at effect.reaction.append))) (rightly at part s up)
     (record {
       relocked = λ effect locks k. k;
@@ -230,7 +274,7 @@ server_row_shown sc w n mail at part s built rightly sound a pairs serial h sent
       refused = λ p entry number value k awaiting.
           record {
             prepares = λ declared there. asked_prepares sc w n mail at p declared awaiting pairs sent k.said_is there;
-            why = refusal_shown sc w n mail at part s p entry number value built sound a pairs serial h sent up k awaiting;
+            why = refusal_shown sc w n mail at part s p entry number value built sound a pairs serial known h sent up k awaiting;
           };
       refused_again = λ p settled why k. tt;
       settled = λ d k awaiting. record { prepares = λ declared there. absurd (not_ordered d k.said_is awaiting); why = tt };
@@ -249,26 +293,26 @@ server_row_shown sc w n mail at part s built rightly sound a pairs serial h sent
         cc
 
 -- the first abort of a transaction is this server's
-new_run : (sc : Scenario) (w : State) (at : ServerId) (append : Option Record) (txn : TxnId) (declared : Transaction) (first : ℕ) (awaiting : IsAwaiting w.actors.coordinators txn) → is_built sc ≡ true → Agrees sc w → Pairs sc w → Serial sc w
-    → Refusals sc w → IfSome append (SettlementShown sc w at (server_facts at append)) → slice_get sc.txns txn.0 ≡ Some declared → first_abort_of txn w.facts ≡ None
-    → first_abort_of txn (facts_of (length w.steps) (server_facts at append)) ≡ Some first → IsRunBefore sc (facts_after w (server_facts at append)) (length w.steps + 1) first declared awaiting.c
-new_run sc w at (Some (log.Settled s)) txn declared first awaiting built a pairs serial h shown exists none now = by_test (is_abort_what txn (what.Settled at s.txn s.outcome)) refl now
+new_run : (sc : Scenario) (w : State) (at : ServerId) (happened : List What) (append : Option Record) (txn : TxnId) (declared : Transaction) (first : ℕ) (awaiting : IsAwaiting w.actors.coordinators txn) → is_built sc ≡ true → Agrees sc w
+    → Pairs sc w → Serial sc w → Remembers sc w → IfSome append (SettlementShown sc w at happened) → slice_get sc.txns txn.0 ≡ Some declared → first_abort_of txn w.facts ≡ None
+    → first_abort_of txn (facts_of (length w.steps) (server_facts at append)) ≡ Some first → IsRunBefore sc (facts_after w happened) (length w.steps + 1) first txn declared awaiting.c
+new_run sc w at happened (Some (log.Settled s)) txn declared first awaiting built a pairs serial known shown exists none now = by_test (is_abort_what txn (what.Settled at s.txn s.outcome)) refl now
   where
     by_test : (b : Bool) → is_abort_what txn (what.Settled at s.txn s.outcome) ≡ b → option_map place_of (if b then Some (record { place = length w.steps; what = what.Settled at s.txn s.outcome }) else None) ≡ Some first
-        → IsRunBefore sc (facts_after w (what.Settled at s.txn s.outcome ∷ [])) (length w.steps + 1) first declared awaiting.c
+        → IsRunBefore sc (facts_after w happened) (length w.steps + 1) first txn declared awaiting.c
     by_test true is e =
         let own : s.txn ≡ txn = same_txn_is s.txn txn (and_parts (same_txn s.txn txn) (same_outcome s.outcome outcome.Abort) is).0 in
         let prepares : stand_of awaiting.c.phase ≡ Prepares =
         subst (λ (t : TxnId). (awaited : IsAwaiting w.actors.coordinators t) → slice_get sc.txns t.0 ≡ Some declared → stand_of awaited.c.phase ≡ Prepares) own
         (λ awaited there. (shown awaited).prepares declared there) awaiting exists in
-        subst (λ (k : ℕ). IsRunBefore sc (facts_after w (what.Settled at s.txn s.outcome ∷ [])) (length w.steps + 1) k declared awaiting.c) (same_Some (length w.steps) first e)
-        (run_at_abort sc w txn (what.Settled at s.txn s.outcome ∷ []) declared awaiting built a pairs serial h exists prepares none)
+        subst (λ (k : ℕ). IsRunBefore sc (facts_after w happened) (length w.steps + 1) k txn declared awaiting.c) (same_Some (length w.steps) first e)
+        (run_at_abort sc w txn happened declared awaiting built a pairs serial known exists prepares none)
     by_test false is e = absurd (cc)
-new_run sc w at None txn declared first awaiting built a pairs serial h shown exists none now = absurd (cc)
-new_run sc w at (Some (log.Decided d)) txn declared first awaiting built a pairs serial h shown exists none now = absurd (cc)
-new_run sc w at (Some log.Boot) txn declared first awaiting built a pairs serial h shown exists none now = absurd (cc)
-new_run sc w at (Some (log.Told told)) txn declared first awaiting built a pairs serial h shown exists none now = absurd (cc)
-new_run sc w at (Some (log.Prepared p)) txn declared first awaiting built a pairs serial h shown exists none now = absurd (cc)
+new_run sc w at happened None txn declared first awaiting built a pairs serial known shown exists none now = absurd (cc)
+new_run sc w at happened (Some (log.Decided d)) txn declared first awaiting built a pairs serial known shown exists none now = absurd (cc)
+new_run sc w at happened (Some log.Boot) txn declared first awaiting built a pairs serial known shown exists none now = absurd (cc)
+new_run sc w at happened (Some (log.Told told)) txn declared first awaiting built a pairs serial known shown exists none now = absurd (cc)
+new_run sc w at happened (Some (log.Prepared p)) txn declared first awaiting built a pairs serial known shown exists none now = absurd (cc)
 
 -- what is settled after the act was settled before it, or by it
 newly_settled : (sc : Scenario) (w : State) (at : ServerId) (txn : TxnId) (kept : List Record) (append : Option Record) (settled : Settled) (R : Type 0) → option_or (settled_in txn kept) (appended (settlement_in txn) append) ≡ Some settled
@@ -292,39 +336,43 @@ newly_settled sc w at txn kept append settled R e old new = by_old (settled_in t
 shown_of : (sc : Scenario) (w : State) (at : ServerId) (told : List What) (append : Option Record) (order : Settled) → append ≡ Some (log.Settled order) → IfSome append (SettlementShown sc w at told) → SettlementShown sc w at told (log.Settled order)
 shown_of sc w at told append order e k = subst (λ (x : Option Record). IfSome x (SettlementShown sc w at told)) e k
 
-server_moves_in_steps : (sc : Scenario) (w : State) (at : ServerId) (part : Part Server) (s : Server) (effect : Effect Server) → is_built sc ≡ true → Agrees sc w → Pairs sc w → Serial sc w → Refusals sc w → IsServerUp w at part s
-    → IfSome effect.reaction.append (SettlementShown sc w at (server_facts at effect.reaction.append)) → MoveRefuses sc w (server_move w.actors at (acts_by (server_fact at) [] part.log effect))
-server_moves_in_steps sc w at part s effect built a pairs serial h up shown =
-    let append = effect.reaction.append in
-    let next : Part Server = record { up = Some effect.state; log = log_with part.log append } in
+-- a server that was up or down, and is up or down after it
+server_moves_in_steps : (sc : Scenario) (w : State) (at : ServerId) (part : Part Server) (now : Option Server) (own : List What) (append : Option Record) (letters : List Letter) → is_built sc ≡ true → Agrees sc w → Pairs sc w → Serial sc w
+    → Remembers sc w → Refusals sc w → slice_get w.actors.servers at.0 ≡ Some part → IsQuietOwn own → IfSome append (SettlementShown sc w at (own ++ server_facts at append))
+    → MoveRefuses sc w (server_move w.actors at (acts (server_fact at) own part.log now (log_with part.log append) letters))
+server_moves_in_steps sc w at part now own append letters built a pairs serial known h found quiet shown =
+    let next : Part Server = record { up = now; log = log_with part.log append } in
     let actors : Actors = record w.actors { servers = slice_set w.actors.servers at.0 next } in
-    let facts = server_facts at append in
-    subst (λ (told : List What). MoveRefuses sc w (record { actors = actors; happened = told; letters = effect.reaction.letters })) (sym (gained (server_fact at) part.log append))
+    let happened = own ++ server_facts at append in
+    subst (λ (told : List What). MoveRefuses sc w (record { actors = actors; happened = own ++ told; letters = letters })) (sym (gained (server_fact at) part.log append))
     (record {
       settled = λ other txn settled e awaiting.
-          by_server other txn settled awaiting (at.0 == other.0) refl (sym (ap (option_and_then (settled_by txn)) (get_set w.actors.servers at.0 other.0 part next up.found)) ∙ e);
+          by_server other txn settled awaiting (at.0 == other.0) refl (sym (ap (option_and_then (settled_by txn)) (get_set w.actors.servers at.0 other.0 part next found)) ∙ e);
       aborted = λ txn declared first awaiting exists e.
-          old_run sc w facts txn declared first awaiting awaiting.c h exists (keeps_same awaiting.c)
-          (λ none now. new_run sc w at append txn declared first awaiting built a pairs serial h shown exists none now) e;
-      happened = each_server_fact (WhatRefused sc (facts_after w facts) (length w.steps)) at (λ txn ended. tt) append;
+          old_run sc w happened txn declared first awaiting awaiting.c h exists (keeps_same awaiting.c)
+          (λ none later. new_run sc w at happened append txn declared first awaiting built a pairs serial known shown exists none (sym (quiet_abort txn (length w.steps) own (server_facts at append) quiet) ∙ later)) e;
+      happened = each_append (WhatRefused sc (facts_after w happened) (length w.steps)) own (server_facts at append)
+          (each_as IsQuiet (WhatRefused sc (facts_after w happened) (length w.steps)) (quiet_shown sc (facts_after w happened) (length w.steps)) own quiet)
+          (each_server_fact (WhatRefused sc (facts_after w happened) (length w.steps)) at (λ txn ended. tt) append);
     })
   where
     by_server : (other : ServerId) (txn : TxnId) (settled : Settled) → IsAwaiting w.actors.coordinators txn → (b : Bool) → (at.0 == other.0) ≡ b
-        → option_and_then (settled_by txn) (if b then Some (record { up = Some effect.state; log = log_with part.log effect.reaction.append }) else slice_get w.actors.servers other.0) ≡ Some settled
-        → IfSome settled.why (ReasonShown sc (facts_after w (server_facts at effect.reaction.append)) (length w.steps + 1) other txn)
-    by_server other txn settled awaiting false apart e = old_shown sc w (server_facts at effect.reaction.append) other txn settled h e awaiting
+        → option_and_then (settled_by txn) (if b then Some (record { up = now; log = log_with part.log append }) else slice_get w.actors.servers other.0) ≡ Some settled
+        → IfSome settled.why (ReasonShown sc (facts_after w (own ++ server_facts at append)) (length w.steps + 1) other txn)
+    by_server other txn settled awaiting false apart e = old_shown sc w (own ++ server_facts at append) other txn settled h e awaiting
     by_server other txn settled awaiting true same e =
+        let happened = own ++ server_facts at append in
         let here : at ≡ other = ap server_number (eqb-true at.0 other.0 same) in
-        newly_settled sc w at txn part.log effect.reaction.append settled (IfSome settled.why (ReasonShown sc (facts_after w (server_facts at effect.reaction.append)) (length w.steps + 1) other txn))
-        (sym (settled_with txn part.log effect.reaction.append) ∙ e)
-        (λ old. old_shown sc w (server_facts at effect.reaction.append) other txn settled h
-        (ap (λ (k : ℕ). option_and_then (settled_by txn) (slice_get w.actors.servers k)) (sym (eqb-true at.0 other.0 same)) ∙ (ap (option_and_then (settled_by txn)) up.found ∙ old)) awaiting)
-        (λ order is own same_order.
-        let new : SettlementShown sc w at (server_facts at effect.reaction.append) (log.Settled order) = shown_of sc w at (server_facts at effect.reaction.append) effect.reaction.append order is shown in
-        let shown_order = (new (subst (IsAwaiting w.actors.coordinators) (sym own) awaiting)).why in
-        subst (λ (x : Settled). IfSome x.why (ReasonShown sc (facts_after w (server_facts at effect.reaction.append)) (length w.steps + 1) other txn)) same_order
-        (subst (λ (t : TxnId). IfSome order.why (ReasonShown sc (facts_after w (server_facts at effect.reaction.append)) (length w.steps + 1) other t)) own
-        (subst (λ (a : ServerId). IfSome order.why (ReasonShown sc (facts_after w (server_facts at effect.reaction.append)) (length w.steps + 1) a order.txn)) here shown_order)))
+        newly_settled sc w at txn part.log append settled (IfSome settled.why (ReasonShown sc (facts_after w happened) (length w.steps + 1) other txn))
+        (sym (settled_with txn part.log append) ∙ e)
+        (λ old. old_shown sc w happened other txn settled h
+        (ap (λ (k : ℕ). option_and_then (settled_by txn) (slice_get w.actors.servers k)) (sym (eqb-true at.0 other.0 same)) ∙ (ap (option_and_then (settled_by txn)) found ∙ old)) awaiting)
+        (λ order is own_txn_is same_order.
+        let new : SettlementShown sc w at happened (log.Settled order) = shown_of sc w at happened append order is shown in
+        let shown_order = (new (subst (IsAwaiting w.actors.coordinators) (sym own_txn_is) awaiting)).why in
+        subst (λ (x : Settled). IfSome x.why (ReasonShown sc (facts_after w happened) (length w.steps + 1) other txn)) same_order
+        (subst (λ (t : TxnId). IfSome order.why (ReasonShown sc (facts_after w happened) (length w.steps + 1) other t)) own_txn_is
+        (subst (λ (s : ServerId). IfSome order.why (ReasonShown sc (facts_after w happened) (length w.steps + 1) s order.txn)) here shown_order)))
 
 -- ---- steps
 
@@ -345,19 +393,22 @@ idle_refuses sc w (step.Deliver mail) happened h e = subst (λ (hs : List What).
 idle_refuses sc w (step.Lose mail) happened h e = subst (λ (hs : List What). MoveRefuses sc w (idle_move w.actors hs)) (sym e) (still_refuses sc w (what.Lost mail ∷ []) w.actors [] h refl refl (λ txn. refl) (tt, tt))
 idle_refuses sc w _ happened h e = absurd e
 
-nothing_begun : (sc : Scenario) (c : Coordinator) (home : Option ServerId) → coordinator_facts (begins sc c home).reaction.append ≡ []
-nothing_begun sc c None = refl
-nothing_begun sc c (Some at) = refl
+begins_shown : (sc : Scenario) (w : State) (happened : List What) (c : Coordinator) (home : Option ServerId) → IfSome (begins sc c home).reaction.append (DecisionShown sc w happened)
+begins_shown sc w happened c None = tt
+begins_shown sc w happened c (Some at) = tt
 
-refusals_cases : (sc : Scenario) (w : State) → is_built sc ≡ true → WaitRightly sc w → IsSound sc w → Agrees sc w → Pairs sc w → Serial sc w → Refusals sc w → Cases sc w (λ taken move. MoveRefuses sc w move)
-refusals_cases sc w built rightly sound a pairs serial h =
+refusals_cases : (sc : Scenario) (w : State) → is_built sc ≡ true → WaitRightly sc w → IsSound sc w → Agrees sc w → Pairs sc w → Serial sc w → Remembers sc w → Refusals sc w → Cases sc w (λ taken move. MoveRefuses sc w move)
+refusals_cases sc w built rightly sound a pairs serial known h =
     record {
       idle = λ taken happened e. idle_refuses sc w taken happened h e;
       server_received = λ n mail at part s sent up.
-          server_moves_in_steps sc w at part s (server_row sc s mail) built a pairs serial h up (server_row_shown sc w n mail at part s built rightly sound a pairs serial h sent up);
+          let effect = server_row sc s mail in
+          server_moves_in_steps sc w at part (Some effect.state) [] effect.reaction.append effect.reaction.letters built a pairs serial known h up.found tt
+          (server_row_shown sc w n mail at part s built rightly sound a pairs serial known h sent up);
       coordinator_received = λ n mail txn part c sent up.
-          coordinator_moves_in_steps sc w txn part c (coordinator_row sc c mail) [] h up (still_undecided sc c mail) (λ other. none_told other (length w.steps) (coordinator_row sc c mail).reaction.append)
-          (told_shown sc w (coordinator_row sc c mail).reaction.append (coordinator_row_shown sc w txn part c n mail sound a h sent up));
+          let effect = coordinator_row sc c mail in
+          coordinator_moves_in_steps sc w txn part (Some effect.state) [] effect.reaction.append effect.reaction.letters h up.found (row_opens part.up c effect.state up.up (still_undecided sc c mail)) tt
+          (coordinator_row_shown sc w txn part c n mail sound a h sent up);
       authority_told = λ n mail sent. still_refuses sc w [] w.actors (office.authority_row w.actors.authority mail).reaction.letters h refl refl (λ txn. refl) tt;
       master_told = λ n mail sent. still_refuses sc w [] w.actors (master.master_row w.actors.master mail).reaction.letters h refl refl (λ txn. refl) tt;
       published = λ admin exists more.
@@ -367,21 +418,20 @@ refusals_cases sc w built rightly sound a pairs serial h =
       revoked = λ cred exists. still_refuses sc w (what.Revoked cred ∷ []) (record w.actors { authority = office.after_revocation cred w.actors.authority }) [] h refl refl (λ txn. refl) (tt, tt);
       begun = λ txn part c exists up new.
           let effect = with_age (submit_row sc c) (length w.steps) in
-          let none : coordinator_facts effect.reaction.append ≡ [] = nothing_begun sc c (home_of sc c 1) in
           let idle : c.phase ≡ phase.Idle = idle_is c.phase new in
-          coordinator_moves_in_steps sc w txn part c effect (what.Submitted txn ∷ []) h up
-          (λ undecided. other_phase c effect.state (ap is_undecided idle) (λ prepares. let stands : stand_of c.phase ≡ Rests = ap stand_of idle in cc))
-          (λ other. none_told other (length w.steps) effect.reaction.append)
-          (subst (λ (facts : List What). Each (WhatRefused sc (facts_after w (what.Submitted txn ∷ facts)) (length w.steps)) (what.Submitted txn ∷ facts)) (sym none) (tt, tt));
+          let own = what.Submitted txn ∷ [] in
+          coordinator_moves_in_steps sc w txn part (Some effect.state) own effect.reaction.append effect.reaction.letters h up.found
+          (row_opens part.up c effect.state up.up
+          (λ undecided. other_phase c effect.state (ap is_undecided idle) (λ prepares. let stands : stand_of c.phase ≡ Rests = ap stand_of idle in cc))) (tt, tt)
+          (begins_shown sc w (own ++ coordinator_facts effect.reaction.append) c (home_of sc c 1));
     }
 
 -- a step that is not refused keeps what is said of refusals
 pub refusals_next : (sc : Scenario) (m : Machine) (taken : Step) → is_built sc ≡ true → IsStepOf sc taken → refusal m.state taken ≡ None → WaitRightly sc m.state → IsSound sc m.state → Agrees sc m.state → Pairs sc m.state → Serial sc m.state
-    → Refusals sc m.state → Refusals sc (machine_after sc m taken).state
-refusals_next sc m taken built exists allowed rightly sound a pairs serial h =
-    machine_after_by sc m (λ taken move. MoveRefuses sc m.state move) (λ w. Unbooted w → Refusals sc w) (refusals_cases sc m.state built rightly sound a pairs serial h) a.coordinator_count
-    (λ taken move t unbooted. state_after_refusals sc m.state taken move a.past h t unbooted) (λ unbooted. h) taken exists allowed
-    (unbooted_next sc m taken a.coordinator_count exists allowed rightly h.unbooted)
+    → Remembers sc m.state → Refusals sc m.state → Refusals sc (machine_after sc m taken).state
+refusals_next sc m taken built exists allowed rightly sound a pairs serial known h =
+    machine_after_by sc m (λ taken_is move. MoveRefuses sc m.state move) (Refusals sc) (refusals_cases sc m.state built rightly sound a pairs serial known h) a.coordinator_count
+    (λ taken_is move t. state_after_refusals sc m.state taken_is move a.past h t) h taken exists allowed
 
 -- before the first step nothing is settled
 pub refusals_opening : (sc : Scenario) → Refusals sc (opening_state sc)
@@ -392,7 +442,6 @@ refusals_opening sc =
           absurd (none-some settled (sym none ∙ e));
       aborted = λ txn declared first awaiting exists e. absurd (cc);
       facts = tt;
-      unbooted = unbooted_opening sc;
     }
   where
     no_settlement : (sc : Scenario) (at : ServerId) (txn : TxnId) (part : Option (Part Server)) → slice_get (opening_state sc).actors.servers at.0 ≡ part → option_and_then (settled_by txn) part ≡ None

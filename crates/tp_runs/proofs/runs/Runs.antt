@@ -79,7 +79,7 @@ holds_next sc m taken built exists allowed h =
       trusts = trusts_next sc m taken built exists allowed rightly h.sound h.agrees h.pairs h.trusts;
       pairs = pairs_next sc m taken built exists allowed rightly h.sound h.agrees h.epochs h.trusts h.pairs;
       serial = serial_next sc m taken built exists allowed rightly h.sound h.agrees h.pairs h.serial;
-      refusals = refusals_next sc m taken built exists allowed rightly h.sound h.agrees h.pairs h.serial h.refusals;
+      refusals = refusals_next sc m taken built exists allowed rightly h.sound h.agrees h.pairs h.serial (record { epochs = h.epochs; told = h.deaths.told; restarts = h.restarts }) h.refusals;
       bounds = bounds_next sc m taken built exists allowed rightly h.sound h.agrees h.pairs h.serial h.bounds;
       few = few_next sc m taken built exists allowed rightly h.agrees h.few;
     }

@@ -3,11 +3,11 @@ use Rattle.std.specs.Cmp.Lexicographic.{pointwise}
 use Rattle.std.specs.List.{list_all, range_with_len}
 use Rattle.std.specs.Option.{option_map_or}
 use Rattle.std.proofs.Common.{Bool, List, None, Option, Some, [], ap, arith, false, if◌then◌else◌, inl, inr, is_none, is_some, length, nat_le, not, refl, slice_get, subst, true, ℕ, ◌&&◌, ◌==◌, ◌||◌, ◌∙◌, ◌∷◌, ◌≡◌, ◌⊎◌}
-use Rattle.std.proofs.lemmas.Bool.{and_from, and_parts, le-leb, lt-ltb, or_right}
+use Rattle.std.proofs.lemmas.Bool.{and_from, and_parts, le-leb, lt-ltb}
 use Rattle.tp_types.proofs.ListLemmas.{number_itself, three_from}
 use Rattle.tp_model.specs.Authorisation.{is_allowed, is_certified, is_own_query, is_true_verdict, policy_at, question_of}
 use Rattle.tp_model.specs.Built.{is_built}
-use Rattle.tp_model.specs.Causes.{denies_at_newest, is_caused, is_denied, is_denied_version, is_explained_at, is_refused, is_shown, keeps_causes, keeps_causes_what, lost_work}
+use Rattle.tp_model.specs.Causes.{denies_at_newest, is_caused, is_denied, is_denied_version, is_explained_at, is_refused, is_shown, keeps_causes, keeps_causes_what}
 use Rattle.tp_model.specs.Demand.{is_deferred_demand, is_final_instance, is_over, is_round_count, meets_scheme, most_rounds}
 use Rattle.tp_model.specs.Facts.{before}
 use Rattle.tp_model.specs.Levels.{is_global, level_of, reads_master}
@@ -127,7 +127,7 @@ denial_shown sc txn declared place facts verdict view version h ruleless =
 is_refused_shown : (sc : Scenario) (txn : TxnId) (place : ℕ) (facts : List Fact) (refused : OutOfRange) (declared : Transaction) → IsRefused sc facts (before place facts) place txn refused declared → is_refused sc txn place facts refused declared ≡ true
 is_refused_shown sc txn place facts refused declared h =
     and_from _ _ (and_from _ _ h.write h.aborted)
-    (ap (λ (first : Option ℕ). option_map_or (is_explained_at sc txn facts refused declared) first false) h.first_is ∙ or_right (lost_work sc txn facts declared h.first) _ h.run)
+    (ap (λ (first : Option ℕ). option_map_or (is_explained_at sc txn facts refused declared) first false) h.first_is ∙ h.run)
 
 cause_shown : (sc : Scenario) (facts : List Fact) (place : ℕ) (txn : TxnId) (why : Cause) (declared : Transaction) → ArePlain sc → slice_get sc.txns txn.0 ≡ Some declared → IsSoundCause sc txn why
     → WhatRefused sc facts place (what.Decided txn (decision.Abort why)) → WhatDies sc facts place (what.Decided txn (decision.Abort why)) → CauseFits sc facts place txn why → is_shown sc txn place facts why declared ≡ true
