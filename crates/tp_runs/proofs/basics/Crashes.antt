@@ -1,5 +1,5 @@
--- Crashes among facts: how many are noted of actors, how many of these before a place, and what is shown by one. The actors meant are those
--- that pass a test.
+-- Crashes among facts: how many are noted of actors, how many of these before a place, and what is shown by one. The
+-- actors meant are those that pass a test.
 use Rattle.std.specs.List.{count_by, list_any}
 use Rattle.std.proofs.Common.{Bool, List, [], ap, arith, cond, false, nat_le, nat_lt, refl, sym, true, ℕ, ⊎_elim, ◌&&◌, ◌++◌, ◌+◌, ◌∙◌, ◌∷◌, ◌≡◌, ◌≤◌, ◌||◌}
 use Rattle.std.proofs.lemmas.Bool.{and_from, and_left, and_parts, and_right, le-ltb, leb-true, lt-ltb, ltb-true, or_cases, or_from, or_left, or_parts, or_right}

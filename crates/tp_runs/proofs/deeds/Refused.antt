@@ -1,6 +1,6 @@
--- The last write of an item by a transaction whose queries all ran: no later query writes the item. So one that is outside its item's range is one
--- that may be refused. Where the transaction runs by itself, its value is that of its query in the run. A server's share of deeds has the last
--- writes of its items.
+-- The last write of an item by a transaction whose queries all ran: no later query writes the item. So one that is
+-- outside its item's range is one that may be refused. Where the transaction runs by itself, its value is that of its
+-- query in the run. A server's share of deeds has the last writes of its items.
 use Rattle.std.specs.List.{list_any}
 use Rattle.std.specs.Option.{option_map_or, option_or}
 use Rattle.std.proofs.Common.{Bool, List, None, Option, Some, [], ap, arith, cond, drop, false, find, if◌then◌else◌, length, not, option_map, refl, slice_get, slice_set, subst, suc, sym, true, ℕ, ℤ, ◌+◌, ◌==◌, ◌∙◌, ◌∷◌, ◌≡◌, ◌≤◌}

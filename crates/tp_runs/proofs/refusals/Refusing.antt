@@ -1,5 +1,6 @@
--- A server refuses: the value is outside its item's range, and where no work of the transaction was lost it is that of the transaction's run by itself
--- on the store where it first aborted, since the server holds its share of what the coordinator has done, and that is the run.
+-- A server refuses: the value is outside its item's range, and where no work of the transaction was lost it is that of
+-- the transaction's run by itself on the store where it first aborted, since the server holds its share of what the
+-- coordinator has done, and that is the run.
 use Rattle.std.specs.List.{list_any}
 use Rattle.std.specs.Option.{option_map_or, option_or}
 use Rattle.std.specs.Ordering.{int_eq}
@@ -167,8 +168,8 @@ pub record IsFirstAbort (sc : Scenario) (facts : List Fact) (place : ℕ) (txn :
   pub first_is : first_abort_of txn facts ≡ Some first
   pub run : IsRunBefore sc facts place first txn declared c
 
--- once a server aborts the transaction, and no work of it was lost, its coordinator has done the transaction's run by itself on the store: now, where
--- it is the first abort
+-- once a server aborts the transaction, and no work of it was lost, its coordinator has done the transaction's run by
+-- itself on the store: now, where it is the first abort
 pub run_at_abort : (sc : Scenario) (w : State) (txn : TxnId) (happened : List What) (declared : Transaction) (awaiting : IsAwaiting w.actors.coordinators txn) → is_built sc ≡ true → Agrees sc w → Pairs sc w → Serial sc w
     → Remembers sc w → slice_get sc.txns txn.0 ≡ Some declared → stand_of awaiting.c.phase ≡ Prepares → first_abort_of txn w.facts ≡ None
     → IsRunBefore sc (facts_after w happened) (length w.steps + 1) (length w.steps) txn declared awaiting.c

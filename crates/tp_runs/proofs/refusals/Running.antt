@@ -1,6 +1,6 @@
--- Where no server has aborted a transaction, and none of its servers has crashed since its submission, its coordinator, once it brings the servers
--- to vote, has done what the transaction does by itself on the store: all that it got from a server is still there, and was read from the server's
--- values.
+-- Where no server has aborted a transaction, and none of its servers has crashed since its submission, its coordinator,
+-- once it brings the servers to vote, has done what the transaction does by itself on the store: all that it got from a
+-- server is still there, and was read from the server's values.
 use Rattle.std.specs.List.{list_any}
 use Rattle.std.specs.Option.{option_map_or}
 use Rattle.std.proofs.Common.{Bool, IfSome, List, None, Option, Some, [], ap, arith, false, find, if◌then◌else◌, inl, inr, is_some, length, option_and_then, option_map, refl, slice_get, subst, sym, true, ℕ, ⊎_elim, ◌&&◌, ◌+◌, ◌<◌, ◌==◌, ◌∙◌, ◌∷◌, ◌≡◌, ◌≤◌, ◌⊎◌}
@@ -71,7 +71,8 @@ use Rattle.tp_server.specs.State.{Server}
 
 -- ---- the coordinator
 
--- a coordinator brings the servers to vote on a transaction of the scenario, which none of them has aborted, and of which no work was lost
+-- a coordinator brings the servers to vote on a transaction of the scenario, which none of them has aborted, and of
+-- which no work was lost
 pub record IsRunning (sc : Scenario) (w : State) (txn : TxnId) (declared : Transaction) (awaiting : IsAwaiting w.actors.coordinators txn) : Type 0 where
   pub declared_is : slice_get sc.txns txn.0 ≡ Some declared
   pub prepares : stand_of awaiting.c.phase ≡ Prepares

@@ -60,8 +60,8 @@ pub record IsAwaiting (coordinators : List (Part Coordinator)) (txn : TxnId) : T
 abbrev pub AreSettledShown : Scenario → Actors → List Fact → ℕ → Type 0
 AreSettledShown sc actors facts place = (at : ServerId) (txn : TxnId) (settled : Settled) → settled_at actors.servers at.0 txn ≡ Some settled → IsAwaiting actors.coordinators txn → IfSome settled.why (ReasonShown sc facts place at txn)
 
--- a coordinator brings the servers to vote, and where no work of its transaction was lost before a place that is past, it has done what the
--- transaction does by itself on the store there
+-- a coordinator brings the servers to vote, and where no work of its transaction was lost before a place that is past,
+-- it has done what the transaction does by itself on the store there
 pub record IsRunBefore (sc : Scenario) (facts : List Fact) (place first : ℕ) (txn : TxnId) (declared : Transaction) (c : Coordinator) : Type 0 where
   pub prepares : stand_of c.phase ≡ Prepares
   pub past : first < place

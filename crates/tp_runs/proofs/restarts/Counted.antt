@@ -1,5 +1,6 @@
--- Epochs beside crashes: of an actor as many crashes are noted as it was booted, and one more while it is down. So an epoch that was begun after a
--- place is greater than the crashes before that place, and one that is over has a crash since.
+-- Epochs beside crashes: of an actor as many crashes are noted as it was booted, and one more while it is down. So an
+-- epoch that was begun after a place is greater than the crashes before that place, and one that is over has a crash
+-- since.
 use Rattle.std.proofs.Common.{Bool, List, None, Option, Some, ap, arith, false, is_none, is_some, length, refl, true, ℕ, ◌++◌, ◌+◌, ◌<◌, ◌≡◌, ◌≤◌}
 use Rattle.std.proofs.lemmas.Bool.{true_from_ne_false}
 use Rattle.std.proofs.lemmas.Option.{slice_get_within}

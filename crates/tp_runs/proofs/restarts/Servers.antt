@@ -1,4 +1,5 @@
--- Restarts, a server's rows: an entry is made in the present epoch, and all else repeats an epoch that is there; a restart is told where work was lost.
+-- Restarts, a server's rows: an entry is made in the present epoch, and all else repeats an epoch that is there; a
+-- restart is told where work was lost.
 use Rattle.std.proofs.Common.{IfSome, List, Some, [], refl, subst, sym, ℕ, ℤ, ⊎_elim, ◌==◌, ◌≡◌}
 use Rattle.tp_types.specs.Effect.{Effect, sends}
 use Rattle.tp_model.specs.Words.body
@@ -22,8 +23,8 @@ pub record RowSince (S : TxnId → ServerId → ℕ → Type 0) (R : TxnId → S
   pub no_boot : boots_by effect.reaction.append ≡ 0
   pub letters : Each (LetterSince S R) effect.reaction.letters
 
--- what is known of a mail: the present epoch is of after the submission of a transaction that asks, and where its work was lost, or the
--- transaction was settled for a restart, the server has crashed since
+-- what is known of a mail: the present epoch is of after the submission of a transaction that asks, and where its work
+-- was lost, or the transaction was settled for a restart, the server has crashed since
 pub record IsKnownMail (S : TxnId → ServerId → ℕ → Type 0) (R : TxnId → ServerId → Type 0) (s : Server) (mail : Mail) : Type 0 where
   pub present : (q : QueryRequest) → mail.letter.body ≡ body.Query q → S q.txn s.server s.epoch
   pub lost : (q : QueryRequest) → IsLost s mail q → R q.txn s.server

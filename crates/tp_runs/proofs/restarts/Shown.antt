@@ -1,5 +1,5 @@
--- A restart is shown: where a server that is up, and has not settled a transaction, has nothing left of an epoch in which the transaction did
--- something there, it has crashed since the submission.
+-- A restart is shown: where a server that is up, and has not settled a transaction, has nothing left of an epoch in
+-- which the transaction did something there, it has crashed since the submission.
 use Rattle.std.specs.Option.{option_flatten, option_map_or}
 use Rattle.std.proofs.Common.{List, None, Option, Some, ap, arith, false, is_some, length, not, option_map, refl, slice_get, subst, sym, true, ℕ, ⊎_elim, ◌+◌, ◌<◌, ◌==◌, ◌∙◌, ◌≡◌, ◌⊎◌}
 use Rattle.std.proofs.lemmas.Bool.{eqb-false, not-true}
@@ -43,7 +43,8 @@ held_by_entry : (entry : Option Entry) (epoch : ℕ) (deeds : List Deed) → ((f
 held_by_entry None epoch deeds none e = cc
 held_by_entry (Some entry) epoch deeds none e = none entry refl (ap (λ (h : Held). h.epoch) (same_Some (entry_held entry) (record { epoch = epoch; deeds = deeds }) e))
 
--- what was begun in an epoch of after the submission, of which no entry is left at a server that is up and has not settled the transaction
+-- what was begun in an epoch of after the submission, of which no entry is left at a server that is up and has not
+-- settled the transaction
 pub restart_shown : (sc : Scenario) (w : State) (at : ServerId) (part : Part Server) (s : Server) (txn : TxnId) (epoch : ℕ) (P : List Deed → Type 0) → Agrees sc w → Told w → Restarts w → IsServerUp w at part s
     → is_open s txn ≡ true → ((entry : Entry) → entry_at s txn ≡ Some entry → entry.epoch ≡ epoch → ⊥) → SinceIn w.steps w.facts txn at epoch → Tells (pair_at w.actors txn at.0) epoch P
     → ShownIn w.facts (length w.steps) txn at

@@ -1,5 +1,5 @@
--- What is said of epochs and restarts: S says which epochs of a server were begun after which transactions were submitted, and R of which
--- transactions a server is shown to have crashed since.
+-- What is said of epochs and restarts: S says which epochs of a server were begun after which transactions were
+-- submitted, and R of which transactions a server is shown to have crashed since.
 use Rattle.std.proofs.Common.{IfSome, None, Option, Some, true, ℕ, ◌≡◌}
 use Rattle.tp_model.specs.Words.actor
 use Rattle.tp_model.specs.Words.body

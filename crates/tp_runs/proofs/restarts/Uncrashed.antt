@@ -1,5 +1,5 @@
--- Nobody is down. No step that is built so far notes a crash; so every server is up and was never booted, and every coordinator is up. This is what
--- crashes take out, and it alone.
+-- Nobody is down. No step that is built so far notes a crash; so every server is up and was never booted, and every
+-- coordinator is up. This is what crashes take out, and it alone.
 use Rattle.std.specs.Option.{option_map_or}
 use Rattle.std.proofs.Common.{Bool, List, None, Option, Some, [], ap, arith, false, is_none, is_some, length, refl, slice_get, true, ℕ, ◌∙◌, ◌∷◌, ◌≡◌}
 use Rattle.tp_model.specs.Causes.{is_coordinator_actor, is_server_actor}

@@ -1,5 +1,5 @@
--- Restarts, the invariant and acts: every epoch that is kept or named is of after its transaction's submission, crashes are counted, and a
--- restart that was told, and a coordinator that is down, has its crash among the facts.
+-- Restarts, the invariant and acts: every epoch that is kept or named is of after its transaction's submission, crashes
+-- are counted, and a restart that was told, and a coordinator that is down, has its crash among the facts.
 use Rattle.std.proofs.Common.{Bool, IfSome, List, None, Option, Some, [], ap, arith, drop, false, flat_map, is_none, length, refl, slice_get, subst, sym, true, ℕ, ◌++◌, ◌+◌, ◌==◌, ◌∙◌, ◌∷◌, ◌≡◌, ◌≤◌}
 use Rattle.std.proofs.lemmas.List.{length_push}
 use Rattle.tp_model.specs.Causes.{crashed_within, is_coordinator_actor, is_server_actor}
@@ -133,8 +133,8 @@ settles_since S R at txn append s h e =
     let settles : Settles txn append s = settles_is txn append s e in
     subst (λ (t : TxnId). SettledSince R at t s) settles.txn_is (subst (λ (found : Option Record). IfSome found (RecordSince S R at)) settles.append_is h)
 
--- what an act of a server leaves and says of epochs, whether it was up before it or down, and is after it. It notes a crash where it goes
--- down, forces a boot where it comes up, and notes no crash of another server
+-- what an act of a server leaves and says of epochs, whether it was up before it or down, and is after it. It notes a
+-- crash where it goes down, forces a boot where it comes up, and notes no crash of another server
 pub record ServerActsSince (w : State) (at : ServerId) (was now : Option Server) (own : List What) (append : Option Record) (letters : List Letter) : Type 0 where
   pub state : IfSome now (EntriesSince (SinceIn w.steps w.facts) (ShownIn w.facts (length w.steps)) at)
   pub forces : IfSome append (RecordSince (SinceIn w.steps w.facts) (ShownIn w.facts (length w.steps)) at)
@@ -183,8 +183,8 @@ coordinator_notes who own kept append =
     let told : noted who (flat_map coordinator_fact (drop (length kept) (log_with kept append))) ≡ 0 = ap (noted who) (gained coordinator_fact kept append) ∙ none_noted_by_coordinator who append in
     omega (arith, told, noted_more who own (flat_map coordinator_fact (drop (length kept) (log_with kept append))))
 
--- what an act of a coordinator leaves and says of epochs, whether it was up before it or down, and is after it. It notes no crash of a
--- server, and where it is down after it, it has crashed
+-- what an act of a coordinator leaves and says of epochs, whether it was up before it or down, and is after it. It
+-- notes no crash of a server, and where it is down after it, it has crashed
 pub record CoordinatorActsSince (w : State) (txn : TxnId) (kept : List Record) (now : Option Coordinator) (own : List What) (append : Option Record) (letters : List Letter) : Type 0 where
   pub state : IfSome now (KeptSince (SinceIn w.steps w.facts) txn)
   pub letters_are : Each (LetterSince (SinceIn w.steps w.facts) (ShownIn w.facts (length w.steps))) letters
