@@ -12,7 +12,7 @@ pub first_none : {A : Type 0} (x : Option A) → option_or x None ≡ x
 first_none None = refl
 first_none (Some found) = refl
 
-first_first : {A : Type 0} (x y z : Option A) → option_or (option_or x y) z ≡ option_or x (option_or y z)
+pub first_first : {A : Type 0} (x y z : Option A) → option_or (option_or x y) z ≡ option_or x (option_or y z)
 first_first None y z = refl
 first_first (Some found) y z = refl
 

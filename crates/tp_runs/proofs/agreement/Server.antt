@@ -20,7 +20,8 @@ use Rattle.tp_model.specs.Words.{Body, DecideRequest, Deed, DoneReply, Letter, M
 use Rattle.tp_runs.proofs.agreement.Logs.{LogPrepared}
 use Rattle.tp_runs.proofs.basics.Ids.{same_txn_is}
 use Rattle.tp_types.proofs.EachLemmas.{each_more, none_if_not_some, placed_emptied, placed_set}
-use Rattle.tp_runs.proofs.basics.Logs.{first_none, get_set, prepared_still, prepared_with, settled_still, settled_with}
+use Rattle.tp_runs.proofs.basics.Logs.{get_set, prepared_still, prepared_with, settled_still, settled_with}
+use Rattle.tp_recover.proofs.LogLemmas.{first_none}
 use Rattle.tp_server.proofs.Tables.{written_over}
 use Rattle.tp_runs.proofs.basics.Folds.{set_elsewhere}
 use Rattle.tp_server.proofs.Rows.{AreRightWaits, IsAsking, IsFirstHere, IsFirstVote, IsFurther, IsLaterVote, IsResumed, resuming, server_by, unwaiting}

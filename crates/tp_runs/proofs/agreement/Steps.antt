@@ -2,7 +2,6 @@
 use Rattle.std.proofs.Common.{Bool, IfSome, List, None, Option, Some, [], ap, arith, false, if◌then◌else◌, length, option_and_then, option_map, refl, slice_get, subst, sym, true, ℕ, ◌∙◌, ◌∷◌, ◌≡◌}
 use Rattle.std.proofs.lemmas.List.FromFn.{length-map-range_with_len}
 use Rattle.std.proofs.lemmas.Option.{same_Some}
-use Rattle.tp_model.specs.Built.{is_built}
 use Rattle.std.specs.Option.{option_or}
 use Rattle.tp_model.specs.Ids.{same_txn}
 use Rattle.tp_model.specs.Words.actor
@@ -13,6 +12,7 @@ use Rattle.tp_model.specs.Words.step
 use Rattle.tp_model.specs.Words.vote
 use Rattle.tp_model.specs.Words.what
 use Rattle.tp_model.specs.Words.{Actor, AdminId, Body, CredId, Decision, Mail, Outcome, Record, Scenario, ServerId, Settled, Step, TxnId, Version, Vote, What}
+use Rattle.tp_runs.proofs.ids.Valid.{IsValid}
 use Rattle.tp_runs.proofs.agreement.Coordinator.{CoordinatorLawful, Keeps, ReplyRests, SubmissionLawful, YesRests, coordinator_row_lawful, submit_row_lawful}
 use Rattle.tp_runs.proofs.agreement.CoordinatorActs.{coordinator_acts_agrees, receipt_acts, submission_acts}
 use Rattle.tp_runs.proofs.agreement.Known.{KnowsTold, learns_knows, opening_knows, row_learns}
@@ -24,7 +24,7 @@ use Rattle.tp_runs.proofs.basics.Homes.{first_row_begins}
 use Rattle.tp_runs.proofs.basics.Ids.{same_txn_from, same_txn_is}
 use Rattle.tp_types.proofs.EachLemmas.{at_made, each_get, placed_none, unset_at}
 use Rattle.tp_runs.proofs.basics.Logs.{listed}
-use Rattle.tp_runs.proofs.ids.Queries.{homes_built}
+use Rattle.tp_runs.proofs.ids.Queries.{have_homes}
 use Rattle.tp_runs.proofs.walks.Steps.{Cases, IsCoordinatorUp, IsServerUp, SaysIdle, WasSent, WaitRightly, machine_after_by}
 use Rattle.tp_recover.specs.Log.{decided_in, prepared_in, settled_in}
 use Rattle.tp_machine.specs.Logs.{decided_at, decided_by, settled_by}
@@ -157,20 +157,20 @@ newest_rests sc actors held _ = tt
 
 -- ---- submissions
 
-pub begun_lawful : (sc : Scenario) (w : State) → is_built sc ≡ true → IsSound sc w → Agrees sc w → (txn : TxnId) (part : Part Coordinator) (c : Coordinator) → IsTxn sc txn → IsCoordinatorUp w txn part c
+pub begun_lawful : (sc : Scenario) (w : State) → IsValid sc → IsSound sc w → Agrees sc w → (txn : TxnId) (part : Part Coordinator) (c : Coordinator) → IsTxn sc txn → IsCoordinatorUp w txn part c
     → is_part_submitted (Some c) ≡ false → SubmissionLawful sc (IsPrepared w.actors.servers txn) (IsSettled w.actors.servers txn) c part.log (with_age (submit_row sc c) (length w.steps))
-begun_lawful sc w built sound h txn part c exists up new =
+begun_lawful sc w valid sound h txn part c exists up new =
     submit_row_lawful sc (IsPrepared w.actors.servers txn) (IsSettled w.actors.servers txn) c part.log (length w.steps) (coordinator_agrees sc w txn part c h up) new
-    (first_row_begins sc c (homes_built sc built) (subst (IsTxn sc) (sym (own_txn sc w txn part c sound up.found up.up)) exists))
+    (first_row_begins sc c (have_homes sc valid) (subst (IsTxn sc) (sym (own_txn sc w txn part c sound up.found up.up)) exists))
 
-begun_agrees : (sc : Scenario) (w : State) → is_built sc ≡ true → IsSound sc w → Agrees sc w → (txn : TxnId) (part : Part Coordinator) (c : Coordinator) → IsTxn sc txn → IsCoordinatorUp w txn part c
+begun_agrees : (sc : Scenario) (w : State) → IsValid sc → IsSound sc w → Agrees sc w → (txn : TxnId) (part : Part Coordinator) (c : Coordinator) → IsTxn sc txn → IsCoordinatorUp w txn part c
     → is_part_submitted (Some c) ≡ false
     → MoveAgrees sc w (coordinator_move w.actors txn (acts_by coordinator_fact (what.Submitted txn ∷ []) part.log (with_age (submit_row sc c) (length w.steps))))
-begun_agrees sc w built sound h txn part c exists up new =
+begun_agrees sc w valid sound h txn part c exists up new =
     let own : c.txn ≡ txn = own_txn sc w txn part c sound up.found up.up in
     let effect = with_age (submit_row sc c) (length w.steps) in
     coordinator_acts_agrees sc w txn part (Some effect.state) (what.Submitted txn ∷ []) effect.reaction.append effect.reaction.letters h up.found
-    (submission_acts sc w txn part c effect up.up own new (begun_lawful sc w built sound h txn part c exists up new))
+    (submission_acts sc w txn part c effect up.up own new (begun_lawful sc w valid sound h txn part c exists up new))
 
 -- ---- receipts
 
@@ -234,8 +234,8 @@ receipt_by_coordinator_in_agreement sc w sound h n mail txn part c sent up =
 
 -- ---- steps
 
-agrees_cases : (sc : Scenario) (w : State) → is_built sc ≡ true → WaitRightly sc w → IsSound sc w → Agrees sc w → Cases sc w (λ taken move. MoveAgrees sc w move)
-agrees_cases sc w built rightly sound h =
+agrees_cases : (sc : Scenario) (w : State) → IsValid sc → WaitRightly sc w → IsSound sc w → Agrees sc w → Cases sc w (λ taken move. MoveAgrees sc w move)
+agrees_cases sc w valid rightly sound h =
     record {
       idle = idle_agrees sc w h;
       server_received = λ n mail at part s sent up. receipt_by_server_in_agreement sc w rightly sound h n mail at part s sent up;
@@ -250,13 +250,13 @@ agrees_cases sc w built rightly sound h =
       pushed = λ admin server exists there. unmoved_agrees sc w [] (master.pushes w.actors.master admin server).reaction.letters h (silent_says sc w) (tt, tt);
       ticked = λ by. offices_agree sc w (office.after_tick by w.actors.authority) w.actors.master (what.Ticked by ∷ []) h (ticked_says sc w by);
       revoked = λ cred exists. offices_agree sc w (office.after_revocation cred w.actors.authority) w.actors.master (what.Revoked cred ∷ []) h (revoked_says sc w cred);
-      begun = λ txn part c exists up new. begun_agrees sc w built sound h txn part c exists up new;
+      begun = λ txn part c exists up new. begun_agrees sc w valid sound h txn part c exists up new;
     }
 
 -- a step that is not refused keeps agreement
-pub agrees_next : (sc : Scenario) (m : Machine) (taken : Step) → is_built sc ≡ true → IsStepOf sc taken → refusal m.state taken ≡ None → WaitRightly sc m.state → IsSound sc m.state → Agrees sc m.state → Agrees sc (machine_after sc m taken).state
-agrees_next sc m taken built exists allowed rightly sound h =
-    machine_after_by sc m (λ taken move. MoveAgrees sc m.state move) (Agrees sc) (agrees_cases sc m.state built rightly sound h) h.coordinator_count
+pub agrees_next : (sc : Scenario) (m : Machine) (taken : Step) → IsValid sc → IsStepOf sc taken → refusal m.state taken ≡ None → WaitRightly sc m.state → IsSound sc m.state → Agrees sc m.state → Agrees sc (machine_after sc m taken).state
+agrees_next sc m taken valid exists allowed rightly sound h =
+    machine_after_by sc m (λ taken move. MoveAgrees sc m.state move) (Agrees sc) (agrees_cases sc m.state valid rightly sound h) h.coordinator_count
     (λ taken move t. state_after_agrees sc m.state taken move h t) h taken exists allowed
 
 -- ---- before the first step

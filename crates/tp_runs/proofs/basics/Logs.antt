@@ -9,6 +9,7 @@ use Rattle.tp_model.specs.Ids.{same_txn}
 use Rattle.tp_model.specs.Words.{AdminId, Prepared, Record, Settled, TxnId, What}
 use Rattle.tp_model.specs.Words.log
 use Rattle.tp_recover.specs.Log.{decided_in, decision_in, has_voted, is_prepared_or_settled, known_in, preparation_in, prepared_in, settled_in, settlement_in, told_in, voted_in, while_unsettled}
+use Rattle.tp_recover.proofs.LogLemmas.{first_first, first_none, known_push, settled_push, voted_push}
 use Rattle.tp_machine.specs.Machine.{log_with}
 use Rattle.tp_runs.proofs.basics.Ids.{same_txn_is}
 
@@ -25,14 +26,6 @@ first_kept (Some found) y e = refl
 pub map_first : {A : Type 0} {B : Type 0} (f : A → B) (x y : Option A) → option_or (option_map f x) (option_map f y) ≡ option_map f (option_or x y)
 map_first f None y = refl
 map_first f (Some found) y = refl
-
-pub first_none : {A : Type 0} (x : Option A) → option_or x None ≡ x
-first_none None = refl
-first_none (Some found) = refl
-
-pub first_first : {A : Type 0} (x y z : Option A) → option_or (option_or x y) z ≡ option_or x (option_or y z)
-first_first None y z = refl
-first_first (Some found) y z = refl
 
 -- what is found stays found
 pub first_stays : {A : Type 0} (x y : Option A) (found : A) → x ≡ Some found → option_or x y ≡ Some found
@@ -66,19 +59,9 @@ pub decided_with : (kept : List Record) (append : Option Record) → decided_in 
 decided_with kept None = sym (first_none (decided_in kept))
 decided_with kept (Some forced) = decided_push kept forced
 
-settled_push : (txn : TxnId) (kept : List Record) (forced : Record) → settled_in txn (kept ++ forced ∷ []) ≡ option_or (settled_in txn kept) (settlement_in txn forced)
-settled_push txn [] forced = first_none (settlement_in txn forced)
-settled_push txn (first ∷ kept) forced =
-    ap (option_or (settlement_in txn first)) (settled_push txn kept forced) ∙ sym (first_first (settlement_in txn first) (settled_in txn kept) (settlement_in txn forced))
-
 pub settled_with : (txn : TxnId) (kept : List Record) (append : Option Record) → settled_in txn (log_with kept append) ≡ option_or (settled_in txn kept) (appended (settlement_in txn) append)
 settled_with txn kept None = sym (first_none (settled_in txn kept))
 settled_with txn kept (Some forced) = settled_push txn kept forced
-
-voted_push : (txn : TxnId) (kept : List Record) (forced : Record) → voted_in txn (kept ++ forced ∷ []) ≡ option_or (preparation_in txn forced) (voted_in txn kept)
-voted_push txn [] forced = sym (first_none (preparation_in txn forced))
-voted_push txn (first ∷ kept) forced =
-    ap (λ found. option_or found (preparation_in txn first)) (voted_push txn kept forced) ∙ first_first (preparation_in txn forced) (voted_in txn kept) (preparation_in txn first)
 
 pub voted_with : (txn : TxnId) (kept : List Record) (append : Option Record) → voted_in txn (log_with kept append) ≡ option_or (appended (preparation_in txn) append) (voted_in txn kept)
 voted_with txn kept None = refl
@@ -171,17 +154,6 @@ told_by admin append = option_map_or (told_in admin) append 0
 
 max_none : (n : ℕ) → max n 0 ≡ n
 max_none n = omega arith
-
-max_both : (n m : ℕ) → max n m ≡ max m n
-max_both n m = omega arith
-
-max_three : (n m k : ℕ) → max n (max m k) ≡ max (max n m) k
-max_three n m k = omega arith
-
-known_push : (first : ℕ) (admin : AdminId) (kept : List Record) (forced : Record) → known_in first admin (kept ++ forced ∷ []) ≡ max (known_in first admin kept) (told_in admin forced)
-known_push first admin [] forced = max_both (told_in admin forced) first
-known_push first admin (earliest ∷ kept) forced =
-    ap (max (told_in admin earliest)) (known_push first admin kept forced) ∙ max_three (told_in admin earliest) (known_in first admin kept) (told_in admin forced)
 
 -- a record raises what is known to the greater of it and what the record tells
 pub known_with : (first : ℕ) (admin : AdminId) (kept : List Record) (append : Option Record) → known_in first admin (log_with kept append) ≡ max (known_in first admin kept) (told_by admin append)

@@ -2,7 +2,6 @@
 use Rattle.std.proofs.Common.{IfSome, List, None, Option, Some, [], ap, arith, drop, false, length, option_and_then, refl, slice_get, subst, sym, true, ℕ, ◌++◌, ◌<◌, ◌∙◌, ◌∷◌, ◌≡◌}
 use Rattle.std.specs.List.{flat_map}
 use Rattle.std.proofs.lemmas.List.{length-map}
-use Rattle.tp_model.specs.Built.{is_built}
 use Rattle.tp_model.specs.Queries.{query_at}
 use Rattle.tp_model.specs.SerialRun.{are_in_range, opening_store, opening_value}
 use Rattle.tp_model.specs.Valid.{is_valid_txn}
@@ -23,8 +22,8 @@ use Rattle.tp_runs.proofs.bounds.Coordinator.{CoordinatorBounds, CoordinatorLow,
 use Rattle.tp_runs.proofs.bounds.Numbers.{AreBefore, number_low, sums_exact, values_most}
 use Rattle.tp_runs.proofs.bounds.Server.{IsBoundedLetter, OrdersBounded, ServerBefore, server_row_bounds}
 use Rattle.tp_runs.proofs.bounds.Values.{grown_in_range, log_in_range}
-use Rattle.tp_runs.proofs.ids.Queries.{homes_built}
-use Rattle.tp_runs.proofs.ids.Valid.{valid_built}
+use Rattle.tp_runs.proofs.ids.Queries.{have_homes}
+use Rattle.tp_runs.proofs.ids.Valid.{IsValid}
 use Rattle.tp_runs.proofs.basics.Found.{of_some}
 use Rattle.tp_runs.proofs.known.World.{Pairs}
 use Rattle.tp_runs.proofs.deeds.Built.{opening_in_range}
@@ -151,9 +150,9 @@ server_acts_bounds sc w at part now own append letters serial h found state told
     }
 
 -- what an order leaves of the values is in range, as its transaction was decided
-orders_bounded : (sc : Scenario) (w : State) → is_built sc ≡ true → Agrees sc w → Serial sc w → (n : ℕ) (mail : Mail) (at : ServerId) (part : Part Server) (s : Server) → WasSent w n mail (actor.Server at) → IsServerUp w at part s
+orders_bounded : (sc : Scenario) (w : State) → IsValid sc → Agrees sc w → Serial sc w → (n : ℕ) (mail : Mail) (at : ServerId) (part : Part Server) (s : Server) → WasSent w n mail (actor.Server at) → IsServerUp w at part s
     → are_in_range sc.items s.store.values ≡ true → length s.store.values ≡ length sc.items → OrdersBounded s mail
-orders_bounded sc w built agrees serial n mail at part s sent up in_range items_are d k =
+orders_bounded sc w valid agrees serial n mail at part s sent up in_range items_are d k =
     let V = DecidedAs w.actors.coordinators in
     let M = IsAsked sc w.actors.coordinators at in
     let here = server_agrees sc w at part s agrees up in
@@ -164,20 +163,20 @@ orders_bounded sc w built agrees serial n mail at part s sent up in_range items_
     let range : are_in_range sc.items (values_by s.store.values d.outcome (deeds_in (entry_at s d.txn))) ≡ true =
     ap (are_in_range sc.items) (values_by_log s part.log (Some (log.Settled (settled_as d))) here ends)
     ∙ grown_in_range sc s.store.values part.log (Some (log.Settled (settled_as d))) (serial.servers at.0 part up.found).tested in_range in
-    values_most sc (values_by s.store.values d.outcome (deeds_in (entry_at s d.txn))) (valid_built sc built) (values_length (length sc.items) d.outcome s.store.values (deeds_in (entry_at s d.txn)) items_are) range
+    values_most sc (values_by s.store.values d.outcome (deeds_in (entry_at s d.txn))) valid (values_length (length sc.items) d.outcome s.store.values (deeds_in (entry_at s d.txn)) items_are) range
 
-receipt_by_server_in_bounds : (sc : Scenario) (w : State) → is_built sc ≡ true → WaitRightly sc w → IsSound sc w → Agrees sc w → Pairs sc w → Serial sc w → Bounds sc w → (n : ℕ) (mail : Mail) (at : ServerId) (part : Part Server) (s : Server)
+receipt_by_server_in_bounds : (sc : Scenario) (w : State) → IsValid sc → WaitRightly sc w → IsSound sc w → Agrees sc w → Pairs sc w → Serial sc w → Bounds sc w → (n : ℕ) (mail : Mail) (at : ServerId) (part : Part Server) (s : Server)
     → WasSent w n mail (actor.Server at) → IsServerUp w at part s → MoveBounds sc (server_move w.actors at (acts_by (server_fact at) [] part.log (server_row sc s mail)))
-receipt_by_server_in_bounds sc w built rightly sound agrees pairs serial h n mail at part s sent up =
+receipt_by_server_in_bounds sc w valid rightly sound agrees pairs serial h n mail at part s sent up =
     let M = IsAsked sc w.actors.coordinators at in
     let effect = server_row sc s mail in
     let old : IsBoundedServer sc s = of_some (IsBoundedServer sc) part.up s up.up (h.servers at.0 part up.found).state in
     let was : UpOnLog sc s part.log = up_on_log sc w at part s serial up.found up.up in
-    let clear : RequestClear sc M s mail.letter.body = received_clear sc w built sound agrees pairs serial n mail at part s sent up in
+    let clear : RequestClear sc M s mail.letter.body = received_clear sc w valid sound agrees pairs serial n mail at part s sent up in
     let keeps = server_row_keeps sc M s mail (rightly at part s up) was.reads clear in
     let before : ServerBefore s = record { values = old.values; kept = record { writes = old.writes; settled = old.settled; entries = old.entries } } in
     let row = server_row_bounds sc M s mail (rightly at part s up) before (each_get IsBoundedMail w.mails n mail h.mails sent.sent) was.reads clear
-    (orders_bounded sc w built agrees serial n mail at part s sent up old.in_range was.reads.items_are) in
+    (orders_bounded sc w valid agrees serial n mail at part s sent up old.in_range was.reads.items_are) in
     let after : UpOnLog sc effect.state (log_with part.log effect.reaction.append) =
     acts_on_log sc M s part.log effect was (server_agrees sc w at part s agrees up) keeps (record_ends sc w at part effect.reaction.append agrees up.found (server_lawful sc w rightly agrees n mail at part s sent up).rests) in
     let range : are_in_range sc.items effect.state.store.values ≡ true =
@@ -185,7 +184,7 @@ receipt_by_server_in_bounds sc w built rightly sound agrees pairs serial h n mai
     server_acts_bounds sc w at part (Some effect.state) [] effect.reaction.append effect.reaction.letters serial h up.found
     (record {
       in_range = range;
-      values = values_most sc effect.state.store.values (valid_built sc built) keeps.reads.items_are range;
+      values = values_most sc effect.state.store.values valid keeps.reads.items_are range;
       writes = row.kept.writes;
       settled = row.kept.settled;
       entries = row.kept.entries;
@@ -209,28 +208,28 @@ coordinator_acts_bounds sc w txn part now own append letters h found state told 
 low_of : (sc : Scenario) (w : State) (txn : TxnId) (part : Part Coordinator) (c : Coordinator) → Bounds sc w → IsCoordinatorUp w txn part c → CoordinatorLow c
 low_of sc w txn part c h up = of_some CoordinatorLow part.up c up.up (h.coordinators txn.0 part up.found).state
 
-receipt_by_coordinator_in_bounds : (sc : Scenario) (w : State) → is_built sc ≡ true → Bounds sc w → (n : ℕ) (mail : Mail) (txn : TxnId) (part : Part Coordinator) (c : Coordinator) → WasSent w n mail (actor.Coordinator txn)
+receipt_by_coordinator_in_bounds : (sc : Scenario) (w : State) → IsValid sc → Bounds sc w → (n : ℕ) (mail : Mail) (txn : TxnId) (part : Part Coordinator) (c : Coordinator) → WasSent w n mail (actor.Coordinator txn)
     → IsCoordinatorUp w txn part c → MoveBounds sc (coordinator_move w.actors txn (acts_by coordinator_fact [] part.log (coordinator_row sc c mail)))
-receipt_by_coordinator_in_bounds sc w built h n mail txn part c sent up =
+receipt_by_coordinator_in_bounds sc w valid h n mail txn part c sent up =
     let effect = coordinator_row sc c mail in
-    let row : CoordinatorBounds effect = coordinator_row_bounds sc c mail (valid_built sc built) (homes_built sc built) (low_of sc w txn part c h up) (each_get IsBoundedMail w.mails n mail h.mails sent.sent) in
+    let row : CoordinatorBounds effect = coordinator_row_bounds sc c mail valid (have_homes sc valid) (low_of sc w txn part c h up) (each_get IsBoundedMail w.mails n mail h.mails sent.sent) in
     coordinator_acts_bounds sc w txn part (Some effect.state) [] effect.reaction.append effect.reaction.letters h up.found row.state tt row.forces row.letters
 
-begun_bounds : (sc : Scenario) (w : State) → is_built sc ≡ true → Bounds sc w → (txn : TxnId) (part : Part Coordinator) (c : Coordinator) → IsCoordinatorUp w txn part c → is_part_submitted (Some c) ≡ false
+begun_bounds : (sc : Scenario) (w : State) → IsValid sc → Bounds sc w → (txn : TxnId) (part : Part Coordinator) (c : Coordinator) → IsCoordinatorUp w txn part c → is_part_submitted (Some c) ≡ false
     → MoveBounds sc (coordinator_move w.actors txn (acts_by coordinator_fact (what.Submitted txn ∷ []) part.log (with_age (submit_row sc c) (length w.steps))))
-begun_bounds sc w built h txn part c up new =
+begun_bounds sc w valid h txn part c up new =
     let effect = with_age (submit_row sc c) (length w.steps) in
-    let row : CoordinatorBounds effect = submit_row_bounds sc c (length w.steps) (valid_built sc built) (homes_built sc built) (low_of sc w txn part c h up) new in
+    let row : CoordinatorBounds effect = submit_row_bounds sc c (length w.steps) valid (have_homes sc valid) (low_of sc w txn part c h up) new in
     coordinator_acts_bounds sc w txn part (Some effect.state) (what.Submitted txn ∷ []) effect.reaction.append effect.reaction.letters h up.found row.state (tt, tt) row.forces row.letters
 
 -- ---- steps
 
-bounds_cases : (sc : Scenario) (w : State) → is_built sc ≡ true → WaitRightly sc w → IsSound sc w → Agrees sc w → Pairs sc w → Serial sc w → Bounds sc w → Cases sc w (λ taken move. MoveBounds sc move)
-bounds_cases sc w built rightly sound agrees pairs serial h =
+bounds_cases : (sc : Scenario) (w : State) → IsValid sc → WaitRightly sc w → IsSound sc w → Agrees sc w → Pairs sc w → Serial sc w → Bounds sc w → Cases sc w (λ taken move. MoveBounds sc move)
+bounds_cases sc w valid rightly sound agrees pairs serial h =
     record {
       idle = idle_bounds sc w h;
-      server_received = λ n mail at part s sent up. receipt_by_server_in_bounds sc w built rightly sound agrees pairs serial h n mail at part s sent up;
-      coordinator_received = λ n mail txn part c sent up. receipt_by_coordinator_in_bounds sc w built h n mail txn part c sent up;
+      server_received = λ n mail at part s sent up. receipt_by_server_in_bounds sc w valid rightly sound agrees pairs serial h n mail at part s sent up;
+      coordinator_received = λ n mail txn part c sent up. receipt_by_coordinator_in_bounds sc w valid h n mail txn part c sent up;
       authority_told = λ n mail sent. still_bounds sc w w.actors.authority w.actors.master [] _ h tt (authority_says_none w.actors.authority mail.letter.body);
       master_told = λ n mail sent. still_bounds sc w w.actors.authority w.actors.master [] _ h tt (master_says_none w.actors.master mail.letter.body);
       published = λ admin exists more.
@@ -238,33 +237,33 @@ bounds_cases sc w built rightly sound agrees pairs serial h =
       pushed = λ admin server exists there. still_bounds sc w w.actors.authority w.actors.master [] (master.pushes w.actors.master admin server).reaction.letters h tt (tt, tt);
       ticked = λ by. still_bounds sc w (office.after_tick by w.actors.authority) w.actors.master (what.Ticked by ∷ []) [] h (tt, tt) tt;
       revoked = λ cred exists. still_bounds sc w (office.after_revocation cred w.actors.authority) w.actors.master (what.Revoked cred ∷ []) [] h (tt, tt) tt;
-      begun = λ txn part c exists up new. begun_bounds sc w built h txn part c up new;
+      begun = λ txn part c exists up new. begun_bounds sc w valid h txn part c up new;
     }
 
 -- a step that is not refused keeps all values within their bounds
-pub bounds_next : (sc : Scenario) (m : Machine) (taken : Step) → is_built sc ≡ true → IsStepOf sc taken → refusal m.state taken ≡ None → WaitRightly sc m.state → IsSound sc m.state → Agrees sc m.state → Pairs sc m.state → Serial sc m.state
+pub bounds_next : (sc : Scenario) (m : Machine) (taken : Step) → IsValid sc → IsStepOf sc taken → refusal m.state taken ≡ None → WaitRightly sc m.state → IsSound sc m.state → Agrees sc m.state → Pairs sc m.state → Serial sc m.state
     → Bounds sc m.state → Bounds sc (machine_after sc m taken).state
-bounds_next sc m taken built exists allowed rightly sound agrees pairs serial h =
-    machine_after_by sc m (λ taken move. MoveBounds sc move) (Bounds sc) (bounds_cases sc m.state built rightly sound agrees pairs serial h) agrees.coordinator_count
+bounds_next sc m taken valid exists allowed rightly sound agrees pairs serial h =
+    machine_after_by sc m (λ taken move. MoveBounds sc move) (Bounds sc) (bounds_cases sc m.state valid rightly sound agrees pairs serial h) agrees.coordinator_count
     (λ taken move t. state_after_bounds sc m.state taken move h t) h taken exists allowed
 
 -- ---- before the first step
 
-opening_server : (sc : Scenario) (at : ServerId) → is_built sc ≡ true → IsBoundedServer sc (server_opened.opening sc at)
-opening_server sc at built =
+opening_server : (sc : Scenario) (at : ServerId) → IsValid sc → IsBoundedServer sc (server_opened.opening sc at)
+opening_server sc at valid =
     record {
-      in_range = opening_in_range sc built;
-      values = values_most sc (opening_store sc) (valid_built sc built) (length-map sc.items opening_value) (opening_in_range sc built);
+      in_range = opening_in_range sc valid;
+      values = values_most sc (opening_store sc) valid (length-map sc.items opening_value) (opening_in_range sc valid);
       writes = opened_each (λ (txn : TxnId) (write : TentativeWrite). IsBoundedWrite write) (server_opened.opening sc at).store (length sc.txns) refl;
       settled = placed_none (λ (n : ℕ) (done : Settled). IsBoundedSettled done) (length sc.txns);
       entries = placed_none (λ (n : ℕ) (entry : Entry). IsBoundedEntry entry) (length sc.txns);
     }
 
-pub bounds_opening : (sc : Scenario) → is_built sc ≡ true → Bounds sc (opening_state sc)
-bounds_opening sc built =
+pub bounds_opening : (sc : Scenario) → IsValid sc → Bounds sc (opening_state sc)
+bounds_opening sc valid =
     record {
       servers = λ n part e. at_made (λ (k : ℕ) (found : Part Server). IsBoundedServerPart sc found) (λ (k : ℕ). opened_part (server_opened.opening sc (record { 0 = k }))) 0 (length sc.servers)
-          (λ k within. record { state = opening_server sc (record { 0 = k }) built; records = tt; in_range = opening_in_range sc built }) n part e;
+          (λ k within. record { state = opening_server sc (record { 0 = k }) valid; records = tt; in_range = opening_in_range sc valid }) n part e;
       coordinators = λ n part e. at_made (λ (k : ℕ) (found : Part Coordinator). CoordinatorPartLow found) (λ (k : ℕ). opened_part (coord_opened.idle sc (record { 0 = k }))) 0 (length sc.txns)
           (λ k within. record { state = record { deeds = tt; low = tt }; records = tt }) n part e;
       mails = tt;
@@ -282,27 +281,27 @@ deeds_low sc txn declared deeds e few h =
     let low = number_low declared deed.query k.asked (omega (arith, few)) asked in
     omega (arith, low)) deeds h
 
-coordinator_bounded : (sc : Scenario) (c : Coordinator) → is_built sc ≡ true → Each (IsSoundDeed sc c.txn) c.deeds → CoordinatorLow c → IsBoundedCoordinator sc c
-coordinator_bounded sc c built sound h =
+coordinator_bounded : (sc : Scenario) (c : Coordinator) → IsValid sc → Each (IsSoundDeed sc c.txn) c.deeds → CoordinatorLow c → IsBoundedCoordinator sc c
+coordinator_bounded sc c valid sound h =
     record {
       deeds = h.deeds;
       sums = λ declared e.
-          let few = (homes_built sc built).few c.txn.0 declared e in
-          sums_exact sc declared c.deeds (each_get (λ (txn : Transaction). is_valid_txn sc txn ≡ true) sc.txns c.txn.0 declared (valid_built sc built).txns e)
+          let few = (have_homes sc valid).few c.txn.0 declared e in
+          sums_exact sc declared c.deeds (each_get (λ (txn : Transaction). is_valid_txn sc txn ≡ true) sc.txns c.txn.0 declared valid.txns e)
           (deeds_low sc c.txn declared c.deeds e (omega (arith, few)) sound) h.deeds;
     }
 
-both_up_in_bounds : (sc : Scenario) (txn : TxnId) (up : Option Coordinator) → is_built sc ≡ true → IfSome up (IsSoundCoordinatorUp sc txn) → IfSome up CoordinatorLow → IfSome up (IsBoundedCoordinator sc)
-both_up_in_bounds sc txn None built sound h = tt
-both_up_in_bounds sc txn (Some c) built sound h = coordinator_bounded sc c built sound.sound.deeds h
+both_up_in_bounds : (sc : Scenario) (txn : TxnId) (up : Option Coordinator) → IsValid sc → IfSome up (IsSoundCoordinatorUp sc txn) → IfSome up CoordinatorLow → IfSome up (IsBoundedCoordinator sc)
+both_up_in_bounds sc txn None valid sound h = tt
+both_up_in_bounds sc txn (Some c) valid sound h = coordinator_bounded sc c valid sound.sound.deeds h
 
 -- every value of the world is bounded
-pub all_bounded : (sc : Scenario) (w : State) → is_built sc ≡ true → IsSound sc w → Bounds sc w → AreBounded sc w
-all_bounded sc w built sound h =
+pub all_bounded : (sc : Scenario) (w : State) → IsValid sc → IsSound sc w → Bounds sc w → AreBounded sc w
+all_bounded sc w valid sound h =
     record {
       servers = h.servers;
       coordinators = λ n part e.
-          record { state = both_up_in_bounds sc (record { 0 = n }) part.up built (sound.actors_are.coordinators n part e).state (h.coordinators n part e).state; records = (h.coordinators n part e).records };
+          record { state = both_up_in_bounds sc (record { 0 = n }) part.up valid (sound.actors_are.coordinators n part e).state (h.coordinators n part e).state; records = (h.coordinators n part e).records };
       mails_are = h.mails;
       facts_are = h.facts;
     }

@@ -10,7 +10,7 @@ use Rattle.tp_model.proofs.RunBounds.{IsWithin}
 use Rattle.tp_model.specs.SerialRun.{serial_run, with_deeds}
 use Rattle.tp_model.specs.Valid.{is_valid_txn}
 use Rattle.tp_types.specs.Each.{Each}
-use Rattle.tp_runs.proofs.basics.Logs.{first_none}
+use Rattle.tp_recover.proofs.LogLemmas.{first_none}
 use Rattle.tp_types.proofs.EachLemmas.{each_as}
 use Rattle.tp_runs.proofs.deeds.Joined.{AgreesAt, at_home, is_at, joined, share_at}
 use Rattle.tp_runs.proofs.deeds.Reads.{AreReads, IsClear, ReadsFrom, run_is}

@@ -13,7 +13,7 @@ use Rattle.tp_model.specs.SerialRun.{cleared_registers, deed_value, deeds_from, 
 use Rattle.tp_model.specs.Words.action
 use Rattle.tp_model.specs.Words.{Action, Deed, ItemId, OutOfRange, Query, Scenario, ServerId, Term, Transaction}
 use Rattle.tp_types.proofs.EachLemmas.{not_kept}
-use Rattle.tp_runs.proofs.basics.Logs.{first_none}
+use Rattle.tp_recover.proofs.LogLemmas.{first_none}
 use Rattle.tp_runs.proofs.deeds.Commits.{IsItemAt}
 use Rattle.tp_runs.proofs.deeds.Joined.{at_home, is_at, share_at}
 use Rattle.tp_runs.proofs.deeds.Runs.{IsRun, RunsFrom, RunsSoFar}

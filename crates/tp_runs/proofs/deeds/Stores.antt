@@ -6,7 +6,8 @@ use Rattle.tp_model.specs.Words.action
 use Rattle.std.specs.Option.{option_or}
 use Rattle.tp_model.specs.SerialRun.{with_deed, with_deeds, with_deed_by}
 use Rattle.tp_types.proofs.EachLemmas.{some_value}
-use Rattle.tp_runs.proofs.basics.Logs.{first_first, get_set, later_some}
+use Rattle.tp_runs.proofs.basics.Logs.{get_set, later_some}
+use Rattle.tp_recover.proofs.LogLemmas.{first_first}
 use Rattle.tp_runs.proofs.basics.Folds.{set_elsewhere}
 
 -- ---- the last write

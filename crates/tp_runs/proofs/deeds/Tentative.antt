@@ -12,7 +12,8 @@ use Rattle.tp_model.specs.SerialRun.{number_at, with_deed, with_deeds, with_deed
 use Rattle.tp_model.specs.Words.action
 use Rattle.tp_model.specs.Words.{Action, Deed, Item, ItemId, Scenario, TxnId}
 use Rattle.tp_types.proofs.EachLemmas.{found_passes}
-use Rattle.tp_runs.proofs.basics.Logs.{first_first, first_none, map_first}
+use Rattle.tp_runs.proofs.basics.Logs.{map_first}
+use Rattle.tp_recover.proofs.LogLemmas.{first_first, first_none}
 use Rattle.tp_runs.proofs.deeds.Ranges.{AreTested}
 use Rattle.tp_runs.proofs.deeds.Stores.{HasPlace, last_write, stored_none, stored_some, written, written_by}
 use Rattle.tp_types.specs.Each.{Each}

@@ -11,7 +11,8 @@ use Rattle.tp_model.specs.Words.body
 use Rattle.tp_machine.specs.Machine.{mails_of}
 use Rattle.tp_types.specs.Each.{Each}
 use Rattle.tp_runs.proofs.basics.Ids.{server_number}
-use Rattle.tp_runs.proofs.basics.Logs.{first_first, first_kept, first_none, first_stays, later_some}
+use Rattle.tp_runs.proofs.basics.Logs.{first_kept, first_stays, later_some}
+use Rattle.tp_recover.proofs.LogLemmas.{first_first, first_none}
 use Rattle.tp_types.proofs.EachLemmas.{each_as, each_get, each_placed}
 
 -- ---- what requests name

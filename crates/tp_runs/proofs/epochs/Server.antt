@@ -15,6 +15,7 @@ use Rattle.tp_types.proofs.EachLemmas.{each_append, each_as, each_found, each_mo
 use Rattle.tp_runs.proofs.basics.Phases.{is_first_at}
 use Rattle.tp_runs.proofs.epochs.Asked.{Asking, IsAsked, IsOwnNaming, LetterNamed, NamesNone, NamesOwn, naming, naming_of}
 use Rattle.tp_server.proofs.Rows.{AreRightWaits, IsAsking, IsFirstHere, IsFurther, IsResumed, resuming, server_by, unwaiting}
+use Rattle.tp_recover.proofs.LogLemmas.{boot_of, boots_push}
 use Rattle.tp_recover.specs.Log.{boots_in, epoch_in}
 use Rattle.tp_machine.specs.Machine.{log_with}
 use Rattle.tp_model.specs.Deeds.{deed_of}
@@ -105,22 +106,6 @@ plain_letters sc A E letters h =
     }
 
 -- ---- logs
-
-abbrev pub boot_of : Record → ℕ
-boot_of log.Boot = 1
-boot_of _ = 0
-
-boots_first : (first : Record) (kept : List Record) → boots_in (first ∷ kept) ≡ boots_in kept + boot_of first
-boots_first log.Boot kept = refl
-boots_first (log.Told t) kept = omega arith
-boots_first (log.Prepared p) kept = omega arith
-boots_first (log.Settled s) kept = omega arith
-boots_first (log.Decided d) kept = omega arith
-
--- an epoch is one more after each boot
-pub boots_push : (kept : List Record) (forced : Record) → boots_in (kept ++ forced ∷ []) ≡ boots_in kept + boot_of forced
-boots_push [] forced = boots_first forced []
-boots_push (first ∷ kept) forced = omega (arith, boots_first first (kept ++ forced ∷ []), boots_first first kept, boots_push kept forced)
 
 -- and never falls
 pub epoch_rises : (kept : List Record) (append : Option Record) → epoch_in kept ≤ epoch_in (log_with kept append)

@@ -23,12 +23,13 @@ use Rattle.tp_types.proofs.ListLemmas.{three_parts}
 
 -- ---- what is taken
 
--- the item's server and administrator exist, and its bounds are values
+-- the item's server and administrator exist, its bounds are values, and its opening value is within them
 pub record IsValidItem (sc : Scenario) (item : Item) : Type 0 where
   pub server : IsServer sc item.server
   pub admin : IsAdmin sc item.admin
   pub min : is_value item.min ≡ true
   pub max : is_value item.max ≡ true
+  pub opening : is_between item.min item.max item.value ≡ true
 
 -- what the scenario names exists, and each transaction is valid; no query is proved as it runs, which goes when schemes are built
 pub record IsValid (sc : Scenario) : Type 0 where
@@ -50,8 +51,9 @@ least low high n e = grind (arith, nat_tests)
 item_valid : (sc : Scenario) (item : Item) → is_valid_item sc item ≡ true → IsValidItem sc item
 item_valid sc item e =
     let parts = three_parts (is_server sc item.server) (is_admin sc item.admin) (has_valid_range item) e in
-    let bounds = and_parts (is_value item.min) (is_value item.max) (and_parts (has_valid_bounds item) (is_between item.min item.max item.value) parts.2).0 in
-    record { server = ltb-true item.server.0 (length sc.servers) parts.0; admin = ltb-true item.admin.0 (length sc.admins) parts.1; min = bounds.0; max = bounds.1 }
+    let range = and_parts (has_valid_bounds item) (is_between item.min item.max item.value) parts.2 in
+    let bounds = and_parts (is_value item.min) (is_value item.max) range.0 in
+    record { server = ltb-true item.server.0 (length sc.servers) parts.0; admin = ltb-true item.admin.0 (length sc.admins) parts.1; min = bounds.0; max = bounds.1; opening = range.1 }
 
 opening_valid : (admin : Admin) → is_valid_admin admin ≡ true → IsVersionOf admin admin.opening
 opening_valid admin e =

@@ -24,7 +24,7 @@ use Rattle.tp_runs.proofs.epochs.Asked.{asked_in}
 use Rattle.tp_runs.proofs.epochs.Kept.{CoordinatorKeeps}
 use Rattle.tp_runs.proofs.epochs.Server.{ServerMade}
 use Rattle.tp_runs.proofs.epochs.World.{Epochs, made_from_zero}
-use Rattle.tp_runs.proofs.ids.Queries.{homes_built}
+use Rattle.tp_runs.proofs.ids.Queries.{have_homes}
 use Rattle.tp_runs.proofs.ids.Valid.{IsValid, valid_built}
 use Rattle.tp_runs.proofs.pairs.Actors.{BodyPairs, DoneFrom, LetterPairs, PrepareAt, QueryAt, VoteFrom, asker_at, asker_by, asker_in, asker_of, asker_up, body_stays, pair_at, pair_by, pair_of, pair_up, site_of, stand_of}
 use Rattle.tp_runs.proofs.pairs.CoordinatorRows.{AnswerPairs, AskPairs, CoordinatorActsPairs, CoordinatorPaired, PhaseNames, PhaseNumbered, PrepareTo, QueryTo, RowAsks, coordinator_row_asks, submit_row_asks}
@@ -402,7 +402,7 @@ begun_pairs : (sc : Scenario) (w : State) → is_built sc ≡ true → AreFew sc
 begun_pairs sc w built few sound a epochs trusts h txn part c exists up new =
     let effect = with_age (submit_row sc c) (length w.steps) in
     let d = declared_by sc txn exists in
-    let same = (begun_lawful sc w built sound a txn part c exists up new).same_txn ∙ own_txn sc w txn part c sound up.found up.up in
+    let same = (begun_lawful sc w (valid_built sc built) sound a txn part c exists up new).same_txn ∙ own_txn sc w txn part c sound up.found up.up in
     coordinator_acts_pairs sc w d.0 txn part (Some effect.state) (what.Submitted txn ∷ []) effect.reaction.append effect.reaction.letters h up.found d.1
     (row_asks sc d.0 txn (pair_at w.actors txn) effect same
     (submit_row_asks sc d.0 (pair_at w.actors txn) c (length w.steps) (coordinator_paired sc w d.0 txn part c few sound epochs trusts h up d.1) new))
@@ -422,7 +422,7 @@ pairs_cases sc w built valid few rightly sound a epochs trusts h =
     record {
       idle = λ taken happened e. still_pairs sc w happened [] w.actors h refl refl tt;
       server_received = λ n mail at part s sent up. receipt_by_server_in_known sc w rightly sound a epochs h n mail at part s sent up;
-      coordinator_received = λ n mail txn part c sent up. receipt_by_coordinator_in_known sc w valid (homes_built sc built) few sound a epochs trusts h n mail txn part c sent up;
+      coordinator_received = λ n mail txn part c sent up. receipt_by_coordinator_in_known sc w valid (have_homes sc valid) few sound a epochs trusts h n mail txn part c sent up;
       authority_told = λ n mail sent. still_pairs sc w [] (office.authority_row w.actors.authority mail).reaction.letters w.actors h refl refl (tells_plain_in_known sc w.actors.authority mail.letter.body);
       master_told = λ n mail sent. still_pairs sc w [] (master.master_row w.actors.master mail).reaction.letters w.actors h refl refl (newest_plain_in_known sc w.actors.master mail.letter.body);
       published = λ admin exists more.

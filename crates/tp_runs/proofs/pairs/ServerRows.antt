@@ -17,10 +17,11 @@ use Rattle.tp_model.specs.Words.{Body, DecideRequest, Deed, DoneReply, Letter, M
 use Rattle.tp_runs.proofs.agreement.Server.{ServerAgrees, open_unsettled, prepared_now}
 use Rattle.tp_runs.proofs.basics.Ids.{same_txn_from, same_txn_is}
 use Rattle.tp_types.proofs.EachLemmas.{each_as, each_found, each_more, none_if_not_some, set_here}
-use Rattle.tp_runs.proofs.basics.Logs.{appended, first_none, prepared_still, settled_still, settled_with}
+use Rattle.tp_runs.proofs.basics.Logs.{appended, prepared_still, settled_still, settled_with}
+use Rattle.tp_recover.proofs.LogLemmas.{first_none}
 use Rattle.tp_server.proofs.Tables.{placed_within}
 use Rattle.tp_runs.proofs.basics.Verdicts.{numbers_kept}
-use Rattle.tp_runs.proofs.epochs.Server.{boots_push}
+use Rattle.tp_recover.proofs.LogLemmas.{boots_push}
 use Rattle.tp_runs.proofs.pairs.Actors.{AllFit, AllNext, pair_of, pair_up, site_of}
 use Rattle.tp_runs.proofs.pairs.Ends as end
 use Rattle.tp_runs.proofs.pairs.Ends.{ordered}

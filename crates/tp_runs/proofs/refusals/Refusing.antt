@@ -10,7 +10,6 @@ use Rattle.std.proofs.lemmas.Bool.{and_from, and_parts, eqb-true, not-true, or_l
 use Rattle.std.proofs.lemmas.List.Folds.{list_any-append}
 use Rattle.std.proofs.lemmas.Option.{same_Some, slice_get-map}
 use Rattle.tp_types.proofs.ListLemmas.{number_itself}
-use Rattle.tp_model.specs.Built.{is_built}
 use Rattle.tp_model.specs.Causes.{first_abort_of, is_explained_at, is_outside_range, is_run_value, lost_work, place_of}
 use Rattle.tp_model.specs.Facts.{before, is_settled_as}
 use Rattle.tp_model.specs.Ids.{same_item, same_server, same_txn}
@@ -22,6 +21,7 @@ use Rattle.tp_model.specs.Words.no
 use Rattle.tp_model.specs.Words.outcome
 use Rattle.tp_model.specs.Words.what
 use Rattle.tp_model.specs.Words.{Actor, Deed, Fact, Item, ItemId, Mail, OutOfRange, PrepareRequest, Scenario, ServerId, Transaction, TxnId, What}
+use Rattle.tp_runs.proofs.ids.Valid.{IsValid}
 use Rattle.tp_runs.proofs.agreement.World.{Agrees}
 use Rattle.tp_runs.proofs.basics.Facts.{before_past, facts_after, grows_with_facts, said}
 use Rattle.tp_types.proofs.EachLemmas.{each_get}
@@ -170,26 +170,26 @@ pub record IsFirstAbort (sc : Scenario) (facts : List Fact) (place : ℕ) (txn :
 
 -- once a server aborts the transaction, and no work of it was lost, its coordinator has done the transaction's run by
 -- itself on the store: now, where it is the first abort
-pub run_at_abort : (sc : Scenario) (w : State) (txn : TxnId) (happened : List What) (declared : Transaction) (awaiting : IsAwaiting w.actors.coordinators txn) → is_built sc ≡ true → Agrees sc w → Pairs sc w → Serial sc w
+pub run_at_abort : (sc : Scenario) (w : State) (txn : TxnId) (happened : List What) (declared : Transaction) (awaiting : IsAwaiting w.actors.coordinators txn) → IsValid sc → Agrees sc w → Pairs sc w → Serial sc w
     → Remembers sc w → slice_get sc.txns txn.0 ≡ Some declared → stand_of awaiting.c.phase ≡ Prepares → first_abort_of txn w.facts ≡ None
     → IsRunBefore sc (facts_after w happened) (length w.steps + 1) (length w.steps) txn declared awaiting.c
-run_at_abort sc w txn happened declared awaiting built a pairs serial known there prepares none =
+run_at_abort sc w txn happened declared awaiting valid a pairs serial known there prepares none =
     let place = length w.steps in
     let all : before place (facts_after w happened) ≡ w.facts = (grows_with_facts w.facts place happened).same place (omega arith) ∙ before_past place w.facts a.past in
     record {
       prepares = prepares;
       past = omega arith;
       runs = λ kept.
-          run_now sc w txn declared awaiting built a pairs serial known
+          run_now sc w txn declared awaiting valid a pairs serial known
           (record { declared_is = there; prepares = prepares; none = none; kept = sym (lost_same sc txn w.facts declared place place happened (omega arith)) ∙ kept })
           ∙ ap (λ (found : List Fact). serial_run declared (store_of sc found)) (sym all);
     }
 
 -- the first abort after a server aborts: one of before, or this one
-first_now : (sc : Scenario) (w : State) (at : ServerId) (txn : TxnId) (declared : Transaction) (awaiting : IsAwaiting w.actors.coordinators txn) → is_built sc ≡ true → Agrees sc w → Pairs sc w → Serial sc w → Remembers sc w
+first_now : (sc : Scenario) (w : State) (at : ServerId) (txn : TxnId) (declared : Transaction) (awaiting : IsAwaiting w.actors.coordinators txn) → IsValid sc → Agrees sc w → Pairs sc w → Serial sc w → Remembers sc w
     → Refusals sc w → slice_get sc.txns txn.0 ≡ Some declared → stand_of awaiting.c.phase ≡ Prepares
     → IsFirstAbort sc (facts_after w (what.Settled at txn outcome.Abort ∷ [])) (length w.steps + 1) txn declared awaiting.c
-first_now sc w at txn declared awaiting built a pairs serial known h there prepares = by_old (first_abort_of txn w.facts) refl
+first_now sc w at txn declared awaiting valid a pairs serial known h there prepares = by_old (first_abort_of txn w.facts) refl
   where
     by_old : (old : Option ℕ) → first_abort_of txn w.facts ≡ old → IsFirstAbort sc (facts_after w (what.Settled at txn outcome.Abort ∷ [])) (length w.steps + 1) txn declared awaiting.c
     by_old (Some first) found =
@@ -207,7 +207,7 @@ first_now sc w at txn declared awaiting built a pairs serial known h there prepa
           first = length w.steps;
           first_is = first_abort_append txn w.facts (facts_of (length w.steps) happened)
               ∙ (ap (λ (old : Option ℕ). option_or old (first_abort_of txn (facts_of (length w.steps) happened))) none ∙ new);
-          run = run_at_abort sc w txn happened declared awaiting built a pairs serial known there prepares none;
+          run = run_at_abort sc w txn happened declared awaiting valid a pairs serial known there prepares none;
         }
 
 -- ---- it is shown
@@ -221,10 +221,10 @@ value_explained sc txn facts refused declared first run = by_lost (lost_work sc 
     by_lost true e = or_left (lost_work sc txn facts declared first) (is_run_value sc facts refused declared first) e
     by_lost false e = or_right (lost_work sc txn facts declared first) (is_run_value sc facts refused declared first) (run e)
 
-pub refusal_shown : (sc : Scenario) (w : State) (n : ℕ) (mail : Mail) (at : ServerId) (part : Part Server) (s : Server) (p : PrepareRequest) (entry : Entry) (number : ℕ) (value : ℤ) → is_built sc ≡ true → IsSound sc w → Agrees sc w → Pairs sc w
+pub refusal_shown : (sc : Scenario) (w : State) (n : ℕ) (mail : Mail) (at : ServerId) (part : Part Server) (s : Server) (p : PrepareRequest) (entry : Entry) (number : ℕ) (value : ℤ) → IsValid sc → IsSound sc w → Agrees sc w → Pairs sc w
     → Serial sc w → Remembers sc w → Refusals sc w → WasSent w n mail (actor.Server at) → IsServerUp w at part s → IsRefusal s mail p entry number value → IsAwaiting w.actors.coordinators p.txn
     → ReasonShown sc (facts_after w (what.Settled at p.txn outcome.Abort ∷ [])) (length w.steps + 1) at p.txn (no.Range number value)
-refusal_shown sc w n mail at part s p entry number value built sound a pairs serial known h sent up k awaiting = λ declared there.
+refusal_shown sc w n mail at part s p entry number value valid sound a pairs serial known h sent up k awaiting = λ declared there.
     let txn = p.txn in
     let place = length w.steps in
     let happened = what.Settled at txn outcome.Abort ∷ [] in
@@ -232,7 +232,7 @@ refusal_shown sc w n mail at part s p entry number value built sound a pairs ser
     let server_sound : IsSoundServerUp sc at s = subst (λ (u : Option Server). IfSome u (IsSoundServerUp sc at)) up.up part_sound.state in
     let share : entry.deeds ≡ share_at sc at.0 awaiting.c.deeds = asked_share sc w n mail at part s p entry declared awaiting pairs sent up k.said_is there k.found (eqb-true entry.epoch p.epoch k.same_epoch) in
     let prepares = asked_prepares sc w n mail at p declared awaiting pairs sent k.said_is there in
-    let found : IsFirstAbort sc (facts_after w happened) (place + 1) txn declared awaiting.c = first_now sc w at txn declared awaiting built a pairs serial known h there prepares in
+    let found : IsFirstAbort sc (facts_after w happened) (place + 1) txn declared awaiting.c = first_now sc w at txn declared awaiting valid a pairs serial known h there prepares in
     let store = store_of sc (before found.first (facts_after w happened)) in
     let here : UpOnLog sc s part.log = up_on_log sc w at part s serial up.found up.up in
     let out : IsOutsideWrite sc at entry.deeds number value = subst (λ (server : ServerId). IsOutsideWrite sc server entry.deeds number value) server_sound.server_is (outside_write sc s txn entry number value server_sound.sound here.reads k.found k.outside) in

@@ -7,7 +7,6 @@ use Rattle.std.proofs.Common.{Bool, IfSome, List, None, Option, Some, [], ap, ar
 use Rattle.std.proofs.lemmas.Bool.{and_from, and_parts, eq-eqb, eqb-true, false_from_ne_true, or_cases, or_from, or_left, or_right}
 use Rattle.std.proofs.lemmas.Option.{same_Some}
 use Rattle.tp_model.specs.Agreement.{has_item_at}
-use Rattle.tp_model.specs.Built.{is_built}
 use Rattle.tp_model.specs.Causes.{first_abort_of, is_abort, is_abort_what, is_crash_what, is_own_server, is_server_actor, is_server_of, lost_work, place_of}
 use Rattle.tp_model.specs.Facts.{is_settled_as, is_settled_what, outcome_of, same_outcome}
 use Rattle.tp_model.specs.Ids.{same_server, same_txn}
@@ -34,7 +33,7 @@ use Rattle.tp_types.proofs.EachLemmas.{each_as, each_get, missing, some_value}
 use Rattle.tp_types.specs.Each.{Each}
 use Rattle.tp_runs.proofs.basics.Logs.{listed}
 use Rattle.tp_runs.proofs.basics.Phases.{is_undecided}
-use Rattle.tp_runs.proofs.ids.Valid.{IsValid, valid_built}
+use Rattle.tp_runs.proofs.ids.Valid.{IsValid}
 use Rattle.tp_runs.proofs.pairs.Actors.{asker_by, asker_of, asker_up, entry_by, entry_up, is_part_up, pair_at, site_of, stand_of}
 use Rattle.tp_runs.proofs.pairs.Fits.{AskerFits, IsGone, Matches, Pairing, There}
 use Rattle.tp_runs.proofs.basics.Found.{of_some}
@@ -291,10 +290,9 @@ share_read sc w txn deeds at serial shares =
 -- ---- its run
 
 -- what the coordinator has done is its transaction's run by itself on the store
-pub run_now : (sc : Scenario) (w : State) (txn : TxnId) (declared : Transaction) (awaiting : IsAwaiting w.actors.coordinators txn) → is_built sc ≡ true → Agrees sc w → Pairs sc w → Serial sc w → Remembers sc w
+pub run_now : (sc : Scenario) (w : State) (txn : TxnId) (declared : Transaction) (awaiting : IsAwaiting w.actors.coordinators txn) → IsValid sc → Agrees sc w → Pairs sc w → Serial sc w → Remembers sc w
     → IsRunning sc w txn declared awaiting → awaiting.c.deeds ≡ serial_run declared (store_of sc w.facts)
-run_now sc w txn declared awaiting built agrees pairs serial known running =
-    let valid : IsValid sc = valid_built sc built in
+run_now sc w txn declared awaiting valid agrees pairs serial known running =
     let valid_txn : is_valid_txn sc declared ≡ true = each_get (λ (t : Transaction). is_valid_txn sc t ≡ true) sc.txns txn.0 declared valid.txns running.declared_is in
     let old = asker_fits sc w txn 0 declared awaiting pairs running.declared_is in
     let shares : HasShares sc w txn awaiting.c.deeds = λ n. shares_at sc w txn declared awaiting (server_number n) (has_item_at sc (server_number n) txn) refl valid agrees pairs serial known running in
@@ -302,4 +300,4 @@ run_now sc w txn declared awaiting built agrees pairs serial known running =
     commit_serial sc declared (IsUnsettled sc w.actors) (λ (n : ℕ). overlay sc w.facts) (store_of sc w.facts) awaiting.c.deeds valid_txn
     (store_within sc (store_of sc w.facts) valid (store_length sc w.facts) serial.range) old.runs (old.all running.prepares)
     (λ n. share_read sc w txn awaiting.c.deeds n serial (shares n)) serial.store
-    (commit_clear sc w txn declared awaiting.c.deeds built agrees serial running.declared_is none old.runs shares)
+    (commit_clear sc w txn declared awaiting.c.deeds valid agrees serial running.declared_is none old.runs shares)

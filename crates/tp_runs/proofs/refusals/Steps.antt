@@ -5,7 +5,6 @@ use Rattle.std.proofs.Common.{Bool, IfSome, List, None, Option, Some, [], ap, ar
 use Rattle.std.proofs.lemmas.Bool.{and_parts, eqb-true}
 use Rattle.std.proofs.lemmas.Option.{cond_some, none-some, same_Some}
 use Rattle.tp_types.specs.Effect.{Effect}
-use Rattle.tp_model.specs.Built.{is_built}
 use Rattle.tp_model.specs.Causes.{first_abort_of, is_abort, is_abort_what, place_of}
 use Rattle.std.specs.Option.{option_or}
 use Rattle.tp_model.specs.Facts.{before, is_settled_as, outcome_of, same_outcome}
@@ -21,6 +20,7 @@ use Rattle.tp_model.specs.Words.step
 use Rattle.tp_model.specs.Words.vote
 use Rattle.tp_model.specs.Words.what
 use Rattle.tp_model.specs.Words.{Actor, Body, DecideRequest, Fact, Letter, Mail, Record, Scenario, ServerId, Settled, Step, Transaction, TxnId, VoteReply, What}
+use Rattle.tp_runs.proofs.ids.Valid.{IsValid}
 use Rattle.tp_runs.proofs.agreement.Coordinator.{idle_is}
 use Rattle.tp_runs.proofs.agreement.CoordinatorActs.{coordinator_facts}
 use Rattle.tp_runs.proofs.agreement.ServerActs.{each_server_fact, server_facts}
@@ -257,9 +257,9 @@ abbrev SettlementShown : Scenario → State → ServerId → List What → Recor
 SettlementShown sc w at happened (log.Settled s) = (awaiting : IsAwaiting w.actors.coordinators s.txn) → IsSettlementShown sc w at happened s awaiting
 SettlementShown sc w at happened _ = Unit {0}
 
-server_row_shown : (sc : Scenario) (w : State) (n : ℕ) (mail : Mail) (at : ServerId) (part : Part Server) (s : Server) → is_built sc ≡ true → WaitRightly sc w → IsSound sc w → Agrees sc w → Pairs sc w → Serial sc w → Remembers sc w
+server_row_shown : (sc : Scenario) (w : State) (n : ℕ) (mail : Mail) (at : ServerId) (part : Part Server) (s : Server) → IsValid sc → WaitRightly sc w → IsSound sc w → Agrees sc w → Pairs sc w → Serial sc w → Remembers sc w
     → Refusals sc w → WasSent w n mail (actor.Server at) → IsServerUp w at part s → IfSome (server_row sc s mail).reaction.append (SettlementShown sc w at (server_facts at (server_row sc s mail).reaction.append))
-server_row_shown sc w n mail at part s built rightly sound a pairs serial known h sent up =
+server_row_shown sc w n mail at part s valid rightly sound a pairs serial known h sent up =
     server_by sc s mail (λ (effect : Effect Server). IfSome effect.reaction.append (SettlementShown sc w at (server_facts at effect.reaction.append))) (rightly at part s up)
     (record {
       relocked = λ effect locks k. k;
@@ -274,7 +274,7 @@ server_row_shown sc w n mail at part s built rightly sound a pairs serial known 
       refused = λ p entry number value k awaiting.
           record {
             prepares = λ declared there. asked_prepares sc w n mail at p declared awaiting pairs sent k.said_is there;
-            why = refusal_shown sc w n mail at part s p entry number value built sound a pairs serial known h sent up k awaiting;
+            why = refusal_shown sc w n mail at part s p entry number value valid sound a pairs serial known h sent up k awaiting;
           };
       refused_again = λ p settled why k. tt;
       settled = λ d k awaiting. record { prepares = λ declared there. absurd (not_ordered d k.said_is awaiting); why = tt };
@@ -293,10 +293,10 @@ server_row_shown sc w n mail at part s built rightly sound a pairs serial known 
         cc
 
 -- the first abort of a transaction is this server's
-new_run : (sc : Scenario) (w : State) (at : ServerId) (happened : List What) (append : Option Record) (txn : TxnId) (declared : Transaction) (first : ℕ) (awaiting : IsAwaiting w.actors.coordinators txn) → is_built sc ≡ true → Agrees sc w
+new_run : (sc : Scenario) (w : State) (at : ServerId) (happened : List What) (append : Option Record) (txn : TxnId) (declared : Transaction) (first : ℕ) (awaiting : IsAwaiting w.actors.coordinators txn) → IsValid sc → Agrees sc w
     → Pairs sc w → Serial sc w → Remembers sc w → IfSome append (SettlementShown sc w at happened) → slice_get sc.txns txn.0 ≡ Some declared → first_abort_of txn w.facts ≡ None
     → first_abort_of txn (facts_of (length w.steps) (server_facts at append)) ≡ Some first → IsRunBefore sc (facts_after w happened) (length w.steps + 1) first txn declared awaiting.c
-new_run sc w at happened (Some (log.Settled s)) txn declared first awaiting built a pairs serial known shown exists none now = by_test (is_abort_what txn (what.Settled at s.txn s.outcome)) refl now
+new_run sc w at happened (Some (log.Settled s)) txn declared first awaiting valid a pairs serial known shown exists none now = by_test (is_abort_what txn (what.Settled at s.txn s.outcome)) refl now
   where
     by_test : (b : Bool) → is_abort_what txn (what.Settled at s.txn s.outcome) ≡ b → option_map place_of (if b then Some (record { place = length w.steps; what = what.Settled at s.txn s.outcome }) else None) ≡ Some first
         → IsRunBefore sc (facts_after w happened) (length w.steps + 1) first txn declared awaiting.c
@@ -306,13 +306,13 @@ new_run sc w at happened (Some (log.Settled s)) txn declared first awaiting buil
         subst (λ (t : TxnId). (awaited : IsAwaiting w.actors.coordinators t) → slice_get sc.txns t.0 ≡ Some declared → stand_of awaited.c.phase ≡ Prepares) own
         (λ awaited there. (shown awaited).prepares declared there) awaiting exists in
         subst (λ (k : ℕ). IsRunBefore sc (facts_after w happened) (length w.steps + 1) k txn declared awaiting.c) (same_Some (length w.steps) first e)
-        (run_at_abort sc w txn happened declared awaiting built a pairs serial known exists prepares none)
+        (run_at_abort sc w txn happened declared awaiting valid a pairs serial known exists prepares none)
     by_test false is e = absurd (cc)
-new_run sc w at happened None txn declared first awaiting built a pairs serial known shown exists none now = absurd (cc)
-new_run sc w at happened (Some (log.Decided d)) txn declared first awaiting built a pairs serial known shown exists none now = absurd (cc)
-new_run sc w at happened (Some log.Boot) txn declared first awaiting built a pairs serial known shown exists none now = absurd (cc)
-new_run sc w at happened (Some (log.Told told)) txn declared first awaiting built a pairs serial known shown exists none now = absurd (cc)
-new_run sc w at happened (Some (log.Prepared p)) txn declared first awaiting built a pairs serial known shown exists none now = absurd (cc)
+new_run sc w at happened None txn declared first awaiting valid a pairs serial known shown exists none now = absurd (cc)
+new_run sc w at happened (Some (log.Decided d)) txn declared first awaiting valid a pairs serial known shown exists none now = absurd (cc)
+new_run sc w at happened (Some log.Boot) txn declared first awaiting valid a pairs serial known shown exists none now = absurd (cc)
+new_run sc w at happened (Some (log.Told told)) txn declared first awaiting valid a pairs serial known shown exists none now = absurd (cc)
+new_run sc w at happened (Some (log.Prepared p)) txn declared first awaiting valid a pairs serial known shown exists none now = absurd (cc)
 
 -- what is settled after the act was settled before it, or by it
 newly_settled : (sc : Scenario) (w : State) (at : ServerId) (txn : TxnId) (kept : List Record) (append : Option Record) (settled : Settled) (R : Type 0) → option_or (settled_in txn kept) (appended (settlement_in txn) append) ≡ Some settled
@@ -337,10 +337,10 @@ shown_of : (sc : Scenario) (w : State) (at : ServerId) (told : List What) (appen
 shown_of sc w at told append order e k = subst (λ (x : Option Record). IfSome x (SettlementShown sc w at told)) e k
 
 -- a server that was up or down, and is up or down after it
-server_moves_in_steps : (sc : Scenario) (w : State) (at : ServerId) (part : Part Server) (now : Option Server) (own : List What) (append : Option Record) (letters : List Letter) → is_built sc ≡ true → Agrees sc w → Pairs sc w → Serial sc w
+server_moves_in_steps : (sc : Scenario) (w : State) (at : ServerId) (part : Part Server) (now : Option Server) (own : List What) (append : Option Record) (letters : List Letter) → IsValid sc → Agrees sc w → Pairs sc w → Serial sc w
     → Remembers sc w → Refusals sc w → slice_get w.actors.servers at.0 ≡ Some part → IsQuietOwn own → IfSome append (SettlementShown sc w at (own ++ server_facts at append))
     → MoveRefuses sc w (server_move w.actors at (acts (server_fact at) own part.log now (log_with part.log append) letters))
-server_moves_in_steps sc w at part now own append letters built a pairs serial known h found quiet shown =
+server_moves_in_steps sc w at part now own append letters valid a pairs serial known h found quiet shown =
     let next : Part Server = record { up = now; log = log_with part.log append } in
     let actors : Actors = record w.actors { servers = slice_set w.actors.servers at.0 next } in
     let happened = own ++ server_facts at append in
@@ -350,7 +350,7 @@ server_moves_in_steps sc w at part now own append letters built a pairs serial k
           by_server other txn settled awaiting (at.0 == other.0) refl (sym (ap (option_and_then (settled_by txn)) (get_set w.actors.servers at.0 other.0 part next found)) ∙ e);
       aborted = λ txn declared first awaiting exists e.
           old_run sc w happened txn declared first awaiting awaiting.c h exists (keeps_same awaiting.c)
-          (λ none later. new_run sc w at happened append txn declared first awaiting built a pairs serial known shown exists none (sym (quiet_abort txn (length w.steps) own (server_facts at append) quiet) ∙ later)) e;
+          (λ none later. new_run sc w at happened append txn declared first awaiting valid a pairs serial known shown exists none (sym (quiet_abort txn (length w.steps) own (server_facts at append) quiet) ∙ later)) e;
       happened = each_append (WhatRefused sc (facts_after w happened) (length w.steps)) own (server_facts at append)
           (each_as IsQuiet (WhatRefused sc (facts_after w happened) (length w.steps)) (quiet_shown sc (facts_after w happened) (length w.steps)) own quiet)
           (each_server_fact (WhatRefused sc (facts_after w happened) (length w.steps)) at (λ txn ended. tt) append);
@@ -397,14 +397,14 @@ begins_shown : (sc : Scenario) (w : State) (happened : List What) (c : Coordinat
 begins_shown sc w happened c None = tt
 begins_shown sc w happened c (Some at) = tt
 
-refusals_cases : (sc : Scenario) (w : State) → is_built sc ≡ true → WaitRightly sc w → IsSound sc w → Agrees sc w → Pairs sc w → Serial sc w → Remembers sc w → Refusals sc w → Cases sc w (λ taken move. MoveRefuses sc w move)
-refusals_cases sc w built rightly sound a pairs serial known h =
+refusals_cases : (sc : Scenario) (w : State) → IsValid sc → WaitRightly sc w → IsSound sc w → Agrees sc w → Pairs sc w → Serial sc w → Remembers sc w → Refusals sc w → Cases sc w (λ taken move. MoveRefuses sc w move)
+refusals_cases sc w valid rightly sound a pairs serial known h =
     record {
       idle = λ taken happened e. idle_refuses sc w taken happened h e;
       server_received = λ n mail at part s sent up.
           let effect = server_row sc s mail in
-          server_moves_in_steps sc w at part (Some effect.state) [] effect.reaction.append effect.reaction.letters built a pairs serial known h up.found tt
-          (server_row_shown sc w n mail at part s built rightly sound a pairs serial known h sent up);
+          server_moves_in_steps sc w at part (Some effect.state) [] effect.reaction.append effect.reaction.letters valid a pairs serial known h up.found tt
+          (server_row_shown sc w n mail at part s valid rightly sound a pairs serial known h sent up);
       coordinator_received = λ n mail txn part c sent up.
           let effect = coordinator_row sc c mail in
           coordinator_moves_in_steps sc w txn part (Some effect.state) [] effect.reaction.append effect.reaction.letters h up.found (row_opens part.up c effect.state up.up (still_undecided sc c mail)) tt
@@ -427,10 +427,10 @@ refusals_cases sc w built rightly sound a pairs serial known h =
     }
 
 -- a step that is not refused keeps what is said of refusals
-pub refusals_next : (sc : Scenario) (m : Machine) (taken : Step) → is_built sc ≡ true → IsStepOf sc taken → refusal m.state taken ≡ None → WaitRightly sc m.state → IsSound sc m.state → Agrees sc m.state → Pairs sc m.state → Serial sc m.state
+pub refusals_next : (sc : Scenario) (m : Machine) (taken : Step) → IsValid sc → IsStepOf sc taken → refusal m.state taken ≡ None → WaitRightly sc m.state → IsSound sc m.state → Agrees sc m.state → Pairs sc m.state → Serial sc m.state
     → Remembers sc m.state → Refusals sc m.state → Refusals sc (machine_after sc m taken).state
-refusals_next sc m taken built exists allowed rightly sound a pairs serial known h =
-    machine_after_by sc m (λ taken_is move. MoveRefuses sc m.state move) (Refusals sc) (refusals_cases sc m.state built rightly sound a pairs serial known h) a.coordinator_count
+refusals_next sc m taken valid exists allowed rightly sound a pairs serial known h =
+    machine_after_by sc m (λ taken_is move. MoveRefuses sc m.state move) (Refusals sc) (refusals_cases sc m.state valid rightly sound a pairs serial known h) a.coordinator_count
     (λ taken_is move t. state_after_refusals sc m.state taken_is move a.past h t) h taken exists allowed
 
 -- before the first step nothing is settled

@@ -14,7 +14,7 @@ use Rattle.tp_runs.proofs.ages.World.{IsSubmission, found_still}
 use Rattle.tp_runs.proofs.agreement.Logs.{once}
 use Rattle.tp_runs.proofs.basics.Crashes.{all_before, crashed_from, crashes, crashes_grow, fewer_before, noted}
 use Rattle.tp_runs.proofs.basics.Facts.{Grows}
-use Rattle.tp_runs.proofs.epochs.Server.{boot_of, boots_push}
+use Rattle.tp_recover.proofs.LogLemmas.{boot_of, boots_push}
 
 -- ---- counts
 

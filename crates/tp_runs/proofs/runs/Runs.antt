@@ -8,6 +8,7 @@ use Rattle.tp_model.specs.Outside.{IsOutside}
 use Rattle.tp_model.specs.SerialRun.{is_serial}
 use Rattle.tp_model.specs.Trust.{is_trusted}
 use Rattle.tp_model.specs.Words.{Actor, Fact, Scenario, Step}
+use Rattle.tp_runs.proofs.ids.Valid.{IsValid, valid_built}
 use Rattle.tp_runs.proofs.ages.World.{Ages, ages_next, ages_opening}
 use Rattle.tp_runs.proofs.deaths.World.{Deaths, deaths_next, deaths_opening}
 use Rattle.tp_runs.proofs.bounds.World.{Bounds, all_bounded, bounds_next, bounds_opening}
@@ -15,7 +16,7 @@ use Rattle.tp_runs.proofs.agreement.End.{facts_agreed}
 use Rattle.tp_runs.proofs.agreement.Steps.{agrees_next, agrees_opening}
 use Rattle.tp_runs.proofs.agreement.World.{Agrees}
 use Rattle.tp_runs.proofs.epochs.World.{Epochs, epochs_next, epochs_opening}
-use Rattle.tp_runs.proofs.ids.Queries.{homes_built}
+use Rattle.tp_runs.proofs.ids.Queries.{have_homes}
 use Rattle.tp_runs.proofs.ids.Steps.{sound_next, sound_opening}
 use Rattle.tp_runs.proofs.mails.World.{FewMails, HasFewMails, few_mails, few_next, few_opening, steps_counted}
 use Rattle.tp_runs.proofs.outside.Steps.{outside_next, outside_opening}
@@ -61,16 +62,17 @@ pub record Holds (sc : Scenario) (w : State) : Type 0 where
 
 pub holds_opening : (sc : Scenario) → is_built sc ≡ true → Holds sc (opening_state sc)
 holds_opening sc built =
-    record { sound = sound_opening sc built; agrees = agrees_opening sc; epochs = epochs_opening sc; ages = ages_opening sc; deaths = deaths_opening sc; restarts = restarts_opening sc; lone = lone_opening; outside = outside_opening sc; trusts = trusts_opening sc built; pairs = pairs_opening sc; serial = serial_opening sc built; refusals = refusals_opening sc; bounds = bounds_opening sc built; few = few_opening sc }
+    record { sound = sound_opening sc built; agrees = agrees_opening sc; epochs = epochs_opening sc; ages = ages_opening sc; deaths = deaths_opening sc; restarts = restarts_opening sc; lone = lone_opening; outside = outside_opening sc; trusts = trusts_opening sc built; pairs = pairs_opening sc; serial = serial_opening sc (valid_built sc built); refusals = refusals_opening sc; bounds = bounds_opening sc (valid_built sc built); few = few_opening sc }
 
 -- each invariant may lean on all the others before the step
 pub holds_next : (sc : Scenario) (m : Machine) (taken : Step) → is_built sc ≡ true → IsStepOf sc taken → refusal m.state taken ≡ None → Holds sc m.state → Holds sc (machine_after sc m taken).state
 holds_next sc m taken built exists allowed h =
     let rightly = wait_rightly sc m.state h.sound h.pairs in
+    let valid : IsValid sc = valid_built sc built in
     record {
       sound = sound_next sc m taken built exists allowed h.agrees.coordinator_count rightly h.sound;
-      agrees = agrees_next sc m taken built exists allowed rightly h.sound h.agrees;
-      epochs = epochs_next sc m taken (homes_built sc built) exists allowed rightly h.sound h.agrees h.epochs;
+      agrees = agrees_next sc m taken valid exists allowed rightly h.sound h.agrees;
+      epochs = epochs_next sc m taken (have_homes sc valid) exists allowed rightly h.sound h.agrees h.epochs;
       ages = ages_next sc m taken exists allowed rightly h.sound h.agrees h.ages;
       deaths = deaths_next sc m taken exists allowed rightly h.sound h.agrees h.ages h.pairs h.deaths;
       restarts = restarts_next sc m taken exists allowed rightly h.sound h.agrees h.epochs h.ages h.pairs h.deaths.told h.restarts;
@@ -78,9 +80,9 @@ holds_next sc m taken built exists allowed h =
       outside = outside_next sc m taken exists allowed h.agrees.coordinator_count h.agrees.past h.trusts.master h.outside;
       trusts = trusts_next sc m taken built exists allowed rightly h.sound h.agrees h.pairs h.trusts;
       pairs = pairs_next sc m taken built exists allowed rightly h.sound h.agrees h.epochs h.trusts h.pairs;
-      serial = serial_next sc m taken built exists allowed rightly h.sound h.agrees h.pairs h.serial;
-      refusals = refusals_next sc m taken built exists allowed rightly h.sound h.agrees h.pairs h.serial (record { epochs = h.epochs; told = h.deaths.told; restarts = h.restarts }) h.refusals;
-      bounds = bounds_next sc m taken built exists allowed rightly h.sound h.agrees h.pairs h.serial h.bounds;
+      serial = serial_next sc m taken valid exists allowed rightly h.sound h.agrees h.pairs h.serial;
+      refusals = refusals_next sc m taken valid exists allowed rightly h.sound h.agrees h.pairs h.serial (record { epochs = h.epochs; told = h.deaths.told; restarts = h.restarts }) h.refusals;
+      bounds = bounds_next sc m taken valid exists allowed rightly h.sound h.agrees h.pairs h.serial h.bounds;
       few = few_next sc m taken built exists allowed rightly h.agrees h.few;
     }
 
@@ -128,7 +130,7 @@ shows sc w built h none =
       caused = facts_caused sc w built h.sound h.refusals h.deaths h.trusts;
       serial = serial_facts sc w h.serial;
       lone = facts_lone w.facts h.lone;
-      values_are = serial_values sc w built h.agrees h.serial (servers_up w none h.restarts);
+      values_are = serial_values sc w (valid_built sc built) h.agrees h.serial (servers_up w none h.restarts);
     }
 
 -- after every list of steps the history is trusted so far
@@ -140,7 +142,7 @@ pub has_all_commits : (sc : Scenario) (steps : List Step) → is_built sc ≡ tr
 has_all_commits sc steps built exist ended =
     let w = (after sc steps).state in
     let h = holds_after sc steps built exist in
-    serial_values sc w built h.agrees h.serial (servers_up w (uncrashed_after sc steps built exist) h.restarts) ∙ values_at_end sc w built h.agrees h.serial ended
+    serial_values sc w (valid_built sc built) h.agrees h.serial (servers_up w (uncrashed_after sc steps built exist) h.restarts) ∙ values_at_end sc w (valid_built sc built) h.agrees h.serial ended
 
 -- and few mails were sent
 pub sends_few : (sc : Scenario) (steps : List Step) → is_built sc ≡ true → Each (IsStepOf sc) steps → length (after sc steps).state.mails ≤ mails_most * length steps
@@ -154,7 +156,7 @@ sound_after sc steps m built exist e = subst (λ (k : Machine). IsSound sc k.sta
 pub bounded_after : (sc : Scenario) (steps : List Step) (w : State) → is_built sc ≡ true → Each (IsStepOf sc) steps → w ≡ (after sc steps).state → AreBounded sc w
 bounded_after sc steps w built exist e =
     let h = holds_after sc steps built exist in
-    subst (AreBounded sc) (sym e) (all_bounded sc (after sc steps).state built h.sound h.bounds)
+    subst (AreBounded sc) (sym e) (all_bounded sc (after sc steps).state (valid_built sc built) h.sound h.bounds)
 
 pub so_far_after : (sc : Scenario) (steps : List Step) (w : State) → is_built sc ≡ true → Each (IsStepOf sc) steps → w ≡ (after sc steps).state → IsTrustedState sc w
 so_far_after sc steps w built exist e = subst (IsTrustedState sc) (sym e) (always_trusted sc steps built exist)

@@ -5,7 +5,6 @@ use Rattle.std.proofs.Common.{Bool, IfSome, List, None, Option, Some, [], ap, fa
 use Rattle.std.proofs.lemmas.Option.{same_Some}
 use Rattle.tp_types.proofs.ListLemmas.{number_itself}
 use Rattle.tp_model.specs.Agreement.{has_item_at}
-use Rattle.tp_model.specs.Built.{is_built}
 use Rattle.tp_model.specs.Words.decision
 use Rattle.tp_model.specs.Words.outcome
 use Rattle.tp_model.specs.Words.{Decision, Deed, Item, ItemId, Prepared, Scenario, Transaction, TxnId}
@@ -18,7 +17,7 @@ use Rattle.tp_runs.proofs.basics.Homes.{on_item}
 use Rattle.tp_types.proofs.EachLemmas.{each_as, each_both, missing}
 use Rattle.tp_runs.proofs.basics.Servers.{among_servers}
 use Rattle.tp_runs.proofs.ids.Queries.{AreOnItems, queries_on_items}
-use Rattle.tp_runs.proofs.ids.Valid.{IsValid, valid_built}
+use Rattle.tp_runs.proofs.ids.Valid.{IsValid}
 use Rattle.tp_runs.proofs.locked.Apart.{entries_apart}
 use Rattle.tp_runs.proofs.locked.World.{IsLockedServer}
 use Rattle.tp_runs.proofs.basics.Found.{of_some}
@@ -190,12 +189,12 @@ deed_clear sc w declared deed on h clear =
     record { item = found.0; item_is = found.1; clear = λ others u. clear (record { at = found.0.server.0; others = others; unsettled = u }) home }
 
 -- what an undecided transaction has done, and servers have of it, is clear of each commit that is not settled
-pub commit_clear : (sc : Scenario) (w : State) (txn : TxnId) (declared : Transaction) (deeds : List Deed) → is_built sc ≡ true → Agrees sc w → Serial sc w → slice_get sc.txns txn.0 ≡ Some declared
+pub commit_clear : (sc : Scenario) (w : State) (txn : TxnId) (declared : Transaction) (deeds : List Deed) → IsValid sc → Agrees sc w → Serial sc w → slice_get sc.txns txn.0 ≡ Some declared
     → decided_at w.actors.coordinators txn.0 ≡ None → RunsSoFar declared deeds → HasShares sc w txn deeds → Each (IsClearAtHome sc (IsUnsettled sc w.actors)) deeds
-commit_clear sc w txn declared deeds built agrees serial exists none runs shares =
+commit_clear sc w txn declared deeds valid agrees serial exists none runs shares =
     each_both (IsDeedOf declared) (λ (deed : Deed). (other : IsOther sc w) → IsClearOf sc w other deed) (IsClearAtHome sc (IsUnsettled sc w.actors))
-    (λ deed h clear. deed_clear sc w declared deed (queries_on_items sc txn.0 declared built exists) h clear) deeds (runs_each declared deeds runs)
-    (each_for_all (IsClearOf sc w) deeds (other_clear sc w txn deeds (valid_built sc built) agrees serial none shares))
+    (λ deed h clear. deed_clear sc w declared deed (queries_on_items sc txn.0 declared valid exists) h clear) deeds (runs_each declared deeds runs)
+    (each_for_all (IsClearOf sc w) deeds (other_clear sc w txn deeds valid agrees serial none shares))
 
 -- where its servers have prepared it they have its shares
 pub ready_shares : (sc : Scenario) (w : State) (txn : TxnId) (declared : Transaction) (deeds : List Deed) → Serial sc w → IsReady sc w txn declared deeds → HasShares sc w txn deeds
@@ -206,7 +205,7 @@ ready_shares sc w txn declared deeds serial r = λ at. by_item at (has_item_at s
     by_item at false item = inl (no_share sc at txn declared deeds r.declared_is r.runs item)
 
 -- a coordinator that is about to commit
-pub commit_ready : (sc : Scenario) (w : State) (txn : TxnId) (part : Part Coordinator) (c : Coordinator) (declared : Transaction) → is_built sc ≡ true → Agrees sc w → Serial sc w → slice_get w.actors.coordinators txn.0 ≡ Some part
+pub commit_ready : (sc : Scenario) (w : State) (txn : TxnId) (part : Part Coordinator) (c : Coordinator) (declared : Transaction) → IsValid sc → Agrees sc w → Serial sc w → slice_get w.actors.coordinators txn.0 ≡ Some part
     → decided_in part.log ≡ None → IsReady sc w txn declared c.deeds → IsClearCommit sc w c
-commit_ready sc w txn part c declared built agrees serial found none r =
-    commit_clear sc w txn declared c.deeds built agrees serial r.declared_is (ap (option_and_then decided_by) found ∙ none) r.runs (ready_shares sc w txn declared c.deeds serial r)
+commit_ready sc w txn part c declared valid agrees serial found none r =
+    commit_clear sc w txn declared c.deeds valid agrees serial r.declared_is (ap (option_and_then decided_by) found ∙ none) r.runs (ready_shares sc w txn declared c.deeds serial r)

@@ -7,7 +7,6 @@ use Rattle.std.proofs.Common.{IfSome, List, None, Option, Some, [], ap, arith, f
 use Rattle.std.proofs.lemmas.Bool.{and_parts, or_cases}
 use Rattle.std.proofs.lemmas.Option.{same_Some, slice_get_within}
 use Rattle.tp_model.specs.Agreement.{has_item, has_item_at}
-use Rattle.tp_model.specs.Built.{is_built}
 use Rattle.tp_model.specs.Facts.{is_decided_as, is_settled_as, is_submission, same_outcome}
 use Rattle.tp_model.specs.Queries.{servers_of}
 use Rattle.tp_model.specs.SerialRun.{is_serial, keeps_serial, overlay, store_of}
@@ -21,7 +20,7 @@ use Rattle.tp_types.proofs.EachLemmas.{each_from_all}
 use Rattle.tp_types.proofs.EachLemmas.{each_get, missing}
 use Rattle.tp_runs.proofs.basics.Logs.{listed}
 use Rattle.tp_runs.proofs.basics.Servers.{among_servers}
-use Rattle.tp_runs.proofs.ids.Valid.{IsValid, IsValidItem, valid_built}
+use Rattle.tp_runs.proofs.ids.Valid.{IsValid, IsValidItem}
 use Rattle.tp_runs.proofs.deeds.Lengths.{overlaid_length, store_length}
 use Rattle.tp_runs.proofs.serial_data.Unsettled.{IsUnsettled}
 use Rattle.tp_runs.proofs.serial_data.World.{Serial, values_here}
@@ -77,18 +76,18 @@ value_here sc w n item part (Some s) h found there e up =
     unwrapped (slice_get (overlay sc w.facts) n) item.value (missing (overlay sc w.facts) n within)
     ∙ ap (λ (v : Option ℤ). Some (unwrap_or v item.value)) (sym same)
 
-value_at : (sc : Scenario) (w : State) (n : ℕ) (item : Item) (part : Option (Part Server)) → is_built sc ≡ true → Agrees sc w → Serial sc w → ServersUp w.actors.servers → slice_get sc.items n ≡ Some item → slice_get w.actors.servers item.server.0 ≡ part
+value_at : (sc : Scenario) (w : State) (n : ℕ) (item : Item) (part : Option (Part Server)) → IsValid sc → Agrees sc w → Serial sc w → ServersUp w.actors.servers → slice_get sc.items n ≡ Some item → slice_get w.actors.servers item.server.0 ≡ part
     → slice_get (overlay sc w.facts) n ≡ Some (option_map_or (λ (p : Part Server). value_up p.up n item.value) part item.value)
-value_at sc w n item None built agrees h up found there =
-    let exists : IsServer sc item.server = (each_get (IsValidItem sc) sc.items n item (valid_built sc built).items found).server in
+value_at sc w n item None valid agrees h up found there =
+    let exists : IsServer sc item.server = (each_get (IsValidItem sc) sc.items n item valid.items found).server in
     absurd (missing w.actors.servers item.server.0 (omega (arith, exists, agrees.server_count)) there)
-value_at sc w n item (Some part) built agrees h up found there = value_here sc w n item part part.up h found there refl (up item.server.0 part there)
+value_at sc w n item (Some part) valid agrees h up found there = value_here sc w n item part part.up h found there refl (up item.server.0 part there)
 
 -- where each server is up, each item has the value that settled commits leave
-pub serial_values : (sc : Scenario) (w : State) → is_built sc ≡ true → Agrees sc w → Serial sc w → ServersUp w.actors.servers → (ending_of sc w).values ≡ overlay sc w.facts
-serial_values sc w built agrees h up =
+pub serial_values : (sc : Scenario) (w : State) → IsValid sc → Agrees sc w → Serial sc w → ServersUp w.actors.servers → (ending_of sc w).values ≡ overlay sc w.facts
+serial_values sc w valid agrees h up =
     values_from w.actors.servers 0 sc.items (overlay sc w.facts) (overlaid_length sc w.facts)
-    (λ n item found. value_at sc w n item (slice_get w.actors.servers item.server.0) built agrees h up found refl ∙ ap (λ (m : ℕ). Some (item_value w.actors.servers m item)) (none_before n))
+    (λ n item found. value_at sc w n item (slice_get w.actors.servers item.server.0) valid agrees h up found refl ∙ ap (λ (m : ℕ). Some (item_value w.actors.servers m item)) (none_before n))
   where
     none_before : (n : ℕ) → n ≡ 0 + n
     none_before n = omega arith
@@ -160,8 +159,8 @@ same_places (x ∷ xs) (y ∷ ys) e h =
     ap (λ (z : ℤ). z ∷ xs) first ∙ ap (λ (zs : List ℤ). y ∷ zs) (same_places xs ys (omega (arith, e)) (λ n within. h (suc n) (omega (arith, within))))
 
 -- once all transactions have ended at each of their servers, what is settled is what all commits leave
-pub values_at_end : (sc : Scenario) (w : State) → is_built sc ≡ true → Agrees sc w → Serial sc w → have_ended sc w.facts 0 sc.txns ≡ true → overlay sc w.facts ≡ store_of sc w.facts
-values_at_end sc w built agrees h ended =
+pub values_at_end : (sc : Scenario) (w : State) → IsValid sc → Agrees sc w → Serial sc w → have_ended sc w.facts 0 sc.txns ≡ true → overlay sc w.facts ≡ store_of sc w.facts
+values_at_end sc w valid agrees h ended =
     let counts : length (overlay sc w.facts) ≡ length sc.items = overlaid_length sc w.facts in
     same_places (overlay sc w.facts) (store_of sc w.facts) (counts ∙ sym (store_length sc w.facts))
     (λ n within. by_item n (slice_get sc.items n) refl (omega (arith, within, counts)))
@@ -169,4 +168,4 @@ values_at_end sc w built agrees h ended =
     by_item : (n : ℕ) (item : Option Item) → slice_get sc.items n ≡ item → n < length sc.items → slice_get (overlay sc w.facts) n ≡ slice_get (store_of sc w.facts) n
     by_item n None e within = absurd (missing sc.items n within e)
     by_item n (Some item) e within =
-        sym ((h.store item.server.0).bare n (record { declared = item; declared_is = e; at_is = refl }) (λ deeds u. absurd (none_left_in_serial_data sc w item.server.0 deeds (valid_built sc built) agrees ended u)))
+        sym ((h.store item.server.0).bare n (record { declared = item; declared_is = e; at_is = refl }) (λ deeds u. absurd (none_left_in_serial_data sc w item.server.0 deeds valid agrees ended u)))

@@ -1,14 +1,14 @@
 -- Serial data, what is said of a server's log: what is prepared there has read the values that the log leaves, and is apart. No server needs to be up for it.
 use Rattle.std.specs.Option.{option_or}
-use Rattle.std.proofs.Common.{Bool, IfSome, List, None, Option, Some, [], ap, append-nil, append_assoc, false, if◌then◌else◌, is_some, refl, subst, sym, true, ℕ, ℤ, ◌++◌, ◌∙◌, ◌∷◌, ◌≡◌}
+use Rattle.std.proofs.Common.{Bool, IfSome, List, None, Option, Some, [], ap, false, if◌then◌else◌, is_some, refl, subst, sym, true, ℕ, ℤ, ◌++◌, ◌∙◌, ◌∷◌, ◌≡◌}
 use Rattle.std.proofs.lemmas.Bool.{eq-eqb}
 use Rattle.std.proofs.lemmas.Option.{cond_some, same_Some}
 use Rattle.tp_model.specs.Ids.{same_txn}
-use Rattle.tp_model.specs.SerialRun.{opening_store}
 use Rattle.tp_model.specs.Words.log
 use Rattle.tp_model.specs.Words.outcome
 use Rattle.tp_model.specs.Words.{Deed, Outcome, Prepared, Record, Scenario, Settled, TxnId}
-use Rattle.tp_recover.specs.Log.{ended_first, preparation_in, prepared_in, settled_in, settlement_in, value_step, values_from, values_in}
+use Rattle.tp_recover.specs.Log.{ended_first, preparation_in, prepared_in, settled_in, settlement_in, value_step, values_in}
+use Rattle.tp_recover.proofs.LogLemmas.{values_push}
 use Rattle.tp_runs.proofs.agreement.Logs.{prepared_open}
 use Rattle.tp_runs.proofs.basics.Ids.{same_txn_is}
 use Rattle.tp_runs.proofs.basics.Logs.{appended, later_some, prepared_either, settled_with}
@@ -32,12 +32,6 @@ RecordReads sc kept _ = Unit {0}
 
 -- ---- the values after one more record
 
-values_push : (values : List ℤ) (before kept : List Record) (forced : Record) → values_from values before (kept ++ forced ∷ []) ≡ value_step (values_from values before kept) (before ++ kept) forced
-values_push values before [] forced = ap (λ (known : List Record). value_step values known forced) (sym (append-nil before))
-values_push values before (first ∷ kept) forced =
-    values_push (value_step values before first) (before ++ first ∷ []) kept forced
-    ∙ ap (λ (known : List Record). value_step (values_from (value_step values before first) (before ++ first ∷ []) kept) known forced) (append_assoc before (first ∷ []) kept)
-
 -- the values of a log after a record, where there is one
 abbrev pub values_grown : List ℤ → List Record → Option Record → List ℤ
 values_grown values kept None = values
@@ -45,7 +39,7 @@ values_grown values kept (Some forced) = value_step values kept forced
 
 pub values_after : (sc : Scenario) (kept : List Record) (append : Option Record) → values_in sc (log_with kept append) ≡ values_grown (values_in sc kept) kept append
 values_after sc kept None = refl
-values_after sc kept (Some forced) = values_push (opening_store sc) [] kept forced
+values_after sc kept (Some forced) = values_push sc kept forced
 
 -- ---- a vote
 

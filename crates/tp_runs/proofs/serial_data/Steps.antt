@@ -2,7 +2,6 @@
 use Rattle.std.proofs.Common.{IfSome, List, None, Option, Some, [], ap, arith, false, is_some, length, option_and_then, option_map, refl, replicate, slice_get, subst, suc, sym, true, unwrap_or, zero, ℕ, ◌<◌, ◌∙◌, ◌∷◌, ◌≡◌}
 use Rattle.std.proofs.lemmas.List.{length-map, length-replicate}
 use Rattle.std.proofs.lemmas.Option.{same_Some, slice_get_within}
-use Rattle.tp_model.specs.Built.{is_built}
 use Rattle.tp_model.specs.Queries.{item_of}
 use Rattle.tp_model.specs.SerialRun.{opening_store, opening_value, overlay}
 use Rattle.tp_model.specs.Words.actor
@@ -16,7 +15,7 @@ use Rattle.tp_runs.proofs.agreement.Server.{CastVote, ServerAgrees, cast_in, vot
 use Rattle.tp_runs.proofs.agreement.Steps.{begun_lawful, coordinator_lawful, mail_rests, mail_sound, own_txn, server_agrees, server_lawful}
 use Rattle.tp_runs.proofs.agreement.World.{Agrees, BodyRests}
 use Rattle.tp_types.proofs.EachLemmas.{at_made, each_get, none_if_not_some, placed_none, unset_at}
-use Rattle.tp_runs.proofs.ids.Valid.{valid_built}
+use Rattle.tp_runs.proofs.ids.Valid.{IsValid}
 use Rattle.tp_runs.proofs.locked.World.{IsLockedServer, ServersLocked, locked_next, locked_opening}
 use Rattle.tp_runs.proofs.pairs.Actors.{BodyPairs, LetterPairs, QueryAt, asker_at, pair_at, pair_up, site_of}
 use Rattle.tp_runs.proofs.pairs.Fits.{Fits, QueryFits}
@@ -104,17 +103,17 @@ request_clear sc w at part s from (body.Prepare p) locked up pairs agrees serial
 request_clear sc w at part s from _ locked up pairs agrees serial sound rests paired = tt
 
 -- so it is known of a mail that was sent
-pub received_clear : (sc : Scenario) (w : State) → is_built sc ≡ true → IsSound sc w → Agrees sc w → Pairs sc w → Serial sc w → (n : ℕ) (mail : Mail) (at : ServerId) (part : Part Server) (s : Server)
+pub received_clear : (sc : Scenario) (w : State) → IsValid sc → IsSound sc w → Agrees sc w → Pairs sc w → Serial sc w → (n : ℕ) (mail : Mail) (at : ServerId) (part : Part Server) (s : Server)
     → WasSent w n mail (actor.Server at) → IsServerUp w at part s → RequestClear sc (IsAsked sc w.actors.coordinators at) s mail.letter.body
-received_clear sc w built sound agrees pairs serial n mail at part s sent up =
+received_clear sc w valid sound agrees pairs serial n mail at part s sent up =
     let said : BodyPairs sc (pair_at w.actors) mail.letter.from (actor.Server at) mail.letter.body =
     subst (λ (to : Actor). BodyPairs sc (pair_at w.actors) mail.letter.from to mail.letter.body) sent.goes_to (each_get (λ (m : Mail). LetterPairs sc (pair_at w.actors) m.letter) w.mails n mail pairs.mails sent.sent) in
     request_clear sc w at part s mail.letter.from mail.letter.body (of_some (IsLockedServer sc) part.up s up.up (serial.locked at.0 part up.found)) up pairs agrees serial (mail_sound sc w n mail (actor.Server at) sound sent)
     (mail_rests sc w n mail (actor.Server at) agrees sent) said
 
-receipt_by_server_in_serial_data : (sc : Scenario) (w : State) → is_built sc ≡ true → WaitRightly sc w → IsSound sc w → Agrees sc w → Pairs sc w → Serial sc w → (n : ℕ) (mail : Mail) (at : ServerId) (part : Part Server) (s : Server)
+receipt_by_server_in_serial_data : (sc : Scenario) (w : State) → IsValid sc → WaitRightly sc w → IsSound sc w → Agrees sc w → Pairs sc w → Serial sc w → (n : ℕ) (mail : Mail) (at : ServerId) (part : Part Server) (s : Server)
     → WasSent w n mail (actor.Server at) → IsServerUp w at part s → MoveSerial sc w (server_move w.actors at (acts_by (server_fact at) [] part.log (server_row sc s mail)))
-receipt_by_server_in_serial_data sc w built rightly sound agrees pairs h n mail at part s sent up =
+receipt_by_server_in_serial_data sc w valid rightly sound agrees pairs h n mail at part s sent up =
     let was : UpOnLog sc s part.log = up_on_log sc w at part s h up.found up.up in
     server_receives_serial sc w at part s (server_row sc s mail) agrees h
     (record {
@@ -123,18 +122,18 @@ receipt_by_server_in_serial_data sc w built rightly sound agrees pairs h n mail 
       locked = of_some (IsLockedServer sc) part.up s up.up (h.locked at.0 part up.found);
       agrees = server_agrees sc w at part s agrees up;
       keeps = server_row_keeps sc (IsAsked sc w.actors.coordinators at) s mail (rightly at part s up) was.reads
-          (received_clear sc w built sound agrees pairs h n mail at part s sent up);
+          (received_clear sc w valid sound agrees pairs h n mail at part s sent up);
       rests = (server_lawful sc w rightly agrees n mail at part s sent up).rests;
     })
 
-receipt_by_coordinator_in_serial_data : (sc : Scenario) (w : State) → is_built sc ≡ true → IsSound sc w → Agrees sc w → Pairs sc w → Serial sc w → (n : ℕ) (mail : Mail) (txn : TxnId) (part : Part Coordinator) (c : Coordinator)
+receipt_by_coordinator_in_serial_data : (sc : Scenario) (w : State) → IsValid sc → IsSound sc w → Agrees sc w → Pairs sc w → Serial sc w → (n : ℕ) (mail : Mail) (txn : TxnId) (part : Part Coordinator) (c : Coordinator)
     → WasSent w n mail (actor.Coordinator txn) → IsCoordinatorUp w txn part c → MoveSerial sc w (coordinator_move w.actors txn (acts_by coordinator_fact [] part.log (coordinator_row sc c mail)))
-receipt_by_coordinator_in_serial_data sc w built sound agrees pairs h n mail txn part c sent up =
+receipt_by_coordinator_in_serial_data sc w valid sound agrees pairs h n mail txn part c sent up =
     let own : c.txn ≡ txn = own_txn sc w txn part c sound up.found up.up in
     let effect = coordinator_row sc c mail in
     let exists : IsTxn sc txn = (sound.actors_are.coordinators txn.0 part up.found).exists in
     let there = declared_by sc txn exists in
-    coordinator_acts_serial sc w txn part c effect.state [] effect.reaction.append effect.reaction.letters (valid_built sc built) agrees pairs h
+    coordinator_acts_serial sc w txn part c effect.state [] effect.reaction.append effect.reaction.letters valid agrees pairs h
     (record {
       exists = exists;
       up = up;
@@ -142,15 +141,15 @@ receipt_by_coordinator_in_serial_data sc w built sound agrees pairs h n mail txn
       fresh = subst (λ (t : TxnId). IfSome effect.reaction.append (IsFirst sc (IsPrepared w.actors.servers txn) t part.log)) own (coordinator_lawful sc w sound agrees n mail txn part c sent up).fresh;
       forces = coordinator_row_own sc c mail;
     })
-    (λ declared none r. commit_ready sc w txn part c declared built agrees h up.found none r)
+    (λ declared none r. commit_ready sc w txn part c declared valid agrees h up.found none r)
 
-begun_serial : (sc : Scenario) (w : State) → is_built sc ≡ true → IsSound sc w → Agrees sc w → Pairs sc w → Serial sc w → (txn : TxnId) (part : Part Coordinator) (c : Coordinator) → IsTxn sc txn → IsCoordinatorUp w txn part c
+begun_serial : (sc : Scenario) (w : State) → IsValid sc → IsSound sc w → Agrees sc w → Pairs sc w → Serial sc w → (txn : TxnId) (part : Part Coordinator) (c : Coordinator) → IsTxn sc txn → IsCoordinatorUp w txn part c
     → is_part_submitted (Some c) ≡ false → MoveSerial sc w (coordinator_move w.actors txn (acts_by coordinator_fact (what.Submitted txn ∷ []) part.log (with_age (submit_row sc c) (length w.steps))))
-begun_serial sc w built sound agrees pairs h txn part c exists up new =
+begun_serial sc w valid sound agrees pairs h txn part c exists up new =
     let effect = with_age (submit_row sc c) (length w.steps) in
-    let none : effect.reaction.append ≡ None = (begun_lawful sc w built sound agrees txn part c exists up new).forces in
+    let none : effect.reaction.append ≡ None = (begun_lawful sc w valid sound agrees txn part c exists up new).forces in
     let there = declared_by sc txn exists in
-    coordinator_acts_serial sc w txn part c effect.state (what.Submitted txn ∷ []) effect.reaction.append effect.reaction.letters (valid_built sc built) agrees pairs h
+    coordinator_acts_serial sc w txn part c effect.state (what.Submitted txn ∷ []) effect.reaction.append effect.reaction.letters valid agrees pairs h
     (record {
       exists = exists;
       up = up;
@@ -158,16 +157,16 @@ begun_serial sc w built sound agrees pairs h txn part c exists up new =
       fresh = subst (λ (append : Option Record). IfSome append (IsFirst sc (IsPrepared w.actors.servers txn) txn part.log)) (sym none) tt;
       forces = subst (λ (append : Option Record). IfSome append (RecordOwn c)) (sym none) tt;
     })
-    (λ declared undecided r. commit_ready sc w txn part c declared built agrees h up.found undecided r)
+    (λ declared undecided r. commit_ready sc w txn part c declared valid agrees h up.found undecided r)
 
 -- ---- steps
 
-serial_cases : (sc : Scenario) (w : State) → is_built sc ≡ true → WaitRightly sc w → IsSound sc w → Agrees sc w → Pairs sc w → Serial sc w → Cases sc w (λ taken move. MoveSerial sc w move)
-serial_cases sc w built rightly sound agrees pairs h =
+serial_cases : (sc : Scenario) (w : State) → IsValid sc → WaitRightly sc w → IsSound sc w → Agrees sc w → Pairs sc w → Serial sc w → Cases sc w (λ taken move. MoveSerial sc w move)
+serial_cases sc w valid rightly sound agrees pairs h =
     record {
       idle = idle_serial sc w h;
-      server_received = λ n mail at part s sent up. receipt_by_server_in_serial_data sc w built rightly sound agrees pairs h n mail at part s sent up;
-      coordinator_received = λ n mail txn part c sent up. receipt_by_coordinator_in_serial_data sc w built sound agrees pairs h n mail txn part c sent up;
+      server_received = λ n mail at part s sent up. receipt_by_server_in_serial_data sc w valid rightly sound agrees pairs h n mail at part s sent up;
+      coordinator_received = λ n mail txn part c sent up. receipt_by_coordinator_in_serial_data sc w valid sound agrees pairs h n mail txn part c sent up;
       authority_told = λ n mail sent. unmoved_serial sc w w.actors [] (office.authority_row w.actors.authority mail).reaction.letters h refl refl tt;
       master_told = λ n mail sent. unmoved_serial sc w w.actors [] (master.master_row w.actors.master mail).reaction.letters h refl refl tt;
       published = λ admin exists more.
@@ -175,14 +174,14 @@ serial_cases sc w built rightly sound agrees pairs h =
       pushed = λ admin server exists there. unmoved_serial sc w w.actors [] (master.pushes w.actors.master admin server).reaction.letters h refl refl tt;
       ticked = λ by. unmoved_serial sc w (record w.actors { authority = office.after_tick by w.actors.authority }) (what.Ticked by ∷ []) [] h refl refl (tt, tt);
       revoked = λ cred exists. unmoved_serial sc w (record w.actors { authority = office.after_revocation cred w.actors.authority }) (what.Revoked cred ∷ []) [] h refl refl (tt, tt);
-      begun = λ txn part c exists up new. begun_serial sc w built sound agrees pairs h txn part c exists up new;
+      begun = λ txn part c exists up new. begun_serial sc w valid sound agrees pairs h txn part c exists up new;
     }
 
 -- a step that is not refused keeps data serial
-pub serial_next : (sc : Scenario) (m : Machine) (taken : Step) → is_built sc ≡ true → IsStepOf sc taken → refusal m.state taken ≡ None → WaitRightly sc m.state → IsSound sc m.state → Agrees sc m.state → Pairs sc m.state → Serial sc m.state
+pub serial_next : (sc : Scenario) (m : Machine) (taken : Step) → IsValid sc → IsStepOf sc taken → refusal m.state taken ≡ None → WaitRightly sc m.state → IsSound sc m.state → Agrees sc m.state → Pairs sc m.state → Serial sc m.state
     → Serial sc (machine_after sc m taken).state
-serial_next sc m taken built exists allowed rightly sound agrees pairs h =
-    machine_after_by sc m (λ taken move. MoveSerial sc m.state move) (λ w. ServersLocked sc w.actors.servers → Serial sc w) (serial_cases sc m.state built rightly sound agrees pairs h) agrees.coordinator_count
+serial_next sc m taken valid exists allowed rightly sound agrees pairs h =
+    machine_after_by sc m (λ taken move. MoveSerial sc m.state move) (λ w. ServersLocked sc w.actors.servers → Serial sc w) (serial_cases sc m.state valid rightly sound agrees pairs h) agrees.coordinator_count
     (λ taken move t locked. state_after_serial sc m.state taken move agrees h t locked) (λ locked. h) taken exists allowed (locked_next sc m taken exists allowed rightly sound agrees pairs h.locked)
 
 -- ---- before the first step
@@ -222,8 +221,8 @@ none_decided sc txn = there (slice_get (opening_state sc).actors.coordinators tx
         at_made (λ (k : ℕ) (p : Part Coordinator). decided_by p ≡ None) (λ (k : ℕ). opened_part (coord.idle sc (record { 0 = k }))) 0 (length sc.txns) (λ k within. refl) txn part e
 
 -- the world before the first step
-pub serial_opening : (sc : Scenario) → is_built sc ≡ true → Serial sc (opening_state sc)
-serial_opening sc built =
+pub serial_opening : (sc : Scenario) → IsValid sc → Serial sc (opening_state sc)
+serial_opening sc valid =
     record {
       servers = λ n part e. subst (λ (k : ℕ). ServerPartSerial sc (overlay sc []) (record { 0 = k }) part) (omega arith)
           (at_made (λ (k : ℕ) (found : Part Server). ServerPartSerial sc (overlay sc []) (record { 0 = k }) found) (λ (k : ℕ). opened_part (server.opening sc (record { 0 = k }))) 0 (length sc.servers)
@@ -232,5 +231,5 @@ serial_opening sc built =
       shares = λ txn at committed p d e. absurd (let none = none_decided sc txn.0 in cc);
       store = λ at. record { covered = λ item deeds v own u e. absurd (let none = none_decided sc u.txn.0 in let some = u.decided in cc); bare = λ item own none. refl };
       facts = tt;
-      range = opening_in_range sc built;
+      range = opening_in_range sc valid;
     }

@@ -12,7 +12,8 @@ use Rattle.tp_model.specs.Words.{CommitRecord, Decision, Deed, Record, Scenario,
 use Rattle.tp_runs.proofs.agreement.Logs.{DecidedAs}
 use Rattle.tp_runs.proofs.basics.Ids.{same_txn_is}
 use Rattle.tp_types.proofs.EachLemmas.{set_here}
-use Rattle.tp_runs.proofs.basics.Logs.{appended, decided_with, first_none, look_set, settled_with}
+use Rattle.tp_runs.proofs.basics.Logs.{appended, decided_with, look_set, settled_with}
+use Rattle.tp_recover.proofs.LogLemmas.{first_none}
 use Rattle.tp_runs.proofs.deeds.Commits.{IsItemAt}
 use Rattle.tp_runs.proofs.deeds.Stores.{Adds, Drops, StoreFits, store_as}
 use Rattle.tp_recover.specs.Log.{decided_in, decision_in, settled_in, settlement_in}

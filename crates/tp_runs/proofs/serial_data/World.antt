@@ -20,7 +20,8 @@ use Rattle.tp_model.specs.Words.{Action, CommitRecord, Deed, Fact, Item, Prepare
 use Rattle.tp_runs.proofs.agreement.World.{Agrees, FactFollows}
 use Rattle.tp_runs.proofs.basics.Facts.{ArePast, Grows, before_past, grows_with_facts}
 use Rattle.tp_types.proofs.EachLemmas.{each_append, each_as}
-use Rattle.tp_runs.proofs.basics.Logs.{first_first, first_kept}
+use Rattle.tp_runs.proofs.basics.Logs.{first_kept}
+use Rattle.tp_recover.proofs.LogLemmas.{first_first}
 use Rattle.tp_runs.proofs.locked.World.{ServersLocked}
 use Rattle.tp_runs.proofs.deeds.Commits.{IsItemAt}
 use Rattle.tp_runs.proofs.deeds.Joined.{share_at}

@@ -19,7 +19,7 @@ use Rattle.tp_runs.proofs.agreement.World.{Agrees, CoordinatorUpAgrees}
 use Rattle.tp_runs.proofs.basics.Facts.{ArePast, facts_after}
 use Rattle.tp_runs.proofs.basics.Homes.{HaveHomes}
 use Rattle.tp_types.proofs.EachLemmas.{at_made, each_get, placed_none}
-use Rattle.tp_runs.proofs.ids.Queries.{homes_built}
+use Rattle.tp_runs.proofs.ids.Queries.{have_homes}
 use Rattle.tp_runs.proofs.ids.Valid.{IsValid, valid_built}
 use Rattle.tp_runs.proofs.pairs.Actors.{BodyPairs, LetterPairs, pair_at}
 use Rattle.tp_runs.proofs.known.World.{Pairs}
@@ -193,7 +193,7 @@ trusts_cases sc w built valid few rightly sound a pairs h =
     record {
       idle = idle_trusts sc w a.past h;
       server_received = λ n mail at part s sent up. receipt_by_server_in_trusted sc w valid rightly sound a.past pairs h n mail at part s sent up;
-      coordinator_received = λ n mail txn part c sent up. receipt_by_coordinator_in_trusted sc w few (homes_built sc built) valid sound a pairs h n mail txn part c sent up;
+      coordinator_received = λ n mail txn part c sent up. receipt_by_coordinator_in_trusted sc w few (have_homes sc valid) valid sound a pairs h n mail txn part c sent up;
       authority_told = λ n mail sent.
           let m = mail_trusted sc w n mail actor.Authority sound h sent in
           unmoved_trusts sc w [] (office.authority_row w.actors.authority mail).reaction.letters a.past h (record { still = tt; fit = λ facts. tt })
