@@ -15,5 +15,6 @@ pub mod Rounds
 pub mod Servers
 pub mod Stores
 pub mod Turns
+pub mod Uses
 pub mod Verdicts
 pub mod Versions

@@ -1,6 +1,8 @@
 -- What is asked of each mail, record and fact of a world: that all they name exists, and that their values are bounded.
 use Rattle.std.specs.Prelude.{Bool, IfSome, List, Option, Some, [], false, is_some, length, option_and_then, option_map, slice_get, true, ℕ, ℤ, ◌<◌, ◌∷◌, ◌≡◌, ◌≤◌, is_none, ◌&&◌}
+use Rattle.std.specs.List.{IsDistinct}
 use Rattle.tp_model.specs.Authorisation.{action_of}
+use Rattle.tp_model.specs.Ids.{same_cred}
 use Rattle.tp_model.specs.Queries.{item_of, query_at}
 use Rattle.tp_model.specs.Words.actor
 use Rattle.tp_model.specs.Words.answer
@@ -126,11 +128,13 @@ AreCreds sc creds = Each (IsCred sc) creds
 abbrev pub IsSoundStaple : Scenario → Staple → Type 0
 IsSoundStaple sc staple = AreCreds sc staple.revoked
 
--- the verdict names a query of the transaction, with its server and its administrator; its version and credentials exist
+-- the verdict names a query of the transaction, with its server and its administrator; its version and credentials
+-- exist, and it uses no credential twice
 pub record IsSoundVerdict (sc : Scenario) (txn : TxnId) (verdict : Verdict) : Type 0 where
   pub query : IsQueryAt sc txn verdict.query verdict.server verdict.admin
   pub version : IsVersion sc verdict.admin verdict.version
   pub uses : AreCreds sc verdict.uses
+  pub once : IsDistinct same_cred verdict.uses
 
 -- each verdict is sound
 abbrev pub AreSoundVerdicts : Scenario → TxnId → List Verdict → Type 0

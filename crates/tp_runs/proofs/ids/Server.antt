@@ -23,6 +23,7 @@ use Rattle.tp_model.specs.Words.{Admin, AdminId, Answer, Body, CredId, DecideReq
 use Rattle.tp_types.proofs.EachLemmas.{each_append, each_found, each_get, each_map, each_more, placed_emptied, placed_set}
 use Rattle.tp_runs.proofs.basics.Locks.{all_added, released_locks, requested_locks, stands_in_the_way}
 use Rattle.tp_runs.proofs.basics.Stores.{ended_each, ended_known, kept_each, kept_known, learnt_each}
+use Rattle.tp_runs.proofs.basics.Uses.{uses_once}
 use Rattle.tp_runs.proofs.basics.Versions.{used_by}
 use Rattle.tp_runs.proofs.ids.Valid.{IsValid, IsValidItem}
 use Rattle.tp_server.proofs.RightVerdicts.{uses_presented}
@@ -271,6 +272,7 @@ verdict_sound sc s txn presenting staple want deed valid h w there d =
           (used_by (IsVersion sc) s want d.kept.declared.admin w (known_version sc s d.kept.declared.admin h item_is.admin));
       uses = presented_exist sc presenting _ (each_get (λ (t : Transaction). AreCreds sc t.creds) sc.txns txn.0 presenting valid.creds there)
           (uses_presented sc presenting staple deed.query (policy_at sc (admin_of sc deed.item) (version_used s want (admin_of sc deed.item))) _ refl);
+      once = uses_once sc presenting staple deed.query (policy_at sc (admin_of sc deed.item) (version_used s want (admin_of sc deed.item))) _ refl;
     }
 
 casts_sound : (sc : Scenario) (s : Server) (p : PrepareRequest) (txn : Transaction) (staple : Staple) (entry : Entry) → IsValid sc → IsSoundServer sc s → IsTxn sc p.txn → AreWanted sc p.want

@@ -6,7 +6,7 @@ use Rattle.std.specs.List.{list_all}
 use Rattle.tp_model.proofs.RuleLemmas as rules
 use Rattle.tp_model.specs.Built.{is_built}
 use Rattle.tp_model.specs.Limits.{has_count, is_between, is_from_to, is_value}
-use Rattle.tp_model.specs.Valid.{are_by_server, are_distinct, are_known, are_valid_from, has_valid_bounds, has_valid_creds, has_valid_range, is_admin, is_cred, is_known, is_server, is_valid_admin, is_valid_item, is_valid_policy, is_valid_server, is_valid_txn, owned_from, same_admin_name, same_item_name, same_server_name, same_txn_name}
+use Rattle.tp_model.specs.Valid.{are_by_server, are_distinct, are_known, are_valid_from, has_valid_bounds, has_valid_creds, has_valid_range, is_admin, is_cred, is_known, is_server, is_valid_admin, is_valid_cred, is_valid_item, is_valid_policy, is_valid_server, is_valid_txn, owned_from, same_admin_name, same_cred_name, same_item_name, same_server_name, same_txn_name}
 use Rattle.tp_model.specs.Authorisation.{library_version, version_of}
 use Rattle.tp_model.specs.Ids.{same_cred, same_item}
 use Rattle.std.specs.Cmp.Lexicographic.{pointwise}
@@ -31,7 +31,8 @@ pub record IsValidItem (sc : Scenario) (item : Item) : Type 0 where
   pub max : is_value item.max ≡ true
   pub opening : is_between item.min item.max item.value ≡ true
 
--- what the scenario names exists, and each transaction is valid; no query is proved as it runs, which goes when schemes are built
+-- what the scenario names exists, each transaction is valid, and there are few credentials and administrators; no query
+-- is proved as it runs, which goes when schemes are built
 pub record IsValid (sc : Scenario) : Type 0 where
   pub txns : Each (λ (declared : Transaction). is_valid_txn sc declared ≡ true) sc.txns
   pub creds : Each (λ (declared : Transaction). AreCreds sc declared.creds) sc.txns
@@ -40,6 +41,8 @@ pub record IsValid (sc : Scenario) : Type 0 where
   pub openings : AreVersions sc (map opening_in sc.admins)
   pub lasts : AreVersions sc (map last_of sc.admins)
   pub deferred : Each (λ (declared : Transaction). proves_each declared.scheme ≡ false) sc.txns
+  pub few_creds : length sc.creds ≤ 256
+  pub few_admins : length sc.admins ≤ 16
 
 -- ---- numbers
 
@@ -115,4 +118,6 @@ valid_built sc built =
       openings = versions_valid opening_in sc.admins opening;
       lasts = versions_valid last_of sc.admins (each_as (λ (admin : Admin). is_valid_admin admin ≡ true) (λ (admin : Admin). IsVersionOf admin (last_of admin)) last_valid sc.admins (each_from_all is_valid_admin sc.admins admins.1));
       deferred = deferred_built sc built;
+      few_creds = rules.count_most 0 256 (length sc.creds) (three_parts (has_count 0 256 sc.creds) (list_all is_valid_cred sc.creds) (are_distinct same_cred_name sc.creds) kept.creds).0;
+      few_admins = rules.count_most 1 16 (length sc.admins) admins.0;
     }
