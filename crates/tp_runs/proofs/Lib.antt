@@ -15,6 +15,7 @@ pub mod refusals
 pub mod restarts
 pub mod runs
 pub mod serial_data
+pub mod sizes
 pub mod trust
 pub mod trusted
 pub mod walks

@@ -31,6 +31,7 @@ use Rattle.tp_runs.proofs.serial_data.End.{serial_facts, serial_values, values_a
 use Rattle.tp_runs.proofs.serial_data.Lone.{AreLone, facts_lone, lone_next, lone_opening}
 use Rattle.tp_runs.proofs.serial_data.Steps.{serial_next, serial_opening}
 use Rattle.tp_runs.proofs.serial_data.World.{Serial}
+use Rattle.tp_runs.proofs.sizes.World.{Sizes, sizes_next, sizes_opening}
 use Rattle.tp_runs.proofs.trusted.End.{facts_caused, facts_trusted}
 use Rattle.tp_runs.proofs.trusted.Steps.{trusts_next, trusts_opening}
 use Rattle.tp_runs.proofs.trust.World.{Trusts}
@@ -43,7 +44,8 @@ use Rattle.tp_machine.specs.Named.{IsStepOf}
 use Rattle.tp_machine.specs.declared.error.StepError.{StepError}
 
 -- what holds of every world: its ids exist, its actors agree, what servers hold of a transaction is what its coordinator knows, its
--- commits are trusted and serial, what comes from outside is what its steps say, its crashes are counted, and its values are bounded
+-- commits are trusted and serial, what comes from outside is what its steps say, its crashes are counted, its values are bounded, and its
+-- records are small
 pub record Holds (sc : Scenario) (w : State) : Type 0 where
   pub sound : IsSound sc w
   pub agrees : Agrees sc w
@@ -59,10 +61,11 @@ pub record Holds (sc : Scenario) (w : State) : Type 0 where
   pub refusals : Refusals sc w
   pub bounds : Bounds sc w
   pub few : FewMails w
+  pub sizes : Sizes w
 
 pub holds_opening : (sc : Scenario) → is_built sc ≡ true → Holds sc (opening_state sc)
 holds_opening sc built =
-    record { sound = sound_opening sc built; agrees = agrees_opening sc; epochs = epochs_opening sc; ages = ages_opening sc; deaths = deaths_opening sc; restarts = restarts_opening sc; lone = lone_opening; outside = outside_opening sc; trusts = trusts_opening sc built; pairs = pairs_opening sc; serial = serial_opening sc (valid_built sc built); refusals = refusals_opening sc; bounds = bounds_opening sc (valid_built sc built); few = few_opening sc }
+    record { sound = sound_opening sc built; agrees = agrees_opening sc; epochs = epochs_opening sc; ages = ages_opening sc; deaths = deaths_opening sc; restarts = restarts_opening sc; lone = lone_opening; outside = outside_opening sc; trusts = trusts_opening sc built; pairs = pairs_opening sc; serial = serial_opening sc (valid_built sc built); refusals = refusals_opening sc; bounds = bounds_opening sc (valid_built sc built); few = few_opening sc; sizes = sizes_opening sc }
 
 -- each invariant may lean on all the others before the step
 pub holds_next : (sc : Scenario) (m : Machine) (taken : Step) → is_built sc ≡ true → IsStepOf sc taken → refusal m.state taken ≡ None → Holds sc m.state → Holds sc (machine_after sc m taken).state
@@ -84,6 +87,7 @@ holds_next sc m taken built exists allowed h =
       refusals = refusals_next sc m taken valid exists allowed rightly h.sound h.agrees h.pairs h.serial (record { epochs = h.epochs; told = h.deaths.told; restarts = h.restarts }) h.refusals;
       bounds = bounds_next sc m taken valid exists allowed rightly h.sound h.agrees h.pairs h.serial h.bounds;
       few = few_next sc m taken built exists allowed rightly h.agrees h.few;
+      sizes = sizes_next sc m taken (have_homes sc valid) valid exists allowed rightly h.sound h.agrees h.pairs h.trusts h.sizes;
     }
 
 step_holds : (sc : Scenario) (m : Machine) (taken : Step) (why : Option StepError) → refusal m.state taken ≡ why → is_built sc ≡ true → IsStepOf sc taken → Holds sc m.state

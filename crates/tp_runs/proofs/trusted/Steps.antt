@@ -25,7 +25,7 @@ use Rattle.tp_runs.proofs.pairs.Actors.{BodyPairs, LetterPairs, pair_at}
 use Rattle.tp_runs.proofs.known.World.{Pairs}
 use Rattle.tp_runs.proofs.trust.Acts.{ActTrusts, act_trusts, coordinator_acts_trusts, server_acts_trusts, tells_fit, tells_timely, timely_closed, unmoved_trusts}
 use Rattle.tp_runs.proofs.trust.Built.{known_at_first}
-use Rattle.tp_runs.proofs.trust.Coordinator.{CoordinatorFits, CoordinatorTrusts, LetterOfTurn, PresentMail, RecordDecides, coordinator_row_trusts, submit_row_trusts}
+use Rattle.tp_runs.proofs.trust.Coordinator.{CoordinatorFits, CoordinatorTrusts, LetterOfTurn, PresentMail, RecordDecides, RowTrusts, coordinator_row_trusts, submit_row_trusts}
 use Rattle.tp_runs.proofs.trust.Fit.{BodyFits, IsSubmitted, Later, MailFits, ServerFits, maybe_stays}
 use Rattle.tp_runs.proofs.trust.Kept.{AreKept, IsKept, IsTrusted}
 use Rattle.tp_runs.proofs.trust.Offices.{newest_fits, newest_timely, none_revoked, opening_fits, published_trusts, pushed_fits, revoked_trusts, ticked_trusts}
@@ -121,28 +121,33 @@ present_mail coordinators c txn part sc sent said own found up h =
     let there : up_at coordinators stamped.txn.0 ≡ Some c = ap (λ (t : TxnId). up_at coordinators t.0) (same ∙ own) ∙ (ap (option_and_then up_of) found ∙ up) in
     subst (λ (u : Option Coordinator). IfSome u (TurnFits sc sent stamped.turn said)) there k) h
 
-receipt_by_coordinator_in_trusted : (sc : Scenario) (w : State) → AreFew sc → HaveHomes sc → IsValid sc → IsSound sc w → Agrees sc w → Pairs sc w → Trusts sc w → (n : ℕ) (mail : Mail) (txn : TxnId) (part : Part Coordinator) (c : Coordinator)
-    → WasSent w n mail (actor.Coordinator txn) → IsCoordinatorUp w txn part c → MoveTrusts sc w (coordinator_move w.actors txn (acts_by coordinator_fact [] part.log (coordinator_row sc c mail)))
-receipt_by_coordinator_in_trusted sc w few homes valid sound a pairs h n mail txn part c sent up =
-    let place = length w.steps in
-    let effect = coordinator_row sc c mail in
-    let append = effect.reaction.append in
-    let letters = effect.reaction.letters in
+-- what the coordinator's row leaves fits
+pub received_row_trusts : (sc : Scenario) (w : State) → AreFew sc → HaveHomes sc → IsValid sc → IsSound sc w → Agrees sc w → Pairs sc w → Trusts sc w → (n : ℕ) (mail : Mail) (txn : TxnId) (part : Part Coordinator) (c : Coordinator)
+    → WasSent w n mail (actor.Coordinator txn) → IsCoordinatorUp w txn part c → RowTrusts sc w.facts (length w.steps) c (coordinator_row sc c mail)
+received_row_trusts sc w few homes valid sound a pairs h n mail txn part c sent up =
     let m = mail_trusted sc w n mail (actor.Coordinator txn) sound h sent in
     let same : c.txn ≡ txn = own_txn sc w txn part c sound up.found up.up in
     let agrees : CoordinatorAgrees sc c part.log =
     (subst (λ (u : Option Coordinator). IfSome u (CoordinatorUpAgrees sc w.actors.servers txn part.log)) up.up (a.coordinators txn.0 part up.found).state).agrees in
     let paired : BodyPairs sc (pair_at w.actors) mail.letter.from (actor.Coordinator txn) mail.letter.body =
     subst (λ (to : Actor). BodyPairs sc (pair_at w.actors) mail.letter.from to mail.letter.body) sent.goes_to (each_get (λ (m : Mail). LetterPairs sc (pair_at w.actors) m.letter) w.mails n mail pairs.mails sent.sent) in
-    let row : CoordinatorTrusts sc w.facts place c.txn (Some c) (Some effect.state) append letters =
-    coordinator_row_trusts sc w.facts place (pair_at w.actors) c mail few homes valid agrees.servers (coordinator_fits sc w txn part c h up)
+    coordinator_row_trusts sc w.facts (length w.steps) (pair_at w.actors) c mail few homes valid agrees.servers (coordinator_fits sc w txn part c h up)
     (subst (λ (t : TxnId). IsSoundBody sc (actor.Coordinator t) mail.letter.body) (sym same) m.says) m.fits
     (subst (λ (t : TxnId). BodyPairs sc (pair_at w.actors) mail.letter.from (actor.Coordinator t) mail.letter.body) (sym same) paired)
-    (present_mail w.actors.coordinators c txn part sc mail.sent mail.letter.body same up.found up.up m.timely) in
+    (present_mail w.actors.coordinators c txn part sc mail.sent mail.letter.body same up.found up.up m.timely)
+
+receipt_by_coordinator_in_trusted : (sc : Scenario) (w : State) → AreFew sc → HaveHomes sc → IsValid sc → IsSound sc w → Agrees sc w → Pairs sc w → Trusts sc w → (n : ℕ) (mail : Mail) (txn : TxnId) (part : Part Coordinator) (c : Coordinator)
+    → WasSent w n mail (actor.Coordinator txn) → IsCoordinatorUp w txn part c → MoveTrusts sc w (coordinator_move w.actors txn (acts_by coordinator_fact [] part.log (coordinator_row sc c mail)))
+receipt_by_coordinator_in_trusted sc w few homes valid sound a pairs h n mail txn part c sent up =
+    let effect = coordinator_row sc c mail in
+    let append = effect.reaction.append in
+    let letters = effect.reaction.letters in
+    let same : c.txn ≡ txn = own_txn sc w txn part c sound up.found up.up in
     coordinator_acts_trusts sc w txn part [] (Some effect.state) append letters a.past h up.found
     (act_trusts sc w txn part.up (Some effect.state) [] append letters (record { still = tt; fit = λ facts. tt })
-    (subst (λ (was : Option Coordinator). CoordinatorTrusts sc w.facts place txn was (Some effect.state) append letters) (sym up.up)
-    (subst (λ (t : TxnId). CoordinatorTrusts sc w.facts place t (Some c) (Some effect.state) append letters) same row)))
+    (subst (λ (was : Option Coordinator). CoordinatorTrusts sc w.facts (length w.steps) txn was (Some effect.state) append letters) (sym up.up)
+    (subst (λ (t : TxnId). CoordinatorTrusts sc w.facts (length w.steps) t (Some c) (Some effect.state) append letters) same
+    (received_row_trusts sc w few homes valid sound a pairs h n mail txn part c sent up))))
 
 -- ---- submissions
 

@@ -1,0 +1,3 @@
+-- Each record that an actor forces says few things.
+pub mod Counts
+pub mod World
