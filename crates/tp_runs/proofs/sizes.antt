@@ -1,3 +1,4 @@
--- Each record that an actor forces says few things.
+-- No record that an actor forces is too long for a log.
 pub mod Counts
+pub mod Lengths
 pub mod World

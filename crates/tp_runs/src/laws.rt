@@ -1,5 +1,5 @@
 //! What holds of every run of the machine.
-ghost use Rattle.tp_runs.specs.Laws.{HasAlwaysAllCommits, IsAlwaysTrusted, SendsFewMails};
+ghost use Rattle.tp_runs.specs.Laws.{AlwaysFitLogs, HasAlwaysAllCommits, IsAlwaysTrusted, SendsFewMails};
 
 /// Of every scenario that is run, after every list of steps that name what exists, in any order and with any mail delivered again, the
 /// history is trusted so far: its facts agree, its commits are trusted, serial and apart, its aborts have causes, what comes from
@@ -16,4 +16,12 @@ pub fn histories_are_trusted()
 /// at most 128 transactions that it has prepared.
 pub fn mails_are_few()
     ensures { SendsFewMails }
+{}
+
+/// Of every scenario that is run, after every list of steps that name what exists, each record on each actor's log fits
+/// a log: it is spelled in at most 1,048,576 bytes. A vote has at most 16 deeds and 16 verdicts, a commit at most 17
+/// instances of at most 16 proofs, and a verdict names at most 256 credentials, each once; so the longest is spelled in
+/// less than 300,000.
+pub fn records_fit()
+    ensures { AlwaysFitLogs }
 {}

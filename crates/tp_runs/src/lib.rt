@@ -1,4 +1,5 @@
-//! What holds of every run of the machine, after every list of steps: the history is trusted, values are bounded, and mails are few.
+//! What holds of every run of the machine, after every list of steps: the history is trusted, values are bounded, mails
+//! are few, and records are short.
 //!
 //! What is promised, with the contract that carries it:
 //!
@@ -26,6 +27,8 @@
 //!   `history::undelivered_count`: `few`)
 //! - The law behind it: of every scenario that is run, no list of steps that name what exists sends more than
 //!   128 times as many mails as it has steps (`laws::mails_are_few`)
+//! - Of every scenario that is run, after every list of steps that name what exists, no record on an actor's log is
+//!   too long for a log (`laws::records_fit`)
 //!
 //! These hold after every list of steps, in any order, with deliveries of any mail ever sent; agreement, trust
 //! with causes, and serial data also of a world that was given up. The calls lean on the condition of

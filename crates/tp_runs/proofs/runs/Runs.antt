@@ -31,12 +31,13 @@ use Rattle.tp_runs.proofs.serial_data.End.{serial_facts, serial_values, values_a
 use Rattle.tp_runs.proofs.serial_data.Lone.{AreLone, facts_lone, lone_next, lone_opening}
 use Rattle.tp_runs.proofs.serial_data.Steps.{serial_next, serial_opening}
 use Rattle.tp_runs.proofs.serial_data.World.{Serial}
+use Rattle.tp_runs.proofs.sizes.Lengths.{all_fit}
 use Rattle.tp_runs.proofs.sizes.World.{Sizes, sizes_next, sizes_opening}
 use Rattle.tp_runs.proofs.trusted.End.{facts_caused, facts_trusted}
 use Rattle.tp_runs.proofs.trusted.Steps.{trusts_next, trusts_opening}
 use Rattle.tp_runs.proofs.trust.World.{Trusts}
 use Rattle.tp_runs.specs.Bounded.{AreBounded}
-use Rattle.tp_runs.specs.Laws.{HasAllCommits, IsTrustedState, mails_most}
+use Rattle.tp_runs.specs.Laws.{FitLogs, HasAllCommits, IsTrustedState, mails_most}
 use Rattle.tp_machine.specs.Machine.{Machine, State, after, after_step, after_steps, is_down, machine_after, opening, opening_state, refusal}
 use Rattle.tp_types.specs.Each.{Each}
 use Rattle.tp_runs.specs.Sound.{IsSound}
@@ -151,6 +152,10 @@ has_all_commits sc steps built exist ended =
 -- and few mails were sent
 pub sends_few : (sc : Scenario) (steps : List Step) → is_built sc ≡ true → Each (IsStepOf sc) steps → length (after sc steps).state.mails ≤ mails_most * length steps
 sends_few sc steps built exist = omega (arith, few_mails (after sc steps).state (holds_after sc steps built exist).few, steps_counted sc (opening sc) steps)
+
+-- and no record on an actor's log is too long for a log
+pub always_fit : (sc : Scenario) (steps : List Step) → is_built sc ≡ true → Each (IsStepOf sc) steps → FitLogs (after sc steps).state
+always_fit sc steps built exist = let h = holds_after sc steps built exist in all_fit sc (after sc steps).state (valid_built sc built) h.sound h.sizes
 
 -- ---- the same of a world that the steps give
 
