@@ -1,14 +1,18 @@
 -- How much a record may say that an actor forces: few deeds, verdicts, instances and versions.
 use Rattle.std.proofs.Common.{length, ◌≤◌}
+use Rattle.std.specs.List.{IsDistinct}
+use Rattle.std.specs.Prelude.{eqb}
 use Rattle.tp_model.specs.Words.cause
 use Rattle.tp_model.specs.Words.decision
 use Rattle.tp_model.specs.Words.log
 use Rattle.tp_model.specs.Words.{Cause, CommitRecord, Decision, Instance, Prepared, Record}
+use Rattle.tp_runs.proofs.basics.Verdicts.{numbers_of}
 use Rattle.tp_types.specs.Each.{Each}
 
--- an instance has at most one proof of each of a transaction's at most 16 queries
-abbrev pub IsSmallInstance : Instance → Type 0
-IsSmallInstance instance = length instance.proofs ≤ 16
+-- an instance has at most 16 proofs, of different queries
+pub record IsSmallInstance (instance : Instance) : Type 0 where
+  pub few : length instance.proofs ≤ 16
+  pub apart : IsDistinct eqb (numbers_of instance.proofs)
 
 -- a commit has at most one deed of each query; and at most an instance for each query, as it ran, and one more, each
 -- with few proofs

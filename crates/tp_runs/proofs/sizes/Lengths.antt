@@ -113,7 +113,7 @@ InstanceFits instance = length (spell.instance instance) ≤ 16925
 
 instance_most : (sc : Scenario) (txn : TxnId) (instance : Instance) → IsValid sc → IsSoundInstance sc txn instance → IsSmallInstance instance → InstanceFits instance
 instance_most sc txn instance valid h few =
-    let proofs : length (list spell.verdict instance.proofs) ≤ 16916 = verdicts_most instance.proofs few (each_as (IsSoundProof sc txn) VerdictFits (λ verdict proof. sound_most sc txn verdict valid proof.sound) instance.proofs h) in
+    let proofs : length (list spell.verdict instance.proofs) ≤ 16916 = verdicts_most instance.proofs few.few (each_as (IsSoundProof sc txn) VerdictFits (λ verdict proof. sound_most sc txn verdict valid proof.sound) instance.proofs h) in
     let read : length (option long instance.reading) ≤ 1 + 8 = option_most long 8 instance.reading (λ n. omega (arith, long_length n)) in
     omega (arith, length-append (option long instance.reading) (list spell.verdict instance.proofs), proofs, read)
 

@@ -1,7 +1,9 @@
 -- Sizes over every list of steps: each record that an actor forces says few things.
 use Rattle.std.proofs.Common.{Bool, IfSome, List, None, Option, Some, ap, arith, false, if◌then◌else◌, length, option_and_then, option_map, refl, slice_get, slice_set, subst, suc, sym, true, zero, ℕ, ⊎_elim, ◌+◌, ◌<◌, ◌∙◌, ◌≡◌, ◌≤◌}
-use Rattle.std.specs.List.{range_with_len}
+use Rattle.std.specs.List.{AllByRecursion, IsDistinct, range_with_len}
 use Rattle.std.specs.Option.{option_map_or}
+use Rattle.std.specs.Prelude.{eqb}
+use Rattle.std.proofs.lemmas.Bool.Decides.{nat_tests}
 use Rattle.std.proofs.lemmas.Bool.{cases_lt}
 use Rattle.std.proofs.lemmas.List.FromFn.{length-range_with_len}
 use Rattle.std.proofs.lemmas.List.{length-map, length_push}
@@ -164,6 +166,16 @@ coordinator_row_few sc c mail few =
       acknowledged = λ ack ended awaited server k. tt;
     })
 
+-- numbers in a row are different
+above_apart : (number low many : ℕ) → number < low → AllByRecursion (λ (other : ℕ). eqb number other ≡ false) (range_with_len low many)
+above_apart number low zero less = tt
+above_apart number low (suc many) less = (grind (arith, nat_tests), above_apart number (low + 1) many (omega (arith, less)))
+
+row_apart : (low many : ℕ) → IsDistinct eqb (range_with_len low many)
+unfolding IsDistinct
+row_apart low zero = tt
+row_apart low (suc many) = (above_apart low (low + 1) many (omega arith), row_apart (low + 1) many)
+
 -- an instance that covers a transaction's queries has few proofs
 commit_small : (sc : Scenario) (facts : List Fact) (place : ℕ) (txn : TxnId) (declared : Transaction) (committed : CommitRecord) → HaveHomes sc → slice_get sc.txns txn.0 ≡ Some declared
     → CommitFits sc facts place txn committed → length committed.deeds ≤ 16 → IsSmallCommit committed
@@ -173,7 +185,7 @@ commit_small sc facts place txn declared committed homes there h deeds =
     omega (arith, ap length numbers, length-map h.proofs (λ (verdict : Verdict). verdict.query), length-range_with_len 1 (length declared.queries), homes.few txn.0 declared there) in
     record {
       instances = omega (arith, ap length h.instances);
-      proofs = subst (Each IsSmallInstance) (sym h.instances) (few, tt);
+      proofs = subst (Each IsSmallInstance) (sym h.instances) (record { few = few; apart = subst (IsDistinct eqb) (sym numbers) (row_apart 1 (length declared.queries)) }, tt);
       deeds = deeds;
     }
 
