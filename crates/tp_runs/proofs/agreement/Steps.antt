@@ -19,7 +19,7 @@ use Rattle.tp_runs.proofs.agreement.Known.{KnowsTold, learns_knows, opening_know
 use Rattle.tp_runs.proofs.agreement.Logs.{DecidedAs, IsAsked, IsPrepared, IsSettled, outcome_settled, submitted_count, submitted_up}
 use Rattle.tp_runs.proofs.agreement.Server.{IsUnsettled, LetterKept, RefusalsAbort, RequestRests, ServerAgrees, ServerLawful, cast_in, server_row_lawful}
 use Rattle.tp_runs.proofs.agreement.ServerActs.{SaysOnly, server_acts_agrees, unmoved_agrees}
-use Rattle.tp_runs.proofs.agreement.World.{Agrees, BodyRests, CoordinatorUpAgrees, DecidedServed, LetterRests, MailRests, MoveAgrees, VoteRests, state_after_agrees}
+use Rattle.tp_runs.proofs.agreement.World.{Agrees, BodyRests, CoordinatorUpAgrees, DecidedServed, LetterRests, MailRests, MoveAgrees, PreparesNamed, VoteRests, state_after_agrees}
 use Rattle.tp_runs.proofs.basics.Homes.{first_row_begins}
 use Rattle.tp_runs.proofs.basics.Ids.{same_txn_from, same_txn_is}
 use Rattle.tp_types.proofs.EachLemmas.{at_made, each_get, placed_none, unset_at}
@@ -254,8 +254,8 @@ agrees_cases sc w valid rightly sound h =
     }
 
 -- a step that is not refused keeps agreement
-pub agrees_next : (sc : Scenario) (m : Machine) (taken : Step) → IsValid sc → IsStepOf sc taken → refusal m.state taken ≡ None → WaitRightly sc m.state → IsSound sc m.state → Agrees sc m.state → Agrees sc (machine_after sc m taken).state
-agrees_next sc m taken valid exists allowed rightly sound h =
+pub agrees_next : (sc : Scenario) (m : Machine) (taken : Step) → IsValid sc → IsStepOf sc taken → refusal m.state taken ≡ None → WaitRightly sc m.state → IsSound sc m.state → PreparesNamed m.state → Agrees sc m.state → Agrees sc (machine_after sc m taken).state
+agrees_next sc m taken valid exists allowed rightly sound named h =
     machine_after_by sc m (λ taken move. MoveAgrees sc m.state move) (Agrees sc) (agrees_cases sc m.state valid rightly sound h) h.coordinator_count
     (λ taken move t. state_after_agrees sc m.state taken move h t) h taken exists allowed
 

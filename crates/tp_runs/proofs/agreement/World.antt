@@ -3,7 +3,7 @@ use Rattle.std.specs.List.{filter_map, list_any}
 use Rattle.std.proofs.Common.{IfSome, List, None, Option, Some, [], ap, arith, length, refl, slice_get, subst, suc, sym, true, zero, ℕ, ◌++◌, ◌+◌, ◌<◌, ◌∙◌, ◌∷◌, ◌≡◌}
 use Rattle.std.proofs.lemmas.List.{length-append, length_push}
 use Rattle.std.proofs.lemmas.List.Elements.{filter_map-append}
-use Rattle.tp_model.specs.Words.{Actor, Body, Decision, Fact, Letter, Mail, Outcome, Prepared, Record, Scenario, ServerId, Settled, Step, TxnId, Vote, What}
+use Rattle.tp_model.specs.Words.{Actor, Body, Decision, Fact, Letter, Mail, Outcome, PrepareRequest, Prepared, Record, Scenario, ServerId, Settled, Step, TxnId, Vote, What}
 use Rattle.tp_model.specs.Words.actor
 use Rattle.tp_model.specs.Words.body
 use Rattle.tp_model.specs.Words.outcome
@@ -12,7 +12,7 @@ use Rattle.tp_model.specs.Words.what
 use Rattle.tp_model.specs.Agreement.{has_item_at}
 use Rattle.tp_model.specs.Facts.{before, is_decided_as, is_submission}
 use Rattle.tp_recover.specs.Log.{decided_in, prepared_in, settled_in}
-use Rattle.tp_machine.specs.Logs.{decided_at, settled_at}
+use Rattle.tp_machine.specs.Logs.{decided_at, prepared_at, settled_at}
 use Rattle.tp_machine.specs.Machine.{Move, State, facts_of, mails_of, state_after}
 use Rattle.tp_types.specs.Each.{Each, EachAt}
 use Rattle.tp_coord.specs.Opened.{servers_at}
@@ -146,6 +146,13 @@ pub record Agrees (sc : Scenario) (w : State) : Type 0 where
   pub submitted : (txn : TxnId) → length (submissions txn (said w.facts)) ≡ submitted_count (slice_get w.actors.coordinators txn.0)
   pub decided : (txn : TxnId) → decisions txn (said w.facts) ≡ listed (decided_at w.actors.coordinators txn.0)
   pub settled : (at : ServerId) (txn : TxnId) → settlements at txn (said w.facts) ≡ listed (settled_outcome w.actors.servers at txn)
+
+-- ---- what epochs give
+
+-- a request to prepare names the epoch of what is prepared at the server that it goes to
+abbrev pub PreparesNamed : State → Type 0
+PreparesNamed w = (n : ℕ) (mail : Mail) (at : ServerId) (p : PrepareRequest) (v : Prepared) → slice_get w.mails n ≡ Some mail → mail.letter.to ≡ actor.Server at → mail.letter.body ≡ body.Prepare p
+    → prepared_at w.actors.servers at.0 p.txn ≡ Some v → v.epoch ≡ p.epoch
 
 -- ---- a move
 

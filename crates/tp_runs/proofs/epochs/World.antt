@@ -2,7 +2,7 @@
 -- to a server that name an epoch, and all that is prepared there, name the one that was asked first.
 use Rattle.std.specs.List.{range_with_len}
 use Rattle.std.specs.Option.{option_map_or}
-use Rattle.std.proofs.Common.{Bool, IfSome, List, None, Option, Some, [], ap, arith, false, if◌then◌else◌, is_some, length, map, refl, slice_get, slice_set, subst, sym, true, ℕ, ◌++◌, ◌+◌, ◌==◌, ◌∙◌, ◌∷◌, ◌≡◌, ◌≤◌}
+use Rattle.std.proofs.Common.{Bool, IfSome, List, None, Option, Some, [], ap, arith, false, if◌then◌else◌, is_some, length, map, option_and_then, refl, slice_get, slice_set, subst, sym, true, ℕ, ◌++◌, ◌+◌, ◌==◌, ◌∙◌, ◌∷◌, ◌≡◌, ◌≤◌}
 use Rattle.std.proofs.lemmas.Bool.{eqb-true}
 use Rattle.std.proofs.lemmas.List.{length-replicate}
 use Rattle.std.proofs.lemmas.Option.{cond_some, same_Some}
@@ -14,20 +14,20 @@ use Rattle.tp_model.specs.Words.log
 use Rattle.tp_model.specs.Words.what
 use Rattle.tp_model.specs.Words.{Actor, Body, DoneReply, Letter, Mail, Prepared, QueryRequest, Record, Scenario, ServerId, Step, TxnId, What}
 use Rattle.tp_runs.proofs.agreement.Steps.{own_txn}
-use Rattle.tp_runs.proofs.agreement.World.{Agrees, CoordinatorUpAgrees}
+use Rattle.tp_runs.proofs.agreement.World.{Agrees, CoordinatorUpAgrees, PreparesNamed}
 use Rattle.tp_runs.proofs.basics.Facts.{each_new_mail}
 use Rattle.tp_runs.proofs.basics.Homes.{HaveHomes}
 use Rattle.tp_runs.proofs.basics.Ids.{same_txn_from, server_number, txn_number}
 use Rattle.tp_types.proofs.EachLemmas.{at_made, at_set, each_append, each_as, each_get, placed_none, unset_at}
 use Rattle.tp_runs.proofs.basics.Logs.{appended, get_set, prepared_either}
-use Rattle.tp_runs.proofs.epochs.Asked.{Asking, IsAsked, LetterNamed, NamesNone, StaysAsked, asked_in, asked_more, asked_then, letter_stays, naming_of, none_then, other_then, then_stays}
+use Rattle.tp_runs.proofs.epochs.Asked.{Asking, IsAsked, LetterNamed, NamesNone, StaysAsked, asked_in, asked_more, asked_then, letter_stays, naming, naming_of, none_then, other_then, then_stays}
 use Rattle.tp_runs.proofs.epochs.Coordinator.{IsMail, coordinator_row_keeps, submit_row_keeps}
 use Rattle.tp_runs.proofs.epochs.Kept.{CoordinatorEpochs, CoordinatorKeeps}
 use Rattle.tp_runs.proofs.epochs.Server.{BodyTold, DoneMade, DoneTold, EntryMade, IsPlainLetter, LetterFirst, LetterTold, LettersEpochs, PreparedMade, QueryFirst, RecordMade, ReplyMade, ServerEpochs, ServerMade, WaitsMade, epoch_rises, plain_letters, plain_names_none, server_row_made}
 use Rattle.tp_server.proofs.Rows.{AreRightWaits}
 use Rattle.tp_runs.proofs.walks.Steps.{Cases, IsCoordinatorUp, IsServerUp, WaitRightly, WasSent, machine_after_by}
 use Rattle.tp_recover.specs.Log.{epoch_in, preparation_in, prepared_in}
-use Rattle.tp_machine.specs.Logs.{epoch_at, epoch_by}
+use Rattle.tp_machine.specs.Logs.{epoch_at, epoch_by, prepared_by}
 use Rattle.tp_machine.specs.Machine.{Machine, Move, State, acts, acts_by, coordinator_fact, coordinator_move, is_part_submitted, log_with, machine_after, mails_of, opened_part, opening_state, refusal, server_fact, server_move, state_after, with_age}
 use Rattle.tp_machine.specs.Parts.{Part}
 use Rattle.tp_types.specs.Each.{Each, EachAt}
@@ -405,3 +405,19 @@ epochs_opening sc =
       first = tt;
       told = tt;
     }
+
+-- ---- for agreement
+
+-- a request to prepare names the epoch of what is prepared at the server that it goes to
+pub prepares_named : (sc : Scenario) (w : State) → Epochs sc w → PreparesNamed w
+prepares_named sc w h n mail at p v sent to said prepared = by_part (slice_get w.actors.servers at.0) refl prepared
+  where
+    named : asked_in w.mails p.txn at ≡ Some p.epoch
+    named =
+        let letter : LetterNamed (asked_in w.mails) mail.letter = each_get (λ (m : Mail). LetterNamed (asked_in w.mails) m.letter) w.mails n mail h.named sent in
+        let told : IfSome (naming_of (body.Prepare p)) (IsAsked (asked_in w.mails) mail.letter.to) = subst (λ (b : Body). IfSome (naming_of b) (IsAsked (asked_in w.mails) mail.letter.to)) said letter in
+        subst (λ (a : Actor). IsAsked (asked_in w.mails) a (naming p.txn p.epoch)) to told
+
+    by_part : (part : Option (Part Server)) → slice_get w.actors.servers at.0 ≡ part → option_and_then (prepared_by p.txn) part ≡ Some v → v.epoch ≡ p.epoch
+    by_part None e f = absurd (cc)
+    by_part (Some part) e f = same_Some v.epoch p.epoch (sym ((h.servers at.0 part e).prepared p.txn v f).asked ∙ named)

@@ -15,7 +15,7 @@ use Rattle.tp_runs.proofs.bounds.World.{Bounds, all_bounded, bounds_next, bounds
 use Rattle.tp_runs.proofs.agreement.End.{facts_agreed}
 use Rattle.tp_runs.proofs.agreement.Steps.{agrees_next, agrees_opening}
 use Rattle.tp_runs.proofs.agreement.World.{Agrees}
-use Rattle.tp_runs.proofs.epochs.World.{Epochs, epochs_next, epochs_opening}
+use Rattle.tp_runs.proofs.epochs.World.{Epochs, epochs_next, epochs_opening, prepares_named}
 use Rattle.tp_runs.proofs.ids.Queries.{have_homes}
 use Rattle.tp_runs.proofs.ids.Steps.{sound_next, sound_opening}
 use Rattle.tp_runs.proofs.mails.World.{FewMails, HasFewMails, few_mails, few_next, few_opening, steps_counted}
@@ -75,7 +75,7 @@ holds_next sc m taken built exists allowed h =
     let valid : IsValid sc = valid_built sc built in
     record {
       sound = sound_next sc m taken built exists allowed h.agrees.coordinator_count rightly h.sound;
-      agrees = agrees_next sc m taken valid exists allowed rightly h.sound h.agrees;
+      agrees = agrees_next sc m taken valid exists allowed rightly h.sound (prepares_named sc m.state h.epochs) h.agrees;
       epochs = epochs_next sc m taken (have_homes sc valid) exists allowed rightly h.sound h.agrees h.epochs;
       ages = ages_next sc m taken exists allowed rightly h.sound h.agrees h.ages;
       deaths = deaths_next sc m taken exists allowed rightly h.sound h.agrees h.ages h.pairs h.deaths;

@@ -69,6 +69,33 @@ RecordOwn c _ = Unit {0}
 abbrev pub ForcesOwn : Coordinator → Effect Coordinator → Type 0
 ForcesOwn c effect = IfSome effect.reaction.append (RecordOwn c)
 
+-- a commit is of a coordinator that is up
+pub record IsUpCommit (part : Part Coordinator) (committed : CommitRecord) : Type 0 where
+  pub c : Coordinator
+  pub up : part.up ≡ Some c
+  pub own : IsOwnCommit c committed
+
+abbrev pub DecisionUp : Part Coordinator → Decision → Type 0
+DecisionUp part (decision.Commit committed) = IsUpCommit part committed
+DecisionUp part (decision.Abort why) = Unit {0}
+
+abbrev pub RecordUp : Part Coordinator → Record → Type 0
+RecordUp part (log.Decided d) = DecisionUp part d.decision
+RecordUp part _ = Unit {0}
+
+-- what a coordinator that is up forces is so
+pub record_up : (part : Part Coordinator) (c : Coordinator) (append : Option Record) → part.up ≡ Some c → IfSome append (RecordOwn c) → IfSome append (RecordUp part)
+record_up part c None up h = tt
+record_up part c (Some (log.Decided d)) up h = by_decision d.decision h
+  where
+    by_decision : (decided : Decision) → DecisionOwn c decided → DecisionUp part decided
+    by_decision (decision.Commit committed) own = record { c = c; up = up; own = own }
+    by_decision (decision.Abort why) own = tt
+record_up part c (Some (log.Settled s)) up h = tt
+record_up part c (Some (log.Prepared p)) up h = tt
+record_up part c (Some (log.Told told)) up h = tt
+record_up part c (Some log.Boot) up h = tt
+
 -- every row of a coordinator on receipt of a mail
 pub coordinator_row_own : (sc : Scenario) (c : Coordinator) (mail : Mail) → ForcesOwn c (coordinator_row sc c mail)
 coordinator_row_own sc c mail =
@@ -89,16 +116,16 @@ coordinator_row_own sc c mail =
 
 -- ---- a coordinator acts
 
--- what is to be known as a coordinator that is up acts
-pub record CoordinatorActs (sc : Scenario) (w : State) (txn : TxnId) (part : Part Coordinator) (c : Coordinator) (own : List What) (append : Option Record) : Type 0 where
+-- what is to be known as a coordinator acts that was up or down
+pub record CoordinatorActs (sc : Scenario) (w : State) (txn : TxnId) (part : Part Coordinator) (own : List What) (append : Option Record) : Type 0 where
   pub exists : IsTxn sc txn
-  pub up : IsCoordinatorUp w txn part c
+  pub found : slice_get w.actors.coordinators txn.0 ≡ Some part
   pub quiet : Each IsQuiet own
   pub fresh : IfSome append (IsFirst sc (IsPrepared w.actors.servers txn) txn part.log)
-  pub forces : IfSome append (RecordOwn c)
+  pub forces : IfSome append (RecordUp part)
 
-abbrev next_part : Part Coordinator → Coordinator → Option Record → Part Coordinator
-next_part part now append = record { up = Some now; log = log_with part.log append }
+abbrev next_part : Part Coordinator → Option Coordinator → Option Record → Part Coordinator
+next_part part now append = record { up = now; log = log_with part.log append }
 
 -- what the act leaves, where these facts are told of the record
 pub record Leaves (sc : Scenario) (w : State) (txn : TxnId) (next : Part Coordinator) (told : List What) : Type 0 where
@@ -127,7 +154,7 @@ left_serial_in_deciding sc w txn next own told letters h quiet l =
 
 -- ---- nothing is decided
 
-undecided_leaves : (sc : Scenario) (w : State) (txn : TxnId) (part : Part Coordinator) (now : Coordinator) (append : Option Record) → Serial sc w → slice_get w.actors.coordinators txn.0 ≡ Some part
+undecided_leaves : (sc : Scenario) (w : State) (txn : TxnId) (part : Part Coordinator) (now : Option Coordinator) (append : Option Record) → Serial sc w → slice_get w.actors.coordinators txn.0 ≡ Some part
     → appended decision_in append ≡ None → Leaves sc w txn (next_part part now append) []
 undecided_leaves sc w txn part now append h found none =
     let next = next_part part now append in
@@ -296,38 +323,39 @@ commit_leaves_in_deciding sc w txn named part next declared committed own valid 
 abbrev pub IsClearCommit : Scenario → State → Coordinator → Type 0
 IsClearCommit sc w c = Each (IsClearAtHome sc (IsUnsettled sc w.actors)) c.deeds
 
--- the act of a coordinator that is up
-pub coordinator_acts_serial : (sc : Scenario) (w : State) (txn : TxnId) (part : Part Coordinator) (c now : Coordinator) (own : List What) (append : Option Record) (letters : List Letter) → IsValid sc → Agrees sc w → Pairs sc w
-    → Serial sc w → CoordinatorActs sc w txn part c own append → ((declared : Transaction) → decided_in part.log ≡ None → IsReady sc w txn declared c.deeds → IsClearCommit sc w c)
-    → MoveSerial sc w (coordinator_move w.actors txn (acts coordinator_fact own part.log (Some now) (log_with part.log append) letters))
-coordinator_acts_serial sc w txn part c now own append letters valid agrees pairs h k clear =
+-- an act of a coordinator, which was up or down and is up or down after it
+pub coordinator_acts_serial : (sc : Scenario) (w : State) (txn : TxnId) (part : Part Coordinator) (now : Option Coordinator) (own : List What) (append : Option Record) (letters : List Letter) → IsValid sc → Agrees sc w → Pairs sc w
+    → Serial sc w → CoordinatorActs sc w txn part own append → ((c : Coordinator) (declared : Transaction) → decided_in part.log ≡ None → IsReady sc w txn declared c.deeds → IsClearCommit sc w c)
+    → MoveSerial sc w (coordinator_move w.actors txn (acts coordinator_fact own part.log now (log_with part.log append) letters))
+coordinator_acts_serial sc w txn part now own append letters valid agrees pairs h k clear =
     subst (λ (told : List What). MoveSerial sc w (record { actors = with_coordinator w.actors txn (next_part part now append); happened = own ++ told; letters = letters }))
     (sym (gained coordinator_fact part.log append)) (left_serial_in_deciding sc w txn (next_part part now append) own (coordinator_facts append) letters h k.quiet (by_record append k.fresh k.forces))
   where
     decides : (d : Decided) → IsFirst sc (IsPrepared w.actors.servers txn) txn part.log (log.Decided d) → DecidesFirst w.actors txn part (next_part part now (Some (log.Decided d))) d.decision
     decides d first =
         record {
-          found = k.up.found;
+          found = k.found;
           undecided = first.undecided;
           now = decided_with part.log (Some (log.Decided d)) ∙ ap (λ (old : Option Decision). option_or old (Some d.decision)) first.undecided;
         }
 
-    by_decision : (d : Decided) (given : Decision) → d.decision ≡ given → IsFirst sc (IsPrepared w.actors.servers txn) txn part.log (log.Decided d) → DecisionOwn c given
+    by_decision : (d : Decided) (given : Decision) → d.decision ≡ given → IsFirst sc (IsPrepared w.actors.servers txn) txn part.log (log.Decided d) → DecisionUp part given
         → DecisionRests (IsPrepared w.actors.servers txn) (servers_at sc txn) given → Leaves sc w txn (next_part part now (Some (log.Decided d))) (what.Decided d.txn given ∷ [])
     by_decision d (decision.Abort why) e first forces rests =
         abort_leaves_in_deciding sc w txn d.txn part (next_part part now (Some (log.Decided d))) why h (subst (DecidesFirst w.actors txn part (next_part part now (Some (log.Decided d)))) e (decides d first))
     by_decision d (decision.Commit committed) e first forces rests =
         let there = declared_by sc txn k.exists in
-        let own : IsReady sc w txn there.0 c.deeds = ready sc w txn part c there.0 valid pairs k.up forces.prepares there.1 rests in
-        let r : IsReady sc w txn there.0 committed.deeds = subst (IsReady sc w txn there.0) (sym forces.deeds) own in
+        let c = forces.c in
+        let own : IsReady sc w txn there.0 c.deeds = ready sc w txn part c there.0 valid pairs (record { found = k.found; up = forces.up }) forces.own.prepares there.1 rests in
+        let r : IsReady sc w txn there.0 committed.deeds = subst (IsReady sc w txn there.0) (sym forces.own.deeds) own in
         commit_leaves_in_deciding sc w txn d.txn part (next_part part now (Some (log.Decided d))) there.0 committed first.own valid agrees h
         (subst (DecidesFirst w.actors txn part (next_part part now (Some (log.Decided d)))) e (decides d first)) r
-        (subst (Each (IsClearAtHome sc (IsUnsettled sc w.actors))) (sym forces.deeds) (clear there.0 first.undecided own))
+        (subst (Each (IsClearAtHome sc (IsUnsettled sc w.actors))) (sym forces.own.deeds) (clear c there.0 first.undecided own))
 
-    by_record : (append : Option Record) → IfSome append (IsFirst sc (IsPrepared w.actors.servers txn) txn part.log) → IfSome append (RecordOwn c) → Leaves sc w txn (next_part part now append) (coordinator_facts append)
-    by_record None first forces = undecided_leaves sc w txn part now None h k.up.found refl
+    by_record : (append : Option Record) → IfSome append (IsFirst sc (IsPrepared w.actors.servers txn) txn part.log) → IfSome append (RecordUp part) → Leaves sc w txn (next_part part now append) (coordinator_facts append)
+    by_record None first forces = undecided_leaves sc w txn part now None h k.found refl
     by_record (Some (log.Decided d)) first forces = by_decision d d.decision refl first forces first.prepared
-    by_record (Some (log.Settled s)) first forces = undecided_leaves sc w txn part now (Some (log.Settled s)) h k.up.found refl
-    by_record (Some (log.Prepared p)) first forces = undecided_leaves sc w txn part now (Some (log.Prepared p)) h k.up.found refl
-    by_record (Some (log.Told t)) first forces = undecided_leaves sc w txn part now (Some (log.Told t)) h k.up.found refl
-    by_record (Some log.Boot) first forces = undecided_leaves sc w txn part now (Some log.Boot) h k.up.found refl
+    by_record (Some (log.Settled s)) first forces = undecided_leaves sc w txn part now (Some (log.Settled s)) h k.found refl
+    by_record (Some (log.Prepared p)) first forces = undecided_leaves sc w txn part now (Some (log.Prepared p)) h k.found refl
+    by_record (Some (log.Told t)) first forces = undecided_leaves sc w txn part now (Some (log.Told t)) h k.found refl
+    by_record (Some log.Boot) first forces = undecided_leaves sc w txn part now (Some log.Boot) h k.found refl

@@ -26,7 +26,7 @@ use Rattle.tp_runs.proofs.pairs.ServerRows.{same_answer}
 use Rattle.tp_runs.proofs.known.World.{Pairs, declared_by, pair_of_up}
 use Rattle.tp_runs.proofs.serial_data.Clear.{clear_of_others, commit_ready}
 use Rattle.tp_runs.proofs.deeds.Built.{opening_in_range}
-use Rattle.tp_runs.proofs.serial_data.Deciding.{RecordOwn, coordinator_acts_serial, coordinator_row_own}
+use Rattle.tp_runs.proofs.serial_data.Deciding.{RecordUp, coordinator_acts_serial, coordinator_row_own, record_up}
 use Rattle.tp_runs.proofs.deeds.Ranges.{AreTested}
 use Rattle.tp_runs.proofs.deeds.Reads.{ReadsFrom}
 use Rattle.tp_runs.proofs.serial_data.Rows.{QueryRises, RequestClear, ServerReads, deeds_in, server_row_keeps}
@@ -133,15 +133,15 @@ receipt_by_coordinator_in_serial_data sc w valid sound agrees pairs h n mail txn
     let effect = coordinator_row sc c mail in
     let exists : IsTxn sc txn = (sound.actors_are.coordinators txn.0 part up.found).exists in
     let there = declared_by sc txn exists in
-    coordinator_acts_serial sc w txn part c effect.state [] effect.reaction.append effect.reaction.letters valid agrees pairs h
+    coordinator_acts_serial sc w txn part (Some effect.state) [] effect.reaction.append effect.reaction.letters valid agrees pairs h
     (record {
       exists = exists;
-      up = up;
+      found = up.found;
       quiet = tt;
       fresh = subst (λ (t : TxnId). IfSome effect.reaction.append (IsFirst sc (IsPrepared w.actors.servers txn) t part.log)) own (coordinator_lawful sc w sound agrees n mail txn part c sent up).fresh;
-      forces = coordinator_row_own sc c mail;
+      forces = record_up part c effect.reaction.append up.up (coordinator_row_own sc c mail);
     })
-    (λ declared none r. commit_ready sc w txn part c declared valid agrees h up.found none r)
+    (λ other declared none r. commit_ready sc w txn part other declared valid agrees h up.found none r)
 
 begun_serial : (sc : Scenario) (w : State) → IsValid sc → IsSound sc w → Agrees sc w → Pairs sc w → Serial sc w → (txn : TxnId) (part : Part Coordinator) (c : Coordinator) → IsTxn sc txn → IsCoordinatorUp w txn part c
     → is_part_submitted (Some c) ≡ false → MoveSerial sc w (coordinator_move w.actors txn (acts_by coordinator_fact (what.Submitted txn ∷ []) part.log (with_age (submit_row sc c) (length w.steps))))
@@ -149,15 +149,15 @@ begun_serial sc w valid sound agrees pairs h txn part c exists up new =
     let effect = with_age (submit_row sc c) (length w.steps) in
     let none : effect.reaction.append ≡ None = (begun_lawful sc w valid sound agrees txn part c exists up new).forces in
     let there = declared_by sc txn exists in
-    coordinator_acts_serial sc w txn part c effect.state (what.Submitted txn ∷ []) effect.reaction.append effect.reaction.letters valid agrees pairs h
+    coordinator_acts_serial sc w txn part (Some effect.state) (what.Submitted txn ∷ []) effect.reaction.append effect.reaction.letters valid agrees pairs h
     (record {
       exists = exists;
-      up = up;
+      found = up.found;
       quiet = (tt, tt);
       fresh = subst (λ (append : Option Record). IfSome append (IsFirst sc (IsPrepared w.actors.servers txn) txn part.log)) (sym none) tt;
-      forces = subst (λ (append : Option Record). IfSome append (RecordOwn c)) (sym none) tt;
+      forces = subst (λ (append : Option Record). IfSome append (RecordUp part)) (sym none) tt;
     })
-    (λ declared undecided r. commit_ready sc w txn part c declared valid agrees h up.found undecided r)
+    (λ other declared undecided r. commit_ready sc w txn part other declared valid agrees h up.found undecided r)
 
 -- ---- steps
 
