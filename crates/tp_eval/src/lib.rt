@@ -4,8 +4,8 @@
 //!
 //! - A policy is answered by None exactly where it does not allow the action on the item, on what the subject
 //!   holds (`evaluate`: `truth`)
-//! - Else by exactly the certificate above (`evaluate`: `exact`; each id stands once and was presented:
-//!   `each_once`, `presented`)
+//! - Else by exactly the certificate that is defined: the first rule that is true, and what it uses (`evaluate`:
+//!   `exact`; each id stands once and was presented: `each_once`, `presented`)
 //! - What an evaluation gives passes the check (`evaluate`: `passes`)
 //! - Of the credentials that are presented those that are valid are found, in their order, on any list of
 //!   credentials; a policy is answered on such evidence by exactly the same certificate. That evidence is

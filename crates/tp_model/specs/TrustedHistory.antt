@@ -50,7 +50,7 @@ have_ended sc facts first [] = true
 have_ended sc facts first (declared ∷ others) =
     has_ended sc facts (record { 0 = first }) declared && have_ended sc facts (first + 1) others
 
--- a run of these steps came to a quiet end with this history: it is trusted as at any moment; where every transaction has ended at all its
+-- the history of a run of these steps: it is trusted as at any moment; where every transaction has ended at all its
 -- servers, each item has the value that all commits leave; and the steps are counted
 pub record TrustedHistory (sc : Scenario) (steps : List Step) (facts : List Fact) (ending : Ending)
     : Type 0 where

@@ -69,7 +69,7 @@ fn are_prepared(held: &Held, txns: &[u32]) -> bool {
     held.prepared.len() == txns.len()
 }
 
-/// Whether just this transaction is settled, and so.
+/// Whether this transaction alone is settled, as a commit or as an abort.
 fn is_settled(held: &Held, txn: u32, commits: bool) -> bool {
     match held.settled.get(0) {
         None => false,

@@ -162,6 +162,6 @@ answer_says sc at k records h each =
       in_order = h.in_order;
     }
 
--- what is answered of a log whose records are of transactions of the scenario says the log
+-- what is answered of a log whose records name transactions of the scenario alone says what the log does
 pub held_says : (sc : Scenario) (at : ServerId) (records : List Record) → Each (IsOfScenario sc) records → HeldSays sc at (held_in sc at records) records
 held_says sc at records each = answer_says sc at (kept sc at records) records (kept_law sc at records each) each

@@ -294,7 +294,7 @@ says_end sc at k records s (Some before) h e there =
 
 -- ---- the laws
 
--- what is kept says the log after one more record
+-- what is kept says what the log does, after one more record
 pub kept_says : (sc : Scenario) (at : ServerId) (k : Kept) (records : List Record) (next : Record) → SaysLog sc at k records → IsOfScenario sc next
     → SaysLog sc at (kept_step k next) (records ++ next ∷ [])
 kept_says sc at k records log.Boot h there = says_boot sc at k records h
@@ -328,6 +328,6 @@ says_from sc at k before (next ∷ records) h each =
     subst (SaysLog sc at (fold kept_step (kept_step k next) records)) (append_assoc before (next ∷ []) records)
     (says_from sc at (kept_step k next) (before ++ next ∷ []) records (kept_says sc at k before next h each.0) each.1)
 
--- what is kept of a log whose records are of transactions of the scenario says the log
+-- what is kept of a log whose records name transactions of the scenario alone says what the log does
 pub kept_law : (sc : Scenario) (at : ServerId) (records : List Record) → Each (IsOfScenario sc) records → SaysLog sc at (kept sc at records) records
 kept_law sc at records each = says_from sc at (kept_first sc at) [] records (first_says sc at) each

@@ -52,7 +52,7 @@ abbrev pub kept_vote : Kept → Prepared → Option Settled → Kept
 kept_vote k p None = record k { prepared = slice_set k.prepared p.txn.0 (Some p) }
 kept_vote k p (Some before) = k
 
--- a vote is prepared in the place of an earlier one; a vote of a transaction that is settled is none
+-- a vote is prepared in the place of an earlier one; a vote of a transaction that is settled prepares nothing
 abbrev pub with_vote : Kept → Prepared → Kept
 with_vote k p = kept_vote k p (of_txn k.settled p.txn)
 

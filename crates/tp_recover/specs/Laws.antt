@@ -34,14 +34,14 @@ pub record SaysLog (sc : Scenario) (at : ServerId) (k : Kept) (records : List Re
   pub prepared_places : length k.prepared ≡ length sc.txns
   pub settled_places : length k.settled ≡ length sc.txns
 
--- it stays so with each record of a transaction of the scenario
+-- it stays so with each record, if what that names of transactions is of the scenario
 abbrev pub StepSaysLog : Type 0
 StepSaysLog =
     (sc : Scenario) (at : ServerId) (k : Kept) (records : List Record) (next : Record)
     → SaysLog sc at k records → IsOfScenario sc next
     → SaysLog sc at (kept_step k next) (records ++ next ∷ [])
 
--- so it is of every log whose records are of transactions of the scenario
+-- so it is of every log whose records name transactions of the scenario alone
 abbrev pub KeptSaysLog : Type 0
 KeptSaysLog =
     (sc : Scenario) (at : ServerId) (records : List Record) → Each (IsOfScenario sc) records

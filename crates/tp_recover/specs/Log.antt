@@ -1,4 +1,4 @@
--- What a log says: look-ups on the list of its records, and the values that it leaves. Nothing else reads a log.
+-- What a log says: look-ups on the list of its records, and the values that it leaves.
 use Rattle.std.specs.Prelude.{ℕ, ℤ, max, ◌+◌, ◌++◌, ◌||◌, List, [], ◌∷◌, slice_get, Bool, Option, Some, None, is_some, if◌then◌else◌}
 use Rattle.std.specs.Option.{option_map_or, option_or}
 use Rattle.tp_model.specs.Words.{AdminId, Decision, Deed, Outcome, Prepared, Record, Scenario, Settled, TxnId, Version}

@@ -90,7 +90,7 @@ impl Kept {
         }
     }
 
-    /// Takes in one more record. It is only asked that the epoch can be counted on.
+    /// Takes in one more record. It is only asked that one more boot can be counted.
     fn take_in(&mut self, alloc: Global, next: &Record) -> Result<(), NoMemory>
         requires { self.old.epoch + 1 < 2 ^ 64 }
         ensures { OnOk result (self.new ≡ rule.kept_step self.old next.now) }
@@ -113,8 +113,8 @@ impl Kept {
         }
     }
 
-    /// Takes in these records, in their order. The epoch can be counted on, since it begins at 1 and no list is that
-    /// long.
+    /// Takes in these records, in their order. Each boot can be counted, since the epoch begins at 1 and no list has
+    /// 2^64 members.
     pub fn take_all(&mut self, alloc: Global, records: &[Record]) -> Result<(), NoMemory>
         requires { self.old.epoch ≡ 1 }
         ensures { OnOk result (self.new ≡ fold rule.kept_step self.old records.now) }

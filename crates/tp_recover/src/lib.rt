@@ -1,4 +1,4 @@
-//! What logs leave: what an actor that comes up again reads off the records that it has forced.
+//! What logs leave: what an actor that comes up again knows by the records that it has forced.
 //!
 //! What is promised, with the contract that carries it:
 //!

@@ -25,7 +25,8 @@ fn recovered(
 }
 
 /// What the records of a server's log come to, over what the scenario says of the server at first. A vote of a
-/// transaction that is settled is none, and of the settlements of a transaction the first counts.
+/// transaction that is settled prepares nothing, though the versions that it tells are learnt; of the settlements of a
+/// transaction the first counts.
 /// It asks nothing of the records. Of a transaction that is not there nothing is prepared, so that it leaves no values,
 /// and each of its settlements is listed. What is told of an administrator, or written of an item, that is not there is
 /// lost.

@@ -39,7 +39,7 @@ HasAlwaysAllCommits =
     → HasAllCommits sc (after sc steps).state
 
 -- so many mails come on each step, if each query that waits counts as one more: a server that boots asks the coordinator of each
--- transaction that it has prepared, and a scenario has at most 128 transactions; no other step sends more
+-- transaction that it has prepared, and a scenario has at most 128 transactions; no step that is built so far sends more than 16
 abbrev pub mails_most : ℕ
 mails_most = 128
 

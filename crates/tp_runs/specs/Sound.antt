@@ -1,4 +1,5 @@
--- What is asked of each mail, record and fact of a world: that all they name exists, and that their values are bounded.
+-- What is asked of each actor, mail, record and fact of a world: that all they name exists, that a deed does to an item what its query
+-- says, and that a write is asked with a value. What bounds the values stands in Bounded.
 use Rattle.std.specs.Prelude.{Bool, IfSome, List, Option, Some, [], false, is_some, length, option_and_then, option_map, slice_get, true, ℕ, ℤ, ◌<◌, ◌∷◌, ◌≡◌, ◌≤◌, is_none, ◌&&◌}
 use Rattle.std.specs.List.{IsDistinct}
 use Rattle.tp_model.specs.Authorisation.{action_of}

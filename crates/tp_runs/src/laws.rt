@@ -21,7 +21,7 @@ pub fn mails_are_few()
 /// Of every scenario that is run, after every list of steps that name what exists, each record on each actor's log fits
 /// a log: it is spelled in at most 1,048,576 bytes. A vote has at most 16 deeds and 16 verdicts, a commit at most 17
 /// instances of at most 16 proofs, and a verdict names at most 256 credentials, each once; so the longest is spelled in
-/// less than 300,000.
+/// fewer than 300,000 bytes.
 pub fn records_fit()
     ensures { AlwaysFitLogs }
 {}

@@ -4,7 +4,8 @@
 //! What is promised, with the contract that carries it:
 //!
 //! - In a world that is not given up what each actor's state, each mail, record and fact names is what the
-//!   scenario has: transactions, queries, servers, items, administrators and credentials (`Sound.IsSound`)
+//!   scenario has: transactions, queries, servers, items, administrators and credentials, each beside what it goes
+//!   with; a deed has its query's item and action, and no credential stands twice in a proof (`Sound.IsSound`)
 //!   (`history::facts`: `sound`)
 //! - In a world that is not given up each value of query number i, in an actor's state, a mail, a record or a
 //!   fact, is within 10^15 * 5^i, and each item's value, at a server and by its log, is in its range, within
@@ -33,8 +34,7 @@
 //! These hold after every list of steps, in any order, with deliveries of any mail ever sent; agreement, trust
 //! with causes, and serial data also of a world that was given up. The calls lean on the condition of
 //! `World::start`, that the scenario has the built form, and on that of `World::step`; the laws ask both of
-//! their scenario and their steps. `World::facts` is the one door: each call takes from it that the world is
-//! what its steps give.
+//! their scenario and their steps. Each call takes from `World::facts` that the world is what its steps give.
 #![tactic(auto)]
 
 pub mod agree;
