@@ -126,8 +126,8 @@ impl Gathered {
         &self.instances
     }
 
-    /// The version that later proofs of an administrator are to have: that of its first proof. None exactly where it has
-    /// none.
+    /// The version that later proofs of an administrator are to have: that of its first proof. None exactly where it
+    /// has none. It takes no memory.
     pub fn pin_of(&self, admin: AdminId) -> Option<Version>
         ensures { result ≡ rule.pin_of self.now.proofs admin }
     {
