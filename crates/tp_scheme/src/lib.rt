@@ -8,8 +8,8 @@
 //!   query as it runs, and the authority is asked only there and only under one that does (`beginnings_act`: `act`,
 //!   `sends`, `asks`)
 //! - The master is asked only under incremental where it is read, and the queries so far are evaluated together only
-//!   under continuous. Where no query is left, and only there, votes without evaluation are asked for, under incremental
-//!   alone, and the rounds at commit begin, never under incremental. A transaction commits only after the votes
+//!   under continuous. Only where no query is left are votes without evaluation asked for, under incremental alone, and
+//!   do the rounds at commit begin, never under incremental. A transaction commits only after the votes
 //!   (`moves_have_their_schemes`: `probes`, `validates`, `votes`, `rounds`, `decides`)
 //! - Each query leads to the next by the moves that are listed for its scheme, and the last to the decision by those of
 //!   the end: deferred, punctual and continuous evaluate all queries once more, and incremental votes, and reads the
