@@ -15,6 +15,7 @@ use Rattle.tp_coord.specs.Row.{aborts, ack_from, asks, asks_next, awaits_query, 
 use Rattle.tp_coord.specs.State.{Coordinator}
 use Rattle.tp_coord.specs.declared.coordinator.Phase.TheVariants as phase
 use Rattle.tp_coord.specs.declared.coordinator.Phase.{Phase}
+use Rattle.tp_coord.specs.declared.coordinator.Span.TheVariants as span
 use Rattle.tp_round.proofs.SpentLemmas.{unread_unspent}
 use Rattle.tp_round.specs.Judge.{after_judgement, after_reply, is_awaited, judge}
 use Rattle.tp_round.specs.Replies.{by_query, proofs_in}
@@ -45,18 +46,18 @@ pub record IsDiedAnswer (sc : Scenario) (c : Coordinator) (mail : Mail) (done : 
   pub server_is : server_of sc asked ≡ Some server
   pub answer_is : done.answer ≡ answer.Died other
 
--- the awaited answer of the authority, before a round
+-- the awaited answer of the authority, before a round at commit
 pub record IsStaple (c : Coordinator) (mail : Mail) (tell : TellReply) (round : Round) : Type 0 where
   pub said_is : mail.letter.body ≡ body.Tell tell
   pub present : (tell.turn == c.turn) ≡ true
-  pub asking : c.phase ≡ phase.Asking round
+  pub asking : c.phase ≡ phase.Asking span.Commit round
 
 -- an awaited vote YES
 pub record IsYes (c : Coordinator) (mail : Mail) (reply : VoteReply) (round : Round) (staple : Staple) (server : ServerId) (verdicts : List Verdict) : Type 0 where
   pub said_is : mail.letter.body ≡ body.Vote reply
   pub from_is : mail.letter.from ≡ actor.Server server
   pub present : (reply.turn == c.turn) ≡ true
-  pub checking : c.phase ≡ phase.Checking round staple
+  pub checking : c.phase ≡ phase.Checking span.Commit round staple
   pub awaited : is_awaited round.targets server ≡ true
   pub vote_is : reply.vote ≡ vote.Yes verdicts
 
@@ -65,7 +66,7 @@ pub record IsNo (c : Coordinator) (mail : Mail) (reply : VoteReply) (round : Rou
   pub said_is : mail.letter.body ≡ body.Vote reply
   pub from_is : mail.letter.from ≡ actor.Server server
   pub present : (reply.turn == c.turn) ≡ true
-  pub checking : c.phase ≡ phase.Checking round staple
+  pub checking : c.phase ≡ phase.Checking span.Commit round staple
   pub awaited : is_awaited round.targets server ≡ true
   pub vote_is : reply.vote ≡ vote.No (no.Range number value)
 
@@ -81,17 +82,17 @@ pub record CoordinatorCases (sc : Scenario) (c : Coordinator) (mail : Mail) (P :
   pub ran_next : (done : DoneReply) (server : ServerId) (asked : Query) (value : ℤ) (next : ServerId) → IsRanAnswer sc c mail done server asked value → home_of sc c (next_number done.query) ≡ Some next
       → P (sends_query sc (with_deed c server done asked value) (next_number done.query) next)
   pub ran_last : (done : DoneReply) (server : ServerId) (asked : Query) (value : ℤ) → IsRanAnswer sc c mail done server asked value → home_of sc c (next_number done.query) ≡ None
-      → P (asks (with_deed c server done asked value) (commit_round (with_deed c server done asked value)))
+      → P (asks (with_deed c server done asked value) span.Commit (commit_round (with_deed c server done asked value)))
   pub died : (done : DoneReply) (server : ServerId) (asked : Query) (other : TxnId) → IsDiedAnswer sc c mail done server asked other → P (aborts c (cause.Died (died_for server done other mail.sent)))
-  pub told : (tell : TellReply) (round : Round) → IsStaple c mail tell round → P (prepares c round (staple_of tell mail.sent))
+  pub told : (tell : TellReply) (round : Round) → IsStaple c mail tell round → P (prepares c span.Commit round (staple_of tell mail.sent))
   pub counted : (reply : VoteReply) (round : Round) (staple : Staple) (server : ServerId) (verdicts : List Verdict) → IsYes c mail reply round staple server verdicts
-      → judge (after_reply round server verdicts) None ≡ judged.Waiting → P (sends (record c { phase = phase.Checking (after_reply round server verdicts) staple }) [])
+      → judge (after_reply round server verdicts) None ≡ judged.Waiting → P (sends (record c { phase = phase.Checking span.Commit (after_reply round server verdicts) staple }) [])
   pub committed : (reply : VoteReply) (round : Round) (staple : Staple) (server : ServerId) (verdicts : List Verdict) → IsYes c mail reply round staple server verdicts
       → judge (after_reply round server verdicts) None ≡ judged.AllTrue → P (commits c round.number (by_query (proofs_in (after_reply round server verdicts).targets)))
   pub denied : (reply : VoteReply) (round : Round) (staple : Staple) (server : ServerId) (verdicts : List Verdict) (verdict : Verdict) → IsYes c mail reply round staple server verdicts
       → judge (after_reply round server verdicts) None ≡ judged.False verdict → P (aborts c (cause.Denied (denied_by verdict)))
   pub updated : (reply : VoteReply) (round : Round) (staple : Staple) (server : ServerId) (verdicts : List Verdict) (named : List Wanted) → IsYes c mail reply round staple server verdicts
-      → judge (after_reply round server verdicts) None ≡ judged.Update named → P (asks c (after_judgement (after_reply round server verdicts) None))
+      → judge (after_reply round server verdicts) None ≡ judged.Update named → P (asks c span.Commit (after_judgement (after_reply round server verdicts) None))
   pub refused : (reply : VoteReply) (round : Round) (staple : Staple) (server : ServerId) (number : ℕ) (value : ℤ) → IsNo c mail reply round staple server number value
       → P (aborts c (cause.No (refused_by server number value)))
   pub acknowledged : (ack : AckReply) (ended : Outcome) (awaited : List ServerId) (server : ServerId) → IsAck c mail ack ended awaited server
@@ -132,7 +133,7 @@ asked_by sc c mail P cases done (Some asked) e awaited plain asked_is = on_done_
 
 on_staple_by : (sc : Scenario) (c : Coordinator) (mail : Mail) (P : Effect Coordinator → Type 0) → CoordinatorCases sc c mail P → (tell : TellReply) (awaited : Phase) → mail.letter.body ≡ body.Tell tell
     → (tell.turn == c.turn) ≡ true → c.phase ≡ awaited → P (on_staple c awaited (staple_of tell mail.sent))
-on_staple_by sc c mail P cases tell (phase.Asking round) e present asking =
+on_staple_by sc c mail P cases tell (phase.Asking span.Commit round) e present asking =
     cases.told tell round (record { said_is = e; present = present; asking = asking })
 on_staple_by sc c mail P cases tell _ e present asking = cases.ignored
 
@@ -140,7 +141,7 @@ on_staple_by sc c mail P cases tell _ e present asking = cases.ignored
 
 judged_by : (sc : Scenario) (c : Coordinator) (mail : Mail) (P : Effect Coordinator → Type 0) → CoordinatorCases sc c mail P → (reply : VoteReply) (round : Round) (staple : Staple) (server : ServerId)
     (verdicts : List Verdict) (answer_is : Judged) → IsYes c mail reply round staple server verdicts → judge (after_reply round server verdicts) None ≡ answer_is
-    → P (on_judged c (after_reply round server verdicts) staple answer_is)
+    → P (on_judged c span.Commit (after_reply round server verdicts) staple answer_is)
 judged_by sc c mail P cases reply round staple server verdicts judged.Waiting y e = cases.counted reply round staple server verdicts y e
 judged_by sc c mail P cases reply round staple server verdicts judged.AllTrue y e = cases.committed reply round staple server verdicts y e
 judged_by sc c mail P cases reply round staple server verdicts (judged.False verdict) y e = cases.denied reply round staple server verdicts verdict y e
@@ -154,7 +155,7 @@ on_no_by sc c mail P cases reply round staple server no.Restarted n = cases.igno
 
 on_vote_of_by : (sc : Scenario) (c : Coordinator) (mail : Mail) (P : Effect Coordinator → Type 0) → CoordinatorCases sc c mail P → (reply : VoteReply) (round : Round) (staple : Staple) (server : ServerId) (said : Vote)
     → ((verdicts : List Verdict) → said ≡ vote.Yes verdicts → IsYes c mail reply round staple server verdicts)
-    → ((number : ℕ) (value : ℤ) → said ≡ vote.No (no.Range number value) → IsNo c mail reply round staple server number value) → P (on_vote_of c round staple server said)
+    → ((number : ℕ) (value : ℤ) → said ≡ vote.No (no.Range number value) → IsNo c mail reply round staple server number value) → P (on_vote_of c span.Commit round staple server said)
 on_vote_of_by sc c mail P cases reply round staple server (vote.Yes verdicts) y n =
     judged_by sc c mail P cases reply round staple server verdicts (judge (after_reply round server verdicts) None) (y verdicts refl) refl
 on_vote_of_by sc c mail P cases reply round staple server (vote.No why) y n =
@@ -163,7 +164,7 @@ on_vote_of_by sc c mail P cases reply round staple server (vote.No why) y n =
 vote_by_phase : (sc : Scenario) (c : Coordinator) (mail : Mail) (P : Effect Coordinator → Type 0) → CoordinatorCases sc c mail P → (reply : VoteReply) (awaited : Phase) (server : ServerId)
     → mail.letter.body ≡ body.Vote reply → mail.letter.from ≡ actor.Server server → (reply.turn == c.turn) ≡ true → c.phase ≡ awaited → awaits_vote awaited server ≡ true
     → P (vote_at c awaited server reply.vote)
-vote_by_phase sc c mail P cases reply (phase.Checking round staple) server e from present checking is_awaited_here =
+vote_by_phase sc c mail P cases reply (phase.Checking span.Commit round staple) server e from present checking is_awaited_here =
     on_vote_of_by sc c mail P cases reply round staple server reply.vote
     (λ verdicts yes_is. record { said_is = e; from_is = from; present = present; checking = checking; awaited = is_awaited_here; vote_is = yes_is })
     (λ number value no_is. record { said_is = e; from_is = from; present = present; checking = checking; awaited = is_awaited_here; vote_is = no_is })

@@ -22,6 +22,8 @@ use Rattle.tp_coord.specs.Sums.{asked_value}
 use Rattle.tp_coord.specs.State.{Coordinator}
 use Rattle.tp_coord.specs.declared.coordinator.Phase.TheVariants as phase
 use Rattle.tp_coord.specs.declared.coordinator.Phase.{Phase}
+use Rattle.tp_coord.specs.declared.coordinator.Span.TheVariants as span
+use Rattle.tp_coord.specs.declared.coordinator.Span.{Span}
 use Rattle.tp_round.specs.Judge.{after_judgement, after_reply, first_round, is_awaited, is_missing, judge}
 use Rattle.tp_round.specs.Replies.{by_query, proofs_in}
 use Rattle.tp_round.specs.declared.round.Judged.TheVariants as judged
@@ -143,8 +145,8 @@ ask_letter c = record {
 }
 
 -- before each round of validation the authority is asked
-abbrev pub asks : Coordinator → Round → Effect Coordinator
-asks c round = sends (record c { turn = next_turn c; phase = phase.Asking round }) (ask_letter c ∷ [])
+abbrev pub asks : Coordinator → Span → Round → Effect Coordinator
+asks c over round = sends (record c { turn = next_turn c; phase = phase.Asking over round }) (ask_letter c ∷ [])
 
 -- the first round at commit, of all of the transaction's servers. No master is read, and under view consistency two rounds are enough
 abbrev pub commit_round : Coordinator → Round
@@ -164,7 +166,7 @@ next_number number = next_count number
 
 -- the query of this number is asked, or where there is none the rounds at commit begin
 abbrev pub asks_next : Scenario → Coordinator → ℕ → Option ServerId → Effect Coordinator
-asks_next sc c number None = asks c (commit_round c)
+asks_next sc c number None = asks c span.Commit (commit_round c)
 asks_next sc c number (Some server) = sends_query sc c number server
 
 -- the transaction goes on after the query of this number
@@ -261,14 +263,14 @@ abbrev pub awaited_in : Round → List ServerId
 awaited_in round = map server_of_target (filter is_missing round.targets)
 
 -- each awaited server is asked to prepare with the staple, at the versions that are wanted of it
-abbrev pub prepares : Coordinator → Round → Staple → Effect Coordinator
-prepares c round staple =
-    sends (record c { turn = next_turn c; phase = phase.Checking round staple })
+abbrev pub prepares : Coordinator → Span → Round → Staple → Effect Coordinator
+prepares c over round staple =
+    sends (record c { turn = next_turn c; phase = phase.Checking over round staple })
     (map (prepare_letter c round staple) (awaited_in round))
 
--- the authority was asked before a round
+-- the authority was asked before a round at commit
 abbrev pub on_staple : Coordinator → Phase → Staple → Effect Coordinator
-on_staple c (phase.Asking round) staple = prepares c round staple
+on_staple c (phase.Asking span.Commit round) staple = prepares c span.Commit round staple
 on_staple c _ staple = ignores c
 
 abbrev pub on_tell : Coordinator → Phase → ℕ → TellReply → Effect Coordinator
@@ -302,16 +304,16 @@ denied_by verdict =
 
 -- by what is judged of the replies: a missing one is awaited, servers that are out of date are asked again as long as rounds are left, a
 -- false proof denies, and true proofs of one version each commit
-abbrev pub on_judged : Coordinator → Round → Staple → Judged → Effect Coordinator
-on_judged c round staple judged.Waiting = sends (record c { phase = phase.Checking round staple }) []
-on_judged c round staple (judged.Spent mets) = aborts c (cause.Rounds mets)
-on_judged c round staple (judged.Update named) = asks c (after_judgement round None)
-on_judged c round staple (judged.False verdict) = aborts c (cause.Denied (denied_by verdict))
-on_judged c round staple judged.AllTrue = commits c round.number (by_query (proofs_in round.targets))
+abbrev pub on_judged : Coordinator → Span → Round → Staple → Judged → Effect Coordinator
+on_judged c over round staple judged.Waiting = sends (record c { phase = phase.Checking over round staple }) []
+on_judged c over round staple (judged.Spent mets) = aborts c (cause.Rounds mets)
+on_judged c over round staple (judged.Update named) = asks c over (after_judgement round None)
+on_judged c over round staple (judged.False verdict) = aborts c (cause.Denied (denied_by verdict))
+on_judged c over round staple judged.AllTrue = commits c round.number (by_query (proofs_in round.targets))
 
 -- a round with one more reply is judged
-abbrev pub on_reply : Coordinator → Round → Staple → Effect Coordinator
-on_reply c round staple = on_judged c round staple (judge round None)
+abbrev pub on_reply : Coordinator → Span → Round → Staple → Effect Coordinator
+on_reply c over round staple = on_judged c over round staple (judge round None)
 
 -- what a server's vote NO refuses
 abbrev pub refused_by : ServerId → ℕ → ℤ → OutOfRange
@@ -322,18 +324,18 @@ abbrev pub on_no : Coordinator → ServerId → No → Effect Coordinator
 on_no c server (no.Range number value) = aborts c (cause.No (refused_by server number value))
 on_no c server no.Restarted = unbuilt c
 
-abbrev pub on_vote_of : Coordinator → Round → Staple → ServerId → Vote → Effect Coordinator
-on_vote_of c round staple server (vote.Yes verdicts) =
-    on_reply c (after_reply round server verdicts) staple
-on_vote_of c round staple server (vote.No why) = on_no c server why
+abbrev pub on_vote_of : Coordinator → Span → Round → Staple → ServerId → Vote → Effect Coordinator
+on_vote_of c over round staple server (vote.Yes verdicts) =
+    on_reply c over (after_reply round server verdicts) staple
+on_vote_of c over round staple server (vote.No why) = on_no c server why
 
--- the vote of this server is awaited
+-- the vote of this server is awaited, in a round at commit
 abbrev pub awaits_vote : Phase → ServerId → Bool
-awaits_vote (phase.Checking round staple) server = is_awaited round.targets server
+awaits_vote (phase.Checking span.Commit round staple) server = is_awaited round.targets server
 awaits_vote _ server = false
 
 abbrev pub vote_at : Coordinator → Phase → ServerId → Vote → Effect Coordinator
-vote_at c (phase.Checking round staple) server said = on_vote_of c round staple server said
+vote_at c (phase.Checking span.Commit round staple) server said = on_vote_of c span.Commit round staple server said
 vote_at c _ server said = ignores c
 
 abbrev pub on_vote : Coordinator → Phase → Actor → VoteReply → Effect Coordinator

@@ -21,25 +21,55 @@ use tp_types::{
     both, ignored, none_for_each, sent_alone, unbuilt,
 };
 
+/// What a round is over. No round is over the queries so far yet.
+#[derive(Clone, Copy)]
+pub enum Span {
+    /// The queries up to this one, which have run.
+    Validate { query: u32 },
+    /// All queries, at commit: the servers are asked to prepare.
+    Commit,
+}
+
 /// What a coordinator awaits: its whole outstanding request.
 /// A repeat of the request can be made from the phase alone.
 #[derive(Drop)]
 pub enum Phase {
     Idle,
+    /// The authority was asked before a query. No coordinator asks it there yet.
+    Stapling {
+        query: u32,
+    },
     /// A query was sent to its server, with the staple if there was one.
     Querying {
         query: u32,
         staple: Option<Staple>,
     },
+    /// The master was asked after a query ran. No coordinator asks it yet.
+    Probing {
+        query: u32,
+    },
     /// The authority was asked before a round.
     Asking {
+        span: Span,
         round: Round,
     },
     /// The servers of a round were asked, with a staple.
     Checking {
+        span: Span,
         round: Round,
         staple: Staple,
     },
+    /// All servers of a round have replied, and the master was asked. No coordinator asks it yet.
+    Reading {
+        span: Span,
+        round: Round,
+    },
+    /// These servers were asked to prepare without a proof, and have not voted. None is asked so yet.
+    Voting {
+        awaited: List<ServerId>,
+    },
+    /// All servers have voted so, and the master was asked. No coordinator asks it yet.
+    VoteProbing,
     /// The decision was sent; these servers have not acknowledged it.
     Ending {
         outcome: Outcome,

@@ -12,4 +12,4 @@ mod decisions;
 mod rounds;
 mod sums;
 
-pub use coordinator::{Coordinator, Phase};
+pub use coordinator::{Coordinator, Phase, Span};

@@ -5,12 +5,13 @@ ghost use Rattle.std.specs.Option.{option_copied};
 ghost use Rattle.tp_model.specs.Ids.{same_server};
 ghost use Rattle.tp_model.specs.Words.vote;
 ghost use Rattle.tp_coord.specs.declared.coordinator.Phase.TheVariants as Phase;
+ghost use Rattle.tp_coord.specs.declared.coordinator.Span.TheVariants as Span;
 ghost use Rattle.tp_round.specs.declared.round.Wanted.{Wanted};
 ghost use Rattle.tp_types.specs.Effect.{Gives, sends};
 ghost use Rattle.tp_round.specs.Judge as judge;
 ghost use Rattle.tp_coord.specs.Row as row;
 
-use crate::coordinator::{Coordinator, Phase};
+use crate::coordinator::{Coordinator, Phase, Span};
 use crate::decisions::denied_by;
 use std::alloc::Global;
 use std::mem;
@@ -26,18 +27,18 @@ impl Coordinator {
     /// All queries ran: the first round at commit, of all of the transaction's servers.
     pub(crate) fn begins_rounds(&mut self, alloc: Global) -> Result<Reaction, NoMemory>
         ensures { IfOk result (λ reaction.
-            Gives (row.asks self.old (row.commit_round self.old)) self.new reaction) }
+            Gives (row.asks self.old Span.Commit (row.commit_round self.old)) self.new reaction) }
     {
         let round = Round::start(alloc, self.servers.as_slice(), VIEW_ROUNDS, Level::View)?;
-        self.asks(alloc, round)
+        self.asks(alloc, Span::Commit, round)
     }
 
     /// Before each round the authority is asked.
-    fn asks(&mut self, alloc: Global, round: Round) -> Result<Reaction, NoMemory>
-        ensures { IfOk result (λ reaction. Gives (row.asks self.old round) self.new reaction) }
+    fn asks(&mut self, alloc: Global, span: Span, round: Round) -> Result<Reaction, NoMemory>
+        ensures { IfOk result (λ reaction. Gives (row.asks self.old span round) self.new reaction) }
     {
         let letter = self.ask_letter();
-        self.awaits(Phase::Asking { round });
+        self.awaits(Phase::Asking { span, round });
         sent_alone(alloc, letter)
     }
 
@@ -112,9 +113,12 @@ impl Coordinator {
             return Ok(ignored(alloc));
         }
         match mem::replace(&mut self.phase, Phase::Idle) {
-            Phase::Asking { round } => {
+            Phase::Asking {
+                span: Span::Commit,
+                round,
+            } => {
                 let staple = staple_of(alloc, sent, tell)?;
-                self.prepares(alloc, round, staple)
+                self.prepares(alloc, Span::Commit, round, staple)
             }
             other => {
                 self.enters(other);
@@ -126,14 +130,19 @@ impl Coordinator {
     fn prepares(
         &mut self,
         alloc: Global,
+        span: Span,
         round: Round,
         staple: Staple,
     ) -> Result<Reaction, NoMemory>
         ensures { IfOk result (λ reaction.
-            Gives (row.prepares self.old round staple) self.new reaction) }
+            Gives (row.prepares self.old span round staple) self.new reaction) }
     {
         let letters = self.prepare_letters(alloc, &round, &staple)?;
-        self.awaits(Phase::Checking { round, staple });
+        self.awaits(Phase::Checking {
+            span,
+            round,
+            staple,
+        });
         Ok(Reaction {
             append: None,
             letters,
@@ -173,7 +182,11 @@ impl Coordinator {
             self.new reaction) }
     {
         match mem::replace(&mut self.phase, Phase::Idle) {
-            Phase::Checking { round, staple } => self.voted(alloc, round, staple, server, verdicts),
+            Phase::Checking {
+                span: Span::Commit,
+                round,
+                staple,
+            } => self.voted(alloc, round, staple, server, verdicts),
             other => {
                 self.enters(other);
                 Ok(ignored(alloc))
@@ -186,7 +199,13 @@ impl Coordinator {
         ensures { IfOk result (λ reaction.
             Gives (row.vote_at self.old self.old.phase server (vote.No why)) self.new reaction) }
     {
-        if !matches!(self.phase, Phase::Checking { .. }) {
+        if !matches!(
+            self.phase,
+            Phase::Checking {
+                span: Span::Commit,
+                ..
+            }
+        ) {
             return Ok(ignored(alloc));
         }
         match why {
@@ -205,10 +224,14 @@ impl Coordinator {
     /// Other votes of the round are awaited.
     fn awaits_more(&mut self, alloc: Global, round: Round, staple: Staple) -> Reaction
         ensures { Gives
-            (sends (record self.old { phase = Phase.Checking round staple }) [])
+            (sends (record self.old { phase = Phase.Checking Span.Commit round staple }) [])
             self.new result }
     {
-        self.enters(Phase::Checking { round, staple });
+        self.enters(Phase::Checking {
+            span: Span::Commit,
+            round,
+            staple,
+        });
         nothing(alloc)
     }
 
@@ -222,14 +245,15 @@ impl Coordinator {
         verdicts: &List<Verdict>,
     ) -> Result<Reaction, NoMemory>
         ensures { IfOk result (λ reaction.
-            Gives (row.on_reply self.old (judge.after_reply round server verdicts.now) staple)
+            Gives
+            (row.on_reply self.old Span.Commit (judge.after_reply round server verdicts.now) staple)
             self.new reaction) }
     {
         let mut round = round;
         match judged_with(alloc, &mut round, server, verdicts)? {
             Judged::Waiting => Ok(self.awaits_more(alloc, round, staple)),
             Judged::Spent(mets) => self.aborts(alloc, Cause::Rounds(mets)),
-            Judged::Update(_) => self.asks(alloc, round),
+            Judged::Update(_) => self.asks(alloc, Span::Commit, round),
             Judged::False { verdict } => self.aborts(alloc, Cause::Denied(denied_by(&verdict))),
             Judged::AllTrue => self.commits(alloc, &round),
         }
@@ -290,7 +314,11 @@ fn awaits_vote(phase: &Phase, server: ServerId) -> bool
     ensures { result ≡ row.awaits_vote phase.now server }
 {
     match phase {
-        Phase::Checking { round, staple: _ } => round.awaits(server),
+        Phase::Checking {
+            span: Span::Commit,
+            round,
+            staple: _,
+        } => round.awaits(server),
         _ => false,
     }
 }

@@ -25,6 +25,8 @@ use Rattle.tp_coord.specs.State.{Coordinator}
 use Rattle.tp_machine.specs.declared.actors.Actors.{Actors}
 use Rattle.tp_coord.specs.declared.coordinator.Phase.TheVariants as phase
 use Rattle.tp_coord.specs.declared.coordinator.Phase.{Phase}
+use Rattle.tp_coord.specs.declared.coordinator.Span.TheVariants as span
+use Rattle.tp_coord.specs.declared.coordinator.Span.{Span}
 use Rattle.tp_round.specs.declared.round.Round.{Round}
 use Rattle.tp_round.specs.declared.round.Target.{Target}
 use Rattle.tp_round.specs.declared.round.Wanted.{Wanted}
@@ -481,13 +483,22 @@ pub record IsSoundRound (sc : Scenario) (txn : TxnId) (round : Round) : Type 0 w
   pub named : Each (IsSoundWanted sc) round.named
   pub mets : Each (IsSoundMet sc) round.mets
 
+-- a round over the queries so far goes to one of the transaction's
+abbrev pub IsSoundSpan : Scenario → TxnId → Span → Type 0
+IsSoundSpan sc txn (span.Validate number) = IsQuery sc txn number
+IsSoundSpan sc txn span.Commit = Unit {0}
+
 -- what a coordinator awaits is sound
 abbrev pub IsSoundPhase : Scenario → TxnId → Phase → Type 0
+IsSoundPhase sc txn (phase.Stapling number) = IsQuery sc txn number
 IsSoundPhase sc txn (phase.Querying number staple) =
     IsQuery sc txn number × IfSome staple (IsSoundStaple sc)
-IsSoundPhase sc txn (phase.Asking round) = IsSoundRound sc txn round
-IsSoundPhase sc txn (phase.Checking round staple) =
-    IsSoundRound sc txn round × IsSoundStaple sc staple
+IsSoundPhase sc txn (phase.Probing number) = IsQuery sc txn number
+IsSoundPhase sc txn (phase.Asking over round) = IsSoundSpan sc txn over × IsSoundRound sc txn round
+IsSoundPhase sc txn (phase.Checking over round staple) =
+    IsSoundSpan sc txn over × IsSoundRound sc txn round × IsSoundStaple sc staple
+IsSoundPhase sc txn (phase.Reading over round) = IsSoundSpan sc txn over × IsSoundRound sc txn round
+IsSoundPhase sc txn (phase.Voting awaited) = Each (IsServer sc) awaited
 IsSoundPhase sc txn (phase.Ending outcome awaited) = Each (IsServer sc) awaited
 IsSoundPhase sc txn _ = Unit {0}
 

@@ -33,6 +33,8 @@ use Rattle.tp_coord.specs.Row.{aborts, asks, awaits_query, commit_round, commits
 use Rattle.tp_coord.specs.State.{Coordinator}
 use Rattle.tp_coord.specs.declared.coordinator.Phase.TheVariants as phase
 use Rattle.tp_coord.specs.declared.coordinator.Phase.{Phase}
+use Rattle.tp_coord.specs.declared.coordinator.Span.TheVariants as span
+use Rattle.tp_coord.specs.declared.coordinator.Span.{Span}
 use Rattle.tp_round.specs.Judge.{after_judgement, after_reply, aim_in, judge, met_in, mets_in, new_target, next_round}
 use Rattle.tp_round.specs.Replies.{by_query, proofs_in}
 use Rattle.tp_round.specs.declared.round.Judged.TheVariants as judged
@@ -57,8 +59,10 @@ HaveItems sc txn servers = Each (HoldsItem sc txn) servers
 
 -- each server that a phase speaks of has an item of the transaction
 abbrev pub PhaseHasItems : Scenario → TxnId → Phase → Type 0
-PhaseHasItems sc txn (phase.Asking round) = EachServer (HoldsItem sc txn) round.targets
-PhaseHasItems sc txn (phase.Checking round staple) = EachServer (HoldsItem sc txn) round.targets
+PhaseHasItems sc txn (phase.Asking over round) = EachServer (HoldsItem sc txn) round.targets
+PhaseHasItems sc txn (phase.Checking over round staple) = EachServer (HoldsItem sc txn) round.targets
+PhaseHasItems sc txn (phase.Reading over round) = EachServer (HoldsItem sc txn) round.targets
+PhaseHasItems sc txn (phase.Voting awaited) = HaveItems sc txn awaited
 PhaseHasItems sc txn (phase.Ending ended awaited) = HaveItems sc txn awaited
 PhaseHasItems sc txn _ = Unit {0}
 
@@ -72,10 +76,18 @@ pub record CoordinatorAgrees (sc : Scenario) (c : Coordinator) (kept : List Reco
 abbrev pub AllBut : (ServerId → Type 0) → List ServerId → List ServerId → Type 0
 AllBut P awaited servers = Each (λ (at : ServerId). is_in awaited at ≡ false → P at) servers
 
+-- each server of a round at commit that has replied has prepared; P says who has. A round over the queries so far asks for no vote
+abbrev pub SpanRests : (ServerId → Type 0) → Span → List ServerId → List ServerId → Type 0
+SpanRests P (span.Validate number) awaited servers = Unit {0}
+SpanRests P span.Commit awaited servers = AllBut P awaited servers
+
 -- who has voted has prepared, and who has acknowledged has settled; P and S say who has
 abbrev pub PhaseRests : (P S : ServerId → Type 0) → Phase → List ServerId → Type 0
-PhaseRests P S (phase.Asking round) servers = AllBut P (missing_in round.targets) servers
-PhaseRests P S (phase.Checking round staple) servers = AllBut P (missing_in round.targets) servers
+PhaseRests P S (phase.Asking over round) servers = SpanRests P over (missing_in round.targets) servers
+PhaseRests P S (phase.Checking over round staple) servers = SpanRests P over (missing_in round.targets) servers
+PhaseRests P S (phase.Reading over round) servers = SpanRests P over [] servers
+PhaseRests P S (phase.Voting awaited) servers = AllBut P awaited servers
+PhaseRests P S phase.VoteProbing servers = AllBut P [] servers
 PhaseRests P S (phase.Ending ended awaited) servers = AllBut S awaited servers
 PhaseRests P S _ servers = Unit {0}
 
@@ -152,9 +164,14 @@ pub record CoordinatorLawful (sc : Scenario) (P S : ServerId → Type 0) (c : Co
 -- a coordinator whose transaction was not submitted is idle
 pub idle_is : (awaited : Phase) → is_begun awaited ≡ false → awaited ≡ phase.Idle
 idle_is phase.Idle e = refl
+idle_is (phase.Stapling number) e = absurd (cc)
 idle_is (phase.Querying number staple) e = absurd (cc)
-idle_is (phase.Asking round) e = absurd (cc)
-idle_is (phase.Checking round staple) e = absurd (cc)
+idle_is (phase.Probing number) e = absurd (cc)
+idle_is (phase.Asking over round) e = absurd (cc)
+idle_is (phase.Checking over round staple) e = absurd (cc)
+idle_is (phase.Reading over round) e = absurd (cc)
+idle_is (phase.Voting awaited) e = absurd (cc)
+idle_is phase.VoteProbing e = absurd (cc)
 idle_is (phase.Ending ended servers) e = absurd (cc)
 
 -- and has not decided
@@ -164,9 +181,14 @@ undecided_idle awaited decided e h = subst (λ (p : Phase). PhaseAgrees p decide
 -- one that has decided was submitted
 pub decided_begun : (awaited : Phase) (decided : Option Decision) → PhaseAgrees awaited decided → is_some decided ≡ true → is_begun awaited ≡ true
 decided_begun phase.Idle decided h e = let not : is_some decided ≡ false = ap is_some h in absurd (cc)
+decided_begun (phase.Stapling number) decided h e = refl
 decided_begun (phase.Querying number staple) decided h e = refl
-decided_begun (phase.Asking round) decided h e = refl
-decided_begun (phase.Checking round staple) decided h e = refl
+decided_begun (phase.Probing number) decided h e = refl
+decided_begun (phase.Asking over round) decided h e = refl
+decided_begun (phase.Checking over round staple) decided h e = refl
+decided_begun (phase.Reading over round) decided h e = refl
+decided_begun (phase.Voting awaited) decided h e = refl
+decided_begun phase.VoteProbing decided h e = refl
 decided_begun (phase.Ending ended servers) decided h e = refl
 
 -- ---- servers
@@ -272,7 +294,7 @@ ignores_lawful_in_coordinator sc P S c kept h = record { agrees = h.agrees; repl
 
 -- the authority is asked by a coordinator that has not decided, before a round of which this holds
 asks_lawful : (sc : Scenario) (P S : ServerId → Type 0) (c : Coordinator) (kept : List Record) (round : Round) → decided_in kept ≡ None → is_begun c.phase ≡ true → c.servers ≡ servers_at sc c.txn
-    → EachServer (HoldsItem sc c.txn) round.targets → AllBut P (missing_in round.targets) (servers_at sc c.txn) → CoordinatorLawful sc P S c kept (asks c round)
+    → EachServer (HoldsItem sc c.txn) round.targets → AllBut P (missing_in round.targets) (servers_at sc c.txn) → CoordinatorLawful sc P S c kept (asks c span.Commit round)
 asks_lawful sc P S c kept round d b s items replied =
     record {
       agrees = record { decided = d; servers = s; awaited = items };
@@ -303,8 +325,8 @@ prepare_letters_lawful sc c begun decided round staple (at ∷ servers) b h =
     (record { same_txn = refl; item = h.0; submitted = b }, prepare_letters_lawful sc c begun decided round staple servers b h.1)
 
 -- each awaited server is asked to prepare
-prepares_lawful : (sc : Scenario) (P S : ServerId → Type 0) (c : Coordinator) (kept : List Record) (round : Round) (staple : Staple) → Keeps sc P S c kept → c.phase ≡ phase.Asking round
-    → CoordinatorLawful sc P S c kept (prepares c round staple)
+prepares_lawful : (sc : Scenario) (P S : ServerId → Type 0) (c : Coordinator) (kept : List Record) (round : Round) (staple : Staple) → Keeps sc P S c kept → c.phase ≡ phase.Asking span.Commit round
+    → CoordinatorLawful sc P S c kept (prepares c span.Commit round staple)
 prepares_lawful sc P S c kept round staple h e =
     let items : EachServer (HoldsItem sc c.txn) round.targets = subst (PhaseHasItems sc c.txn) e h.agrees.awaited in
     record {
@@ -387,11 +409,11 @@ whole_prepared sc P S c kept round answer k e other =
 
 -- the next round after an update
 updated_lawful : (sc : Scenario) (P S : ServerId → Type 0) (c : Coordinator) (kept : List Record) (round : Round) (named : List Wanted) → IsCounted sc P S c kept round → c.servers ≡ servers_at sc c.txn
-    → judge round None ≡ judged.Update named → CoordinatorLawful sc P S c kept (asks c (after_judgement round None))
+    → judge round None ≡ judged.Update named → CoordinatorLawful sc P S c kept (asks c span.Commit (after_judgement round None))
 updated_lawful sc P S c kept round named k s e =
     let next = next_round round (aim_in round None) named (mets_in round (met_in round None)) in
     let prepared : Each P (servers_at sc c.txn) = whole_prepared sc P S c kept round (judged.Update named) k e (λ f. cc) in
-    subst (λ (r : Round). CoordinatorLawful sc P S c kept (asks c r)) (sym (updated_is round named e))
+    subst (λ (r : Round). CoordinatorLawful sc P S c kept (asks c span.Commit r)) (sym (updated_is round named e))
     (asks_lawful sc P S c kept next k.undecided k.begun s (each_renewed (HoldsItem sc c.txn) (aim_in round None) round.targets k.items)
     (each_as P (λ (at : ServerId). is_in (missing_in next.targets) at ≡ false → P at) (λ at p left. p) (servers_at sc c.txn) prepared))
 
@@ -418,8 +440,13 @@ acknowledged_lawful sc P S c kept mail ack ended awaited server h m a =
 awaiting_query : (c : Coordinator) (awaited : Phase) (done : DoneReply) (decided : Option Decision) → awaits_query c awaited done ≡ true → PhaseAgrees awaited decided → (decided ≡ None) × (is_begun awaited ≡ true)
 awaiting_query c phase.Idle done decided e h = absurd (cc)
 awaiting_query c (phase.Querying number staple) done decided e h = (h, refl)
-awaiting_query c (phase.Asking round) done decided e h = absurd (cc)
-awaiting_query c (phase.Checking round staple) done decided e h = absurd (cc)
+awaiting_query c (phase.Stapling number) done decided e h = absurd (cc)
+awaiting_query c (phase.Probing number) done decided e h = absurd (cc)
+awaiting_query c (phase.Asking over round) done decided e h = absurd (cc)
+awaiting_query c (phase.Checking over round staple) done decided e h = absurd (cc)
+awaiting_query c (phase.Reading over round) done decided e h = absurd (cc)
+awaiting_query c (phase.Voting awaited) done decided e h = absurd (cc)
+awaiting_query c phase.VoteProbing done decided e h = absurd (cc)
 awaiting_query c (phase.Ending ended awaited) done decided e h = absurd (cc)
 
 -- every row of a coordinator on receipt of a mail

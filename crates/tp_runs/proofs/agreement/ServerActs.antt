@@ -31,9 +31,11 @@ use Rattle.tp_machine.specs.declared.actors.Actors.{Actors}
 use Rattle.tp_coord.specs.State.{Coordinator}
 use Rattle.tp_coord.specs.declared.coordinator.Phase.TheVariants as phase
 use Rattle.tp_coord.specs.declared.coordinator.Phase.{Phase}
+use Rattle.tp_coord.specs.declared.coordinator.Span.TheVariants as span
+use Rattle.tp_coord.specs.declared.coordinator.Span.{Span}
 use Rattle.tp_machine.specs.Parts.{Part}
 use Rattle.tp_server.specs.State.{Server}
-use Rattle.tp_runs.proofs.agreement.Coordinator.{DecisionRests, PhaseAgrees, PhaseRests, decided_begun}
+use Rattle.tp_runs.proofs.agreement.Coordinator.{AllBut, DecisionRests, PhaseAgrees, PhaseRests, SpanRests, decided_begun}
 use Rattle.tp_runs.proofs.agreement.Known.{KnowsTold}
 use Rattle.tp_runs.proofs.agreement.Logs.{DecidedAs, IsAsked, IsPrepared, IsServed, IsSettled, LogPrepared, LogServed, LogsStay, Settles, WasSubmitted, logs_same, once, outcome_settled, part_stays, prepared_kept, prepared_open, prepared_voted, settled_outcome, settled_stays, settles_is, submitted_count, submitted_up}
 use Rattle.tp_runs.proofs.agreement.Server.{LetterKept, RecordRests, ReplyKept, ServerAgrees, SettlementRests, VoteKept}
@@ -361,15 +363,23 @@ server_logs_stay sc w at part next append found grown r =
 
 -- ---- coordinators as logs stay
 
+all_but_stays : (P Q : ServerId → Type 0) (awaited servers : List ServerId) → ((at : ServerId) → P at → Q at) → AllBut P awaited servers → AllBut Q awaited servers
+all_but_stays P Q awaited servers more h =
+    each_as (λ (at : ServerId). is_in awaited at ≡ false → P at) (λ (at : ServerId). is_in awaited at ≡ false → Q at) (λ at k left. more at (k left)) servers h
+
+span_stays : (P Q : ServerId → Type 0) (over : Span) (awaited servers : List ServerId) → ((at : ServerId) → P at → Q at) → SpanRests P over awaited servers → SpanRests Q over awaited servers
+span_stays P Q (span.Validate number) awaited servers more h = tt
+span_stays P Q span.Commit awaited servers more h = all_but_stays P Q awaited servers more h
+
 -- what a phase rests on stays; what is undecided now was undecided before
 phase_stays_in_agreement : (P Q S T : ServerId → Type 0) (awaited : Phase) (decided : Option Decision) (servers : List ServerId) → PhaseAgrees awaited decided → (decided ≡ None → (at : ServerId) → P at → Q at)
     → ((at : ServerId) → S at → T at) → PhaseRests P S awaited servers → PhaseRests Q T awaited servers
-phase_stays_in_agreement P Q S T (phase.Asking round) decided servers a undecided settled h =
-    each_as (λ (at : ServerId). is_in (missing_in round.targets) at ≡ false → P at) (λ (at : ServerId). is_in (missing_in round.targets) at ≡ false → Q at) (λ at k left. undecided a at (k left)) servers h
-phase_stays_in_agreement P Q S T (phase.Checking round staple) decided servers a undecided settled h =
-    each_as (λ (at : ServerId). is_in (missing_in round.targets) at ≡ false → P at) (λ (at : ServerId). is_in (missing_in round.targets) at ≡ false → Q at) (λ at k left. undecided a at (k left)) servers h
-phase_stays_in_agreement P Q S T (phase.Ending ended awaited) decided servers a undecided settled h =
-    each_as (λ (at : ServerId). is_in awaited at ≡ false → S at) (λ (at : ServerId). is_in awaited at ≡ false → T at) (λ at k left. settled at (k left)) servers h
+phase_stays_in_agreement P Q S T (phase.Asking over round) decided servers a undecided settled h = span_stays P Q over (missing_in round.targets) servers (undecided a) h
+phase_stays_in_agreement P Q S T (phase.Checking over round staple) decided servers a undecided settled h = span_stays P Q over (missing_in round.targets) servers (undecided a) h
+phase_stays_in_agreement P Q S T (phase.Reading over round) decided servers a undecided settled h = span_stays P Q over [] servers (undecided a) h
+phase_stays_in_agreement P Q S T (phase.Voting awaited) decided servers a undecided settled h = all_but_stays P Q awaited servers (undecided a) h
+phase_stays_in_agreement P Q S T phase.VoteProbing decided servers a undecided settled h = all_but_stays P Q [] servers (undecided a) h
+phase_stays_in_agreement P Q S T (phase.Ending ended awaited) decided servers a undecided settled h = all_but_stays S T awaited servers settled h
 phase_stays_in_agreement P Q S T _ decided servers a undecided settled h = tt
 
 served_stays : (old new : Actors) (txn : TxnId) (servers : List ServerId) (decided : Option Decision) → LogsStay old new → decided_at old.coordinators txn.0 ≡ decided

@@ -1,7 +1,8 @@
--- What a coordinator's phase tells: whether it has decided, which queries ran before it, and whether any is still to run.
+-- What a coordinator's phase tells: whether it has decided, which queries ran before it, whether any is still to run, where the
+-- coordinator stands, and how many requests it has made at most.
 use Rattle.std.specs.List.{list_any}
 use Rattle.std.specs.Option.{option_map_or}
-use Rattle.std.proofs.Common.{Bool, List, None, Option, Some, [], ap, arith, false, not, option_and_then, option_map, refl, slice_get, subst, suc, sym, take, true, zero, ℕ, ◌+◌, ◌-◌, ◌==◌, ◌||◌, ◌∙◌, ◌∷◌, ◌≡◌}
+use Rattle.std.proofs.Common.{Bool, List, None, Option, Some, [], ap, arith, false, not, option_and_then, option_map, refl, slice_get, subst, suc, sym, take, true, zero, ℕ, ◌*◌, ◌+◌, ◌-◌, ◌==◌, ◌||◌, ◌∙◌, ◌∷◌, ◌≡◌}
 use Rattle.std.proofs.lemmas.Bool.{and_parts, eqb-true}
 use Rattle.std.proofs.lemmas.List.Folds.{list_any_more}
 use Rattle.std.proofs.lemmas.Option.{get_or_from_slice_get, same_Some, slice_get_within}
@@ -13,6 +14,8 @@ use Rattle.tp_coord.specs.Row.{awaits_query, is_plain, server_of}
 use Rattle.tp_coord.specs.State.{Coordinator}
 use Rattle.tp_coord.specs.declared.coordinator.Phase.TheVariants as phase
 use Rattle.tp_coord.specs.declared.coordinator.Phase.{Phase}
+use Rattle.tp_coord.specs.declared.coordinator.Span.TheVariants as span
+use Rattle.tp_coord.specs.declared.coordinator.Span.{Span}
 
 -- a coordinator that is not ending has not decided
 abbrev pub is_undecided : Phase → Bool
@@ -24,18 +27,36 @@ abbrev pub is_querying : Phase → Bool
 is_querying (phase.Querying number staple) = true
 is_querying _ = false
 
+-- a round at commit is over all queries
+abbrev pub is_at_commit : Span → Bool
+is_at_commit (span.Validate number) = false
+is_at_commit span.Commit = true
+
 -- all queries ran, and their servers are asked to prepare
 abbrev pub is_late : Phase → Bool
-is_late (phase.Asking round) = true
-is_late (phase.Checking round staple) = true
+is_late (phase.Asking over round) = is_at_commit over
+is_late (phase.Checking over round staple) = is_at_commit over
+is_late (phase.Reading over round) = is_at_commit over
+is_late (phase.Voting awaited) = true
+is_late phase.VoteProbing = true
 is_late _ = false
+
+-- of a transaction's queries, those that a round is over
+abbrev pub spanned : Span → List Query → List Query
+spanned (span.Validate number) queries = take number queries
+spanned span.Commit queries = queries
 
 -- of a transaction's queries, those that ran before the phase of a coordinator that has not decided
 abbrev pub ran_before : Phase → List Query → List Query
 ran_before phase.Idle queries = []
+ran_before (phase.Stapling number) queries = take (number - 1) queries
 ran_before (phase.Querying number staple) queries = take (number - 1) queries
-ran_before (phase.Asking round) queries = queries
-ran_before (phase.Checking round staple) queries = queries
+ran_before (phase.Probing number) queries = take number queries
+ran_before (phase.Asking over round) queries = spanned over queries
+ran_before (phase.Checking over round staple) queries = spanned over queries
+ran_before (phase.Reading over round) queries = spanned over queries
+ran_before (phase.Voting awaited) queries = queries
+ran_before phase.VoteProbing queries = queries
 ran_before (phase.Ending ended awaited) queries = queries
 
 abbrev pub queries_of : Scenario → TxnId → List Query
@@ -49,6 +70,64 @@ has_run_at sc txn awaited at = list_any (is_at_server sc at.0) (ran_before await
 abbrev pub is_first_at : Scenario → ServerId → TxnId → ℕ → Bool
 is_first_at sc at txn number = not (list_any (is_at_server sc at.0) (take (number - 1) (queries_of sc txn)))
 
+-- ---- where the coordinator stands
+
+-- it awaits the answer to a query; it is between two queries of a transaction that is not decided; all queries have run, and it brings
+-- the servers to vote; or it has not begun, or has decided
+pub data Stand : Type 0 where
+  Asks : Stand
+  Pauses : Stand
+  Prepares : Stand
+  Rests : Stand
+
+-- a round over the queries so far asks no server to prepare
+abbrev pub stand_over : Span → Stand
+stand_over (span.Validate number) = Pauses
+stand_over span.Commit = Prepares
+
+abbrev pub stand_of : Phase → Stand
+stand_of phase.Idle = Rests
+stand_of (phase.Stapling number) = Pauses
+stand_of (phase.Querying number staple) = Asks
+stand_of (phase.Probing number) = Pauses
+stand_of (phase.Asking over round) = stand_over over
+stand_of (phase.Checking over round staple) = stand_over over
+stand_of (phase.Reading over round) = stand_over over
+stand_of (phase.Voting awaited) = Prepares
+stand_of phase.VoteProbing = Prepares
+stand_of (phase.Ending ended awaited) = Rests
+
+-- ---- requests
+
+-- the most requests before a query: each query before it takes at most three, and then three for each of at most 17 rounds
+abbrev pub before_query : ℕ → ℕ
+before_query number = (number - 1) * 54
+
+-- the most requests until this one of three in a round at commit, of a transaction with so many queries
+abbrev pub until_round : ℕ → ℕ → ℕ → ℕ
+until_round count number asked = count * 54 + (number - 1) * 3 + asked
+
+-- and in a round over the queries up to this one, which took two requests at most
+abbrev pub until_validation : ℕ → ℕ → ℕ → ℕ
+until_validation query number asked = before_query query + 2 + (number - 1) * 3 + asked
+
+abbrev pub until_asked : ℕ → Span → ℕ → ℕ → ℕ
+until_asked count (span.Validate query) number asked = until_validation query number asked
+until_asked count span.Commit number asked = until_round count number asked
+
+-- the most requests that a coordinator has made in its phase
+abbrev pub ceiling_in : ℕ → Phase → ℕ
+ceiling_in count phase.Idle = 0
+ceiling_in count (phase.Stapling number) = before_query number + 1
+ceiling_in count (phase.Querying number staple) = before_query number + 2
+ceiling_in count (phase.Probing number) = before_query number + 3
+ceiling_in count (phase.Asking over round) = until_asked count over round.number 1
+ceiling_in count (phase.Checking over round staple) = until_asked count over round.number 2
+ceiling_in count (phase.Reading over round) = until_asked count over round.number 3
+ceiling_in count (phase.Voting awaited) = until_round count 1 1
+ceiling_in count phase.VoteProbing = until_round count 1 2
+ceiling_in count (phase.Ending ended awaited) = until_round count 17 3
+
 -- ---- laws
 
 -- the query that is awaited is the one that the answer says
@@ -56,15 +135,25 @@ pub awaits_is : (c : Coordinator) (awaited : Phase) (done : DoneReply) → await
 awaits_is c (phase.Querying number None) done e plain = ap (λ (n : ℕ). phase.Querying n None) (sym (eqb-true done.query number (and_parts (done.turn == c.turn) (done.query == number) e).1))
 awaits_is c (phase.Querying number (Some staple)) done e plain = absurd (cc)
 awaits_is c phase.Idle done e plain = absurd (cc)
-awaits_is c (phase.Asking round) done e plain = absurd (cc)
-awaits_is c (phase.Checking round staple) done e plain = absurd (cc)
+awaits_is c (phase.Stapling number) done e plain = absurd (cc)
+awaits_is c (phase.Probing number) done e plain = absurd (cc)
+awaits_is c (phase.Asking over round) done e plain = absurd (cc)
+awaits_is c (phase.Checking over round staple) done e plain = absurd (cc)
+awaits_is c (phase.Reading over round) done e plain = absurd (cc)
+awaits_is c (phase.Voting awaited) done e plain = absurd (cc)
+awaits_is c phase.VoteProbing done e plain = absurd (cc)
 awaits_is c (phase.Ending ended servers) done e plain = absurd (cc)
 
 pub querying_is : (c : Coordinator) (awaited : Phase) (done : DoneReply) → awaits_query c awaited done ≡ true → is_querying awaited ≡ true
 querying_is c (phase.Querying number staple) done e = refl
 querying_is c phase.Idle done e = absurd (cc)
-querying_is c (phase.Asking round) done e = absurd (cc)
-querying_is c (phase.Checking round staple) done e = absurd (cc)
+querying_is c (phase.Stapling number) done e = absurd (cc)
+querying_is c (phase.Probing number) done e = absurd (cc)
+querying_is c (phase.Asking over round) done e = absurd (cc)
+querying_is c (phase.Checking over round staple) done e = absurd (cc)
+querying_is c (phase.Reading over round) done e = absurd (cc)
+querying_is c (phase.Voting awaited) done e = absurd (cc)
+querying_is c phase.VoteProbing done e = absurd (cc)
 querying_is c (phase.Ending ended servers) done e = absurd (cc)
 
 any_declared : (sc : Scenario) (at : ServerId) (found : Option Transaction)
@@ -74,9 +163,17 @@ any_declared sc at (Some declared) = refl
 
 -- once it is late, a query ran at each of the transaction's servers
 pub late_has_run : (sc : Scenario) (txn : TxnId) (awaited : Phase) (at : ServerId) → is_late awaited ≡ true → has_run_at sc txn awaited at ≡ has_item_at sc at txn
-late_has_run sc txn (phase.Asking round) at e = any_declared sc at (slice_get sc.txns txn.0)
-late_has_run sc txn (phase.Checking round staple) at e = any_declared sc at (slice_get sc.txns txn.0)
+late_has_run sc txn (phase.Asking span.Commit round) at e = any_declared sc at (slice_get sc.txns txn.0)
+late_has_run sc txn (phase.Checking span.Commit round staple) at e = any_declared sc at (slice_get sc.txns txn.0)
+late_has_run sc txn (phase.Reading span.Commit round) at e = any_declared sc at (slice_get sc.txns txn.0)
+late_has_run sc txn (phase.Voting awaited) at e = any_declared sc at (slice_get sc.txns txn.0)
+late_has_run sc txn phase.VoteProbing at e = any_declared sc at (slice_get sc.txns txn.0)
+late_has_run sc txn (phase.Asking (span.Validate number) round) at e = absurd (cc)
+late_has_run sc txn (phase.Checking (span.Validate number) round staple) at e = absurd (cc)
+late_has_run sc txn (phase.Reading (span.Validate number) round) at e = absurd (cc)
 late_has_run sc txn phase.Idle at e = absurd (cc)
+late_has_run sc txn (phase.Stapling number) at e = absurd (cc)
+late_has_run sc txn (phase.Probing number) at e = absurd (cc)
 late_has_run sc txn (phase.Querying number staple) at e = absurd (cc)
 late_has_run sc txn (phase.Ending ended awaited) at e = absurd (cc)
 

@@ -14,7 +14,7 @@ use Rattle.tp_model.specs.Words.{AdminId, Body, Instance, PrepareRequest, Query,
 use Rattle.tp_round.specs.Judge.{is_aimed}
 use Rattle.tp_round.specs.declared.round.Round.{Round}
 use Rattle.tp_runs.proofs.basics.Aims.{is_within}
-use Rattle.tp_runs.proofs.basics.Phases.{is_undecided}
+use Rattle.tp_runs.proofs.basics.Phases.{before_query, ceiling_in, is_undecided, until_round, until_validation}
 use Rattle.tp_types.specs.Each.{Each}
 use Rattle.tp_runs.specs.Sound.{query_in}
 use Rattle.tp_coord.specs.Row.{next_turn}
@@ -58,7 +58,8 @@ PlacedAt place _ = Unit {0}
 
 -- what the authority tells now was told after all that is closed
 abbrev pub TellNow : Coordinator → Phase → ℕ → Type 0
-TellNow c (phase.Asking round) sent = IsAbove sent c.instances c.gathered
+TellNow c (phase.Stapling number) sent = IsAbove sent c.instances c.gathered
+TellNow c (phase.Asking over round) sent = IsAbove sent c.instances c.gathered
 TellNow c _ sent = Unit {0}
 
 -- after an update a request wants something, of what the round aims at
@@ -70,14 +71,21 @@ abbrev pub AimedVote : Round → Vote → Type 0
 AimedVote round (vote.Yes verdicts) = (round.number ≡ 1) ⊎ (list_all (is_aimed round.aim) verdicts ≡ true)
 AimedVote round _ = Unit {0}
 
--- a request to prepare has the staple of the round, and wants what the round does
+-- a request to prepare has the staple of the round, and wants what the round does; votes without a round are asked for without a staple
 abbrev pub PrepareNow : Phase → PrepareRequest → Type 0
-PrepareNow (phase.Checking round staple) p = (p.staple ≡ Some staple) × WantNow round p.want
+PrepareNow (phase.Checking over round staple) p = (p.staple ≡ Some staple) × WantNow round p.want
+PrepareNow (phase.Voting awaited) p = p.staple ≡ None
 PrepareNow _ p = Unit {0}
+
+-- a vote of a server that was asked without a staple has no verdict
+abbrev pub ProvesNothing : Vote → Type 0
+ProvesNothing (vote.Yes verdicts) = verdicts ≡ []
+ProvesNothing _ = Unit {0}
 
 -- and a vote is of its place, and of the versions
 abbrev pub VoteNow : Phase → Vote → Type 0
-VoteNow (phase.Checking round staple) said = PlacedAt staple.place said × AimedVote round said
+VoteNow (phase.Checking over round staple) said = PlacedAt staple.place said × AimedVote round said
+VoteNow (phase.Voting awaited) said = ProvesNothing said
 VoteNow _ said = Unit {0}
 
 -- what a mail of the present turn, sent at a place, says of the request that is outstanding
@@ -137,21 +145,6 @@ timely_anywhere sc c sent place turn said other h unsure = record { past = (h un
 abbrev pub query_count : Scenario → TxnId → ℕ
 query_count sc txn = option_map_or (λ (declared : Transaction). length declared.queries) (slice_get sc.txns txn.0) 0
 
--- the most requests before a query: each query before it takes at most three, and then three for each of at most 17 rounds
-abbrev pub before_query : ℕ → ℕ
-before_query number = (number - 1) * 54
-
--- the most requests until this one of three in a round of all queries
-abbrev pub until_round : ℕ → ℕ → ℕ → ℕ
-until_round count number asked = count * 54 + (number - 1) * 3 + asked
-
-abbrev pub ceiling_in : ℕ → Phase → ℕ
-ceiling_in count phase.Idle = 0
-ceiling_in count (phase.Querying number staple) = before_query number + 2
-ceiling_in count (phase.Asking round) = until_round count round.number 1
-ceiling_in count (phase.Checking round staple) = until_round count round.number 2
-ceiling_in count (phase.Ending ended awaited) = until_round count 17 3
-
 -- the most requests that a coordinator has made in its phase
 abbrev pub ceiling : Scenario → Coordinator → ℕ
 ceiling sc c = ceiling_in (query_count sc c.txn) c.phase
@@ -204,8 +197,11 @@ next_move number next turn first one_more low = omega (arith, first, one_more, l
 pub round_move : (count number turn : ℕ) → 1 ≤ number → number ≤ count → turn ≤ before_query number + 2 → turn + 1 ≤ until_round count 1 1
 round_move count number turn first last low = omega (arith, first, last, low)
 
-pub low_query : (count number turn : ℕ) → count ≤ 16 → 1 ≤ number → number ≤ count → turn ≤ before_query number + 2 → turn ≤ 1000
-low_query count number turn few first last low = omega (arith, few, first, last, low)
+pub low_query : (count number asked turn : ℕ) → count ≤ 16 → number ≤ count + 1 → asked ≤ 3 → turn ≤ before_query number + asked → turn ≤ 1000
+low_query count number asked turn few last of_three low = omega (arith, few, last, of_three, low)
+
+pub low_validation : (count query number asked turn : ℕ) → count ≤ 16 → query ≤ count + 1 → number ≤ 17 → asked ≤ 3 → turn ≤ until_validation query number asked → turn ≤ 1000
+low_validation count query number asked turn few last most of_three low = omega (arith, few, last, most, of_three, low)
 
 pub low_round : (count number asked turn : ℕ) → count ≤ 16 → number ≤ 17 → asked ≤ 3 → turn ≤ until_round count number asked → turn ≤ 1000
 low_round count number asked turn few most of_three low = omega (arith, few, most, of_three, low)

@@ -1,5 +1,5 @@
 -- Bounds, the coordinator's rows: its deeds are of queries before the one that is awaited, so that the sum it asks for next is bounded.
-use Rattle.std.proofs.Common.{IfSome, List, None, Option, Some, [], arith, false, map, option_and_then, refl, slice_get, subst, true, ℕ, ℤ, ◌<◌, ◌∷◌, ◌≡◌}
+use Rattle.std.proofs.Common.{IfSome, List, None, Option, Some, [], arith, false, map, option_and_then, refl, slice_get, subst, true, ℕ, ℤ, ◌+◌, ◌<◌, ◌∷◌, ◌≡◌}
 use Rattle.tp_types.specs.Effect.{Effect, ignores}
 use Rattle.tp_model.specs.Valid.{is_valid_txn}
 use Rattle.tp_model.specs.Words.body
@@ -23,14 +23,26 @@ use Rattle.tp_coord.specs.Row.{is_begun, next_number}
 use Rattle.tp_coord.specs.State.{Coordinator}
 use Rattle.tp_coord.specs.declared.coordinator.Phase.TheVariants as phase
 use Rattle.tp_coord.specs.declared.coordinator.Phase.{Phase}
+use Rattle.tp_coord.specs.declared.coordinator.Span.TheVariants as span
+use Rattle.tp_coord.specs.declared.coordinator.Span.{Span}
 use Rattle.tp_round.specs.declared.round.Round.{Round}
 
 -- ---- what is kept
 
--- the deeds are of queries before the one that is awaited; before the submission there are none
+-- the deeds are of the queries up to the one that a round goes to
+abbrev pub SpanLow : Span → List Deed → Type 0
+SpanLow (span.Validate number) deeds = AreBefore (number + 1) deeds
+SpanLow span.Commit deeds = Unit {0}
+
+-- the deeds are of queries before the one that is awaited, or up to the one that ran last; before the submission there are none
 abbrev pub PhaseLow : Phase → List Deed → Type 0
 PhaseLow phase.Idle deeds = AreBefore 1 deeds
+PhaseLow (phase.Stapling number) deeds = AreBefore number deeds
 PhaseLow (phase.Querying number staple) deeds = AreBefore number deeds
+PhaseLow (phase.Probing number) deeds = AreBefore (number + 1) deeds
+PhaseLow (phase.Asking over round) deeds = SpanLow over deeds
+PhaseLow (phase.Checking over round staple) deeds = SpanLow over deeds
+PhaseLow (phase.Reading over round) deeds = SpanLow over deeds
 PhaseLow _ deeds = Unit {0}
 
 -- a coordinator that is up

@@ -19,6 +19,7 @@ use Rattle.tp_coord.specs.Row as coord
 use Rattle.tp_coord.specs.State.{Coordinator}
 use Rattle.tp_coord.specs.declared.coordinator.Phase.TheVariants as phase
 use Rattle.tp_coord.specs.declared.coordinator.Phase.{Phase}
+use Rattle.tp_coord.specs.declared.coordinator.Span.TheVariants as span
 use Rattle.tp_runs.proofs.basics.Rounds.{EachServer, each_missing, each_renewed, each_replied, missing_in, updated_is}
 use Rattle.tp_round.specs.Judge.{after_judgement, after_reply, aim_in, judge}
 use Rattle.tp_round.specs.Replies.{by_query, proofs_in}
@@ -44,8 +45,8 @@ prepares_told : (sc : Scenario) (A : Asking) (E : ℕ → ℕ) (c : Coordinator)
 prepares_told sc A E c round staple [] = tt
 prepares_told sc A E c round staple (at ∷ servers) = (tt, prepares_told sc A E c round staple servers)
 
-prepares_keeps : (sc : Scenario) (E : ℕ → ℕ) (A : Asking) (c : Coordinator) (round : Round) (staple : Staple) → CoordinatorKeeps sc E (A c.txn) c → c.phase ≡ phase.Asking round
-    → RowKeeps sc E A c (coord.prepares c round staple)
+prepares_keeps : (sc : Scenario) (E : ℕ → ℕ) (A : Asking) (c : Coordinator) (round : Round) (staple : Staple) → CoordinatorKeeps sc E (A c.txn) c → c.phase ≡ phase.Asking span.Commit round
+    → RowKeeps sc E A c (coord.prepares c span.Commit round staple)
 prepares_keeps sc E A c round staple h e =
     let k : KeepsAsked sc (A c.txn) c = h.undecided (ap is_undecided e) in
     let kept : EachServer (KeepsEpoch c) round.targets = subst (PhaseKept (KeepsEpoch c)) e k.round in
@@ -76,11 +77,11 @@ orders_plain c ended [] = tt
 orders_plain c ended (at ∷ servers) = (tt, orders_plain c ended servers)
 
 counted_keeps : (sc : Scenario) (E : ℕ → ℕ) (A : Asking) (c : Coordinator) (round : Round) (staple : Staple) (at : ServerId) (verdicts : List Verdict) → CoordinatorKeeps sc E (A c.txn) c
-    → c.phase ≡ phase.Checking round staple → RowKeeps sc E A c (sends (record c { phase = phase.Checking (after_reply round at verdicts) staple }) [])
+    → c.phase ≡ phase.Checking span.Commit round staple → RowKeeps sc E A c (sends (record c { phase = phase.Checking span.Commit (after_reply round at verdicts) staple }) [])
 counted_keeps sc E A c round staple at verdicts h e =
     let k : KeepsAsked sc (A c.txn) c = h.undecided (ap is_undecided e) in
     let kept : EachServer (KeepsEpoch c) round.targets = subst (PhaseKept (KeepsEpoch c)) e k.round in
-    plain_keeps sc E A c.txn (Some (record c { phase = phase.Checking (after_reply round at verdicts) staple })) []
+    plain_keeps sc E A c.txn (Some (record c { phase = phase.Checking span.Commit (after_reply round at verdicts) staple })) []
     (record {
       places = h.places;
       past = h.past;
@@ -93,8 +94,8 @@ counted_keeps sc E A c round staple at verdicts h e =
 
 -- the authority is asked before a further round
 updated_keeps : (sc : Scenario) (E : ℕ → ℕ) (A : Asking) (c : Coordinator) (round : Round) (staple : Staple) (at : ServerId) (verdicts : List Verdict) (named : List Wanted) → CoordinatorKeeps sc E (A c.txn) c
-    → c.phase ≡ phase.Checking round staple → judge (after_reply round at verdicts) None ≡ judged.Update named
-    → RowKeeps sc E A c (coord.asks c (after_judgement (after_reply round at verdicts) None))
+    → c.phase ≡ phase.Checking span.Commit round staple → judge (after_reply round at verdicts) None ≡ judged.Update named
+    → RowKeeps sc E A c (coord.asks c span.Commit (after_judgement (after_reply round at verdicts) None))
 updated_keeps sc E A c round staple at verdicts named h e judgement =
     let k : KeepsAsked sc (A c.txn) c = h.undecided (ap is_undecided e) in
     let replied = after_reply round at verdicts in
@@ -102,7 +103,7 @@ updated_keeps sc E A c round staple at verdicts named h e judgement =
     let next = after_judgement replied None in
     let renewed : EachServer (KeepsEpoch c) next.targets =
     subst (λ (r : Round). EachServer (KeepsEpoch c) r.targets) (sym (updated_is replied named judgement)) (each_renewed (KeepsEpoch c) (aim_in replied None) replied.targets kept) in
-    plain_keeps sc E A c.txn (Some (coord.asks c next).state) (coord.asks c next).reaction.letters
+    plain_keeps sc E A c.txn (Some (coord.asks c span.Commit next).state) (coord.asks c span.Commit next).reaction.letters
     (record {
       places = h.places;
       past = h.past;

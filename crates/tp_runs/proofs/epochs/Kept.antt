@@ -29,6 +29,7 @@ use Rattle.tp_coord.specs.Row as coord
 use Rattle.tp_coord.specs.State.{Coordinator}
 use Rattle.tp_coord.specs.declared.coordinator.Phase.TheVariants as phase
 use Rattle.tp_coord.specs.declared.coordinator.Phase.{Phase}
+use Rattle.tp_coord.specs.declared.coordinator.Span.TheVariants as span
 
 -- ---- what is kept
 
@@ -41,8 +42,10 @@ KeepsEpoch c at = is_some (kept_epoch c at) ≡ true
 
 -- an epoch is kept of each server of a round
 abbrev pub PhaseKept : (ServerId → Type 0) → Phase → Type 0
-PhaseKept K (phase.Asking round) = EachServer K round.targets
-PhaseKept K (phase.Checking round staple) = EachServer K round.targets
+PhaseKept K (phase.Asking over round) = EachServer K round.targets
+PhaseKept K (phase.Checking over round staple) = EachServer K round.targets
+PhaseKept K (phase.Reading over round) = EachServer K round.targets
+PhaseKept K (phase.Voting awaited) = Each K awaited
 PhaseKept K _ = Unit {0}
 
 -- before the decision: what was asked is kept, and an epoch is kept of a server exactly where a query ran
@@ -169,13 +172,13 @@ deed_keeps sc E A c done asked at value h m =
 
 -- the last query ran: all servers are asked to prepare
 last_keeps : (sc : Scenario) (E : ℕ → ℕ) (A : Asking) (c : Coordinator) (done : DoneReply) (asked : Query) (at : ServerId) (value : ℤ) → CoordinatorKeeps sc E (A c.txn) c → c.servers ≡ servers_at sc c.txn
-    → IsAnswer sc E A c done asked at → query_in sc c.txn (done.query + 1) ≡ None → RowKeeps sc E A c (coord.asks (coord.with_deed c at done asked value) (coord.commit_round (coord.with_deed c at done asked value)))
+    → IsAnswer sc E A c done asked at → query_in sc c.txn (done.query + 1) ≡ None → RowKeeps sc E A c (coord.asks (coord.with_deed c at done asked value) span.Commit (coord.commit_round (coord.with_deed c at done asked value)))
 last_keeps sc E A c done asked at value h servers m last =
     let now = coord.with_deed c at done asked value in
-    let next = (coord.asks now (coord.commit_round now)).state in
+    let next = (coord.asks now span.Commit (coord.commit_round now)).state in
     let k = deed_keeps sc E A c done asked at value h m in
     let ran : (s : ServerId) → is_some (kept_epoch next s) ≡ has_run_at sc c.txn next.phase s = λ s. k.ran s ∙ ap (list_any (is_at_server sc s.0)) (all_ran sc c.txn done.query last) in
-    plain_keeps sc E A c.txn (Some next) (coord.asks now (coord.commit_round now)).reaction.letters
+    plain_keeps sc E A c.txn (Some next) (coord.asks now span.Commit (coord.commit_round now)).reaction.letters
     (record {
       places = k.places;
       past = k.past;
@@ -249,7 +252,7 @@ is_answer sc E A c mail done at asked value m k =
 -- the answer to the last query
 pub ran_last_keeps : (sc : Scenario) (E : ℕ → ℕ) (A : Asking) (c : Coordinator) (mail : Mail) (done : DoneReply) (at : ServerId) (asked : Query) (value : ℤ) → HaveHomes sc → CoordinatorKeeps sc E (A c.txn) c
     → c.servers ≡ servers_at sc c.txn → IsDoneMail sc E A c mail.letter.from done → IsRanAnswer sc c mail done at asked value → coord.home_of sc c (coord.next_number done.query) ≡ None
-    → RowKeeps sc E A c (coord.asks (coord.with_deed c at done asked value) (coord.commit_round (coord.with_deed c at done asked value)))
+    → RowKeeps sc E A c (coord.asks (coord.with_deed c at done asked value) span.Commit (coord.commit_round (coord.with_deed c at done asked value)))
 ran_last_keeps sc E A c mail done at asked value homes h servers m k none =
     last_keeps sc E A c done asked at value h servers (is_answer sc E A c mail done at asked value m k) (last_is sc c done.query asked homes k.asked_is none)
 

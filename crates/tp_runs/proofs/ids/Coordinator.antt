@@ -25,6 +25,7 @@ use Rattle.tp_coord.specs.Row.{aborts, asks, commit_round, commits, coordinator_
 use Rattle.tp_coord.specs.State.{Coordinator}
 use Rattle.tp_coord.specs.declared.coordinator.Phase.TheVariants as phase
 use Rattle.tp_coord.specs.declared.coordinator.Phase.{Phase}
+use Rattle.tp_coord.specs.declared.coordinator.Span.TheVariants as span
 use Rattle.tp_runs.proofs.basics.Aims.{IsOf, aim_has}
 use Rattle.tp_runs.proofs.basics.Rounds.{each_by_query, each_missing, missing_in, updated_is}
 use Rattle.tp_round.proofs.AgainLemmas.{updated}
@@ -136,11 +137,11 @@ coordinator_with_age_sound sc c place h =
 
 -- ---- Done
 
-asks_sound : (sc : Scenario) (c : Coordinator) (round : Round) → IsSoundCoordinator sc c → IsSoundRound sc c.txn round → IsSoundCoordinatorEffect sc c (asks c round)
+asks_sound : (sc : Scenario) (c : Coordinator) (round : Round) → IsSoundCoordinator sc c → IsSoundRound sc c.txn round → IsSoundCoordinatorEffect sc c (asks c span.Commit round)
 asks_sound sc c round h r =
     record {
       same_txn = refl;
-      state_is = moved_in_ids sc c (phase.Asking round) (next_turn c) c.epochs h r;
+      state_is = moved_in_ids sc c (phase.Asking span.Commit round) (next_turn c) c.epochs h (tt, r);
       forces = tt;
       sends_only = (record { from_is_actor = h.exists; to_is_actor = tt; says = record { txn = h.exists; goes_to = refl }; refuses = tt }, tt);
     }
@@ -170,11 +171,11 @@ want_sound sc round server None e h = tt
 want_sound sc round server (Some named) e h = (each_found (IsSoundWanted sc) (λ (one : Wanted). same_server one.server server) round.named named h e).want
 
 prepares_sound : (sc : Scenario) (c : Coordinator) (round : Round) (staple : Staple) → IsSoundCoordinator sc c → IsSoundRound sc c.txn round → IsSoundStaple sc staple
-    → IsSoundCoordinatorEffect sc c (prepares c round staple)
+    → IsSoundCoordinatorEffect sc c (prepares c span.Commit round staple)
 prepares_sound sc c round staple h r t =
     record {
       same_txn = refl;
-      state_is = moved_in_ids sc c (phase.Checking round staple) (next_turn c) c.epochs h (r, t);
+      state_is = moved_in_ids sc c (phase.Checking span.Commit round staple) (next_turn c) c.epochs h (tt, r, t);
       forces = tt;
       sends_only = each_map (IsServer sc) (IsSoundLetter sc) (prepare_letter c round staple)
           (λ server exists. request_sound sc c server _ h exists
@@ -244,9 +245,9 @@ replied_sound sc txn round server verdicts r exists v = record { view = r.view; 
         by_cond (Each (IsSoundTarget sc txn)) (awaits server target) (λ e. (record { server = exists; reply = v }, h.1)) (λ e. (h.0, with_sound targets h.1))
 
 counted_sound : (sc : Scenario) (c : Coordinator) (round : Round) (staple : Staple) → IsSoundCoordinator sc c → IsSoundRound sc c.txn round → IsSoundStaple sc staple
-    → IsSoundCoordinatorEffect sc c (sends (record c { phase = phase.Checking round staple }) [])
+    → IsSoundCoordinatorEffect sc c (sends (record c { phase = phase.Checking span.Commit round staple }) [])
 counted_sound sc c round staple h r t =
-    record { same_txn = refl; state_is = moved_in_ids sc c (phase.Checking round staple) c.turn c.epochs h (r, t); forces = tt; sends_only = tt }
+    record { same_txn = refl; state_is = moved_in_ids sc c (phase.Checking span.Commit round staple) c.turn c.epochs h (tt, r, t); forces = tt; sends_only = tt }
 
 -- ---- an update
 
@@ -338,8 +339,8 @@ coordinator_row_sound sc c mail valid h a r m =
           (record { view = refl; targets = first_sound sc c.txn c.servers h.servers; aim = tt; named = tt; mets = tt }) in
           record { same_txn = refl; state_is = on.state_is; forces = tt; sends_only = on.sends_only };
       died = λ done server asked other k. aborts_sound sc c (cause.Died (died_for server done other mail.sent)) h (died_sound sc c mail done server asked other valid m k);
-      told = λ tell round k. prepares_sound sc c round (staple_of tell mail.sent) h (awaits k.asking) (subst (IsSoundBody sc (actor.Coordinator c.txn)) k.said_is m).revoked;
-      counted = λ reply round staple server verdicts y e. counted_sound sc c (after_reply round server verdicts) staple h (replied reply round staple server verdicts y) (awaits y.checking).1;
+      told = λ tell round k. prepares_sound sc c round (staple_of tell mail.sent) h (awaits k.asking).1 (subst (IsSoundBody sc (actor.Coordinator c.txn)) k.said_is m).revoked;
+      counted = λ reply round staple server verdicts y e. counted_sound sc c (after_reply round server verdicts) staple h (replied reply round staple server verdicts y) (awaits y.checking).2;
       committed = λ reply round staple server verdicts y e.
           let replied_round = after_reply round server verdicts in
           commits_sound sc c round.number (by_query (proofs_in replied_round.targets)) h (proofs_sound sc c.txn replied_round e (replied reply round staple server verdicts y).targets);
@@ -358,4 +359,4 @@ coordinator_row_sound sc c mail valid h a r m =
 
     replied : (reply : VoteReply) (round : Round) (staple : Staple) (server : ServerId) (verdicts : List Verdict) → IsYes c mail reply round staple server verdicts → IsSoundRound sc c.txn (after_reply round server verdicts)
     replied reply round staple server verdicts y =
-        replied_sound sc c.txn round server verdicts (awaits y.checking).0 (subst (IsActor sc) y.from_is a) (yes_sound sc c mail reply round staple server verdicts m y)
+        replied_sound sc c.txn round server verdicts (awaits y.checking).1 (subst (IsActor sc) y.from_is a) (yes_sound sc c mail reply round staple server verdicts m y)

@@ -1,6 +1,6 @@
 -- Deeds and epochs over every list of steps: what servers hold of a transaction, what its coordinator got, and what mails say of it.
 use Rattle.std.specs.Option.{option_map_or}
-use Rattle.std.proofs.Common.{Bool, IfSome, List, None, Option, Some, [], ap, arith, false, if◌then◌else◌, inl, inr, is_some, length, option_and_then, refl, slice_get, slice_set, subst, sym, true, ℕ, ⊎_elim, ◌<◌, ◌==◌, ◌∙◌, ◌∷◌, ◌≡◌, ◌≤◌, ◌⊎◌}
+use Rattle.std.proofs.Common.{Bool, IfSome, List, None, Option, Some, [], ap, arith, false, if◌then◌else◌, inl, inr, is_some, length, option_and_then, refl, slice_get, slice_set, subst, sym, true, ℕ, ⊎_elim, ◌+◌, ◌<◌, ◌==◌, ◌∙◌, ◌∷◌, ◌≡◌, ◌≤◌, ◌⊎◌}
 use Rattle.std.proofs.lemmas.Bool.{eqb-true}
 use Rattle.std.proofs.lemmas.List.{length-replicate}
 use Rattle.std.proofs.lemmas.Option.{same_Some, slice_get_within}
@@ -11,7 +11,7 @@ use Rattle.tp_model.specs.Ids.{same_txn}
 use Rattle.tp_model.specs.Words.actor
 use Rattle.tp_model.specs.Words.body
 use Rattle.tp_model.specs.Words.what
-use Rattle.tp_model.specs.Words.{Actor, Body, Fact, Letter, Mail, Record, Scenario, ServerId, Step, Transaction, TxnId, What}
+use Rattle.tp_model.specs.Words.{Actor, Body, Deed, Fact, Letter, Mail, Record, Scenario, ServerId, Step, Transaction, TxnId, What}
 use Rattle.tp_runs.proofs.agreement.Coordinator.{CoordinatorAgrees, PhaseAgrees}
 use Rattle.tp_runs.proofs.agreement.Steps.{begun_lawful, coordinator_lawful, mail_rests, mail_sound, own_txn, server_agrees}
 use Rattle.tp_runs.proofs.agreement.World.{Agrees, BodyRests, CoordinatorUpAgrees}
@@ -19,27 +19,27 @@ use Rattle.tp_runs.proofs.basics.Facts.{each_new_mail}
 use Rattle.tp_runs.proofs.basics.Homes.{HaveHomes}
 use Rattle.tp_runs.proofs.basics.Ids.{same_txn_from, same_txn_is}
 use Rattle.tp_types.proofs.EachLemmas.{at_set, each_append, each_as, each_get, missing, set_here, some_mapped, unset_at}
-use Rattle.tp_runs.proofs.basics.Phases.{is_undecided}
+use Rattle.tp_runs.proofs.basics.Phases.{Rests, is_undecided, until_asked}
 use Rattle.tp_runs.proofs.epochs.Asked.{asked_in}
 use Rattle.tp_runs.proofs.epochs.Kept.{CoordinatorKeeps}
 use Rattle.tp_runs.proofs.epochs.Server.{ServerMade}
 use Rattle.tp_runs.proofs.epochs.World.{Epochs, made_from_zero}
 use Rattle.tp_runs.proofs.ids.Queries.{have_homes}
 use Rattle.tp_runs.proofs.ids.Valid.{IsValid, valid_built}
-use Rattle.tp_runs.proofs.pairs.Actors.{BodyPairs, DoneFrom, LetterPairs, PrepareAt, QueryAt, VoteFrom, asker_at, asker_by, asker_in, asker_of, asker_up, body_stays, pair_at, pair_by, pair_of, pair_up, site_of, stand_of}
-use Rattle.tp_runs.proofs.pairs.CoordinatorRows.{AnswerPairs, AskPairs, CoordinatorActsPairs, CoordinatorPaired, PhaseNames, PhaseNumbered, PrepareTo, QueryTo, RowAsks, coordinator_row_asks, submit_row_asks}
+use Rattle.tp_runs.proofs.pairs.Actors.{BodyPairs, DoneFrom, LetterPairs, PrepareAt, QueryAt, VoteFrom, asker_at, asker_by, asker_in, asker_of, asker_up, body_stays, pair_at, pair_by, pair_of, pair_up, site_of}
+use Rattle.tp_runs.proofs.pairs.CoordinatorRows.{AnswerPairs, AskPairs, CoordinatorActsPairs, CoordinatorPaired, PhaseNames, PhaseNumbered, PrepareTo, QueryTo, RowAsks, SpanNumbered, coordinator_row_asks, submit_row_asks}
 use Rattle.tp_runs.proofs.pairs.Fits.{AskerFits, DoneFits, Fits, PrepareFits, QueryFits}
 use Rattle.tp_runs.proofs.pairs.Follows.{Next, next_same}
 use Rattle.tp_runs.proofs.basics.Found.{of_some, some_as}
 use Rattle.tp_runs.proofs.pairs.Moves.{with_asker}
-use Rattle.tp_runs.proofs.pairs.Pair.{Asker, Pair, Rests, held, held_in}
+use Rattle.tp_runs.proofs.pairs.Pair.{Asker, Pair, held, held_in}
 use Rattle.tp_runs.proofs.pairs.ServerRows.{IsReply, OrderDecided, ReplyPairs, RequestPairs, RowPairs, ServerActsPairs, ServerPaired, server_row_pairs}
 use Rattle.tp_runs.proofs.pairs.Site.{Site}
 use Rattle.tp_runs.proofs.basics.Folds.{set_elsewhere}
 use Rattle.tp_runs.proofs.trust.Coordinator.{CoordinatorFits, turn_low}
 use Rattle.tp_runs.proofs.trust.Phases.{PhaseFits}
 use Rattle.tp_runs.proofs.trust.Rounds.{few_rounds, round_names}
-use Rattle.tp_runs.proofs.basics.Turns.{AreFew, few_queries, low_query, low_round, query_count}
+use Rattle.tp_runs.proofs.basics.Turns.{AreFew, few_queries, low_query, low_round, low_validation, query_count}
 use Rattle.tp_runs.proofs.trust.World.{Trusts}
 use Rattle.tp_runs.proofs.walks.Steps.{Cases, IsCoordinatorUp, IsServerUp, WaitRightly, WasSent, machine_after_by}
 use Rattle.tp_recover.specs.Log.{decided_in}
@@ -57,6 +57,8 @@ use Rattle.tp_coord.specs.State.{Coordinator}
 use Rattle.tp_machine.specs.declared.actors.Actors.{Actors}
 use Rattle.tp_coord.specs.declared.coordinator.Phase.TheVariants as phase
 use Rattle.tp_coord.specs.declared.coordinator.Phase.{Phase}
+use Rattle.tp_coord.specs.declared.coordinator.Span.TheVariants as span
+use Rattle.tp_coord.specs.declared.coordinator.Span.{Span}
 use Rattle.tp_server.specs.declared.server.Entry.{Entry}
 use Rattle.tp_server.specs.Opened as server_opened
 use Rattle.tp_server.specs.Row.{entry_at, server_row}
@@ -189,9 +191,14 @@ decided_part sc at kept (Some c) h d = by_phase c.phase h.decided
   where
     by_phase : (awaited : Phase) → PhaseAgrees awaited (decided_in kept) → (if is_undecided awaited then Some (asker_of at c) else None) ≡ None
     by_phase phase.Idle e = absurd (let none = ap is_some e in cc)
+    by_phase (phase.Stapling number) e = absurd (let none = ap is_some e in cc)
     by_phase (phase.Querying number staple) e = absurd (let none = ap is_some e in cc)
-    by_phase (phase.Asking round) e = absurd (let none = ap is_some e in cc)
-    by_phase (phase.Checking round staple) e = absurd (let none = ap is_some e in cc)
+    by_phase (phase.Probing number) e = absurd (let none = ap is_some e in cc)
+    by_phase (phase.Asking over round) e = absurd (let none = ap is_some e in cc)
+    by_phase (phase.Checking over round staple) e = absurd (let none = ap is_some e in cc)
+    by_phase (phase.Reading over round) e = absurd (let none = ap is_some e in cc)
+    by_phase (phase.Voting awaited) e = absurd (let none = ap is_some e in cc)
+    by_phase phase.VoteProbing e = absurd (let none = ap is_some e in cc)
     by_phase (phase.Ending ended awaited) e = refl
 
 decided_asker : (sc : Scenario) (w : State) (txn : TxnId) (at : ℕ) (found : Option (Part Coordinator)) → Agrees sc w → slice_get w.actors.coordinators txn.0 ≡ found → is_some (option_and_then decided_by found) ≡ true
@@ -304,42 +311,92 @@ row_asks : (sc : Scenario) (declared : Transaction) (txn : TxnId) (P : ℕ → P
     → CoordinatorActsPairs sc declared txn P (Some effect.state) effect.reaction.letters
 row_asks sc declared txn P effect same k = subst (λ (t : TxnId). CoordinatorActsPairs sc declared t P (Some effect.state) effect.reaction.letters) same k
 
+-- a query of the transaction, or the one after its last
+abbrev SpanWithin : ℕ → Span → Type 0
+SpanWithin count (span.Validate number) = number ≤ count + 1
+SpanWithin count span.Commit = Unit {0}
+
 abbrev PhaseWithin : ℕ → Phase → Type 0
-PhaseWithin count (phase.Querying number staple) = (1 ≤ number) × (number ≤ count)
+PhaseWithin count (phase.Stapling number) = number ≤ count + 1
+PhaseWithin count (phase.Querying number staple) = number ≤ count + 1
+PhaseWithin count (phase.Probing number) = number ≤ count + 1
+PhaseWithin count (phase.Asking over round) = SpanWithin count over
+PhaseWithin count (phase.Checking over round staple) = SpanWithin count over
+PhaseWithin count (phase.Reading over round) = SpanWithin count over
 PhaseWithin count _ = Unit {0}
 
--- requests are few, in any phase
+-- requests are few in a round
+low_span : (count number asked turn : ℕ) (over : Span) → count ≤ 16 → number ≤ 17 → asked ≤ 3 → SpanWithin count over → turn ≤ until_asked count over number asked → turn ≤ 1000
+low_span count number asked turn (span.Validate query) few most of_three within low = low_validation count query number asked turn few within most of_three low
+low_span count number asked turn span.Commit few most of_three within low = low_round count number asked turn few most of_three low
+
+-- and in any phase
 low_turn : (sc : Scenario) (facts : List Fact) (place : ℕ) (c : Coordinator) (awaited : Phase) → AreFew sc → CoordinatorFits sc facts place c → c.phase ≡ awaited → PhaseWithin (query_count sc c.txn) awaited → c.turn ≤ 1000
 low_turn sc facts place c phase.Idle few h e within = let low = turn_low sc facts place c phase.Idle h e in omega (arith, low)
+low_turn sc facts place c (phase.Stapling number) few h e within =
+    let low = turn_low sc facts place c (phase.Stapling number) h e in
+    low_query (query_count sc c.txn) number 1 c.turn (few c.txn) within (omega arith) low
 low_turn sc facts place c (phase.Querying number staple) few h e within =
     let low = turn_low sc facts place c (phase.Querying number staple) h e in
-    low_query (query_count sc c.txn) number c.turn (few c.txn) within.0 within.1 low
-low_turn sc facts place c (phase.Asking round) few h e within =
-    let low = turn_low sc facts place c (phase.Asking round) h e in
+    low_query (query_count sc c.txn) number 2 c.turn (few c.txn) within (omega arith) low
+low_turn sc facts place c (phase.Probing number) few h e within =
+    let low = turn_low sc facts place c (phase.Probing number) h e in
+    low_query (query_count sc c.txn) number 3 c.turn (few c.txn) within (omega arith) low
+low_turn sc facts place c (phase.Asking over round) few h e within =
+    let low = turn_low sc facts place c (phase.Asking over round) h e in
     let f = subst (PhaseFits sc facts place c.txn) e h.awaits in
-    low_round (query_count sc c.txn) round.number 1 c.turn (few c.txn) (few_rounds sc facts place c.txn round f.1) (omega arith) low
-low_turn sc facts place c (phase.Checking round staple) few h e within =
-    let low = turn_low sc facts place c (phase.Checking round staple) h e in
+    low_span (query_count sc c.txn) round.number 1 c.turn over (few c.txn) (few_rounds sc facts place c.txn round f.1) (omega arith) within low
+low_turn sc facts place c (phase.Checking over round staple) few h e within =
+    let low = turn_low sc facts place c (phase.Checking over round staple) h e in
     let f = subst (PhaseFits sc facts place c.txn) e h.awaits in
-    low_round (query_count sc c.txn) round.number 2 c.turn (few c.txn) (few_rounds sc facts place c.txn round f.1) (omega arith) low
+    low_span (query_count sc c.txn) round.number 2 c.turn over (few c.txn) (few_rounds sc facts place c.txn round f.1) (omega arith) within low
+low_turn sc facts place c (phase.Reading over round) few h e within =
+    let low = turn_low sc facts place c (phase.Reading over round) h e in
+    let f = subst (PhaseFits sc facts place c.txn) e h.awaits in
+    low_span (query_count sc c.txn) round.number 3 c.turn over (few c.txn) (few_rounds sc facts place c.txn round f.1) (omega arith) within low
+low_turn sc facts place c (phase.Voting awaited) few h e within =
+    let low = turn_low sc facts place c (phase.Voting awaited) h e in
+    low_round (query_count sc c.txn) 1 1 c.turn (few c.txn) (omega arith) (omega arith) low
+low_turn sc facts place c phase.VoteProbing few h e within =
+    let low = turn_low sc facts place c phase.VoteProbing h e in
+    low_round (query_count sc c.txn) 1 2 c.turn (few c.txn) (omega arith) (omega arith) low
 low_turn sc facts place c (phase.Ending ended awaited) few h e within =
     let low = turn_low sc facts place c (phase.Ending ended awaited) h e in
     low_round (query_count sc c.txn) 17 3 c.turn (few c.txn) (omega arith) (omega arith) low
 
--- the query that is awaited is one of the transaction's
+-- a round over the queries so far goes to one of the transaction's
+span_within : (count : ℕ) (over : Span) (deeds : List Deed) → length deeds ≤ count → SpanNumbered over deeds → SpanWithin count over
+span_within count (span.Validate number) deeds most numbered = omega (arith, most, numbered)
+span_within count span.Commit deeds most numbered = tt
+
+-- the query that is awaited, or ran last, is one of the transaction's, or at most the one after its last
 asked_within : (sc : Scenario) (declared : Transaction) (P : ℕ → Pair) (c : Coordinator) (awaited : Phase) → c.phase ≡ awaited → slice_get sc.txns c.txn.0 ≡ Some declared → PhaseNumbered awaited c.deeds
     → ((at : ℕ) → Fits (site_of sc at declared) (P at)) → ((at : ℕ) → (P at).asker ≡ asker_up at c) → PhaseWithin (query_count sc c.txn) awaited
-asked_within sc declared P c (phase.Querying number staple) e declared_is numbered fits is =
-    let site = site_of sc 0 declared in
-    let there : (P 0).asker ≡ Some (asker_of 0 c) = is 0 ∙ ap (λ (b : Bool). if b then Some (asker_of 0 c) else None) (ap is_undecided e) in
-    let old : AskerFits site (P 0) (asker_of 0 c) = of_some (AskerFits site (P 0)) (P 0).asker (asker_of 0 c) there (fits 0).asker in
-    let least : length c.deeds < length declared.queries = old.least (ap stand_of e) in
-    let many : query_count sc c.txn ≡ length declared.queries = ap (λ (found : Option Transaction). option_map_or (λ (d : Transaction). length d.queries) found 0) declared_is in
-    (omega (arith, numbered), omega (arith, numbered, least, many))
-asked_within sc declared P c _ e declared_is numbered fits is = tt
+asked_within sc declared P c awaited e declared_is numbered fits is = by_phase awaited e numbered
+  where
+    many : query_count sc c.txn ≡ length declared.queries
+    many = ap (λ (found : Option Transaction). option_map_or (λ (d : Transaction). length d.queries) found 0) declared_is
+
+    -- before the decision it has at most as many deeds as queries
+    most : is_undecided c.phase ≡ true → length c.deeds ≤ query_count sc c.txn
+    most undecided =
+        let site = site_of sc 0 declared in
+        let there : (P 0).asker ≡ Some (asker_of 0 c) = is 0 ∙ ap (λ (b : Bool). if b then Some (asker_of 0 c) else None) undecided in
+        let old : AskerFits site (P 0) (asker_of 0 c) = of_some (AskerFits site (P 0)) (P 0).asker (asker_of 0 c) there (fits 0).asker in
+        let few = old.most in
+        omega (arith, few, many)
+
+    by_phase : (now : Phase) → c.phase ≡ now → PhaseNumbered now c.deeds → PhaseWithin (query_count sc c.txn) now
+    by_phase (phase.Stapling number) f n = let few = most (ap is_undecided f) in omega (arith, n, few)
+    by_phase (phase.Querying number staple) f n = let few = most (ap is_undecided f) in omega (arith, n, few)
+    by_phase (phase.Probing number) f n = let few = most (ap is_undecided f) in omega (arith, n, few)
+    by_phase (phase.Asking over round) f n = span_within (query_count sc c.txn) over c.deeds (most (ap is_undecided f)) n
+    by_phase (phase.Checking over round staple) f n = span_within (query_count sc c.txn) over c.deeds (most (ap is_undecided f)) n
+    by_phase (phase.Reading over round) f n = span_within (query_count sc c.txn) over c.deeds (most (ap is_undecided f)) n
+    by_phase _ f n = tt
 
 phase_names : (sc : Scenario) (facts : List Fact) (place : ℕ) (txn : TxnId) (awaited : Phase) (declared : Transaction) → slice_get sc.txns txn.0 ≡ Some declared → PhaseFits sc facts place txn awaited → PhaseNames sc declared awaited
-phase_names sc facts place txn (phase.Asking round) declared e h = round_names sc facts place txn round declared e h.1
+phase_names sc facts place txn (phase.Asking over round) declared e h = round_names sc facts place txn round declared e h.1
 phase_names sc facts place txn _ declared e h = tt
 
 coordinator_paired : (sc : Scenario) (w : State) (declared : Transaction) (txn : TxnId) (part : Part Coordinator) (c : Coordinator) → AreFew sc → IsSound sc w → Epochs sc w → Trusts sc w → Pairs sc w → IsCoordinatorUp w txn part c

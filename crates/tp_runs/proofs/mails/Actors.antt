@@ -112,8 +112,10 @@ server_row_sends sc s mail waits =
 
 -- how many servers a phase speaks of
 abbrev pub spoken_of : Phase → ℕ
-spoken_of (phase.Asking round) = length round.targets
-spoken_of (phase.Checking round staple) = length round.targets
+spoken_of (phase.Asking over round) = length round.targets
+spoken_of (phase.Checking over round staple) = length round.targets
+spoken_of (phase.Reading over round) = length round.targets
+spoken_of (phase.Voting awaited) = length awaited
 spoken_of (phase.Ending ended awaited) = length awaited
 spoken_of _ = 0
 

@@ -4,10 +4,10 @@ use Rattle.std.specs.Option.{option_flatten, option_map_or}
 use Rattle.tp_model.specs.Words.actor
 use Rattle.tp_model.specs.Words.body
 use Rattle.tp_model.specs.Words.{Actor, Body, DoneReply, Letter, PrepareRequest, QueryRequest, Record, Scenario, Transaction, TxnId, VoteReply}
-use Rattle.tp_runs.proofs.basics.Phases.{is_undecided}
+use Rattle.tp_runs.proofs.basics.Phases.{Asks, Prepares, Rests, Stand, is_undecided, stand_of}
 use Rattle.tp_runs.proofs.pairs.Fits.{DoneFits, Fits, PrepareFits, QueryFits, VoteFits}
 use Rattle.tp_runs.proofs.pairs.Follows.{Follows, Next, done_follows, prepare_follows, query_follows}
-use Rattle.tp_runs.proofs.pairs.Pair.{Asker, Asks, Pair, Prepares, Rests, Stand}
+use Rattle.tp_runs.proofs.pairs.Pair.{Asker, Pair}
 use Rattle.tp_runs.proofs.pairs.Site.{Site}
 use Rattle.tp_machine.specs.Logs.{epoch_by, prepared_by, settled_by}
 use Rattle.tp_machine.specs.Parts.{Part}
@@ -20,13 +20,6 @@ use Rattle.tp_server.specs.Row.{entry_at}
 use Rattle.tp_server.specs.State.{Server}
 
 -- ---- the coordinator
-
-abbrev pub stand_of : Phase → Stand
-stand_of phase.Idle = Rests
-stand_of (phase.Querying number staple) = Asks
-stand_of (phase.Asking round) = Prepares
-stand_of (phase.Checking round staple) = Prepares
-stand_of (phase.Ending ended awaited) = Rests
 
 abbrev pub asker_of : ℕ → Coordinator → Asker
 asker_of at c = record {

@@ -4,12 +4,13 @@ use Rattle.std.proofs.lemmas.List.{length_push, take_all}
 use Rattle.std.proofs.lemmas.List.Elements.{Contains-push_cases}
 use Rattle.tp_model.specs.Words.answer
 use Rattle.tp_model.specs.Words.{Answer, Deed, DoneReply}
+use Rattle.tp_runs.proofs.basics.Phases.{Asks, Pauses}
 use Rattle.tp_runs.proofs.pairs.Fits.{AnswerFits, AnsweredFits, AskerFits, DoneFits, Fits, IsAsked, IsGone, IsThere, Live, Matches, OneMore, Pairing, RanFits, RanLive, Tells, There}
 use Rattle.tp_runs.proofs.pairs.Follows.{Later, Next}
 use Rattle.tp_runs.proofs.basics.Found.{contains_mapped, of_some, some_as}
 use Rattle.tp_runs.proofs.pairs.Loses.{pairing_as, same_held, tells_lost}
 use Rattle.tp_runs.proofs.pairs.Moves.{asker_loses, with_asker, with_asker_fits}
-use Rattle.tp_runs.proofs.pairs.Pair.{Asker, Asks, Pair, Rests, got, got_elsewhere, got_here, number_of, numbers, numbers_more}
+use Rattle.tp_runs.proofs.pairs.Pair.{Asker, Pair, got, got_elsewhere, got_here, number_of, numbers, numbers_more}
 use Rattle.tp_runs.proofs.pairs.Site.{Site, here, query_there, upto, upto_elsewhere, upto_here, upto_in, upto_none}
 use Rattle.tp_runs.proofs.deeds.Runs.{deed_at, runs_next}
 
@@ -19,7 +20,7 @@ next_deed s a value = deed_at s.txn (length a.deeds + 1) value
 
 -- the coordinator after the answer
 abbrev pub answered : Site → Asker → Option ℕ → ℤ → Asker
-answered s a epoch value = record { stand = Rests; turn = a.turn; epoch = epoch; deeds = a.deeds ++ next_deed s a value ∷ [] }
+answered s a epoch value = record { stand = Pauses; turn = a.turn; epoch = epoch; deeds = a.deeds ++ next_deed s a value ∷ [] }
 
 answered_later : (s : Site) (a : Asker) (epoch : Option ℕ) (value : ℤ) → a.stand ≡ Asks → ((e : ℕ) → a.epoch ≡ Some e → epoch ≡ Some e) → Later a (answered s a epoch value)
 answered_later s a epoch value asks keeps =

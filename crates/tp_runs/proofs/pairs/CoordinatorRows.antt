@@ -16,18 +16,18 @@ use Rattle.tp_model.specs.Words.{Actor, Body, Deed, DoneReply, Item, Letter, Mai
 use Rattle.tp_runs.proofs.agreement.Coordinator.{idle_is}
 use Rattle.tp_runs.proofs.basics.Homes.{HaveHomes, IsHome, home_is, last_is, next_is}
 use Rattle.tp_types.proofs.EachLemmas.{each_get, set_here}
-use Rattle.tp_runs.proofs.basics.Phases.{awaits_is, is_undecided, sent_to_server}
+use Rattle.tp_runs.proofs.basics.Phases.{Asks, Pauses, Prepares, Rests, Stand, awaits_is, is_undecided, sent_to_server, stand_of}
 use Rattle.tp_runs.proofs.epochs.Coordinator.{some_is}
 use Rattle.tp_runs.proofs.epochs.Kept.{KeepsEpoch, PhaseKept, from_server, kept_epoch}
 use Rattle.tp_runs.proofs.ids.Valid.{IsValid, IsValidItem}
-use Rattle.tp_runs.proofs.pairs.Actors.{asker_in, asker_of, asker_up, site_of, stand_of}
+use Rattle.tp_runs.proofs.pairs.Actors.{asker_in, asker_of, asker_up, site_of}
 use Rattle.tp_runs.proofs.pairs.Answered.{Taken, answered, elsewhere, next_deed, taken, takes}
 use Rattle.tp_runs.proofs.pairs.Fits.{AnswerFits, AskerFits, DoneFits, Fits, Names, PrepareFits, QueryFits, RanFits}
 use Rattle.tp_runs.proofs.pairs.Follows.{Next, next_both, next_same}
 use Rattle.tp_runs.proofs.pairs.Letters.{asks, prepares}
 use Rattle.tp_runs.proofs.basics.Found.{of_some}
 use Rattle.tp_runs.proofs.pairs.Moves.{ends, moved, moves, with_asker}
-use Rattle.tp_runs.proofs.pairs.Pair.{Asker, Asks, Pair, Prepares, Rests, Stand}
+use Rattle.tp_runs.proofs.pairs.Pair.{Asker, Pair}
 use Rattle.tp_runs.proofs.pairs.Site.{Site, count, here, one_home}
 use Rattle.tp_runs.proofs.basics.Folds.{set_elsewhere}
 use Rattle.tp_runs.proofs.deeds.Runs.{deed_asked, deed_at}
@@ -42,6 +42,8 @@ use Rattle.tp_coord.specs.Row.{awaits_query, next_number, next_turn, own_query, 
 use Rattle.tp_coord.specs.State.{Coordinator}
 use Rattle.tp_coord.specs.declared.coordinator.Phase.TheVariants as phase
 use Rattle.tp_coord.specs.declared.coordinator.Phase.{Phase}
+use Rattle.tp_coord.specs.declared.coordinator.Span.TheVariants as span
+use Rattle.tp_coord.specs.declared.coordinator.Span.{Span}
 use Rattle.tp_runs.proofs.basics.Rounds.{EachServer, each_missing, missing_in}
 use Rattle.tp_round.specs.Judge.{after_judgement, after_reply}
 use Rattle.tp_round.specs.Replies.{by_query, proofs_in}
@@ -49,10 +51,20 @@ use Rattle.tp_round.specs.declared.round.Round.{Round}
 
 -- ---- an act
 
--- the query that is awaited is the next one; before the submission there is no deed
+-- a round over the queries so far is over those that have a deed
+abbrev pub SpanNumbered : Span → List Deed → Type 0
+SpanNumbered (span.Validate number) deeds = number ≡ length deeds
+SpanNumbered span.Commit deeds = Unit {0}
+
+-- the query that is awaited is the next one, and the one that ran last has the last deed; before the submission there is no deed
 abbrev pub PhaseNumbered : Phase → List Deed → Type 0
 PhaseNumbered phase.Idle deeds = deeds ≡ []
+PhaseNumbered (phase.Stapling number) deeds = number ≡ length deeds + 1
 PhaseNumbered (phase.Querying number staple) deeds = number ≡ length deeds + 1
+PhaseNumbered (phase.Probing number) deeds = number ≡ length deeds
+PhaseNumbered (phase.Asking over round) deeds = SpanNumbered over deeds
+PhaseNumbered (phase.Checking over round staple) deeds = SpanNumbered over deeds
+PhaseNumbered (phase.Reading over round) deeds = SpanNumbered over deeds
 PhaseNumbered _ deeds = Unit {0}
 
 abbrev pub QueryTo : Scenario → Transaction → TxnId → (ℕ → Pair) → Actor → QueryRequest → Type 0
@@ -87,7 +99,7 @@ NamesAt sc declared round at = (is_empty (coord.want_for round at) ≡ true) ⊎
 
 -- a round before which the authority is asked
 abbrev pub PhaseNames : Scenario → Transaction → Phase → Type 0
-PhaseNames sc declared (phase.Asking round) = Each (NamesAt sc declared round) (missing_in round.targets)
+PhaseNames sc declared (phase.Asking over round) = Each (NamesAt sc declared round) (missing_in round.targets)
 PhaseNames sc declared _ = Unit {0}
 
 -- a coordinator before its row
@@ -211,7 +223,7 @@ moves_on : (s : Site) (p : Pair) (a : Asker) (b : Asker) (stand : Stand) (turn :
     → (stand ≡ Prepares → length a.deeds + 1 ≡ count s) → Next s p (with_asker p (Some b)) → Next s p (with_asker p (Some (moved b stand turn)))
 moves_on s p a b stand turn value epoch is past left all n =
     let longer : length b.deeds ≡ length a.deeds + 1 = ap (λ (x : Asker). length x.deeds) is ∙ length_push a.deeds (next_deed s a value) in
-    let rests : b.stand ≡ Rests = ap (λ (x : Asker). x.stand) is in
+    let pauses : b.stand ≡ Pauses = ap (λ (x : Asker). x.stand) is in
     let same_turn : b.turn ≡ a.turn = ap (λ (x : Asker). x.turn) is in
     next_both s p (with_asker p (Some b)) (with_asker p (Some (moved b stand turn))) n
     (moves s (with_asker p (Some b)) b stand turn refl n.fits
@@ -290,12 +302,12 @@ ran_at_in_pairs sc declared P c done asked server value now h k on at = ran_by s
 
 -- the last query ran
 last_asks : (sc : Scenario) (declared : Transaction) (P : ℕ → Pair) (c : Coordinator) (done : DoneReply) (asked : Query) (server : ServerId) (value : ℤ) → CoordinatorPaired sc declared P c
-    → IsAwaited sc declared P c done asked server value → query_at declared (done.query + 1) ≡ None → RowAsks sc declared P (coord.asks (coord.with_deed c server done asked value) (coord.commit_round (coord.with_deed c server done asked value)))
+    → IsAwaited sc declared P c done asked server value → query_at declared (done.query + 1) ≡ None → RowAsks sc declared P (coord.asks (coord.with_deed c server done asked value) span.Commit (coord.commit_round (coord.with_deed c server done asked value)))
 last_asks sc declared P c done asked server value h k none =
     let number : done.query ≡ length c.deeds + 1 = subst (λ (p : Phase). PhaseNumbered p c.deeds) k.awaits h.numbered in
     let all : done.query ≡ length declared.queries = ran_all declared done.query asked k.asked_is none in
     record {
-      next = ran_at_in_pairs sc declared P c done asked server value (phase.Asking (coord.commit_round (coord.with_deed c server done asked value))) h k (record { asks = λ e. absurd (cc); all = λ e. sym number ∙ all });
+      next = ran_at_in_pairs sc declared P c done asked server value (phase.Asking span.Commit (coord.commit_round (coord.with_deed c server done asked value))) h k (record { asks = λ e. absurd (cc); all = λ e. sym number ∙ all });
       numbered = tt;
       requests = (tt, tt);
     }
@@ -358,10 +370,10 @@ prepares_on sc declared P c next h stands undecided is at =
       stays = λ e. refl;
     }))
 
-prepares_asks : (sc : Scenario) (declared : Transaction) (P : ℕ → Pair) (c : Coordinator) (round : Round) (staple : Staple) → CoordinatorPaired sc declared P c → c.phase ≡ phase.Asking round
-    → RowAsks sc declared P (coord.prepares c round staple)
+prepares_asks : (sc : Scenario) (declared : Transaction) (P : ℕ → Pair) (c : Coordinator) (round : Round) (staple : Staple) → CoordinatorPaired sc declared P c → c.phase ≡ phase.Asking span.Commit round
+    → RowAsks sc declared P (coord.prepares c span.Commit round staple)
 prepares_asks sc declared P c round staple h asking =
-    let next = (coord.prepares c round staple).state in
+    let next = (coord.prepares c span.Commit round staple).state in
     let undecided : is_undecided c.phase ≡ true = ap is_undecided asking in
     let kept : EachServer (KeepsEpoch c) round.targets = subst (PhaseKept (KeepsEpoch c)) asking (h.keeps undecided) in
     let event : (at : ℕ) → Next (site_of sc at declared) (P at) (with_asker (P at) (asker_up at next)) = prepares_on sc declared P c next h (ap stand_of asking) undecided (λ at. refl) in
@@ -373,14 +385,14 @@ prepares_asks sc declared P c round staple h asking =
     }
 
 -- the authority is asked before a further round
-updated_asks : (sc : Scenario) (declared : Transaction) (P : ℕ → Pair) (c : Coordinator) (round next : Round) (staple : Staple) → CoordinatorPaired sc declared P c → c.phase ≡ phase.Checking round staple
-    → RowAsks sc declared P (coord.asks c next)
+updated_asks : (sc : Scenario) (declared : Transaction) (P : ℕ → Pair) (c : Coordinator) (round next : Round) (staple : Staple) → CoordinatorPaired sc declared P c → c.phase ≡ phase.Checking span.Commit round staple
+    → RowAsks sc declared P (coord.asks c span.Commit next)
 updated_asks sc declared P c round next staple h checking =
-    record { next = prepares_on sc declared P c (coord.asks c next).state h (ap stand_of checking) (ap is_undecided checking) (λ at. refl); numbered = tt; requests = (tt, tt) }
+    record { next = prepares_on sc declared P c (coord.asks c span.Commit next).state h (ap stand_of checking) (ap is_undecided checking) (λ at. refl); numbered = tt; requests = (tt, tt) }
 
 -- ---- Vote, and the end
 
-counted_asker : (at : ℕ) (c : Coordinator) (round other : Round) (staple : Staple) → c.phase ≡ phase.Checking round staple → asker_up at (record c { phase = phase.Checking other staple }) ≡ asker_up at c
+counted_asker : (at : ℕ) (c : Coordinator) (round other : Round) (staple : Staple) → c.phase ≡ phase.Checking span.Commit round staple → asker_up at (record c { phase = phase.Checking span.Commit other staple }) ≡ asker_up at c
 counted_asker at c round other staple e =
     ap (λ (s : Stand). Some (record { stand = s; turn = c.turn; epoch = option_flatten (slice_get c.epochs at); deeds = c.deeds })) (sym (ap stand_of e)) ∙ sym (undecided_asker at c (ap is_undecided e))
 
@@ -447,7 +459,7 @@ coordinator_row_asks sc declared P c mail valid homes h m =
       died = λ done server asked other k. ends_asks sc declared P c (coord.aborts c (cause.Died (coord.died_for server done other mail.sent))).state outcome.Abort c.servers h refl tt;
       told = λ tell round k. prepares_asks sc declared P c round (coord.staple_of tell mail.sent) h k.asking;
       counted = λ reply round staple server verdicts y e. record {
-        next = λ at. still_asks sc declared P c (record c { phase = phase.Checking (after_reply round server verdicts) staple }) at h (counted_asker at c round (after_reply round server verdicts) staple y.checking);
+        next = λ at. still_asks sc declared P c (record c { phase = phase.Checking span.Commit (after_reply round server verdicts) staple }) at h (counted_asker at c round (after_reply round server verdicts) staple y.checking);
         numbered = tt;
         requests = tt;
       };

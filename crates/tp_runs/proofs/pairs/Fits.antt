@@ -1,4 +1,5 @@
 -- What holds of a transaction's deeds and epochs at a server in every state, and what each of its mails says of them.
+use Rattle.tp_runs.proofs.basics.Phases.{Asks, Prepares}
 use Rattle.tp_runs.proofs.basics.Verdicts.{numbers_of}
 use Rattle.tp_coord.specs.Sums.{asked_value}
 use Rattle.std.proofs.Common.{◌≡◌, ◌⊎◌, ℕ, ◌+◌, ◌<◌, ◌≤◌, List, [], ◌∷◌, ◌++◌, length, take, true, false, Option, Some, None, is_some, IfSome, Contains, option_map, ℤ}
@@ -14,7 +15,7 @@ use Rattle.tp_server.specs.declared.server.Entry.{Entry}
 use Rattle.tp_types.specs.Each.{Each}
 use Rattle.tp_coord.specs.Sums.{asked_value}
 use Rattle.tp_runs.proofs.basics.Found.{answer_in}
-use Rattle.tp_runs.proofs.pairs.Pair.{Asker, Asks, Held, Pair, Prepares, got, held, numbers, prepared_held, voted_held}
+use Rattle.tp_runs.proofs.pairs.Pair.{Asker, Held, Pair, got, held, numbers, prepared_held, voted_held}
 use Rattle.tp_runs.proofs.pairs.Site.{Site, count, here, upto}
 use Rattle.tp_runs.proofs.deeds.Runs.{RunsSoFar, deed_at}
 

@@ -9,11 +9,12 @@ use Rattle.tp_server.specs.declared.server.Entry.{Entry}
 use Rattle.tp_types.specs.Each.{Each}
 use Rattle.tp_coord.specs.Sums.{asked_value}
 use Rattle.tp_types.proofs.EachLemmas.{each_as}
+use Rattle.tp_runs.proofs.basics.Phases.{Prepares}
 use Rattle.tp_runs.proofs.pairs.Fits.{AnswerFits, AnsweredFits, Covers, DoneFits, EntryFits, Fits, IsAsked, Live, PrepareFits, PrepareLive, QueryFits, QueryLive, RanFits, RanLive, Tells, Waits}
 use Rattle.tp_runs.proofs.pairs.Grows.{Grows, covers_more, grows_both, loses_grows, tells_grown}
 use Rattle.tp_runs.proofs.basics.Found.{some_as}
 use Rattle.tp_runs.proofs.pairs.Loses.{Loses, loses_same}
-use Rattle.tp_runs.proofs.pairs.Pair.{Asker, Pair, Prepares}
+use Rattle.tp_runs.proofs.pairs.Pair.{Asker, Pair}
 use Rattle.tp_runs.proofs.pairs.Site.{Site, count, upto}
 use Rattle.tp_runs.proofs.deeds.Runs.{deed_at}
 

@@ -6,11 +6,12 @@ use Rattle.tp_model.specs.Words.{Deed, DoneReply, PrepareRequest, QueryRequest}
 use Rattle.tp_coord.specs.Sums.{asked_value}
 use Rattle.tp_server.specs.declared.server.Entry.{Entry}
 use Rattle.tp_model.specs.Limits.{is_empty}
+use Rattle.tp_runs.proofs.basics.Phases.{Asks, Prepares}
 use Rattle.tp_runs.proofs.pairs.Fits.{AskerFits, Covers, DoneFits, EntryFits, Fits, Matches, Names, OneMore, Pairing, PrepareFits, PrepareLive, QueryFits, QueryLive, Tells}
 use Rattle.tp_runs.proofs.pairs.Grows.{covers_more}
 use Rattle.tp_runs.proofs.basics.Found.{answer_each, answer_in, of_some, to_some}
 use Rattle.tp_runs.proofs.pairs.Loses.{tells_as}
-use Rattle.tp_runs.proofs.pairs.Pair.{Asker, Asks, Pair, Prepares, got}
+use Rattle.tp_runs.proofs.pairs.Pair.{Asker, Pair, got}
 use Rattle.tp_runs.proofs.pairs.Site.{IsUpto, Site, here, here_within, in_upto, upto, upto_none}
 
 -- ---- what the coordinator got

@@ -1,11 +1,12 @@
 -- What the coordinator does by itself: it moves on to ask, to rest or to prepare, or it ends.
 use Rattle.std.proofs.Common.{◌≡◌, inl, ⊎_elim, ℕ, ◌<◌, ◌≤◌, List, [], length, Option, Some, None, is_some, IfSome, refl, sym, ap, subst, append-nil, arith}
 use Rattle.tp_model.specs.Words.{Deed}
+use Rattle.tp_runs.proofs.basics.Phases.{Asks, Prepares, Stand}
 use Rattle.tp_runs.proofs.pairs.Fits.{AskerFits, EntryFits, Fits, Matches, OneMore}
 use Rattle.tp_runs.proofs.pairs.Follows.{Follows, Later, Next, Onward, entry_follows, follows_lost}
 use Rattle.tp_runs.proofs.basics.Found.{of_some, some_as}
 use Rattle.tp_runs.proofs.pairs.Loses.{Loses, loses_same, pairing_as}
-use Rattle.tp_runs.proofs.pairs.Pair.{Asker, Asks, Pair, Prepares, Stand, got}
+use Rattle.tp_runs.proofs.pairs.Pair.{Asker, Pair, got}
 use Rattle.tp_runs.proofs.pairs.Site.{Site, count}
 
 abbrev pub with_asker : Pair → Option Asker → Pair

@@ -6,13 +6,14 @@ use Rattle.tp_model.specs.Words.{Deed, Item, PrepareRequest, Prepared, Query, Qu
 use Rattle.tp_server.specs.declared.server.Entry.{Entry}
 use Rattle.tp_types.specs.Each.{Each}
 use Rattle.tp_model.specs.Queries.{is_at_server}
+use Rattle.tp_runs.proofs.basics.Phases.{Rests}
 use Rattle.tp_runs.proofs.pairs.Answered.{there_matches}
 use Rattle.tp_runs.proofs.pairs.Ends.{prepared_there}
 use Rattle.tp_runs.proofs.pairs.Entries.{down_none}
 use Rattle.tp_runs.proofs.pairs.Fits.{AskerFits, EntryFits, Fits, IsThere, PrepareFits, Waits}
 use Rattle.tp_runs.proofs.basics.Found.{of_some}
 use Rattle.tp_runs.proofs.pairs.Moves.{matched}
-use Rattle.tp_runs.proofs.pairs.Pair.{Asker, Held, Pair, Rests, entry_held, got, held, held_up, is_here, numbers}
+use Rattle.tp_runs.proofs.pairs.Pair.{Asker, Held, Pair, entry_held, got, held, held_up, is_here, numbers}
 use Rattle.tp_runs.proofs.pairs.Site.{Site, count, upto}
 use Rattle.tp_runs.proofs.pairs.Votes.{front_full, full_covers, none_waits}
 use Rattle.tp_runs.proofs.deeds.Joined.{is_at, share_at}

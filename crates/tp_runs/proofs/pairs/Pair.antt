@@ -6,14 +6,8 @@ use Rattle.std.proofs.lemmas.List.Elements.{filter-append}
 use Rattle.tp_model.specs.Words.{Deed, Prepared}
 use Rattle.tp_server.specs.declared.server.Ballot.{Ballot}
 use Rattle.tp_server.specs.declared.server.Entry.{Entry}
+use Rattle.tp_runs.proofs.basics.Phases.{Stand}
 use Rattle.tp_runs.proofs.pairs.Site.{Site, here}
-
--- where a coordinator stands: it awaits the answer to a query; it is between two queries; or all queries have run, and it
--- brings the servers to vote
-pub data Stand : Type 0 where
-  Asks : Stand
-  Rests : Stand
-  Prepares : Stand
 
 -- a coordinator that is up and has not decided; its epoch is the one that the server told, and its deeds are those of all servers
 pub record Asker : Type 0 where

@@ -21,17 +21,18 @@ use Rattle.tp_model.specs.Words.no
 use Rattle.tp_model.specs.Words.outcome
 use Rattle.tp_model.specs.Words.what
 use Rattle.tp_model.specs.Words.{Actor, Deed, Fact, Item, ItemId, Mail, OutOfRange, PrepareRequest, Scenario, ServerId, Transaction, TxnId, What}
+use Rattle.tp_runs.proofs.basics.Phases.{Prepares, stand_of}
 use Rattle.tp_runs.proofs.ids.Valid.{IsValid}
 use Rattle.tp_runs.proofs.agreement.World.{Agrees}
 use Rattle.tp_runs.proofs.basics.Facts.{before_past, facts_after, grows_with_facts, said}
 use Rattle.tp_types.proofs.EachLemmas.{each_get}
-use Rattle.tp_runs.proofs.pairs.Actors.{BodyPairs, LetterPairs, asker_of, entry_by, entry_up, is_part_up, pair_at, site_of, stand_of}
+use Rattle.tp_runs.proofs.pairs.Actors.{BodyPairs, LetterPairs, asker_of, entry_by, entry_up, is_part_up, pair_at, site_of}
 use Rattle.tp_runs.proofs.pairs.Answered.{there_matches}
 use Rattle.tp_runs.proofs.pairs.Fits.{AskerFits, IsThere, PrepareFits, PrepareLive}
 use Rattle.tp_runs.proofs.basics.Found.{of_some}
 use Rattle.tp_runs.proofs.pairs.Moves.{matched}
 use Rattle.tp_runs.proofs.pairs.Outcomes.{got_part}
-use Rattle.tp_runs.proofs.pairs.Pair.{Prepares, entry_held, held_up}
+use Rattle.tp_runs.proofs.pairs.Pair.{entry_held, held_up}
 use Rattle.tp_runs.proofs.known.World.{Pairs}
 use Rattle.tp_runs.proofs.refusals.Running.{Remembers, asker_fits, asker_is, run_now}
 use Rattle.tp_runs.proofs.refusals.World.{IsAwaiting, IsRunBefore, ReasonShown, Refusals, first_abort_append, keeps_same, lost_same, run_stays}

@@ -32,14 +32,14 @@ use Rattle.tp_runs.proofs.epochs.World.{Epochs}
 use Rattle.tp_types.proofs.EachLemmas.{each_as, each_get, missing, some_value}
 use Rattle.tp_types.specs.Each.{Each}
 use Rattle.tp_runs.proofs.basics.Logs.{listed}
-use Rattle.tp_runs.proofs.basics.Phases.{is_undecided}
+use Rattle.tp_runs.proofs.basics.Phases.{Prepares, is_undecided, stand_of}
 use Rattle.tp_runs.proofs.ids.Valid.{IsValid}
-use Rattle.tp_runs.proofs.pairs.Actors.{asker_by, asker_of, asker_up, entry_by, entry_up, is_part_up, pair_at, site_of, stand_of}
+use Rattle.tp_runs.proofs.pairs.Actors.{asker_by, asker_of, asker_up, entry_by, entry_up, is_part_up, pair_at, site_of}
 use Rattle.tp_runs.proofs.pairs.Fits.{AskerFits, IsGone, Matches, Pairing, There}
 use Rattle.tp_runs.proofs.basics.Found.{of_some}
 use Rattle.tp_runs.proofs.pairs.Moves.{matched}
 use Rattle.tp_runs.proofs.pairs.Outcomes.{got_part}
-use Rattle.tp_runs.proofs.pairs.Pair.{Held, Prepares, entry_held, got, held, held_up, numbers_none}
+use Rattle.tp_runs.proofs.pairs.Pair.{Held, entry_held, got, held, held_up, numbers_none}
 use Rattle.tp_runs.proofs.known.World.{Pairs}
 use Rattle.tp_runs.proofs.refusals.World.{IsAwaiting}
 use Rattle.tp_runs.proofs.restarts.Counted.{IsInEpoch, never_crashed}
@@ -97,9 +97,14 @@ asker_fits sc w txn at declared awaiting pairs exists =
 
 undecided_log : (awaited : Phase) (decided : Option Decision) → is_undecided awaited ≡ true → PhaseAgrees awaited decided → decided ≡ None
 undecided_log phase.Idle decided e h = h
+undecided_log (phase.Stapling number) decided e h = h
 undecided_log (phase.Querying number staple) decided e h = h
-undecided_log (phase.Asking round) decided e h = h
-undecided_log (phase.Checking round staple) decided e h = h
+undecided_log (phase.Probing number) decided e h = h
+undecided_log (phase.Asking over round) decided e h = h
+undecided_log (phase.Checking over round staple) decided e h = h
+undecided_log (phase.Reading over round) decided e h = h
+undecided_log (phase.Voting awaited) decided e h = h
+undecided_log phase.VoteProbing decided e h = h
 undecided_log (phase.Ending ended awaited) decided e h = absurd (cc)
 
 -- nothing is decided on its log

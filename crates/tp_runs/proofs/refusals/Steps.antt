@@ -30,9 +30,7 @@ use Rattle.tp_runs.proofs.basics.Facts.{ArePast, before_past, facts_after, grows
 use Rattle.tp_runs.proofs.basics.Ids.{same_txn_from, same_txn_is, server_number}
 use Rattle.tp_types.proofs.EachLemmas.{at_made, each_append, each_as, each_get}
 use Rattle.tp_runs.proofs.basics.Logs.{appended, gained, get_set, settled_with}
-use Rattle.tp_runs.proofs.basics.Phases.{awaits_is, is_undecided}
-use Rattle.tp_runs.proofs.pairs.Actors.{stand_of}
-use Rattle.tp_runs.proofs.pairs.Pair.{Asks, Prepares, Rests}
+use Rattle.tp_runs.proofs.basics.Phases.{Asks, Prepares, Rests, awaits_is, is_undecided, stand_of}
 use Rattle.tp_runs.proofs.known.World.{Pairs}
 use Rattle.tp_runs.proofs.refusals.Refusing.{asked_prepares, refusal_shown, run_at_abort}
 use Rattle.tp_runs.proofs.refusals.Running.{Remembers, undecided_yet}

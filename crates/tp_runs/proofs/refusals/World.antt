@@ -20,9 +20,7 @@ use Rattle.tp_model.specs.Words.{Fact, No, OutOfRange, Scenario, ServerId, Settl
 use Rattle.tp_runs.proofs.basics.Crashes.{shown_same}
 use Rattle.tp_runs.proofs.basics.Facts.{ArePast, each_new_fact, facts_after, grows_with_facts}
 use Rattle.tp_types.proofs.EachLemmas.{each_append}
-use Rattle.tp_runs.proofs.basics.Phases.{is_undecided}
-use Rattle.tp_runs.proofs.pairs.Actors.{stand_of}
-use Rattle.tp_runs.proofs.pairs.Pair.{Prepares}
+use Rattle.tp_runs.proofs.basics.Phases.{Prepares, is_undecided, stand_of}
 use Rattle.tp_machine.specs.Logs.{settled_at}
 use Rattle.tp_machine.specs.Machine.{Move, State, facts_of, state_after}
 use Rattle.tp_machine.specs.Parts.{Part}

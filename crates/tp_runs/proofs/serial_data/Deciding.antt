@@ -1,5 +1,4 @@
 -- Serial data, an act of a coordinator: a commit has the deeds of its transaction run by itself on the store, and leaves it in range.
-use Rattle.tp_runs.proofs.pairs.Pair.{Prepares}
 use Rattle.std.specs.Option.{option_map_or, option_or}
 use Rattle.std.proofs.Common.{Bool, IfSome, List, None, Option, Some, [], ap, false, fold, if◌then◌else◌, is_some, length, option_and_then, refl, slice_get, subst, sym, true, ℕ, ℤ, ⊎_elim, ◌++◌, ◌∙◌, ◌∷◌, ◌≡◌}
 use Rattle.std.proofs.lemmas.List.Sums.{fold-append}
@@ -17,10 +16,10 @@ use Rattle.tp_runs.proofs.agreement.Logs.{IsPrepared, prepared_open}
 use Rattle.tp_runs.proofs.agreement.World.{Agrees}
 use Rattle.tp_types.proofs.EachLemmas.{each_append, each_get}
 use Rattle.tp_runs.proofs.basics.Logs.{appended, decided_with, gained}
-use Rattle.tp_runs.proofs.basics.Phases.{is_undecided}
+use Rattle.tp_runs.proofs.basics.Phases.{Prepares, is_undecided, stand_of}
 use Rattle.tp_runs.proofs.basics.Servers.{among_servers}
 use Rattle.tp_runs.proofs.ids.Valid.{IsValid}
-use Rattle.tp_runs.proofs.pairs.Actors.{asker_by, asker_of, asker_up, pair_at, site_of, stand_of}
+use Rattle.tp_runs.proofs.pairs.Actors.{asker_by, asker_of, asker_up, pair_at, site_of}
 use Rattle.tp_runs.proofs.pairs.Fits.{AskerFits}
 use Rattle.tp_runs.proofs.basics.Found.{of_some}
 use Rattle.tp_runs.proofs.pairs.Outcomes.{prepared_for}
@@ -198,9 +197,14 @@ pub record IsReady (sc : Scenario) (w : State) (txn : TxnId) (declared : Transac
 
 prepares_undecided : (awaited : Phase) → stand_of awaited ≡ Prepares → is_undecided awaited ≡ true
 prepares_undecided phase.Idle e = refl
+prepares_undecided (phase.Stapling number) e = refl
 prepares_undecided (phase.Querying number staple) e = refl
-prepares_undecided (phase.Asking round) e = refl
-prepares_undecided (phase.Checking round staple) e = refl
+prepares_undecided (phase.Probing number) e = refl
+prepares_undecided (phase.Asking over round) e = refl
+prepares_undecided (phase.Checking over round staple) e = refl
+prepares_undecided (phase.Reading over round) e = refl
+prepares_undecided (phase.Voting awaited) e = refl
+prepares_undecided phase.VoteProbing e = refl
 prepares_undecided (phase.Ending ended awaited) e = absurd (cc)
 
 -- the coordinator as each server's pair has it

@@ -268,7 +268,8 @@ tells_fit sc w (body.Ask ask) sent a h m = (tell_fits sc w ask [] a h m, tt)
 tells_fit sc w _ sent a h m = tt
 
 tell_now : (c : Coordinator) (awaited : Phase) (place : ℕ) → IsAbove place c.instances c.gathered → TellNow c awaited place
-tell_now c (phase.Asking round) place h = h
+tell_now c (phase.Stapling number) place h = h
+tell_now c (phase.Asking over round) place h = h
 tell_now c _ place h = tt
 
 both_up_in_trust : (P Q R : Coordinator → Type 0) (up : Option Coordinator) → ((c : Coordinator) → P c → Q c → R c) → IfSome up P → IfSome up Q → IfSome up R

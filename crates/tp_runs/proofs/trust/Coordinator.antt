@@ -16,7 +16,7 @@ use Rattle.tp_runs.proofs.basics.Ids.{same_txn_from}
 use Rattle.tp_runs.proofs.basics.Verdicts.{numbers_of}
 use Rattle.tp_runs.proofs.agreement.Coordinator.{idle_is}
 use Rattle.tp_runs.proofs.basics.Homes.{HaveHomes, next_is}
-use Rattle.tp_runs.proofs.basics.Phases.{awaits_is, is_undecided}
+use Rattle.tp_runs.proofs.basics.Phases.{awaits_is, before_query, ceiling_in, is_undecided, until_round}
 use Rattle.tp_runs.proofs.basics.Rounds.{missing_in}
 use Rattle.tp_runs.proofs.ids.Valid.{IsValid}
 use Rattle.tp_runs.proofs.pairs.Actors.{BodyPairs, VoteFrom, site_of}
@@ -27,7 +27,7 @@ use Rattle.tp_runs.proofs.trust.Phases.{PhaseFits}
 use Rattle.tp_runs.proofs.trust.RoundAims.{round_updated}
 use Rattle.tp_runs.proofs.trust.RoundProofs.{round_closes}
 use Rattle.tp_runs.proofs.trust.Rounds.{AimedReply, AreNumbersAt, RoundFits, few_rounds, round_denies, round_replied, round_starts, round_wants, want_published}
-use Rattle.tp_runs.proofs.basics.Turns.{AreFew, IsAbove, IsOfPast, IsTimely, Now, PrepareNow, Stamp, TurnFits, VoteNow, WantNow, before_query, ceiling, ceiling_in, died_move, end_move, first_move, further_move, low_query, low_round, next_move, number_within, query_count, raised, round_move, stamp_of, turn_rises, until_round}
+use Rattle.tp_runs.proofs.basics.Turns.{AreFew, IsAbove, IsOfPast, IsTimely, Now, PrepareNow, Stamp, TurnFits, VoteNow, WantNow, ceiling, died_move, end_move, first_move, further_move, low_query, low_round, next_move, number_within, query_count, raised, round_move, stamp_of, turn_rises}
 use Rattle.tp_coord.proofs.Rows.{IsYes, coordinator_by, submit_by}
 use Rattle.tp_machine.specs.Machine.{with_age}
 use Rattle.tp_types.specs.Each.{Each}
@@ -37,6 +37,7 @@ use Rattle.tp_coord.specs.Row.{aborts, asks, commit_round, commits, coordinator_
 use Rattle.tp_coord.specs.State.{Coordinator}
 use Rattle.tp_coord.specs.declared.coordinator.Phase.TheVariants as phase
 use Rattle.tp_coord.specs.declared.coordinator.Phase.{Phase}
+use Rattle.tp_coord.specs.declared.coordinator.Span.TheVariants as span
 use Rattle.tp_round.specs.Judge.{after_judgement, after_reply, first_round, judge}
 use Rattle.tp_round.specs.Replies.{by_query, proofs_in}
 use Rattle.tp_round.specs.declared.round.Judged.TheVariants as judged
@@ -118,13 +119,13 @@ pub turn_low : (sc : Scenario) (facts : List Fact) (place : ℕ) (c : Coordinato
 turn_low sc facts place c awaited h e = subst (λ (p : Phase). c.turn ≤ ceiling_in (query_count sc c.txn) p) e h.turn
 
 ran_last_trusts : (sc : Scenario) (facts : List Fact) (place : ℕ) (c : Coordinator) (done : DoneReply) (asked : Query) (server : ServerId) (value : ℤ) → AreFew sc → CoordinatorFits sc facts place c
-    → c.phase ≡ phase.Querying done.query None → query_in sc c.txn done.query ≡ Some asked → c.servers ≡ servers_at sc c.txn → RowTrusts sc facts place c (asks (with_deed c server done asked value) (commit_round (with_deed c server done asked value)))
+    → c.phase ≡ phase.Querying done.query None → query_in sc c.txn done.query ≡ Some asked → c.servers ≡ servers_at sc c.txn → RowTrusts sc facts place c (asks (with_deed c server done asked value) span.Commit (commit_round (with_deed c server done asked value)))
 ran_last_trusts sc facts place c done asked server value few h e q own =
     let count = query_count sc c.txn in
     let submitted : IsSubmitted facts c.txn = (phase_fits sc facts place c (phase.Querying done.query None) h e).0 in
     let low : c.turn ≤ ceiling_in count (phase.Querying done.query None) = turn_low sc facts place c (phase.Querying done.query None) h e in
     let number = number_within sc c.txn done.query asked q in
-    let rises : next_turn c ≡ c.turn + 1 = turn_rises c (low_query count done.query c.turn (few c.txn) number.0 number.1 low) in
+    let rises : next_turn c ≡ c.turn + 1 = turn_rises c (low_query count done.query 2 c.turn (few c.txn) (let last = number.1 in omega (arith, last)) (omega arith) low) in
     let undecided : is_undecided c.phase ≡ true = ap is_undecided e in
     record {
       fits = record {
@@ -136,7 +137,7 @@ ran_last_trusts sc facts place c done asked server value few h e q own =
       decides = tt;
       says = λ sent. (submitted, tt);
       timely = λ sent. (record { own = refl; timely = λ unsure. record { past = omega arith; now = λ same. tt } }, tt);
-      old = λ sent turn said t. raised sc c (asks (with_deed c server done asked value) (commit_round (with_deed c server done asked value))).state sent turn said undecided rises t;
+      old = λ sent turn said t. raised sc c (asks (with_deed c server done asked value) span.Commit (commit_round (with_deed c server done asked value))).state sent turn said undecided rises t;
     }
 
 ran_next_trusts : (sc : Scenario) (facts : List Fact) (place : ℕ) (c : Coordinator) (done : DoneReply) (asked : Query) (server next : ServerId) (value : ℤ) → AreFew sc → CoordinatorFits sc facts place c
@@ -147,7 +148,7 @@ ran_next_trusts sc facts place c done asked server next value few h e q further 
     let submitted : IsSubmitted facts c.txn = (phase_fits sc facts place c (phase.Querying done.query None) h e).0 in
     let low : c.turn ≤ ceiling_in count (phase.Querying done.query None) = turn_low sc facts place c (phase.Querying done.query None) h e in
     let number = number_within sc c.txn done.query asked q in
-    let rises : next_turn c ≡ c.turn + 1 = turn_rises c (low_query count done.query c.turn (few c.txn) number.0 number.1 low) in
+    let rises : next_turn c ≡ c.turn + 1 = turn_rises c (low_query count done.query 2 c.turn (few c.txn) (let last = number.1 in omega (arith, last)) (omega arith) low) in
     let undecided : is_undecided c.phase ≡ true = ap is_undecided e in
     record {
       fits = record {
@@ -172,20 +173,20 @@ prepare_letters_fit sc facts place sent c round staple (at ∷ servers) h r =
     ((h, want_published sc facts place c.txn round at r), prepare_letters_fit sc facts place sent c round staple servers h r)
 
 prepare_letters_timely : (sc : Scenario) (c : Coordinator) (round : Round) (staple : Staple) (sent : ℕ) (servers : List ServerId) → Each (λ (at : ServerId). WantNow round (want_for round at)) servers
-    → Each (LetterOfTurn sc c.txn (Some (record c { turn = next_turn c; phase = phase.Checking round staple })) sent) (map (prepare_letter c round staple) servers)
+    → Each (LetterOfTurn sc c.txn (Some (record c { turn = next_turn c; phase = phase.Checking span.Commit round staple })) sent) (map (prepare_letter c round staple) servers)
 prepare_letters_timely sc c round staple sent [] h = tt
 prepare_letters_timely sc c round staple sent (at ∷ servers) h =
     (record { own = refl; timely = λ unsure. record { past = omega arith; now = λ same. (refl, h.0) } }, prepare_letters_timely sc c round staple sent servers h.1)
 
-prepares_trusts : (sc : Scenario) (facts : List Fact) (place : ℕ) (c : Coordinator) (round : Round) (staple : Staple) → AreFew sc → CoordinatorFits sc facts place c → c.phase ≡ phase.Asking round
-    → StapleFits sc facts place c.txn staple → RowTrusts sc facts place c (prepares c round staple)
+prepares_trusts : (sc : Scenario) (facts : List Fact) (place : ℕ) (c : Coordinator) (round : Round) (staple : Staple) → AreFew sc → CoordinatorFits sc facts place c → c.phase ≡ phase.Asking span.Commit round
+    → StapleFits sc facts place c.txn staple → RowTrusts sc facts place c (prepares c span.Commit round staple)
 prepares_trusts sc facts place c round staple few h e s =
     let count = query_count sc c.txn in
-    let f = phase_fits sc facts place c (phase.Asking round) h e in
-    let low : c.turn ≤ until_round count round.number 1 = turn_low sc facts place c (phase.Asking round) h e in
+    let f = phase_fits sc facts place c (phase.Asking span.Commit round) h e in
+    let low : c.turn ≤ until_round count round.number 1 = turn_low sc facts place c (phase.Asking span.Commit round) h e in
     let rises : next_turn c ≡ c.turn + 1 = turn_rises c (low_round count round.number 1 c.turn (few c.txn) (few_rounds sc facts place c.txn round f.1) (omega arith) low) in
     let undecided : is_undecided c.phase ≡ true = ap is_undecided e in
-    let next = record c { turn = next_turn c; phase = phase.Checking round staple } in
+    let next = record c { turn = next_turn c; phase = phase.Checking span.Commit round staple } in
     record {
       fits = record { awaits = (f.0, f.1, s); unclosed = λ unsure. h.unclosed undecided; above = λ unsure. h.above undecided; turn = omega (arith, rises, low) };
       decides = tt;
@@ -197,13 +198,13 @@ prepares_trusts sc facts place c round staple few h e s =
 -- ---- Vote
 
 -- a reply that is kept leaves what mails say of the request
-now_kept : (sc : Scenario) (c : Coordinator) (round : Round) (staple : Staple) (server : ServerId) (verdicts : List Verdict) (sent : ℕ) (said : Body) → c.phase ≡ phase.Checking round staple → Now sc c sent said
-    → Now sc (record c { phase = phase.Checking (after_reply round server verdicts) staple }) sent said
+now_kept : (sc : Scenario) (c : Coordinator) (round : Round) (staple : Staple) (server : ServerId) (verdicts : List Verdict) (sent : ℕ) (said : Body) → c.phase ≡ phase.Checking span.Commit round staple → Now sc c sent said
+    → Now sc (record c { phase = phase.Checking span.Commit (after_reply round server verdicts) staple }) sent said
 now_kept sc c round staple server verdicts sent (body.Tell tell) e h = tt
 now_kept sc c round staple server verdicts sent (body.Prepare p) e h = subst (λ (awaited : Phase). PrepareNow awaited p) e h
 now_kept sc c round staple server verdicts sent (body.Vote reply) e h = vote_kept reply.vote (subst (λ (awaited : Phase). VoteNow awaited reply.vote) e h)
   where
-    vote_kept : (said : Vote) → VoteNow (phase.Checking round staple) said → VoteNow (phase.Checking (after_reply round server verdicts) staple) said
+    vote_kept : (said : Vote) → VoteNow (phase.Checking span.Commit round staple) said → VoteNow (phase.Checking span.Commit (after_reply round server verdicts) staple) said
     vote_kept (vote.Yes others) k = k
     vote_kept (vote.No why) k = k
 now_kept sc c round staple server verdicts sent _ e h = tt
@@ -235,9 +236,9 @@ record RoundTrusted (sc : Scenario) (facts : List Fact) (place : ℕ) (c : Coord
   low : c.turn ≤ until_round (query_count sc c.txn) round.number 2
 
 replied_trusted : (sc : Scenario) (facts : List Fact) (place : ℕ) (c : Coordinator) (round : Round) (staple : Staple) (server : ServerId) (verdicts : List Verdict) → CoordinatorFits sc facts place c
-    → c.phase ≡ phase.Checking round staple → VoteTrusted sc facts place c round server verdicts → RoundTrusted sc facts place c (after_reply round server verdicts) staple
+    → c.phase ≡ phase.Checking span.Commit round staple → VoteTrusted sc facts place c round server verdicts → RoundTrusted sc facts place c (after_reply round server verdicts) staple
 replied_trusted sc facts place c round staple server verdicts h e v =
-    let f = phase_fits sc facts place c (phase.Checking round staple) h e in
+    let f = phase_fits sc facts place c (phase.Checking span.Commit round staple) h e in
     let undecided : is_undecided c.phase ≡ true = ap is_undecided e in
     record {
       submitted = f.0;
@@ -246,7 +247,7 @@ replied_trusted sc facts place c round staple server verdicts h e v =
       undecided = undecided;
       unclosed = h.unclosed undecided;
       above = h.above undecided;
-      low = turn_low sc facts place c (phase.Checking round staple) h e;
+      low = turn_low sc facts place c (phase.Checking span.Commit round staple) h e;
     }
 
 -- a round in which all is true closes the one instance
@@ -298,10 +299,10 @@ died_trusts sc facts place c done asked died h e q =
 
 -- a vote NO ends the transaction
 refused_trusts : (sc : Scenario) (facts : List Fact) (place : ℕ) (c : Coordinator) (round : Round) (staple : Staple) (server : ServerId) (number : ℕ) (value : ℤ) → CoordinatorFits sc facts place c
-    → c.phase ≡ phase.Checking round staple → RowTrusts sc facts place c (aborts c (cause.No (refused_by server number value)))
+    → c.phase ≡ phase.Checking span.Commit round staple → RowTrusts sc facts place c (aborts c (cause.No (refused_by server number value)))
 refused_trusts sc facts place c round staple server number value h e =
-    let f = phase_fits sc facts place c (phase.Checking round staple) h e in
-    let low : c.turn ≤ until_round (query_count sc c.txn) round.number 2 = turn_low sc facts place c (phase.Checking round staple) h e in
+    let f = phase_fits sc facts place c (phase.Checking span.Commit round staple) h e in
+    let low : c.turn ≤ until_round (query_count sc c.txn) round.number 2 = turn_low sc facts place c (phase.Checking span.Commit round staple) h e in
     let now = aborts c (cause.No (refused_by server number value)) in
     record {
       fits = record {
@@ -336,7 +337,7 @@ denied_trusts sc facts place c round staple verdict h e =
 
 -- servers that are out of date are asked again
 updated_trusts : (sc : Scenario) (facts : List Fact) (place : ℕ) (c : Coordinator) (round : Round) (staple : Staple) (named : List Wanted) → AreFew sc → RoundTrusted sc facts place c round staple
-    → judge round None ≡ judged.Update named → RowTrusts sc facts place c (asks c (after_judgement round None))
+    → judge round None ≡ judged.Update named → RowTrusts sc facts place c (asks c span.Commit (after_judgement round None))
 updated_trusts sc facts place c round staple named few h e =
     let count = query_count sc c.txn in
     let next = after_judgement round None in
@@ -353,12 +354,12 @@ updated_trusts sc facts place c round staple named few h e =
       decides = tt;
       says = λ sent. (h.submitted, tt);
       timely = λ sent. (record { own = refl; timely = λ unsure. record { past = omega arith; now = λ same. tt } }, tt);
-      old = λ sent turn said t. raised sc c (asks c next).state sent turn said h.undecided rises t;
+      old = λ sent turn said t. raised sc c (asks c span.Commit next).state sent turn said h.undecided rises t;
     }
 
 -- a reply is missing still
-counted_trusts : (sc : Scenario) (facts : List Fact) (place : ℕ) (c : Coordinator) (round : Round) (staple : Staple) (server : ServerId) (verdicts : List Verdict) → c.phase ≡ phase.Checking round staple
-    → RoundTrusted sc facts place c (after_reply round server verdicts) staple → RowTrusts sc facts place c (sends (record c { phase = phase.Checking (after_reply round server verdicts) staple }) [])
+counted_trusts : (sc : Scenario) (facts : List Fact) (place : ℕ) (c : Coordinator) (round : Round) (staple : Staple) (server : ServerId) (verdicts : List Verdict) → c.phase ≡ phase.Checking span.Commit round staple
+    → RoundTrusted sc facts place c (after_reply round server verdicts) staple → RowTrusts sc facts place c (sends (record c { phase = phase.Checking span.Commit (after_reply round server verdicts) staple }) [])
 counted_trusts sc facts place c round staple server verdicts e h =
     record {
       fits = record { awaits = (h.submitted, h.fits, h.stapled); unclosed = λ unsure. h.unclosed; above = λ unsure. h.above; turn = h.low };
@@ -387,7 +388,7 @@ yes_trusted sc facts place P c mail reply round staple server verdicts m f n t y
     subst (PairVote.VoteFits (site_of sc server.0 declared)) y.vote_is (from declared (ap (λ (x : TxnId). slice_get sc.txns x.0) (sym same) ∙ e)) in
     let timely : IsTimely sc c mail.sent reply.turn (body.Vote reply) = subst (PresentMail sc c mail.sent) y.said_is t (sym same) in
     let now : VoteNow c.phase reply.vote = (timely (ap is_undecided y.checking)).now (eqb-true reply.turn c.turn y.present) in
-    let checked : VoteNow (phase.Checking round staple) (vote.Yes verdicts) = subst (λ (awaited : Phase). VoteNow awaited (vote.Yes verdicts)) y.checking (subst (VoteNow c.phase) y.vote_is now) in
+    let checked : VoteNow (phase.Checking span.Commit round staple) (vote.Yes verdicts) = subst (λ (awaited : Phase). VoteNow awaited (vote.Yes verdicts)) y.checking (subst (VoteNow c.phase) y.vote_is now) in
     record { right = right; numbers = numbers; aimed = checked.1 }
 
 -- ---- Ack

@@ -268,8 +268,9 @@ aimed_vote sc facts place s p round txn staple deeds there rights (inr names) (i
 
 vote_now : (sc : Scenario) (facts : List Fact) (place : ℕ) (s : Server) (awaited : Phase) (p : PrepareRequest) (txn : Transaction) (staple : Staple) (deeds : List Deed) → p.staple ≡ Some staple → slice_get sc.txns p.txn.0 ≡ Some txn
     → Each (Right sc facts place p.txn) (verdicts_on sc s txn staple p.want deeds) → IsNamed sc s.server p → PrepareNow awaited p → VoteNow awaited (vote.Yes (verdicts_on sc s txn staple p.want deeds))
-vote_now sc facts place s (phase.Checking round st) p txn staple deeds e there rights names h =
+vote_now sc facts place s (phase.Checking over round st) p txn staple deeds e there rights names h =
     (placed_there sc s txn staple p.want st.place deeds (ap (λ (x : Staple). x.place) (same_Some staple st (sym e ∙ h.0))), aimed_vote sc facts place s p round txn staple deeds there rights (names txn there) h.1)
+vote_now sc facts place s (phase.Voting awaited) p txn staple deeds e there rights names h = absurd (cc)
 vote_now sc facts place s _ p txn staple deeds e there rights names h = tt
 
 -- a vote of the turn of its request, at the place of its staple
@@ -324,10 +325,15 @@ record LetterTrusts (sc : Scenario) (facts : List Fact) (place : ℕ) (T : Body 
   timely : IfSome (stamp_of letter.body) (λ (stamped : Stamp). T letter.body)
 
 no_now : (awaited : Phase) (why : No) → VoteNow awaited (vote.No why)
-no_now (phase.Checking round staple) why = (tt, tt)
+no_now (phase.Checking over round staple) why = (tt, tt)
 no_now phase.Idle why = tt
+no_now (phase.Stapling number) why = tt
 no_now (phase.Querying number staple) why = tt
-no_now (phase.Asking round) why = tt
+no_now (phase.Probing number) why = tt
+no_now (phase.Asking over round) why = tt
+no_now (phase.Reading over round) why = tt
+no_now (phase.Voting awaited) why = tt
+no_now phase.VoteProbing why = tt
 no_now (phase.Ending ended awaited) why = tt
 
 -- a vote NO answers the request to prepare
