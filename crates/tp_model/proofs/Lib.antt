@@ -1,5 +1,6 @@
 pub mod BuiltLemmas
 pub mod ConditionLemmas
+pub mod DemandLemmas
 pub mod HistoryLemmas
 pub mod RuleLemmas
 pub mod RunBounds

@@ -1,11 +1,10 @@
--- Causes of aborts: what a history shows where a transaction aborted. A denial, a value out of its item's range, a death for an older
--- transaction, a server's restart and a halt of the coordinator have their rows. A newer version, and rounds that each met one, have
--- none yet, and what has no row is not shown.
-use Rattle.std.specs.Prelude.{ℕ, ◌&&◌, ◌||◌, nat_le, List, [], drop, slice_get, Bool, true, false, Option, not, is_some, option_map, ℤ}
-use Rattle.std.specs.List.{find, list_all, list_any}
+-- Causes of aborts: what a history shows where a transaction aborted. Each cause has its row: a denial, a value out of its item's
+-- range, a death for an older transaction, a newer version, rounds that each met one, a server's restart, and a halt of the coordinator.
+use Rattle.std.specs.Prelude.{ℕ, ◌==◌, ◌&&◌, ◌||◌, nat_le, nat_lt, List, [], ◌∷◌, drop, length, slice_get, Bool, true, false, Option, not, is_some, option_map, ℤ}
+use Rattle.std.specs.List.{count_by, find, list_all, list_any}
 use Rattle.std.specs.Option.{option_map_or}
 use Rattle.std.specs.Ordering.{int_eq}
-use Rattle.tp_model.specs.Words.{Actor, Cause, Denied, Died, Fact, Item, ItemId, OutOfRange, Query, Scenario, Scheme, ServerId, Transaction, TxnId, What}
+use Rattle.tp_model.specs.Words.{Actor, AdminId, Cause, Denied, Died, Fact, Item, ItemId, Met, Newer, OutOfRange, Query, Scenario, Scheme, ServerId, Transaction, TxnId, What}
 use Rattle.tp_model.specs.Words.actor
 use Rattle.tp_model.specs.Words.cause
 use Rattle.tp_model.specs.Words.decision
@@ -14,8 +13,9 @@ use Rattle.tp_model.specs.Words.scheme
 use Rattle.tp_model.specs.Words.what
 use Rattle.tp_types.specs.declared.scenario.Query.TheVariants.{Read, Write}
 use Rattle.tp_model.specs.Authorisation.{Question, is_allowed, is_own_query, policy_at}
+use Rattle.tp_model.specs.Demand.{is_incremental}
 use Rattle.tp_model.specs.Facts.{before, is_settled_as, is_settlement, is_submission, same_outcome}
-use Rattle.tp_model.specs.Ids.{same_item, same_server, same_txn}
+use Rattle.tp_model.specs.Ids.{same_admin, same_item, same_server, same_txn}
 use Rattle.tp_model.specs.Levels.{is_global, level_of}
 use Rattle.tp_model.specs.Limits.{is_between}
 use Rattle.tp_model.specs.Queries.{is_at_server, item_of, query_at, servers_of}
@@ -215,11 +215,64 @@ is_older_conflict sc txn decided facts died declared =
     && was_submitted_before died.other txn facts
     && not (was_settled_before died.server died.other txn facts)
 
--- ---- all causes
+-- ---- newer versions
 
--- a cause that is not built has no row, and what has no row is not shown
-abbrev pub unbuilt_cause : Bool
-unbuilt_cause = false
+abbrev pub is_item_of : AdminId → Item → Bool
+is_item_of admin item = same_admin item.admin admin
+
+-- the query is on an item of the administrator
+abbrev pub is_query_of : Scenario → AdminId → Query → Bool
+is_query_of sc admin query =
+    option_map_or (is_item_of admin) (slice_get sc.items (item_of query).0) false
+
+-- the administrator is that of one of the transaction's queries
+abbrev pub is_own_admin : Scenario → AdminId → Transaction → Bool
+is_own_admin sc admin declared = list_any (is_query_of sc admin) declared.queries
+
+-- the master is read for the administrator, or two queries are on its items: one is proved, and the other meets a newer version
+abbrev pub may_meet_newer : Scenario → AdminId → Transaction → Bool
+may_meet_newer sc admin declared =
+    is_global (level_of declared admin)
+    || nat_le 2 (count_by (is_query_of sc admin) declared.queries)
+
+-- incremental: a newer version was found than the one that was used, and it was published by the decision
+abbrev pub is_newer_shown : Scenario → ℕ → List Fact → Newer → Transaction → Bool
+is_newer_shown sc decided facts newer declared =
+    is_incremental declared.scheme && nat_lt newer.used.0 newer.found.0
+    && nat_le newer.found.0 (newest sc newer.admin decided facts)
+    && is_own_admin sc newer.admin declared
+    && may_meet_newer sc newer.admin declared
+
+-- ---- rounds that each met a newer version
+
+-- between submission and decision the master was read for the administrator, and its newest version was newer than the one used
+abbrev pub is_met_shown : Scenario → TxnId → ℕ → List Fact → Transaction → Met → Bool
+is_met_shown sc txn decided facts declared met =
+    is_global (level_of declared met.admin) && is_own_admin sc met.admin declared
+    && is_within txn decided facts met.place
+    && nat_lt met.used.0 met.newest.0
+    && (met.newest.0 == newest sc met.admin met.place facts)
+
+-- the round came after the place of the one before, and used the version that was the newest there
+abbrev pub is_met_after : Scenario → List Fact → ℕ → Met → Bool
+is_met_after sc facts place next =
+    nat_lt place next.place && (next.used.0 == newest sc next.admin place facts)
+
+-- so did each round after the first
+abbrev pub are_met_on : Scenario → List Fact → List Met → Bool
+are_met_on sc facts [] = true
+are_met_on sc facts (one ∷ []) = true
+are_met_on sc facts (one ∷ next ∷ mets) =
+    is_met_after sc facts one.place next && are_met_on sc facts (next ∷ mets)
+
+-- as many rounds as the transaction may ask for each met a newer version; incremental has no rounds
+abbrev pub are_rounds_shown : Scenario → TxnId → ℕ → List Fact → List Met → Transaction → Bool
+are_rounds_shown sc txn decided facts mets declared =
+    not (is_incremental declared.scheme) && (length mets == declared.rounds)
+    && list_all (is_met_shown sc txn decided facts declared) mets
+    && are_met_on sc facts mets
+
+-- ---- all causes
 
 -- the history shows the cause of an abort that was decided at the place
 abbrev pub is_shown : Scenario → TxnId → ℕ → List Fact → Cause → Transaction → Bool
@@ -229,11 +282,14 @@ is_shown sc txn decided facts (cause.No refused) declared =
     is_refused sc txn decided facts refused declared
 is_shown sc txn decided facts (cause.Died died) declared =
     is_older_conflict sc txn decided facts died declared
+is_shown sc txn decided facts (cause.Newer newer) declared =
+    is_newer_shown sc decided facts newer declared
+is_shown sc txn decided facts (cause.Rounds mets) declared =
+    are_rounds_shown sc txn decided facts mets declared
 is_shown sc txn decided facts (cause.Restarted at) declared =
     is_server_of sc at declared && crashed_within (is_server_actor at) txn decided facts
 is_shown sc txn decided facts cause.Halted declared =
     crashed_within (is_coordinator_actor txn) txn decided facts
-is_shown sc txn decided facts _ declared = unbuilt_cause
 
 abbrev pub keeps_causes_what : Scenario → List Fact → ℕ → What → Bool
 keeps_causes_what sc facts place (what.Decided txn (decision.Abort why)) =

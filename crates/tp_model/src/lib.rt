@@ -2,11 +2,11 @@
 //!
 //! What is promised, with the contract that carries it:
 //!
-//! - The helpers compute these definitions (`item_of`, `query_at`, `only`, `servers_of`, `has_query_at`,
-//!   `level_of`, `is_global`, `reads_master`)
-//! - The newest version at a place is computed (`newest_at`, `publications`)
-//! - What a rule is about, what satisfies an atom, and a policy's rule by its number are as these definitions
-//!   say (`matches`, `meets`, `rule_in`)
+//! - The helpers on queries and levels compute what `specs/Queries` and `specs/Levels` define (`item_of`,
+//!   `query_at`, `only`, `servers_of`, `has_query_at`, `level_of`, `is_global`, `reads_master`)
+//! - The newest version at a place is computed as `specs/Versions` defines it (`newest_at`, `publications`)
+//! - What a rule is about, what satisfies an atom, and a policy's rule by its number are computed as
+//!   `specs/Policies` and `specs/Authorisation` define them (`matches`, `meets`, `rule_in`)
 #![tactic(auto)]
 
 mod deeds;
