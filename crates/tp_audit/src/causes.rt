@@ -7,6 +7,7 @@ ghost use Rattle.tp_model.specs.Versions as versions;
 use crate::authorisation::{is_allowed, is_own_query};
 use crate::conflicts::is_older_conflict;
 use crate::crashes::{coordinator_crashed, is_server_of, server_crashed};
+use crate::newer::{are_rounds_shown, is_newer_shown};
 use crate::refusals::is_refused;
 use crate::trust::is_within;
 use crate::versions::newest;
@@ -143,12 +144,12 @@ fn is_shown(
         Cause::Denied(denied) => Ok(is_denied(scenario, txn, decided, facts, denied, declared)),
         Cause::No(refused) => is_refused(alloc, scenario, txn, decided, facts, refused, declared),
         Cause::Died(died) => Ok(is_older_conflict(scenario, txn, decided, facts, died, declared)),
+        Cause::Newer(newer) => Ok(is_newer_shown(scenario, decided, facts, newer, declared)),
+        Cause::Rounds(mets) => Ok(are_rounds_shown(scenario, txn, decided, facts, mets, declared)),
         Cause::Restarted { server } => {
             Ok(is_restart(scenario, txn, decided, facts, *server, declared))
         }
         Cause::Halted => Ok(coordinator_crashed(txn, decided, facts)),
-        // a cause that is unbuilt: a newer version, or rounds that are spent
-        _ => Ok(false),
     }
 }
 

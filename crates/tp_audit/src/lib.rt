@@ -1,5 +1,6 @@
-//! A plain program that judges histories: for each definition of a trusted history one call, which has the definition as its contract.
-//! It knows a scenario and a flat list of facts, and nothing of how they came.
+//! A plain program that judges histories: one call for each of agreement, trust, causes, serial data and that commits stand apart,
+//! which has the definition as its contract. It knows a scenario and a flat list of facts, and nothing of how they came. So it does
+//! not judge what a trusted history has beside these: which facts the steps say, since it is given no steps, and the values of items.
 //!
 //! What is promised, with the contract that carries it:
 //!
@@ -18,6 +19,8 @@ mod crashes;
 mod credentials;
 mod demand;
 mod facts;
+mod following;
+mod newer;
 mod policies;
 mod refusals;
 mod run;

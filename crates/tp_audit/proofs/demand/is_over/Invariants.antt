@@ -7,6 +7,6 @@ use Rattle.tp_audit.proofs.demand.is_over.Given as goal
 abbrev pub invariant-loop-at : goal.invariant-loop-at
 invariant-loop-at l =
     record {
-      complete : length l.proofs ≡ l.count;
-      same : are_over l.at l.count l.proofs ≡ is_over l.count l.proofs;
+      complete : length l.proofs ≡ l.many;
+      same : are_over l.at l.first l.many l.proofs ≡ is_over l.first l.many l.proofs;
     }
