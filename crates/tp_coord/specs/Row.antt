@@ -2,7 +2,7 @@
 -- the phase that awaits it, with the present turn, and once from each server; otherwise nothing happens.
 use Rattle.std.specs.List.{find}
 use Rattle.std.specs.Option.{option_flatten, option_map_or}
-use Rattle.std.specs.Prelude.{Bool, List, None, Option, Some, [], false, filter, if◌then◌else◌, map, not, option_and_then, option_map, slice_get, slice_set, true, unwrap_or, ℕ, ℤ, ◌&&◌, ◌++◌, ◌==◌, ◌∷◌}
+use Rattle.std.specs.Prelude.{Bool, List, None, Option, Some, [], false, filter, if◌then◌else◌, map, not, option_and_then, option_map, replicate, slice_get, slice_set, true, unwrap_or, ℕ, ℤ, ◌&&◌, ◌++◌, ◌==◌, ◌∷◌}
 use Rattle.tp_types.specs.Effect.{Effect, ignores, logs, sends, unbuilt}
 use Rattle.tp_types.specs.declared.records.Outcome.TheVariants.{Abort, Commit}
 use Rattle.tp_model.specs.Queries.{item_of, query_at}
@@ -12,11 +12,12 @@ use Rattle.tp_model.specs.Words.answer
 use Rattle.tp_model.specs.Words.body
 use Rattle.tp_model.specs.Words.cause
 use Rattle.tp_model.specs.Words.decision
+use Rattle.tp_model.specs.Words.level
 use Rattle.tp_model.specs.Words.log
 use Rattle.tp_model.specs.Words.no
 use Rattle.tp_model.specs.Words.vote
 use Rattle.tp_model.specs.Words.{Actor, AdminId, Answer, Body, Cause, CommitRecord, Decision, Denied, Died, DoneReply, Instance, Item, ItemId, Letter, Mail, No, OutOfRange, Outcome, PrepareRequest, Query, QueryRequest, Scenario, ServerId, Staple, TellReply, Transaction, TxnId, Verdict, Version, Vote, VoteReply}
-use Rattle.tp_model.specs.Limits.{next_count, view_rounds}
+use Rattle.tp_model.specs.Limits.{admins_limit, next_count, view_rounds}
 use Rattle.tp_model.specs.Deeds.{deed_of}
 use Rattle.tp_coord.specs.Sums.{asked_value}
 use Rattle.tp_coord.specs.State.{Coordinator}
@@ -150,7 +151,7 @@ asks c over round = sends (record c { turn = next_turn c; phase = phase.Asking o
 
 -- the first round at commit, of all of the transaction's servers. No master is read, and under view consistency two rounds are enough
 abbrev pub commit_round : Coordinator → Round
-commit_round c = first_round c.servers view_rounds [] false
+commit_round c = first_round c.servers view_rounds (replicate admins_limit level.View) false
 
 -- a coordinator with the deed of a query that ran, and the epoch of its server
 abbrev pub with_deed : Coordinator → ServerId → DoneReply → Query → ℤ → Coordinator

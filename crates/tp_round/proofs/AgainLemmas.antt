@@ -17,12 +17,13 @@ pub record IsUpdated (round : Round) (reading : Option Reading) (named : List Wa
   pub goes_on : is_waiting round reading ≡ false
   pub is_out : list_any (is_outdated (aim_in round reading)) round.targets ≡ true
   pub is_named : named ≡ wants_of (aim_in round reading) round.targets
+  pub unspent : is_spent round (met_in round reading) ≡ false
 
 updated_where : (waits out spent : Bool) (mets : List Met) (wanted named : List Wanted) (first : Option Verdict)
-    → cond waits Waiting (cond out (cond spent (Spent mets) (Update wanted)) (final_answer first)) ≡ Update named → (waits ≡ false) × (out ≡ true) × (named ≡ wanted)
+    → cond waits Waiting (cond out (cond spent (Spent mets) (Update wanted)) (final_answer first)) ≡ Update named → (waits ≡ false) × (out ≡ true) × (named ≡ wanted) × (spent ≡ false)
 updated_where true out spent mets wanted named first e = cc
 updated_where false true true mets wanted named first e = cc
-updated_where false true false mets wanted named first e = let same : named ≡ wanted = cc in (refl, refl, same)
+updated_where false true false mets wanted named first e = let same : named ≡ wanted = cc in (refl, refl, same, refl)
 updated_where false false spent mets wanted named None e = cc
 updated_where false false spent mets wanted named (Some verdict) e = cc
 
@@ -31,7 +32,7 @@ updated round reading named e =
     let met : Option Met = met_in round reading in
     let said = updated_where (is_waiting round reading) (list_any (is_outdated (aim_in round reading)) round.targets) (is_spent round met) (mets_in round met)
     (wants_of (aim_in round reading) round.targets) named (least_false (proofs_in round.targets)) e in
-    record { goes_on = said.0; is_out = said.1; is_named = said.2 }
+    record { goes_on = said.0; is_out = said.1; is_named = said.2; unspent = said.3 }
 
 pub stays : (round : Round) (aim : List (AdminId × Version)) (met : Option Met) (answer : Judged) → is_update answer ≡ false → after round aim met answer ≡ round
 stays round aim met Waiting e = refl

@@ -4,6 +4,8 @@ pub mod AgreedLemmas
 pub mod AnswerLemmas
 pub mod JudgeLemmas
 pub mod KeptLemmas
+pub mod LevelLemmas
+pub mod MetLemmas
 pub mod NamesLemmas
 pub mod PlaceLemmas
 pub mod QueryLemmas

@@ -1,18 +1,18 @@
 -- What follows from the judgement of rounds.
-use Rattle.std.specs.Prelude.{◌≡◌, ℕ, ◌&&◌, ◌≤◌, ◌==◌, List, [], ◌∷◌, filter, find, length, map, Bool, true, false, not, nat_le, nat_lt, slice_get, Option, Some, None, option_map, if◌then◌else◌}
+use Rattle.std.specs.Prelude.{◌≡◌, ℕ, ◌+◌, ◌&&◌, ◌||◌, ◌<◌, ◌≤◌, ◌==◌, List, [], ◌∷◌, ◌++◌, filter, find, length, map, Bool, true, false, not, nat_le, nat_lt, slice_get, Option, Some, None, option_map, option_to_list, if◌then◌else◌}
 use Rattle.std.specs.List.{list_all, list_any, range_with_len}
 use Rattle.std.specs.Option.{is_none}
 use Rattle.tp_model.specs.Words.{AdminId, Level, Met, Reading, ServerId, Verdict, Version}
 use Rattle.tp_model.specs.Demand.{query_of}
 use Rattle.tp_model.specs.Ids.{same_admin, same_server}
-use Rattle.tp_model.specs.Levels.{is_global}
+use Rattle.tp_model.specs.Limits.{count_limit}
 use Rattle.tp_model.specs.Versions.{is_one_version}
 use Rattle.tp_round.specs.declared.round.Judged.{Judged}
 use Rattle.tp_round.specs.declared.round.Judged.TheVariants.{Waiting, AllTrue, False, Spent, Update}
 use Rattle.tp_round.specs.declared.round.Round.{Round}
 use Rattle.tp_round.specs.declared.round.Target.{Target}
 use Rattle.tp_round.specs.declared.round.Wanted.{Wanted}
-use Rattle.tp_round.specs.Judge.{after_judgement, after_reply, first_round, is_aimed, is_awaited, is_global_at, is_waiting, judge, target}
+use Rattle.tp_round.specs.Judge.{after_judgement, after_reply, first_round, is_aimed, is_awaited, is_global_at, is_waiting, judge, met_in, newest_in, target}
 use Rattle.tp_round.specs.Replies.{by_query, is_at_query, is_of, proofs_in, verdicts_in}
 
 -- ---- what an update names
@@ -165,19 +165,138 @@ AreAsNamed [] round = Unit {0}
 AreAsNamed (call ∷ calls) round =
     (is_as_named call round ≡ true) × AreAsNamed calls (after_call call round)
 
+-- no verdict of the reply is of an administrator under global consistency
+abbrev pub is_under_view : List Level → Call → Bool
+is_under_view levels (Replies server verdicts) = not (list_any (is_of_global levels) verdicts)
+is_under_view levels (Judges reading) = true
+
 -- the round's number is at most 2, and it is updated only while it is 1
 pub record HasTwoRounds (round : Round) : Type 0 where
   pub few : round.number ≤ 2
   pub first : (reading : Option Reading) (named : List Wanted) → judge round reading ≡ Update named
       → round.number ≡ 1
 
--- where every administrator is under view consistency and replies are as they were named, there are at most two rounds
+-- where no verdict is of an administrator under global consistency, and replies are as they were named, there are at most
+-- two rounds
 abbrev pub TwoRoundsUnderView : Type 0
 TwoRoundsUnderView =
-    (servers : List ServerId) (limit : ℕ) (levels : List Level) (reads : Bool)
-    → list_any is_global levels ≡ false
-    → (calls : List Call) → AreAsNamed calls (first_round servers limit levels reads)
+    (servers : List ServerId) (limit : ℕ) (levels : List Level) (reads : Bool) (calls : List Call)
+    → list_all (is_under_view levels) calls ≡ true
+    → AreAsNamed calls (first_round servers limit levels reads)
     → HasTwoRounds (after_calls calls (first_round servers limit levels reads))
+
+-- ---- what rounds meet at the master
+
+-- the proof is of an administrator under global consistency and below the newest version that was read
+abbrev pub is_short : List Level → Reading → Verdict → Bool
+is_short levels reading verdict =
+    is_of_global levels verdict
+    && nat_lt verdict.version.0 (newest_in (Some reading) verdict.admin)
+
+-- so is this proof, and its administrator is before the other
+abbrev pub is_short_before : List Level → Reading → AdminId → Verdict → Bool
+is_short_before levels reading admin verdict =
+    nat_lt verdict.admin.0 admin.0 && is_short levels reading verdict
+
+-- a proof of the administrator with just this version
+abbrev pub is_used : AdminId → Version → Verdict → Bool
+is_used admin used verdict = is_of admin verdict && (verdict.version.0 == used.0)
+
+-- a proof of the administrator with a smaller version
+abbrev pub is_older : AdminId → Version → Verdict → Bool
+is_older admin used verdict = is_of admin verdict && nat_lt verdict.version.0 used.0
+
+-- it is of the first administrator under global consistency that has a proof below the newest version, and names the least
+-- version among its proofs
+pub record IsLeastMet (round : Round) (reading : Reading) (met : Met) : Type 0 where
+  pub global : is_global_at round.levels met.admin ≡ true
+  pub newest : met.newest.0 ≡ newest_in (Some reading) met.admin
+  pub place : met.place ≡ reading.place
+  pub below : met.used.0 < met.newest.0
+  pub used : list_any (is_used met.admin met.used) (proofs_in round.targets) ≡ true
+  pub least : list_any (is_older met.admin met.used) (proofs_in round.targets) ≡ false
+  pub first : list_any (is_short_before round.levels reading met.admin) (proofs_in round.targets) ≡ false
+
+-- what a round met at the master, where it met something; versions are of 32 bits
+abbrev pub MeetsTheLeast : Type 0
+MeetsTheLeast =
+    (round : Round) (reading : Reading) (met : Met) → met_in round (Some reading) ≡ Some met
+    → met.newest.0 ≤ count_limit → IsLeastMet round reading met
+
+-- where it met nothing, no proof of an administrator under global consistency is below the newest version
+abbrev pub MeetsWhatIsNewer : Type 0
+MeetsWhatIsNewer =
+    (round : Round) (reading : Reading) → met_in round (Some reading) ≡ None
+    → list_any (is_short round.levels reading) (proofs_in round.targets) ≡ false
+
+-- what is spent is what each earlier round met and what this one met, and these are as many as may be
+pub record HasAllMets (round : Round) (reading : Option Reading) (mets : List Met) : Type 0 where
+  pub met : Met
+  pub is_met : met_in round reading ≡ Some met
+  pub all : mets ≡ round.mets ++ met ∷ []
+  pub count : length mets ≡ round.limit
+
+-- the rounds are spent where this one is met, and as many were as may be
+abbrev pub SpentHasAllMets : Type 0
+SpentHasAllMets =
+    (round : Round) (reading : Option Reading) (mets : List Met) → judge round reading ≡ Spent mets
+    → HasAllMets round reading mets
+
+-- an update keeps what earlier rounds met, and adds what this one met
+abbrev pub UpdateKeepsMets : Type 0
+UpdateKeepsMets =
+    (round : Round) (reading : Option Reading) (named : List Wanted)
+    → judge round reading ≡ Update named
+    → (after_judgement round reading).mets ≡ round.mets ++ option_to_list (met_in round reading)
+
+-- ---- rounds are counted by what they meet
+
+-- the verdict is of an administrator under global consistency only where the master is read
+abbrev pub is_read_for : Round → Verdict → Bool
+is_read_for round verdict = round.reads || not (is_of_global round.levels verdict)
+
+-- the master is read where a verdict of the reply is of an administrator under global consistency
+abbrev pub reads_globals : Call → Round → Bool
+reads_globals (Replies server verdicts) round = list_all (is_read_for round) verdicts
+reads_globals (Judges reading) round = true
+
+-- the proof is not above the newest version that was read, if its administrator is under global consistency
+abbrev pub is_not_above : List Level → Option Reading → Verdict → Bool
+is_not_above levels None verdict = true
+is_not_above levels (Some reading) verdict =
+    not (is_of_global levels verdict)
+    || nat_le verdict.version.0 (newest_in (Some reading) verdict.admin)
+
+-- the master was read after the proofs, so none of them is above what was read
+abbrev pub is_read_after : Call → Round → Bool
+is_read_after (Replies server verdicts) round = true
+is_read_after (Judges reading) round =
+    list_all (is_not_above round.levels reading) (proofs_in round.targets)
+
+-- replies are as they were named, and the master is read where it is to be, and after the proofs
+abbrev pub AreInOrder : List Call → Round → Type 0
+AreInOrder [] round = Unit {0}
+AreInOrder (call ∷ calls) round =
+    (is_as_named call round ≡ true) × (reads_globals call round ≡ true)
+    × (is_read_after call round ≡ true) × AreInOrder calls (after_call call round)
+
+-- each round before the present one met something, but for the first at most; fewer than the limit did; and a round that
+-- meets nothing is updated only if it is the first
+pub record CountsMets (round : Round) : Type 0 where
+  pub least : length round.mets < round.number
+  pub most : round.number ≤ length round.mets + 2
+  pub few : length round.mets < round.limit
+  pub unmet : (reading : Option Reading) (named : List Wanted)
+      → list_all (is_not_above round.levels reading) (proofs_in round.targets) ≡ true
+      → judge round reading ≡ Update named → met_in round reading ≡ None → round.number ≡ 1
+
+-- where replies are as they were named and the master is read after the proofs, rounds are counted by what they met
+abbrev pub RoundsCountMets : Type 0
+RoundsCountMets =
+    (servers : List ServerId) (limit : ℕ) (levels : List Level) (reads : Bool)
+    → 1 ≤ limit → limit ≤ 16
+    → (calls : List Call) → AreInOrder calls (first_round servers limit levels reads)
+    → CountsMets (after_calls calls (first_round servers limit levels reads))
 
 -- ---- judging again
 

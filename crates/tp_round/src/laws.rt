@@ -23,12 +23,34 @@ pub fn agreed_rounds_agree()
     ensures least_false { laws.FalseIsLeast }
 {}
 
-/// Without proofs under global consistency rounds are never spent. Where every administrator is under view consistency, and each
-/// reply after an update has the versions that were named for its server, there are at most two rounds, and only the first is
-/// updated.
+/// Without proofs under global consistency rounds are never spent. Where besides each reply after an update has the
+/// versions that were named for its server, there are at most two rounds, and only the first is updated.
 pub fn view_takes_two_rounds()
     ensures never_spent { laws.NeverSpentUnderView }
     ensures two_rounds { laws.TwoRoundsUnderView }
+{}
+
+/// What a round met at the master is of the first administrator under global consistency that has a proof below the
+/// newest version, and names the least version among its proofs, with the newest and the place that were read. It met
+/// nothing only where there is no such proof.
+pub fn rounds_meet_the_least()
+    ensures met { laws.MeetsTheLeast }
+    ensures unmet { laws.MeetsWhatIsNewer }
+{}
+
+/// Rounds are spent where as many were met as may be, and the answer has what each of them met, this one too. An update
+/// keeps what earlier rounds met and adds what this one met.
+pub fn spent_rounds_have_all_mets()
+    ensures spent { laws.SpentHasAllMets }
+    ensures kept { laws.UpdateKeepsMets }
+{}
+
+/// Where each reply after an update has the versions that were named for its server, and the master is read if a proof is
+/// under global consistency, and each time after the proofs: the rounds that met a newer version and went on are fewer
+/// than the limit, the number of the present one is one or two more, and a round that meets nothing is updated only if it
+/// is the first.
+pub fn rounds_are_counted()
+    ensures { laws.RoundsCountMets }
 {}
 
 /// A round that is judged again with the same reading answers the same; after an update it waits.

@@ -17,26 +17,34 @@
 //!   and wants of each the target of each administrator of which it has a proof, and of no other
 //!   (`update_names_the_outdated`)
 //! - Where all is true, every proof is true and has its administrator's target, so the proofs by query have one
-//!   version of each administrator (`Versions.is_one_version` above). Where a proof is false, every proof has
-//!   its target too, the proof is one of those kept, it is false, and no false one has a smaller query
-//!   (`agreed_rounds_agree`: `all_true`, `least_false`)
+//!   version of each administrator (`is_one_version`, in the definitions of `tp_model`). Where a proof is false,
+//!   every proof has its target too, the proof is one of those kept, it is false, and no false one has a smaller
+//!   query (`agreed_rounds_agree`: `all_true`, `least_false`)
 //! - Where no proof is of an administrator under global consistency, rounds are never spent
 //!   (`view_takes_two_rounds`: `never_spent`)
-//! - Where every administrator is under view consistency, whatever is replied and judged in whatever order, and
-//!   each reply that is kept after an update is of the administrators that the update named for its server,
-//!   with these versions: there are at most two rounds, and only the first is updated (`view_takes_two_rounds`:
-//!   `two_rounds`)
+//! - What a round meets at the master is of the first administrator under global consistency that has a proof
+//!   below the newest version, and names the least version among its proofs, with the newest and the place that
+//!   were read. A round that meets nothing has no such proof (`rounds_meet_the_least`: `met`, `unmet`)
+//! - Where rounds are spent, the answer has what each earlier round met and what this one met, and these are as
+//!   many as may be. An update keeps what was met, and adds what this round met (`spent_rounds_have_all_mets`:
+//!   `spent`, `kept`)
+//! - Whatever is replied and judged in whatever order, where each reply that is kept after an update is of the
+//!   administrators that the update named for its server, with these versions, where the master is read if a proof
+//!   is under global consistency, and each time after the proofs: what earlier rounds met is less than the limit,
+//!   the number of the round is one or two more, and a round that meets nothing is updated only if it is the first
+//!   (`rounds_are_counted`)
+//! - Where no verdict of a reply is under global consistency, and replies after an update are as just said, there
+//!   are at most two rounds, and only the first is updated (`view_takes_two_rounds`: `two_rounds`)
 //! - A round that is judged again with the same reading answers the same, where it was not updated; after an
 //!   update it waits (`judging_again_is_safe`: `same`, `waits`)
 //! - Of each query from 1 to 16 the proofs by query are those that were replied, in their order; where the
 //!   replies have one proof of each query up to a number and no other, so have the proofs by query, in order
 //!   (`proofs_go_by_query`: `kept`, `ordered`)
 //!
-//! `start` asks that the limit is from 1 to 16 and that the level is view consistency: rounds that read the
-//! master are judged as defined, but cannot be started yet. Of a server that stands twice among the given ones
-//! two replies are awaited. The limit counts the rounds that met a newer version at the master, not all rounds.
-//! The premise on replies after an update is needed: replies with other versions are brought together again, in
-//! a third round and later ones.
+//! `start` asks that the limit is from 1 to 16, and gives each administrator the same level; definitions and laws
+//! speak of a level for each. Of a server that stands twice among the given ones two replies are awaited. The
+//! limit counts the rounds that met a newer version at the master, not all rounds. The premise on replies after
+//! an update is needed: replies with other versions are brought together again, in a third round and later ones.
 #![tactic(auto)]
 
 mod aim;
@@ -46,6 +54,7 @@ mod round;
 
 pub use laws::{
     agreed_rounds_agree, judging_again_is_safe, proofs_go_by_query, rounds_are_answered,
+    rounds_are_counted, rounds_meet_the_least, spent_rounds_have_all_mets,
     update_names_the_outdated, view_takes_two_rounds,
 };
 pub use round::{Judged, Round, Target, Wanted};

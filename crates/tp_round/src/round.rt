@@ -1,8 +1,9 @@
 //! A round: which servers are asked, what they replied, and what is judged of it.
-ghost use Rattle.std.specs.Prelude.{◌≡◌, ◌≤◌, ◌++◌, [], map, option_to_list, IfOk, OnOk, OnErr, false};
+ghost use Rattle.std.specs.Prelude.{◌≡◌, ◌≤◌, ◌++◌, map, replicate, option_to_list, IfOk, OnOk, OnErr};
 ghost use Rattle.std.specs.List.{list_any};
 ghost use Rattle.std.specs.Option.{option_copied};
-ghost use Rattle.tp_types.specs.declared.scenario.Level.TheVariants as level_of;
+ghost use Rattle.tp_model.specs.Levels.{is_global};
+ghost use Rattle.tp_model.specs.Limits.{admins_limit};
 ghost use Rattle.tp_round.specs.declared.round.Judged.TheVariants as judged;
 ghost use Rattle.tp_round.specs.Judge as rule;
 ghost use Rattle.tp_round.specs.Replies as replies;
@@ -11,6 +12,7 @@ ghost use Rattle.tp_round.specs.mirrors.Places as places;
 use crate::aim::{aim_of, any_outdated, met_by, named_by, renew};
 use crate::replies::{least_false, proofs_of};
 use std::alloc::Global;
+use tp_model::ADMINS_MAX;
 use tp_types::{
     AdminId, Level, List, Met, NoMemory, Reading, ServerId, TryClone, Verdict, Version,
 };
@@ -81,6 +83,16 @@ pub struct Round {
     pub mets: List<Met>,
 }
 
+fn levels_of(alloc: Global, level: Level) -> Result<List<Level>, NoMemory>
+    ensures { IfOk result (λ made. made ≡ replicate admins_limit level) }
+{
+    let mut made = List::new(alloc);
+    for _admin in 0..ADMINS_MAX {
+        made.push(level)?;
+    }
+    Ok(made)
+}
+
 fn awaited(alloc: Global, servers: &[ServerId]) -> Result<List<Target>, NoMemory>
     ensures { IfOk result (λ made. made ≡ map rule.new_target servers.now) }
 {
@@ -136,7 +148,8 @@ fn with_met(alloc: Global, mets: &List<Met>, met: Option<Met>) -> Result<List<Me
 impl Round {
     /// The first round over these servers, which are to differ: of one that stands twice two replies are awaited. The room for replies is made
     /// here.
-    /// Of rounds that read the master at most `limit` may meet a newer version, from 1 to 16. The level is view consistency so far.
+    /// The level is that of each administrator. Under global consistency each round reads the master, and at most
+    /// `limit` rounds may meet a newer version there, from 1 to 16.
     /// It has no condition that the servers differ: its result is exact for every list, and a coordinator's
     /// differ since they stand in order of number.
     pub fn start(
@@ -147,11 +160,11 @@ impl Round {
     ) -> Result<Round, NoMemory>
         requires some { 1 ≤ limit }
         requires few { limit ≤ 16 }
-        requires view { level ≡ level_of.View }
-        ensures { IfOk result (λ made. made ≡ rule.first_round targets.now limit [] false) }
+        ensures { IfOk result (λ made. made ≡ rule.first_round targets.now limit
+            (replicate admins_limit level) (is_global level)) }
     {
         Ok(Round {
-            levels: List::new(alloc),
+            levels: levels_of(alloc, level)?,
             reads: matches!(level, Level::Global),
             limit,
             number: 1,

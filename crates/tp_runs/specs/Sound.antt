@@ -27,6 +27,7 @@ use Rattle.tp_coord.specs.declared.coordinator.Phase.TheVariants as phase
 use Rattle.tp_coord.specs.declared.coordinator.Phase.{Phase}
 use Rattle.tp_coord.specs.declared.coordinator.Span.TheVariants as span
 use Rattle.tp_coord.specs.declared.coordinator.Span.{Span}
+use Rattle.tp_round.specs.Judge.{is_global_at}
 use Rattle.tp_round.specs.declared.round.Round.{Round}
 use Rattle.tp_round.specs.declared.round.Target.{Target}
 use Rattle.tp_round.specs.declared.round.Wanted.{Wanted}
@@ -477,7 +478,7 @@ pub record IsSoundWanted (sc : Scenario) (named : Wanted) : Type 0 where
 
 -- a round under view consistency: what it aims at, names and met is sound, and so is each of its servers
 pub record IsSoundRound (sc : Scenario) (txn : TxnId) (round : Round) : Type 0 where
-  pub view : round.levels ≡ []
+  pub view : (admin : AdminId) → is_global_at round.levels admin ≡ false
   pub targets : Each (IsSoundTarget sc txn) round.targets
   pub aim : AreWanted sc round.aim
   pub named : Each (IsSoundWanted sc) round.named

@@ -71,12 +71,11 @@ each_own (verdict ∷ proofs) whole into = (
 -- ---- what is aimed at and wanted
 
 -- under view consistency what holds of each proof's version holds of each version that is aimed at
-pub aim_has : (Q : AdminId → ℕ → Type 0) (levels : List Level) (proofs : List Verdict) → levels ≡ [] → Each (VerdictOf Q) proofs → Each (IsOf Q) (aim_of levels None proofs)
+pub aim_has : (Q : AdminId → ℕ → Type 0) (levels : List Level) (proofs : List Verdict) → ((admin : AdminId) → is_global_at levels admin ≡ false) → Each (VerdictOf Q) proofs → Each (IsOf Q) (aim_of levels None proofs)
 aim_has Q levels proofs view h =
     each_map (λ (admin : AdminId). list_any (is_of admin) proofs ≡ true) (IsOf Q) (aim_for levels None proofs)
     (λ admin some.
-    let none : is_global_at levels admin ≡ false = ap (λ (ls : List Level). is_global_at ls admin) view in
-    subst (λ (b : Bool). Q admin (cond b (newest_in None admin) (greatest admin proofs))) (sym none) (greatest_from Q admin proofs 0 h (inr (refl, some))))
+    subst (λ (b : Bool). Q admin (cond b (newest_in None admin) (greatest admin proofs))) (sym (view admin)) (greatest_from Q admin proofs 0 h (inr (refl, some))))
     (admins_of proofs)
     (each_admin (λ (admin : AdminId). list_any (is_of admin) proofs ≡ true) proofs [] tt (each_own proofs proofs (λ admin e. e)))
 

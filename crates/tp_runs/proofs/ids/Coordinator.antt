@@ -30,6 +30,7 @@ use Rattle.tp_runs.proofs.basics.Aims.{IsOf, aim_has}
 use Rattle.tp_runs.proofs.basics.Rounds.{each_by_query, each_missing, missing_in, updated_is}
 use Rattle.tp_round.proofs.AgainLemmas.{updated}
 use Rattle.tp_round.proofs.AgreedLemmas.{all_agree, false_is_least}
+use Rattle.tp_round.proofs.LevelLemmas.{view_for_each}
 use Rattle.tp_round.specs.Judge.{after_judgement, after_reply, aim_in, awaits, is_outdated, is_proved_by, judge, new_target, next_target, want_of, wants_of, with_reply}
 use Rattle.tp_round.specs.Laws.{is_true}
 use Rattle.tp_round.specs.Replies.{by_query, proofs_in, verdicts_in}
@@ -336,7 +337,7 @@ coordinator_row_sound sc c mail valid h a r m =
       ran_last = λ done server asked value k none.
           let now = with_deed c server done asked value in
           let on = asks_sound sc now (commit_round now) (with_deed_sound sc c server done asked value h k.asked_is)
-          (record { view = refl; targets = first_sound sc c.txn c.servers h.servers; aim = tt; named = tt; mets = tt }) in
+          (record { view = view_for_each; targets = first_sound sc c.txn c.servers h.servers; aim = tt; named = tt; mets = tt }) in
           record { same_txn = refl; state_is = on.state_is; forces = tt; sends_only = on.sends_only };
       died = λ done server asked other k. aborts_sound sc c (cause.Died (died_for server done other mail.sent)) h (died_sound sc c mail done server asked other valid m k);
       told = λ tell round k. prepares_sound sc c round (staple_of tell mail.sent) h (awaits k.asking).1 (subst (IsSoundBody sc (actor.Coordinator c.txn)) k.said_is m).revoked;

@@ -1,13 +1,15 @@
 -- Trust, the coordinator's rows: it commits on one instance whose proofs are right, true and of one version.
 use Rattle.std.specs.List.{list_all}
-use Rattle.std.proofs.Common.{IfSome, List, None, Option, Some, [], ap, arith, false, is_none, map, refl, slice_get, subst, sym, true, ℕ, ℤ, ◌++◌, ◌+◌, ◌∙◌, ◌∷◌, ◌≡◌, ◌≤◌, ◌⊎◌}
+use Rattle.std.proofs.Common.{IfSome, List, None, Option, Some, [], ap, arith, false, is_none, map, refl, replicate, slice_get, subst, sym, true, ℕ, ℤ, ◌++◌, ◌+◌, ◌∙◌, ◌∷◌, ◌≡◌, ◌≤◌, ◌⊎◌}
 use Rattle.std.proofs.lemmas.Bool.{eqb-true}
 use Rattle.tp_types.specs.Effect.{Effect, ignores, sends}
+use Rattle.tp_model.specs.Limits.{admins_limit}
 use Rattle.tp_model.specs.Versions.{is_one_version}
 use Rattle.tp_model.specs.Words.actor
 use Rattle.tp_model.specs.Words.body
 use Rattle.tp_model.specs.Words.cause
 use Rattle.tp_model.specs.Words.decision
+use Rattle.tp_model.specs.Words.level
 use Rattle.tp_model.specs.Words.log
 use Rattle.tp_model.specs.Words.outcome
 use Rattle.tp_model.specs.Words.vote
@@ -129,7 +131,7 @@ ran_last_trusts sc facts place c done asked server value few h e q own =
     let undecided : is_undecided c.phase ≡ true = ap is_undecided e in
     record {
       fits = record {
-        awaits = (submitted, subst (λ (servers : List ServerId). RoundFits sc facts place c.txn (first_round servers 2 [] false)) (sym own) (round_starts sc facts place c.txn));
+        awaits = (submitted, subst (λ (servers : List ServerId). RoundFits sc facts place c.txn (first_round servers 2 (replicate admins_limit level.View) false)) (sym own) (round_starts sc facts place c.txn));
         unclosed = λ unsure. h.unclosed undecided;
         above = λ unsure. h.above undecided;
         turn = subst (λ (n : ℕ). n ≤ until_round count 1 1) (sym rises) (round_move count done.query c.turn number.0 number.1 low);

@@ -12,7 +12,7 @@ use Rattle.tp_round.specs.declared.round.Judged.TheVariants.{Update}
 use Rattle.tp_round.specs.declared.round.Round.{Round}
 use Rattle.tp_round.specs.declared.round.Target.{Target}
 use Rattle.tp_round.specs.declared.round.Wanted.{Wanted}
-use Rattle.tp_round.specs.Judge.{after, after_judgement, aim_in, is_global_at, is_missing, is_outdated, is_proved_by, is_waiting, judge, met_in, mets_in, new_target, next_round, next_target, target, want_of, wants_of}
+use Rattle.tp_round.specs.Judge.{after, after_judgement, aim_in, is_global_at, is_missing, is_outdated, is_proved_by, is_waiting, judge, met_in, mets_in, new_target, newest_in, next_round, next_target, want_of, wants_of}
 use Rattle.tp_round.specs.Laws.{target_in}
 use Rattle.tp_round.specs.Replies.{greatest, is_of, proofs_in, verdicts_in, with_greater}
 use Rattle.tp_round.proofs.AdminLemmas as admins
@@ -20,7 +20,7 @@ use Rattle.tp_round.proofs.AdminLemmas.{aimed_at, same_ids}
 use Rattle.tp_round.proofs.AgainLemmas.{IsUpdated, updated}
 use Rattle.tp_round.proofs.KeptLemmas.{same_servers, servers_renewed}
 use Rattle.tp_round.proofs.NamesLemmas.{admins_in, all_covered, is_covered}
-use Rattle.tp_round.proofs.RoundsLemmas.{IsSecond, Keeps, aim_at, all_wanted, are_wanted_at, first_only, is_wanted_at, number_two, renewed_at}
+use Rattle.tp_round.proofs.RoundsLemmas.{IsLater, aim_at, all_viewed, all_wanted, are_read_for, are_wanted_at, first_only, is_wanted_at, number_two, renewed_at, unread_not_above, viewed_read}
 use Rattle.tp_runs.proofs.basics.Verdicts.{numbers_of}
 use Rattle.tp_types.proofs.EachLemmas.{each_from_all}
 use Rattle.tp_types.proofs.EachLemmas.{each_as, each_filter, each_map, each_two}
@@ -66,11 +66,11 @@ greatest_low sc facts place admin (verdict ∷ verdicts) most h low =
     greatest_low sc facts place admin verdicts (with_greater admin most verdict) h.1 (greater_where sc facts place admin verdict most (is_of admin verdict) refl h.0 low)
 
 -- a round's targets are at most the newest versions
-target_low : (sc : Scenario) (facts : List Fact) (place : ℕ) (round : Round) (admin : AdminId) → round.levels ≡ [] → Each (IsKnown sc facts place) (proofs_in round.targets)
+target_low : (sc : Scenario) (facts : List Fact) (place : ℕ) (round : Round) (admin : AdminId) → is_global_at round.levels admin ≡ false → Each (IsKnown sc facts place) (proofs_in round.targets)
     → target_in round None admin ≤ newest sc admin place facts
 target_low sc facts place round admin view known =
     let low : greatest admin (proofs_in round.targets) ≤ newest sc admin place facts = greatest_low sc facts place admin (proofs_in round.targets) 0 known (omega arith) in
-    subst (λ levels. target levels None (proofs_in round.targets) admin ≤ newest sc admin place facts) (sym view) low
+    subst (λ (b : Bool). cond b (newest_in None admin) (greatest admin (proofs_in round.targets)) ≤ newest sc admin place facts) (sym view) low
 
 aim_published : (sc : Scenario) (facts : List Fact) (place : ℕ) (f : AdminId → ℕ) (ids : List AdminId) → ((admin : AdminId) → f admin ≤ newest sc admin place facts)
     → Each (IsPublished sc facts place) (map (aimed_at f) ids)
@@ -184,17 +184,9 @@ pub record IsUpdatedRound (sc : Scenario) (facts : List Fact) (place : ℕ) (txn
   pub named_is : (after_judgement round None).named ≡ named
   pub fits : RoundFits sc facts place txn (after_judgement round None)
 
-keeps_count : (sc : Scenario) (facts : List Fact) (place : ℕ) (txn : TxnId) (round : Round) → IsFirstRound round ⊎ IsSecondRound sc facts place txn round → (round.number ≡ 1) ⊎ IsSecond round
+keeps_count : (sc : Scenario) (facts : List Fact) (place : ℕ) (txn : TxnId) (round : Round) → IsFirstRound round ⊎ IsSecondRound sc facts place txn round → (round.number ≡ 1) ⊎ IsLater round
 keeps_count sc facts place txn round (inl first) = inl first.number
-keeps_count sc facts place txn round (inr second) = inr (record { number = second.number; aimed = second.aimed; kept = second.kept; named = second.named })
-
--- no level is global
-keeps_of : (sc : Scenario) (facts : List Fact) (place : ℕ) (txn : TxnId) (round : Round) → RoundFits sc facts place txn round → Keeps round
-keeps_of sc facts place txn round h =
-    record {
-      view = λ admin. ap (λ levels. is_global_at levels admin) h.levels;
-      count = keeps_count sc facts place txn round h.count;
-    }
+keeps_count sc facts place txn round (inr second) = inr (record { number = omega (arith, second.number); aimed = second.aimed; kept = second.kept; named = second.named })
 
 renewed_where : (sc : Scenario) (facts : List Fact) (place : ℕ) (txn : TxnId) (one : Target) (b : Bool) → TargetFits sc facts place txn one → TargetFits sc facts place txn (cond b (new_target one.server) one)
 renewed_where sc facts place txn one true h = record { right = tt; numbers = tt }
@@ -212,7 +204,7 @@ next_fits sc facts place txn round named declared found h is first =
     let at : list_all (is_wanted_at f) aim ≡ true = aim_at f (admins_in round) in
     let known : Each (IsKnown sc facts place) (proofs_in round.targets) =
     each_as (Right sc facts place txn) (IsKnown sc facts place) (λ verdict right. (right declared found).published) (proofs_in round.targets) (proofs_right sc facts place txn round h) in
-    let published : Each (IsPublished sc facts place) aim = aim_published sc facts place f (admins_in round) (λ admin. target_low sc facts place round admin h.levels known) in
+    let published : Each (IsPublished sc facts place) aim = aim_published sc facts place f (admins_in round) (λ admin. target_low sc facts place round admin (h.levels admin) known) in
     let replied : Each (λ (one : Target). is_missing one ≡ false) round.targets = replied_all round is.goes_on in
     let names : Each (NamesIfOutdated sc txn aim) round.targets =
     each_as (λ (one : Target). (is_missing one ≡ false) × (TargetFits sc facts place txn one × (is_covered round one ≡ true))) (NamesIfOutdated sc txn aim)
@@ -241,8 +233,8 @@ next_fits sc facts place txn round named declared found h is first =
 pub round_updated : (sc : Scenario) (facts : List Fact) (place : ℕ) (txn : TxnId) (round : Round) (named : List Wanted) → RoundFits sc facts place txn round → judge round None ≡ Update named
     → IsUpdatedRound sc facts place txn round named
 round_updated sc facts place txn round named h e =
-    let keeps : Keeps round = keeps_of sc facts place txn round h in
-    let first : round.number ≡ 1 = first_only round None named keeps e keeps.count in
+    let reads : are_read_for round ≡ true = viewed_read round (proofs_in round.targets) (all_viewed round.levels h.levels (proofs_in round.targets)) in
+    let first : round.number ≡ 1 = first_only round None named reads (unread_not_above round) e refl (keeps_count sc facts place txn round h.count) in
     let is : IsUpdated round None named = updated round None named e in
     let there = declared_with sc txn (is_outdated (aim_in round None)) round.targets h.servers is.is_out in
     record {

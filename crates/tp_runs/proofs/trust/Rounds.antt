@@ -1,21 +1,24 @@
 -- Rounds of a coordinator under view consistency: what a round rests on, at its start, as facts are added, and after each reply.
 use Rattle.std.specs.List.{list_all, list_any}
 use Rattle.std.specs.Option.{option_map_or}
-use Rattle.std.proofs.Common.{Bool, IfSome, List, None, Option, Some, [], ap, arith, cond, false, find, inl, inr, is_none, length, map, refl, slice_get, subst, suc, sym, true, zero, ℕ, ⊎_elim, ◌==◌, ◌||◌, ◌∙◌, ◌∷◌, ◌≡◌, ◌≤◌, ◌⊎◌}
+use Rattle.std.proofs.Common.{Bool, IfSome, List, None, Option, Some, [], ap, arith, cond, false, find, inl, inr, is_none, length, map, refl, replicate, slice_get, subst, suc, sym, true, zero, ℕ, ⊎_elim, ◌==◌, ◌||◌, ◌∙◌, ◌∷◌, ◌≡◌, ◌≤◌, ◌⊎◌}
 use Rattle.std.proofs.lemmas.Bool.{and_from, and_parts, eq-eqb, eqb-true}
 use Rattle.tp_types.proofs.ListLemmas.{number_itself}
 use Rattle.tp_model.specs.Authorisation.{is_item_at, is_own_query, is_query_at}
 use Rattle.tp_model.specs.Ids.{same_admin, same_server}
+use Rattle.tp_model.specs.Limits.{admins_limit}
 use Rattle.tp_model.specs.Queries.{is_at_server, item_of, query_at, servers_of}
+use Rattle.tp_model.specs.Words.level
 use Rattle.tp_model.specs.Words.{AdminId, Fact, Item, Query, Scenario, ServerId, Transaction, TxnId, Verdict, Version}
 use Rattle.tp_round.specs.declared.round.Judged.TheVariants.{False}
 use Rattle.tp_round.specs.declared.round.Round.{Round}
 use Rattle.tp_round.specs.declared.round.Target.{Target}
 use Rattle.tp_round.specs.declared.round.Wanted.{Wanted}
-use Rattle.tp_round.specs.Judge.{after_reply, awaits, first_round, is_aimed, is_missing, judge, new_target, with_reply}
+use Rattle.tp_round.specs.Judge.{after_reply, awaits, first_round, is_aimed, is_global_at, is_missing, judge, new_target, with_reply}
 use Rattle.tp_round.specs.Replies.{proofs_in, verdicts_in}
 use Rattle.tp_round.proofs.AgreedLemmas.{false_is_least}
 use Rattle.tp_round.proofs.KeptLemmas.{server_of, servers_replied}
+use Rattle.tp_round.proofs.LevelLemmas.{view_for_each}
 use Rattle.tp_round.proofs.RoundsLemmas.{aimed_has, are_wanted_at, is_wanted_at, reply_keeps}
 use Rattle.tp_round.proofs.VersionLemmas.{are_at, is_at}
 use Rattle.tp_runs.proofs.basics.Verdicts.{numbers_of}
@@ -86,7 +89,7 @@ pub record IsFirstRound (round : Round) : Type 0 where
 
 -- a round of all the transaction's servers that reads no master, is the first or the second, and whose replies fit
 pub record RoundFits (sc : Scenario) (facts : List Fact) (place : ℕ) (txn : TxnId) (round : Round) : Type 0 where
-  pub levels : round.levels ≡ []
+  pub levels : (admin : AdminId) → is_global_at round.levels admin ≡ false
   pub reads : round.reads ≡ false
   pub servers : map server_of round.targets ≡ servers_at sc txn
   pub targets : Each (TargetFits sc facts place txn) round.targets
@@ -103,10 +106,10 @@ new_fit sc facts place txn [] = tt
 new_fit sc facts place txn (server ∷ servers) = (record { right = tt; numbers = tt }, new_fit sc facts place txn servers)
 
 -- the first round, before any reply
-pub round_starts : (sc : Scenario) (facts : List Fact) (place : ℕ) (txn : TxnId) → RoundFits sc facts place txn (first_round (servers_at sc txn) 2 [] false)
+pub round_starts : (sc : Scenario) (facts : List Fact) (place : ℕ) (txn : TxnId) → RoundFits sc facts place txn (first_round (servers_at sc txn) 2 (replicate admins_limit level.View) false)
 round_starts sc facts place txn =
     record {
-      levels = refl;
+      levels = view_for_each;
       reads = refl;
       servers = new_servers (servers_at sc txn);
       targets = new_fit sc facts place txn (servers_at sc txn);
