@@ -16,6 +16,7 @@
 //! | `locks` | a request for a lock; the release of an owner's locks |
 //! | `credentials` | whether a credential is valid; the evaluation of a policy; the check of a certificate |
 //! | `rounds` | the judgement of a round |
+//! | `schemes` | what a transaction does next; what a reading of the master finds newer |
 //! | `recovery` | what a server has of its log; what a coordinator has decided |
 //! | `states` | what a store learns and forgets; the authority's clock |
 //! | `texts` | reading a log record and a policy |
@@ -28,6 +29,7 @@ mod devices;
 mod locks;
 mod recovery;
 mod rounds;
+mod schemes;
 mod states;
 mod texts;
 mod values;
@@ -39,6 +41,7 @@ pub use devices::{sync_disk, write_text};
 pub use locks::{release_locks, request_lock};
 pub use recovery::{recover_decision, recover_server};
 pub use rounds::judge_round;
+pub use schemes::{choose_move, find_newer};
 pub use states::{forget_writes, learn_version, move_clock};
 pub use texts::{decode_record, parse_policy};
 pub use values::{both_values, copy_list};

@@ -34,6 +34,8 @@ mod records;
 #[cfg(test)]
 mod recovery;
 #[cfg(test)]
+mod schemes;
+#[cfg(test)]
 mod small_scenario;
 #[cfg(test)]
 mod store;
