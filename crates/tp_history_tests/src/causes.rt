@@ -337,15 +337,6 @@ const CASES: &[Case] = &[
         ],
         Some(4),
     ),
-    // causes that are not built
-    (
-        &[(0, Said::Submit(PAY)), (5, Said::Abort(PAY, Why::Newer))],
-        Some(1),
-    ),
-    (
-        &[(0, Said::Submit(PAY)), (5, Said::Abort(PAY, Why::Rounds))],
-        Some(1),
-    ),
     // no transaction that is declared
     (
         &[

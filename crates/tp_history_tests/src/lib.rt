@@ -9,6 +9,20 @@ mod causes;
 #[cfg(test)]
 mod conflicts;
 #[cfg(test)]
+mod continuous;
+#[cfg(test)]
+mod deferred;
+#[cfg(test)]
+mod incremental;
+#[cfg(test)]
+mod instances;
+#[cfg(test)]
+mod newer;
+#[cfg(test)]
+mod proofs;
+#[cfg(test)]
+mod punctual;
+#[cfg(test)]
 mod refusals;
 #[cfg(test)]
 mod scenario;
@@ -17,8 +31,10 @@ mod serial;
 #[cfg(test)]
 mod story;
 #[cfg(test)]
-mod trust;
+mod trial;
 #[cfg(test)]
 mod verdict;
+#[cfg(test)]
+mod versions;
 #[cfg(test)]
 mod whole;

@@ -12,7 +12,8 @@ use tp_types::{
 /// and the third denies all.
 pub const HR: u32 = 0;
 
-/// The administrator of the item y. Its first version allows all, and the second wants a low grade or a role.
+/// The administrator of the item y. Its first version allows all by either of two rules, and the second wants a low
+/// grade or a role.
 pub const IT: u32 = 1;
 
 const OF_HR: &[&str] = &[
@@ -22,7 +23,7 @@ const OF_HR: &[&str] = &[
 ];
 
 const OF_IT: &[&str] = &[
-    "allow any on * if true;",
+    "allow any on * if true; allow any on y if true;",
     "allow any on * if ca.grade <= 2 or ca.role = clerk;",
 ];
 
@@ -88,7 +89,7 @@ pub const BOBS: u32 = 2;
 /// Of eve, who has nothing, and writes x.
 pub const EVES: u32 = 3;
 
-/// Of ann, whose proofs are evaluated as queries run, which is not built.
+/// Of ann, who writes 1 to y under punctual.
 pub const SLOW: u32 = 4;
 
 /// Of ann, who writes y, reads it, and writes it again.
@@ -108,6 +109,34 @@ pub const SOON: u32 = 9;
 
 /// Of ann, who reads y, writes it twice over to x, reads that, and writes to x what it is above y.
 pub const HUGE: u32 = 10;
+
+/// Of ann, who has the role, writes y and reads it, under punctual.
+pub const PUNCTUAL: u32 = 11;
+
+/// The same under incremental.
+pub const INCREMENTAL: u32 = 12;
+
+/// The same under continuous.
+pub const CONTINUOUS: u32 = 13;
+
+/// These under global consistency.
+pub const PUNCTUAL_SURE: u32 = 14;
+
+pub const INCREMENTAL_SURE: u32 = 15;
+
+pub const CONTINUOUS_SURE: u32 = 16;
+
+/// Of ann, who writes y and z, under incremental.
+pub const BOTH: u32 = 17;
+
+/// The same under global consistency.
+pub const BOTH_SURE: u32 = 18;
+
+/// Of ann, who writes y and z, under continuous and global consistency.
+pub const BOTH_ANEW: u32 = 19;
+
+/// Of ann, who writes y and reads it, under deferred and global consistency.
+pub const DEFERRED_SURE: u32 = 20;
 
 const X: ItemId = ItemId(0);
 
@@ -167,6 +196,20 @@ const PLAIN: Plan = Plan {
     level: Level::View,
     creds: &[],
     queries: &[],
+};
+
+/// Of ann, who has the role, writes y and reads it.
+const TWICE: Plan = Plan {
+    creds: &[0],
+    queries: &[Asked::Put(Y, 3), Asked::Read(Y, 1)],
+    ..PLAIN
+};
+
+/// Of ann, who writes y and z.
+const EITHER: Plan = Plan {
+    scheme: Scheme::Incremental,
+    queries: &[Asked::Put(Y, 3), Asked::Put(Z, 4)],
+    ..PLAIN
 };
 
 const PLANS: &[Plan] = &[
@@ -238,6 +281,47 @@ const PLANS: &[Plan] = &[
             Asked::Sum(X, &[R2, LESS_R1]),
         ],
         ..PLAIN
+    },
+    Plan {
+        scheme: Scheme::Punctual,
+        ..TWICE
+    },
+    Plan {
+        scheme: Scheme::Incremental,
+        ..TWICE
+    },
+    Plan {
+        scheme: Scheme::Continuous,
+        ..TWICE
+    },
+    Plan {
+        scheme: Scheme::Punctual,
+        level: Level::Global,
+        ..TWICE
+    },
+    Plan {
+        scheme: Scheme::Incremental,
+        level: Level::Global,
+        ..TWICE
+    },
+    Plan {
+        scheme: Scheme::Continuous,
+        level: Level::Global,
+        ..TWICE
+    },
+    EITHER,
+    Plan {
+        level: Level::Global,
+        ..EITHER
+    },
+    Plan {
+        scheme: Scheme::Continuous,
+        level: Level::Global,
+        ..EITHER
+    },
+    Plan {
+        level: Level::Global,
+        ..TWICE
     },
 ];
 

@@ -3,7 +3,7 @@ use crate::scenario::ids;
 use std::process::Abort;
 use tp_types::{
     Actor, AdminId, Cause, CommitRecord, CredId, Decision, Deed, Denied, Died, Fact, Instance,
-    List, Newer, OutOfRange, Outcome, ServerId, TxnId, Verdict, Version, What,
+    List, Met, Newer, OutOfRange, Outcome, ServerId, TxnId, Verdict, Version, What,
 };
 
 /// What a proof says.
@@ -35,12 +35,12 @@ pub struct Basis<'a> {
 
 /// Why a transaction aborted.
 #[derive(Clone, Copy)]
-pub enum Why {
+pub enum Why<'a> {
     Denied(Denied),
     No(OutOfRange),
     Died(Died),
-    Newer,
-    Rounds,
+    Newer(Newer),
+    Rounds(&'a [Met]),
     Restarted(u32),
     Halted,
 }
@@ -55,7 +55,7 @@ pub enum Said<'a> {
     Crash(Actor),
     Lose,
     Commit(u32, Basis<'a>),
-    Abort(u32, Why),
+    Abort(u32, Why<'a>),
     Settle(u32, u32, Outcome),
 }
 
@@ -112,12 +112,11 @@ fn cause(rt: &(impl Abort + AllocGlobal), why: Why) -> Cause {
         Why::Denied(denied) => Cause::Denied(denied),
         Why::No(refused) => Cause::No(refused),
         Why::Died(died) => Cause::Died(died),
-        Why::Newer => Cause::Newer(Newer {
-            admin: AdminId(0),
-            used: Version(1),
-            found: Version(2),
-        }),
-        Why::Rounds => Cause::Rounds(List::new(rt.alloc())),
+        Why::Newer(newer) => Cause::Newer(newer),
+        Why::Rounds(mets) => {
+            let made = Vec::from_slice(rt.alloc(), mets).expect(rt, "memory for rounds");
+            Cause::Rounds(List::from_vec(made))
+        }
         Why::Restarted(server) => Cause::Restarted {
             server: ServerId(server),
         },

@@ -2,7 +2,7 @@
 use crate::scenario::{EVES, HR, IT, PAY, scenario};
 use crate::serial::PAID;
 use crate::story::{Basis, Said, Story, Why, told};
-use crate::trust::PROVED;
+use crate::trial::PROVED;
 use crate::verdict::{Sense, assert_case, keep};
 use std::process::Abort;
 use tp_model::newest_at;
