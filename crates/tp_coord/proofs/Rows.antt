@@ -1,5 +1,6 @@
--- A coordinator's rows are walked once: what is shown of each of their outcomes holds of the rows. A new outcome is a field here, and of each
--- theorem's cases.
+-- A coordinator's rows are walked once, in two: what a mail did, which is a point that the transaction has passed or its end, and which
+-- request follows. What is shown of each holds of the rows: a theorem shows once what holds at a point, and once that a move keeps it.
+-- A new move is a field here, and of each theorem's cases; a new point is a constructor.
 use Rattle.std.proofs.Common.{List, None, Option, Some, [], ap, refl, true, ℕ, ℤ, ◌&&◌, ◌==◌, ◌≡◌}
 use Rattle.std.proofs.lemmas.Bool.{and_parts}
 use Rattle.tp_types.specs.Effect.{Effect, ignores, sends}
@@ -9,13 +10,17 @@ use Rattle.tp_model.specs.Words.body
 use Rattle.tp_model.specs.Words.cause
 use Rattle.tp_model.specs.Words.no
 use Rattle.tp_model.specs.Words.vote
-use Rattle.tp_model.specs.Words.{AckReply, Actor, Answer, Body, DoneReply, Mail, No, Outcome, Query, Scenario, ServerId, Staple, TellReply, TxnId, Verdict, Vote, VoteReply}
+use Rattle.tp_model.specs.Words.{AckReply, Actor, Answer, Body, Cause, Deed, DoneReply, Instance, Mail, No, Outcome, Query, Scenario, ServerId, Staple, TellReply, TxnId, Verdict, Vote, VoteReply}
 use Rattle.tp_types.proofs.EachLemmas.{by_cond}
-use Rattle.tp_coord.specs.Row.{aborts, ack_from, asks, asks_next, awaits_query, awaits_vote, begins, commit_round, commits, coordinator_row, denied_by, died_for, home_of, is_from, is_plain, next_number, on_ack, on_answer, on_body, on_done_from, on_done_of_query, on_judged, on_no, on_staple, on_vote, on_vote_of, prepares, own_query, refused_by, sends_query, server_of, staple_of, submit_row, vote_at, with_deed, without}
+use Rattle.tp_coord.specs.Row.{aborts, ack_from, asks, awaits_query, awaits_vote, begins, commit_round, commits, coordinator_row, counts, denied_by, died_for, home_of, instances_with, is_from, is_plain, makes, move_after, move_at, next_number, on_ack, on_all_true, on_answer, on_body, on_done_from, on_done_of_query, on_judged, on_no, on_staple, on_vote, on_vote_of, prepares, own_query, refused_by, sends_next, sends_query, server_of, staple_of, submit_row, vote_at, with_deed, without}
 use Rattle.tp_coord.specs.State.{Coordinator}
 use Rattle.tp_coord.specs.declared.coordinator.Phase.TheVariants as phase
 use Rattle.tp_coord.specs.declared.coordinator.Phase.{Phase}
 use Rattle.tp_coord.specs.declared.coordinator.Span.TheVariants as span
+use Rattle.tp_scheme.specs.declared.moves.Move.TheVariants as move
+use Rattle.tp_scheme.specs.declared.moves.Point.TheVariants as point
+use Rattle.tp_scheme.specs.declared.moves.Move.{Move}
+use Rattle.tp_scheme.specs.declared.moves.Point.{Point}
 use Rattle.tp_round.proofs.SpentLemmas.{unread_unspent}
 use Rattle.tp_round.specs.Judge.{after_judgement, after_reply, is_awaited, judge}
 use Rattle.tp_round.specs.Replies.{by_query, proofs_in}
@@ -76,41 +81,90 @@ pub record IsAck (c : Coordinator) (mail : Mail) (ack : AckReply) (ended : Outco
   pub from_is : mail.letter.from ≡ actor.Server server
   pub ending : c.phase ≡ phase.Ending ended awaited
 
+-- ---- points that are passed, and ends
+
+-- what a mail adds to a coordinator; all else of it is as it was
+pub record Gained : Type 0 where
+  pub epochs : List (Option ℕ)
+  pub deeds : List Deed
+  pub gathered : List Verdict
+  pub instances : List Instance
+
+abbrev pub with_gained : Coordinator → Gained → Coordinator
+with_gained c now = record c { epochs = now.epochs; deeds = now.deeds; gathered = now.gathered; instances = now.instances }
+
+-- a query that ran adds its deed, and the epoch of its server
+abbrev pub gains_deed : Coordinator → ServerId → DoneReply → Query → ℤ → Gained
+gains_deed c server done asked value = record {
+  epochs = (with_deed c server done asked value).epochs;
+  deeds = (with_deed c server done asked value).deeds;
+  gathered = c.gathered;
+  instances = c.instances;
+}
+
+-- proofs that agree add an instance
+abbrev pub gains_instances : Coordinator → List Instance → Gained
+gains_instances c instances = record { epochs = c.epochs; deeds = c.deeds; gathered = c.gathered; instances = instances }
+
+-- an awaited vote YES, with which all proofs of its round are true
+pub record IsAllTrue (c : Coordinator) (mail : Mail) (reply : VoteReply) (round : Round) (staple : Staple) (server : ServerId) (verdicts : List Verdict) : Type 0 where
+  pub yes : IsYes c mail reply round staple server verdicts
+  pub all_true : judge (after_reply round server verdicts) None ≡ judged.AllTrue
+
+-- by the mail the transaction has passed a point of a query, and gained this
+pub data IsPassed (sc : Scenario) (c : Coordinator) (mail : Mail) : Point → Gained → Type 0 where
+  QueryRan : (done : DoneReply) (server : ServerId) (asked : Query) (value : ℤ) → IsRanAnswer sc c mail done server asked value
+      → IsPassed sc c mail (point.Ran done.query) (gains_deed c server done asked value)
+
+-- by the mail the transaction has passed a point after the votes, with these instances and after so many rounds
+pub data HasVoted (sc : Scenario) (c : Coordinator) (mail : Mail) : Point → List Instance → ℕ → Type 0 where
+  AllTrue : (reply : VoteReply) (round : Round) (staple : Staple) (server : ServerId) (verdicts : List Verdict) → IsAllTrue c mail reply round staple server verdicts
+      → HasVoted sc c mail point.Voted (instances_with c (by_query (proofs_in (after_reply round server verdicts).targets))) round.number
+
+-- by the mail the transaction aborts, for this cause
+pub data IsEnded (sc : Scenario) (c : Coordinator) (mail : Mail) : Cause → Type 0 where
+  ByOlder : (done : DoneReply) (server : ServerId) (asked : Query) (other : TxnId) → IsDiedAnswer sc c mail done server asked other → IsEnded sc c mail (cause.Died (died_for server done other mail.sent))
+  ByProof : (reply : VoteReply) (round : Round) (staple : Staple) (server : ServerId) (verdicts : List Verdict) (verdict : Verdict) → IsYes c mail reply round staple server verdicts
+      → judge (after_reply round server verdicts) None ≡ judged.False verdict → IsEnded sc c mail (cause.Denied (denied_by verdict))
+  ByRefusal : (reply : VoteReply) (round : Round) (staple : Staple) (server : ServerId) (number : ℕ) (value : ℤ) → IsNo c mail reply round staple server number value
+      → IsEnded sc c mail (cause.No (refused_by server number value))
+
 -- what is to be shown of the outcomes of a receipt: P of the effect
 pub record CoordinatorCases (sc : Scenario) (c : Coordinator) (mail : Mail) (P : Effect Coordinator → Type 0) : Type 0 where
   pub ignored : P (ignores c)
-  pub ran_next : (done : DoneReply) (server : ServerId) (asked : Query) (value : ℤ) (next : ServerId) → IsRanAnswer sc c mail done server asked value → home_of sc c (next_number done.query) ≡ Some next
-      → P (sends_query sc (with_deed c server done asked value) (next_number done.query) next)
-  pub ran_last : (done : DoneReply) (server : ServerId) (asked : Query) (value : ℤ) → IsRanAnswer sc c mail done server asked value → home_of sc c (next_number done.query) ≡ None
-      → P (asks (with_deed c server done asked value) span.Commit (commit_round (with_deed c server done asked value)))
-  pub died : (done : DoneReply) (server : ServerId) (asked : Query) (other : TxnId) → IsDiedAnswer sc c mail done server asked other → P (aborts c (cause.Died (died_for server done other mail.sent)))
+  pub sends_query : (query : ℕ) (now : Gained) (next : ServerId) → IsPassed sc c mail (point.Ran query) now → move_after sc c query ≡ move.SendQuery → home_of sc c (next_number query) ≡ Some next
+      → P (sends_query sc (with_gained c now) (next_number query) next)
+  pub commit_rounds : (query : ℕ) (now : Gained) → IsPassed sc c mail (point.Ran query) now → move_after sc c query ≡ move.CommitRounds → P (asks (with_gained c now) span.Commit (commit_round c))
+  pub decides : (instances : List Instance) (rounds : ℕ) → HasVoted sc c mail point.Voted instances rounds → P (commits (with_gained c (gains_instances c instances)) rounds)
+  pub aborted : (why : Cause) → IsEnded sc c mail why → P (aborts c why)
   pub told : (tell : TellReply) (round : Round) → IsStaple c mail tell round → P (prepares c span.Commit round (staple_of tell mail.sent))
   pub counted : (reply : VoteReply) (round : Round) (staple : Staple) (server : ServerId) (verdicts : List Verdict) → IsYes c mail reply round staple server verdicts
-      → judge (after_reply round server verdicts) None ≡ judged.Waiting → P (sends (record c { phase = phase.Checking span.Commit (after_reply round server verdicts) staple }) [])
-  pub committed : (reply : VoteReply) (round : Round) (staple : Staple) (server : ServerId) (verdicts : List Verdict) → IsYes c mail reply round staple server verdicts
-      → judge (after_reply round server verdicts) None ≡ judged.AllTrue → P (commits c round.number (by_query (proofs_in (after_reply round server verdicts).targets)))
-  pub denied : (reply : VoteReply) (round : Round) (staple : Staple) (server : ServerId) (verdicts : List Verdict) (verdict : Verdict) → IsYes c mail reply round staple server verdicts
-      → judge (after_reply round server verdicts) None ≡ judged.False verdict → P (aborts c (cause.Denied (denied_by verdict)))
+      → P (counts c span.Commit (after_reply round server verdicts) staple)
   pub updated : (reply : VoteReply) (round : Round) (staple : Staple) (server : ServerId) (verdicts : List Verdict) (named : List Wanted) → IsYes c mail reply round staple server verdicts
       → judge (after_reply round server verdicts) None ≡ judged.Update named → P (asks c span.Commit (after_judgement (after_reply round server verdicts) None))
-  pub refused : (reply : VoteReply) (round : Round) (staple : Staple) (server : ServerId) (number : ℕ) (value : ℤ) → IsNo c mail reply round staple server number value
-      → P (aborts c (cause.No (refused_by server number value)))
   pub acknowledged : (ack : AckReply) (ended : Outcome) (awaited : List ServerId) (server : ServerId) → IsAck c mail ack ended awaited server
       → P (sends (record c { phase = phase.Ending ended (without awaited server) }) [])
 
 -- ---- Done
 
 next_by : (sc : Scenario) (c : Coordinator) (mail : Mail) (P : Effect Coordinator → Type 0) → CoordinatorCases sc c mail P → (done : DoneReply) (server : ServerId) (asked : Query) (value : ℤ) (next : Option ServerId)
-    → IsRanAnswer sc c mail done server asked value → home_of sc c (next_number done.query) ≡ next → P (asks_next sc (with_deed c server done asked value) (next_number done.query) next)
-next_by sc c mail P cases done server asked value None k e = cases.ran_last done server asked value k e
-next_by sc c mail P cases done server asked value (Some next) k e = cases.ran_next done server asked value next k e
+    → IsRanAnswer sc c mail done server asked value → move_after sc c done.query ≡ move.SendQuery → home_of sc c (next_number done.query) ≡ next
+    → P (sends_next sc c (with_deed c server done asked value) (next_number done.query) next)
+next_by sc c mail P cases done server asked value None k m e = cases.ignored
+next_by sc c mail P cases done server asked value (Some next) k m e = cases.sends_query done.query (gains_deed c server done asked value) next (QueryRan done server asked value k) m e
+
+makes_by : (sc : Scenario) (c : Coordinator) (mail : Mail) (P : Effect Coordinator → Type 0) → CoordinatorCases sc c mail P → (done : DoneReply) (server : ServerId) (asked : Query) (value : ℤ) (next : Move)
+    → IsRanAnswer sc c mail done server asked value → move_after sc c done.query ≡ next → P (makes sc c (with_deed c server done asked value) done.query next)
+makes_by sc c mail P cases done server asked value move.SendQuery k m = next_by sc c mail P cases done server asked value (home_of sc c (next_number done.query)) k m refl
+makes_by sc c mail P cases done server asked value move.CommitRounds k m = cases.commit_rounds done.query (gains_deed c server done asked value) (QueryRan done server asked value k) m
+makes_by sc c mail P cases done server asked value _ k m = cases.ignored
 
 on_answer_by : (sc : Scenario) (c : Coordinator) (mail : Mail) (P : Effect Coordinator → Type 0) → CoordinatorCases sc c mail P → (done : DoneReply) (server : ServerId) (asked : Query) (given : Answer)
     → ((value : ℤ) → given ≡ answer.Ran value None → IsRanAnswer sc c mail done server asked value) → ((other : TxnId) → given ≡ answer.Died other → IsDiedAnswer sc c mail done server asked other)
     → P (on_answer sc c (record { sent = mail.sent; server = server; done = done; query = asked }) given)
 on_answer_by sc c mail P cases done server asked (answer.Ran value None) ran died =
-    next_by sc c mail P cases done server asked value (home_of sc c (next_number done.query)) (ran value refl) refl
-on_answer_by sc c mail P cases done server asked (answer.Died other) ran died = cases.died done server asked other (died other refl)
+    makes_by sc c mail P cases done server asked value (move_after sc c done.query) (ran value refl) refl
+on_answer_by sc c mail P cases done server asked (answer.Died other) ran died = cases.aborted (cause.Died (died_for server done other mail.sent)) (ByOlder done server asked other (died other refl))
 on_answer_by sc c mail P cases done server asked _ ran died = cases.ignored
 
 on_done_from_by : (sc : Scenario) (c : Coordinator) (mail : Mail) (P : Effect Coordinator → Type 0) → CoordinatorCases sc c mail P → (done : DoneReply) (asked : Query) (server : Option ServerId)
@@ -139,23 +193,31 @@ on_staple_by sc c mail P cases tell _ e present asking = cases.ignored
 
 -- ---- Vote
 
+all_true_by : (sc : Scenario) (c : Coordinator) (mail : Mail) (P : Effect Coordinator → Type 0) → CoordinatorCases sc c mail P → (reply : VoteReply) (round : Round) (staple : Staple) (server : ServerId)
+    (verdicts : List Verdict) (next : Move) → IsYes c mail reply round staple server verdicts → judge (after_reply round server verdicts) None ≡ judged.AllTrue → move_at sc c point.Voted ≡ next
+    → P (on_all_true c span.Commit (after_reply round server verdicts) staple next)
+all_true_by sc c mail P cases reply round staple server verdicts move.Decide y e m =
+    cases.decides (instances_with c (by_query (proofs_in (after_reply round server verdicts).targets))) round.number (AllTrue reply round staple server verdicts (record { yes = y; all_true = e }))
+all_true_by sc c mail P cases reply round staple server verdicts _ y e m = cases.counted reply round staple server verdicts y
+
 judged_by : (sc : Scenario) (c : Coordinator) (mail : Mail) (P : Effect Coordinator → Type 0) → CoordinatorCases sc c mail P → (reply : VoteReply) (round : Round) (staple : Staple) (server : ServerId)
     (verdicts : List Verdict) (answer_is : Judged) → IsYes c mail reply round staple server verdicts → judge (after_reply round server verdicts) None ≡ answer_is
-    → P (on_judged c span.Commit (after_reply round server verdicts) staple answer_is)
-judged_by sc c mail P cases reply round staple server verdicts judged.Waiting y e = cases.counted reply round staple server verdicts y e
-judged_by sc c mail P cases reply round staple server verdicts judged.AllTrue y e = cases.committed reply round staple server verdicts y e
-judged_by sc c mail P cases reply round staple server verdicts (judged.False verdict) y e = cases.denied reply round staple server verdicts verdict y e
+    → P (on_judged sc c span.Commit (after_reply round server verdicts) staple answer_is)
+judged_by sc c mail P cases reply round staple server verdicts judged.Waiting y e = cases.counted reply round staple server verdicts y
+judged_by sc c mail P cases reply round staple server verdicts judged.AllTrue y e = all_true_by sc c mail P cases reply round staple server verdicts (move_at sc c point.Voted) y e refl
+judged_by sc c mail P cases reply round staple server verdicts (judged.False verdict) y e = cases.aborted (cause.Denied (denied_by verdict)) (ByProof reply round staple server verdicts verdict y e)
 judged_by sc c mail P cases reply round staple server verdicts (judged.Spent mets) y e = absurd (unread_unspent (after_reply round server verdicts) mets e)
 judged_by sc c mail P cases reply round staple server verdicts (judged.Update named) y e = cases.updated reply round staple server verdicts named y e
 
 on_no_by : (sc : Scenario) (c : Coordinator) (mail : Mail) (P : Effect Coordinator → Type 0) → CoordinatorCases sc c mail P → (reply : VoteReply) (round : Round) (staple : Staple) (server : ServerId) (why : No)
     → ((number : ℕ) (value : ℤ) → why ≡ no.Range number value → IsNo c mail reply round staple server number value) → P (on_no c server why)
-on_no_by sc c mail P cases reply round staple server (no.Range number value) n = cases.refused reply round staple server number value (n number value refl)
+on_no_by sc c mail P cases reply round staple server (no.Range number value) n =
+    cases.aborted (cause.No (refused_by server number value)) (ByRefusal reply round staple server number value (n number value refl))
 on_no_by sc c mail P cases reply round staple server no.Restarted n = cases.ignored
 
 on_vote_of_by : (sc : Scenario) (c : Coordinator) (mail : Mail) (P : Effect Coordinator → Type 0) → CoordinatorCases sc c mail P → (reply : VoteReply) (round : Round) (staple : Staple) (server : ServerId) (said : Vote)
     → ((verdicts : List Verdict) → said ≡ vote.Yes verdicts → IsYes c mail reply round staple server verdicts)
-    → ((number : ℕ) (value : ℤ) → said ≡ vote.No (no.Range number value) → IsNo c mail reply round staple server number value) → P (on_vote_of c span.Commit round staple server said)
+    → ((number : ℕ) (value : ℤ) → said ≡ vote.No (no.Range number value) → IsNo c mail reply round staple server number value) → P (on_vote_of sc c span.Commit round staple server said)
 on_vote_of_by sc c mail P cases reply round staple server (vote.Yes verdicts) y n =
     judged_by sc c mail P cases reply round staple server verdicts (judge (after_reply round server verdicts) None) (y verdicts refl) refl
 on_vote_of_by sc c mail P cases reply round staple server (vote.No why) y n =
@@ -163,7 +225,7 @@ on_vote_of_by sc c mail P cases reply round staple server (vote.No why) y n =
 
 vote_by_phase : (sc : Scenario) (c : Coordinator) (mail : Mail) (P : Effect Coordinator → Type 0) → CoordinatorCases sc c mail P → (reply : VoteReply) (awaited : Phase) (server : ServerId)
     → mail.letter.body ≡ body.Vote reply → mail.letter.from ≡ actor.Server server → (reply.turn == c.turn) ≡ true → c.phase ≡ awaited → awaits_vote awaited server ≡ true
-    → P (vote_at c awaited server reply.vote)
+    → P (vote_at sc c awaited server reply.vote)
 vote_by_phase sc c mail P cases reply (phase.Checking span.Commit round staple) server e from present checking is_awaited_here =
     on_vote_of_by sc c mail P cases reply round staple server reply.vote
     (λ verdicts yes_is. record { said_is = e; from_is = from; present = present; checking = checking; awaited = is_awaited_here; vote_is = yes_is })
@@ -171,7 +233,7 @@ vote_by_phase sc c mail P cases reply (phase.Checking span.Commit round staple) 
 vote_by_phase sc c mail P cases reply _ server e from present checking is_awaited_here = cases.ignored
 
 vote_by_sender : (sc : Scenario) (c : Coordinator) (mail : Mail) (P : Effect Coordinator → Type 0) → CoordinatorCases sc c mail P → (reply : VoteReply) (from : Actor)
-    → mail.letter.body ≡ body.Vote reply → mail.letter.from ≡ from → P (on_vote c c.phase from reply)
+    → mail.letter.body ≡ body.Vote reply → mail.letter.from ≡ from → P (on_vote sc c c.phase from reply)
 vote_by_sender sc c mail P cases reply (actor.Server server) e from =
     by_cond P ((reply.turn == c.turn) && awaits_vote c.phase server)
     (λ now. let parts = and_parts (reply.turn == c.turn) (awaits_vote c.phase server) now in vote_by_phase sc c mail P cases reply c.phase server e from parts.0 refl parts.1)
@@ -215,9 +277,13 @@ pub record SubmitCases (sc : Scenario) (c : Coordinator) (P : Effect Coordinator
   pub ignored : P (ignores c)
   pub sent : (server : ServerId) → home_of sc c 1 ≡ Some server → P (sends_query sc c 1 server)
 
-begins_by : (sc : Scenario) (c : Coordinator) (P : Effect Coordinator → Type 0) → SubmitCases sc c P → (server : Option ServerId) → home_of sc c 1 ≡ server → P (begins sc c server)
-begins_by sc c P cases None e = cases.ignored
-begins_by sc c P cases (Some server) e = cases.sent server e
+first_by : (sc : Scenario) (c : Coordinator) (P : Effect Coordinator → Type 0) → SubmitCases sc c P → (server : Option ServerId) → home_of sc c 1 ≡ server → P (sends_next sc c c 1 server)
+first_by sc c P cases None e = cases.ignored
+first_by sc c P cases (Some server) e = cases.sent server e
+
+begins_by : (sc : Scenario) (c : Coordinator) (P : Effect Coordinator → Type 0) → SubmitCases sc c P → (first : Move) → P (begins sc c first)
+begins_by sc c P cases move.SendQuery = first_by sc c P cases (home_of sc c 1) refl
+begins_by sc c P cases _ = cases.ignored
 
 pub submit_by : (sc : Scenario) (c : Coordinator) (P : Effect Coordinator → Type 0) → SubmitCases sc c P → P (submit_row sc c)
-submit_by sc c P cases = begins_by sc c P cases (home_of sc c 1) refl
+submit_by sc c P cases = begins_by sc c P cases (move_at sc c (point.Begun 1))

@@ -2,7 +2,7 @@
 -- the phase that awaits it, with the present turn, and once from each server; otherwise nothing happens.
 use Rattle.std.specs.List.{find}
 use Rattle.std.specs.Option.{option_flatten, option_map_or}
-use Rattle.std.specs.Prelude.{Bool, List, None, Option, Some, [], false, filter, if◌then◌else◌, map, not, option_and_then, option_map, replicate, slice_get, slice_set, true, unwrap_or, ℕ, ℤ, ◌&&◌, ◌++◌, ◌==◌, ◌∷◌}
+use Rattle.std.specs.Prelude.{Bool, List, None, Option, Some, [], false, filter, if◌then◌else◌, map, not, length, min, option_and_then, option_map, replicate, slice_get, slice_set, true, unwrap_or, ℕ, ℤ, ◌&&◌, ◌++◌, ◌==◌, ◌∷◌}
 use Rattle.tp_types.specs.Effect.{Effect, ignores, logs, sends, unbuilt}
 use Rattle.tp_types.specs.declared.records.Outcome.TheVariants.{Abort, Commit}
 use Rattle.tp_model.specs.Queries.{item_of, query_at}
@@ -17,7 +17,8 @@ use Rattle.tp_model.specs.Words.log
 use Rattle.tp_model.specs.Words.no
 use Rattle.tp_model.specs.Words.vote
 use Rattle.tp_model.specs.Words.{Actor, AdminId, Answer, Body, Cause, CommitRecord, Decision, Denied, Died, DoneReply, Instance, Item, ItemId, Letter, Mail, No, OutOfRange, Outcome, PrepareRequest, Query, QueryRequest, Scenario, ServerId, Staple, TellReply, Transaction, TxnId, Verdict, Version, Vote, VoteReply}
-use Rattle.tp_model.specs.Limits.{admins_limit, next_count, view_rounds}
+use Rattle.tp_model.specs.Levels.{reads_master}
+use Rattle.tp_model.specs.Limits.{admins_limit, count_limit, next_count, view_rounds}
 use Rattle.tp_model.specs.Deeds.{deed_of}
 use Rattle.tp_coord.specs.Sums.{asked_value}
 use Rattle.tp_coord.specs.State.{Coordinator}
@@ -25,6 +26,11 @@ use Rattle.tp_coord.specs.declared.coordinator.Phase.TheVariants as phase
 use Rattle.tp_coord.specs.declared.coordinator.Phase.{Phase}
 use Rattle.tp_coord.specs.declared.coordinator.Span.TheVariants as span
 use Rattle.tp_coord.specs.declared.coordinator.Span.{Span}
+use Rattle.tp_scheme.specs.Moves.{next_move}
+use Rattle.tp_scheme.specs.declared.moves.Move.TheVariants as move
+use Rattle.tp_scheme.specs.declared.moves.Point.TheVariants as point
+use Rattle.tp_scheme.specs.declared.moves.Move.{Move}
+use Rattle.tp_scheme.specs.declared.moves.Point.{Point}
 use Rattle.tp_round.specs.Judge.{after_judgement, after_reply, first_round, is_awaited, is_missing, judge}
 use Rattle.tp_round.specs.Replies.{by_query, proofs_in}
 use Rattle.tp_round.specs.declared.round.Judged.TheVariants as judged
@@ -60,6 +66,33 @@ server_at sc item = option_map (λ (i : Item). i.server) (slice_get sc.items ite
 -- the server of a query
 abbrev pub server_of : Scenario → Query → Option ServerId
 server_of sc query = server_at sc (item_of query)
+
+-- ---- the table of moves
+
+-- the number of a transaction's queries, as far as 32 bits count
+abbrev pub query_count : Transaction → ℕ
+query_count txn = min (length txn.queries) count_limit
+
+-- what a transaction does at a point
+abbrev pub move_of : Scenario → Point → Transaction → Move
+move_of sc at txn = next_move txn.scheme (reads_master sc txn) (query_count txn) at
+
+-- what the coordinator's transaction does at a point; one that does not exist does nothing
+abbrev pub move_at : Scenario → Coordinator → Point → Move
+move_at sc c at = option_map_or (move_of sc at) (slice_get sc.txns c.txn.0) move.Following
+
+-- the number after a query's; at the greatest number it stays
+abbrev pub next_number : ℕ → ℕ
+next_number number = next_count number
+
+-- where the transaction goes on after a query, the next one begins
+abbrev pub followed : Scenario → Coordinator → ℕ → Move → Move
+followed sc c number move.Following = move_at sc c (point.Begun (next_number number))
+followed sc c number next = next
+
+-- what is done after a query that ran
+abbrev pub move_after : Scenario → Coordinator → ℕ → Move
+move_after sc c number = followed sc c number (move_at sc c (point.Ran number))
 
 -- ---- decisions
 
@@ -118,14 +151,19 @@ home_of sc c number = option_and_then (server_of sc) (own_query sc c number)
 
 -- ---- Submit
 
--- the first query is sent. Its age is the place where it is sent
-abbrev pub begins : Scenario → Coordinator → Option ServerId → Effect Coordinator
-begins sc c None = ignores c
-begins sc c (Some server) = sends_query sc c 1 server
+-- a query is sent where it has a server; c is what the coordinator was, and now what it is by then
+abbrev pub sends_next : Scenario → Coordinator → Coordinator → ℕ → Option ServerId → Effect Coordinator
+sends_next sc c now number None = ignores c
+sends_next sc c now number (Some server) = sends_query sc now number server
+
+-- the first query is sent, and the place where it is sent is its age. No transaction begins otherwise yet
+abbrev pub begins : Scenario → Coordinator → Move → Effect Coordinator
+begins sc c move.SendQuery = sends_next sc c c 1 (home_of sc c 1)
+begins sc c _ = ignores c
 
 -- what the submission of the transaction does
 abbrev pub submit_row : Scenario → Coordinator → Effect Coordinator
-submit_row sc c = begins sc c (home_of sc c 1)
+submit_row sc c = begins sc c (move_at sc c (point.Begun 1))
 
 -- a coordinator that knows the place of its submission
 abbrev pub coordinator_with_age : Coordinator → ℕ → Coordinator
@@ -161,18 +199,17 @@ with_deed c server done query value =
       deeds = c.deeds ++ deed_of done.query query value ∷ [];
     }
 
--- the number after a query's; at the greatest number it stays
-abbrev pub next_number : ℕ → ℕ
-next_number number = next_count number
-
--- the query of this number is asked, or where there is none the rounds at commit begin
-abbrev pub asks_next : Scenario → Coordinator → ℕ → Option ServerId → Effect Coordinator
-asks_next sc c number None = asks c span.Commit (commit_round c)
-asks_next sc c number (Some server) = sends_query sc c number server
+-- what is done after the query of this number; c is what the coordinator was, and now what it is with its deed. A move that has no row
+-- yet does nothing, and leaves the coordinator as it was
+abbrev pub makes : Scenario → Coordinator → Coordinator → ℕ → Move → Effect Coordinator
+makes sc c now number move.SendQuery =
+    sends_next sc c now (next_number number) (home_of sc c (next_number number))
+makes sc c now number move.CommitRounds = asks now span.Commit (commit_round now)
+makes sc c now number _ = ignores c
 
 -- the transaction goes on after the query of this number
-abbrev pub goes_on : Scenario → Coordinator → ℕ → Effect Coordinator
-goes_on sc c number = asks_next sc c (next_number number) (home_of sc c (next_number number))
+abbrev pub goes_on : Scenario → Coordinator → Coordinator → ℕ → Effect Coordinator
+goes_on sc c now number = makes sc c now number (move_after sc c number)
 
 -- an older transaction stood in the way of a query, as its server said at the place where it answered
 abbrev pub died_for : ServerId → DoneReply → TxnId → ℕ → Died
@@ -190,7 +227,7 @@ pub record QueryReply : Type 0 where
 -- the transaction is not built
 abbrev pub on_answer : Scenario → Coordinator → QueryReply → Answer → Effect Coordinator
 on_answer sc c reply (answer.Ran value None) =
-    goes_on sc (with_deed c reply.server reply.done reply.query value) reply.done.query
+    goes_on sc c (with_deed c reply.server reply.done reply.query value) reply.done.query
 on_answer sc c reply (answer.Died other) =
     aborts c (cause.Died (died_for reply.server reply.done other reply.sent))
 on_answer sc c reply _ = unbuilt c
@@ -283,14 +320,16 @@ on_tell c awaited sent tell =
 abbrev pub instances_with : Coordinator → List Verdict → List Instance
 instances_with c proofs = c.instances ++ record { reading = None; proofs = proofs } ∷ []
 
-abbrev pub commit_record : Coordinator → ℕ → List Verdict → CommitRecord
-commit_record c rounds proofs = record { rounds = rounds; instances = instances_with c proofs; deeds = c.deeds }
+-- a coordinator that has closed an instance of these proofs
+abbrev pub closes : Coordinator → List Verdict → Coordinator
+closes c proofs = record c { instances = instances_with c proofs }
 
--- the transaction commits on these proofs, which close an instance
-abbrev pub commits : Coordinator → ℕ → List Verdict → Effect Coordinator
-commits c rounds proofs =
-    decides (record c { instances = instances_with c proofs }) Commit
-    (decision.Commit (commit_record c rounds proofs))
+abbrev pub commit_record : Coordinator → ℕ → CommitRecord
+commit_record c rounds = record { rounds = rounds; instances = c.instances; deeds = c.deeds }
+
+-- the transaction commits, after so many rounds, on the instances that it has closed
+abbrev pub commits : Coordinator → ℕ → Effect Coordinator
+commits c rounds = decides c Commit (decision.Commit (commit_record c rounds))
 
 -- what a false verdict denies
 abbrev pub denied_by : Verdict → Denied
@@ -303,18 +342,29 @@ denied_by verdict =
       place = verdict.place;
     }
 
+-- the round has one more reply, and others are awaited
+abbrev pub counts : Coordinator → Span → Round → Staple → Effect Coordinator
+counts c over round staple = sends (record c { phase = phase.Checking over round staple }) []
+
+-- all servers have voted YES, and all proofs are true, of one version each: the transaction commits. A move that has no row yet does
+-- nothing but keep the reply
+abbrev pub on_all_true : Coordinator → Span → Round → Staple → Move → Effect Coordinator
+on_all_true c over round staple move.Decide =
+    commits (closes c (by_query (proofs_in round.targets))) round.number
+on_all_true c over round staple _ = counts c over round staple
+
 -- by what is judged of the replies: a missing one is awaited, servers that are out of date are asked again as long as rounds are left, a
--- false proof denies, and true proofs of one version each commit
-abbrev pub on_judged : Coordinator → Span → Round → Staple → Judged → Effect Coordinator
-on_judged c over round staple judged.Waiting = sends (record c { phase = phase.Checking over round staple }) []
-on_judged c over round staple (judged.Spent mets) = aborts c (cause.Rounds mets)
-on_judged c over round staple (judged.Update named) = asks c over (after_judgement round None)
-on_judged c over round staple (judged.False verdict) = aborts c (cause.Denied (denied_by verdict))
-on_judged c over round staple judged.AllTrue = commits c round.number (by_query (proofs_in round.targets))
+-- false proof denies, and where all is true the table says what follows
+abbrev pub on_judged : Scenario → Coordinator → Span → Round → Staple → Judged → Effect Coordinator
+on_judged sc c over round staple judged.Waiting = counts c over round staple
+on_judged sc c over round staple (judged.Spent mets) = aborts c (cause.Rounds mets)
+on_judged sc c over round staple (judged.Update named) = asks c over (after_judgement round None)
+on_judged sc c over round staple (judged.False verdict) = aborts c (cause.Denied (denied_by verdict))
+on_judged sc c over round staple judged.AllTrue = on_all_true c over round staple (move_at sc c point.Voted)
 
 -- a round with one more reply is judged
-abbrev pub on_reply : Coordinator → Span → Round → Staple → Effect Coordinator
-on_reply c over round staple = on_judged c over round staple (judge round None)
+abbrev pub on_reply : Scenario → Coordinator → Span → Round → Staple → Effect Coordinator
+on_reply sc c over round staple = on_judged sc c over round staple (judge round None)
 
 -- what a server's vote NO refuses
 abbrev pub refused_by : ServerId → ℕ → ℤ → OutOfRange
@@ -325,25 +375,26 @@ abbrev pub on_no : Coordinator → ServerId → No → Effect Coordinator
 on_no c server (no.Range number value) = aborts c (cause.No (refused_by server number value))
 on_no c server no.Restarted = unbuilt c
 
-abbrev pub on_vote_of : Coordinator → Span → Round → Staple → ServerId → Vote → Effect Coordinator
-on_vote_of c over round staple server (vote.Yes verdicts) =
-    on_reply c over (after_reply round server verdicts) staple
-on_vote_of c over round staple server (vote.No why) = on_no c server why
+abbrev pub on_vote_of : Scenario → Coordinator → Span → Round → Staple → ServerId → Vote → Effect Coordinator
+on_vote_of sc c over round staple server (vote.Yes verdicts) =
+    on_reply sc c over (after_reply round server verdicts) staple
+on_vote_of sc c over round staple server (vote.No why) = on_no c server why
 
 -- the vote of this server is awaited, in a round at commit
 abbrev pub awaits_vote : Phase → ServerId → Bool
 awaits_vote (phase.Checking span.Commit round staple) server = is_awaited round.targets server
 awaits_vote _ server = false
 
-abbrev pub vote_at : Coordinator → Phase → ServerId → Vote → Effect Coordinator
-vote_at c (phase.Checking span.Commit round staple) server said = on_vote_of c span.Commit round staple server said
-vote_at c _ server said = ignores c
+abbrev pub vote_at : Scenario → Coordinator → Phase → ServerId → Vote → Effect Coordinator
+vote_at sc c (phase.Checking span.Commit round staple) server said =
+    on_vote_of sc c span.Commit round staple server said
+vote_at sc c _ server said = ignores c
 
-abbrev pub on_vote : Coordinator → Phase → Actor → VoteReply → Effect Coordinator
-on_vote c awaited (actor.Server server) reply =
-    if (reply.turn == c.turn) && awaits_vote awaited server then vote_at c awaited server reply.vote
+abbrev pub on_vote : Scenario → Coordinator → Phase → Actor → VoteReply → Effect Coordinator
+on_vote sc c awaited (actor.Server server) reply =
+    if (reply.turn == c.turn) && awaits_vote awaited server then vote_at sc c awaited server reply.vote
     else ignores c
-on_vote c awaited _ reply = ignores c
+on_vote sc c awaited _ reply = ignores c
 
 -- ---- Ack
 
@@ -363,7 +414,7 @@ on_ack c _ from = ignores c
 abbrev pub on_body : Scenario → Coordinator → ℕ → Actor → Body → Effect Coordinator
 on_body sc c sent from (body.Done done) = on_done sc c c.phase sent from done
 on_body sc c sent from (body.Tell tell) = on_tell c c.phase sent tell
-on_body sc c sent from (body.Vote reply) = on_vote c c.phase from reply
+on_body sc c sent from (body.Vote reply) = on_vote sc c c.phase from reply
 on_body sc c sent from (body.Ack ack) = on_ack c c.phase from
 on_body sc c sent from (body.Verdicts reply) = unbuilt c
 on_body sc c sent from (body.Newest reply) = unbuilt c

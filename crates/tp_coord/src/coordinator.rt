@@ -10,11 +10,13 @@ ghost use Rattle.tp_types.specs.Effect.{Gives};
 ghost use Rattle.tp_coord.specs.Opened as opened;
 ghost use Rattle.tp_coord.specs.Row as row;
 
+use crate::moves::move_of;
 use crate::sums::asked_value;
 use std::alloc::Global;
 use std::marker::Model;
 use tp_model::{deed_of, item_of, query_at, servers_of};
 use tp_round::Round;
+use tp_scheme::{Move, Point};
 use tp_types::{
     Actor, Answer, Body, Cause, Deed, Died, DoneReply, Instance, Letter, List, Mail, NoMemory,
     Outcome, Place, Query, QueryRequest, Reaction, Scenario, ServerId, Staple, TxnId, Verdict,
@@ -141,6 +143,9 @@ impl Coordinator {
         ensures { IfOk result (λ reaction.
             Gives (row.submit_row scenario.now self.old) self.new reaction) }
     {
+        if self.move_at(scenario, Point::Begun { query: 1 }) != Move::SendQuery {
+            return Ok(ignored(alloc));
+        }
         match self.home_of(scenario, 1) {
             None => Ok(ignored(alloc)),
             Some(server) => self.sends_query(alloc, scenario, 1, server),
@@ -182,7 +187,7 @@ impl Coordinator {
         match &mail.letter.body {
             Body::Done(done) => self.on_done(alloc, scenario, mail.sent, from, done),
             Body::Tell(tell) => self.on_tell(alloc, mail.sent, tell),
-            Body::Vote(reply) => self.on_vote(alloc, from, reply),
+            Body::Vote(reply) => self.on_vote(alloc, scenario, from, reply),
             Body::Ack(_) => self.on_ack(alloc, from),
             Body::Verdicts(_) | Body::Newest(_) | Body::Inquire(_) => Ok(unbuilt(alloc)),
             _ => Ok(ignored(alloc)),
@@ -299,20 +304,81 @@ impl Coordinator {
         self.request(server, Body::Query(query))
     }
 
-    /// After the query of this number the next one is asked; after the last the rounds at commit begin.
+    /// What the transaction does at a point, by the table of moves.
+    pub(crate) fn move_at(&self, scenario: &Scenario, at: Point) -> Move
+        ensures { result ≡ row.move_at scenario.now self.now at }
+    {
+        match scenario.txns.get(self.txn.0 as usize) {
+            None => Move::Following,
+            Some(txn) => move_of(scenario, at, txn),
+        }
+    }
+
+    /// What the transaction does after a query that ran.
+    fn move_after(&self, scenario: &Scenario, number: u32) -> Move
+        ensures { result ≡ row.move_after scenario.now self.now number }
+    {
+        match self.move_at(scenario, Point::Ran { query: number }) {
+            Move::Following => {
+                let query = number.saturating_add(1);
+                self.move_at(scenario, Point::Begun { query })
+            }
+            next => next,
+        }
+    }
+
+    /// A query ran: the table is asked what follows before its deed is kept.
     fn goes_on(
         &mut self,
         alloc: Global,
         scenario: &Scenario,
-        number: u32,
+        server: ServerId,
+        done: &DoneReply,
+        query: &Query,
+        value: i128,
     ) -> Result<Reaction, NoMemory>
         ensures { IfOk result (λ reaction.
-            Gives (row.goes_on scenario.now self.old number) self.new reaction) }
+            Gives
+            (row.goes_on scenario.now self.old
+            (row.with_deed self.old server done.now query.now value)
+            done.now.query)
+            self.new reaction) }
     {
-        let next = number.saturating_add(1);
+        match self.move_after(scenario, done.query) {
+            Move::SendQuery => self.runs_next(alloc, scenario, server, done, query, value),
+            Move::CommitRounds => {
+                self.ran(server, done, query, value)?;
+                self.begins_rounds(alloc)
+            }
+            _ => Ok(ignored(alloc)),
+        }
+    }
+
+    /// The next query is sent, where it has a server.
+    fn runs_next(
+        &mut self,
+        alloc: Global,
+        scenario: &Scenario,
+        server: ServerId,
+        done: &DoneReply,
+        query: &Query,
+        value: i128,
+    ) -> Result<Reaction, NoMemory>
+        ensures { IfOk result (λ reaction.
+            Gives
+            (row.sends_next scenario.now self.old
+            (row.with_deed self.old server done.now query.now value)
+            (row.next_number done.now.query)
+            (row.home_of scenario.now self.old (row.next_number done.now.query)))
+            self.new reaction) }
+    {
+        let next = done.query.saturating_add(1);
         match self.home_of(scenario, next) {
-            None => self.begins_rounds(alloc),
-            Some(server) => self.sends_query(alloc, scenario, next, server),
+            None => Ok(ignored(alloc)),
+            Some(home) => {
+                self.ran(server, done, query, value)?;
+                self.sends_query(alloc, scenario, next, home)
+            }
         }
     }
 
@@ -366,10 +432,7 @@ impl Coordinator {
             Answer::Ran {
                 value,
                 verdict: None,
-            } => {
-                self.ran(server, done, query, *value)?;
-                self.goes_on(alloc, scenario, done.query)
-            }
+            } => self.goes_on(alloc, scenario, server, done, query, *value),
             Answer::Died { other } => {
                 let died = Died {
                     query: done.query,

@@ -25,8 +25,9 @@ impl Coordinator {
     pub(crate) fn commits(&mut self, alloc: Global, round: &Round) -> Result<Reaction, NoMemory>
         ensures { IfOk result (λ reaction.
             Gives
-            (row.commits self.old round.now.number
-            (replies.by_query (replies.proofs_in round.now.targets)))
+            (row.commits
+            (row.closes self.old (replies.by_query (replies.proofs_in round.now.targets)))
+            round.now.number)
             self.new reaction) }
     {
         self.instances.push(Instance {

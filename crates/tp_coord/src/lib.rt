@@ -9,6 +9,7 @@
 
 mod coordinator;
 mod decisions;
+mod moves;
 mod rounds;
 mod sums;
 

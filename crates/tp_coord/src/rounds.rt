@@ -7,7 +7,8 @@ ghost use Rattle.tp_model.specs.Words.vote;
 ghost use Rattle.tp_coord.specs.declared.coordinator.Phase.TheVariants as Phase;
 ghost use Rattle.tp_coord.specs.declared.coordinator.Span.TheVariants as Span;
 ghost use Rattle.tp_round.specs.declared.round.Wanted.{Wanted};
-ghost use Rattle.tp_types.specs.Effect.{Gives, sends};
+ghost use Rattle.tp_types.specs.Effect.{Gives};
+ghost use Rattle.tp_scheme.specs.declared.moves.Point.TheVariants as Point;
 ghost use Rattle.tp_round.specs.Judge as judge;
 ghost use Rattle.tp_coord.specs.Row as row;
 
@@ -17,10 +18,11 @@ use std::alloc::Global;
 use std::mem;
 use tp_model::VIEW_ROUNDS;
 use tp_round::{Judged, Round, Wanted};
+use tp_scheme::{Move, Point};
 use tp_types::{
     Actor, AdminId, AskRequest, Body, Cause, Letter, Level, List, No, NoMemory, OutOfRange, Place,
-    PrepareRequest, Reaction, ServerId, Staple, TellReply, TryClone, Verdict, Version, Vote,
-    VoteReply, ignored, nothing, sent_alone, unbuilt,
+    PrepareRequest, Reaction, Scenario, ServerId, Staple, TellReply, TryClone, Verdict, Version,
+    Vote, VoteReply, ignored, nothing, sent_alone, unbuilt,
 };
 
 impl Coordinator {
@@ -152,11 +154,13 @@ impl Coordinator {
     pub(crate) fn on_vote(
         &mut self,
         alloc: Global,
+        scenario: &Scenario,
         from: Actor,
         reply: &VoteReply,
     ) -> Result<Reaction, NoMemory>
         ensures { IfOk result (λ reaction.
-            Gives (row.on_vote self.old self.old.phase from reply.now) self.new reaction) }
+            Gives (row.on_vote scenario.now self.old self.old.phase from reply.now)
+            self.new reaction) }
     {
         let Actor::Server(server) = from else {
             return Ok(ignored(alloc));
@@ -165,8 +169,8 @@ impl Coordinator {
             return Ok(ignored(alloc));
         }
         match &reply.vote {
-            Vote::Yes(verdicts) => self.on_yes(alloc, server, verdicts),
-            Vote::No(why) => self.on_no(alloc, server, *why),
+            Vote::Yes(verdicts) => self.on_yes(alloc, scenario, server, verdicts),
+            Vote::No(why) => self.on_no(alloc, scenario, server, *why),
         }
     }
 
@@ -174,11 +178,13 @@ impl Coordinator {
     fn on_yes(
         &mut self,
         alloc: Global,
+        scenario: &Scenario,
         server: ServerId,
         verdicts: &List<Verdict>,
     ) -> Result<Reaction, NoMemory>
         ensures { IfOk result (λ reaction.
-            Gives (row.vote_at self.old self.old.phase server (vote.Yes verdicts.now))
+            Gives
+            (row.vote_at scenario.now self.old self.old.phase server (vote.Yes verdicts.now))
             self.new reaction) }
     {
         match mem::replace(&mut self.phase, Phase::Idle) {
@@ -186,7 +192,7 @@ impl Coordinator {
                 span: Span::Commit,
                 round,
                 staple,
-            } => self.voted(alloc, round, staple, server, verdicts),
+            } => self.voted(alloc, scenario, round, staple, server, verdicts),
             other => {
                 self.enters(other);
                 Ok(ignored(alloc))
@@ -195,9 +201,16 @@ impl Coordinator {
     }
 
     /// A vote NO of a server that is awaited ends the transaction at once.
-    fn on_no(&mut self, alloc: Global, server: ServerId, why: No) -> Result<Reaction, NoMemory>
+    fn on_no(
+        &mut self,
+        alloc: Global,
+        scenario: &Scenario,
+        server: ServerId,
+        why: No,
+    ) -> Result<Reaction, NoMemory>
         ensures { IfOk result (λ reaction.
-            Gives (row.vote_at self.old self.old.phase server (vote.No why)) self.new reaction) }
+            Gives (row.vote_at scenario.now self.old self.old.phase server (vote.No why))
+            self.new reaction) }
     {
         if !matches!(
             self.phase,
@@ -223,9 +236,7 @@ impl Coordinator {
 
     /// Other votes of the round are awaited.
     fn awaits_more(&mut self, alloc: Global, round: Round, staple: Staple) -> Reaction
-        ensures { Gives
-            (sends (record self.old { phase = Phase.Checking Span.Commit round staple }) [])
-            self.new result }
+        ensures { Gives (row.counts self.old Span.Commit round staple) self.new result }
     {
         self.enters(Phase::Checking {
             span: Span::Commit,
@@ -239,6 +250,7 @@ impl Coordinator {
     fn voted(
         &mut self,
         alloc: Global,
+        scenario: &Scenario,
         round: Round,
         staple: Staple,
         server: ServerId,
@@ -246,7 +258,8 @@ impl Coordinator {
     ) -> Result<Reaction, NoMemory>
         ensures { IfOk result (λ reaction.
             Gives
-            (row.on_reply self.old Span.Commit (judge.after_reply round server verdicts.now) staple)
+            (row.on_reply scenario.now self.old Span.Commit
+            (judge.after_reply round server verdicts.now) staple)
             self.new reaction) }
     {
         let mut round = round;
@@ -255,7 +268,27 @@ impl Coordinator {
             Judged::Spent(mets) => self.aborts(alloc, Cause::Rounds(mets)),
             Judged::Update(_) => self.asks(alloc, Span::Commit, round),
             Judged::False { verdict } => self.aborts(alloc, Cause::Denied(denied_by(&verdict))),
-            Judged::AllTrue => self.commits(alloc, &round),
+            Judged::AllTrue => self.all_true(alloc, scenario, round, staple),
+        }
+    }
+
+    /// All servers have voted YES, and all proofs are true: the table says what follows.
+    fn all_true(
+        &mut self,
+        alloc: Global,
+        scenario: &Scenario,
+        round: Round,
+        staple: Staple,
+    ) -> Result<Reaction, NoMemory>
+        ensures { IfOk result (λ reaction.
+            Gives
+            (row.on_all_true self.old Span.Commit round staple
+            (row.move_at scenario.now self.old Point.Voted))
+            self.new reaction) }
+    {
+        match self.move_at(scenario, Point::Voted) {
+            Move::Decide => self.commits(alloc, &round),
+            _ => Ok(self.awaits_more(alloc, round, staple)),
         }
     }
 }

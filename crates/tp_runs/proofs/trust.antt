@@ -1,8 +1,10 @@
 -- What trust leans on: phases, rounds, proofs and staples, at coordinators, servers and offices.
 pub mod Acts
 pub mod Built
+pub mod Causes
 pub mod Coordinator
 pub mod Fit
+pub mod Instances
 pub mod Kept
 pub mod Offices
 pub mod Phases

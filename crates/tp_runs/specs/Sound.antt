@@ -1,6 +1,6 @@
 -- What is asked of each actor, mail, record and fact of a world: that all they name exists, that a deed does to an item what its query
 -- says, and that a write is asked with a value. What bounds the values stands in Bounded.
-use Rattle.std.specs.Prelude.{Bool, IfSome, List, Option, Some, [], false, is_some, length, option_and_then, option_map, slice_get, true, ℕ, ℤ, ◌<◌, ◌∷◌, ◌≡◌, ◌≤◌, is_none, ◌&&◌}
+use Rattle.std.specs.Prelude.{IfSome, List, Option, Some, [], is_some, length, option_and_then, option_map, slice_get, true, ℕ, ◌<◌, ◌∷◌, ◌≡◌, ◌≤◌, is_none, ◌&&◌, false}
 use Rattle.std.specs.List.{IsDistinct}
 use Rattle.tp_model.specs.Authorisation.{action_of}
 use Rattle.tp_model.specs.Ids.{same_cred}
@@ -16,12 +16,13 @@ use Rattle.tp_model.specs.Words.query
 use Rattle.tp_model.specs.Words.scheme
 use Rattle.tp_model.specs.Words.vote
 use Rattle.tp_model.specs.Words.what
-use Rattle.tp_model.specs.Words.{Actor, Admin, AdminId, Answer, Body, Cause, CommitRecord, CredId, Decided, Decision, Deed, Denied, Died, DoneReply, Fact, Instance, Item, ItemId, Letter, Mail, Met, Newer, NewestReply, No, OutOfRange, PrepareRequest, Prepared, PushNotice, Query, QueryRequest, Record, Scenario, Scheme, ServerId, Settled, Staple, Step, TellReply, Transaction, TxnId, ValidateRequest, Verdict, VerdictsReply, Version, Vote, VoteReply, What}
+use Rattle.tp_model.specs.Words.{Actor, Admin, AdminId, Answer, Body, Cause, CommitRecord, CredId, Decided, Decision, Deed, Denied, Died, DoneReply, Fact, Instance, Item, ItemId, Letter, Mail, Met, Newer, NewestReply, No, OutOfRange, PrepareRequest, Prepared, PushNotice, Query, QueryRequest, Record, Scenario, ServerId, Settled, Staple, TellReply, Transaction, TxnId, ValidateRequest, Verdict, VerdictsReply, Version, Vote, VoteReply, What}
 use Rattle.tp_types.specs.Each.{Each, EachAt, EachPlaced}
 use Rattle.tp_machine.specs.Machine.{State}
-use Rattle.tp_machine.specs.Named.{IsAdmin, IsCrasher, IsCred, IsServer, IsTxn}
+use Rattle.tp_machine.specs.Named.{IsCrasher, IsCred, IsServer, IsTxn}
 use Rattle.tp_machine.specs.Parts.{Part}
 use Rattle.tp_coord.specs.State.{Coordinator}
+use Rattle.tp_scheme.specs.Moves.{proves_each}
 use Rattle.tp_machine.specs.declared.actors.Actors.{Actors}
 use Rattle.tp_coord.specs.declared.coordinator.Phase.TheVariants as phase
 use Rattle.tp_coord.specs.declared.coordinator.Phase.{Phase}
@@ -109,12 +110,6 @@ pub record IsQueryAt (sc : Scenario) (txn : TxnId) (number : ℕ) (at : ServerId
   pub asked_is : query_in sc txn number ≡ Some asked
   pub kept : IsItemOf sc at (item_of asked)
   pub admin_is : kept.declared.admin ≡ admin
-
--- the scheme proves each query as it runs
-abbrev pub proves_each : Scheme → Bool
-proves_each scheme.Punctual = true
-proves_each scheme.Incremental = true
-proves_each _ = false
 
 -- the transaction proves each query as it runs
 abbrev pub ProvesEach : Scenario → TxnId → Type 0

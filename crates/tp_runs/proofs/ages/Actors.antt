@@ -8,7 +8,8 @@ use Rattle.tp_model.specs.Words.{Body, Letter, Mail, Outcome, Prepared, Query, Q
 use Rattle.tp_types.proofs.EachLemmas.{each_more, placed_emptied, placed_set}
 use Rattle.tp_runs.proofs.basics.Logs.{Prepares}
 use Rattle.tp_runs.proofs.basics.Phases.{is_querying, querying_is}
-use Rattle.tp_coord.proofs.Rows.{coordinator_by, submit_by}
+use Rattle.tp_scheme.specs.declared.moves.Point.TheVariants as point
+use Rattle.tp_coord.proofs.Rows.{Gained, IsPassed, QueryRan, coordinator_by, submit_by}
 use Rattle.tp_server.proofs.Rows.{AreRightWaits, IsAsking, IsFirstHere, IsFurther, server_by}
 use Rattle.tp_machine.specs.Machine.{with_age}
 use Rattle.tp_model.specs.Deeds.{deed_of}
@@ -131,24 +132,22 @@ coordinator_row_ages A place sc c mail h =
     coordinator_by sc c mail (CoordinatorAges A place c)
     (record {
       ignored = still_ages A place c h;
-      ran_next = λ done server asked value next k home.
-          let known = h.known (querying_is c c.phase done k.awaited) in
-          record { same_age = refl; known = λ querying. known; same_txn = refl; letters = (told_age A c.txn c.age place known h.age, tt) };
-      ran_last = λ done server asked value k none. record { same_age = refl; known = λ querying. absurd (cc); same_txn = refl; letters = (tt, tt) };
-      died = λ done server asked other k.
-          record { same_age = refl; known = λ querying. absurd (cc); same_txn = refl; letters = orders_aged A place c outcome.Abort c.servers };
+      sends_query = λ query now next passed moves home.
+          let age_known = known query now passed in
+          record { same_age = refl; known = λ querying. age_known; same_txn = refl; letters = (told_age A c.txn c.age place age_known h.age, tt) };
+      commit_rounds = λ query now passed moves. record { same_age = refl; known = λ querying. absurd (cc); same_txn = refl; letters = (tt, tt) };
       told = λ tell round k.
           record { same_age = refl; known = λ querying. absurd (cc); same_txn = refl; letters = prepare_letters_aged A place c round (coord.staple_of tell mail.sent) (coord.awaited_in round) };
-      counted = λ reply round staple server verdicts y e. record { same_age = refl; known = λ querying. absurd (cc); same_txn = refl; letters = tt };
-      committed = λ reply round staple server verdicts y e.
-          record { same_age = refl; known = λ querying. absurd (cc); same_txn = refl; letters = orders_aged A place c outcome.Commit c.servers };
-      denied = λ reply round staple server verdicts verdict y e.
-          record { same_age = refl; known = λ querying. absurd (cc); same_txn = refl; letters = orders_aged A place c outcome.Abort c.servers };
+      counted = λ reply round staple server verdicts y. record { same_age = refl; known = λ querying. absurd (cc); same_txn = refl; letters = tt };
+      decides = λ instances rounds passed. record { same_age = refl; known = λ querying. absurd (cc); same_txn = refl; letters = orders_aged A place c outcome.Commit c.servers };
+      aborted = λ why ended. record { same_age = refl; known = λ querying. absurd (cc); same_txn = refl; letters = orders_aged A place c outcome.Abort c.servers };
       updated = λ reply round staple server verdicts named y e. record { same_age = refl; known = λ querying. absurd (cc); same_txn = refl; letters = (tt, tt) };
-      refused = λ reply round staple server number value k.
-          record { same_age = refl; known = λ querying. absurd (cc); same_txn = refl; letters = orders_aged A place c outcome.Abort c.servers };
       acknowledged = λ ack ended awaited server a. record { same_age = refl; known = λ querying. absurd (cc); same_txn = refl; letters = tt };
     })
+  where
+    -- where a query ran, the age is known
+    known : (query : ℕ) (now : Gained) → IsPassed sc c mail (point.Ran query) now → is_some c.age ≡ true
+    known _ _ (QueryRan done server asked value k) = h.known (querying_is c c.phase done k.awaited)
 
 -- ---- Submit
 

@@ -18,25 +18,25 @@ use Rattle.tp_model.specs.Words.decision
 use Rattle.tp_model.specs.Words.log
 use Rattle.tp_model.specs.Words.outcome
 use Rattle.tp_model.specs.Words.vote
-use Rattle.tp_model.specs.Words.{AckReply, Actor, Body, Cause, DecideRequest, Decision, DoneReply, Item, Letter, Mail, Outcome, Query, Record, Scenario, ServerId, Staple, Transaction, TxnId, Verdict, Vote, VoteReply}
+use Rattle.tp_model.specs.Words.{AckReply, Actor, Body, Cause, DecideRequest, Decision, DoneReply, Instance, Item, Letter, Mail, Outcome, Query, Record, Scenario, ServerId, Staple, Transaction, TxnId, Verdict, Vote, VoteReply}
 use Rattle.tp_runs.proofs.basics.Homes.{IsHome, home_is}
 use Rattle.tp_runs.proofs.basics.Ids.{same_server_is}
 use Rattle.tp_types.proofs.EachLemmas.{by_cond, each_as, each_filter}
 use Rattle.tp_runs.proofs.basics.Rounds.{EachServer, all_in, each_missing, each_renewed, each_replied, each_started, is_in, judged_whole, missing_in, none_missing, replied_is, updated_is}
 use Rattle.tp_runs.proofs.basics.Logs.{appended, decided_with}
-use Rattle.tp_coord.proofs.Rows.{IsAck, IsYes, coordinator_by, submit_by}
+use Rattle.tp_scheme.specs.declared.moves.Point.TheVariants as point
+use Rattle.tp_coord.proofs.Rows.{AllTrue, ByOlder, ByProof, ByRefusal, Gained, HasVoted, IsAck, IsEnded, IsPassed, IsYes, QueryRan, coordinator_by, gains_instances, submit_by, with_gained}
 use Rattle.tp_recover.specs.Log.{decided_in, decision_in}
 use Rattle.tp_machine.specs.Machine.{log_with, with_age}
 use Rattle.tp_types.specs.Each.{Each}
 use Rattle.tp_coord.specs.Opened.{servers_at}
-use Rattle.tp_coord.specs.Row.{aborts, asks, awaits_query, commit_round, commits, coordinator_row, denied_by, died_for, is_begun, next_number, prepare_letter, prepares, own_query, refused_by, request, sends_query, server_of, staple_of, submit_row, with_deed, without}
+use Rattle.tp_coord.specs.Row.{aborts, asks, awaits_query, commit_round, commits, coordinator_row, is_begun, next_number, prepare_letter, prepares, own_query, request, sends_query, server_of, staple_of, submit_row, without}
 use Rattle.tp_coord.specs.State.{Coordinator}
 use Rattle.tp_coord.specs.declared.coordinator.Phase.TheVariants as phase
 use Rattle.tp_coord.specs.declared.coordinator.Phase.{Phase}
 use Rattle.tp_coord.specs.declared.coordinator.Span.TheVariants as span
 use Rattle.tp_coord.specs.declared.coordinator.Span.{Span}
 use Rattle.tp_round.specs.Judge.{after_judgement, after_reply, aim_in, judge, met_in, mets_in, new_target, next_round}
-use Rattle.tp_round.specs.Replies.{by_query, proofs_in}
 use Rattle.tp_round.specs.declared.round.Judged.TheVariants as judged
 use Rattle.tp_round.specs.declared.round.Judged.{Judged}
 use Rattle.tp_round.specs.declared.round.Round.{Round}
@@ -349,10 +349,10 @@ orders_lawful sc txn begun decided ended c (at ∷ servers) same b d h = (
 )
 
 -- a commit is forced where nothing was decided and all have prepared, and then sent
-commits_lawful : (sc : Scenario) (P S : ServerId → Type 0) (c : Coordinator) (kept : List Record) (rounds : ℕ) (proofs : List Verdict) → Keeps sc P S c kept → decided_in kept ≡ None
-    → is_begun c.phase ≡ true → Each P (servers_at sc c.txn) → CoordinatorLawful sc P S c kept (commits c rounds proofs)
-commits_lawful sc P S c kept rounds proofs h d b prepared =
-    let forced = (commits c rounds proofs).reaction.append in
+commits_lawful : (sc : Scenario) (P S : ServerId → Type 0) (c : Coordinator) (kept : List Record) (instances : List Instance) (rounds : ℕ) → Keeps sc P S c kept → decided_in kept ≡ None
+    → is_begun c.phase ≡ true → Each P (servers_at sc c.txn) → CoordinatorLawful sc P S c kept (commits (with_gained c (gains_instances c instances)) rounds)
+commits_lawful sc P S c kept instances rounds h d b prepared =
+    let forced = (commits (with_gained c (gains_instances c instances)) rounds).reaction.append in
     let now : option_map outcome_of (decided_in (log_with kept forced)) ≡ Some outcome.Commit = ap (option_map outcome_of) (decided_with kept forced ∙ ap (λ z. option_or z (appended decision_in forced)) d) in
     let items : HaveItems sc c.txn c.servers = subst (HaveItems sc c.txn) (sym h.agrees.servers) (servers_at_have_items sc c.txn) in
     record {
@@ -456,25 +456,21 @@ coordinator_row_lawful sc P S c kept mail h m =
     coordinator_by sc c mail (CoordinatorLawful sc P S c kept)
     (record {
       ignored = ignores_lawful_in_coordinator sc P S c kept h;
-      ran_next = λ done server asked value next k home.
-          let now = awaiting_query c c.phase done (decided_in kept) k.awaited h.agrees.decided in
-          let further : IsHome sc c (next_number done.query) next = home_is sc c (next_number done.query) next home in
-          let on = sends_query_lawful sc P S (with_deed c server done asked value) kept (next_number done.query) next now.0 now.1 h.agrees.servers
+      sends_query = λ query now next passed moves home.
+          let free = undecided query now passed in
+          let further : IsHome sc c (next_number query) next = home_is sc c (next_number query) next home in
+          let on = sends_query_lawful sc P S (with_gained c now) kept (next_number query) next free.0 free.1 h.agrees.servers
           (record { asked = further.asked; asked_is = further.asked_is; server_is = further.server_is }) in
-          record { agrees = on.agrees; replied = on.replied; same_begun = sym now.1; same_txn = refl; fresh = tt; letters = on.letters };
-      ran_last = λ done server asked value k none.
-          let now = awaiting_query c c.phase done (decided_in kept) k.awaited h.agrees.decided in
-          let next = with_deed c server done asked value in
-          let on = asks_lawful sc P S next kept (commit_round next) now.0 now.1 h.agrees.servers
+          record { agrees = on.agrees; replied = on.replied; same_begun = sym free.1; same_txn = refl; fresh = tt; letters = on.letters };
+      commit_rounds = λ query now passed moves.
+          let free = undecided query now passed in
+          let on = asks_lawful sc P S (with_gained c now) kept (commit_round c) free.0 free.1 h.agrees.servers
           (each_started (HoldsItem sc c.txn) c.servers (subst (HaveItems sc c.txn) (sym h.agrees.servers) (servers_at_have_items sc c.txn)))
           (subst (λ (servers : List ServerId). AllBut P (missing_in (map new_target servers)) (servers_at sc c.txn)) (sym h.agrees.servers) (all_but_new P (servers_at sc c.txn))) in
-          record { agrees = on.agrees; replied = on.replied; same_begun = sym now.1; same_txn = refl; fresh = tt; letters = on.letters };
-      died = λ done server asked other k.
-          let now = awaiting_query c c.phase done (decided_in kept) k.awaited h.agrees.decided in
-          aborts_lawful sc P S c kept (cause.Died (died_for server done other mail.sent)) h now.0 now.1;
+          record { agrees = on.agrees; replied = on.replied; same_begun = sym free.1; same_txn = refl; fresh = tt; letters = on.letters };
       told = λ tell round k. prepares_lawful sc P S c kept round (staple_of tell mail.sent) h k.asking;
-      counted = λ reply round staple server verdicts y e.
-          let k = yes_counted sc P S c kept mail reply round staple server verdicts h m y in
+      counted = λ reply round staple server verdicts y.
+          let k = counted_yes reply round staple server verdicts y in
           record {
             agrees = record { decided = k.undecided; servers = h.agrees.servers; awaited = k.items };
             replied = k.prepared;
@@ -483,20 +479,38 @@ coordinator_row_lawful sc P S c kept mail h m =
             fresh = tt;
             letters = tt;
           };
-      committed = λ reply round staple server verdicts y e.
-          let k = yes_counted sc P S c kept mail reply round staple server verdicts h m y in
-          commits_lawful sc P S c kept round.number (by_query (proofs_in (after_reply round server verdicts).targets)) h k.undecided k.begun
-          (whole_prepared sc P S c kept (after_reply round server verdicts) judged.AllTrue k e (λ f. cc));
-      denied = λ reply round staple server verdicts verdict y e.
-          let k = yes_counted sc P S c kept mail reply round staple server verdicts h m y in
-          aborts_lawful sc P S c kept (cause.Denied (denied_by verdict)) h k.undecided k.begun;
+      decides = λ instances rounds passed.
+          let free = undecided_voted instances rounds passed in
+          commits_lawful sc P S c kept instances rounds h free.0 free.1 (all_prepared instances rounds passed);
+      aborted = λ why ended.
+          let free = undecided_at_end why ended in
+          aborts_lawful sc P S c kept why h free.0 free.1;
       updated = λ reply round staple server verdicts named y e.
-          updated_lawful sc P S c kept (after_reply round server verdicts) named (yes_counted sc P S c kept mail reply round staple server verdicts h m y) h.agrees.servers e;
-      refused = λ reply round staple server number value k.
-          let undecided : decided_in kept ≡ None = subst (λ (p : Phase). PhaseAgrees p (decided_in kept)) k.checking h.agrees.decided in
-          aborts_lawful sc P S c kept (cause.No (refused_by server number value)) h undecided (ap is_begun k.checking);
+          updated_lawful sc P S c kept (after_reply round server verdicts) named (counted_yes reply round staple server verdicts y) h.agrees.servers e;
       acknowledged = λ ack ended awaited server a. acknowledged_lawful sc P S c kept mail ack ended awaited server h m a;
     })
+  where
+    counted_yes : (reply : VoteReply) (round : Round) (staple : Staple) (server : ServerId) (verdicts : List Verdict) → IsYes c mail reply round staple server verdicts → IsCounted sc P S c kept (after_reply round server verdicts)
+    counted_yes reply round staple server verdicts y = yes_counted sc P S c kept mail reply round staple server verdicts h m y
+
+    -- a point is passed before the decision
+    undecided : (query : ℕ) (now : Gained) → IsPassed sc c mail (point.Ran query) now → (decided_in kept ≡ None) × (is_begun c.phase ≡ true)
+    undecided _ _ (QueryRan done server asked value k) = awaiting_query c c.phase done (decided_in kept) k.awaited h.agrees.decided
+
+    undecided_voted : (instances : List Instance) (rounds : ℕ) → HasVoted sc c mail point.Voted instances rounds → (decided_in kept ≡ None) × (is_begun c.phase ≡ true)
+    undecided_voted _ _ (AllTrue reply round staple server verdicts k) = let counted = counted_yes reply round staple server verdicts k.yes in (counted.undecided, counted.begun)
+
+    -- and so is an end
+    undecided_at_end : (why : Cause) → IsEnded sc c mail why → (decided_in kept ≡ None) × (is_begun c.phase ≡ true)
+    undecided_at_end _ (ByOlder done server asked other k) = awaiting_query c c.phase done (decided_in kept) k.awaited h.agrees.decided
+    undecided_at_end _ (ByProof reply round staple server verdicts verdict y e) = let counted = counted_yes reply round staple server verdicts y in (counted.undecided, counted.begun)
+    undecided_at_end _ (ByRefusal reply round staple server number value k) =
+        (subst (λ (p : Phase). PhaseAgrees p (decided_in kept)) k.checking h.agrees.decided, ap is_begun k.checking)
+
+    -- where all have voted, all are prepared
+    all_prepared : (instances : List Instance) (rounds : ℕ) → HasVoted sc c mail point.Voted instances rounds → Each P (servers_at sc c.txn)
+    all_prepared _ _ (AllTrue reply round staple server verdicts k) =
+        whole_prepared sc P S c kept (after_reply round server verdicts) judged.AllTrue (counted_yes reply round staple server verdicts k.yes) k.all_true (λ f. cc)
 
 -- ---- Submit
 
@@ -508,6 +522,16 @@ pub record SubmissionLawful (sc : Scenario) (P S : ServerId → Type 0) (c : Coo
   pub same_txn : effect.state.txn ≡ c.txn
   pub forces : effect.reaction.append ≡ None
   pub letters : Each (LetterAgrees sc c.txn (is_begun effect.state.phase) (decided_in kept)) effect.reaction.letters
+
+-- a submission is of its own transaction, and forces nothing
+pub record IsUnforced (c : Coordinator) (effect : Effect Coordinator) : Type 0 where
+  pub same_txn : effect.state.txn ≡ c.txn
+  pub forces : effect.reaction.append ≡ None
+
+pub submission_unforced : (sc : Scenario) (c : Coordinator) (place : ℕ) → IsUnforced c (with_age (submit_row sc c) place)
+submission_unforced sc c place =
+    submit_by sc c (λ (effect : Effect Coordinator). IsUnforced c (with_age effect place))
+    (record { ignored = record { same_txn = refl; forces = refl }; sent = λ server home. record { same_txn = refl; forces = refl } })
 
 -- the submission of a transaction that was not submitted before, and whose first row begins it
 pub submit_row_lawful : (sc : Scenario) (P S : ServerId → Type 0) (c : Coordinator) (kept : List Record) (place : ℕ) → Keeps sc P S c kept → is_begun c.phase ≡ false

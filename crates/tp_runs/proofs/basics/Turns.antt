@@ -1,7 +1,7 @@
 -- Turns: a mail of an earlier turn says nothing of the present request, one of the present turn is an answer to it, and requests are few.
 use Rattle.std.specs.List.{list_all, list_any}
 use Rattle.std.specs.Option.{option_map_or}
-use Rattle.std.proofs.Common.{Bool, List, None, Option, Some, [], arith, false, length, not, option_and_then, slice_get, suc, true, zero, ℕ, ◌&&◌, ◌*◌, ◌+◌, ◌-◌, ◌<◌, ◌∷◌, ◌≡◌, ◌≤◌, ◌⊎◌}
+use Rattle.std.proofs.Common.{Bool, IfSome, List, None, Option, Some, [], arith, false, length, not, option_and_then, slice_get, suc, true, zero, ℕ, ◌&&◌, ◌*◌, ◌+◌, ◌-◌, ◌<◌, ◌∷◌, ◌≡◌, ◌≤◌, ◌⊎◌}
 use Rattle.std.proofs.lemmas.Bool.{and_parts}
 use Rattle.std.proofs.lemmas.Option.{slice_get_within}
 use Rattle.tp_model.proofs.RuleLemmas.{count_most}
@@ -46,9 +46,14 @@ stamp_of _ = None
 abbrev pub AreEarlier : ℕ → List Verdict → Type 0
 AreEarlier place verdicts = Each (λ (verdict : Verdict). verdict.place < place) verdicts
 
+-- so were an instance's, and its reading, if it has one
+pub record IsEarlierInstance (place : ℕ) (instance : Instance) : Type 0 where
+  pub proofs : AreEarlier place instance.proofs
+  pub reading : IfSome instance.reading (λ (read : ℕ). read < place)
+
 -- all that a coordinator has closed or gathered was made before the place
 pub record IsAbove (place : ℕ) (instances : List Instance) (gathered : List Verdict) : Type 0 where
-  pub closed : Each (λ (instance : Instance). AreEarlier place instance.proofs) instances
+  pub closed : Each (IsEarlierInstance place) instances
   pub gathered_before : AreEarlier place gathered
 
 -- the verdicts of a vote were made at the place

@@ -4,7 +4,9 @@ use Rattle.tp_types.specs.Effect.{Effect, ignores}
 use Rattle.tp_model.specs.Valid.{is_valid_txn}
 use Rattle.tp_model.specs.Words.body
 use Rattle.tp_model.specs.Words.outcome
-use Rattle.tp_model.specs.Words.{Deed, DoneReply, Mail, Outcome, Query, Scenario, ServerId, Staple, Transaction}
+use Rattle.tp_model.specs.Words.log
+use Rattle.tp_model.specs.Words.decision
+use Rattle.tp_model.specs.Words.{Cause, Deed, DoneReply, Mail, Outcome, Query, Scenario, ServerId, Staple, Transaction}
 use Rattle.tp_runs.proofs.agreement.Coordinator.{idle_is}
 use Rattle.tp_runs.proofs.basics.Homes.{HaveHomes, next_is}
 use Rattle.tp_types.proofs.EachLemmas.{each_as, each_get, each_more}
@@ -12,7 +14,8 @@ use Rattle.tp_runs.proofs.basics.Phases.{awaits_is}
 use Rattle.tp_runs.proofs.bounds.Numbers.{AreBefore, asked_bounded}
 use Rattle.tp_runs.proofs.bounds.Server.{IsBoundedLetter}
 use Rattle.tp_runs.proofs.ids.Valid.{IsValid}
-use Rattle.tp_coord.proofs.Rows.{IsRanAnswer, coordinator_by, submit_by}
+use Rattle.tp_scheme.specs.declared.moves.Point.TheVariants as point
+use Rattle.tp_coord.proofs.Rows.{ByOlder, ByProof, ByRefusal, Gained, IsEnded, IsPassed, IsRanAnswer, QueryRan, coordinator_by, submit_by, with_gained}
 use Rattle.tp_runs.specs.Bounded.{AreBoundedDeeds, IsBounded, IsBoundedAnswer, IsBoundedBody, IsBoundedDeed, IsBoundedRecord, IsBoundedVote}
 use Rattle.tp_machine.specs.Machine.{with_age}
 use Rattle.tp_model.specs.Deeds.{deed_of}
@@ -96,6 +99,11 @@ deeds_before sc c mail done server asked value homes h k =
     each_more (λ (deed : Deed). deed.query < next_number done.query) c.deeds (deed_of done.query asked value)
     (each_as (λ (deed : Deed). deed.query < done.query) (λ (deed : Deed). deed.query < next_number done.query) (λ deed less. omega (arith, less, next)) c.deeds low) (omega (arith, next))
 
+-- what holds of the deeds where a query ran
+record RanBounded (query : ℕ) (now : Gained) : Type 0 where
+  deeds : AreBoundedDeeds now.deeds
+  earlier : AreBefore (next_number query) now.deeds
+
 -- ---- letters without a value
 
 prepares_say_none : (c : Coordinator) (round : Round) (staple : Staple) (servers : List ServerId) → Each IsBoundedLetter (map (coord.prepare_letter c round staple) servers)
@@ -114,19 +122,25 @@ coordinator_row_bounds sc c mail valid homes h said =
     coordinator_by sc c mail CoordinatorBounds
     (record {
       ignored = still_bounded c h;
-      ran_next = λ done server asked value next k home.
-          asks_bounded sc (coord.with_deed c server done asked value) (next_number done.query) next valid homes (deeds_more sc c mail done server asked value h said k) (deeds_before sc c mail done server asked value homes h k);
-      ran_last = λ done server asked value k none. record { state = record { deeds = deeds_more sc c mail done server asked value h said k; low = tt }; forces = tt; letters = (tt, tt) };
-      died = λ done server asked other k. record { state = record { deeds = h.deeds; low = tt }; forces = tt; letters = orders_say_none c outcome.Abort c.servers };
+      sends_query = λ query now next passed moves home.
+          let b = ran_bounded query now passed in
+          asks_bounded sc (with_gained c now) (next_number query) next valid homes b.deeds b.earlier;
+      commit_rounds = λ query now passed moves. record { state = record { deeds = (ran_bounded query now passed).deeds; low = tt }; forces = tt; letters = (tt, tt) };
       told = λ tell round k. record { state = record { deeds = h.deeds; low = tt }; forces = tt; letters = prepares_say_none c round (coord.staple_of tell mail.sent) (coord.awaited_in round) };
-      counted = λ reply round staple server verdicts y e. record { state = record { deeds = h.deeds; low = tt }; forces = tt; letters = tt };
-      committed = λ reply round staple server verdicts y e. record { state = record { deeds = h.deeds; low = tt }; forces = h.deeds; letters = orders_say_none c outcome.Commit c.servers };
-      denied = λ reply round staple server verdicts verdict y e. record { state = record { deeds = h.deeds; low = tt }; forces = tt; letters = orders_say_none c outcome.Abort c.servers };
+      counted = λ reply round staple server verdicts y. record { state = record { deeds = h.deeds; low = tt }; forces = tt; letters = tt };
+      decides = λ instances rounds passed. record { state = record { deeds = h.deeds; low = tt }; forces = h.deeds; letters = orders_say_none c outcome.Commit c.servers };
+      aborted = λ why ended. record { state = record { deeds = h.deeds; low = tt }; forces = cause_bounded why ended; letters = orders_say_none c outcome.Abort c.servers };
       updated = λ reply round staple server verdicts named y e. record { state = record { deeds = h.deeds; low = tt }; forces = tt; letters = (tt, tt) };
-      refused = λ reply round staple server number value k.
-          record { state = record { deeds = h.deeds; low = tt }; forces = subst IsBoundedVote k.vote_is (subst IsBoundedBody k.said_is said); letters = orders_say_none c outcome.Abort c.servers };
       acknowledged = λ ack ended awaited server a. record { state = record { deeds = h.deeds; low = tt }; forces = tt; letters = tt };
     })
+  where
+    ran_bounded : (query : ℕ) (now : Gained) → IsPassed sc c mail (point.Ran query) now → RanBounded query now
+    ran_bounded _ _ (QueryRan done server asked value k) = record { deeds = deeds_more sc c mail done server asked value h said k; earlier = deeds_before sc c mail done server asked value homes h k }
+
+    cause_bounded : (why : Cause) → IsEnded sc c mail why → IsBoundedRecord (log.Decided (record { txn = c.txn; decision = decision.Abort why }))
+    cause_bounded _ (ByOlder done server asked other k) = tt
+    cause_bounded _ (ByProof reply round staple server verdicts verdict y e) = tt
+    cause_bounded _ (ByRefusal reply round staple server number value k) = subst IsBoundedVote k.vote_is (subst IsBoundedBody k.said_is said)
 
 -- the submission of a transaction
 pub submit_row_bounds : (sc : Scenario) (c : Coordinator) (place : ℕ) → IsValid sc → HaveHomes sc → CoordinatorLow c → is_begun c.phase ≡ false → CoordinatorBounds (with_age (coord.submit_row sc c) place)

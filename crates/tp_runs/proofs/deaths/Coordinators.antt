@@ -9,11 +9,12 @@ use Rattle.tp_model.specs.Words.body
 use Rattle.tp_model.specs.Words.log
 use Rattle.tp_model.specs.Words.outcome
 use Rattle.tp_model.specs.Words.what
-use Rattle.tp_model.specs.Words.{Actor, Answer, DoneReply, Fact, Letter, Mail, Outcome, Record, Scenario, ServerId, TxnId}
+use Rattle.tp_model.specs.Words.decision
+use Rattle.tp_model.specs.Words.{Actor, Answer, Cause, DoneReply, Fact, Letter, Mail, Outcome, Record, Scenario, ServerId, TxnId}
 use Rattle.tp_coord.specs.Row.{awaited_in, coordinator_row, is_from, prepare_letter, requests, staple_of, submit_row}
 use Rattle.tp_coord.specs.State.{Coordinator}
 use Rattle.tp_runs.proofs.deaths.Fit.{Adds, AnswerSent, BodyDies, Death, LetterDies, WhatDies, body_dies_still, death_shown}
-use Rattle.tp_coord.proofs.Rows.{coordinator_by, submit_by}
+use Rattle.tp_coord.proofs.Rows.{ByOlder, ByProof, ByRefusal, IsEnded, coordinator_by, submit_by}
 use Rattle.tp_machine.specs.Machine.{with_age}
 use Rattle.tp_types.specs.Each.{Each}
 
@@ -58,28 +59,27 @@ coordinator_row_dies sc old place c mail less h own =
     coordinator_by sc c mail (ActDies sc old place)
     (record {
       ignored = record { forces = λ facts a. tt; sends = tt };
-      ran_next = λ done server asked value next k home. record { forces = λ facts a. tt; sends = (tt, tt) };
-      ran_last = λ done server asked value k none. record { forces = λ facts a. tt; sends = (tt, tt) };
-      died = λ done server asked other k.
-          record {
-            forces = λ facts a declared there.
-                let still = body_dies_still sc old facts place mail.sent mail.letter.from mail.letter.body a (omega (arith, less)) h in
-                let said : BodyDies sc facts mail.sent (actor.Server server) (body.Done done) =
-                subst (λ (from : Actor). BodyDies sc facts mail.sent from (body.Done done)) (server_from mail.letter.from server k.from_is) (subst (BodyDies sc facts mail.sent mail.letter.from) k.said_is still) in
-                let told = told_death sc facts server mail.sent done other done.answer k.answer_is said in
-                let same : done.txn ≡ c.txn = own done k.said_is in
-                death_shown sc facts place server c.txn other done.query mail.sent declared (subst (λ (t : TxnId). Death sc facts server t other done.query) same told.0)
-                (subst (λ (t : TxnId). was_submitted t mail.sent facts ≡ true) same told.1) less there;
-            sends = orders_none sc old place c outcome.Abort c.servers;
-          };
+      sends_query = λ query now next passed moves home. record { forces = λ facts a. tt; sends = (tt, tt) };
+      commit_rounds = λ query now passed moves. record { forces = λ facts a. tt; sends = (tt, tt) };
       told = λ tell round k. record { forces = λ facts a. tt; sends = all_none sc old place (prepare_letter c round (staple_of tell mail.sent)) (λ at. tt) (awaited_in round) };
-      counted = λ reply round staple server verdicts y e. record { forces = λ facts a. tt; sends = tt };
-      committed = λ reply round staple server verdicts y e. record { forces = λ facts a. tt; sends = orders_none sc old place c outcome.Commit c.servers };
-      denied = λ reply round staple server verdicts verdict y e. record { forces = λ facts a. tt; sends = orders_none sc old place c outcome.Abort c.servers };
+      counted = λ reply round staple server verdicts y. record { forces = λ facts a. tt; sends = tt };
+      decides = λ instances rounds passed. record { forces = λ facts a. tt; sends = orders_none sc old place c outcome.Commit c.servers };
+      aborted = λ why ended. record { forces = cause_dies why ended; sends = orders_none sc old place c outcome.Abort c.servers };
       updated = λ reply round staple server verdicts named y e. record { forces = λ facts a. tt; sends = (tt, tt) };
-      refused = λ reply round staple server number value k. record { forces = λ facts a. tt; sends = orders_none sc old place c outcome.Abort c.servers };
       acknowledged = λ ack ended awaited server k. record { forces = λ facts a. tt; sends = tt };
     })
+  where
+    cause_dies : (why : Cause) → IsEnded sc c mail why → (facts : List Fact) → Adds old facts place → WhatDies sc facts place (what.Decided c.txn (decision.Abort why))
+    cause_dies _ (ByOlder done server asked other k) facts a = λ declared there.
+        let still = body_dies_still sc old facts place mail.sent mail.letter.from mail.letter.body a (omega (arith, less)) h in
+        let said : BodyDies sc facts mail.sent (actor.Server server) (body.Done done) =
+        subst (λ (from : Actor). BodyDies sc facts mail.sent from (body.Done done)) (server_from mail.letter.from server k.from_is) (subst (BodyDies sc facts mail.sent mail.letter.from) k.said_is still) in
+        let told = told_death sc facts server mail.sent done other done.answer k.answer_is said in
+        let same : done.txn ≡ c.txn = own done k.said_is in
+        death_shown sc facts place server c.txn other done.query mail.sent declared (subst (λ (t : TxnId). Death sc facts server t other done.query) same told.0)
+        (subst (λ (t : TxnId). was_submitted t mail.sent facts ≡ true) same told.1) less there
+    cause_dies _ (ByProof reply round staple server verdicts verdict y e) facts a = tt
+    cause_dies _ (ByRefusal reply round staple server number value k) facts a = tt
 
 -- the submission of a transaction
 pub submit_row_dies : (sc : Scenario) (old : List Fact) (place : ℕ) (c : Coordinator) → ActDies sc old place (with_age (submit_row sc c) place)

@@ -7,7 +7,6 @@ use Rattle.tp_types.proofs.ListLemmas.{number_itself}
 use Rattle.tp_types.specs.Effect.{Effect, sends}
 use Rattle.std.specs.Option.{option_flatten}
 use Rattle.tp_lock.specs.Rule.{is_of_other, without_grant}
-use Rattle.tp_lock.specs.Table.{Table}
 use Rattle.tp_lock.specs.declared.entry.Asked.TheVariants as asked
 use Rattle.tp_lock.specs.declared.entry.Asked.{Asked}
 use Rattle.tp_lock.specs.declared.entry.Grant.{Grant}
@@ -18,7 +17,7 @@ use Rattle.tp_model.specs.Queries.{item_of}
 use Rattle.tp_model.specs.Words.body
 use Rattle.tp_model.specs.Words.{DoneReply, Fact, Letter, Mail, Query, QueryRequest, Scenario, ServerId, Settled, TxnId}
 use Rattle.tp_runs.proofs.basics.Facts.{ArePast}
-use Rattle.tp_types.proofs.EachLemmas.{each_as, each_found, each_more, placed_emptied, placed_set, set_here}
+use Rattle.tp_types.proofs.EachLemmas.{each_found, each_more, placed_emptied, placed_set, set_here}
 use Rattle.tp_runs.proofs.basics.Locks.{EachLock, all_added, locks_as, released_locks, requested_locks}
 use Rattle.tp_runs.proofs.deaths.Fit.{Death, DoneDies, LetterDies, LockFits, done_sent}
 use Rattle.tp_server.proofs.Tables.{placed_within}

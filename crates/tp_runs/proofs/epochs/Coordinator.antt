@@ -11,7 +11,9 @@ use Rattle.tp_runs.proofs.basics.Phases.{has_run_at, is_undecided}
 use Rattle.tp_runs.proofs.epochs.Asked.{Asking, NamesKept, asked_then, kept_are_asked, kept_are_own, then_kept}
 use Rattle.tp_runs.proofs.epochs.Kept.{CoordinatorKeeps, IsDoneMail, KeepsAsked, KeepsEpoch, PhaseKept, RowKeeps, ignores_keeps, kept_epoch, plain_keeps, query_keeps, ran_last_keeps, ran_next_keeps}
 use Rattle.tp_runs.proofs.epochs.Server.{IsPlainLetter, LetterFirst, LetterTold}
-use Rattle.tp_coord.proofs.Rows.{coordinator_by, submit_by}
+use Rattle.tp_scheme.specs.declared.moves.Move.TheVariants as move
+use Rattle.tp_scheme.specs.declared.moves.Point.TheVariants as point
+use Rattle.tp_coord.proofs.Rows.{Gained, IsPassed, QueryRan, coordinator_by, gains_instances, submit_by, with_gained}
 use Rattle.tp_machine.specs.Machine.{with_age}
 use Rattle.tp_types.specs.Each.{Each}
 use Rattle.tp_coord.specs.Opened.{servers_at}
@@ -22,7 +24,6 @@ use Rattle.tp_coord.specs.declared.coordinator.Phase.{Phase}
 use Rattle.tp_coord.specs.declared.coordinator.Span.TheVariants as span
 use Rattle.tp_runs.proofs.basics.Rounds.{EachServer, each_missing, each_renewed, each_replied, missing_in, updated_is}
 use Rattle.tp_round.specs.Judge.{after_judgement, after_reply, aim_in, judge}
-use Rattle.tp_round.specs.Replies.{by_query, proofs_in}
 use Rattle.tp_round.specs.declared.round.Judged.TheVariants as judged
 use Rattle.tp_round.specs.declared.round.Round.{Round}
 use Rattle.tp_round.specs.declared.round.Wanted.{Wanted}
@@ -124,27 +125,28 @@ coordinator_row_keeps sc E A c mail homes h servers m =
     coordinator_by sc c mail (RowKeeps sc E A c)
     (record {
       ignored = ignores_keeps sc E A c h;
-      ran_next = λ done at asked value next k home. ran_next_keeps sc E A c mail done at asked value next homes h (subst (IsMail sc E A c mail.letter.from) k.said_is m) k;
-      ran_last = λ done at asked value k none. ran_last_keeps sc E A c mail done at asked value homes h servers (subst (IsMail sc E A c mail.letter.from) k.said_is m) k none;
-      died = λ done at asked other k.
-          plain_keeps sc E A c.txn (Some (coord.aborts c (cause.Died (coord.died_for at done other mail.sent))).state) (coord.decide_letters c outcome.Abort)
-          (record { places = h.places; past = h.past; undecided = λ unsure. absurd (cc) }) (orders_plain c outcome.Abort c.servers);
+      sends_query = λ query now next passed moves home. sent query now next passed;
+      commit_rounds = λ query now passed moves. brought query now passed moves;
       told = λ tell round k. prepares_keeps sc E A c round (coord.staple_of tell mail.sent) h k.asking;
-      counted = λ reply round staple at verdicts y e. counted_keeps sc E A c round staple at verdicts h y.checking;
-      committed = λ reply round staple at verdicts y e.
-          plain_keeps sc E A c.txn (Some (coord.commits c round.number (by_query (proofs_in (after_reply round at verdicts).targets))).state) (coord.decide_letters c outcome.Commit)
+      counted = λ reply round staple at verdicts y. counted_keeps sc E A c round staple at verdicts h y.checking;
+      decides = λ instances rounds passed.
+          plain_keeps sc E A c.txn (Some (coord.commits (with_gained c (gains_instances c instances)) rounds).state) (coord.decide_letters c outcome.Commit)
           (record { places = h.places; past = h.past; undecided = λ unsure. absurd (cc) }) (orders_plain c outcome.Commit c.servers);
-      denied = λ reply round staple at verdicts verdict y e.
-          plain_keeps sc E A c.txn (Some (coord.aborts c (cause.Denied (coord.denied_by verdict))).state) (coord.decide_letters c outcome.Abort)
+      aborted = λ why ended.
+          plain_keeps sc E A c.txn (Some (coord.aborts c why).state) (coord.decide_letters c outcome.Abort)
           (record { places = h.places; past = h.past; undecided = λ unsure. absurd (cc) }) (orders_plain c outcome.Abort c.servers);
       updated = λ reply round staple at verdicts named y e. updated_keeps sc E A c round staple at verdicts named h y.checking e;
-      refused = λ reply round staple at number value k.
-          plain_keeps sc E A c.txn (Some (coord.aborts c (cause.No (coord.refused_by at number value))).state) (coord.decide_letters c outcome.Abort)
-          (record { places = h.places; past = h.past; undecided = λ unsure. absurd (cc) }) (orders_plain c outcome.Abort c.servers);
       acknowledged = λ ack ended awaited at k.
           plain_keeps sc E A c.txn (Some (record c { phase = phase.Ending ended (coord.without awaited at) })) []
           (record { places = h.places; past = h.past; undecided = λ unsure. absurd (cc) }) tt;
     })
+  where
+    sent : (query : ℕ) (now : Gained) (next : ServerId) → IsPassed sc c mail (point.Ran query) now → RowKeeps sc E A c (coord.sends_query sc (with_gained c now) (coord.next_number query) next)
+    sent _ _ next (QueryRan done at asked value k) = ran_next_keeps sc E A c mail done at asked value next homes h (subst (IsMail sc E A c mail.letter.from) k.said_is m) k
+
+    brought : (query : ℕ) (now : Gained) → IsPassed sc c mail (point.Ran query) now → coord.move_after sc c query ≡ move.CommitRounds
+        → RowKeeps sc E A c (coord.asks (with_gained c now) span.Commit (coord.commit_round c))
+    brought _ _ (QueryRan done at asked value k) moves = ran_last_keeps sc E A c mail done at asked value homes h servers (subst (IsMail sc E A c mail.letter.from) k.said_is m) k moves
 
 -- ---- Submit
 

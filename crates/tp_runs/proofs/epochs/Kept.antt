@@ -30,6 +30,7 @@ use Rattle.tp_coord.specs.State.{Coordinator}
 use Rattle.tp_coord.specs.declared.coordinator.Phase.TheVariants as phase
 use Rattle.tp_coord.specs.declared.coordinator.Phase.{Phase}
 use Rattle.tp_coord.specs.declared.coordinator.Span.TheVariants as span
+use Rattle.tp_scheme.specs.declared.moves.Move.TheVariants as move
 
 -- ---- what is kept
 
@@ -251,10 +252,10 @@ is_answer sc E A c mail done at asked value m k =
 
 -- the answer to the last query
 pub ran_last_keeps : (sc : Scenario) (E : ℕ → ℕ) (A : Asking) (c : Coordinator) (mail : Mail) (done : DoneReply) (at : ServerId) (asked : Query) (value : ℤ) → HaveHomes sc → CoordinatorKeeps sc E (A c.txn) c
-    → c.servers ≡ servers_at sc c.txn → IsDoneMail sc E A c mail.letter.from done → IsRanAnswer sc c mail done at asked value → coord.home_of sc c (coord.next_number done.query) ≡ None
+    → c.servers ≡ servers_at sc c.txn → IsDoneMail sc E A c mail.letter.from done → IsRanAnswer sc c mail done at asked value → coord.move_after sc c done.query ≡ move.CommitRounds
     → RowKeeps sc E A c (coord.asks (coord.with_deed c at done asked value) span.Commit (coord.commit_round (coord.with_deed c at done asked value)))
-ran_last_keeps sc E A c mail done at asked value homes h servers m k none =
-    last_keeps sc E A c done asked at value h servers (is_answer sc E A c mail done at asked value m k) (last_is sc c done.query asked homes k.asked_is none)
+ran_last_keeps sc E A c mail done at asked value homes h servers m k moves =
+    last_keeps sc E A c done asked at value h servers (is_answer sc E A c mail done at asked value m k) (last_is sc c done.query asked homes k.asked_is moves)
 
 -- the answer to another one
 pub ran_next_keeps : (sc : Scenario) (E : ℕ → ℕ) (A : Asking) (c : Coordinator) (mail : Mail) (done : DoneReply) (at : ServerId) (asked : Query) (value : ℤ) (next : ServerId) → HaveHomes sc

@@ -15,8 +15,8 @@ use Rattle.tp_types.proofs.EachLemmas.{each_append, each_as, each_found, each_mo
 use Rattle.tp_runs.proofs.basics.Phases.{is_first_at}
 use Rattle.tp_runs.proofs.epochs.Asked.{Asking, IsAsked, IsOwnNaming, LetterNamed, NamesNone, NamesOwn, naming, naming_of}
 use Rattle.tp_server.proofs.Rows.{AreRightWaits, IsAsking, IsFirstHere, IsFurther, IsResumed, resuming, server_by, unwaiting}
-use Rattle.tp_recover.proofs.LogLemmas.{boot_of, boots_push}
-use Rattle.tp_recover.specs.Log.{boots_in, epoch_in}
+use Rattle.tp_recover.proofs.LogLemmas.{boots_push}
+use Rattle.tp_recover.specs.Log.{epoch_in}
 use Rattle.tp_machine.specs.Machine.{log_with}
 use Rattle.tp_model.specs.Deeds.{deed_of}
 use Rattle.tp_types.specs.Each.{Each, EachPlaced}

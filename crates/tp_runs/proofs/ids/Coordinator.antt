@@ -9,19 +9,21 @@ use Rattle.tp_model.specs.Queries.{item_of, query_at}
 use Rattle.tp_model.specs.Words.actor
 use Rattle.tp_model.specs.Words.cause
 use Rattle.tp_model.specs.Words.query
-use Rattle.tp_model.specs.Words.{Actor, AdminId, Body, Cause, DoneReply, Item, Mail, Outcome, Query, Scenario, ServerId, Staple, Transaction, TxnId, Verdict, Version, VoteReply}
+use Rattle.tp_model.specs.Words.{Actor, AdminId, Body, Cause, DoneReply, Instance, Item, Mail, Outcome, Query, Scenario, ServerId, Staple, Transaction, TxnId, Verdict, Version, VoteReply}
 use Rattle.tp_runs.proofs.basics.Homes.{IsHome, home_is}
 use Rattle.tp_runs.proofs.basics.Ids.{same_txn_from}
 use Rattle.tp_types.proofs.EachLemmas.{by_cond, each_append, each_as, each_filter, each_flat_map, each_found, each_get, each_map, each_more, each_passing, some_if_not_none}
 use Rattle.tp_runs.proofs.ids.Valid.{IsValid, IsValidItem}
-use Rattle.tp_coord.proofs.Rows.{IsDiedAnswer, IsNo, IsYes, coordinator_by, submit_by}
+use Rattle.tp_scheme.specs.declared.moves.Point.TheVariants as point
+use Rattle.tp_coord.proofs.Rows.{AllTrue, ByOlder, ByProof, ByRefusal, Gained, HasVoted, IsDiedAnswer, IsEnded, IsNo, IsPassed, IsYes, QueryRan, coordinator_by, gains_instances, submit_by, with_gained}
 use Rattle.tp_model.specs.Deeds.{deed_of}
-use Rattle.tp_runs.specs.Sound.{AreSoundVerdicts, AreWanted, IsActor, IsItemOf, IsRefusalOf, IsSoundAnswer, IsSoundBallot, IsSoundBody, IsSoundCause, IsSoundCoordinator, IsSoundCoordinatorRecord, IsSoundDeed, IsSoundInstance, IsSoundLetter, IsSoundPhase, IsSoundProof, IsSoundQuery, IsSoundMet, IsSoundRefusal, IsSoundRound, IsSoundStaple, IsSoundTarget, IsSoundVerdict, IsSoundWanted, IsVersion, ProvesEach, proves_each, query_in}
+use Rattle.tp_runs.specs.Sound.{AreSoundVerdicts, AreWanted, IsActor, IsItemOf, IsRefusalOf, IsSoundAnswer, IsSoundBallot, IsSoundBody, IsSoundCause, IsSoundCoordinator, IsSoundCoordinatorRecord, IsSoundDeed, IsSoundInstance, IsSoundLetter, IsSoundPhase, IsSoundProof, IsSoundQuery, IsSoundMet, IsSoundRefusal, IsSoundRound, IsSoundStaple, IsSoundTarget, IsSoundVerdict, IsSoundWanted, IsVersion, ProvesEach, query_in}
+use Rattle.tp_scheme.specs.Moves.{proves_each}
 use Rattle.tp_types.specs.Each.{Each}
 use Rattle.tp_server.specs.Values.{HasValue}
 use Rattle.tp_machine.specs.Named.{IsServer}
 use Rattle.tp_coord.specs.Sums.{asked_value, registers_after, sum_asked}
-use Rattle.tp_coord.specs.Row.{aborts, asks, commit_round, commits, coordinator_row, coordinator_with_age, denied_by, died_for, instances_with, next_number, next_turn, prepare_letter, prepares, own_query, query_request, refused_by, request, sends_query, staple_of, submit_row, value_of, with_deed, without}
+use Rattle.tp_coord.specs.Row.{aborts, asks, commit_round, commits, coordinator_row, coordinator_with_age, denied_by, died_for, next_number, next_turn, prepare_letter, prepares, own_query, query_request, refused_by, request, sends_query, staple_of, submit_row, value_of, with_deed, without}
 use Rattle.tp_coord.specs.State.{Coordinator}
 use Rattle.tp_coord.specs.declared.coordinator.Phase.TheVariants as phase
 use Rattle.tp_coord.specs.declared.coordinator.Phase.{Phase}
@@ -201,15 +203,13 @@ proofs_sound sc txn round e h =
     (each_passing (IsSoundVerdict sc txn) (IsSoundProof sc txn) is_true (λ verdict sound passes. record { sound = sound; has_rule = some_if_not_none verdict.rule passes }) (proofs_in round.targets) (all_agree round None e).all_true
     (replies_sound sc txn round.targets h))
 
-commits_sound : (sc : Scenario) (c : Coordinator) (rounds : ℕ) (proofs : List Verdict) → IsSoundCoordinator sc c → Each (IsSoundProof sc c.txn) proofs
-    → IsSoundCoordinatorEffect sc c (commits c rounds proofs)
-commits_sound sc c rounds proofs h p =
-    let instances : Each (IsSoundInstance sc c.txn) (instances_with c proofs) =
-    each_more (IsSoundInstance sc c.txn) c.instances (record { reading = None; proofs = proofs }) h.instances p in
+commits_sound : (sc : Scenario) (c : Coordinator) (instances : List Instance) (rounds : ℕ) → IsSoundCoordinator sc c → Each (IsSoundInstance sc c.txn) instances
+    → IsSoundCoordinatorEffect sc c (commits (with_gained c (gains_instances c instances)) rounds)
+commits_sound sc c instances rounds h closed =
     record {
       same_txn = refl;
-      state_is = record { exists = h.exists; servers = h.servers; deeds = h.deeds; gathered = h.gathered; instances = instances; awaits = h.servers };
-      forces = record { txn_is = refl; rests_on = record { instances = instances; deeds = h.deeds } };
+      state_is = record { exists = h.exists; servers = h.servers; deeds = h.deeds; gathered = h.gathered; instances = closed; awaits = h.servers };
+      forces = record { txn_is = refl; rests_on = record { instances = closed; deeds = h.deeds } };
       sends_only = each_map (IsServer sc) (IsSoundLetter sc) _
           (λ server exists. request_sound sc c server _ h exists (record { txn = h.exists; goes_to = tt })) c.servers h.servers;
     }
@@ -328,30 +328,22 @@ coordinator_row_sound sc c mail valid h a r m =
     coordinator_by sc c mail (IsSoundCoordinatorEffect sc c)
     (record {
       ignored = ignores_sound_in_coordinator sc c h;
-      ran_next = λ done server asked value next k home.
-          let now = with_deed c server done asked value in
-          let further : IsHome sc c (next_number done.query) next = home_is sc c (next_number done.query) next home in
-          let on = sends_query_sound sc now (next_number done.query) next valid (with_deed_sound sc c server done asked value h k.asked_is)
+      sends_query = λ query now next passed moves home.
+          let further : IsHome sc c (next_number query) next = home_is sc c (next_number query) next home in
+          let on = sends_query_sound sc (with_gained c now) (next_number query) next valid (ran_sound query now passed)
           (record { asked = further.asked; asked_is = further.asked_is; server_is = further.server_is }) in
           record { same_txn = refl; state_is = on.state_is; forces = tt; sends_only = on.sends_only };
-      ran_last = λ done server asked value k none.
-          let now = with_deed c server done asked value in
-          let on = asks_sound sc now (commit_round now) (with_deed_sound sc c server done asked value h k.asked_is)
+      commit_rounds = λ query now passed moves.
+          let on = asks_sound sc (with_gained c now) (commit_round c) (ran_sound query now passed)
           (record { view = view_for_each; targets = first_sound sc c.txn c.servers h.servers; aim = tt; named = tt; mets = tt }) in
           record { same_txn = refl; state_is = on.state_is; forces = tt; sends_only = on.sends_only };
-      died = λ done server asked other k. aborts_sound sc c (cause.Died (died_for server done other mail.sent)) h (died_sound sc c mail done server asked other valid m k);
       told = λ tell round k. prepares_sound sc c round (staple_of tell mail.sent) h (awaits k.asking).1 (subst (IsSoundBody sc (actor.Coordinator c.txn)) k.said_is m).revoked;
-      counted = λ reply round staple server verdicts y e. counted_sound sc c (after_reply round server verdicts) staple h (replied reply round staple server verdicts y) (awaits y.checking).2;
-      committed = λ reply round staple server verdicts y e.
-          let replied_round = after_reply round server verdicts in
-          commits_sound sc c round.number (by_query (proofs_in replied_round.targets)) h (proofs_sound sc c.txn replied_round e (replied reply round staple server verdicts y).targets);
-      denied = λ reply round staple server verdicts verdict y e.
-          aborts_sound sc c (cause.Denied (denied_by verdict)) h (denied_sound sc c.txn (after_reply round server verdicts) verdict e (replied reply round staple server verdicts y).targets);
+      counted = λ reply round staple server verdicts y. counted_sound sc c (after_reply round server verdicts) staple h (replied reply round staple server verdicts y) (awaits y.checking).2;
+      decides = λ instances rounds passed. commits_sound sc c instances rounds h (instances_sound instances rounds passed);
+      aborted = λ why ended. aborts_sound sc c why h (cause_sound why ended);
       updated = λ reply round staple server verdicts named y e.
           let replied_round = after_reply round server verdicts in
           asks_sound sc c (after_judgement replied_round None) h (next_sound sc c.txn replied_round named e (replied reply round staple server verdicts y));
-      refused = λ reply round staple server number value k.
-          aborts_sound sc c (cause.No (refused_by server number value)) h (no_sound sc c mail reply round staple server number value r m k);
       acknowledged = λ ack ended awaited server k. acknowledged_sound sc c ended awaited server h (awaits k.ending);
     })
   where
@@ -361,3 +353,18 @@ coordinator_row_sound sc c mail valid h a r m =
     replied : (reply : VoteReply) (round : Round) (staple : Staple) (server : ServerId) (verdicts : List Verdict) → IsYes c mail reply round staple server verdicts → IsSoundRound sc c.txn (after_reply round server verdicts)
     replied reply round staple server verdicts y =
         replied_sound sc c.txn round server verdicts (awaits y.checking).1 (subst (IsActor sc) y.from_is a) (yes_sound sc c mail reply round staple server verdicts m y)
+
+    ran_sound : (query : ℕ) (now : Gained) → IsPassed sc c mail (point.Ran query) now → IsSoundCoordinator sc (with_gained c now)
+    ran_sound _ _ (QueryRan done server asked value k) = with_deed_sound sc c server done asked value h k.asked_is
+
+    instances_sound : (instances : List Instance) (rounds : ℕ) → HasVoted sc c mail point.Voted instances rounds → Each (IsSoundInstance sc c.txn) instances
+    instances_sound _ _ (AllTrue reply round staple server verdicts k) =
+        let replied_round = after_reply round server verdicts in
+        let proofs = by_query (proofs_in replied_round.targets) in
+        each_more (IsSoundInstance sc c.txn) c.instances (record { reading = None; proofs = proofs }) h.instances
+        (proofs_sound sc c.txn replied_round k.all_true (replied reply round staple server verdicts k.yes).targets)
+
+    cause_sound : (why : Cause) → IsEnded sc c mail why → IsSoundCause sc c.txn why
+    cause_sound _ (ByOlder done server asked other k) = died_sound sc c mail done server asked other valid m k
+    cause_sound _ (ByProof reply round staple server verdicts verdict y e) = denied_sound sc c.txn (after_reply round server verdicts) verdict e (replied reply round staple server verdicts y).targets
+    cause_sound _ (ByRefusal reply round staple server number value k) = no_sound sc c mail reply round staple server number value r m k

@@ -1,5 +1,5 @@
 -- What the proofs of soundness take from a scenario: rules that every scenario keeps, and one of the form that is built.
-use Rattle.std.proofs.Common.{List, None, Option, Some, [], arith, false, length, map, nat_le, option_and_then, refl, slice_get, suc, true, zero, ℕ, ◌+◌, ◌∷◌, ◌≡◌, ◌≤◌}
+use Rattle.std.proofs.Common.{List, [], arith, false, length, map, true, ℕ, ◌+◌, ◌∷◌, ◌≡◌, ◌≤◌}
 use Rattle.std.proofs.lemmas.Bool.Decides.{nat_tests}
 use Rattle.std.proofs.lemmas.Bool.{and_parts, ltb-true}
 use Rattle.std.specs.List.{list_all}
@@ -7,17 +7,16 @@ use Rattle.tp_model.proofs.RuleLemmas as rules
 use Rattle.tp_model.specs.Built.{is_built}
 use Rattle.tp_model.specs.Limits.{has_count, is_between, is_from_to, is_value}
 use Rattle.tp_model.specs.Valid.{are_by_server, are_distinct, are_known, are_valid_from, has_valid_bounds, has_valid_creds, has_valid_range, is_admin, is_cred, is_known, is_server, is_valid_admin, is_valid_cred, is_valid_item, is_valid_policy, is_valid_server, is_valid_txn, owned_from, same_admin_name, same_cred_name, same_item_name, same_server_name, same_txn_name}
-use Rattle.tp_model.specs.Authorisation.{library_version, version_of}
 use Rattle.tp_model.specs.Ids.{same_cred, same_item}
 use Rattle.std.specs.Cmp.Lexicographic.{pointwise}
-use Rattle.tp_model.specs.Words.{Admin, CredId, Item, Policy, Scenario, ServerDecl, Transaction, Version}
+use Rattle.tp_model.specs.Words.{Admin, CredId, Item, Scenario, ServerDecl, Transaction, Version}
 use Rattle.tp_offices.specs.Master.{last_of, opening_in}
-use Rattle.tp_runs.specs.Sound.{AreCreds, AreVersions, AreVersionsOf, IsVersionOf, proves_each}
+use Rattle.tp_runs.specs.Sound.{AreCreds, AreVersions, AreVersionsOf, IsVersionOf}
+use Rattle.tp_scheme.specs.Moves.{proves_each}
 use Rattle.tp_types.specs.Each.{Each}
 use Rattle.tp_machine.specs.Named.{IsAdmin, IsCred, IsServer}
 use Rattle.tp_types.proofs.EachLemmas.{each_from_all}
-use Rattle.tp_server.specs.Verdicts.{HasFewRules}
-use Rattle.tp_types.proofs.EachLemmas.{each_as, each_get}
+use Rattle.tp_types.proofs.EachLemmas.{each_as}
 use Rattle.tp_runs.proofs.ids.Built.{deferred_built}
 use Rattle.tp_types.proofs.ListLemmas.{three_parts}
 

@@ -12,8 +12,8 @@ use Rattle.tp_model.specs.Words.actor
 use Rattle.tp_model.specs.Words.body
 use Rattle.tp_model.specs.Words.what
 use Rattle.tp_model.specs.Words.{Actor, Body, Deed, Fact, Letter, Mail, Record, Scenario, ServerId, Step, Transaction, TxnId, What}
-use Rattle.tp_runs.proofs.agreement.Coordinator.{CoordinatorAgrees, PhaseAgrees}
-use Rattle.tp_runs.proofs.agreement.Steps.{begun_lawful, coordinator_lawful, mail_rests, mail_sound, own_txn, server_agrees}
+use Rattle.tp_runs.proofs.agreement.Coordinator.{CoordinatorAgrees, PhaseAgrees, submission_unforced}
+use Rattle.tp_runs.proofs.agreement.Steps.{coordinator_lawful, mail_rests, mail_sound, own_txn, server_agrees}
 use Rattle.tp_runs.proofs.agreement.World.{Agrees, BodyRests, CoordinatorUpAgrees}
 use Rattle.tp_runs.proofs.basics.Facts.{each_new_mail}
 use Rattle.tp_runs.proofs.basics.Homes.{HaveHomes}
@@ -459,7 +459,7 @@ begun_pairs : (sc : Scenario) (w : State) → is_built sc ≡ true → AreFew sc
 begun_pairs sc w built few sound a epochs trusts h txn part c exists up new =
     let effect = with_age (submit_row sc c) (length w.steps) in
     let d = declared_by sc txn exists in
-    let same = (begun_lawful sc w (valid_built sc built) sound a txn part c exists up new).same_txn ∙ own_txn sc w txn part c sound up.found up.up in
+    let same = (submission_unforced sc c (length w.steps)).same_txn ∙ own_txn sc w txn part c sound up.found up.up in
     coordinator_acts_pairs sc w d.0 txn part (Some effect.state) (what.Submitted txn ∷ []) effect.reaction.append effect.reaction.letters h up.found d.1
     (row_asks sc d.0 txn (pair_at w.actors txn) effect same
     (submit_row_asks sc d.0 (pair_at w.actors txn) c (length w.steps) (coordinator_paired sc w d.0 txn part c few sound epochs trusts h up d.1) new))
@@ -534,6 +534,7 @@ bare_fits s epoch up asker fresh =
             least = λ asks. absurd (cc);
             most = omega arith;
             all = λ prepares. absurd (cc);
+            unsettled = λ ended. absurd (cc);
           })) fresh;
       entry = tt;
     }

@@ -1,5 +1,5 @@
 -- Locks at a server, grants: what a receipt grants is taken before it ends, so that none is left.
-use Rattle.std.proofs.Common.{Bool, List, None, Option, Some, [], ap, drop, is_none, is_some, nat_lt, not, option_and_then, refl, slice_get, ℕ, ℤ, ◌&&◌, ◌==◌, ◌∙◌, ◌∷◌, ◌≡◌}
+use Rattle.std.proofs.Common.{List, None, Option, Some, [], ap, drop, is_none, is_some, nat_lt, not, refl, slice_get, ℕ, ℤ, ◌&&◌, ◌==◌, ◌∙◌, ◌∷◌, ◌≡◌}
 use Rattle.std.specs.Option.{option_flatten}
 use Rattle.tp_types.specs.Effect.{Effect}
 use Rattle.tp_lock.specs.Rule.{after_release}

@@ -169,18 +169,16 @@ coordinator_row_sends most sc c mail one servers h =
     coordinator_by sc c mail (SendsFew most)
     (record {
       ignored = record { awaits = h; letters = omega arith };
-      ran_next = λ done server asked value next k home. record { awaits = omega arith; letters = one };
-      ran_last = λ done server asked value k none. record { awaits = omega (arith, servers, length-map c.servers new_target); letters = one };
-      died = λ done server asked other k. record { awaits = servers; letters = decides_few most c c.servers outcome.Abort servers };
+      sends_query = λ query now next passed moves home. record { awaits = omega arith; letters = one };
+      commit_rounds = λ query now passed moves. record { awaits = omega (arith, servers, length-map c.servers new_target); letters = one };
       told = λ tell round k.
           let few = awaits_in most c _ h k.asking in
           record { awaits = few; letters = omega (arith, few, missing_few round.targets, length-map (missing_in round.targets) (coord.prepare_letter c round (coord.staple_of tell mail.sent))) };
-      counted = λ reply round staple server verdicts y e. record { awaits = omega (arith, awaits_in most c _ h y.checking, replied_length round.targets server verdicts); letters = omega arith };
-      committed = λ reply round staple server verdicts y e. record { awaits = servers; letters = decides_few most c c.servers outcome.Commit servers };
-      denied = λ reply round staple server verdicts verdict y e. record { awaits = servers; letters = decides_few most c c.servers outcome.Abort servers };
+      counted = λ reply round staple server verdicts y. record { awaits = omega (arith, awaits_in most c _ h y.checking, replied_length round.targets server verdicts); letters = omega arith };
+      decides = λ instances rounds passed. record { awaits = servers; letters = decides_few most c c.servers outcome.Commit servers };
+      aborted = λ why ended. record { awaits = servers; letters = decides_few most c c.servers outcome.Abort servers };
       updated = λ reply round staple server verdicts named y e.
           record { awaits = omega (arith, awaits_in most c _ h y.checking, replied_length round.targets server verdicts, updated_length (after_reply round server verdicts) named e); letters = one };
-      refused = λ reply round staple server number value k. record { awaits = servers; letters = decides_few most c c.servers outcome.Abort servers };
       acknowledged = λ ack ended awaited server a. record { awaits = without_few most awaited server (awaits_in most c _ h a.ending); letters = omega arith };
     })
 

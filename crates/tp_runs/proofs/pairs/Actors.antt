@@ -4,7 +4,7 @@ use Rattle.std.specs.Option.{option_flatten, option_map_or}
 use Rattle.tp_model.specs.Words.actor
 use Rattle.tp_model.specs.Words.body
 use Rattle.tp_model.specs.Words.{Actor, Body, DoneReply, Letter, PrepareRequest, QueryRequest, Record, Scenario, Transaction, TxnId, VoteReply}
-use Rattle.tp_runs.proofs.basics.Phases.{Asks, Prepares, Rests, Stand, is_undecided, stand_of}
+use Rattle.tp_runs.proofs.basics.Phases.{is_undecided, stand_of}
 use Rattle.tp_runs.proofs.pairs.Fits.{DoneFits, Fits, PrepareFits, QueryFits, VoteFits}
 use Rattle.tp_runs.proofs.pairs.Follows.{Follows, Next, done_follows, prepare_follows, query_follows}
 use Rattle.tp_runs.proofs.pairs.Pair.{Asker, Pair}
@@ -13,8 +13,6 @@ use Rattle.tp_machine.specs.Logs.{epoch_by, prepared_by, settled_by}
 use Rattle.tp_machine.specs.Parts.{Part}
 use Rattle.tp_coord.specs.State.{Coordinator}
 use Rattle.tp_machine.specs.declared.actors.Actors.{Actors}
-use Rattle.tp_coord.specs.declared.coordinator.Phase.TheVariants as phase
-use Rattle.tp_coord.specs.declared.coordinator.Phase.{Phase}
 use Rattle.tp_server.specs.declared.server.Entry.{Entry}
 use Rattle.tp_server.specs.Row.{entry_at}
 use Rattle.tp_server.specs.State.{Server}

@@ -51,6 +51,7 @@ answered_fits s p a epoch value h asks asked numbers_are pairing =
       least = λ again. absurd (cc);
       most = omega (arith, longer, least);
       all = λ prepares. absurd (cc);
+      unsettled = λ ended. let prepares = h.unsettled ended in absurd (cc);
     }
 
 -- ---- the query that is asked

@@ -16,7 +16,7 @@ use Rattle.tp_model.specs.Words.{Actor, Body, Deed, DoneReply, Item, Letter, Mai
 use Rattle.tp_runs.proofs.agreement.Coordinator.{idle_is}
 use Rattle.tp_runs.proofs.basics.Homes.{HaveHomes, IsHome, home_is, last_is, next_is}
 use Rattle.tp_types.proofs.EachLemmas.{each_get, set_here}
-use Rattle.tp_runs.proofs.basics.Phases.{Asks, Pauses, Prepares, Rests, Stand, awaits_is, is_undecided, sent_to_server, stand_of}
+use Rattle.tp_runs.proofs.basics.Phases.{Asks, Pauses, Prepares, Stand, awaits_is, is_undecided, sent_to_server, stand_of}
 use Rattle.tp_runs.proofs.epochs.Coordinator.{some_is}
 use Rattle.tp_runs.proofs.epochs.Kept.{KeepsEpoch, PhaseKept, from_server, kept_epoch}
 use Rattle.tp_runs.proofs.ids.Valid.{IsValid, IsValidItem}
@@ -32,7 +32,9 @@ use Rattle.tp_runs.proofs.pairs.Site.{Site, count, here, one_home}
 use Rattle.tp_runs.proofs.basics.Folds.{set_elsewhere}
 use Rattle.tp_runs.proofs.deeds.Runs.{deed_asked, deed_at}
 use Rattle.tp_runs.proofs.basics.Turns.{turn_rises}
-use Rattle.tp_coord.proofs.Rows.{IsRanAnswer, coordinator_by, submit_by}
+use Rattle.tp_scheme.specs.declared.moves.Move.TheVariants as move
+use Rattle.tp_scheme.specs.declared.moves.Point.TheVariants as point
+use Rattle.tp_coord.proofs.Rows.{Gained, IsPassed, IsRanAnswer, QueryRan, coordinator_by, gains_instances, submit_by, with_gained}
 use Rattle.tp_machine.specs.Machine.{with_age}
 use Rattle.tp_model.specs.Deeds.{deed_of}
 use Rattle.tp_types.specs.Each.{Each}
@@ -46,7 +48,6 @@ use Rattle.tp_coord.specs.declared.coordinator.Span.TheVariants as span
 use Rattle.tp_coord.specs.declared.coordinator.Span.{Span}
 use Rattle.tp_runs.proofs.basics.Rounds.{EachServer, each_missing, missing_in}
 use Rattle.tp_round.specs.Judge.{after_judgement, after_reply}
-use Rattle.tp_round.specs.Replies.{by_query, proofs_in}
 use Rattle.tp_round.specs.declared.round.Round.{Round}
 
 -- ---- an act
@@ -447,29 +448,36 @@ server_exists_in_pairs sc asked server valid e = found (slice_get sc.items (item
 pub coordinator_row_asks : (sc : Scenario) (declared : Transaction) (P : ℕ → Pair) (c : Coordinator) (mail : Mail) → IsValid sc → HaveHomes sc → CoordinatorPaired sc declared P c
     → AnswerPairs sc declared P mail.letter.from mail.letter.body → RowAsks sc declared P (coord.coordinator_row sc c mail)
 coordinator_row_asks sc declared P c mail valid homes h m =
-    let awaited = λ (done : DoneReply) (server : ServerId) (asked : Query) (value : ℤ) (k : IsRanAnswer sc c mail done server asked value).
-    answer_awaited sc declared P c mail done server asked value h m (server_exists_in_pairs sc asked server valid k.server_is) k in
     coordinator_by sc c mail (RowAsks sc declared P)
     (record {
       ignored = ignores_asks sc declared P c h;
-      ran_next = λ done server asked value next k home.
-          next_asks sc declared P c done asked server next value h (awaited done server asked value k) (next_is sc c done.query asked homes k.asked_is) (home_is sc c (next_number done.query) next home);
-      ran_last = λ done server asked value k none.
-          last_asks sc declared P c done asked server value h (awaited done server asked value k) (no_query sc c declared (done.query + 1) h.declared_is (last_is sc c done.query asked homes k.asked_is none));
-      died = λ done server asked other k. ends_asks sc declared P c (coord.aborts c (cause.Died (coord.died_for server done other mail.sent))).state outcome.Abort c.servers h refl tt;
+      sends_query = λ query now next passed moves home. sent query now next passed home;
+      commit_rounds = λ query now passed moves. brought query now passed moves;
       told = λ tell round k. prepares_asks sc declared P c round (coord.staple_of tell mail.sent) h k.asking;
-      counted = λ reply round staple server verdicts y e. record {
+      counted = λ reply round staple server verdicts y. record {
         next = λ at. still_asks sc declared P c (record c { phase = phase.Checking span.Commit (after_reply round server verdicts) staple }) at h (counted_asker at c round (after_reply round server verdicts) staple y.checking);
         numbered = tt;
         requests = tt;
       };
-      committed = λ reply round staple server verdicts y e. ends_asks sc declared P c (coord.commits c round.number (by_query (proofs_in (after_reply round server verdicts).targets))).state outcome.Commit c.servers h refl tt;
-      denied = λ reply round staple server verdicts verdict y e. ends_asks sc declared P c (coord.aborts c (cause.Denied (coord.denied_by verdict))).state outcome.Abort c.servers h refl tt;
+      decides = λ instances rounds passed. ends_asks sc declared P c (coord.commits (with_gained c (gains_instances c instances)) rounds).state outcome.Commit c.servers h refl tt;
+      aborted = λ why ended. ends_asks sc declared P c (coord.aborts c why).state outcome.Abort c.servers h refl tt;
       updated = λ reply round staple server verdicts named y e. updated_asks sc declared P c round (after_judgement (after_reply round server verdicts) None) staple h y.checking;
-      refused = λ reply round staple server number value k. ends_asks sc declared P c (coord.aborts c (cause.No (coord.refused_by server number value))).state outcome.Abort c.servers h refl tt;
       acknowledged = λ ack ended awaited server a. record {
         next = λ at. still_asks sc declared P c (record c { phase = phase.Ending ended (coord.without awaited server) }) at h (sym (ap (λ (p : Phase). if is_undecided p then Some (asker_of at c) else None) a.ending));
         numbered = tt;
         requests = tt;
       };
     })
+  where
+    awaited : (done : DoneReply) (server : ServerId) (asked : Query) (value : ℤ) → IsRanAnswer sc c mail done server asked value → IsAwaited sc declared P c done asked server value
+    awaited done server asked value k = answer_awaited sc declared P c mail done server asked value h m (server_exists_in_pairs sc asked server valid k.server_is) k
+
+    sent : (query : ℕ) (now : Gained) (next : ServerId) → IsPassed sc c mail (point.Ran query) now → coord.home_of sc c (next_number query) ≡ Some next
+        → RowAsks sc declared P (coord.sends_query sc (with_gained c now) (next_number query) next)
+    sent _ _ next (QueryRan done server asked value k) home =
+        next_asks sc declared P c done asked server next value h (awaited done server asked value k) (next_is sc c done.query asked homes k.asked_is) (home_is sc c (next_number done.query) next home)
+
+    brought : (query : ℕ) (now : Gained) → IsPassed sc c mail (point.Ran query) now → coord.move_after sc c query ≡ move.CommitRounds
+        → RowAsks sc declared P (coord.asks (with_gained c now) span.Commit (coord.commit_round c))
+    brought _ _ (QueryRan done server asked value k) moves =
+        last_asks sc declared P c done asked server value h (awaited done server asked value k) (no_query sc c declared (done.query + 1) h.declared_is (last_is sc c done.query asked homes k.asked_is moves))

@@ -5,6 +5,7 @@ use Rattle.std.proofs.lemmas.Option.{same_Some}
 use Rattle.tp_model.specs.Words.{PrepareRequest, Prepared}
 use Rattle.tp_server.specs.declared.server.Ballot.{Ballot}
 use Rattle.tp_server.specs.declared.server.Entry.{Entry}
+use Rattle.tp_runs.proofs.basics.Phases.{Prepares}
 use Rattle.tp_runs.proofs.pairs.Fits.{AreOnAll, AskerFits, EntryFits, Fits, PrepareFits, PrepareLive, ServerFits}
 use Rattle.tp_runs.proofs.pairs.Follows.{Next, follows_lost, onward_same}
 use Rattle.tp_runs.proofs.basics.Found.{of_some, some_as}
@@ -43,9 +44,9 @@ prepared_there s p prepared h is =
 abbrev pub settled : Pair → Pair
 settled p = record p { settled = true; entry = None; prepared = None }
 
--- the transaction is settled where no vote YES binds its coordinator any more
-settles : (s : Site) (p : Pair) → p.up ≡ true → Fits s p → (p.voted ≡ true → is_some p.asker ≡ true → ⊥) → Next s p (settled p)
-settles s p up h unbound =
+-- the transaction is settled where no vote YES binds its coordinator any more, and the coordinator has asked for votes
+settles : (s : Site) (p : Pair) → p.up ≡ true → Fits s p → (p.voted ≡ true → is_some p.asker ≡ true → ⊥) → ((a : Asker) → p.asker ≡ Some a → a.stand ≡ Prepares) → Next s p (settled p)
+settles s p up h unbound prepares =
     let q = settled p in
     let nothing : held q ≡ None = held_up p.up None None up in
     let loses : Loses p q = loses_all p q nothing refl h.server.past (λ e. inr (inl refl)) in
@@ -60,7 +61,7 @@ settles s p up h unbound =
           voted = λ voted there. absurd (unbound voted there);
           verdicts = λ prepared e. absurd (cc);
         };
-        asker = some_as (AskerFits s p) (AskerFits s q) p.asker (λ a there old. asker_lost s p q a loses (λ prepared e. absurd (cc)) old) h.asker;
+        asker = some_as (AskerFits s p) (AskerFits s q) p.asker (λ a there old. asker_lost s p q a loses (λ prepared e. absurd (cc)) (λ ended. prepares a there) old) h.asker;
         entry = tt;
       };
       follows = follows_lost p q loses (onward_same p.asker);
@@ -68,7 +69,7 @@ settles s p up h unbound =
 
 -- by the order of a coordinator that has decided
 pub ordered : (s : Site) (p : Pair) → p.up ≡ true → p.asker ≡ None → Fits s p → Next s p (settled p)
-ordered s p up decided h = settles s p up h (λ voted there. let none = ap is_some decided in cc)
+ordered s p up decided h = settles s p up h (λ voted there. let none = ap is_some decided in cc) (λ a there. let none = sym decided ∙ there in absurd (cc))
 
 -- what is prepared for a coordinator that is up and has not decided was voted on in the epoch that its requests name
 not_refused : (s : Site) (p : Pair) (r : PrepareRequest) (a : Asker) (prepared : Prepared) → p.up ≡ true → Fits s p → PrepareFits s p r → p.asker ≡ Some a → p.prepared ≡ Some prepared
@@ -85,7 +86,8 @@ not_refused s p r a prepared up h asked there is unvoted =
 
 -- by a vote NO: on a request to prepare, where no entry of the epoch that it names was voted on
 pub refuses : (s : Site) (p : Pair) (r : PrepareRequest) → p.up ≡ true → Fits s p → PrepareFits s p r → ((entry : Entry) → p.entry ≡ Some entry → entry.epoch ≡ r.epoch → entry.ballot ≡ None) → Next s p (settled p)
-refuses s p r up h asked unvoted = settles s p up h (λ voted there. both p.asker p.prepared refl refl there (h.server.voted voted there))
+refuses s p r up h asked unvoted =
+    settles s p up h (λ voted there. both p.asker p.prepared refl refl there (h.server.voted voted there)) (λ a there. (of_some (PrepareLive r) p.asker a there asked.live).prepares)
   where
     both : (asker : Option Asker) (prepared : Option Prepared) → p.asker ≡ asker → p.prepared ≡ prepared → is_some asker ≡ true → is_some prepared ≡ true → ⊥
     both None prepared e f there is = cc
@@ -118,7 +120,7 @@ crashes s p up h =
           voted = h.server.voted;
           verdicts = h.server.verdicts;
         };
-        asker = some_as (AskerFits s p) (AskerFits s q) p.asker (λ a there old. asker_lost s p q a loses old.made old) h.asker;
+        asker = some_as (AskerFits s p) (AskerFits s q) p.asker (λ a there old. asker_lost s p q a loses old.made old.unsettled old) h.asker;
         entry = tt;
       };
       follows = follows_lost p q loses (onward_same p.asker);
@@ -170,7 +172,7 @@ boots s p down h =
           voted = h.server.voted;
           verdicts = h.server.verdicts;
         };
-        asker = some_as (AskerFits s p) (AskerFits s q) p.asker (λ a there old. asker_lost s p q a loses old.made old) h.asker;
+        asker = some_as (AskerFits s p) (AskerFits s q) p.asker (λ a there old. asker_lost s p q a loses old.made old.unsettled old) h.asker;
         entry = restored_fits s q p.prepared h.server.verdicts;
       };
       follows = follows_lost p q loses (onward_same p.asker);

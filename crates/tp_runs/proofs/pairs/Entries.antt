@@ -49,7 +49,7 @@ with_entry_fits s p entry waiting answers is h fits =
           voted = h.server.voted;
           verdicts = h.server.verdicts;
         };
-        asker = some_as (AskerFits s p) (AskerFits s q) p.asker (λ a there old. asker_lost s p q a loses old.made old) h.asker;
+        asker = some_as (AskerFits s p) (AskerFits s q) p.asker (λ a there old. asker_lost s p q a loses old.made old.unsettled old) h.asker;
         entry = fits f;
       };
       follows = f;
@@ -147,6 +147,7 @@ makes s p age up unsettled none h =
           least = old.least;
           most = old.most;
           all = old.all;
+          unsettled = old.unsettled;
         }) h.asker;
         entry = record { waiting = tt; answers = tt; answered = λ unvoted number has. absurd (contains_none number has); present = λ unvoted. refl; ballot = tt };
       };

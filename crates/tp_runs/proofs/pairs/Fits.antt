@@ -86,7 +86,7 @@ pub record Made (a : Asker) (prepared : Prepared) : Type 0 where
   pub epoch : a.epoch ≡ Some prepared.epoch
   pub prepares : a.stand ≡ Prepares
 
--- a coordinator that is up and has not decided
+-- a coordinator that is up and has not decided; before it brings the servers to vote, nothing of its transaction is settled
 pub record AskerFits (s : Site) (p : Pair) (a : Asker) : Type 0 where
   pub numbers_are : numbers (got s a.deeds) ≡ upto s (length a.deeds)
   pub runs : RunsSoFar s.txn a.deeds
@@ -95,6 +95,7 @@ pub record AskerFits (s : Site) (p : Pair) (a : Asker) : Type 0 where
   pub least : a.stand ≡ Asks → length a.deeds < count s
   pub most : length a.deeds ≤ count s
   pub all : a.stand ≡ Prepares → length a.deeds ≡ count s
+  pub unsettled : p.settled ≡ true → a.stand ≡ Prepares
 
 -- ---- mails
 

@@ -1,6 +1,7 @@
 -- Changes after which a server holds what it held before, or less: all but the making of an entry and the run of a query.
 use Rattle.std.proofs.Common.{◌≡◌, ◌⊎◌, inl, inr, ⊎_elim, ℕ, ◌<◌, ◌≤◌, List, length, true, false, Option, Some, None, refl, sym, ◌∙◌, arith}
 use Rattle.tp_model.specs.Words.{Deed, Prepared}
+use Rattle.tp_runs.proofs.basics.Phases.{Prepares}
 use Rattle.tp_runs.proofs.pairs.Fits.{AskerFits, IsGone, IsOver, IsThere, Made, Matches, Pairing, Tells, There}
 use Rattle.tp_runs.proofs.pairs.Pair.{Asker, Held, Pair, held}
 use Rattle.tp_runs.proofs.pairs.Site.{Site, upto}
@@ -72,8 +73,8 @@ pub pairing_lost : (s : Site) (p q : Pair) (a : Asker) (epoch : Option ℕ) → 
 pairing_lost s p q a epoch loses h = pairing_as s p q a a epoch loses refl (λ deeds m. m) h
 
 -- a coordinator fits as before
-pub asker_lost : (s : Site) (p q : Pair) (a : Asker) → Loses p q → ((prepared : Prepared) → q.prepared ≡ Some prepared → Made a prepared) → AskerFits s p a → AskerFits s q a
-asker_lost s p q a loses made h =
+pub asker_lost : (s : Site) (p q : Pair) (a : Asker) → Loses p q → ((prepared : Prepared) → q.prepared ≡ Some prepared → Made a prepared) → (q.settled ≡ true → a.stand ≡ Prepares) → AskerFits s p a → AskerFits s q a
+asker_lost s p q a loses made unsettled h =
     record {
       numbers_are = h.numbers_are;
       runs = h.runs;
@@ -82,4 +83,5 @@ asker_lost s p q a loses made h =
       least = h.least;
       most = h.most;
       all = h.all;
+      unsettled = unsettled;
     }

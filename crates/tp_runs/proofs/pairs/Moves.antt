@@ -90,6 +90,7 @@ moves s p a stand turn is h may =
       least = λ asks. (may.asks asks).1;
       most = old.most;
       all = may.all;
+      unsettled = λ ended. may.stays (old.unsettled ended);
     })
 
 -- ---- its end

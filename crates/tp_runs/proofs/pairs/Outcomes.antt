@@ -54,6 +54,7 @@ opening_fits s epoch turn =
         least = λ asks. absurd (cc);
         most = omega arith;
         all = λ prepares. absurd (cc);
+        unsettled = λ ended. absurd (cc);
       };
       entry = tt;
     }

@@ -217,6 +217,7 @@ runs s p entry w done value up is waiting h answered =
           least = fits.least;
           most = fits.most;
           all = fits.all;
+          unsettled = fits.unsettled;
         }) h.asker;
         entry = record {
           waiting = tt;

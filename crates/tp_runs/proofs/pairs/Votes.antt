@@ -88,7 +88,7 @@ forces s p entry r prepared up is h asked epoch on =
           voted = λ voted there. refl;
           verdicts = λ other e. subst (λ (made : Prepared). AreOnAll s made.verdicts) (same_Some prepared other e) all;
         };
-        asker = some_as (AskerFits s p) (AskerFits s q) p.asker (λ a there fits. asker_lost s p q a loses (made a there) fits) h.asker;
+        asker = some_as (AskerFits s p) (AskerFits s q) p.asker (λ a there fits. asker_lost s p q a loses (made a there) fits.unsettled fits) h.asker;
         entry = record {
           waiting = some_as (Waits s p entry) (Waits s q new) entry.waiting (λ w there waits. absurd (none_waits s p entry r w old asked epoch found waits)) old.waiting;
           answers = answers_follow s p q entry.answers f old.answers;
@@ -122,7 +122,7 @@ votes s p prepared h =
           voted = λ voted there. prepared;
           verdicts = h.server.verdicts;
         };
-        asker = some_as (AskerFits s p) (AskerFits s q) p.asker (λ a there fits. asker_lost s p q a loses fits.made fits) h.asker;
+        asker = some_as (AskerFits s p) (AskerFits s q) p.asker (λ a there fits. asker_lost s p q a loses fits.made fits.unsettled fits) h.asker;
         entry = same_entry s p q f refl h.entry;
       };
       follows = f;

@@ -19,7 +19,7 @@ use Rattle.tp_model.specs.Words.outcome
 use Rattle.tp_model.specs.Words.step
 use Rattle.tp_model.specs.Words.vote
 use Rattle.tp_model.specs.Words.what
-use Rattle.tp_model.specs.Words.{Actor, Body, DecideRequest, Fact, Letter, Mail, Record, Scenario, ServerId, Settled, Step, Transaction, TxnId, VoteReply, What}
+use Rattle.tp_model.specs.Words.{Actor, Body, Cause, DecideRequest, Fact, Letter, Mail, Record, Scenario, ServerId, Settled, Step, Transaction, TxnId, VoteReply, What}
 use Rattle.tp_runs.proofs.ids.Valid.{IsValid}
 use Rattle.tp_runs.proofs.agreement.Coordinator.{idle_is}
 use Rattle.tp_runs.proofs.agreement.CoordinatorActs.{coordinator_facts}
@@ -37,7 +37,8 @@ use Rattle.tp_runs.proofs.refusals.Running.{Remembers, undecided_yet}
 use Rattle.tp_runs.proofs.refusals.World.{AreAbortedRuns, IsAwaiting, IsRunBefore, KeepsDeeds, MoveRefuses, ReasonShown, Refusals, WhatRefused, keeps_same, old_run, old_shown, refused_stays, state_after_refusals}
 use Rattle.tp_runs.proofs.serial_data.Settling.{IsQuiet}
 use Rattle.tp_runs.proofs.serial_data.World.{Serial}
-use Rattle.tp_coord.proofs.Rows.{coordinator_by}
+use Rattle.tp_scheme.specs.declared.moves.Point.TheVariants as point
+use Rattle.tp_coord.proofs.Rows.{ByOlder, ByProof, ByRefusal, Gained, IsEnded, IsPassed, QueryRan, coordinator_by, submit_by, with_gained}
 use Rattle.tp_server.proofs.Rows.{server_by}
 use Rattle.tp_runs.proofs.walks.Steps.{Cases, IsCoordinatorUp, IsServerUp, SaysIdle, WasSent, WaitRightly, machine_after_by}
 use Rattle.tp_recover.specs.Log.{settled_in, settlement_in}
@@ -47,10 +48,11 @@ use Rattle.tp_machine.specs.Parts.{Part}
 use Rattle.tp_types.specs.Each.{Each}
 use Rattle.tp_runs.specs.Sound.{IsSound, IsSoundBody, IsSoundMail}
 use Rattle.tp_machine.specs.Named.{IsStepOf}
-use Rattle.tp_coord.specs.Row.{begins, coordinator_row, home_of, refused_by, submit_row}
+use Rattle.tp_coord.specs.Row.{asks, commit_round, coordinator_row, next_number, refused_by, sends_query, submit_row}
 use Rattle.tp_coord.specs.State.{Coordinator}
 use Rattle.tp_machine.specs.declared.actors.Actors.{Actors}
 use Rattle.tp_coord.specs.declared.coordinator.Phase.TheVariants as phase
+use Rattle.tp_coord.specs.declared.coordinator.Span.TheVariants as span
 use Rattle.tp_server.specs.Opened as server_opened
 use Rattle.tp_server.specs.Row.{server_row}
 use Rattle.tp_server.specs.State.{Server}
@@ -120,17 +122,18 @@ still_undecided sc c mail =
     coordinator_by sc c mail (λ (effect : Effect Coordinator). is_undecided effect.state.phase ≡ true → LeavesOpen c effect.state)
     (record {
       ignored = λ e. record { undecided = e; keeps = keeps_same c };
-      ran_next = λ done server asked value next k home e. querying_open c _ done.query (awaits_is c c.phase done k.awaited k.plain);
-      ran_last = λ done server asked value k none e. querying_open c _ done.query (awaits_is c c.phase done k.awaited k.plain);
-      died = λ done server asked other k e. absurd (cc);
+      sends_query = λ query now next passed moves home e. ran_open (sends_query sc (with_gained c now) (next_number query) next).state query now passed;
+      commit_rounds = λ query now passed moves e. ran_open (asks (with_gained c now) span.Commit (commit_round c)).state query now passed;
       told = λ tell round k e. record { undecided = ap is_undecided k.asking; keeps = λ prepares. record { prepares = refl; deeds = refl } };
-      counted = λ reply round staple server verdicts y f e. record { undecided = ap is_undecided y.checking; keeps = λ prepares. record { prepares = refl; deeds = refl } };
-      committed = λ reply round staple server verdicts y f e. absurd (cc);
-      denied = λ reply round staple server verdicts verdict y f e. absurd (cc);
+      counted = λ reply round staple server verdicts y e. record { undecided = ap is_undecided y.checking; keeps = λ prepares. record { prepares = refl; deeds = refl } };
+      decides = λ instances rounds passed e. absurd (cc);
+      aborted = λ why ended e. absurd (cc);
       updated = λ reply round staple server verdicts named y f e. record { undecided = ap is_undecided y.checking; keeps = λ prepares. record { prepares = refl; deeds = refl } };
-      refused = λ reply round staple server number value k e. absurd (cc);
       acknowledged = λ ack ended awaited server a e. absurd (cc);
     })
+  where
+    ran_open : (new : Coordinator) (query : ℕ) (now : Gained) → IsPassed sc c mail (point.Ran query) now → LeavesOpen c new
+    ran_open new _ _ (QueryRan done server asked value k) = querying_open c new done.query (awaits_is c c.phase done k.awaited k.plain)
 
 -- ---- a coordinator decides
 
@@ -169,24 +172,13 @@ coordinator_row_shown sc w txn part c n mail sound a h sent up =
     coordinator_by sc c mail (λ (effect : Effect Coordinator). IfSome effect.reaction.append (DecisionShown sc w (coordinator_facts effect.reaction.append)))
     (record {
       ignored = tt;
-      ran_next = λ done server asked value next k home. tt;
-      ran_last = λ done server asked value k none. tt;
-      died = λ done server asked other k. tt;
+      sends_query = λ query now next passed moves home. tt;
+      commit_rounds = λ query now passed moves. tt;
       told = λ tell round k. tt;
-      counted = λ reply round staple server verdicts y f. tt;
-      committed = λ reply round staple server verdicts y f. tt;
-      denied = λ reply round staple server verdicts verdict y f. tt;
+      counted = λ reply round staple server verdicts y. tt;
+      decides = λ instances rounds passed. tt;
+      aborted = λ why ended. shown why ended;
       updated = λ reply round staple server verdicts named y f. tt;
-      refused = λ reply round staple server number value k.
-          let own : c.txn ≡ txn = own_txn sc w txn part c sound up.found up.up in
-          let of_txn : reply.txn ≡ txn = reply_txn reply k.said_is in
-          let settled = no_settled w mail.letter.from mail.letter.body reply server number value sc mail.letter.to (each_get (MailRests sc w.actors) w.mails n mail a.mails sent.sent) k.said_is k.from_is k.vote_is in
-          let there : settled_at w.actors.servers server.0 txn ≡ Some (record { txn = txn; outcome = outcome.Abort; why = Some (no.Range number value) }) =
-          subst (λ (t : TxnId). settled_at w.actors.servers server.0 t ≡ Some (record { txn = t; outcome = outcome.Abort; why = Some (no.Range number value) })) of_txn settled in
-          let awaiting : IsAwaiting w.actors.coordinators txn = record { part = part; c = c; found = up.found; up = up.up; undecided = ap is_undecided k.checking } in
-          subst (λ (t : TxnId). WhatRefused sc (facts_after w (what.Decided t (decision.Abort (cause.No (refused_by server number value))) ∷ [])) (length w.steps) (what.Decided t (decision.Abort (cause.No (refused_by server number value))))) (sym own)
-          (abort_shown sc w (what.Decided txn (decision.Abort (cause.No (refused_by server number value))) ∷ []) txn server number value a.past
-          (h.settled server txn (record { txn = txn; outcome = outcome.Abort; why = Some (no.Range number value) }) there awaiting));
       acknowledged = λ ack ended awaited server k. tt;
     })
   where
@@ -196,6 +188,21 @@ coordinator_row_shown sc w txn part c n mail sound a h sent up =
         subst (λ (to : Actor). IsSoundBody sc to mail.letter.body) sent.goes_to (each_get (IsSoundMail sc) w.mails n mail sound.mails_are sent.sent).says in
         let said : IsSoundBody sc (actor.Coordinator txn) (body.Vote reply) = subst (IsSoundBody sc (actor.Coordinator txn)) e says in
         same_txn_from txn reply.txn said.goes_to
+
+    shown : (why : Cause) → IsEnded sc c mail why
+        → WhatRefused sc (facts_after w (what.Decided c.txn (decision.Abort why) ∷ [])) (length w.steps) (what.Decided c.txn (decision.Abort why))
+    shown _ (ByOlder done server asked other k) = tt
+    shown _ (ByProof reply round staple server verdicts verdict y e) = tt
+    shown _ (ByRefusal reply round staple server number value k) =
+        let own : c.txn ≡ txn = own_txn sc w txn part c sound up.found up.up in
+        let of_txn : reply.txn ≡ txn = reply_txn reply k.said_is in
+        let settled = no_settled w mail.letter.from mail.letter.body reply server number value sc mail.letter.to (each_get (MailRests sc w.actors) w.mails n mail a.mails sent.sent) k.said_is k.from_is k.vote_is in
+        let there : settled_at w.actors.servers server.0 txn ≡ Some (record { txn = txn; outcome = outcome.Abort; why = Some (no.Range number value) }) =
+        subst (λ (t : TxnId). settled_at w.actors.servers server.0 t ≡ Some (record { txn = t; outcome = outcome.Abort; why = Some (no.Range number value) })) of_txn settled in
+        let awaiting : IsAwaiting w.actors.coordinators txn = record { part = part; c = c; found = up.found; up = up.up; undecided = ap is_undecided k.checking } in
+        subst (λ (t : TxnId). WhatRefused sc (facts_after w (what.Decided t (decision.Abort (cause.No (refused_by server number value))) ∷ [])) (length w.steps) (what.Decided t (decision.Abort (cause.No (refused_by server number value))))) (sym own)
+        (abort_shown sc w (what.Decided txn (decision.Abort (cause.No (refused_by server number value))) ∷ []) txn server number value a.past
+        (h.settled server txn (record { txn = txn; outcome = outcome.Abort; why = Some (no.Range number value) }) there awaiting))
 
 -- ---- what a step says by itself
 
@@ -391,9 +398,8 @@ idle_refuses sc w (step.Deliver mail) happened h e = subst (λ (hs : List What).
 idle_refuses sc w (step.Lose mail) happened h e = subst (λ (hs : List What). MoveRefuses sc w (idle_move w.actors hs)) (sym e) (still_refuses sc w (what.Lost mail ∷ []) w.actors [] h refl refl (λ txn. refl) (tt, tt))
 idle_refuses sc w _ happened h e = absurd e
 
-begins_shown : (sc : Scenario) (w : State) (happened : List What) (c : Coordinator) (home : Option ServerId) → IfSome (begins sc c home).reaction.append (DecisionShown sc w happened)
-begins_shown sc w happened c None = tt
-begins_shown sc w happened c (Some at) = tt
+begins_shown : (sc : Scenario) (w : State) (happened : List What) (c : Coordinator) → IfSome (submit_row sc c).reaction.append (DecisionShown sc w happened)
+begins_shown sc w happened c = submit_by sc c (λ (effect : Effect Coordinator). IfSome effect.reaction.append (DecisionShown sc w happened)) (record { ignored = tt; sent = λ server home. tt })
 
 refusals_cases : (sc : Scenario) (w : State) → IsValid sc → WaitRightly sc w → IsSound sc w → Agrees sc w → Pairs sc w → Serial sc w → Remembers sc w → Refusals sc w → Cases sc w (λ taken move. MoveRefuses sc w move)
 refusals_cases sc w valid rightly sound a pairs serial known h =
@@ -421,7 +427,7 @@ refusals_cases sc w valid rightly sound a pairs serial known h =
           coordinator_moves_in_steps sc w txn part (Some effect.state) own effect.reaction.append effect.reaction.letters h up.found
           (row_opens part.up c effect.state up.up
           (λ undecided. other_phase c effect.state (ap is_undecided idle) (λ prepares. let stands : stand_of c.phase ≡ Rests = ap stand_of idle in cc))) (tt, tt)
-          (begins_shown sc w (own ++ coordinator_facts effect.reaction.append) c (home_of sc c 1));
+          (begins_shown sc w (own ++ coordinator_facts effect.reaction.append) c);
     }
 
 -- a step that is not refused keeps what is said of refusals

@@ -7,7 +7,8 @@ use Rattle.tp_model.specs.Words.{Actor, DoneReply, Mail, Outcome, Scenario, Serv
 use Rattle.tp_types.proofs.EachLemmas.{placed_set}
 use Rattle.tp_types.specs.Each.{Each, EachPlaced}
 use Rattle.tp_machine.specs.Machine.{with_age}
-use Rattle.tp_coord.proofs.Rows.{coordinator_by, submit_by}
+use Rattle.tp_scheme.specs.declared.moves.Point.TheVariants as point
+use Rattle.tp_coord.proofs.Rows.{Gained, IsPassed, QueryRan, coordinator_by, submit_by, with_gained}
 use Rattle.tp_coord.specs.Row as coord
 use Rattle.tp_coord.specs.State.{Coordinator}
 use Rattle.tp_round.specs.declared.round.Round.{Round}
@@ -57,20 +58,17 @@ coordinator_row_since S R Q sc c mail h round heard own =
     coordinator_by sc c mail (ActSince S Q c.txn)
     (record {
       ignored = record { kept = h; letters = tt };
-      ran_next = λ done server asked value next k home.
-          let now = coord.with_deed c server done asked value in
-          let kept : KeptSince S c.txn now = with_epoch done server (heard_here done server k.said_is k.from_is) in
-          record { kept = kept; letters = (told_since S now next (coord.epoch_told now next) refl kept, tt) };
-      ran_last = λ done server asked value k none. record { kept = with_epoch done server (heard_here done server k.said_is k.from_is); letters = (tt, tt) };
-      died = λ done server asked other k. record { kept = h; letters = orders_since S Q c outcome.Abort c.servers };
+      sends_query = λ query now next passed moves home.
+          let kept = ran_since query now passed in
+          record { kept = kept; letters = (told_since S (with_gained c now) next (coord.epoch_told (with_gained c now) next) refl kept, tt) };
+      commit_rounds = λ query now passed moves. record { kept = ran_since query now passed; letters = (tt, tt) };
       told = λ tell asking k.
           let targets : EachServer (KeepsEpoch c) asking.targets = subst (PhaseKept (KeepsEpoch c)) k.asking (round (ap is_undecided k.asking)) in
           record { kept = h; letters = prepares_since S Q c asking (coord.staple_of tell mail.sent) (missing_in asking.targets) h (each_missing (KeepsEpoch c) asking.targets targets) };
-      counted = λ reply asking staple server verdicts y e. record { kept = h; letters = tt };
-      committed = λ reply asking staple server verdicts y e. record { kept = h; letters = orders_since S Q c outcome.Commit c.servers };
-      denied = λ reply asking staple server verdicts verdict y e. record { kept = h; letters = orders_since S Q c outcome.Abort c.servers };
+      counted = λ reply asking staple server verdicts y. record { kept = h; letters = tt };
+      decides = λ instances rounds passed. record { kept = h; letters = orders_since S Q c outcome.Commit c.servers };
+      aborted = λ why ended. record { kept = h; letters = orders_since S Q c outcome.Abort c.servers };
       updated = λ reply asking staple server verdicts named y e. record { kept = h; letters = (tt, tt) };
-      refused = λ reply asking staple server number value k. record { kept = h; letters = orders_since S Q c outcome.Abort c.servers };
       acknowledged = λ ack ended awaited server k. record { kept = h; letters = tt };
     })
   where
@@ -80,6 +78,9 @@ coordinator_row_since S R Q sc c mail h round heard own =
 
     with_epoch : (done : DoneReply) (server : ServerId) → S c.txn server done.epoch → EachPlaced (λ (n : ℕ) (epoch : ℕ). S c.txn (server_number n) epoch) (slice_set c.epochs server.0 (Some done.epoch))
     with_epoch done server e = placed_set (λ (n : ℕ) (epoch : ℕ). S c.txn (server_number n) epoch) c.epochs server.0 done.epoch h e
+
+    ran_since : (query : ℕ) (now : Gained) → IsPassed sc c mail (point.Ran query) now → KeptSince S c.txn (with_gained c now)
+    ran_since _ _ (QueryRan done server asked value k) = with_epoch done server (heard_here done server k.said_is k.from_is)
 
 -- the submission of a transaction
 pub submit_row_since : (S : TxnId → ServerId → ℕ → Type 0) (R : TxnId → ServerId → Type 0) (sc : Scenario) (c : Coordinator) (place : ℕ) → KeptSince S c.txn c → ActSince S R c.txn (with_age (coord.submit_row sc c) place)

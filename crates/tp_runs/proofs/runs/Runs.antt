@@ -8,7 +8,9 @@ use Rattle.tp_model.specs.Outside.{IsOutside}
 use Rattle.tp_model.specs.SerialRun.{is_serial}
 use Rattle.tp_model.specs.Trust.{is_trusted}
 use Rattle.tp_model.specs.Words.{Actor, Fact, Scenario, Step}
+use Rattle.tp_runs.proofs.trust.Built.{are_plain}
 use Rattle.tp_runs.proofs.ids.Valid.{IsValid, valid_built}
+use Rattle.tp_runs.proofs.ids.Built.{send_first}
 use Rattle.tp_runs.proofs.ages.World.{Ages, ages_next, ages_opening}
 use Rattle.tp_runs.proofs.deaths.World.{Deaths, deaths_next, deaths_opening}
 use Rattle.tp_runs.proofs.bounds.World.{Bounds, all_bounded, bounds_next, bounds_opening}
@@ -75,7 +77,7 @@ holds_next sc m taken built exists allowed h =
     let valid : IsValid sc = valid_built sc built in
     record {
       sound = sound_next sc m taken built exists allowed h.agrees.coordinator_count rightly h.sound;
-      agrees = agrees_next sc m taken valid exists allowed rightly h.sound (prepares_named sc m.state h.epochs) h.agrees;
+      agrees = agrees_next sc m taken valid (send_first sc built (have_homes sc valid)) exists allowed rightly h.sound (prepares_named sc m.state h.epochs) h.agrees;
       epochs = epochs_next sc m taken (have_homes sc valid) exists allowed rightly h.sound h.agrees h.epochs;
       ages = ages_next sc m taken exists allowed rightly h.sound h.agrees h.ages;
       deaths = deaths_next sc m taken exists allowed rightly h.sound h.agrees h.ages h.pairs h.deaths;
@@ -88,7 +90,7 @@ holds_next sc m taken built exists allowed h =
       refusals = refusals_next sc m taken valid exists allowed rightly h.sound h.agrees h.pairs h.serial (record { epochs = h.epochs; told = h.deaths.told; restarts = h.restarts }) h.refusals;
       bounds = bounds_next sc m taken valid exists allowed rightly h.sound h.agrees h.pairs h.serial h.bounds;
       few = few_next sc m taken built exists allowed rightly h.agrees h.few;
-      sizes = sizes_next sc m taken (have_homes sc valid) valid exists allowed rightly h.sound h.agrees h.pairs h.trusts h.sizes;
+      sizes = sizes_next sc m taken (are_plain sc built) (have_homes sc valid) valid exists allowed rightly h.sound h.agrees h.pairs h.trusts h.sizes;
     }
 
 step_holds : (sc : Scenario) (m : Machine) (taken : Step) (why : Option StepError) → refusal m.state taken ≡ why → is_built sc ≡ true → IsStepOf sc taken → Holds sc m.state
@@ -131,7 +133,7 @@ shows sc w built h none =
     record {
       outside = h.outside;
       agreed = facts_agreed sc w h.agrees;
-      trusted = facts_trusted sc w built h.sound h.trusts;
+      trusted = facts_trusted sc w h.sound h.trusts;
       caused = facts_caused sc w built h.sound h.refusals h.deaths h.trusts;
       serial = serial_facts sc w h.serial;
       lone = facts_lone w.facts h.lone;

@@ -1,7 +1,7 @@
 -- What locks give serial data: what a transaction has done at a server is clear of what others did there, and what it commits is clear of all
 -- commits that are not settled.
 use Rattle.std.specs.Option.{option_flatten, option_map_or}
-use Rattle.std.proofs.Common.{Bool, IfSome, List, None, Option, Some, [], ap, false, filter, if◌then◌else◌, inl, inr, is_some, length, option_and_then, refl, slice_get, subst, sym, true, ℕ, ⊎_elim, ◌<◌, ◌==◌, ◌∙◌, ◌∷◌, ◌≡◌, ◌⊎◌}
+use Rattle.std.proofs.Common.{Bool, List, None, Option, Some, [], ap, false, filter, if◌then◌else◌, inl, inr, is_some, length, option_and_then, refl, slice_get, subst, sym, true, ℕ, ⊎_elim, ◌<◌, ◌==◌, ◌∙◌, ◌∷◌, ◌≡◌, ◌⊎◌}
 use Rattle.std.proofs.lemmas.Option.{same_Some}
 use Rattle.tp_types.proofs.ListLemmas.{number_itself}
 use Rattle.tp_model.specs.Agreement.{has_item_at}

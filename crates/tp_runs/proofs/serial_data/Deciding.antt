@@ -9,7 +9,7 @@ use Rattle.tp_model.specs.Valid.{is_valid_txn}
 use Rattle.tp_model.specs.Words.decision
 use Rattle.tp_model.specs.Words.log
 use Rattle.tp_model.specs.Words.what
-use Rattle.tp_model.specs.Words.{Cause, CommitRecord, Decided, Decision, Deed, Letter, Mail, Prepared, Record, Scenario, Transaction, TxnId, What}
+use Rattle.tp_model.specs.Words.{Cause, CommitRecord, Decided, Decision, Deed, Instance, Letter, Mail, Prepared, Record, Scenario, Transaction, TxnId, What}
 use Rattle.tp_runs.proofs.agreement.Coordinator.{DecisionRests, IsFirst}
 use Rattle.tp_runs.proofs.agreement.CoordinatorActs.{coordinator_facts}
 use Rattle.tp_runs.proofs.agreement.Logs.{IsPrepared, prepared_open}
@@ -35,7 +35,8 @@ use Rattle.tp_runs.proofs.serial_data.Shares.{no_share, server_there, share_read
 use Rattle.tp_runs.proofs.deeds.Stores.{HasPlace, StoreFits}
 use Rattle.tp_runs.proofs.serial_data.Unsettled.{DecidesFirst, IsUnsettled, SameEnds, commit_adds, decision_same, either_decided, fits_same, nothing_decided, same_commit, with_coordinator}
 use Rattle.tp_runs.proofs.serial_data.World.{AreShares, MoveSerial, Serial, ServersSerial, StoreStands, WhatSerial, overlaid_by, run_is_serial, store_by}
-use Rattle.tp_coord.proofs.Rows.{coordinator_by}
+use Rattle.tp_scheme.specs.declared.moves.Point.TheVariants as point
+use Rattle.tp_coord.proofs.Rows.{AllTrue, HasVoted, coordinator_by}
 use Rattle.tp_runs.proofs.walks.Steps.{IsCoordinatorUp}
 use Rattle.tp_recover.specs.Log.{decided_in, decision_in, prepared_in, values_in}
 use Rattle.tp_machine.specs.Logs.{decided_at, prepared_at, prepared_by, settled_at, settled_by}
@@ -101,17 +102,18 @@ coordinator_row_own sc c mail =
     coordinator_by sc c mail (ForcesOwn c)
     (record {
       ignored = tt;
-      ran_next = λ done server asked value next k home. tt;
-      ran_last = λ done server asked value k none. tt;
-      died = λ done server asked other k. tt;
+      sends_query = λ query now next passed moves home. tt;
+      commit_rounds = λ query now passed moves. tt;
       told = λ tell round k. tt;
-      counted = λ reply round staple server verdicts y e. tt;
-      committed = λ reply round staple server verdicts y e. record { deeds = refl; prepares = ap stand_of y.checking };
-      denied = λ reply round staple server verdicts verdict y e. tt;
+      counted = λ reply round staple server verdicts y. tt;
+      decides = λ instances rounds passed. record { deeds = refl; prepares = prepares instances rounds passed };
+      aborted = λ why ended. tt;
       updated = λ reply round staple server verdicts named y e. tt;
-      refused = λ reply round staple server number value k. tt;
       acknowledged = λ ack ended awaited server a. tt;
     })
+  where
+    prepares : (instances : List Instance) (rounds : ℕ) → HasVoted sc c mail point.Voted instances rounds → stand_of c.phase ≡ Prepares
+    prepares _ _ (AllTrue reply round staple server verdicts k) = ap stand_of k.yes.checking
 
 -- ---- a coordinator acts
 

@@ -1,12 +1,12 @@
 -- Serial data, the receipt of a mail by a server that is up: what its row gives is what an act has to bring.
-use Rattle.std.proofs.Common.{IfSome, List, None, Option, Some, [], ap, option_map, refl, slice_get, sym, ⊎_elim, ◌∙◌, ◌≡◌}
+use Rattle.std.proofs.Common.{IfSome, None, Option, Some, [], ap, option_map, refl, slice_get, sym, ⊎_elim, ◌∙◌, ◌≡◌}
 use Rattle.std.proofs.lemmas.Option.{same_Some}
 use Rattle.tp_types.specs.Effect.{Effect}
 use Rattle.tp_model.specs.Facts.{outcome_of}
 use Rattle.tp_model.specs.Words.decision
 use Rattle.tp_model.specs.Words.log
 use Rattle.tp_model.specs.Words.outcome
-use Rattle.tp_model.specs.Words.{CommitRecord, Outcome, Prepared, Record, Scenario, ServerId, Settled}
+use Rattle.tp_model.specs.Words.{CommitRecord, Prepared, Record, Scenario, ServerId}
 use Rattle.tp_recover.specs.Log.{settled_in}
 use Rattle.tp_runs.proofs.agreement.Logs.{DecidedAs, IsAsked, LogPrepared, LogServed, outcome_settled}
 use Rattle.tp_runs.proofs.agreement.Server.{RecordRests, ServerAgrees, open_unsettled}
@@ -20,7 +20,7 @@ use Rattle.tp_runs.proofs.serial_data.Settling.{IsShare, IsShareOf, open_share, 
 use Rattle.tp_runs.proofs.serial_data.UpOnLog.{EndsOnce, IsPreparedEntry, UpOnLog, acts_on_log, prepared_here, record_reads}
 use Rattle.tp_runs.proofs.serial_data.World.{MoveSerial, Serial, up_on_log}
 use Rattle.tp_machine.specs.Logs.{decided_at}
-use Rattle.tp_machine.specs.Machine.{State, acts_by, log_with, server_fact, server_move}
+use Rattle.tp_machine.specs.Machine.{State, acts_by, server_fact, server_move}
 use Rattle.tp_machine.specs.Parts.{Part}
 use Rattle.tp_server.specs.declared.server.Entry.{Entry}
 use Rattle.tp_server.specs.State.{Server}

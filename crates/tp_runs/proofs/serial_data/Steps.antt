@@ -1,5 +1,5 @@
 -- Serial data, step by step: it holds before the first step, and each step keeps it.
-use Rattle.std.proofs.Common.{IfSome, List, None, Option, Some, [], ap, arith, false, is_some, length, option_and_then, option_map, refl, replicate, slice_get, subst, suc, sym, true, unwrap_or, zero, ℕ, ◌<◌, ◌∙◌, ◌∷◌, ◌≡◌}
+use Rattle.std.proofs.Common.{IfSome, List, None, Option, Some, [], ap, arith, false, length, option_and_then, option_map, refl, replicate, slice_get, subst, suc, sym, unwrap_or, zero, ℕ, ◌<◌, ◌∙◌, ◌∷◌, ◌≡◌}
 use Rattle.std.proofs.lemmas.List.{length-map, length-replicate}
 use Rattle.std.proofs.lemmas.Option.{same_Some, slice_get_within}
 use Rattle.tp_model.specs.Queries.{item_of}
@@ -9,10 +9,10 @@ use Rattle.tp_model.specs.Words.body
 use Rattle.tp_model.specs.Words.step
 use Rattle.tp_model.specs.Words.what
 use Rattle.tp_model.specs.Words.{Actor, Body, Mail, Prepared, Query, QueryRequest, Record, Scenario, ServerId, Step, TxnId, What}
-use Rattle.tp_runs.proofs.agreement.Coordinator.{IsFirst}
+use Rattle.tp_runs.proofs.agreement.Coordinator.{IsFirst, submission_unforced}
 use Rattle.tp_runs.proofs.agreement.Logs.{IsAsked, IsPrepared}
 use Rattle.tp_runs.proofs.agreement.Server.{CastVote, ServerAgrees, cast_in, vote_by, vote_of}
-use Rattle.tp_runs.proofs.agreement.Steps.{begun_lawful, coordinator_lawful, mail_rests, mail_sound, own_txn, server_agrees, server_lawful}
+use Rattle.tp_runs.proofs.agreement.Steps.{coordinator_lawful, mail_rests, mail_sound, own_txn, server_agrees, server_lawful}
 use Rattle.tp_runs.proofs.agreement.World.{Agrees, BodyRests}
 use Rattle.tp_types.proofs.EachLemmas.{at_made, each_get, none_if_not_some, placed_none, unset_at}
 use Rattle.tp_runs.proofs.ids.Valid.{IsValid}
@@ -147,7 +147,7 @@ begun_serial : (sc : Scenario) (w : State) → IsValid sc → IsSound sc w → A
     → is_part_submitted (Some c) ≡ false → MoveSerial sc w (coordinator_move w.actors txn (acts_by coordinator_fact (what.Submitted txn ∷ []) part.log (with_age (submit_row sc c) (length w.steps))))
 begun_serial sc w valid sound agrees pairs h txn part c exists up new =
     let effect = with_age (submit_row sc c) (length w.steps) in
-    let none : effect.reaction.append ≡ None = (begun_lawful sc w valid sound agrees txn part c exists up new).forces in
+    let none : effect.reaction.append ≡ None = (submission_unforced sc c (length w.steps)).forces in
     let there = declared_by sc txn exists in
     coordinator_acts_serial sc w txn part (Some effect.state) (what.Submitted txn ∷ []) effect.reaction.append effect.reaction.letters valid agrees pairs h
     (record {

@@ -1,5 +1,5 @@
 -- Serial data, a server that is up and its log: the entries have read the server's values, which are those of its log, before and after an act.
-use Rattle.std.proofs.Common.{Bool, IfSome, List, None, Option, Some, [], ap, is_some, option_and_then, option_map, refl, slice_get, subst, sym, true, ℕ, ℤ, ⊎_elim, ◌∙◌, ◌∷◌, ◌≡◌}
+use Rattle.std.proofs.Common.{IfSome, List, None, Option, Some, ap, is_some, option_and_then, option_map, refl, subst, sym, true, ℤ, ◌∙◌, ◌∷◌, ◌≡◌}
 use Rattle.std.proofs.lemmas.Option.{same_Some}
 use Rattle.tp_types.specs.Effect.{Effect}
 use Rattle.tp_model.specs.SerialRun.{with_deeds}
@@ -12,8 +12,8 @@ use Rattle.tp_runs.proofs.agreement.Server.{CastVote, ServerAgrees, cast_in, vot
 use Rattle.tp_runs.proofs.deeds.Reads.{AreClear, ReadsFrom}
 use Rattle.tp_runs.proofs.locked.Apart.{entries_apart}
 use Rattle.tp_runs.proofs.locked.World.{IsLockedServer}
-use Rattle.tp_runs.proofs.serial_data.OnLog.{LogReads, RecordReads, VoteReads, log_reads_with, values_after, values_grown}
-use Rattle.tp_runs.proofs.serial_data.Rows.{IsVoteHere, RecordHere, ServerKeeps, ServerReads, deeds_in, values_with}
+use Rattle.tp_runs.proofs.serial_data.OnLog.{RecordReads, values_after, values_grown}
+use Rattle.tp_runs.proofs.serial_data.Rows.{RecordHere, ServerKeeps, ServerReads, deeds_in, values_with}
 use Rattle.tp_machine.specs.Machine.{log_with}
 use Rattle.tp_server.specs.declared.server.Ballot.{Ballot}
 use Rattle.tp_server.specs.declared.server.Entry.{Entry}

@@ -1,18 +1,20 @@
 -- Sizes over every list of steps: each record that an actor forces says few things.
-use Rattle.std.proofs.Common.{Bool, IfSome, List, None, Option, Some, ap, arith, false, if◌then◌else◌, length, option_and_then, option_map, refl, slice_get, slice_set, subst, suc, sym, true, zero, ℕ, ⊎_elim, ◌+◌, ◌<◌, ◌∙◌, ◌≡◌, ◌≤◌}
-use Rattle.std.specs.List.{AllByRecursion, IsDistinct, range_with_len}
+use Rattle.std.proofs.Common.{Bool, IfSome, List, None, Option, Some, ap, arith, false, if◌then◌else◌, length, option_and_then, option_map, refl, slice_get, slice_set, subst, suc, sym, true, zero, ℕ, ⊎_elim, ◌+◌, ◌<◌, ◌∙◌, ◌≡◌, ◌≤◌, is_none, nat_le, not, ◌&&◌, ◌==◌, ◌∷◌, []}
+use Rattle.std.specs.List.{AllByRecursion, IsDistinct, list_all, list_any, range_with_len}
 use Rattle.std.specs.Option.{option_map_or}
 use Rattle.std.specs.Prelude.{eqb}
 use Rattle.std.proofs.lemmas.Bool.Decides.{nat_tests}
-use Rattle.std.proofs.lemmas.Bool.{cases_lt}
+use Rattle.std.proofs.lemmas.Bool.{and_parts, cases_lt, eqb-true}
 use Rattle.std.proofs.lemmas.List.FromFn.{length-range_with_len}
 use Rattle.std.proofs.lemmas.List.{length-map, length_push}
 use Rattle.tp_model.specs.Words.actor
 use Rattle.tp_model.specs.Words.cause
 use Rattle.tp_model.specs.Words.decision
 use Rattle.tp_model.specs.Words.log
-use Rattle.tp_model.specs.Words.{CommitRecord, Decision, Fact, Mail, Record, Scenario, ServerId, Step, Transaction, TxnId, Verdict}
-use Rattle.tp_coord.proofs.Rows.{coordinator_by, submit_by}
+use Rattle.tp_model.specs.Words.scheme
+use Rattle.tp_model.specs.Words.{CommitRecord, Decision, Fact, Instance, Mail, Met, Record, Scenario, Scheme, ServerId, Step, Transaction, TxnId, Verdict}
+use Rattle.tp_scheme.specs.declared.moves.Point.TheVariants as point
+use Rattle.tp_coord.proofs.Rows.{AllTrue, HasVoted, coordinator_by, submit_by}
 use Rattle.tp_coord.specs.Opened as coord_opened
 use Rattle.tp_coord.specs.Row.{coordinator_row, submit_row}
 use Rattle.tp_coord.specs.State.{Coordinator}
@@ -20,6 +22,14 @@ use Rattle.tp_machine.specs.Machine.{Machine, State, log_with, machine_after, op
 use Rattle.tp_machine.specs.Named.{IsStepOf, IsTxn}
 use Rattle.tp_machine.specs.Parts.{Part}
 use Rattle.tp_machine.specs.declared.actors.Actors.{Actors}
+use Rattle.tp_model.specs.Demand.{agrees_at, are_instances, count_of, each_follows, first_of, is_incremental, is_instance, is_over, is_round_count, many_of}
+use Rattle.tp_model.specs.Causes.{are_met_on, are_rounds_shown, is_met_shown}
+use Rattle.tp_model.specs.Levels.{reads_master}
+use Rattle.tp_model.specs.Versions.{is_consistent}
+use Rattle.tp_model.specs.Valid.{has_valid_creds, is_name_of_server, is_valid_query, is_valid_txn}
+use Rattle.tp_model.specs.Limits.{has_count, is_from_to}
+use Rattle.std.specs.Cmp.Lexicographic.{pointwise}
+use Rattle.tp_runs.proofs.trust.Built.{ArePlain}
 use Rattle.tp_runs.proofs.agreement.Steps.{own_txn}
 use Rattle.tp_runs.proofs.agreement.World.{Agrees}
 use Rattle.tp_runs.proofs.basics.Found.{of_some}
@@ -45,7 +55,7 @@ use Rattle.tp_server.specs.Row.{entry_at, server_row}
 use Rattle.tp_server.specs.State.{Server}
 use Rattle.tp_server.specs.Verdicts.{verdict_on, with_wants}
 use Rattle.tp_server.specs.declared.server.Entry.{Entry}
-use Rattle.tp_types.proofs.EachLemmas.{at_made, at_set, each_more, missing}
+use Rattle.tp_types.proofs.EachLemmas.{at_made, at_set, each_get, each_more, missing}
 use Rattle.tp_types.specs.Each.{Each, EachAt}
 use Rattle.tp_types.specs.Effect.{Effect}
 
@@ -154,17 +164,18 @@ coordinator_row_few sc c mail few =
     coordinator_by sc c mail (ForcesFewDeeds c.txn)
     (record {
       ignored = tt;
-      ran_next = λ done server asked value next k home. tt;
-      ran_last = λ done server asked value k none. tt;
-      died = λ done server asked other k. (refl, tt);
+      sends_query = λ query now next passed moves home. tt;
+      commit_rounds = λ query now passed moves. tt;
       told = λ tell round k. tt;
-      counted = λ reply round staple server verdicts y e. tt;
-      committed = λ reply round staple server verdicts y e. (refl, few (ap is_undecided y.checking));
-      denied = λ reply round staple server verdicts verdict y e. (refl, tt);
+      counted = λ reply round staple server verdicts y. tt;
+      decides = λ instances rounds passed. (refl, few (undecided instances rounds passed));
+      aborted = λ why ended. (refl, tt);
       updated = λ reply round staple server verdicts named y e. tt;
-      refused = λ reply round staple server number value k. (refl, tt);
       acknowledged = λ ack ended awaited server k. tt;
     })
+  where
+    undecided : (instances : List Instance) (rounds : ℕ) → HasVoted sc c mail point.Voted instances rounds → is_undecided c.phase ≡ true
+    undecided _ _ (AllTrue reply round staple server verdicts k) = ap is_undecided k.yes.checking
 
 -- numbers in a row are different
 above_apart : (number low many : ℕ) → number < low → AllByRecursion (λ (other : ℕ). eqb number other ≡ false) (range_with_len low many)
@@ -176,36 +187,103 @@ unfolding IsDistinct
 row_apart low zero = tt
 row_apart low (suc many) = (above_apart low (low + 1) many (omega arith), row_apart (low + 1) many)
 
--- an instance that covers a transaction's queries has few proofs
+-- an instance is over at most 16 queries, where a transaction has no more
+few_in_instance : (chosen : Scheme) (queries number : ℕ) → queries ≤ 16 → many_of chosen queries number ≤ 16
+few_in_instance scheme.Deferred queries number few = few
+few_in_instance scheme.Punctual queries number few = one_or_all (nat_le number queries)
+  where
+    one_or_all : (b : Bool) → (if b then 1 else queries) ≤ 16
+    one_or_all true = omega arith
+    one_or_all false = few
+few_in_instance scheme.Incremental queries number few = omega (arith, few)
+few_in_instance scheme.Continuous queries number few = omega (arith, few)
+
+-- and there are at most 17
+few_instances : (chosen : Scheme) (reads : Bool) (queries : ℕ) → queries ≤ 16 → count_of chosen reads queries ≤ 17
+few_instances scheme.Deferred reads queries few = omega arith
+few_instances scheme.Punctual reads queries few = omega (arith, few)
+few_instances scheme.Incremental true queries few = omega (arith, few)
+few_instances scheme.Incremental false queries few = omega (arith, few)
+few_instances scheme.Continuous reads queries few = omega (arith, few)
+
+-- numbers that are equal one by one
+equal_numbers : (xs ys : List ℕ) → pointwise ◌==◌ xs ys ≡ true → xs ≡ ys
+equal_numbers [] [] e = refl
+equal_numbers [] (y ∷ ys) e = absurd (cc)
+equal_numbers (x ∷ xs) [] e = absurd (cc)
+equal_numbers (x ∷ xs) (y ∷ ys) e =
+    let parts = and_parts (x == y) (pointwise ◌==◌ xs ys) e in
+    ap (λ (n : ℕ). n ∷ xs) (eqb-true x y parts.0) ∙ ap (λ (ns : List ℕ). y ∷ ns) (equal_numbers xs ys parts.1)
+
+-- instances that a scheme demands have few proofs, of different queries
+instances_small : (sc : Scenario) (facts : List Fact) (declared : Transaction) (number : ℕ) (instances : List Instance) → length declared.queries ≤ 16 → are_instances sc facts declared number instances ≡ true
+    → Each IsSmallInstance instances
+instances_small sc facts declared number [] few e = tt
+instances_small sc facts declared number (instance ∷ instances) few e =
+    let first = first_of declared.scheme (length declared.queries) number in
+    let many = many_of declared.scheme (length declared.queries) number in
+    let parts = and_parts (is_instance sc facts declared number instance) (are_instances sc facts declared (number + 1) instances) e in
+    let over = and_parts (is_over first many instance.proofs) (if agrees_at declared.scheme (length declared.queries) number then is_consistent sc declared facts instance else is_none instance.reading) parts.0 in
+    let numbers : numbers_of instance.proofs ≡ range_with_len first many = equal_numbers (numbers_of instance.proofs) (range_with_len first many) over.0 in
+    let few_proofs : length instance.proofs ≤ 16 =
+    omega (arith, ap length numbers, length-map instance.proofs (λ (verdict : Verdict). verdict.query), length-range_with_len first many, few_in_instance declared.scheme (length declared.queries) number few) in
+    (record { few = few_proofs; apart = subst (IsDistinct eqb) (sym numbers) (row_apart first many) }, instances_small sc facts declared (number + 1) instances few parts.1)
+
+-- so has a commit that meets its scheme's demand
 commit_small : (sc : Scenario) (facts : List Fact) (place : ℕ) (txn : TxnId) (declared : Transaction) (committed : CommitRecord) → HaveHomes sc → slice_get sc.txns txn.0 ≡ Some declared
     → CommitFits sc facts place txn committed → length committed.deeds ≤ 16 → IsSmallCommit committed
 commit_small sc facts place txn declared committed homes there h deeds =
-    let numbers : numbers_of h.proofs ≡ range_with_len 1 (length declared.queries) = h.all declared there in
-    let few : length h.proofs ≤ 16 =
-    omega (arith, ap length numbers, length-map h.proofs (λ (verdict : Verdict). verdict.query), length-range_with_len 1 (length declared.queries), homes.few txn.0 declared there) in
+    let queries : length declared.queries ≤ 16 = homes.few txn.0 declared there in
+    let count = count_of declared.scheme (reads_master sc declared) (length declared.queries) in
+    let many = length committed.instances == count in
+    let rounds = and_parts (many && are_instances sc facts declared 1 committed.instances && each_follows declared.scheme committed.instances) (is_round_count sc declared committed.rounds) (h declared there).demanded in
+    let follow = and_parts (many && are_instances sc facts declared 1 committed.instances) (each_follows declared.scheme committed.instances) rounds.0 in
+    let are = and_parts many (are_instances sc facts declared 1 committed.instances) follow.0 in
+    let so_many : length committed.instances ≡ count = eqb-true (length committed.instances) count are.0 in
+    let most = few_instances declared.scheme (reads_master sc declared) (length declared.queries) queries in
     record {
-      instances = omega (arith, ap length h.instances);
-      proofs = subst (Each IsSmallInstance) (sym h.instances) (record { few = few; apart = subst (IsDistinct eqb) (sym numbers) (row_apart 1 (length declared.queries)) }, tt);
+      instances = omega (arith, so_many, most);
+      proofs = instances_small sc facts declared 1 committed.instances queries are.1;
       deeds = deeds;
     }
 
-decision_small : (sc : Scenario) (facts : List Fact) (place : ℕ) (txn : TxnId) (declared : Transaction) (decided : Decision) → HaveHomes sc → slice_get sc.txns txn.0 ≡ Some declared
+-- a scenario asks for at most 16 rounds
+few_rounds_asked : (sc : Scenario) (declared : Transaction) → is_valid_txn sc declared ≡ true → declared.rounds ≤ 16
+few_rounds_asked sc declared e =
+    let rules = and_parts (has_valid_creds sc declared && is_from_to 1 16 declared.rounds) (has_count 1 16 declared.queries && list_all (is_valid_query sc) declared.queries && not (list_any (is_name_of_server declared) sc.servers)) e in
+    from_to_most declared.rounds (and_parts (has_valid_creds sc declared) (is_from_to 1 16 declared.rounds) rules.0).1
+  where
+    from_to_most : (rounds : ℕ) → is_from_to 1 16 rounds ≡ true → rounds ≤ 16
+    from_to_most rounds f = grind (arith, nat_tests)
+
+-- an abort names as many newer versions as rounds that the transaction asks for
+rounds_small : (sc : Scenario) (facts : List Fact) (place : ℕ) (txn : TxnId) (declared : Transaction) (mets : List Met) → IsValid sc → slice_get sc.txns txn.0 ≡ Some declared
+    → are_rounds_shown sc txn place facts mets declared ≡ true → length mets ≤ 16
+rounds_small sc facts place txn declared mets valid there h =
+    let many = not (is_incremental declared.scheme) && (length mets == declared.rounds) in
+    let all = and_parts (many && list_all (is_met_shown sc txn place facts declared) mets) (are_met_on sc facts mets) h in
+    let count = and_parts many (list_all (is_met_shown sc txn place facts declared) mets) all.0 in
+    let so_many : length mets ≡ declared.rounds = eqb-true (length mets) declared.rounds (and_parts (not (is_incremental declared.scheme)) (length mets == declared.rounds) count.0).1 in
+    let most = few_rounds_asked sc declared (each_get (λ (t : Transaction). is_valid_txn sc t ≡ true) sc.txns txn.0 declared valid.txns there) in
+    omega (arith, so_many, most)
+
+decision_small : (sc : Scenario) (facts : List Fact) (place : ℕ) (txn : TxnId) (declared : Transaction) (decided : Decision) → HaveHomes sc → IsValid sc → slice_get sc.txns txn.0 ≡ Some declared
     → DecisionFits sc facts place txn decided → HasFewDeedsIn decided → IsSmallDecision decided
-decision_small sc facts place txn declared (decision.Commit committed) homes there h few = commit_small sc facts place txn declared committed homes there h few
-decision_small sc facts place txn declared (decision.Abort (cause.Rounds mets)) homes there h few = absurd h
-decision_small sc facts place txn declared (decision.Abort _) homes there h few = tt
+decision_small sc facts place txn declared (decision.Commit committed) homes valid there h few = commit_small sc facts place txn declared committed homes there h few
+decision_small sc facts place txn declared (decision.Abort (cause.Rounds mets)) homes valid there h few = rounds_small sc facts place txn declared mets valid there (h declared there)
+decision_small sc facts place txn declared (decision.Abort _) homes valid there h few = tt
 
-record_small : (sc : Scenario) (facts : List Fact) (place : ℕ) (txn : TxnId) (declared : Transaction) (forced : Record) → HaveHomes sc → slice_get sc.txns txn.0 ≡ Some declared
+record_small : (sc : Scenario) (facts : List Fact) (place : ℕ) (txn : TxnId) (declared : Transaction) (forced : Record) → HaveHomes sc → IsValid sc → slice_get sc.txns txn.0 ≡ Some declared
     → RecordDecides sc facts place forced → Decides txn forced → IsSmallAtCoordinator forced
-record_small sc facts place txn declared (log.Decided d) homes there h few =
-    decision_small sc facts place d.txn declared d.decision homes (subst (λ (t : TxnId). slice_get sc.txns t.0 ≡ Some declared) (sym few.0) there) h few.1
-record_small sc facts place txn declared (log.Prepared p) homes there h few = absurd few
-record_small sc facts place txn declared _ homes there h few = tt
+record_small sc facts place txn declared (log.Decided d) homes valid there h few =
+    decision_small sc facts place d.txn declared d.decision homes valid (subst (λ (t : TxnId). slice_get sc.txns t.0 ≡ Some declared) (sym few.0) there) h few.1
+record_small sc facts place txn declared (log.Prepared p) homes valid there h few = absurd few
+record_small sc facts place txn declared _ homes valid there h few = tt
 
-append_small : (sc : Scenario) (facts : List Fact) (place : ℕ) (txn : TxnId) (declared : Transaction) (append : Option Record) → HaveHomes sc → slice_get sc.txns txn.0 ≡ Some declared
+append_small : (sc : Scenario) (facts : List Fact) (place : ℕ) (txn : TxnId) (declared : Transaction) (append : Option Record) → HaveHomes sc → IsValid sc → slice_get sc.txns txn.0 ≡ Some declared
     → IfSome append (RecordDecides sc facts place) → IfSome append (Decides txn) → IfSome append IsSmallAtCoordinator
-append_small sc facts place txn declared None homes there h few = tt
-append_small sc facts place txn declared (Some forced) homes there h few = record_small sc facts place txn declared forced homes there h few
+append_small sc facts place txn declared None homes valid there h few = tt
+append_small sc facts place txn declared (Some forced) homes valid there h few = record_small sc facts place txn declared forced homes valid there h few
 
 -- no transaction has more than 16 queries
 few_in_homes : (sc : Scenario) → HaveHomes sc → AreFew sc
@@ -223,13 +301,13 @@ txn_declared sc txn exists = by_found (slice_get sc.txns txn.0) refl
     by_found None e = absurd (missing sc.txns txn.0 exists e)
     by_found (Some declared) e = (declared, e)
 
-received_small : (sc : Scenario) (w : State) → HaveHomes sc → IsValid sc → IsSound sc w → Agrees sc w → Pairs sc w → Trusts sc w → (n : ℕ) (mail : Mail) (txn : TxnId) (part : Part Coordinator) (c : Coordinator)
+received_small : (sc : Scenario) (w : State) → ArePlain sc → HaveHomes sc → IsValid sc → IsSound sc w → Agrees sc w → Pairs sc w → Trusts sc w → (n : ℕ) (mail : Mail) (txn : TxnId) (part : Part Coordinator) (c : Coordinator)
     → WasSent w n mail (actor.Coordinator txn) → IsCoordinatorUp w txn part c → IfSome (coordinator_row sc c mail).reaction.append IsSmallAtCoordinator
-received_small sc w homes valid sound agrees pairs trusts n mail txn part c sent up =
+received_small sc w plain homes valid sound agrees pairs trusts n mail txn part c sent up =
     let same : c.txn ≡ txn = own_txn sc w txn part c sound up.found up.up in
     let there = txn_declared sc txn (sound.actors_are.coordinators txn.0 part up.found).exists in
-    let decides = received_row_trusts sc w (few_in_homes sc homes) homes valid sound agrees pairs trusts n mail txn part c sent up in
-    append_small sc w.facts (length w.steps) c.txn there.0 (coordinator_row sc c mail).reaction.append homes (subst (λ (t : TxnId). slice_get sc.txns t.0 ≡ Some there.0) (sym same) there.1) decides.decides
+    let decides = received_row_trusts sc w (few_in_homes sc homes) plain homes valid sound agrees pairs trusts n mail txn part c sent up in
+    append_small sc w.facts (length w.steps) c.txn there.0 (coordinator_row sc c mail).reaction.append homes valid (subst (λ (t : TxnId). slice_get sc.txns t.0 ≡ Some there.0) (sym same) there.1) decides.decides
     (coordinator_row_few sc c mail (coordinator_few sc w txn part c there.0 homes pairs up there.1))
 
 -- a submission forces nothing
@@ -263,8 +341,8 @@ unmoved_small actors others servers coordinators h =
       coordinators = subst (EachAt (λ (n : ℕ) (part : Part Coordinator). Each IsSmallAtCoordinator part.log)) (sym coordinators) h.coordinators;
     }
 
-sizes_cases : (sc : Scenario) (w : State) → HaveHomes sc → IsValid sc → WaitRightly sc w → IsSound sc w → Agrees sc w → Pairs sc w → Trusts sc w → Sizes w → Cases sc w (λ taken move. AreSmall move.actors)
-sizes_cases sc w homes valid rightly sound agrees pairs trusts h =
+sizes_cases : (sc : Scenario) (w : State) → ArePlain sc → HaveHomes sc → IsValid sc → WaitRightly sc w → IsSound sc w → Agrees sc w → Pairs sc w → Trusts sc w → Sizes w → Cases sc w (λ taken move. AreSmall move.actors)
+sizes_cases sc w plain homes valid rightly sound agrees pairs trusts h =
     record {
       idle = λ taken happened says. h;
       server_received = λ n mail at part s sent up.
@@ -272,7 +350,7 @@ sizes_cases sc w homes valid rightly sound agrees pairs trusts h =
           (server_row_small sc s mail (rightly at part s up) (λ txn declared entry there found. entry_few sc w at part s txn declared entry homes pairs up there found));
       coordinator_received = λ n mail txn part c sent up.
           coordinators_small w.actors txn part (Some (coordinator_row sc c mail).state) (coordinator_row sc c mail).reaction.append h up.found
-          (received_small sc w homes valid sound agrees pairs trusts n mail txn part c sent up);
+          (received_small sc w plain homes valid sound agrees pairs trusts n mail txn part c sent up);
       authority_told = λ n mail sent. h;
       master_told = λ n mail sent. h;
       published = λ admin exists more. unmoved_small w.actors _ refl refl h;
@@ -284,11 +362,11 @@ sizes_cases sc w homes valid rightly sound agrees pairs trusts h =
     }
 
 -- a step that is not refused forces small records
-pub sizes_next : (sc : Scenario) (m : Machine) (taken : Step) → HaveHomes sc → IsValid sc → IsStepOf sc taken → refusal m.state taken ≡ None → WaitRightly sc m.state → IsSound sc m.state → Agrees sc m.state → Pairs sc m.state → Trusts sc m.state
+pub sizes_next : (sc : Scenario) (m : Machine) (taken : Step) → ArePlain sc → HaveHomes sc → IsValid sc → IsStepOf sc taken → refusal m.state taken ≡ None → WaitRightly sc m.state → IsSound sc m.state → Agrees sc m.state → Pairs sc m.state → Trusts sc m.state
     → Sizes m.state → Sizes (machine_after sc m taken).state
-sizes_next sc m taken homes valid exists allowed rightly sound agrees pairs trusts h =
+sizes_next sc m taken plain homes valid exists allowed rightly sound agrees pairs trusts h =
     machine_after_by sc m (λ taken move. AreSmall move.actors) Sizes
-    (sizes_cases sc m.state homes valid rightly sound agrees pairs trusts h) agrees.coordinator_count
+    (sizes_cases sc m.state plain homes valid rightly sound agrees pairs trusts h) agrees.coordinator_count
     (λ taken move small. small) h taken exists allowed
 
 -- before the first step all logs are empty

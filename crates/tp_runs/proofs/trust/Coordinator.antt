@@ -1,10 +1,8 @@
 -- Trust, the coordinator's rows: it commits on one instance whose proofs are right, true and of one version.
-use Rattle.std.specs.List.{list_all}
 use Rattle.std.proofs.Common.{IfSome, List, None, Option, Some, [], ap, arith, false, is_none, map, refl, replicate, slice_get, subst, sym, true, ℕ, ℤ, ◌++◌, ◌+◌, ◌∙◌, ◌∷◌, ◌≡◌, ◌≤◌, ◌⊎◌}
 use Rattle.std.proofs.lemmas.Bool.{eqb-true}
 use Rattle.tp_types.specs.Effect.{Effect, ignores, sends}
 use Rattle.tp_model.specs.Limits.{admins_limit}
-use Rattle.tp_model.specs.Versions.{is_one_version}
 use Rattle.tp_model.specs.Words.actor
 use Rattle.tp_model.specs.Words.body
 use Rattle.tp_model.specs.Words.cause
@@ -13,9 +11,14 @@ use Rattle.tp_model.specs.Words.level
 use Rattle.tp_model.specs.Words.log
 use Rattle.tp_model.specs.Words.outcome
 use Rattle.tp_model.specs.Words.vote
-use Rattle.tp_model.specs.Words.{Actor, Body, Cause, CommitRecord, Decision, Denied, Died, DoneReply, Fact, Instance, Letter, Mail, Outcome, Query, Record, Scenario, ServerId, Staple, TxnId, Verdict, Vote, VoteReply}
+use Rattle.tp_model.specs.Words.scheme
+use Rattle.tp_model.specs.Words.{Actor, Body, Cause, CommitRecord, Decision, Denied, Died, DoneReply, Fact, Instance, Letter, Mail, Outcome, Query, Record, Scenario, ServerId, Staple, Transaction, TxnId, Verdict, Vote, VoteReply}
+use Rattle.tp_types.proofs.EachLemmas.{each_get}
+use Rattle.tp_model.specs.Levels.{reads_master}
+use Rattle.tp_model.specs.Causes.{are_rounds_shown, is_newer_shown}
+use Rattle.tp_runs.proofs.trust.Built.{ArePlain}
+use Rattle.tp_runs.proofs.trust.Instances.{IsSoFar, IsTrustedCommit, deferred_commit, so_far_on}
 use Rattle.tp_runs.proofs.basics.Ids.{same_txn_from}
-use Rattle.tp_runs.proofs.basics.Verdicts.{numbers_of}
 use Rattle.tp_runs.proofs.agreement.Coordinator.{idle_is}
 use Rattle.tp_runs.proofs.basics.Homes.{HaveHomes, next_is}
 use Rattle.tp_runs.proofs.basics.Phases.{awaits_is, before_query, ceiling_in, is_undecided, until_round}
@@ -24,18 +27,19 @@ use Rattle.tp_runs.proofs.ids.Valid.{IsValid}
 use Rattle.tp_runs.proofs.pairs.Actors.{BodyPairs, VoteFrom, site_of}
 use Rattle.tp_runs.proofs.pairs.Fits as PairVote
 use Rattle.tp_runs.proofs.pairs.Pair.{Pair}
-use Rattle.tp_runs.proofs.trust.Fit.{AreAll, BodyFits, IsSubmitted, Right, StapleFits, VoteFits, has_rule}
+use Rattle.tp_runs.proofs.trust.Fit.{BodyFits, IsSubmitted, Right, StapleFits, VoteFits}
 use Rattle.tp_runs.proofs.trust.Phases.{PhaseFits}
 use Rattle.tp_runs.proofs.trust.RoundAims.{round_updated}
 use Rattle.tp_runs.proofs.trust.RoundProofs.{round_closes}
 use Rattle.tp_runs.proofs.trust.Rounds.{AimedReply, AreNumbersAt, RoundFits, few_rounds, round_denies, round_replied, round_starts, round_wants, want_published}
 use Rattle.tp_runs.proofs.basics.Turns.{AreFew, IsAbove, IsOfPast, IsTimely, Now, PrepareNow, Stamp, TurnFits, VoteNow, WantNow, ceiling, died_move, end_move, first_move, further_move, low_query, low_round, next_move, number_within, query_count, raised, round_move, stamp_of, turn_rises}
-use Rattle.tp_coord.proofs.Rows.{IsYes, coordinator_by, submit_by}
+use Rattle.tp_scheme.specs.declared.moves.Point.TheVariants as point
+use Rattle.tp_coord.proofs.Rows.{AllTrue, ByOlder, ByProof, ByRefusal, Gained, HasVoted, IsEnded, IsPassed, IsYes, QueryRan, coordinator_by, gains_instances, submit_by, with_gained}
 use Rattle.tp_machine.specs.Machine.{with_age}
 use Rattle.tp_types.specs.Each.{Each}
 use Rattle.tp_runs.specs.Sound.{IsSoundBody, query_in}
 use Rattle.tp_coord.specs.Opened.{servers_at}
-use Rattle.tp_coord.specs.Row.{aborts, asks, commit_round, commits, coordinator_row, coordinator_with_age, denied_by, is_begun, next_number, next_turn, prepare_letter, prepares, refused_by, requests, sends_query, staple_of, submit_row, want_for, with_deed, without}
+use Rattle.tp_coord.specs.Row.{aborts, asks, closes, commit_record, commit_round, commits, coordinator_row, coordinator_with_age, denied_by, died_for, is_begun, next_number, next_turn, prepare_letter, prepares, refused_by, requests, sends_query, staple_of, submit_row, want_for, without}
 use Rattle.tp_coord.specs.State.{Coordinator}
 use Rattle.tp_coord.specs.declared.coordinator.Phase.TheVariants as phase
 use Rattle.tp_coord.specs.declared.coordinator.Phase.{Phase}
@@ -48,23 +52,21 @@ use Rattle.tp_round.specs.declared.round.Wanted.{Wanted}
 
 -- ---- what is kept
 
--- a coordinator awaits the answer to a request that fits, in a turn of its phase; before the decision no instance is closed (deferred
--- commits have one), and what is closed or gathered is of the past
+-- what a transaction of the scenario has closed and gathered before the phase
+abbrev pub AreSoFar : Scenario → List Fact → ℕ → TxnId → Phase → List Instance → List Verdict → Type 0
+AreSoFar sc facts place txn awaited instances gathered = (declared : Transaction) → slice_get sc.txns txn.0 ≡ Some declared → IsSoFar sc facts place txn declared awaited instances gathered
+
+-- a coordinator awaits the answer to a request that fits, in a turn of its phase; before the decision what it has closed is what its
+-- transaction's scheme demands so far, and what is closed or gathered is of the past
 pub record CoordinatorFits (sc : Scenario) (facts : List Fact) (place : ℕ) (c : Coordinator) : Type 0 where
   pub awaits : PhaseFits sc facts place c.txn c.phase
-  pub unclosed : is_undecided c.phase ≡ true → c.instances ≡ []
+  pub so_far : is_undecided c.phase ≡ true → AreSoFar sc facts place c.txn c.phase c.instances c.gathered
   pub above : is_undecided c.phase ≡ true → IsAbove place c.instances c.gathered
   pub turn : c.turn ≤ ceiling sc c
 
--- a commit rests on one instance, whose proofs are right, cover all queries, are true and have one version of each administrator
-pub record CommitFits (sc : Scenario) (facts : List Fact) (place : ℕ) (txn : TxnId) (committed : CommitRecord) : Type 0 where
-  pub rounds : (committed.rounds ≡ 1) ⊎ (committed.rounds ≡ 2)
-  pub proofs : List Verdict
-  pub instances : committed.instances ≡ record { reading = None; proofs = proofs } ∷ []
-  pub right : Each (Right sc facts place txn) proofs
-  pub all : AreAll sc txn (numbers_of proofs)
-  pub have_rules : list_all has_rule proofs ≡ true
-  pub one_version : is_one_version proofs ≡ true
+-- a commit rests on what its transaction's scheme demands, and on instances that are trusted
+abbrev pub CommitFits : Scenario → List Fact → ℕ → TxnId → CommitRecord → Type 0
+CommitFits sc facts place txn committed = (declared : Transaction) → slice_get sc.txns txn.0 ≡ Some declared → IsTrustedCommit sc facts place txn declared committed
 
 -- a denial is by a right verdict without a rule
 pub record DeniedFits (sc : Scenario) (facts : List Fact) (place : ℕ) (txn : TxnId) (denied : Denied) : Type 0 where
@@ -73,11 +75,13 @@ pub record DeniedFits (sc : Scenario) (facts : List Fact) (place : ℕ) (txn : T
   pub right : Right sc facts place txn verdict
   pub ruleless : is_none verdict.rule ≡ true
 
--- what a server refused, and a death for an older transaction, are shown elsewhere. No coordinator aborts for another cause yet
+-- what a server refused, and a death for an older transaction, are shown elsewhere. No coordinator aborts for a restart or a halt yet
 abbrev pub CauseFits : Scenario → List Fact → ℕ → TxnId → Cause → Type 0
 CauseFits sc facts place txn (cause.Denied denied) = DeniedFits sc facts place txn denied
 CauseFits sc facts place txn (cause.No refused) = Unit {0}
 CauseFits sc facts place txn (cause.Died died) = Unit {0}
+CauseFits sc facts place txn (cause.Newer newer) = (declared : Transaction) → slice_get sc.txns txn.0 ≡ Some declared → is_newer_shown sc place facts newer declared ≡ true
+CauseFits sc facts place txn (cause.Rounds mets) = (declared : Transaction) → slice_get sc.txns txn.0 ≡ Some declared → are_rounds_shown sc txn place facts mets declared ≡ true
 CauseFits sc facts place txn _ = ⊥
 
 abbrev pub DecisionFits : Scenario → List Fact → ℕ → TxnId → Decision → Type 0
@@ -112,6 +116,12 @@ RowTrusts sc facts place c effect = CoordinatorTrusts sc facts place c.txn (Some
 ignores_trusts_in_coordinator : (sc : Scenario) (facts : List Fact) (place : ℕ) (c : Coordinator) → CoordinatorFits sc facts place c → RowTrusts sc facts place c (ignores c)
 ignores_trusts_in_coordinator sc facts place c h = record { fits = h; decides = tt; says = λ sent. tt; timely = λ sent. tt; old = λ sent turn said t. t }
 
+-- a deferred transaction closes and gathers nothing before its commit
+moved_on : (sc : Scenario) (facts : List Fact) (place : ℕ) (txn : TxnId) (awaited next : Phase) (instances : List Instance) (gathered : List Verdict) → ArePlain sc → AreSoFar sc facts place txn awaited instances gathered
+    → AreSoFar sc facts place txn next instances gathered
+moved_on sc facts place txn awaited next instances gathered plain h declared found =
+    so_far_on sc facts place txn declared awaited next instances gathered (each_get (λ (t : Transaction). t.scheme ≡ scheme.Deferred) sc.txns txn.0 declared plain.deferred found) (h declared found)
+
 -- ---- Done
 
 phase_fits : (sc : Scenario) (facts : List Fact) (place : ℕ) (c : Coordinator) (awaited : Phase) → CoordinatorFits sc facts place c → c.phase ≡ awaited → PhaseFits sc facts place c.txn awaited
@@ -120,49 +130,69 @@ phase_fits sc facts place c awaited h e = subst (PhaseFits sc facts place c.txn)
 pub turn_low : (sc : Scenario) (facts : List Fact) (place : ℕ) (c : Coordinator) (awaited : Phase) → CoordinatorFits sc facts place c → c.phase ≡ awaited → c.turn ≤ ceiling_in (query_count sc c.txn) awaited
 turn_low sc facts place c awaited h e = subst (λ (p : Phase). c.turn ≤ ceiling_in (query_count sc c.txn) p) e h.turn
 
-ran_last_trusts : (sc : Scenario) (facts : List Fact) (place : ℕ) (c : Coordinator) (done : DoneReply) (asked : Query) (server : ServerId) (value : ℤ) → AreFew sc → CoordinatorFits sc facts place c
-    → c.phase ≡ phase.Querying done.query None → query_in sc c.txn done.query ≡ Some asked → c.servers ≡ servers_at sc c.txn → RowTrusts sc facts place c (asks (with_deed c server done asked value) span.Commit (commit_round (with_deed c server done asked value)))
-ran_last_trusts sc facts place c done asked server value few h e q own =
-    let count = query_count sc c.txn in
-    let submitted : IsSubmitted facts c.txn = (phase_fits sc facts place c (phase.Querying done.query None) h e).0 in
-    let low : c.turn ≤ ceiling_in count (phase.Querying done.query None) = turn_low sc facts place c (phase.Querying done.query None) h e in
-    let number = number_within sc c.txn done.query asked q in
-    let rises : next_turn c ≡ c.turn + 1 = turn_rises c (low_query count done.query 2 c.turn (few c.txn) (let last = number.1 in omega (arith, last)) (omega arith) low) in
+-- what holds where the query of this number ran, with what that adds
+record RanStands (sc : Scenario) (facts : List Fact) (place : ℕ) (c : Coordinator) (now : Gained) (query : ℕ) : Type 0 where
+  submitted : IsSubmitted facts c.txn
+  first : 1 ≤ query
+  last : query ≤ query_count sc c.txn
+  further : next_number query ≡ query + 1
+  low : c.turn ≤ before_query query + 2
+  rises : next_turn c ≡ c.turn + 1
+  undecided : is_undecided c.phase ≡ true
+  so_far : AreSoFar sc facts place c.txn c.phase now.instances now.gathered
+  above : IsAbove place now.instances now.gathered
+
+ran_stands : (sc : Scenario) (facts : List Fact) (place : ℕ) (c : Coordinator) (mail : Mail) → AreFew sc → HaveHomes sc → CoordinatorFits sc facts place c → (query : ℕ) (now : Gained)
+    → IsPassed sc c mail (point.Ran query) now → RanStands sc facts place c now query
+ran_stands sc facts place c mail few homes h _ _ (QueryRan done server asked value k) =
+    let e : c.phase ≡ phase.Querying done.query None = awaits_is c c.phase done k.awaited k.plain in
+    let number = number_within sc c.txn done.query asked k.asked_is in
+    let low : c.turn ≤ before_query done.query + 2 = turn_low sc facts place c (phase.Querying done.query None) h e in
     let undecided : is_undecided c.phase ≡ true = ap is_undecided e in
     record {
-      fits = record {
-        awaits = (submitted, subst (λ (servers : List ServerId). RoundFits sc facts place c.txn (first_round servers 2 (replicate admins_limit level.View) false)) (sym own) (round_starts sc facts place c.txn));
-        unclosed = λ unsure. h.unclosed undecided;
-        above = λ unsure. h.above undecided;
-        turn = subst (λ (n : ℕ). n ≤ until_round count 1 1) (sym rises) (round_move count done.query c.turn number.0 number.1 low);
-      };
-      decides = tt;
-      says = λ sent. (submitted, tt);
-      timely = λ sent. (record { own = refl; timely = λ unsure. record { past = omega arith; now = λ same. tt } }, tt);
-      old = λ sent turn said t. raised sc c (asks (with_deed c server done asked value) span.Commit (commit_round (with_deed c server done asked value))).state sent turn said undecided rises t;
+      submitted = (phase_fits sc facts place c (phase.Querying done.query None) h e).0;
+      first = number.0;
+      last = number.1;
+      further = next_is sc c done.query asked homes k.asked_is;
+      low = low;
+      rises = turn_rises c (low_query (query_count sc c.txn) done.query 2 c.turn (few c.txn) (let last = number.1 in omega (arith, last)) (omega arith) low);
+      undecided = undecided;
+      so_far = h.so_far undecided;
+      above = h.above undecided;
     }
 
-ran_next_trusts : (sc : Scenario) (facts : List Fact) (place : ℕ) (c : Coordinator) (done : DoneReply) (asked : Query) (server next : ServerId) (value : ℤ) → AreFew sc → CoordinatorFits sc facts place c
-    → c.phase ≡ phase.Querying done.query None → query_in sc c.txn done.query ≡ Some asked → next_number done.query ≡ done.query + 1
-    → RowTrusts sc facts place c (sends_query sc (with_deed c server done asked value) (next_number done.query) next)
-ran_next_trusts sc facts place c done asked server next value few h e q further =
-    let count = query_count sc c.txn in
-    let submitted : IsSubmitted facts c.txn = (phase_fits sc facts place c (phase.Querying done.query None) h e).0 in
-    let low : c.turn ≤ ceiling_in count (phase.Querying done.query None) = turn_low sc facts place c (phase.Querying done.query None) h e in
-    let number = number_within sc c.txn done.query asked q in
-    let rises : next_turn c ≡ c.turn + 1 = turn_rises c (low_query count done.query 2 c.turn (few c.txn) (let last = number.1 in omega (arith, last)) (omega arith) low) in
-    let undecided : is_undecided c.phase ≡ true = ap is_undecided e in
+-- after all queries the authority is asked before the first round
+brings_trusts : (sc : Scenario) (facts : List Fact) (place : ℕ) (c : Coordinator) (now : Gained) (query : ℕ) → ArePlain sc → c.servers ≡ servers_at sc c.txn → RanStands sc facts place c now query
+    → RowTrusts sc facts place c (asks (with_gained c now) span.Commit (commit_round c))
+brings_trusts sc facts place c now query plain own s =
     record {
       fits = record {
-        awaits = (submitted, tt);
-        unclosed = λ unsure. h.unclosed undecided;
-        above = λ unsure. h.above undecided;
-        turn = subst (λ (n : ℕ). n ≤ before_query (next_number done.query) + 2) (sym rises) (next_move done.query (next_number done.query) c.turn number.0 further low);
+        awaits = (s.submitted, subst (λ (servers : List ServerId). RoundFits sc facts place c.txn (first_round servers 2 (replicate admins_limit level.View) false)) (sym own) (round_starts sc facts place c.txn));
+        so_far = λ unsure. moved_on sc facts place c.txn c.phase (phase.Asking span.Commit (commit_round c)) now.instances now.gathered plain s.so_far;
+        above = λ unsure. s.above;
+        turn = subst (λ (n : ℕ). n ≤ until_round (query_count sc c.txn) 1 1) (sym s.rises) (round_move (query_count sc c.txn) query c.turn s.first s.last s.low);
+      };
+      decides = tt;
+      says = λ sent. (s.submitted, tt);
+      timely = λ sent. (record { own = refl; timely = λ unsure. record { past = omega arith; now = λ same. tt } }, tt);
+      old = λ sent turn said t. raised sc c (asks (with_gained c now) span.Commit (commit_round c)).state sent turn said s.undecided s.rises t;
+    }
+
+-- a further query is sent
+sends_trusts : (sc : Scenario) (facts : List Fact) (place : ℕ) (c : Coordinator) (now : Gained) (query : ℕ) (next : ServerId) → ArePlain sc → RanStands sc facts place c now query
+    → RowTrusts sc facts place c (sends_query sc (with_gained c now) (next_number query) next)
+sends_trusts sc facts place c now query next plain s =
+    record {
+      fits = record {
+        awaits = (s.submitted, tt);
+        so_far = λ unsure. moved_on sc facts place c.txn c.phase (phase.Querying (next_number query) None) now.instances now.gathered plain s.so_far;
+        above = λ unsure. s.above;
+        turn = subst (λ (n : ℕ). n ≤ before_query (next_number query) + 2) (sym s.rises) (next_move query (next_number query) c.turn s.first s.further s.low);
       };
       decides = tt;
       says = λ sent. (tt, tt);
       timely = λ sent. (record { own = refl; timely = λ unsure. record { past = omega arith; now = λ same. tt } }, tt);
-      old = λ sent turn said t. raised sc c (sends_query sc (with_deed c server done asked value) (next_number done.query) next).state sent turn said undecided rises t;
+      old = λ sent turn said t. raised sc c (sends_query sc (with_gained c now) (next_number query) next).state sent turn said s.undecided s.rises t;
     }
 
 -- ---- Tell
@@ -180,9 +210,9 @@ prepare_letters_timely sc c round staple sent [] h = tt
 prepare_letters_timely sc c round staple sent (at ∷ servers) h =
     (record { own = refl; timely = λ unsure. record { past = omega arith; now = λ same. (refl, h.0) } }, prepare_letters_timely sc c round staple sent servers h.1)
 
-prepares_trusts : (sc : Scenario) (facts : List Fact) (place : ℕ) (c : Coordinator) (round : Round) (staple : Staple) → AreFew sc → CoordinatorFits sc facts place c → c.phase ≡ phase.Asking span.Commit round
+prepares_trusts : (sc : Scenario) (facts : List Fact) (place : ℕ) (c : Coordinator) (round : Round) (staple : Staple) → AreFew sc → ArePlain sc → CoordinatorFits sc facts place c → c.phase ≡ phase.Asking span.Commit round
     → StapleFits sc facts place c.txn staple → RowTrusts sc facts place c (prepares c span.Commit round staple)
-prepares_trusts sc facts place c round staple few h e s =
+prepares_trusts sc facts place c round staple few plain h e s =
     let count = query_count sc c.txn in
     let f = phase_fits sc facts place c (phase.Asking span.Commit round) h e in
     let low : c.turn ≤ until_round count round.number 1 = turn_low sc facts place c (phase.Asking span.Commit round) h e in
@@ -190,7 +220,7 @@ prepares_trusts sc facts place c round staple few h e s =
     let undecided : is_undecided c.phase ≡ true = ap is_undecided e in
     let next = record c { turn = next_turn c; phase = phase.Checking span.Commit round staple } in
     record {
-      fits = record { awaits = (f.0, f.1, s); unclosed = λ unsure. h.unclosed undecided; above = λ unsure. h.above undecided; turn = omega (arith, rises, low) };
+      fits = record { awaits = (f.0, f.1, s); so_far = λ unsure. moved_on sc facts place c.txn c.phase next.phase c.instances c.gathered plain (h.so_far undecided); above = λ unsure. h.above undecided; turn = omega (arith, rises, low) };
       decides = tt;
       says = λ sent. prepare_letters_fit sc facts place sent c round staple (missing_in round.targets) s f.1;
       timely = λ sent. prepare_letters_timely sc c round staple sent (missing_in round.targets) (round_wants sc facts place c.txn round f.1);
@@ -233,7 +263,7 @@ record RoundTrusted (sc : Scenario) (facts : List Fact) (place : ℕ) (c : Coord
   fits : RoundFits sc facts place c.txn round
   stapled : StapleFits sc facts place c.txn staple
   undecided : is_undecided c.phase ≡ true
-  unclosed : c.instances ≡ []
+  so_far : AreSoFar sc facts place c.txn c.phase c.instances c.gathered
   above : IsAbove place c.instances c.gathered
   low : c.turn ≤ until_round (query_count sc c.txn) round.number 2
 
@@ -247,100 +277,79 @@ replied_trusted sc facts place c round staple server verdicts h e v =
       fits = round_replied sc facts place c.txn round server verdicts f.1 v.right v.numbers v.aimed;
       stapled = f.2;
       undecided = undecided;
-      unclosed = h.unclosed undecided;
+      so_far = h.so_far undecided;
       above = h.above undecided;
       low = turn_low sc facts place c (phase.Checking span.Commit round staple) h e;
     }
 
 -- a round in which all is true closes the one instance
-committed_trusts : (sc : Scenario) (facts : List Fact) (place : ℕ) (c : Coordinator) (round : Round) (staple : Staple) → HaveHomes sc → IsValid sc → RoundTrusted sc facts place c round staple → judge round None ≡ judged.AllTrue
-    → RowTrusts sc facts place c (commits c round.number (by_query (proofs_in round.targets)))
-committed_trusts sc facts place c round staple homes valid h e =
+committed_trusts : (sc : Scenario) (facts : List Fact) (place : ℕ) (c : Coordinator) (round : Round) (staple : Staple) → ArePlain sc → HaveHomes sc → IsValid sc → RoundTrusted sc facts place c round staple → judge round None ≡ judged.AllTrue
+    → RowTrusts sc facts place c (commits (closes c (by_query (proofs_in round.targets))) round.number)
+committed_trusts sc facts place c round staple plain homes valid h e =
     let proofs = by_query (proofs_in round.targets) in
     let closing = round_closes sc facts place c.txn round homes valid h.fits e in
     record {
       fits = record {
         awaits = tt;
-        unclosed = λ unsure. absurd (cc);
+        so_far = λ unsure. absurd (cc);
         above = λ unsure. absurd (cc);
         turn = end_move (query_count sc c.txn) round.number 2 c.turn (few_rounds sc facts place c.txn round h.fits) (omega arith) h.low;
       };
-      decides = record {
-        rounds = closing.number;
-        proofs = proofs;
-        instances = ap (λ (instances : List Instance). instances ++ record { reading = None; proofs = proofs } ∷ []) h.unclosed;
-        right = closing.right;
-        all = closing.numbers;
-        have_rules = closing.have_rules;
-        one_version = closing.one_version;
-      };
+      decides = λ declared found.
+          deferred_commit sc facts place c.txn declared c.phase c.instances c.gathered proofs (commit_record (closes c proofs) round.number)
+          (each_get (λ (t : Transaction). t.scheme ≡ scheme.Deferred) sc.txns c.txn.0 declared plain.deferred found) (each_get (λ (t : Transaction). reads_master sc t ≡ false) sc.txns c.txn.0 declared plain.view found)
+          (h.so_far declared found) refl closing.number closing.right (closing.numbers declared found) closing.have_rules closing.one_version;
       says = λ sent. orders_fit sc facts place sent c outcome.Commit c.servers;
-      timely = λ sent. orders_timely sc c (Some (commits c round.number proofs).state) sent outcome.Commit c.servers;
+      timely = λ sent. orders_timely sc c (Some (commits (closes c proofs) round.number).state) sent outcome.Commit c.servers;
+      old = λ sent turn said t unsure. absurd (cc);
+    }
+
+-- what holds of a transaction that aborts for a cause
+record EndStands (sc : Scenario) (facts : List Fact) (place : ℕ) (c : Coordinator) (why : Cause) : Type 0 where
+  turn : c.turn ≤ until_round (query_count sc c.txn) 17 3
+  fits : CauseFits sc facts place c.txn why
+
+-- an abort
+aborts_trusts : (sc : Scenario) (facts : List Fact) (place : ℕ) (c : Coordinator) (why : Cause) → EndStands sc facts place c why → RowTrusts sc facts place c (aborts c why)
+aborts_trusts sc facts place c why s =
+    record {
+      fits = record { awaits = tt; so_far = λ unsure. absurd (cc); above = λ unsure. absurd (cc); turn = s.turn };
+      decides = s.fits;
+      says = λ sent. orders_fit sc facts place sent c outcome.Abort c.servers;
+      timely = λ sent. orders_timely sc c (Some (aborts c why).state) sent outcome.Abort c.servers;
       old = λ sent turn said t unsure. absurd (cc);
     }
 
 -- an older transaction stood in the way
-died_trusts : (sc : Scenario) (facts : List Fact) (place : ℕ) (c : Coordinator) (done : DoneReply) (asked : Query) (died : Died) → CoordinatorFits sc facts place c → c.phase ≡ phase.Querying done.query None
-    → query_in sc c.txn done.query ≡ Some asked → RowTrusts sc facts place c (aborts c (cause.Died died))
-died_trusts sc facts place c done asked died h e q =
+died_stands : (sc : Scenario) (facts : List Fact) (place : ℕ) (c : Coordinator) (done : DoneReply) (asked : Query) (died : Died) → CoordinatorFits sc facts place c → c.phase ≡ phase.Querying done.query None
+    → query_in sc c.txn done.query ≡ Some asked → EndStands sc facts place c (cause.Died died)
+died_stands sc facts place c done asked died h e q =
     let low : c.turn ≤ ceiling_in (query_count sc c.txn) (phase.Querying done.query None) = turn_low sc facts place c (phase.Querying done.query None) h e in
     let number = number_within sc c.txn done.query asked q in
-    let now = aborts c (cause.Died died) in
-    record {
-      fits = record {
-        awaits = tt;
-        unclosed = λ unsure. absurd (cc);
-        above = λ unsure. absurd (cc);
-        turn = died_move (query_count sc c.txn) done.query c.turn number.0 number.1 low;
-      };
-      decides = tt;
-      says = λ sent. orders_fit sc facts place sent c outcome.Abort c.servers;
-      timely = λ sent. orders_timely sc c (Some now.state) sent outcome.Abort c.servers;
-      old = λ sent turn said t unsure. absurd (cc);
-    }
+    record { turn = died_move (query_count sc c.txn) done.query c.turn number.0 number.1 low; fits = tt }
 
 -- a vote NO ends the transaction
-refused_trusts : (sc : Scenario) (facts : List Fact) (place : ℕ) (c : Coordinator) (round : Round) (staple : Staple) (server : ServerId) (number : ℕ) (value : ℤ) → CoordinatorFits sc facts place c
-    → c.phase ≡ phase.Checking span.Commit round staple → RowTrusts sc facts place c (aborts c (cause.No (refused_by server number value)))
-refused_trusts sc facts place c round staple server number value h e =
+refused_stands : (sc : Scenario) (facts : List Fact) (place : ℕ) (c : Coordinator) (round : Round) (staple : Staple) (server : ServerId) (number : ℕ) (value : ℤ) → CoordinatorFits sc facts place c
+    → c.phase ≡ phase.Checking span.Commit round staple → EndStands sc facts place c (cause.No (refused_by server number value))
+refused_stands sc facts place c round staple server number value h e =
     let f = phase_fits sc facts place c (phase.Checking span.Commit round staple) h e in
     let low : c.turn ≤ until_round (query_count sc c.txn) round.number 2 = turn_low sc facts place c (phase.Checking span.Commit round staple) h e in
-    let now = aborts c (cause.No (refused_by server number value)) in
-    record {
-      fits = record {
-        awaits = tt;
-        unclosed = λ unsure. absurd (cc);
-        above = λ unsure. absurd (cc);
-        turn = end_move (query_count sc c.txn) round.number 2 c.turn (few_rounds sc facts place c.txn round f.1) (omega arith) low;
-      };
-      decides = tt;
-      says = λ sent. orders_fit sc facts place sent c outcome.Abort c.servers;
-      timely = λ sent. orders_timely sc c (Some now.state) sent outcome.Abort c.servers;
-      old = λ sent turn said t unsure. absurd (cc);
-    }
+    record { turn = end_move (query_count sc c.txn) round.number 2 c.turn (few_rounds sc facts place c.txn round f.1) (omega arith) low; fits = tt }
 
 -- a round in which a proof is false denies
-denied_trusts : (sc : Scenario) (facts : List Fact) (place : ℕ) (c : Coordinator) (round : Round) (staple : Staple) (verdict : Verdict) → RoundTrusted sc facts place c round staple → judge round None ≡ judged.False verdict
-    → RowTrusts sc facts place c (aborts c (cause.Denied (denied_by verdict)))
-denied_trusts sc facts place c round staple verdict h e =
+denied_stands : (sc : Scenario) (facts : List Fact) (place : ℕ) (c : Coordinator) (round : Round) (staple : Staple) (verdict : Verdict) → RoundTrusted sc facts place c round staple → judge round None ≡ judged.False verdict
+    → EndStands sc facts place c (cause.Denied (denied_by verdict))
+denied_stands sc facts place c round staple verdict h e =
     let denies = round_denies sc facts place c.txn round verdict h.fits e in
     record {
-      fits = record {
-        awaits = tt;
-        unclosed = λ unsure. absurd (cc);
-        above = λ unsure. absurd (cc);
-        turn = end_move (query_count sc c.txn) round.number 2 c.turn (few_rounds sc facts place c.txn round h.fits) (omega arith) h.low;
-      };
-      decides = record { verdict = verdict; denied_is = refl; right = denies.right; ruleless = denies.ruleless };
-      says = λ sent. orders_fit sc facts place sent c outcome.Abort c.servers;
-      timely = λ sent. orders_timely sc c (Some (aborts c (cause.Denied (denied_by verdict))).state) sent outcome.Abort c.servers;
-      old = λ sent turn said t unsure. absurd (cc);
+      turn = end_move (query_count sc c.txn) round.number 2 c.turn (few_rounds sc facts place c.txn round h.fits) (omega arith) h.low;
+      fits = record { verdict = verdict; denied_is = refl; right = denies.right; ruleless = denies.ruleless };
     }
 
 -- servers that are out of date are asked again
-updated_trusts : (sc : Scenario) (facts : List Fact) (place : ℕ) (c : Coordinator) (round : Round) (staple : Staple) (named : List Wanted) → AreFew sc → RoundTrusted sc facts place c round staple
+updated_trusts : (sc : Scenario) (facts : List Fact) (place : ℕ) (c : Coordinator) (round : Round) (staple : Staple) (named : List Wanted) → AreFew sc → ArePlain sc → RoundTrusted sc facts place c round staple
     → judge round None ≡ judged.Update named → RowTrusts sc facts place c (asks c span.Commit (after_judgement round None))
-updated_trusts sc facts place c round staple named few h e =
+updated_trusts sc facts place c round staple named few plain h e =
     let count = query_count sc c.txn in
     let next = after_judgement round None in
     let updated = round_updated sc facts place c.txn round named h.fits e in
@@ -349,7 +358,7 @@ updated_trusts sc facts place c round staple named few h e =
     record {
       fits = record {
         awaits = (h.submitted, updated.fits);
-        unclosed = λ unsure. h.unclosed;
+        so_far = λ unsure. moved_on sc facts place c.txn c.phase (phase.Asking span.Commit next) c.instances c.gathered plain h.so_far;
         above = λ unsure. h.above;
         turn = subst (λ (n : ℕ). next_turn c ≤ until_round count n 1) (sym number) (subst (λ (n : ℕ). n ≤ until_round count (round.number + 1) 1) (sym rises) (further_move count round.number c.turn (omega (arith, updated.first)) h.low));
       };
@@ -360,11 +369,11 @@ updated_trusts sc facts place c round staple named few h e =
     }
 
 -- a reply is missing still
-counted_trusts : (sc : Scenario) (facts : List Fact) (place : ℕ) (c : Coordinator) (round : Round) (staple : Staple) (server : ServerId) (verdicts : List Verdict) → c.phase ≡ phase.Checking span.Commit round staple
+counted_trusts : (sc : Scenario) (facts : List Fact) (place : ℕ) (c : Coordinator) (round : Round) (staple : Staple) (server : ServerId) (verdicts : List Verdict) → ArePlain sc → c.phase ≡ phase.Checking span.Commit round staple
     → RoundTrusted sc facts place c (after_reply round server verdicts) staple → RowTrusts sc facts place c (sends (record c { phase = phase.Checking span.Commit (after_reply round server verdicts) staple }) [])
-counted_trusts sc facts place c round staple server verdicts e h =
+counted_trusts sc facts place c round staple server verdicts plain e h =
     record {
-      fits = record { awaits = (h.submitted, h.fits, h.stapled); unclosed = λ unsure. h.unclosed; above = λ unsure. h.above; turn = h.low };
+      fits = record { awaits = (h.submitted, h.fits, h.stapled); so_far = λ unsure. moved_on sc facts place c.txn c.phase (phase.Checking span.Commit (after_reply round server verdicts) staple) c.instances c.gathered plain h.so_far; above = λ unsure. h.above; turn = h.low };
       decides = tt;
       says = λ sent. tt;
       timely = λ sent. tt;
@@ -399,7 +408,7 @@ acknowledged_trusts : (sc : Scenario) (facts : List Fact) (place : ℕ) (c : Coo
     → c.phase ≡ phase.Ending ended awaited → RowTrusts sc facts place c (sends (record c { phase = phase.Ending ended (without awaited server) }) [])
 acknowledged_trusts sc facts place c ended awaited server h e =
     record {
-      fits = record { awaits = tt; unclosed = λ unsure. absurd (cc); above = λ unsure. absurd (cc); turn = turn_low sc facts place c (phase.Ending ended awaited) h e };
+      fits = record { awaits = tt; so_far = λ unsure. absurd (cc); above = λ unsure. absurd (cc); turn = turn_low sc facts place c (phase.Ending ended awaited) h e };
       decides = tt;
       says = λ sent. tt;
       timely = λ sent. tt;
@@ -409,38 +418,47 @@ acknowledged_trusts sc facts place c ended awaited server h e =
 -- ---- all mails
 
 -- every row of a coordinator on receipt of a mail
-pub coordinator_row_trusts : (sc : Scenario) (facts : List Fact) (place : ℕ) (P : TxnId → ℕ → Pair) (c : Coordinator) (mail : Mail) → AreFew sc → HaveHomes sc → IsValid sc → c.servers ≡ servers_at sc c.txn → CoordinatorFits sc facts place c
+pub coordinator_row_trusts : (sc : Scenario) (facts : List Fact) (place : ℕ) (P : TxnId → ℕ → Pair) (c : Coordinator) (mail : Mail) → AreFew sc → ArePlain sc → HaveHomes sc → IsValid sc → c.servers ≡ servers_at sc c.txn → CoordinatorFits sc facts place c
     → IsSoundBody sc (actor.Coordinator c.txn) mail.letter.body → BodyFits sc facts place mail.sent mail.letter.body → BodyPairs sc P mail.letter.from (actor.Coordinator c.txn) mail.letter.body → PresentMail sc c mail.sent mail.letter.body
     → RowTrusts sc facts place c (coordinator_row sc c mail)
-coordinator_row_trusts sc facts place P c mail few homes valid own h m f n t =
+coordinator_row_trusts sc facts place P c mail few plain homes valid own h m f n t =
     coordinator_by sc c mail (RowTrusts sc facts place c)
     (record {
       ignored = ignores_trusts_in_coordinator sc facts place c h;
-      ran_next = λ done server asked value next k home.
-          ran_next_trusts sc facts place c done asked server next value few h (awaits_is c c.phase done k.awaited k.plain) k.asked_is (next_is sc c done.query asked homes k.asked_is);
-      ran_last = λ done server asked value k none. ran_last_trusts sc facts place c done asked server value few h (awaits_is c c.phase done k.awaited k.plain) k.asked_is own;
-      died = λ done server asked other k. died_trusts sc facts place c done asked _ h (awaits_is c c.phase done k.awaited k.plain) k.asked_is;
+      sends_query = λ query now next passed moves home. sends_trusts sc facts place c now query next plain (ran_stands sc facts place c mail few homes h query now passed);
+      commit_rounds = λ query now passed moves. brings_trusts sc facts place c now query plain own (ran_stands sc facts place c mail few homes h query now passed);
       told = λ tell round k.
           let same : c.txn ≡ tell.txn = sym (same_txn_from c.txn tell.txn (subst (IsSoundBody sc (actor.Coordinator c.txn)) k.said_is m).goes_to) in
           let fits : StapleFits sc facts place tell.txn (staple_of tell mail.sent) = subst (BodyFits sc facts place mail.sent) k.said_is f in
-          prepares_trusts sc facts place c round (staple_of tell mail.sent) few h k.asking (subst (λ (x : TxnId). StapleFits sc facts place x (staple_of tell mail.sent)) (sym same) fits);
-      counted = λ reply round staple server verdicts y e. counted_trusts sc facts place c round staple server verdicts y.checking (replied reply round staple server verdicts y);
-      committed = λ reply round staple server verdicts y e. committed_trusts sc facts place c (after_reply round server verdicts) staple homes valid (replied reply round staple server verdicts y) e;
-      denied = λ reply round staple server verdicts verdict y e. denied_trusts sc facts place c (after_reply round server verdicts) staple verdict (replied reply round staple server verdicts y) e;
-      updated = λ reply round staple server verdicts named y e. updated_trusts sc facts place c (after_reply round server verdicts) staple named few (replied reply round staple server verdicts y) e;
-      refused = λ reply round staple server number value k. refused_trusts sc facts place c round staple server number value h k.checking;
+          prepares_trusts sc facts place c round (staple_of tell mail.sent) few plain h k.asking (subst (λ (x : TxnId). StapleFits sc facts place x (staple_of tell mail.sent)) (sym same) fits);
+      counted = λ reply round staple server verdicts y. counted_trusts sc facts place c round staple server verdicts plain y.checking (replied reply round staple server verdicts y);
+      decides = λ instances rounds passed. decided instances rounds passed;
+      aborted = λ why ended. aborts_trusts sc facts place c why (end_stands why ended);
+      updated = λ reply round staple server verdicts named y e. updated_trusts sc facts place c (after_reply round server verdicts) staple named few plain (replied reply round staple server verdicts y) e;
       acknowledged = λ ack ended awaited server k. acknowledged_trusts sc facts place c ended awaited server h k.ending;
     })
   where
     replied : (reply : VoteReply) (round : Round) (staple : Staple) (server : ServerId) (verdicts : List Verdict) → IsYes c mail reply round staple server verdicts → RoundTrusted sc facts place c (after_reply round server verdicts) staple
     replied reply round staple server verdicts y = replied_trusted sc facts place c round staple server verdicts h y.checking (yes_trusted sc facts place P c mail reply round staple server verdicts m f n t y)
 
+    decided : (instances : List Instance) (rounds : ℕ) → HasVoted sc c mail point.Voted instances rounds
+        → RowTrusts sc facts place c (commits (with_gained c (gains_instances c instances)) rounds)
+    decided _ _ (AllTrue reply round staple server verdicts k) =
+        committed_trusts sc facts place c (after_reply round server verdicts) staple plain homes valid (replied reply round staple server verdicts k.yes) k.all_true
+
+    end_stands : (why : Cause) → IsEnded sc c mail why → EndStands sc facts place c why
+    end_stands _ (ByOlder done server asked other k) =
+        died_stands sc facts place c done asked (died_for server done other mail.sent) h (awaits_is c c.phase done k.awaited k.plain) k.asked_is
+    end_stands _ (ByProof reply round staple server verdicts verdict y e) =
+        denied_stands sc facts place c (after_reply round server verdicts) staple verdict (replied reply round staple server verdicts y) e
+    end_stands _ (ByRefusal reply round staple server number value k) = refused_stands sc facts place c round staple server number value h k.checking
+
 -- ---- Submit
 
 unsent_trusts : (sc : Scenario) (facts : List Fact) (place age : ℕ) (c : Coordinator) → CoordinatorFits sc facts place c → RowTrusts sc facts place c (with_age (ignores c) age)
 unsent_trusts sc facts place age c h =
     record {
-      fits = record { awaits = h.awaits; unclosed = h.unclosed; above = h.above; turn = h.turn };
+      fits = record { awaits = h.awaits; so_far = h.so_far; above = h.above; turn = h.turn };
       decides = tt;
       says = λ sent. tt;
       timely = λ sent. tt;
@@ -453,16 +471,16 @@ unsent_trusts sc facts place age c h =
     now_placed sent (body.Vote reply) k = k
     now_placed sent _ k = tt
 
-sent_trusts : (sc : Scenario) (facts : List Fact) (place age : ℕ) (c : Coordinator) (server : ServerId) → CoordinatorFits sc facts place c → c.phase ≡ phase.Idle → IsSubmitted facts c.txn
+sent_trusts : (sc : Scenario) (facts : List Fact) (place age : ℕ) (c : Coordinator) (server : ServerId) → ArePlain sc → CoordinatorFits sc facts place c → c.phase ≡ phase.Idle → IsSubmitted facts c.txn
     → RowTrusts sc facts place c (with_age (sends_query sc c 1 server) age)
-sent_trusts sc facts place age c server h e submitted =
+sent_trusts sc facts place age c server plain h e submitted =
     let low : c.turn ≤ 0 = turn_low sc facts place c phase.Idle h e in
     let rises : next_turn c ≡ c.turn + 1 = turn_rises c (omega (arith, low)) in
     let undecided : is_undecided c.phase ≡ true = ap is_undecided e in
     record {
       fits = record {
         awaits = (submitted, tt);
-        unclosed = λ unsure. h.unclosed undecided;
+        so_far = λ unsure. moved_on sc facts place c.txn c.phase (phase.Querying 1 None) c.instances c.gathered plain (h.so_far undecided);
         above = λ unsure. h.above undecided;
         turn = omega (arith, rises, first_move c.turn low);
       };
@@ -473,8 +491,8 @@ sent_trusts sc facts place age c server h e submitted =
     }
 
 -- the submission of a transaction, among facts that tell of it
-pub submit_row_trusts : (sc : Scenario) (facts : List Fact) (place age : ℕ) (c : Coordinator) → CoordinatorFits sc facts place c → is_begun c.phase ≡ false → IsSubmitted facts c.txn
+pub submit_row_trusts : (sc : Scenario) (facts : List Fact) (place age : ℕ) (c : Coordinator) → ArePlain sc → CoordinatorFits sc facts place c → is_begun c.phase ≡ false → IsSubmitted facts c.txn
     → RowTrusts sc facts place c (with_age (submit_row sc c) age)
-submit_row_trusts sc facts place age c h b submitted =
+submit_row_trusts sc facts place age c plain h b submitted =
     submit_by sc c (λ (effect : Effect Coordinator). RowTrusts sc facts place c (with_age effect age))
-    (record { ignored = unsent_trusts sc facts place age c h; sent = λ server home. sent_trusts sc facts place age c server h (idle_is c.phase b) submitted })
+    (record { ignored = unsent_trusts sc facts place age c h; sent = λ server home. sent_trusts sc facts place age c server plain h (idle_is c.phase b) submitted })

@@ -24,15 +24,17 @@ use Rattle.tp_offices.specs.declared.authority.Authority.{Authority}
 use Rattle.tp_offices.specs.declared.master.Master.{Master}
 use Rattle.tp_server.specs.State.{Server}
 use Rattle.tp_recover.specs.Log.{known_in}
+use Rattle.tp_runs.proofs.trust.Causes.{newer_stays, rounds_stay}
+use Rattle.tp_runs.proofs.trust.Instances.{commit_stays, so_far_stays}
 use Rattle.tp_runs.proofs.agreement.Known.{first_known}
 use Rattle.tp_runs.proofs.agreement.World.{Agrees}
 use Rattle.tp_runs.proofs.basics.Facts.{ArePast, before_past, count_append, each_new_fact, each_new_mail, facts_after, grows_with_facts, new_facts_past, past_as}
 use Rattle.tp_types.proofs.EachLemmas.{each_append, each_as}
 use Rattle.tp_runs.proofs.trust.Coordinator.{CauseFits, CoordinatorFits, DecisionFits}
-use Rattle.tp_runs.proofs.trust.Fit.{AuthorityFits, BodyFits, Later, MailFits, ServerFits, body_stays, maybe_stays, newest_rises, right_stays, rights_stay, server_stays}
+use Rattle.tp_runs.proofs.trust.Fit.{AuthorityFits, BodyFits, Later, MailFits, ServerFits, body_stays, maybe_stays, newest_rises, right_stays, server_stays}
 use Rattle.tp_runs.proofs.trust.Phases.{phase_stays}
 use Rattle.tp_runs.proofs.trust.Kept.{IsTrusted, PartKept, part_as, trusted_stays}
-use Rattle.tp_runs.proofs.basics.Turns.{AreEarlier, IsAbove, Stamp, TurnFits, stamp_of}
+use Rattle.tp_runs.proofs.basics.Turns.{AreEarlier, IsAbove, IsEarlierInstance, Stamp, TurnFits, stamp_of}
 
 -- ---- the invariant
 
@@ -132,7 +134,9 @@ above_stays low high instances gathered le h =
     let earlier : (verdicts : List Verdict) → AreEarlier low verdicts → AreEarlier high verdicts =
     λ verdicts k. each_as (λ (verdict : Verdict). verdict.place < low) (λ (verdict : Verdict). verdict.place < high) (λ verdict less. omega (arith, less, le)) verdicts k in
     record {
-      closed = each_as (λ (closed : Instance). AreEarlier low closed.proofs) (λ (closed : Instance). AreEarlier high closed.proofs) (λ closed k. earlier closed.proofs k) instances h.closed;
+      closed = each_as (IsEarlierInstance low) (IsEarlierInstance high)
+          (λ closed k. record { proofs = earlier closed.proofs k.proofs; reading = maybe_stays (λ (read : ℕ). read < low) (λ (read : ℕ). read < high) closed.reading (λ read less. omega (arith, less, le)) k.reading })
+          instances h.closed;
       gathered_before = earlier gathered h.gathered_before;
     }
 
@@ -140,7 +144,7 @@ pub coordinator_stays : (sc : Scenario) (old new : List Fact) (low high : ℕ) (
 coordinator_stays sc old new low high c l h =
     record {
       awaits = phase_stays sc old new low high c.txn c.phase l h.awaits;
-      unclosed = h.unclosed;
+      so_far = λ undecided declared found. so_far_stays sc old new low high c.txn declared c.phase c.instances c.gathered l (h.so_far undecided declared found);
       above = λ undecided. above_stays low high c.instances c.gathered l.le (h.above undecided);
       turn = h.turn;
     }
@@ -154,11 +158,12 @@ cause_stays sc old new low high txn (cause.Denied denied) l h =
     record { verdict = h.verdict; denied_is = h.denied_is; right = right_stays sc old new low high txn h.verdict l h.right; ruleless = h.ruleless }
 cause_stays sc old new low high txn (cause.No refused) l h = tt
 cause_stays sc old new low high txn (cause.Died died) l h = tt
+cause_stays sc old new low high txn (cause.Newer newer) l h = λ declared found. newer_stays sc old new low high newer declared l (h declared found)
+cause_stays sc old new low high txn (cause.Rounds mets) l h = λ declared found. rounds_stay sc txn old new low high mets declared l (h declared found)
 cause_stays sc old new low high txn _ l h = absurd h
 
 pub decision_stays : (sc : Scenario) (old new : List Fact) (low high : ℕ) (txn : TxnId) (decided : Decision) → Later old new low high → DecisionFits sc old low txn decided → DecisionFits sc new high txn decided
-decision_stays sc old new low high txn (decision.Commit committed) l h =
-    record { rounds = h.rounds; proofs = h.proofs; instances = h.instances; right = rights_stay sc old new low high txn h.proofs l h.right; all = h.all; have_rules = h.have_rules; one_version = h.one_version }
+decision_stays sc old new low high txn (decision.Commit committed) l h = λ declared found. commit_stays sc old new low high txn declared committed l (h declared found)
 decision_stays sc old new low high txn (decision.Abort why) l h = cause_stays sc old new low high txn why l h
 
 -- what holds up to a place holds up to an earlier one

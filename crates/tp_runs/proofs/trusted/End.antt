@@ -1,23 +1,22 @@
 -- Trust of the facts: where the invariant holds, every commit is trusted and every abort has its cause.
-use Rattle.std.specs.Cmp.Lexicographic.{pointwise}
-use Rattle.std.specs.List.{list_all, range_with_len}
+use Rattle.std.specs.List.{list_all}
 use Rattle.std.specs.Option.{option_map_or}
-use Rattle.std.proofs.Common.{Bool, List, None, Option, Some, [], ap, arith, false, if◌then◌else◌, inl, inr, is_none, is_some, length, nat_le, not, refl, slice_get, subst, true, ℕ, ◌&&◌, ◌==◌, ◌||◌, ◌∙◌, ◌∷◌, ◌≡◌, ◌⊎◌}
+use Rattle.std.proofs.Common.{Bool, IfSome, List, None, Option, Some, [], ap, arith, false, if◌then◌else◌, is_none, is_some, nat_le, not, refl, slice_get, subst, true, ℕ, ◌&&◌, ◌==◌, ◌||◌, ◌∙◌, ◌∷◌, ◌≡◌, ◌⊎◌}
 use Rattle.std.proofs.lemmas.Bool.{and_from, and_parts, le-leb, lt-ltb}
-use Rattle.tp_types.proofs.ListLemmas.{number_itself, three_from}
+use Rattle.tp_types.proofs.ListLemmas.{three_from}
 use Rattle.tp_model.specs.Authorisation.{is_allowed, is_certified, is_own_query, is_true_verdict, policy_at, question_of}
 use Rattle.tp_model.specs.Built.{is_built}
 use Rattle.tp_model.specs.Causes.{denies_at_newest, is_caused, is_denied, is_denied_version, is_explained_at, is_refused, is_shown, keeps_causes, keeps_causes_what}
-use Rattle.tp_model.specs.Demand.{is_deferred_demand, is_final_instance, is_over, is_round_count, meets_scheme, most_rounds}
 use Rattle.tp_model.specs.Facts.{before}
-use Rattle.tp_model.specs.Levels.{is_global, level_of, reads_master}
-use Rattle.tp_model.specs.Trust.{is_trusted, is_trusted_commit, is_trusted_instance, is_trusted_proof, is_within, keeps_trust, keeps_trust_what}
-use Rattle.tp_model.specs.Versions.{meets_readings, newest}
+use Rattle.tp_model.specs.Levels.{is_global, level_of}
+use Rattle.tp_model.specs.Trust.{is_timely_reading, is_trusted, is_trusted_commit, is_trusted_instance, is_trusted_proof, is_within, keeps_trust, keeps_trust_what}
+use Rattle.tp_model.specs.Versions.{newest}
 use Rattle.tp_model.specs.Words.cause
 use Rattle.tp_model.specs.Words.decision
 use Rattle.tp_model.specs.Words.scheme
 use Rattle.tp_model.specs.Words.what
-use Rattle.tp_model.specs.Words.{AdminId, Cause, CommitRecord, Denied, Fact, OutOfRange, Scenario, Scheme, Transaction, TxnId, Verdict, What}
+use Rattle.tp_model.specs.Words.{AdminId, Cause, CommitRecord, Denied, Fact, Instance, OutOfRange, Scenario, Transaction, TxnId, Verdict, What}
+use Rattle.tp_runs.proofs.trust.Instances.{IsTimelyReading, IsTrustedInstance}
 use Rattle.tp_runs.proofs.basics.Facts.{all_from_each}
 use Rattle.tp_types.proofs.EachLemmas.{all_four, each_get, each_placed, missing}
 use Rattle.tp_runs.proofs.deaths.Fit.{FactDies, WhatDies}
@@ -53,39 +52,24 @@ trusted_proofs sc txn declared place facts (proof ∷ proofs) e h t =
     let parts = and_parts (has_rule proof) (list_all has_rule proofs) t in
     and_from _ _ (trusted_proof sc txn declared place facts proof (h.0 declared e) parts.0) (trusted_proofs sc txn declared place facts proofs e h.1 parts.1)
 
--- ---- an instance
-
-same_numbers : (numbers : List ℕ) → pointwise ◌==◌ numbers numbers ≡ true
-same_numbers [] = refl
-same_numbers (n ∷ numbers) = and_from (n == n) (pointwise ◌==◌ numbers numbers) (number_itself n) (same_numbers numbers)
-
--- the proofs of a commit close the instance of a deferred transaction that reads no master
-closes_instance : (sc : Scenario) (txn : TxnId) (declared : Transaction) (place : ℕ) (facts : List Fact) (committed : CommitRecord) → reads_master sc declared ≡ false → slice_get sc.txns txn.0 ≡ Some declared
-    → (h : CommitFits sc facts place txn committed)
-    → (is_final_instance sc facts declared (record { reading = None; proofs = h.proofs }) ≡ true) × (is_trusted_instance sc txn declared place facts (record { reading = None; proofs = h.proofs }) ≡ true)
-closes_instance sc txn declared place facts committed view e h =
-    let over : is_over (length declared.queries) h.proofs ≡ true = ap (λ (numbers : List ℕ). pointwise ◌==◌ numbers (range_with_len 1 (length declared.queries))) (h.all declared e) ∙ same_numbers (range_with_len 1 (length declared.queries)) in
-    let reading : (if reads_master sc declared then meets_readings sc declared None facts h.proofs else true) ≡ true = ap (λ (b : Bool). if b then meets_readings sc declared None facts h.proofs else true) view in
-    (and_from _ _ over (and_from _ _ h.one_version reading), and_from _ true (trusted_proofs sc txn declared place facts h.proofs e h.right h.have_rules) refl)
-
 -- ---- a commit
 
-round_count : (sc : Scenario) (declared : Transaction) (rounds : ℕ) → reads_master sc declared ≡ false → (rounds ≡ 1) ⊎ (rounds ≡ 2) → is_round_count sc declared rounds ≡ true
-round_count sc declared rounds view (inl one) =
-    ap (λ (n : ℕ). nat_le 1 n && nat_le n (most_rounds sc declared)) one ∙ ap (λ (b : Bool). nat_le 1 1 && nat_le 1 (if b then declared.rounds else 2)) view
-round_count sc declared rounds view (inr two) =
-    ap (λ (n : ℕ). nat_le 1 n && nat_le n (most_rounds sc declared)) two ∙ ap (λ (b : Bool). nat_le 1 2 && nat_le 2 (if b then declared.rounds else 2)) view
+trusted_reading : (facts : List Fact) (place : ℕ) (txn : TxnId) (reading : Option ℕ) → IfSome reading (IsTimelyReading facts place txn) → is_timely_reading txn place facts reading ≡ true
+trusted_reading facts place txn None h = refl
+trusted_reading facts place txn (Some read) h = and_from _ _ h.begun (lt-ltb read place h.past)
 
-trusted_commit : (sc : Scenario) (txn : TxnId) (place : ℕ) (facts : List Fact) (committed : CommitRecord) (declared : Transaction) → ArePlain sc → slice_get sc.txns txn.0 ≡ Some declared
-    → CommitFits sc facts place txn committed → is_trusted_commit sc txn place facts committed declared ≡ true
-trusted_commit sc txn place facts committed declared form e h =
-    let deferred : declared.scheme ≡ scheme.Deferred = each_get (λ (t : Transaction). t.scheme ≡ scheme.Deferred) sc.txns txn.0 declared form.deferred e in
-    let view : reads_master sc declared ≡ false = each_get (λ (t : Transaction). reads_master sc t ≡ false) sc.txns txn.0 declared form.view e in
-    let closed = closes_instance sc txn declared place facts committed view e h in
+trusted_instances : (sc : Scenario) (txn : TxnId) (declared : Transaction) (place : ℕ) (facts : List Fact) (instances : List Instance) → slice_get sc.txns txn.0 ≡ Some declared
+    → Each (IsTrustedInstance sc facts place txn) instances → list_all (is_trusted_instance sc txn declared place facts) instances ≡ true
+trusted_instances sc txn declared place facts [] e h = refl
+trusted_instances sc txn declared place facts (instance ∷ instances) e h =
     and_from _ _
-    (ap (λ (s : Scheme). meets_scheme s sc facts declared committed) deferred
-    ∙ and_from _ _ (ap (is_deferred_demand sc facts declared) h.instances ∙ closed.0) (round_count sc declared committed.rounds view h.rounds))
-    (ap (list_all (is_trusted_instance sc txn declared place facts)) h.instances ∙ and_from _ true closed.1 refl)
+    (and_from _ _ (trusted_proofs sc txn declared place facts instance.proofs e h.0.right h.0.have_rules) (trusted_reading facts place txn instance.reading h.0.timely))
+    (trusted_instances sc txn declared place facts instances e h.1)
+
+-- a commit that fits is trusted, whatever its scheme and level
+trusted_commit : (sc : Scenario) (txn : TxnId) (place : ℕ) (facts : List Fact) (committed : CommitRecord) (declared : Transaction) → slice_get sc.txns txn.0 ≡ Some declared
+    → CommitFits sc facts place txn committed → is_trusted_commit sc txn place facts committed declared ≡ true
+trusted_commit sc txn place facts committed declared e h = let fits = h declared e in and_from _ _ fits.demanded (trusted_instances sc txn declared place facts committed.instances e fits.trusted)
 
 exists_txn : (sc : Scenario) (txn : TxnId) (found : Option Transaction) → slice_get sc.txns txn.0 ≡ found → IsTxn sc txn → (declared : Transaction) × (slice_get sc.txns txn.0 ≡ Some declared)
 exists_txn sc txn None e within = absurd (missing sc.txns txn.0 within e)
@@ -93,12 +77,12 @@ exists_txn sc txn (Some declared) e within = (declared, e)
 
 -- ---- every fact
 
-what_trusted : (sc : Scenario) (facts : List Fact) (place : ℕ) (w : What) → ArePlain sc → IsSoundWhat sc w → WhatFits sc facts place w → keeps_trust_what sc facts place w ≡ true
-what_trusted sc facts place (what.Decided txn (decision.Commit committed)) form sound h =
+what_trusted : (sc : Scenario) (facts : List Fact) (place : ℕ) (w : What) → IsSoundWhat sc w → WhatFits sc facts place w → keeps_trust_what sc facts place w ≡ true
+what_trusted sc facts place (what.Decided txn (decision.Commit committed)) sound h =
     let found = exists_txn sc txn (slice_get sc.txns txn.0) refl sound.0 in
-    ap (λ (d : Option Transaction). option_map_or (is_trusted_commit sc txn place facts committed) d false) found.1 ∙ trusted_commit sc txn place facts committed found.0 form found.1 h
-what_trusted sc facts place (what.Decided txn (decision.Abort why)) form sound h = refl
-what_trusted sc facts place _ form sound h = refl
+    ap (λ (d : Option Transaction). option_map_or (is_trusted_commit sc txn place facts committed) d false) found.1 ∙ trusted_commit sc txn place facts committed found.0 found.1 h
+what_trusted sc facts place (what.Decided txn (decision.Abort why)) sound h = refl
+what_trusted sc facts place _ sound h = refl
 
 -- ---- an abort
 
@@ -138,8 +122,8 @@ cause_shown sc facts place txn (cause.Denied denied) declared form e sound r d h
     ∙ denial_shown sc txn declared place facts h.verdict (view h.verdict.admin) version (h.right declared e) h.ruleless
 cause_shown sc facts place txn (cause.No refused) declared form e sound r d h = is_refused_shown sc txn place facts refused declared (r declared e)
 cause_shown sc facts place txn (cause.Died died) declared form e sound r d h = d declared e
-cause_shown sc facts place txn (cause.Newer newer) declared form e sound r d h = absurd h
-cause_shown sc facts place txn (cause.Rounds mets) declared form e sound r d h = absurd h
+cause_shown sc facts place txn (cause.Newer newer) declared form e sound r d h = h declared e
+cause_shown sc facts place txn (cause.Rounds mets) declared form e sound r d h = h declared e
 cause_shown sc facts place txn (cause.Restarted at) declared form e sound r d h = absurd h
 cause_shown sc facts place txn cause.Halted declared form e sound r d h = absurd h
 
@@ -151,12 +135,11 @@ what_caused sc facts place (what.Decided txn (decision.Abort why)) form sound r 
 what_caused sc facts place _ form sound r d h = refl
 
 -- the commits of a world are trusted
-pub facts_trusted : (sc : Scenario) (w : State) → is_built sc ≡ true → IsSound sc w → Trusts sc w → is_trusted sc w.facts ≡ true
-facts_trusted sc w built sound h =
-    let form : ArePlain sc = are_plain sc built in
+pub facts_trusted : (sc : Scenario) (w : State) → IsSound sc w → Trusts sc w → is_trusted sc w.facts ≡ true
+facts_trusted sc w sound h =
     all_from_each (λ (fact : Fact). keeps_trust sc w.facts fact ≡ true) (keeps_trust sc w.facts) (λ fact k. k) w.facts
     (each_placed (λ (fact : Fact). keeps_trust sc w.facts fact ≡ true) w.facts
-    (λ n fact e. what_trusted sc w.facts fact.place fact.what form (each_get (IsSoundFact sc) w.facts n fact sound.facts_are e) (each_get (FactFits sc w.facts) w.facts n fact h.facts_fit e)))
+    (λ n fact e. what_trusted sc w.facts fact.place fact.what (each_get (IsSoundFact sc) w.facts n fact sound.facts_are e) (each_get (FactFits sc w.facts) w.facts n fact h.facts_fit e)))
 
 -- and its aborts have causes
 pub facts_caused : (sc : Scenario) (w : State) → is_built sc ≡ true → IsSound sc w → Refusals sc w → Deaths sc w → Trusts sc w → is_caused sc w.facts ≡ true
