@@ -189,7 +189,7 @@ prepares_sound sc c round staple h r t =
 -- ---- Vote
 
 -- the verdicts of a round's replies
-replies_sound : (sc : Scenario) (txn : TxnId) (targets : List Target) → Each (IsSoundTarget sc txn) targets → AreSoundVerdicts sc txn (proofs_in targets)
+pub replies_sound : (sc : Scenario) (txn : TxnId) (targets : List Target) → Each (IsSoundTarget sc txn) targets → AreSoundVerdicts sc txn (proofs_in targets)
 replies_sound sc txn targets h = each_flat_map (IsSoundTarget sc txn) (IsSoundVerdict sc txn) verdicts_in (λ target k. of_reply target.reply k.reply) targets h
   where
     of_reply : (reply : Option (List Verdict)) → IfSome reply (AreSoundVerdicts sc txn) → AreSoundVerdicts sc txn (unwrap_or reply [])

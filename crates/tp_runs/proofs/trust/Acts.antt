@@ -75,13 +75,13 @@ server_facts_fit sc facts place at (Some (log.Settled s)) = (tt, tt)
 server_facts_fit sc facts place at (Some _) = tt
 
 -- a reply is timely where its request is, at any place
-reply_up : (sc : Scenario) (sent place : ℕ) (request reply : Body) (stamped : Stamp) (a : Answers request reply stamped) (up : Option Coordinator) → IfSome up (TurnFits sc sent a.asked.turn request)
+reply_up : (sc : Scenario) (sent place : ℕ) (request reply : Body) (stamped : Stamp) (a : Answers sc request reply stamped) (up : Option Coordinator) → IfSome up (TurnFits sc sent a.asked.turn request)
     → IfSome up (TurnFits sc place stamped.turn reply)
 reply_up sc sent place request reply stamped a None h = tt
-reply_up sc sent place request reply stamped a (Some c) h = a.timely sc c sent place h
+reply_up sc sent place request reply stamped a (Some c) h = a.timely c sent place h
 
 -- so what is timely is closed under answers
-pub timely_closed : (sc : Scenario) (coordinators : List (Part Coordinator)) → IsClosed (Timely sc coordinators)
+pub timely_closed : (sc : Scenario) (coordinators : List (Part Coordinator)) → IsClosed sc (Timely sc coordinators)
 timely_closed sc coordinators request reply stamped a t place =
     let asked : StampFits sc coordinators 0 request a.asked = subst (λ (found : Option Stamp). IfSome found (StampFits sc coordinators 0 request)) a.asked_is (t 0) in
     let answered : StampFits sc coordinators place reply stamped = reply_up sc 0 place request reply stamped a (up_at coordinators stamped.txn.0)
@@ -272,7 +272,7 @@ tell_now c (phase.Stapling number) place h = h
 tell_now c (phase.Asking over round) place h = h
 tell_now c _ place h = tt
 
-both_up_in_trust : (P Q R : Coordinator → Type 0) (up : Option Coordinator) → ((c : Coordinator) → P c → Q c → R c) → IfSome up P → IfSome up Q → IfSome up R
+pub both_up_in_trust : (P Q R : Coordinator → Type 0) (up : Option Coordinator) → ((c : Coordinator) → P c → Q c → R c) → IfSome up P → IfSome up Q → IfSome up R
 both_up_in_trust P Q R None step p q = tt
 both_up_in_trust P Q R (Some c) step p q = step c p q
 

@@ -1,5 +1,6 @@
 -- Trust, the coordinator's rows: it commits on one instance whose proofs are right, true and of one version.
-use Rattle.std.proofs.Common.{IfSome, List, None, Option, Some, [], ap, arith, false, is_none, map, refl, replicate, slice_get, subst, sym, true, ℕ, ℤ, ◌++◌, ◌+◌, ◌∙◌, ◌∷◌, ◌≡◌, ◌≤◌, ◌⊎◌}
+use Rattle.std.specs.List.{range_with_len}
+use Rattle.std.proofs.Common.{IfSome, List, None, Option, Some, [], ap, arith, false, is_none, length, map, option_and_then, refl, replicate, slice_get, subst, sym, true, ℕ, ℤ, ◌+◌, ◌∙◌, ◌∷◌, ◌≡◌, ◌≤◌}
 use Rattle.std.proofs.lemmas.Bool.{eqb-true}
 use Rattle.tp_types.specs.Effect.{Effect, ignores, sends}
 use Rattle.tp_model.specs.Limits.{admins_limit}
@@ -12,27 +13,30 @@ use Rattle.tp_model.specs.Words.log
 use Rattle.tp_model.specs.Words.outcome
 use Rattle.tp_model.specs.Words.vote
 use Rattle.tp_model.specs.Words.scheme
-use Rattle.tp_model.specs.Words.{Actor, Body, Cause, CommitRecord, Decision, Denied, Died, DoneReply, Fact, Instance, Letter, Mail, Outcome, Query, Record, Scenario, ServerId, Staple, Transaction, TxnId, Verdict, Vote, VoteReply}
+use Rattle.tp_model.specs.Words.{Actor, AdminId, Body, Cause, CommitRecord, Decision, Denied, Died, DoneReply, Fact, Instance, Letter, Mail, Outcome, Query, Record, Scenario, Scheme, ServerId, Staple, Transaction, TxnId, Verdict, Vote, VoteReply}
 use Rattle.tp_types.proofs.EachLemmas.{each_get}
 use Rattle.tp_model.specs.Levels.{reads_master}
+use Rattle.tp_model.specs.Queries.{query_at}
 use Rattle.tp_model.specs.Causes.{are_rounds_shown, is_newer_shown}
 use Rattle.tp_runs.proofs.trust.Built.{ArePlain}
-use Rattle.tp_runs.proofs.trust.Instances.{IsSoFar, IsTrustedCommit, deferred_commit, so_far_on}
+use Rattle.tp_runs.proofs.trust.Instances.{IsSoFar, IsTrustedCommit, deferred_commit, gathered_in, so_far_on}
 use Rattle.tp_runs.proofs.basics.Ids.{same_txn_from}
 use Rattle.tp_runs.proofs.agreement.Coordinator.{idle_is}
 use Rattle.tp_runs.proofs.basics.Homes.{HaveHomes, next_is}
 use Rattle.tp_runs.proofs.basics.Phases.{awaits_is, before_query, ceiling_in, is_undecided, until_round}
 use Rattle.tp_runs.proofs.basics.Rounds.{missing_in}
+use Rattle.tp_runs.proofs.basics.Verdicts.{numbers_of}
 use Rattle.tp_runs.proofs.ids.Valid.{IsValid}
 use Rattle.tp_runs.proofs.pairs.Actors.{BodyPairs, VoteFrom, site_of}
 use Rattle.tp_runs.proofs.pairs.Fits as PairVote
 use Rattle.tp_runs.proofs.pairs.Pair.{Pair}
-use Rattle.tp_runs.proofs.trust.Fit.{BodyFits, IsSubmitted, Right, StapleFits, VoteFits}
+use Rattle.tp_runs.proofs.trust.Fit.{BodyFits, IsSubmitted, Right, StapleFits, VoteFits, maybe_stays}
 use Rattle.tp_runs.proofs.trust.Phases.{PhaseFits}
 use Rattle.tp_runs.proofs.trust.RoundAims.{round_updated}
 use Rattle.tp_runs.proofs.trust.RoundProofs.{round_closes}
 use Rattle.tp_runs.proofs.trust.Rounds.{AimedReply, AreNumbersAt, RoundFits, few_rounds, round_denies, round_replied, round_starts, round_wants, want_published}
-use Rattle.tp_runs.proofs.basics.Turns.{AreFew, IsAbove, IsOfPast, IsTimely, Now, PrepareNow, Stamp, TurnFits, VoteNow, WantNow, ceiling, died_move, end_move, first_move, further_move, low_query, low_round, next_move, number_within, query_count, raised, round_move, stamp_of, turn_rises}
+use Rattle.tp_runs.proofs.basics.Turns.{AreFew, IsAbove, IsOfPast, IsTimely, Now, PrepareNow, Stamp, TurnFits, ValidateNow, VerdictsNow, VoteNow, WantNow, admin_asked, admin_of_query, ceiling, died_move, end_move, first_move, further_move, low_query, low_round, next_move, number_within, query_count, raised, round_move, stamp_of, turn_rises}
+use Rattle.tp_scheme.specs.Gathered.{pin_of}
 use Rattle.tp_scheme.specs.declared.moves.Point.TheVariants as point
 use Rattle.tp_coord.proofs.Rows.{AllTrue, ByOlder, ByProof, ByRefusal, Gained, HasVoted, IsEnded, IsPassed, IsYes, QueryRan, coordinator_by, gains_instances, submit_by, with_gained}
 use Rattle.tp_machine.specs.Machine.{with_age}
@@ -122,6 +126,27 @@ moved_on : (sc : Scenario) (facts : List Fact) (place : ℕ) (txn : TxnId) (awai
 moved_on sc facts place txn awaited next instances gathered plain h declared found =
     so_far_on sc facts place txn declared awaited next instances gathered (each_get (λ (t : Transaction). t.scheme ≡ scheme.Deferred) sc.txns txn.0 declared plain.deferred found) (h declared found)
 
+none_listed : (verdicts : List Verdict) → numbers_of verdicts ≡ [] → verdicts ≡ []
+none_listed [] e = refl
+none_listed (verdict ∷ verdicts) e = absurd (cc)
+
+none_pinned : (admin : Option AdminId) → None ≡ option_and_then (pin_of []) admin
+none_pinned None = refl
+none_pinned (Some admin) = refl
+
+-- a deferred transaction has gathered nothing, so it pins no version
+unpinned : (sc : Scenario) (facts : List Fact) (place : ℕ) (txn : TxnId) (awaited : Phase) (instances : List Instance) (gathered : List Verdict) (number : ℕ) → ArePlain sc → AreSoFar sc facts place txn awaited instances gathered
+    → None ≡ option_and_then (pin_of gathered) (admin_asked sc txn number)
+unpinned sc facts place txn awaited instances gathered number plain h = by_txn (slice_get sc.txns txn.0) refl
+  where
+    by_txn : (found : Option Transaction) → slice_get sc.txns txn.0 ≡ found → None ≡ option_and_then (pin_of gathered) (admin_asked sc txn number)
+    by_txn None e =
+        ap (λ (found : Option Transaction). option_and_then (pin_of gathered) (option_and_then (admin_of_query sc) (option_and_then (λ (declared : Transaction). query_at declared number) found))) (sym e)
+    by_txn (Some declared) e =
+        let deferred : declared.scheme ≡ scheme.Deferred = each_get (λ (t : Transaction). t.scheme ≡ scheme.Deferred) sc.txns txn.0 declared plain.deferred e in
+        let numbers : numbers_of gathered ≡ [] = (h declared e).numbers ∙ ap (λ (s : Scheme). range_with_len 1 (gathered_in s (length declared.queries) awaited)) deferred in
+        subst (λ (proofs : List Verdict). None ≡ option_and_then (pin_of proofs) (admin_asked sc txn number)) (sym (none_listed gathered numbers)) (none_pinned (admin_asked sc txn number))
+
 -- ---- Done
 
 phase_fits : (sc : Scenario) (facts : List Fact) (place : ℕ) (c : Coordinator) (awaited : Phase) → CoordinatorFits sc facts place c → c.phase ≡ awaited → PhaseFits sc facts place c.txn awaited
@@ -190,8 +215,8 @@ sends_trusts sc facts place c now query next plain s =
         turn = subst (λ (n : ℕ). n ≤ before_query (next_number query) + 2) (sym s.rises) (next_move query (next_number query) c.turn s.first s.further s.low);
       };
       decides = tt;
-      says = λ sent. (tt, tt);
-      timely = λ sent. (record { own = refl; timely = λ unsure. record { past = omega arith; now = λ same. tt } }, tt);
+      says = λ sent. (record { stapled = tt; pinned = tt }, tt);
+      timely = λ sent. (record { own = refl; timely = λ unsure. record { past = omega arith; now = λ same. record { query = refl; staple_is = refl; pin_is = unpinned sc facts place c.txn c.phase now.instances now.gathered (next_number query) plain s.so_far } } }, tt);
       old = λ sent turn said t. raised sc c (sends_query sc (with_gained c now) (next_number query) next).state sent turn said s.undecided s.rises t;
     }
 
@@ -233,6 +258,9 @@ prepares_trusts sc facts place c round staple few plain h e s =
 now_kept : (sc : Scenario) (c : Coordinator) (round : Round) (staple : Staple) (server : ServerId) (verdicts : List Verdict) (sent : ℕ) (said : Body) → c.phase ≡ phase.Checking span.Commit round staple → Now sc c sent said
     → Now sc (record c { phase = phase.Checking span.Commit (after_reply round server verdicts) staple }) sent said
 now_kept sc c round staple server verdicts sent (body.Tell tell) e h = tt
+now_kept sc c round staple server verdicts sent (body.Validate v) e h = subst (λ (awaited : Phase). ValidateNow awaited v) e h
+now_kept sc c round staple server verdicts sent (body.Verdicts reply) e h =
+    maybe_stays (VerdictsNow c.phase) (VerdictsNow (phase.Checking span.Commit (after_reply round server verdicts) staple)) reply.verdicts (λ others k. subst (λ (awaited : Phase). VerdictsNow awaited others) e k) h
 now_kept sc c round staple server verdicts sent (body.Prepare p) e h = subst (λ (awaited : Phase). PrepareNow awaited p) e h
 now_kept sc c round staple server verdicts sent (body.Vote reply) e h = vote_kept reply.vote (subst (λ (awaited : Phase). VoteNow awaited reply.vote) e h)
   where
@@ -466,9 +494,14 @@ unsent_trusts sc facts place age c h =
     }
   where
     now_placed : (sent : ℕ) (said : Body) → Now sc c sent said → Now sc (coordinator_with_age c age) sent said
+    now_placed sent (body.Query q) k = k
+    now_placed sent (body.Done done) k = k
     now_placed sent (body.Tell tell) k = k
+    now_placed sent (body.Validate v) k = k
+    now_placed sent (body.Verdicts reply) k = k
     now_placed sent (body.Prepare p) k = k
     now_placed sent (body.Vote reply) k = k
+    now_placed sent (body.Newest reply) k = k
     now_placed sent _ k = tt
 
 sent_trusts : (sc : Scenario) (facts : List Fact) (place age : ℕ) (c : Coordinator) (server : ServerId) → ArePlain sc → CoordinatorFits sc facts place c → c.phase ≡ phase.Idle → IsSubmitted facts c.txn
@@ -485,8 +518,8 @@ sent_trusts sc facts place age c server plain h e submitted =
         turn = omega (arith, rises, first_move c.turn low);
       };
       decides = tt;
-      says = λ sent. (tt, tt);
-      timely = λ sent. (record { own = refl; timely = λ unsure. record { past = omega arith; now = λ same. tt } }, tt);
+      says = λ sent. (record { stapled = tt; pinned = tt }, tt);
+      timely = λ sent. (record { own = refl; timely = λ unsure. record { past = omega arith; now = λ same. record { query = refl; staple_is = refl; pin_is = unpinned sc facts place c.txn c.phase c.instances c.gathered 1 plain (h.so_far undecided) } } }, tt);
       old = λ sent turn said t. raised sc c (with_age (sends_query sc c 1 server) age).state sent turn said undecided rises t;
     }
 

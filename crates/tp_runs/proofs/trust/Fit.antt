@@ -7,12 +7,13 @@ use Rattle.tp_model.specs.Authorisation.{Question, is_allowed, is_certified, is_
 use Rattle.tp_model.specs.Credentials.{clock_at, is_among, is_presented, is_valid_in, revoked_at, revoked_by, tick_of, triples_in}
 use Rattle.tp_model.specs.Facts.{before, is_earlier, is_submission, was_submitted}
 use Rattle.tp_model.specs.Policies.{allows}
-use Rattle.tp_model.specs.Versions.{is_publication, newest}
+use Rattle.tp_model.specs.Versions.{is_publication, newest, opening_version}
 use Rattle.tp_model.specs.Words.answer
 use Rattle.tp_model.specs.Words.body
 use Rattle.tp_model.specs.Words.vote
-use Rattle.tp_model.specs.Words.{Action, AdminId, Answer, Body, CredId, Fact, Mail, Policy, Scenario, Staple, Transaction, TxnId, Verdict, Version, Vote}
+use Rattle.tp_model.specs.Words.{Action, AdminId, Answer, Body, CredId, Fact, Mail, Newer, NewestReply, Policy, QueryRequest, Scenario, Staple, Transaction, TxnId, Verdict, Version, Vote}
 use Rattle.tp_runs.proofs.basics.Facts.{Grows}
+use Rattle.tp_runs.proofs.basics.Turns.{admin_asked}
 use Rattle.tp_types.proofs.EachLemmas.{each_as}
 use Rattle.tp_types.specs.Each.{Each, EachPlaced}
 use Rattle.tp_machine.specs.Named.{IsAdmin}
@@ -20,6 +21,7 @@ use Rattle.tp_coord.specs.Row.{staple_of}
 use Rattle.tp_server.specs.State.{Server}
 use Rattle.tp_server.specs.Verdicts.{version_known}
 use Rattle.tp_offices.specs.Authority.{revocations}
+use Rattle.tp_offices.specs.Master.{version_for}
 use Rattle.tp_offices.specs.declared.authority.Authority.{Authority}
 
 -- ---- what is said of the facts before a place
@@ -59,23 +61,44 @@ abbrev pub VoteFits : Scenario → List Fact → ℕ → TxnId → Vote → Type
 VoteFits sc facts place txn (vote.Yes verdicts) = Each (Right sc facts place txn) verdicts
 VoteFits sc facts place txn _ = Unit {0}
 
+-- a version that a server found is newer than the one that was used, and none above the newest
+pub record NewerFits (sc : Scenario) (facts : List Fact) (place : ℕ) (newer : Newer) : Type 0 where
+  pub above : newer.used.0 < newer.found.0
+  pub published : newer.found.0 ≤ newest sc newer.admin place facts
+
 abbrev pub AnswerFits : Scenario → List Fact → ℕ → TxnId → Answer → Type 0
 AnswerFits sc facts place txn (answer.Ran value verdict) = IfSome verdict (Right sc facts place txn)
 AnswerFits sc facts place txn (answer.Denied verdict) = Right sc facts place txn verdict
+AnswerFits sc facts place txn (answer.Newer newer) = NewerFits sc facts place newer
 AnswerFits sc facts place txn _ = Unit {0}
 
 -- a version of an administrator, wanted or pushed, is none above the newest
 abbrev pub IsPublished : Scenario → List Fact → ℕ → AdminId × Version → Type 0
 IsPublished sc facts place wanted = wanted.1.0 ≤ newest sc wanted.0 place facts
 
+-- a query's staple fits, and its pin is a version of the administrator of its item, none above the newest
+pub record QueryFits (sc : Scenario) (facts : List Fact) (place : ℕ) (q : QueryRequest) : Type 0 where
+  pub stapled : IfSome q.staple (StapleFits sc facts place q.txn)
+  pub pinned : IfSome q.pin (λ (pin : Version). IfSome (admin_asked sc q.txn q.query) (λ (admin : AdminId). IsPublished sc facts place (admin, pin)))
+
+-- what the master told is the newest version of each administrator at the place where it was sent, which came after the submission
+pub record NewestFits (sc : Scenario) (facts : List Fact) (place sent : ℕ) (reply : NewestReply) : Type 0 where
+  pub newest_is : (admin : AdminId) → IsAdmin sc admin → (version_for reply.newest admin).0 ≡ newest sc admin sent facts
+  pub begun : was_submitted reply.txn sent facts ≡ true
+  pub past : sent < place
+
 -- what a mail that was sent at a place says of itself
 abbrev pub BodyFits : Scenario → List Fact → ℕ → ℕ → Body → Type 0
-BodyFits sc facts place sent (body.Query q) = IfSome q.staple (StapleFits sc facts place q.txn)
+BodyFits sc facts place sent (body.Query q) = QueryFits sc facts place q
 BodyFits sc facts place sent (body.Done done) = AnswerFits sc facts place done.txn done.answer
 BodyFits sc facts place sent (body.Ask ask) = IsSubmitted facts ask.txn
 BodyFits sc facts place sent (body.Tell tell) = StapleFits sc facts place tell.txn (staple_of tell sent)
+BodyFits sc facts place sent (body.Validate v) = StapleFits sc facts place v.txn v.staple × Each (IsPublished sc facts place) v.want
+BodyFits sc facts place sent (body.Verdicts reply) = IfSome reply.verdicts (Each (Right sc facts place reply.txn))
 BodyFits sc facts place sent (body.Prepare p) = IfSome p.staple (StapleFits sc facts place p.txn) × Each (IsPublished sc facts place) p.want
 BodyFits sc facts place sent (body.Vote reply) = VoteFits sc facts place reply.txn reply.vote
+BodyFits sc facts place sent (body.Probe probe) = IsSubmitted facts probe.txn
+BodyFits sc facts place sent (body.Newest reply) = NewestFits sc facts place sent reply
 BodyFits sc facts place sent (body.Push push) = IsPublished sc facts place (push.admin, push.version)
 BodyFits sc facts place sent _ = Unit {0}
 
@@ -190,22 +213,51 @@ answer_stays_in_trust : (sc : Scenario) (old new : List Fact) (low high : ℕ) (
 answer_stays_in_trust sc old new low high txn (answer.Ran value verdict) l h =
     maybe_stays (Right sc old low txn) (Right sc new high txn) verdict (λ v r. right_stays sc old new low high txn v l r) h
 answer_stays_in_trust sc old new low high txn (answer.Denied verdict) l h = right_stays sc old new low high txn verdict l h
+answer_stays_in_trust sc old new low high txn (answer.Newer newer) l h =
+    record { above = h.above; published = omega (arith, h.published, newest_rises sc newer.admin old new low high l) }
 answer_stays_in_trust sc old new low high txn _ l h = tt
+
+published_stays : (sc : Scenario) (old new : List Fact) (low high : ℕ) (wanted : AdminId × Version) → Later old new low high → IsPublished sc old low wanted → IsPublished sc new high wanted
+published_stays sc old new low high wanted l h = omega (arith, h, newest_rises sc wanted.0 old new low high l)
 
 wants_stay : (sc : Scenario) (old new : List Fact) (low high : ℕ) (want : List (AdminId × Version)) → Later old new low high → Each (IsPublished sc old low) want → Each (IsPublished sc new high) want
 wants_stay sc old new low high want l h =
-    each_as (IsPublished sc old low) (IsPublished sc new high) (λ wanted below. omega (arith, below, newest_rises sc wanted.0 old new low high l)) want h
+    each_as (IsPublished sc old low) (IsPublished sc new high) (λ wanted below. published_stays sc old new low high wanted l below) want h
+
+query_stays : (sc : Scenario) (old new : List Fact) (low high : ℕ) (q : QueryRequest) → Later old new low high → QueryFits sc old low q → QueryFits sc new high q
+query_stays sc old new low high q l h =
+    let was : Version → Type 0 = λ pin. IfSome (admin_asked sc q.txn q.query) (λ (admin : AdminId). IsPublished sc old low (admin, pin)) in
+    let now : Version → Type 0 = λ pin. IfSome (admin_asked sc q.txn q.query) (λ (admin : AdminId). IsPublished sc new high (admin, pin)) in
+    record {
+      stapled = maybe_stays (StapleFits sc old low q.txn) (StapleFits sc new high q.txn) q.staple (λ s f. staple_stays sc old new low high q.txn s l f) h.stapled;
+      pinned = maybe_stays was now q.pin
+          (λ pin k. maybe_stays (λ (admin : AdminId). IsPublished sc old low (admin, pin)) (λ (admin : AdminId). IsPublished sc new high (admin, pin)) (admin_asked sc q.txn q.query)
+          (λ admin below. published_stays sc old new low high (admin, pin) l below) k) h.pinned;
+    }
+
+newest_stays : (sc : Scenario) (old new : List Fact) (low high sent : ℕ) (reply : NewestReply) → Later old new low high → NewestFits sc old low sent reply → NewestFits sc new high sent reply
+newest_stays sc old new low high sent reply l h =
+    let same : before sent new ≡ before sent old = l.grows.same sent (omega (arith, h.past)) in
+    record {
+      newest_is = λ admin exists. h.newest_is admin exists ∙ ap (λ (earlier : List Fact). (opening_version sc admin).0 + count_by (is_publication admin) earlier) (sym same);
+      begun = submitted_stays old new reply.txn sent same h.begun;
+      past = omega (arith, h.past, l.le);
+    }
 
 pub body_stays : (sc : Scenario) (old new : List Fact) (low high sent : ℕ) (said : Body) → Later old new low high → BodyFits sc old low sent said → BodyFits sc new high sent said
-body_stays sc old new low high sent (body.Query q) l h =
-    maybe_stays (StapleFits sc old low q.txn) (StapleFits sc new high q.txn) q.staple (λ s f. staple_stays sc old new low high q.txn s l f) h
+body_stays sc old new low high sent (body.Query q) l h = query_stays sc old new low high q l h
 body_stays sc old new low high sent (body.Done done) l h = answer_stays_in_trust sc old new low high done.txn done.answer l h
 body_stays sc old new low high sent (body.Ask ask) l h = l.more ask.txn h
 body_stays sc old new low high sent (body.Tell tell) l h = staple_stays sc old new low high tell.txn (staple_of tell sent) l h
 body_stays sc old new low high sent (body.Prepare p) l h =
     (maybe_stays (StapleFits sc old low p.txn) (StapleFits sc new high p.txn) p.staple (λ s f. staple_stays sc old new low high p.txn s l f) h.0, wants_stay sc old new low high p.want l h.1)
+body_stays sc old new low high sent (body.Validate v) l h = (staple_stays sc old new low high v.txn v.staple l h.0, wants_stay sc old new low high v.want l h.1)
+body_stays sc old new low high sent (body.Verdicts reply) l h =
+    maybe_stays (Each (Right sc old low reply.txn)) (Each (Right sc new high reply.txn)) reply.verdicts (λ verdicts k. rights_stay sc old new low high reply.txn verdicts l k) h
 body_stays sc old new low high sent (body.Vote reply) l h = vote_stays_in_trust sc old new low high reply.txn reply.vote l h
-body_stays sc old new low high sent (body.Push push) l h = omega (arith, h, newest_rises sc push.admin old new low high l)
+body_stays sc old new low high sent (body.Probe probe) l h = l.more probe.txn h
+body_stays sc old new low high sent (body.Newest reply) l h = newest_stays sc old new low high sent reply l h
+body_stays sc old new low high sent (body.Push push) l h = published_stays sc old new low high (push.admin, push.version) l h
 body_stays sc old new low high sent _ l h = tt
 
 pub server_stays : (sc : Scenario) (old new : List Fact) (low high : ℕ) (s : Server) → Later old new low high → ServerFits sc old low s → ServerFits sc new high s

@@ -2,31 +2,46 @@
 use Rattle.std.proofs.Math.Bool.{or-false, or_comm}
 use Rattle.std.proofs.lemmas.List.{append-nil, length-map, length-set}
 use Rattle.std.proofs.lemmas.List.Folds.{list_any-append}
-use Rattle.std.proofs.Common.{Bool, List, None, Option, Some, [], true, false, ap, arith, cond, get_or, if◌then◌else◌, length, refl, replicate, slice_get, slice_set, suc, sym, unwrap_or, zero, ℕ, ◌+◌, ◌<◌, ◌==◌, ◌||◌, ◌∙◌, ◌∷◌, ◌≡◌}
-use Rattle.std.specs.List.{count_by, sum_by}
+use Rattle.std.proofs.Common.{Bool, IfSome, List, None, Option, Some, [], true, false, ap, arith, cond, get_or, if◌then◌else◌, length, option_and_then, refl, replicate, slice_get, slice_set, subst, suc, sym, unwrap_or, zero, ℕ, ◌+◌, ◌<◌, ◌==◌, ◌||◌, ◌∙◌, ◌∷◌, ◌≡◌, ◌≤◌}
+use Rattle.std.specs.List.{count_by, list_any, sum_by}
 use Rattle.std.proofs.lemmas.List.Sums.{sum_by-cons}
 use Rattle.std.proofs.lemmas.Bool.{eqb-true}
-use Rattle.std.proofs.lemmas.Option.{slice_get-get_or, slice_get-map}
+use Rattle.std.proofs.lemmas.Option.{slice_get-get_or, slice_get-map, slice_get_within}
 use Rattle.tp_model.specs.Credentials.{is_among, revoked_at, tick_of}
+use Rattle.tp_model.specs.Facts.{before, is_submission}
 use Rattle.tp_model.specs.Ids.{same_cred}
 use Rattle.tp_model.specs.Versions.{is_publication, newest, opening_version}
-use Rattle.tp_model.specs.Words.{AdminId, Body, CredId, Fact, Letter, Scenario, ServerId, Version, What}
+use Rattle.tp_model.specs.Words.{AdminId, Body, CredId, Fact, Letter, NewestReply, Scenario, ServerId, Transaction, TxnId, Verdict, Version, What}
 use Rattle.tp_model.specs.Words.body
 use Rattle.tp_model.specs.Words.what
 use Rattle.std.specs.Option.{option_flatten}
 use Rattle.tp_offices.specs.Authority as office
 use Rattle.tp_offices.specs.Master as master
+use Rattle.tp_offices.specs.Master.{version_for}
 use Rattle.tp_offices.specs.declared.authority.Authority.{Authority}
 use Rattle.tp_offices.specs.declared.master.Master.{Master}
 use Rattle.tp_machine.specs.Machine.{State, facts_of, publishes, revokes, ticks as moves}
 use Rattle.tp_types.specs.Each.{Each}
 use Rattle.tp_machine.specs.Named.{IsAdmin, IsCred}
-use Rattle.tp_runs.proofs.basics.Facts.{ArePast, facts_after}
-use Rattle.tp_types.proofs.EachLemmas.{placed_set}
+use Rattle.tp_runs.proofs.basics.Facts.{ArePast, before_past, facts_after}
+use Rattle.tp_types.proofs.EachLemmas.{each_as, each_both, missing, placed_set}
 use Rattle.tp_runs.proofs.basics.Logs.{get_set}
-use Rattle.tp_runs.proofs.trust.Fit.{AuthorityFits, BodyFits, maybe_stays, newest_rises}
-use Rattle.tp_runs.proofs.basics.Turns.{TurnFits}
-use Rattle.tp_runs.proofs.trust.World.{BodyTimely, MasterFits, MoveTrusts, Timely, Trusts, WhatFits, authority_kept, clock_after, coordinator_up_stays, later_with_facts, master_kept, newest_after, revoked_after, server_part_stays, up_at}
+use Rattle.tp_runs.proofs.trust.Fit.{AuthorityFits, BodyFits, Right, newest_rises}
+use Rattle.tp_runs.proofs.trust.Phases.{PhaseFits}
+use Rattle.tp_runs.proofs.trust.Rounds.{RoundFits, proofs_right}
+use Rattle.tp_runs.proofs.trust.Acts.{both_up_in_trust}
+use Rattle.tp_runs.proofs.trust.Coordinator.{CoordinatorFits}
+use Rattle.tp_runs.proofs.ids.Coordinator.{replies_sound}
+use Rattle.tp_runs.proofs.basics.Phases.{is_undecided}
+use Rattle.tp_runs.proofs.basics.Turns.{AreUpTo, IsReadAfter, IsReadIn, NewestNow, TurnFits}
+use Rattle.tp_runs.specs.Sound.{IsSound, IsSoundCoordinator, IsSoundCoordinatorUp, IsSoundPhase, IsSoundProof, IsSoundRound, IsSoundVerdict}
+use Rattle.tp_round.specs.Replies.{proofs_in}
+use Rattle.tp_round.specs.declared.round.Round.{Round}
+use Rattle.tp_coord.specs.State.{Coordinator}
+use Rattle.tp_coord.specs.declared.coordinator.Phase.TheVariants as phase
+use Rattle.tp_coord.specs.declared.coordinator.Phase.{Phase}
+use Rattle.tp_machine.specs.Parts.{Part}
+use Rattle.tp_runs.proofs.trust.World.{BodyTimely, MasterFits, MoveTrusts, Timely, Trusts, WhatFits, authority_kept, clock_after, coordinator_up_stays, later_with_facts, master_kept, newest_after, revoked_after, server_part_stays, up_at, up_of}
 
 -- ---- one credential more
 
@@ -165,21 +180,99 @@ published_trusts sc w admin exists past h =
 
 -- ---- what the master sends
 
--- what the master answers says nothing that has to fit yet
-pub newest_fits : (sc : Scenario) (w : State) (said : Body) → Each (λ (letter : Letter). BodyFits sc (facts_after w []) (length w.steps + 1) (length w.steps) letter.body) (master.on_body w.actors.master said).reaction.letters
-newest_fits sc w (body.Probe probe) = (tt, tt)
-newest_fits sc w _ = tt
-
--- and is of the turn of its request
-pub newest_timely : (sc : Scenario) (w : State) (said : Body) (sent : ℕ) → BodyTimely sc w.actors.coordinators sent said
-    → Each (λ (letter : Letter). BodyTimely sc w.actors.coordinators (length w.steps) letter.body) (master.on_body w.actors.master said).reaction.letters
-newest_timely sc w (body.Probe probe) sent m =
-    let told = body.Newest (record { txn = probe.txn; turn = probe.turn; newest = w.actors.master.newest }) in (
-      maybe_stays (TurnFits sc sent probe.turn (body.Probe probe)) (TurnFits sc (length w.steps) probe.turn told) (up_at w.actors.coordinators probe.txn.0)
-          (λ c k unsure. record { past = (k unsure).past; now = λ same. tt }) m,
+-- what the master answers is the newest versions at its place, after the submission
+pub newest_fits : (sc : Scenario) (w : State) (said : Body) (sent : ℕ) → ArePast (length w.steps) w.facts → MasterFits sc w.facts (length w.steps) w.actors.master → BodyFits sc w.facts (length w.steps) sent said
+    → Each (λ (letter : Letter). BodyFits sc (facts_after w []) (length w.steps + 1) (length w.steps) letter.body) (master.on_body w.actors.master said).reaction.letters
+newest_fits sc w (body.Probe probe) sent past h m =
+    let place = length w.steps in
+    let l = later_with_facts w [] (place + 1) (omega arith) in
+    let same : before place (facts_after w []) ≡ before place w.facts = l.grows.same place (omega arith) in (
+      record {
+        newest_is = λ admin exists. h.newest_is admin exists ∙ ap (λ (earlier : List Fact). (opening_version sc admin).0 + count_by (is_publication admin) earlier) (sym same);
+        begun = ap (list_any (is_submission probe.txn)) (same ∙ before_past place w.facts past) ∙ m;
+        past = omega arith;
+      },
       tt,
     )
-newest_timely sc w _ sent m = tt
+newest_fits sc w _ sent past h m = tt
+
+-- a right verdict has no version above the one that the master knows
+no_newer : (sc : Scenario) (facts : List Fact) (place : ℕ) (txn : TxnId) (held : Master) (verdict : Verdict) (declared : Transaction) → MasterFits sc facts place held → slice_get sc.txns txn.0 ≡ Some declared
+    → IsSoundVerdict sc txn verdict → Right sc facts place txn verdict → verdict.version.0 ≤ (version_for held.newest verdict.admin).0
+no_newer sc facts place txn held verdict declared h found sound right =
+    let within : verdict.admin.0 < length sc.admins = slice_get_within sc.admins verdict.admin.0 sound.version.declared sound.version.declared_is in
+    omega (arith, h.newest_is verdict.admin within, (right declared found).published)
+
+are_up_to : (sc : Scenario) (facts : List Fact) (place : ℕ) (txn : TxnId) (held : Master) (verdicts : List Verdict) (declared : Transaction) → MasterFits sc facts place held → slice_get sc.txns txn.0 ≡ Some declared
+    → Each (IsSoundVerdict sc txn) verdicts → Each (Right sc facts place txn) verdicts → AreUpTo held.newest verdicts
+are_up_to sc facts place txn held verdicts declared h found sound right =
+    each_both (IsSoundVerdict sc txn) (Right sc facts place txn) (λ (verdict : Verdict). verdict.version.0 ≤ (version_for held.newest verdict.admin).0)
+    (λ verdict s r. no_newer sc facts place txn held verdict declared h found s r) verdicts sound right
+
+-- what the master knows is no less than what a coordinator has gathered
+read_after : (sc : Scenario) (facts : List Fact) (place : ℕ) (held : Master) (c : Coordinator) (declared : Transaction) → MasterFits sc facts place held → slice_get sc.txns c.txn.0 ≡ Some declared
+    → IsSoundCoordinator sc c → CoordinatorFits sc facts place c → is_undecided c.phase ≡ true → IsReadAfter place held.newest c.instances c.gathered
+read_after sc facts place held c declared h found sound fits unsure =
+    record {
+      above = fits.above unsure;
+      up_to = are_up_to sc facts place c.txn held c.gathered declared h found
+          (each_as (IsSoundProof sc c.txn) (IsSoundVerdict sc c.txn) (λ proof p. p.sound) c.gathered sound.gathered) (fits.so_far unsure declared found).right;
+    }
+
+-- nor than the replies of a round. No round that reads the master begins yet, so none has met a newer version
+read_in : (sc : Scenario) (facts : List Fact) (place : ℕ) (txn : TxnId) (held : Master) (round : Round) (declared : Transaction) → MasterFits sc facts place held → slice_get sc.txns txn.0 ≡ Some declared
+    → IsSoundRound sc txn round → RoundFits sc facts place txn round → round.reads ≡ true → IsReadIn place held.newest round
+read_in sc facts place txn held round declared h found sound fits reads =
+    let right : Each (Right sc facts place txn) (proofs_in round.targets) = proofs_right sc facts place txn round fits in
+    let unread : round.reads ≡ false = fits.reads in
+    record {
+      replies = each_as (Right sc facts place txn) (λ (verdict : Verdict). verdict.place < place) (λ verdict r. (r declared found).past) (proofs_in round.targets) right;
+      up_to = are_up_to sc facts place txn held (proofs_in round.targets) declared h found (replies_sound sc txn round.targets sound.targets) right;
+      mets = absurd (cc);
+    }
+
+newest_now : (sc : Scenario) (facts : List Fact) (place : ℕ) (held : Master) (c : Coordinator) (awaited : Phase) (reply : NewestReply) (declared : Transaction) → reply.newest ≡ held.newest → MasterFits sc facts place held
+    → slice_get sc.txns c.txn.0 ≡ Some declared → IsReadAfter place held.newest c.instances c.gathered → IsSoundPhase sc c.txn awaited → PhaseFits sc facts place c.txn awaited → NewestNow c awaited place reply
+newest_now sc facts place held c (phase.Probing number) reply declared told h found after sound fits = subst (λ (newest : List Version). IsReadAfter place newest c.instances c.gathered) (sym told) after
+newest_now sc facts place held c (phase.Reading over round) reply declared told h found after sound fits =
+    subst (λ (newest : List Version). IsReadAfter place newest c.instances c.gathered × IsReadIn place newest round) (sym told)
+    (after, read_in sc facts place c.txn held round declared h found sound.1 fits.1 fits.2)
+newest_now sc facts place held c phase.VoteProbing reply declared told h found after sound fits = subst (λ (newest : List Version). IsReadAfter place newest c.instances c.gathered) (sym told) after
+newest_now sc facts place held c _ reply declared told h found after sound fits = tt
+
+-- so what the master tells holds now
+told_now : (sc : Scenario) (facts : List Fact) (place : ℕ) (held : Master) (c : Coordinator) (reply : NewestReply) → reply.newest ≡ held.newest → MasterFits sc facts place held → IsSoundCoordinator sc c
+    → CoordinatorFits sc facts place c → is_undecided c.phase ≡ true → NewestNow c c.phase place reply
+told_now sc facts place held c reply told h sound fits unsure = by_txn (slice_get sc.txns c.txn.0) refl
+  where
+    by_txn : (declared : Option Transaction) → slice_get sc.txns c.txn.0 ≡ declared → NewestNow c c.phase place reply
+    by_txn None e = absurd (missing sc.txns c.txn.0 sound.exists e)
+    by_txn (Some declared) e = newest_now sc facts place held c c.phase reply declared told h e (read_after sc facts place held c declared h e sound fits unsure) sound.awaits fits.awaits
+
+-- what is known of a coordinator that is up
+pub record IsKnown (sc : Scenario) (facts : List Fact) (place : ℕ) (c : Coordinator) : Type 0 where
+  pub sound : IsSoundCoordinator sc c
+  pub fits : CoordinatorFits sc facts place c
+
+up_known : (sc : Scenario) (w : State) (n : ℕ) (found : Option (Part Coordinator)) → IsSound sc w → Trusts sc w → slice_get w.actors.coordinators n ≡ found
+    → IfSome (option_and_then up_of found) (IsKnown sc w.facts (length w.steps))
+up_known sc w n None sound h e = tt
+up_known sc w n (Some part) sound h e =
+    both_up_in_trust (IsSoundCoordinatorUp sc (record { 0 = n })) (CoordinatorFits sc w.facts (length w.steps)) (IsKnown sc w.facts (length w.steps)) part.up
+    (λ c s f. record { sound = s.sound; fits = f }) (sound.actors_are.coordinators n part e).state (h.coordinators n part e)
+
+-- the master's answer is of the turn of its request, and what it says holds now where that turn is the present one
+pub newest_timely : (sc : Scenario) (w : State) (said : Body) (sent : ℕ) → IsSound sc w → Trusts sc w → BodyTimely sc w.actors.coordinators sent said
+    → Each (λ (letter : Letter). BodyTimely sc w.actors.coordinators (length w.steps) letter.body) (master.on_body w.actors.master said).reaction.letters
+newest_timely sc w (body.Probe probe) sent sound h m =
+    let place = length w.steps in
+    let reply : NewestReply = record { txn = probe.txn; turn = probe.turn; newest = w.actors.master.newest } in (
+      both_up_in_trust (IsKnown sc w.facts place) (TurnFits sc sent probe.turn (body.Probe probe)) (TurnFits sc place probe.turn (body.Newest reply)) (up_at w.actors.coordinators probe.txn.0)
+          (λ c known k unsure. record { past = (k unsure).past; now = λ same. told_now sc w.facts place w.actors.master c reply refl h.master known.sound known.fits unsure })
+          (up_known sc w probe.txn.0 (slice_get w.actors.coordinators probe.txn.0) sound h refl) m,
+      tt,
+    )
+newest_timely sc w _ sent sound h m = tt
 
 -- a version that is pushed is the newest
 pub pushed_fits : (sc : Scenario) (w : State) (admin : AdminId) (server : ServerId) → IsAdmin sc admin → Trusts sc w

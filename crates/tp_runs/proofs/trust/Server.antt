@@ -1,7 +1,7 @@
 -- Trust, the server's rows: verdicts are right at the place of the staple, and there is one for each query.
 use Rattle.std.specs.List.{list_all}
 use Rattle.std.specs.Option.{option_map_or}
-use Rattle.std.proofs.Common.{IfSome, List, None, Option, Some, [], ap, arith, false, inl, inr, is_some, length, option_and_then, refl, slice_get, subst, suc, sym, true, unwrap_or, zero, ℕ, ℤ, ⊎_elim, ◌<◌, ◌==◌, ◌∙◌, ◌∷◌, ◌≡◌, ◌≤◌, ◌⊎◌}
+use Rattle.std.proofs.Common.{Bool, IfSome, List, None, Option, Some, [], ap, arith, false, inl, inr, is_none, is_some, length, option_and_then, refl, slice_get, subst, suc, sym, true, unwrap_or, zero, ℕ, ℤ, ⊎_elim, ◌&&◌, ◌<◌, ◌==◌, ◌∙◌, ◌∷◌, ◌≡◌, ◌≤◌, ◌⊎◌}
 use Rattle.std.proofs.lemmas.Bool.{and_from}
 use Rattle.std.proofs.lemmas.Option.{same_Some, slice_get_within}
 use Rattle.tp_types.proofs.ListLemmas.{number_itself}
@@ -23,7 +23,7 @@ use Rattle.tp_runs.proofs.ids.Valid.{IsValid}
 use Rattle.tp_server.proofs.RightVerdicts.{evaluate_right}
 use Rattle.tp_runs.proofs.trust.Fit.{BodyFits, IsPublished, IsRight, Right, ServerFits, StapleFits}
 use Rattle.tp_runs.proofs.trust.Kept.{AreKept, IsKept, IsTrusted, RecordKept, vote_cast}
-use Rattle.tp_runs.proofs.basics.Turns.{AimedVote, Answers, IsClosed, PrepareNow, Stamp, VoteNow, WantNow, stamp_of}
+use Rattle.tp_runs.proofs.basics.Turns.{AimedVote, Answers, DoneNow, IsClosed, PrepareNow, QueryNow, Stamp, VoteNow, WantNow, stamp_of}
 use Rattle.tp_runs.proofs.basics.Aims.{is_within, wanted_aimed}
 use Rattle.tp_runs.proofs.pairs.Actors.{BodyPairs, site_of}
 use Rattle.tp_runs.proofs.pairs.Pair.{Pair}
@@ -38,6 +38,7 @@ use Rattle.tp_model.specs.Deeds.{deed_of}
 use Rattle.tp_runs.specs.Sound.{AreWanted, IsQueryAt, IsSoundBody, IsSoundDeedAt, IsSoundEntry, IsSoundServer, IsSoundVerdict, IsVersion, query_in}
 use Rattle.tp_types.specs.Each.{Each}
 use Rattle.tp_machine.specs.Named.{IsAdmin}
+use Rattle.tp_coord.specs.State.{Coordinator}
 use Rattle.tp_coord.specs.declared.coordinator.Phase.TheVariants as phase
 use Rattle.tp_coord.specs.declared.coordinator.Phase.{Phase}
 use Rattle.tp_server.specs.declared.server.Ballot.{Ballot}
@@ -125,15 +126,35 @@ knows_as : (sc : Scenario) (facts : List Fact) (place : ℕ) (s now : Server) �
 knows_as sc facts place s now same h =
     record { known = λ admin within. subst (λ (known : List Version). (unwrap_or (slice_get known admin.0) (record { 0 = 1 })).0 ≤ newest sc admin place facts) (sym same) (h.known admin within) }
 
+unstapled : (staple : Option Staple) (unpinned : Bool) → (is_none staple && unpinned) ≡ true → is_some staple ≡ false
+unstapled None unpinned e = refl
+unstapled (Some staple) unpinned e = absurd (cc)
+
+-- a query that was asked without a staple runs without a verdict
+ran_now : (sc : Scenario) (c : Coordinator) (awaited : Phase) (q : QueryRequest) (epoch : ℕ) (deed : Deed) → (is_none q.staple && is_none q.pin) ≡ true → QueryNow sc c awaited q → DoneNow sc c awaited (done_reply q epoch deed)
+ran_now sc c (phase.Querying number staple) q epoch deed plain h =
+    record { query = h.query; answer_is = record { proved = sym (ap is_some (sym h.staple_is) ∙ unstapled q.staple (is_none q.pin) plain); on_query = tt; has_rule = tt } }
+ran_now sc c _ q epoch deed plain h = tt
+
+-- that it is to die, or that its server restarted, says nothing of what was asked
+died_now : (sc : Scenario) (c : Coordinator) (awaited : Phase) (q : QueryRequest) (epoch : ℕ) (other : TxnId) → QueryNow sc c awaited q → DoneNow sc c awaited (died_reply q epoch other)
+died_now sc c (phase.Querying number staple) q epoch other h = record { query = h.query; answer_is = tt }
+died_now sc c _ q epoch other h = tt
+
+restarted_now : (sc : Scenario) (c : Coordinator) (awaited : Phase) (q : QueryRequest) (epoch : ℕ) → QueryNow sc c awaited q → DoneNow sc c awaited (restarted_reply q epoch)
+restarted_now sc c (phase.Querying number staple) q epoch h = record { query = h.query; answer_is = tt }
+restarted_now sc c _ q epoch h = tt
+
 -- an answer of the turn of its query
-done_answers : (q : QueryRequest) (done : DoneReply) → done.txn ≡ q.txn → done.turn ≡ q.turn → Answers (body.Query q) (body.Done done) (record { txn = done.txn; turn = done.turn })
-done_answers q done same turn =
+done_answers : (sc : Scenario) (q : QueryRequest) (done : DoneReply) → done.txn ≡ q.txn → done.turn ≡ q.turn → ((c : Coordinator) → QueryNow sc c c.phase q → DoneNow sc c c.phase done)
+    → Answers sc (body.Query q) (body.Done done) (record { txn = done.txn; turn = done.turn })
+done_answers sc q done same turn says =
     record {
       asked = record { txn = q.txn; turn = q.turn };
       asked_is = refl;
       reply_is = refl;
       same_txn = sym same;
-      timely = λ sc c sent place t unsure. let was = (t unsure).past in record { past = omega (arith, was, turn); now = λ e. tt };
+      timely = λ c sent place t unsure. let was = (t unsure).past in record { past = omega (arith, was, turn); now = λ e. says c ((t unsure).now (sym turn ∙ e)) };
     }
 
 -- an entry at which a query runs is kept
@@ -145,11 +166,11 @@ run_kept sc facts place T s mail q query entry value h k =
     (λ (further : IsFurther s q entry). h.keeps q.txn.0 entry further.found) k.place
 
 runs_trusts : (sc : Scenario) (facts : List Fact) (place : ℕ) (T : Body → Type 0) (s : Server) (q : QueryRequest) (query : Query) (entry : Entry) (value : ℤ) → ServerTrusted sc facts place T s
-    → IsClosed T → T (body.Query q) → IsKept (IsTrusted sc facts place T) q.txn entry → RowTrusts sc facts place T (completes s q query entry (deed_of q.query query value))
-runs_trusts sc facts place T s q query entry value h closed t old =
+    → (is_none q.staple && is_none q.pin) ≡ true → IsClosed sc T → T (body.Query q) → IsKept (IsTrusted sc facts place T) q.txn entry → RowTrusts sc facts place T (completes s q query entry (deed_of q.query query value))
+runs_trusts sc facts place T s q query entry value h plain closed t old =
     let deed = deed_of q.query query value in
     let answer = done_reply q entry.epoch deed in
-    let timely : T (body.Done answer) = closed (body.Query q) (body.Done answer) (record { txn = q.txn; turn = q.turn }) (done_answers q answer refl refl) t in
+    let timely : T (body.Done answer) = closed (body.Query q) (body.Done answer) (record { txn = q.txn; turn = q.turn }) (done_answers sc q answer refl refl (λ c. ran_now sc c c.phase q entry.epoch deed plain)) t in
     let effect = completes s q query entry deed in
     record {
       fits = knows_as sc facts place s effect.state (kept_known s.store q query value) h.fits;
@@ -178,12 +199,12 @@ entry_trusts sc facts place T s txn entry letters h kept says timely =
     }
 
 -- what waited runs, after what was done before
-resumes_trusts : (sc : Scenario) (facts : List Fact) (place : ℕ) (T : Body → Type 0) (s : Server) (effect : Effect Server) (grant : Grant) (q : QueryRequest) (query : Query) (entry : Entry) (value : ℤ) → IsClosed T
+resumes_trusts : (sc : Scenario) (facts : List Fact) (place : ℕ) (T : Body → Type 0) (s : Server) (effect : Effect Server) (grant : Grant) (q : QueryRequest) (query : Query) (entry : Entry) (value : ℤ) → IsClosed sc T
     → IsResumed sc s.server effect.state grant q query entry value → RowTrusts sc facts place T effect → RowTrusts sc facts place T (followed_by effect (resuming effect.state q query entry value))
 resumes_trusts sc facts place T s effect grant q query entry value closed k h =
     let old : IsKept (IsTrusted sc facts place T) q.txn entry = h.keeps q.txn.0 entry k.found in
     let asked : IsTrusted sc facts place T (body.Query q) = subst (λ (w : Option QueryRequest). IfSome w (λ (r : QueryRequest). IsTrusted sc facts place T (body.Query r))) k.waiting_is old.waiting in
-    let ran = runs_trusts sc facts place T effect.state q query (unwaiting entry) value (record { fits = h.fits; keeps = h.keeps }) closed asked.timely (record { answers = old.answers; waiting = tt; ballot = old.ballot }) in
+    let ran = runs_trusts sc facts place T effect.state q query (unwaiting entry) value (record { fits = h.fits; keeps = h.keeps }) k.plain closed asked.timely (record { answers = old.answers; waiting = tt; ballot = old.ballot }) in
     record {
       fits = ran.fits;
       keeps = ran.keeps;
@@ -197,11 +218,11 @@ answers_trusts : (sc : Scenario) (facts : List Fact) (place : ℕ) (T : Body →
     → IsTrusted sc facts place T (body.Done given) → RowTrusts sc facts place T (answers s q.txn given)
 answers_trusts sc facts place T s q given h k = record { fits = h.fits; keeps = h.keeps; forces = tt; says = (k.fits place, tt); timely = (k.timely, tt) }
 
-restarted_trusted : (sc : Scenario) (facts : List Fact) (place : ℕ) (T : Body → Type 0) (s : Server) (q : QueryRequest) → IsClosed T → T (body.Query q)
+restarted_trusted : (sc : Scenario) (facts : List Fact) (place : ℕ) (T : Body → Type 0) (s : Server) (q : QueryRequest) → IsClosed sc T → T (body.Query q)
     → IsTrusted sc facts place T (body.Done (restarted_reply q s.epoch))
 restarted_trusted sc facts place T s q closed t =
     let given = restarted_reply q s.epoch in
-    record { fits = λ sent. tt; timely = closed (body.Query q) (body.Done given) (record { txn = q.txn; turn = q.turn }) (done_answers q given refl refl) t }
+    record { fits = λ sent. tt; timely = closed (body.Query q) (body.Done given) (record { txn = q.txn; turn = q.turn }) (done_answers sc q given refl refl (λ c. restarted_now sc c c.phase q s.epoch)) t }
 
 -- ---- Prepare
 
@@ -276,18 +297,18 @@ vote_now sc facts place s _ p txn staple deeds e there rights names h = tt
 -- a vote of the turn of its request, at the place of its staple
 vote_answers : (sc : Scenario) (facts : List Fact) (place : ℕ) (s : Server) (p : PrepareRequest) (txn : Transaction) (staple : Staple) (deeds : List Deed) → p.staple ≡ Some staple → slice_get sc.txns p.txn.0 ≡ Some txn
     → Each (Right sc facts place p.txn) (verdicts_on sc s txn staple p.want deeds) → IsNamed sc s.server p
-    → Answers (body.Prepare p) (body.Vote (record { txn = p.txn; turn = p.turn; vote = vote.Yes (verdicts_on sc s txn staple p.want deeds) })) (record { txn = p.txn; turn = p.turn })
+    → Answers sc (body.Prepare p) (body.Vote (record { txn = p.txn; turn = p.turn; vote = vote.Yes (verdicts_on sc s txn staple p.want deeds) })) (record { txn = p.txn; turn = p.turn })
 vote_answers sc facts place s p txn staple deeds e there rights names =
     record {
       asked = record { txn = p.txn; turn = p.turn };
       asked_is = refl;
       reply_is = refl;
       same_txn = refl;
-      timely = λ any c sent again t unsure. record { past = (t unsure).past; now = λ same. vote_now sc facts place s c.phase p txn staple deeds e there rights names ((t unsure).now same) };
+      timely = λ c sent again t unsure. record { past = (t unsure).past; now = λ same. vote_now sc facts place s c.phase p txn staple deeds e there rights names ((t unsure).now same) };
     }
 
 votes_trusts : (sc : Scenario) (facts : List Fact) (place : ℕ) (T : Body → Type 0) (s : Server) (p : PrepareRequest) (txn : Transaction) (staple : Staple) (entry : Entry) → IsValid sc → IsSoundServer sc s
-    → AreWanted sc p.want → ServerTrusted sc facts place T s → IsClosed T → T (body.Prepare p) → p.staple ≡ Some staple → slice_get sc.txns p.txn.0 ≡ Some txn → StapleFits sc facts place p.txn staple
+    → AreWanted sc p.want → ServerTrusted sc facts place T s → IsClosed sc T → T (body.Prepare p) → p.staple ≡ Some staple → slice_get sc.txns p.txn.0 ≡ Some txn → StapleFits sc facts place p.txn staple
     → Each (IsPublished sc facts place) p.want → entry_at s p.txn ≡ Some entry → IsNamed sc s.server p → RowTrusts sc facts place T (votes_on sc (with_wants s p.want) p entry staple txn)
 votes_trusts sc facts place T s p txn staple entry valid sound wanted h closed t e there fits published found names =
     let now = with_wants s p.want in
@@ -337,7 +358,7 @@ no_now phase.VoteProbing why = tt
 no_now (phase.Ending ended awaited) why = tt
 
 -- a vote NO answers the request to prepare
-no_letter_trusts : (sc : Scenario) (facts : List Fact) (place : ℕ) (T : Body → Type 0) (s : Server) (p : PrepareRequest) (why : No) → IsClosed T → T (body.Prepare p) → LetterTrusts sc facts place T (no_letter s p why)
+no_letter_trusts : (sc : Scenario) (facts : List Fact) (place : ℕ) (T : Body → Type 0) (s : Server) (p : PrepareRequest) (why : No) → IsClosed sc T → T (body.Prepare p) → LetterTrusts sc facts place T (no_letter s p why)
 no_letter_trusts sc facts place T s p why closed t =
     record {
       says = tt;
@@ -347,7 +368,7 @@ no_letter_trusts sc facts place T s p why closed t =
             asked_is = refl;
             reply_is = refl;
             same_txn = refl;
-            timely = λ sc c sent place t unsure. record { past = (t unsure).past; now = λ e. no_now c.phase why };
+            timely = λ c sent place t unsure. record { past = (t unsure).past; now = λ e. no_now c.phase why };
           }) t;
     }
 
@@ -380,13 +401,13 @@ learns_trusts sc facts place T s push h new =
 
 -- every row of a server on receipt of a mail
 pub server_row_trusts : (sc : Scenario) (facts : List Fact) (place : ℕ) (T : Body → Type 0) (s : Server) (mail : Mail) → IsValid sc → AreRightWaits sc s → IsSoundServer sc s → IsSoundBody sc (actor.Server s.server) mail.letter.body → ServerTrusted sc facts place T s
-    → BodyFits sc facts place mail.sent mail.letter.body → NamedMail sc s.server mail.letter.body → IsClosed T → T mail.letter.body → RowTrusts sc facts place T (server_row sc s mail)
+    → BodyFits sc facts place mail.sent mail.letter.body → NamedMail sc s.server mail.letter.body → IsClosed sc T → T mail.letter.body → RowTrusts sc facts place T (server_row sc s mail)
 server_row_trusts sc facts place T s mail valid waits sound m h f named closed t =
     server_by sc s mail (RowTrusts sc facts place T) waits
     (record {
       relocked = λ effect locks k. record { fits = record { known = k.fits.known }; keeps = k.keeps; forces = k.forces; says = k.says; timely = k.timely };
       ignored = ignores_trusts_in_server sc facts place T s h;
-      ran = λ q query entry value k. runs_trusts sc facts place T s q query entry value h closed (subst T k.said_is t) (run_kept sc facts place T s mail q query entry value h k);
+      ran = λ q query entry value k. runs_trusts sc facts place T s q query entry value h k.plain closed (subst T k.said_is t) (run_kept sc facts place T s mail q query entry value h k);
       waited = λ q query entry value k.
           let old = run_kept sc facts place T s mail q query entry value h k in
           let asked : BodyFits sc facts place mail.sent (body.Query q) = subst (BodyFits sc facts place mail.sent) k.said_is f in
@@ -395,7 +416,7 @@ server_row_trusts sc facts place T s mail valid waits sound m h f named closed t
       died = λ q query entry value other k dying.
           let old = run_kept sc facts place T s mail q query entry value h k in
           let answer = died_reply q entry.epoch other in
-          let timely : T (body.Done answer) = closed (body.Query q) (body.Done answer) (record { txn = q.txn; turn = q.turn }) (done_answers q answer refl refl) (subst T k.said_is t) in
+          let timely : T (body.Done answer) = closed (body.Query q) (body.Done answer) (record { txn = q.txn; turn = q.turn }) (done_answers sc q answer refl refl (λ c. died_now sc c c.phase q entry.epoch other)) (subst T k.said_is t) in
           entry_trusts sc facts place T s q.txn _ _ h
           (record {
             answers = each_more (λ (d : DoneReply). IsTrusted sc facts place T (body.Done d)) entry.answers answer old.answers (record { fits = λ sent. tt; timely = timely });

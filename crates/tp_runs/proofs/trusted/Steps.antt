@@ -32,7 +32,7 @@ use Rattle.tp_runs.proofs.trust.Fit.{BodyFits, IsSubmitted, Later, MailFits, Ser
 use Rattle.tp_runs.proofs.trust.Kept.{AreKept, IsKept, IsTrusted}
 use Rattle.tp_runs.proofs.trust.Offices.{newest_fits, newest_timely, none_revoked, opening_fits, published_trusts, pushed_fits, revoked_trusts, ticked_trusts}
 use Rattle.tp_runs.proofs.trust.Server.{NamedMail, ServerTrusted, named_mail, server_row_trusts}
-use Rattle.tp_runs.proofs.basics.Turns.{AreFew, IsNoTell, IsTimely, Stamp, TurnFits, few_queries, stamp_of, timely_anywhere}
+use Rattle.tp_runs.proofs.basics.Turns.{AreFew, IsOfNoOffice, IsTimely, Stamp, TurnFits, few_queries, stamp_of, timely_anywhere}
 use Rattle.tp_runs.proofs.trust.World.{BodyTimely, CoordinatorPartFits, MailTimely, MoveTrusts, ServerPartFits, StampFits, Timely, Trusts, coordinator_stays, later_with_facts, state_after_trusts, up_at, up_of}
 use Rattle.tp_runs.proofs.walks.Steps.{Cases, IsCoordinatorUp, IsServerUp, SaysIdle, WaitRightly, WasSent, machine_after_by}
 use Rattle.tp_machine.specs.Machine.{Machine, State, acts_by, coordinator_fact, coordinator_move, facts_of, idle_move, is_part_submitted, machine_after, opened_part, opening_state, refusal, server_fact, server_move, with_age}
@@ -79,11 +79,12 @@ mail_trusted sc w n mail to sound h sent =
     }
 
 -- what a server is told depends on no place
-no_tell : (sc : Scenario) (at : ServerId) (said : Body) → IsSoundBody sc (actor.Server at) said → IsNoTell said
-no_tell sc at (body.Tell tell) m = let other : actor.Server at ≡ actor.Coordinator tell.txn = m.goes_to in absurd (cc)
-no_tell sc at _ m = tt
+of_no_office : (sc : Scenario) (at : ServerId) (said : Body) → IsSoundBody sc (actor.Server at) said → IsOfNoOffice said
+of_no_office sc at (body.Tell tell) m = let other : actor.Server at ≡ actor.Coordinator tell.txn = m.goes_to in absurd (cc)
+of_no_office sc at (body.Newest reply) m = let other : actor.Server at ≡ actor.Coordinator reply.txn = m.goes_to in absurd (cc)
+of_no_office sc at _ m = tt
 
-heard_anywhere : (sc : Scenario) (coordinators : List (Part Coordinator)) (sent : ℕ) (said : Body) → IsNoTell said → BodyTimely sc coordinators sent said → Timely sc coordinators said
+heard_anywhere : (sc : Scenario) (coordinators : List (Part Coordinator)) (sent : ℕ) (said : Body) → IsOfNoOffice said → BodyTimely sc coordinators sent said → Timely sc coordinators said
 heard_anywhere sc coordinators sent said other h place =
     maybe_stays (StampFits sc coordinators sent said) (StampFits sc coordinators place said) (stamp_of said)
     (λ stamped k. maybe_stays (TurnFits sc sent stamped.turn said) (TurnFits sc place stamped.turn said) (up_at coordinators stamped.txn.0)
@@ -107,7 +108,7 @@ receipt_by_server_in_trusted sc w valid rightly sound past pairs h n mail at par
     let row =
     server_row_trusts sc w.facts place T s mail valid (rightly at part s up) here.sound (subst (λ (a : ServerId). IsSoundBody sc (actor.Server a) mail.letter.body) (sym here.server_is) m.says) trusted m.fits
     (subst (λ (a : ServerId). NamedMail sc a mail.letter.body) (sym here.server_is) (named_mail sc (pair_at w.actors) mail.letter.from at mail.letter.body said))
-    (timely_closed sc w.actors.coordinators) (heard_anywhere sc w.actors.coordinators mail.sent mail.letter.body (no_tell sc at mail.letter.body m.says) m.timely) in
+    (timely_closed sc w.actors.coordinators) (heard_anywhere sc w.actors.coordinators mail.sent mail.letter.body (of_no_office sc at mail.letter.body m.says) m.timely) in
     server_acts_trusts sc w at part [] (Some effect.state) effect.reaction.append effect.reaction.letters past h up.found (record { still = tt; fit = λ facts. tt })
     (λ admin exists. let fits : ServerFits sc w.facts place effect.state = row.fits in
     omega (arith, learns_told sc s effect admin here.sound.known (row_learns sc s mail (rightly at part s up)) exists, fits.known admin exists)) row
@@ -207,7 +208,7 @@ trusts_cases sc w built valid few rightly sound a pairs h =
           (tells_fit sc w mail.letter.body mail.sent a h.authority m.fits) (tells_timely sc w mail.letter.body mail.sent h m.timely);
       master_told = λ n mail sent.
           unmoved_trusts sc w [] (master.master_row w.actors.master mail).reaction.letters a.past h (record { still = tt; fit = λ facts. tt })
-          (newest_fits sc w mail.letter.body) (newest_timely sc w mail.letter.body mail.sent (mail_trusted sc w n mail actor.Master sound h sent).timely);
+          (newest_fits sc w mail.letter.body mail.sent a.past h.master (mail_trusted sc w n mail actor.Master sound h sent).fits) (newest_timely sc w mail.letter.body mail.sent sound h (mail_trusted sc w n mail actor.Master sound h sent).timely);
       published = λ admin exists more. published_trusts sc w admin exists a.past h;
       pushed = λ admin server exists there.
           unmoved_trusts sc w [] (master.pushes w.actors.master admin server).reaction.letters a.past h (record { still = tt; fit = λ facts. tt }) (pushed_fits sc w admin server exists h) (tt, tt);
