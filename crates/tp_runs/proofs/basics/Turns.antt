@@ -175,9 +175,14 @@ abbrev pub ProvesNothing : Vote → Type 0
 ProvesNothing (vote.Yes verdicts) = verdicts ≡ []
 ProvesNothing _ = Unit {0}
 
+-- that of one that was asked with a staple has some
+abbrev pub ProvesSome : Vote → Type 0
+ProvesSome (vote.Yes verdicts) = verdicts ≡ [] → ⊥
+ProvesSome _ = Unit {0}
+
 -- and a vote is of its place, and of the versions
 abbrev pub VoteNow : Phase → Vote → Type 0
-VoteNow (phase.Checking over round staple) said = PlacedAt staple.place said × AimedVote round said
+VoteNow (phase.Checking over round staple) said = PlacedAt staple.place said × AimedVote round said × ProvesSome said
 VoteNow (phase.Voting awaited) said = ProvesNothing said
 VoteNow _ said = Unit {0}
 

@@ -103,7 +103,7 @@ abbrev pub DoneFrom : Scenario → (TxnId → ℕ → Pair) → Actor → DoneRe
 DoneFrom sc P (actor.Server at) done = (declared : Transaction) → slice_get sc.txns done.txn.0 ≡ Some declared → DoneFits (site_of sc at.0 declared) (P done.txn at.0) done
 DoneFrom sc P _ done = Unit {0}
 
--- a vote YES has a verdict on each query at its server, whatever the pair
+-- a vote YES has a verdict on each query at its server or none, whatever the pair
 abbrev pub VoteFrom : Scenario → Actor → VoteReply → Type 0
 VoteFrom sc (actor.Server at) reply = (declared : Transaction) → slice_get sc.txns reply.txn.0 ≡ Some declared → VoteFits (site_of sc at.0 declared) reply.vote
 VoteFrom sc _ reply = Unit {0}

@@ -6,7 +6,7 @@ use Rattle.tp_model.specs.Words.{PrepareRequest, Prepared}
 use Rattle.tp_server.specs.declared.server.Ballot.{Ballot}
 use Rattle.tp_server.specs.declared.server.Entry.{Entry}
 use Rattle.tp_runs.proofs.basics.Phases.{Prepares}
-use Rattle.tp_runs.proofs.pairs.Fits.{AreOnAll, AskerFits, EntryFits, Fits, PrepareFits, PrepareLive, ServerFits}
+use Rattle.tp_runs.proofs.pairs.Fits.{AreNoneOrAll, AskerFits, EntryFits, Fits, PrepareFits, PrepareLive, ServerFits}
 use Rattle.tp_runs.proofs.pairs.Follows.{Next, follows_lost, onward_same}
 use Rattle.tp_runs.proofs.basics.Found.{of_some, some_as}
 use Rattle.tp_runs.proofs.pairs.Loses.{Loses, asker_lost, loses_all, loses_held}
@@ -151,7 +151,7 @@ restored_votes : (prepared : Option Prepared) → option_map prepared_held prepa
 restored_votes None = refl
 restored_votes (Some prepared) = refl
 
-restored_fits : (s : Site) (q : Pair) (prepared : Option Prepared) → ((p : Prepared) → prepared ≡ Some p → AreOnAll s p.verdicts) → IfSome (option_map restored prepared) (EntryFits s q)
+restored_fits : (s : Site) (q : Pair) (prepared : Option Prepared) → ((p : Prepared) → prepared ≡ Some p → AreNoneOrAll s p.verdicts) → IfSome (option_map restored prepared) (EntryFits s q)
 restored_fits s q None verdicts = tt
 restored_fits s q (Some prepared) verdicts = record { waiting = tt; answers = tt; answered = λ unvoted. absurd (cc); present = λ unvoted. absurd (cc); ballot = verdicts prepared refl }
 

@@ -166,8 +166,10 @@ pub record PrepareLive (r : PrepareRequest) (a : Asker) : Type 0 where
 abbrev pub Names : Site → List (AdminId × Version) → Type 0
 Names s want = (number : ℕ) (admin : AdminId) → is_own_query s.scenario s.txn number (server_number s.at) admin ≡ true → is_some (wanted_of want admin) ≡ true
 
--- a request to prepare: all queries at the server have run in the epoch that it names; where it wants versions, it names all administrators
+-- a request to prepare: there are queries at the server, and all of them have run in the epoch that it names; where it
+-- wants versions, it names all administrators
 pub record PrepareFits (s : Site) (p : Pair) (r : PrepareRequest) : Type 0 where
+  pub some : upto s (count s) ≡ [] → ⊥
   pub covers : Tells p r.epoch (Covers s (count s))
   pub names : (is_empty r.want ≡ true) ⊎ Names s r.want
   pub live : IfSome p.asker (PrepareLive r)
@@ -178,9 +180,13 @@ pub record PrepareFits (s : Site) (p : Pair) (r : PrepareRequest) : Type 0 where
 abbrev pub AreOnAll : Site → List Verdict → Type 0
 AreOnAll s verdicts = numbers_of verdicts ≡ upto s (count s)
 
--- a vote YES has them, whatever became of the coordinator that asked for it
+-- a server that was asked to prepare without a staple proves nothing, and one that was asked with a staple proves all
+abbrev pub AreNoneOrAll : Site → List Verdict → Type 0
+AreNoneOrAll s verdicts = (verdicts ≡ []) ⊎ AreOnAll s verdicts
+
+-- so is a vote YES, whatever became of the coordinator that asked for it
 abbrev pub VoteFits : Site → Vote → Type 0
-VoteFits s (vote.Yes verdicts) = AreOnAll s verdicts
+VoteFits s (vote.Yes verdicts) = AreNoneOrAll s verdicts
 VoteFits s _ = Unit {0}
 
 -- ---- the server
@@ -193,14 +199,16 @@ pub record Waits (s : Site) (p : Pair) (entry : Entry) (q : QueryRequest) : Type
   pub unvoted : entry.ballot ≡ None
 
 -- an entry. Until it is voted on its deeds are answered, and it is of the server's epoch; then its vote has all verdicts
+-- or none
 pub record EntryFits (s : Site) (p : Pair) (entry : Entry) : Type 0 where
   pub waiting : IfSome entry.waiting (Waits s p entry)
   pub answers : Each (DoneFits s p) entry.answers
   pub answered : entry.ballot ≡ None → (number : ℕ) → Contains (numbers entry.deeds) number → is_some (answer_in number entry.answers) ≡ true
   pub present : entry.ballot ≡ None → entry.epoch ≡ p.epoch
-  pub ballot : IfSome entry.ballot (λ (cast : Ballot). AreOnAll s cast.verdicts)
+  pub ballot : IfSome entry.ballot (λ (cast : Ballot). AreNoneOrAll s cast.verdicts)
 
--- the server: what it voted on is what it prepared, with all verdicts, and what it holds are the first deeds in an epoch of its own
+-- the server: what it voted on is what it prepared, with all verdicts or none, and what it holds are the first deeds in
+-- an epoch of its own
 pub record ServerFits (s : Site) (p : Pair) : Type 0 where
   pub down : p.up ≡ false → p.entry ≡ None
   pub settled : p.settled ≡ true → (p.entry ≡ None) × (p.prepared ≡ None)
@@ -208,7 +216,7 @@ pub record ServerFits (s : Site) (p : Pair) : Type 0 where
   pub past : (h : Held) → held p ≡ Some h → h.epoch ≤ p.epoch
   pub front : (h : Held) → held p ≡ Some h → IsFront s h.deeds
   pub voted : p.voted ≡ true → is_some p.asker ≡ true → is_some p.prepared ≡ true
-  pub verdicts : (prepared : Prepared) → p.prepared ≡ Some prepared → AreOnAll s prepared.verdicts
+  pub verdicts : (prepared : Prepared) → p.prepared ≡ Some prepared → AreNoneOrAll s prepared.verdicts
 
 -- what holds in every state
 pub record Fits (s : Site) (p : Pair) : Type 0 where

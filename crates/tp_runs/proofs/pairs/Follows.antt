@@ -158,6 +158,7 @@ prepare_live r a b later h = record { epoch = later.epoch r.epoch h.epoch; prepa
 pub prepare_follows : (s : Site) (p q : Pair) (r : PrepareRequest) → Follows p q → PrepareFits s p r → PrepareFits s q r
 prepare_follows s p q r f h =
     record {
+      some = h.some;
       covers = tells_grown p q r.epoch (Covers s (count s)) (covers_more s (count s)) f.grows h.covers;
       names = h.names;
       live = some_onward (PrepareLive r) p.asker q.asker (prepare_live r) f.onward h.live;

@@ -12,7 +12,7 @@ use Rattle.tp_runs.proofs.pairs.Grows.{covers_more}
 use Rattle.tp_runs.proofs.basics.Found.{answer_each, answer_in, of_some, to_some}
 use Rattle.tp_runs.proofs.pairs.Loses.{tells_as}
 use Rattle.tp_runs.proofs.pairs.Pair.{Asker, Pair, got}
-use Rattle.tp_runs.proofs.pairs.Site.{IsUpto, Site, here, here_within, in_upto, upto, upto_none}
+use Rattle.tp_runs.proofs.pairs.Site.{IsUpto, Site, count, here, here_within, in_upto, upto, upto_none}
 
 -- ---- what the coordinator got
 
@@ -36,6 +36,10 @@ kept_covers s p a (Some e) h pairing = tells_as p e (Matches s a) (Covers s (len
 none_so_far : (s : Site) (p : Pair) (a : Asker) (kept : Option ℕ) → Pairing s p a kept → kept ≡ None → upto s (length a.deeds) ≡ []
 none_so_far s p a None pairing e = pairing.none
 none_so_far s p a (Some kept) pairing e = absurd (cc)
+
+some_so_far : (s : Site) (p : Pair) (a : Asker) (kept : Option ℕ) (e : ℕ) → Pairing s p a kept → kept ≡ Some e → upto s (length a.deeds) ≡ [] → ⊥
+some_so_far s p a None e pairing same none = cc
+some_so_far s p a (Some kept) e pairing same none = pairing.some none
 
 epoch_there : (s : Site) (p : Pair) (a : Asker) (kept : Option ℕ) (number : ℕ) → Pairing s p a kept → IsUpto s (length a.deeds) number → (e : ℕ) × (kept ≡ Some e)
 epoch_there s p a None number pairing at = absurd (upto_none s (length a.deeds) number pairing.none at)
@@ -90,9 +94,11 @@ asks s p a q is h stand at next =
 pub prepares : (s : Site) (p : Pair) (a : Asker) (r : PrepareRequest) → p.asker ≡ Some a → Fits s p → a.stand ≡ Prepares → a.epoch ≡ Some r.epoch → ((is_empty r.want ≡ true) ⊎ Names s r.want) → PrepareFits s p r
 prepares s p a r is h stand epoch names =
     let old : AskerFits s p a = of_some (AskerFits s p) p.asker a is h.asker in
+    let all : length a.deeds ≡ count s = old.all stand in
     let covers : Tells p r.epoch (Covers s (length a.deeds)) = of_some (λ (e : ℕ). Tells p e (Covers s (length a.deeds))) a.epoch r.epoch epoch (kept_covers s p a a.epoch old old.pairing) in
     record {
-      covers = subst (λ (n : ℕ). Tells p r.epoch (Covers s n)) (old.all stand) covers;
+      some = λ none. some_so_far s p a a.epoch r.epoch old.pairing epoch (ap (upto s) all ∙ none);
+      covers = subst (λ (n : ℕ). Tells p r.epoch (Covers s n)) all covers;
       names = names;
       live = to_some (PrepareLive r) p.asker a is (record { epoch = epoch; prepares = stand });
     }

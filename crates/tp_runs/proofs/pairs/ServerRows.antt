@@ -1,6 +1,6 @@
 -- Deeds and epochs, the server's rows: each is an event at its own transaction, and nothing at the others.
 use Rattle.std.specs.Option.{option_flatten, option_map_or, option_or}
-use Rattle.std.proofs.Common.{Bool, IfSome, List, None, Option, Some, [], ap, arith, false, find, if◌then◌else◌, is_some, length, not, option_and_then, refl, slice_get, slice_set, subst, sym, true, ℕ, ℤ, ⊎_elim, ◌++◌, ◌<◌, ◌==◌, ◌∙◌, ◌∷◌, ◌≡◌, ◌⊎◌}
+use Rattle.std.proofs.Common.{Bool, IfSome, List, None, Option, Some, [], ap, arith, false, find, if◌then◌else◌, inr, is_some, length, not, option_and_then, refl, slice_get, slice_set, subst, sym, true, ℕ, ℤ, ⊎_elim, ◌++◌, ◌<◌, ◌==◌, ◌∙◌, ◌∷◌, ◌≡◌, ◌⊎◌}
 use Rattle.std.proofs.lemmas.Bool.{eqb-true, not-false}
 use Rattle.std.proofs.lemmas.List.{length-set}
 use Rattle.std.proofs.lemmas.Option.{same_Some}
@@ -26,7 +26,7 @@ use Rattle.tp_runs.proofs.pairs.Actors.{AllFit, AllNext, pair_of, pair_up, site_
 use Rattle.tp_runs.proofs.pairs.Ends as end
 use Rattle.tp_runs.proofs.pairs.Ends.{ordered}
 use Rattle.tp_runs.proofs.pairs.Entries.{begun, changed, denies, keeps, makes, with_entry}
-use Rattle.tp_runs.proofs.pairs.Fits.{AnsweredFits, AreOnAll, DoneFits, EntryFits, Fits, Live, PrepareFits, QueryFits, QueryLive, VoteFits}
+use Rattle.tp_runs.proofs.pairs.Fits.{AnsweredFits, AreNoneOrAll, DoneFits, EntryFits, Fits, Live, PrepareFits, QueryFits, QueryLive, VoteFits}
 use Rattle.tp_runs.proofs.pairs.Follows.{Next, done_follows, next_both, next_same, query_follows}
 use Rattle.tp_runs.proofs.basics.Found.{answer_in, of_some, some_as}
 use Rattle.tp_runs.proofs.pairs.Pair.{Asker, Pair}
@@ -585,7 +585,7 @@ votes_again_pairs sc A s kept r entry cast h there ballot_is =
               let p = pair_up r.txn (A r.txn) s kept in
               let site = site_of sc s.server.0 declared in
               let kept_is : EntryFits site p entry = of_some (EntryFits site p) p.entry entry there (h.fits r.txn declared found).entry in
-              of_some (λ (b : Ballot). AreOnAll site b.verdicts) entry.ballot cast ballot_is kept_is.ballot;
+              of_some (λ (b : Ballot). AreNoneOrAll site b.verdicts) entry.ballot cast ballot_is kept_is.ballot;
         },
         tt,
       );
@@ -688,7 +688,7 @@ server_row_pairs sc A s kept mail rightly h sound m asked =
           (same_txn_from q.txn given.txn (each_found (λ (d : DoneReply). IsSoundDone sc (actor.Coordinator q.txn) d) (λ (d : DoneReply). d.query == q.query) entry.answers given (sound.entries q.txn.0 entry k.found).answers k.given_is).goes_to) k.given_is;
       voted = λ p entry staple txn k.
           votes_pairs sc A s kept p entry (prepared_record (with_wants s p.want) p entry (verdicts_on sc (with_wants s p.want) txn staple p.want entry.deeds)) h (open_unsettled s kept p.txn h.agrees k.unsettled) k.found (eqb-true entry.epoch p.epoch k.same_epoch)
-          (subst (IsSoundBody sc to) k.said_is m).txn refl (record { epoch = refl; deeds = refl; verdicts = numbers_kept sc (with_wants s p.want) txn staple p.want entry.deeds }) (subst (RequestPairs sc s.server A P) k.said_is asked);
+          (subst (IsSoundBody sc to) k.said_is m).txn refl (record { epoch = refl; deeds = refl; verdicts = inr (numbers_kept sc (with_wants s p.want) txn staple p.want entry.deeds) }) (subst (RequestPairs sc s.server A P) k.said_is asked);
       voted_again = λ p entry cast k. votes_again_pairs sc A s kept p entry cast h k.found k.ballot_is;
       refused = λ p entry number value k.
           refuses_pairs sc A s kept p entry _ h (open_unsettled s kept p.txn h.agrees k.unsettled) (subst (IsSoundBody sc to) k.said_is m).txn k.found k.unvoted

@@ -1,13 +1,13 @@
 -- The server votes: it forces what its entry has, and its vote YES is sent.
-use Rattle.std.proofs.Common.{Contains, List, Some, ap, arith, is_some, option_map, refl, subst, sym, true, ℕ, ⊎_elim, ◌+◌, ◌<◌, ◌∙◌, ◌≡◌, ◌≤◌}
+use Rattle.std.proofs.Common.{Contains, List, Some, [], ap, arith, inl, inr, is_some, option_map, refl, subst, sym, true, ℕ, ⊎_elim, ◌+◌, ◌<◌, ◌∙◌, ◌≡◌, ◌≤◌, ◌⊎◌}
 use Rattle.std.proofs.lemmas.Option.{same_Some}
-use Rattle.tp_model.specs.Words.{Deed, PrepareRequest, Prepared, QueryRequest}
+use Rattle.tp_model.specs.Words.{Deed, PrepareRequest, Prepared, QueryRequest, Verdict}
 use Rattle.std.proofs.lemmas.Bool.{cases_lt}
 use Rattle.tp_runs.proofs.basics.Verdicts.{numbers_of}
 use Rattle.tp_server.specs.declared.server.Ballot.{Ballot}
 use Rattle.tp_server.specs.declared.server.Entry.{Entry}
 use Rattle.tp_runs.proofs.pairs.Entries.{down_none, settled_none}
-use Rattle.tp_runs.proofs.pairs.Fits.{AreOnAll, AskerFits, Covers, EntryFits, Fits, IsFront, IsGone, IsThere, Made, PrepareFits, PrepareLive, There, Waits}
+use Rattle.tp_runs.proofs.pairs.Fits.{AreNoneOrAll, AskerFits, Covers, EntryFits, Fits, IsFront, IsGone, IsThere, Made, PrepareFits, PrepareLive, There, Waits}
 use Rattle.tp_runs.proofs.pairs.Follows.{Follows, Next, answers_follow, follows_lost, onward_same}
 use Rattle.tp_runs.proofs.basics.Found.{of_some, some_as}
 use Rattle.tp_runs.proofs.pairs.Loses.{Loses, asker_lost, loses_same, same_held}
@@ -33,6 +33,16 @@ front_full s deeds front covers =
     (λ (most : front.last ≤ count s). front_covered s deeds (count s) front covers most)
     (cases_lt (count s) front.last)
 
+-- an entry of that epoch has just the deeds of the queries at the server
+pub full_deeds : (s : Site) (p : Pair) (entry : Entry) (r : PrepareRequest) → Fits s p → PrepareFits s p r → entry.epoch ≡ r.epoch → IsThere p entry.epoch entry.deeds → numbers entry.deeds ≡ upto s (count s)
+full_deeds s p entry r h asked same found = front_full s entry.deeds (h.server.front (entry_held entry) found) (full_covers s p r entry.epoch entry.deeds asked same found)
+
+-- so it has some
+pub has_deeds : (s : Site) (p : Pair) (entry : Entry) (r : PrepareRequest) → p.up ≡ true → p.entry ≡ Some entry → Fits s p → PrepareFits s p r → entry.epoch ≡ r.epoch → entry.deeds ≡ [] → ⊥
+has_deeds s p entry r up is h asked same none =
+    let found : IsThere p entry.epoch entry.deeds = held_up p.up p.entry p.prepared up ∙ ap (option_map entry_held) is in
+    asked.some (sym (full_deeds s p entry r h asked same found) ∙ ap numbers none)
+
 -- no query waits at an entry of that epoch
 pub none_waits : (s : Site) (p : Pair) (entry : Entry) (r : PrepareRequest) (w : QueryRequest) → EntryFits s p entry → PrepareFits s p r → entry.epoch ≡ r.epoch → IsThere p entry.epoch entry.deeds → Waits s p entry w → ⊥
 none_waits s p entry r w h full same found waits =
@@ -43,11 +53,15 @@ none_waits s p entry r w h full same found waits =
 
 -- ---- the vote is forced
 
--- what is forced is what the entry has, with a verdict on each of its deeds
+-- verdicts on just these deeds, in order, or none
+abbrev pub AreNoneOrOn : List Deed → List Verdict → Type 0
+AreNoneOrOn deeds verdicts = (verdicts ≡ []) ⊎ (numbers_of verdicts ≡ numbers deeds)
+
+-- what is forced is what the entry has, with a verdict on each of its deeds or none
 pub record IsVoteOn (entry : Entry) (prepared : Prepared) : Type 0 where
   pub epoch : prepared.epoch ≡ entry.epoch
   pub deeds : prepared.deeds ≡ entry.deeds
-  pub verdicts : numbers_of prepared.verdicts ≡ numbers entry.deeds
+  pub verdicts : AreNoneOrOn entry.deeds prepared.verdicts
 
 abbrev pub with_ballot : Entry → Ballot → Entry
 with_ballot entry ballot = record entry { ballot = Some ballot }
@@ -61,6 +75,11 @@ vote_held entry prepared is =
     let second : record { epoch = entry.epoch; deeds = prepared.deeds } ≡ entry_held entry = ap (λ (deeds : List Deed). record { epoch = entry.epoch; deeds = deeds }) is.deeds in
     first ∙ second
 
+-- verdicts on all deeds are on all queries at the server
+none_or_all : (s : Site) (deeds : List Deed) (verdicts : List Verdict) → numbers deeds ≡ upto s (count s) → AreNoneOrOn deeds verdicts → AreNoneOrAll s verdicts
+none_or_all s deeds verdicts full (inl none) = inl none
+none_or_all s deeds verdicts full (inr on) = inr (on ∙ full)
+
 -- the first vote YES, or a later one in a greater turn
 pub forces : (s : Site) (p : Pair) (entry : Entry) (r : PrepareRequest) (prepared : Prepared) → p.up ≡ true → p.entry ≡ Some entry → Fits s p → PrepareFits s p r → entry.epoch ≡ r.epoch → IsVoteOn entry prepared
     → Next s p (forced p entry prepared)
@@ -69,7 +88,7 @@ forces s p entry r prepared up is h asked epoch on =
     let q = forced p entry prepared in
     let old : EntryFits s p entry = of_some (EntryFits s p) p.entry entry is h.entry in
     let found : IsThere p entry.epoch entry.deeds = held_up p.up p.entry p.prepared up ∙ ap (option_map entry_held) is in
-    let all : AreOnAll s prepared.verdicts = on.verdicts ∙ front_full s entry.deeds (h.server.front (entry_held entry) found) (full_covers s p r entry.epoch entry.deeds asked epoch found) in
+    let all : AreNoneOrAll s prepared.verdicts = none_or_all s entry.deeds prepared.verdicts (full_deeds s p entry r h asked epoch found) on.verdicts in
     let now : IsThere q entry.epoch entry.deeds = held_up p.up (Some new) (Some prepared) up in
     let same : held q ≡ held p = now ∙ sym found in
     let loses : Loses p q = loses_same p q same refl refl refl in
@@ -86,7 +105,7 @@ forces s p entry r prepared up is h asked epoch on =
           past = λ x there. h.server.past x (sym same ∙ there);
           front = λ x there. h.server.front x (sym same ∙ there);
           voted = λ voted there. refl;
-          verdicts = λ other e. subst (λ (made : Prepared). AreOnAll s made.verdicts) (same_Some prepared other e) all;
+          verdicts = λ other e. subst (λ (made : Prepared). AreNoneOrAll s made.verdicts) (same_Some prepared other e) all;
         };
         asker = some_as (AskerFits s p) (AskerFits s q) p.asker (λ a there fits. asker_lost s p q a loses (made a there) fits.unsettled fits) h.asker;
         entry = record {

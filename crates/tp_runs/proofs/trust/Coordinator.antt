@@ -1,6 +1,6 @@
 -- Trust, the coordinator's rows: it commits on one instance whose proofs are right, true and of one version.
 use Rattle.std.specs.List.{range_with_len}
-use Rattle.std.proofs.Common.{IfSome, List, None, Option, Some, [], ap, arith, false, is_none, length, map, option_and_then, refl, replicate, slice_get, subst, sym, true, ℕ, ℤ, ◌+◌, ◌∙◌, ◌∷◌, ◌≡◌, ◌≤◌}
+use Rattle.std.proofs.Common.{IfSome, List, None, Option, Some, [], ap, arith, false, is_none, length, map, option_and_then, refl, replicate, slice_get, subst, sym, true, ℕ, ℤ, ⊎_elim, ◌++◌, ◌+◌, ◌∙◌, ◌∷◌, ◌≡◌, ◌≤◌, ◌⊎◌}
 use Rattle.std.proofs.lemmas.Bool.{eqb-true}
 use Rattle.tp_types.specs.Effect.{Effect, ignores, sends}
 use Rattle.tp_model.specs.Limits.{admins_limit}
@@ -423,11 +423,13 @@ yes_trusted sc facts place P c mail reply round staple server verdicts m f n t y
     let right : VoteFits sc facts place c.txn (vote.Yes verdicts) = subst (VoteFits sc facts place c.txn) y.vote_is (subst (λ (x : TxnId). VoteFits sc facts place x reply.vote) (sym same) fits) in
     let from : VoteFrom sc (actor.Server server) reply =
     subst (λ (who : Actor). VoteFrom sc who reply) y.from_is (subst (BodyPairs sc P mail.letter.from (actor.Coordinator c.txn)) y.said_is n) in
-    let numbers : AreNumbersAt sc c.txn server verdicts = λ declared e.
-    subst (PairVote.VoteFits (site_of sc server.0 declared)) y.vote_is (from declared (ap (λ (x : TxnId). slice_get sc.txns x.0) (sym same) ∙ e)) in
     let timely : IsTimely sc c mail.sent reply.turn (body.Vote reply) = subst (PresentMail sc c mail.sent) y.said_is t (sym same) in
     let now : VoteNow c.phase reply.vote = (timely (ap is_undecided y.checking)).now (eqb-true reply.turn c.turn y.present) in
     let checked : VoteNow (phase.Checking span.Commit round staple) (vote.Yes verdicts) = subst (λ (awaited : Phase). VoteNow awaited (vote.Yes verdicts)) y.checking (subst (VoteNow c.phase) y.vote_is now) in
+    let numbers : AreNumbersAt sc c.txn server verdicts = λ declared e.
+    let pair : PairVote.AreNoneOrAll (site_of sc server.0 declared) verdicts =
+    subst (PairVote.VoteFits (site_of sc server.0 declared)) y.vote_is (from declared (ap (λ (x : TxnId). slice_get sc.txns x.0) (sym same) ∙ e)) in
+    ⊎_elim (λ (none : verdicts ≡ []). absurd (checked.2 none)) (λ (all : PairVote.AreOnAll (site_of sc server.0 declared) verdicts). all) pair in
     record { right = right; numbers = numbers; aimed = checked.1 }
 
 -- ---- Ack

@@ -2,7 +2,7 @@
 use Rattle.std.specs.List.{list_all}
 use Rattle.std.specs.Option.{option_map_or}
 use Rattle.std.proofs.Common.{Bool, IfSome, List, None, Option, Some, [], ap, arith, false, inl, inr, is_none, is_some, length, option_and_then, refl, slice_get, subst, suc, sym, true, unwrap_or, zero, ℕ, ℤ, ⊎_elim, ◌&&◌, ◌<◌, ◌==◌, ◌∙◌, ◌∷◌, ◌≡◌, ◌≤◌, ◌⊎◌}
-use Rattle.std.proofs.lemmas.Bool.{and_from}
+use Rattle.std.proofs.lemmas.Bool.{and_from, eqb-true}
 use Rattle.std.proofs.lemmas.Option.{same_Some, slice_get_within}
 use Rattle.tp_types.proofs.ListLemmas.{number_itself}
 use Rattle.tp_types.specs.Effect.{Effect, ignores, sends}
@@ -23,7 +23,7 @@ use Rattle.tp_runs.proofs.ids.Valid.{IsValid}
 use Rattle.tp_server.proofs.RightVerdicts.{evaluate_right}
 use Rattle.tp_runs.proofs.trust.Fit.{BodyFits, IsPublished, IsRight, Right, ServerFits, StapleFits}
 use Rattle.tp_runs.proofs.trust.Kept.{AreKept, IsKept, IsTrusted, RecordKept, vote_cast}
-use Rattle.tp_runs.proofs.basics.Turns.{AimedVote, Answers, DoneNow, IsClosed, PrepareNow, QueryNow, Stamp, VoteNow, WantNow, stamp_of}
+use Rattle.tp_runs.proofs.basics.Turns.{AimedVote, Answers, DoneNow, IsClosed, PrepareNow, ProvesSome, QueryNow, Stamp, VoteNow, WantNow, stamp_of}
 use Rattle.tp_runs.proofs.basics.Aims.{is_within, wanted_aimed}
 use Rattle.tp_runs.proofs.pairs.Actors.{BodyPairs, site_of}
 use Rattle.tp_runs.proofs.pairs.Pair.{Pair}
@@ -279,6 +279,14 @@ pub named_mail : (sc : Scenario) (P : TxnId → ℕ → Pair) (from : Actor) (at
 named_mail sc P from at (body.Prepare p) h = λ declared e. (h declared e).names
 named_mail sc P from at _ h = tt
 
+-- an entry of the epoch that a request to prepare names has deeds
+abbrev pub HasRun : Server → PrepareRequest → Type 0
+HasRun s p = (entry : Entry) → entry_at s p.txn ≡ Some entry → entry.epoch ≡ p.epoch → entry.deeds ≡ [] → ⊥
+
+abbrev pub RanMail : Server → Body → Type 0
+RanMail s (body.Prepare p) = HasRun s p
+RanMail s _ = Unit {0}
+
 -- a vote has the versions of a round whose request it answers
 aimed_vote : (sc : Scenario) (facts : List Fact) (place : ℕ) (s : Server) (p : PrepareRequest) (round : Round) (txn : Transaction) (staple : Staple) (deeds : List Deed) → slice_get sc.txns p.txn.0 ≡ Some txn
     → Each (Right sc facts place p.txn) (verdicts_on sc s txn staple p.want deeds) → (is_empty p.want ≡ true) ⊎ Names (site_of sc s.server.0 txn) p.want → WantNow round p.want
@@ -287,30 +295,38 @@ aimed_vote sc facts place s p round txn staple deeds there rights names (inl fir
 aimed_vote sc facts place s p round txn staple deeds there rights (inl none) (inr wants) = let some = wants.0 in absurd (cc)
 aimed_vote sc facts place s p round txn staple deeds there rights (inr names) (inr wants) = inr (verdicts_aimed sc facts place s p.txn txn staple p.want round.aim deeds there names wants.1 rights)
 
+-- where there are deeds there are verdicts
+proves_some : (sc : Scenario) (s : Server) (txn : Transaction) (staple : Staple) (want : List (AdminId × Version)) (deeds : List Deed) → (deeds ≡ [] → ⊥) → ProvesSome (vote.Yes (verdicts_on sc s txn staple want deeds))
+proves_some sc s txn staple want [] some none = some refl
+proves_some sc s txn staple want (deed ∷ deeds) some none = cc
+
 vote_now : (sc : Scenario) (facts : List Fact) (place : ℕ) (s : Server) (awaited : Phase) (p : PrepareRequest) (txn : Transaction) (staple : Staple) (deeds : List Deed) → p.staple ≡ Some staple → slice_get sc.txns p.txn.0 ≡ Some txn
-    → Each (Right sc facts place p.txn) (verdicts_on sc s txn staple p.want deeds) → IsNamed sc s.server p → PrepareNow awaited p → VoteNow awaited (vote.Yes (verdicts_on sc s txn staple p.want deeds))
-vote_now sc facts place s (phase.Checking over round st) p txn staple deeds e there rights names h =
-    (placed_there sc s txn staple p.want st.place deeds (ap (λ (x : Staple). x.place) (same_Some staple st (sym e ∙ h.0))), aimed_vote sc facts place s p round txn staple deeds there rights (names txn there) h.1)
-vote_now sc facts place s (phase.Voting awaited) p txn staple deeds e there rights names h = absurd (cc)
-vote_now sc facts place s _ p txn staple deeds e there rights names h = tt
+    → Each (Right sc facts place p.txn) (verdicts_on sc s txn staple p.want deeds) → IsNamed sc s.server p → (deeds ≡ [] → ⊥) → PrepareNow awaited p → VoteNow awaited (vote.Yes (verdicts_on sc s txn staple p.want deeds))
+vote_now sc facts place s (phase.Checking over round st) p txn staple deeds e there rights names some h = (
+  placed_there sc s txn staple p.want st.place deeds (ap (λ (x : Staple). x.place) (same_Some staple st (sym e ∙ h.0))),
+  aimed_vote sc facts place s p round txn staple deeds there rights (names txn there) h.1,
+  proves_some sc s txn staple p.want deeds some,
+)
+vote_now sc facts place s (phase.Voting awaited) p txn staple deeds e there rights names some h = absurd (cc)
+vote_now sc facts place s _ p txn staple deeds e there rights names some h = tt
 
 -- a vote of the turn of its request, at the place of its staple
 vote_answers : (sc : Scenario) (facts : List Fact) (place : ℕ) (s : Server) (p : PrepareRequest) (txn : Transaction) (staple : Staple) (deeds : List Deed) → p.staple ≡ Some staple → slice_get sc.txns p.txn.0 ≡ Some txn
-    → Each (Right sc facts place p.txn) (verdicts_on sc s txn staple p.want deeds) → IsNamed sc s.server p
+    → Each (Right sc facts place p.txn) (verdicts_on sc s txn staple p.want deeds) → IsNamed sc s.server p → (deeds ≡ [] → ⊥)
     → Answers sc (body.Prepare p) (body.Vote (record { txn = p.txn; turn = p.turn; vote = vote.Yes (verdicts_on sc s txn staple p.want deeds) })) (record { txn = p.txn; turn = p.turn })
-vote_answers sc facts place s p txn staple deeds e there rights names =
+vote_answers sc facts place s p txn staple deeds e there rights names some =
     record {
       asked = record { txn = p.txn; turn = p.turn };
       asked_is = refl;
       reply_is = refl;
       same_txn = refl;
-      timely = λ c sent again t unsure. record { past = (t unsure).past; now = λ same. vote_now sc facts place s c.phase p txn staple deeds e there rights names ((t unsure).now same) };
+      timely = λ c sent again t unsure. record { past = (t unsure).past; now = λ same. vote_now sc facts place s c.phase p txn staple deeds e there rights names some ((t unsure).now same) };
     }
 
 votes_trusts : (sc : Scenario) (facts : List Fact) (place : ℕ) (T : Body → Type 0) (s : Server) (p : PrepareRequest) (txn : Transaction) (staple : Staple) (entry : Entry) → IsValid sc → IsSoundServer sc s
     → AreWanted sc p.want → ServerTrusted sc facts place T s → IsClosed sc T → T (body.Prepare p) → p.staple ≡ Some staple → slice_get sc.txns p.txn.0 ≡ Some txn → StapleFits sc facts place p.txn staple
-    → Each (IsPublished sc facts place) p.want → entry_at s p.txn ≡ Some entry → IsNamed sc s.server p → RowTrusts sc facts place T (votes_on sc (with_wants s p.want) p entry staple txn)
-votes_trusts sc facts place T s p txn staple entry valid sound wanted h closed t e there fits published found names =
+    → Each (IsPublished sc facts place) p.want → entry_at s p.txn ≡ Some entry → IsNamed sc s.server p → (entry.deeds ≡ [] → ⊥) → RowTrusts sc facts place T (votes_on sc (with_wants s p.want) p entry staple txn)
+votes_trusts sc facts place T s p txn staple entry valid sound wanted h closed t e there fits published found names some =
     let now = with_wants s p.want in
     let after : ServerFits sc facts place now = learnt_fits sc facts place s p.want h.fits published in
     let k : IsSoundEntry sc s.server p.txn entry = sound.entries p.txn.0 entry found in
@@ -319,7 +335,7 @@ votes_trusts sc facts place T s p txn staple entry valid sound wanted h closed t
     let fit : Each (Right sc facts place p.txn) verdicts =
     rights_of sc facts place now p.txn txn staple p.want entry.deeds valid (learnt_sound sc s p.want sound wanted) wanted after published there fits k.deeds in
     let said = body.Vote (record { txn = p.txn; turn = p.turn; vote = vote.Yes verdicts }) in
-    let timely : T said = closed (body.Prepare p) said (record { txn = p.txn; turn = p.turn }) (vote_answers sc facts place now p txn staple entry.deeds e there fit names) t in
+    let timely : T said = closed (body.Prepare p) said (record { txn = p.txn; turn = p.turn }) (vote_answers sc facts place now p txn staple entry.deeds e there fit names some) t in
     let trusted : IsTrusted sc facts place T said = record { fits = λ sent. fit; timely = timely } in
     record {
       fits = record { known = after.known };
@@ -346,7 +362,7 @@ record LetterTrusts (sc : Scenario) (facts : List Fact) (place : ℕ) (T : Body 
   timely : IfSome (stamp_of letter.body) (λ (stamped : Stamp). T letter.body)
 
 no_now : (awaited : Phase) (why : No) → VoteNow awaited (vote.No why)
-no_now (phase.Checking over round staple) why = (tt, tt)
+no_now (phase.Checking over round staple) why = (tt, tt, tt)
 no_now phase.Idle why = tt
 no_now (phase.Stapling number) why = tt
 no_now (phase.Querying number staple) why = tt
@@ -401,8 +417,8 @@ learns_trusts sc facts place T s push h new =
 
 -- every row of a server on receipt of a mail
 pub server_row_trusts : (sc : Scenario) (facts : List Fact) (place : ℕ) (T : Body → Type 0) (s : Server) (mail : Mail) → IsValid sc → AreRightWaits sc s → IsSoundServer sc s → IsSoundBody sc (actor.Server s.server) mail.letter.body → ServerTrusted sc facts place T s
-    → BodyFits sc facts place mail.sent mail.letter.body → NamedMail sc s.server mail.letter.body → IsClosed sc T → T mail.letter.body → RowTrusts sc facts place T (server_row sc s mail)
-server_row_trusts sc facts place T s mail valid waits sound m h f named closed t =
+    → BodyFits sc facts place mail.sent mail.letter.body → NamedMail sc s.server mail.letter.body → RanMail s mail.letter.body → IsClosed sc T → T mail.letter.body → RowTrusts sc facts place T (server_row sc s mail)
+server_row_trusts sc facts place T s mail valid waits sound m h f named ran closed t =
     server_by sc s mail (RowTrusts sc facts place T) waits
     (record {
       relocked = λ effect locks k. record { fits = record { known = k.fits.known }; keeps = k.keeps; forces = k.forces; says = k.says; timely = k.timely };
@@ -431,7 +447,7 @@ server_row_trusts sc facts place T s mail valid waits sound m h f named closed t
           let asked : BodyFits sc facts place mail.sent (body.Prepare p) = subst (BodyFits sc facts place mail.sent) k.said_is f in
           votes_trusts sc facts place T s p txn staple entry valid sound (subst (IsSoundBody sc (actor.Server s.server)) k.said_is m).want h closed (subst T k.said_is t) k.stapled k.declared
           (subst (λ (x : Option Staple). IfSome x (StapleFits sc facts place p.txn)) k.stapled asked.0) asked.1 k.found
-          (subst (NamedMail sc s.server) k.said_is named);
+          (subst (NamedMail sc s.server) k.said_is named) (subst (RanMail s) k.said_is ran entry k.found (eqb-true entry.epoch p.epoch k.same_epoch));
       voted_again = λ p entry cast k. votes_again_trusts sc facts place T s p entry cast h k.found k.ballot_is;
       refused = λ p entry number value k.
           ends_trusts sc facts place T s (refused_as p _) (no_letter s p _) h (no_letter_trusts sc facts place T s p _ closed (subst T k.said_is t));

@@ -23,15 +23,18 @@ use Rattle.tp_runs.proofs.basics.Homes.{HaveHomes}
 use Rattle.tp_types.proofs.EachLemmas.{at_made, each_get, placed_none}
 use Rattle.tp_runs.proofs.ids.Queries.{have_homes}
 use Rattle.tp_runs.proofs.ids.Valid.{IsValid, valid_built}
-use Rattle.tp_runs.proofs.pairs.Actors.{BodyPairs, LetterPairs, pair_at}
-use Rattle.tp_runs.proofs.known.World.{Pairs}
+use Rattle.tp_runs.proofs.pairs.Actors.{BodyPairs, LetterPairs, asker_at, pair_at, pair_up, site_of}
+use Rattle.tp_runs.proofs.pairs.Fits.{Fits, PrepareFits}
+use Rattle.tp_runs.proofs.pairs.Pair.{Pair}
+use Rattle.tp_runs.proofs.pairs.Votes.{has_deeds}
+use Rattle.tp_runs.proofs.known.World.{Pairs, declared_by, pair_of_up}
 use Rattle.tp_runs.proofs.trust.Acts.{ActTrusts, act_trusts, coordinator_acts_trusts, server_acts_trusts, tells_fit, tells_timely, timely_closed, unmoved_trusts}
 use Rattle.tp_runs.proofs.trust.Built.{ArePlain, are_plain, known_at_first}
 use Rattle.tp_runs.proofs.trust.Coordinator.{CoordinatorFits, CoordinatorTrusts, LetterOfTurn, PresentMail, RecordDecides, RowTrusts, coordinator_row_trusts, submit_row_trusts}
 use Rattle.tp_runs.proofs.trust.Fit.{BodyFits, IsSubmitted, Later, MailFits, ServerFits, maybe_stays}
 use Rattle.tp_runs.proofs.trust.Kept.{AreKept, IsKept, IsTrusted}
 use Rattle.tp_runs.proofs.trust.Offices.{newest_fits, newest_timely, none_revoked, opening_fits, published_trusts, pushed_fits, revoked_trusts, ticked_trusts}
-use Rattle.tp_runs.proofs.trust.Server.{NamedMail, ServerTrusted, named_mail, server_row_trusts}
+use Rattle.tp_runs.proofs.trust.Server.{NamedMail, RanMail, ServerTrusted, named_mail, server_row_trusts}
 use Rattle.tp_runs.proofs.basics.Turns.{AreFew, IsOfNoOffice, IsTimely, Stamp, TurnFits, few_queries, stamp_of, timely_anywhere}
 use Rattle.tp_runs.proofs.trust.World.{BodyTimely, CoordinatorPartFits, MailTimely, MoveTrusts, ServerPartFits, StampFits, Timely, Trusts, coordinator_stays, later_with_facts, state_after_trusts, up_at, up_of}
 use Rattle.tp_runs.proofs.walks.Steps.{Cases, IsCoordinatorUp, IsServerUp, SaysIdle, WaitRightly, WasSent, machine_after_by}
@@ -90,6 +93,17 @@ heard_anywhere sc coordinators sent said other h place =
     (λ stamped k. maybe_stays (TurnFits sc sent stamped.turn said) (TurnFits sc place stamped.turn said) (up_at coordinators stamped.txn.0)
     (λ c t. timely_anywhere sc c sent place stamped.turn said other t) k) h
 
+-- a request to prepare comes to an entry with deeds
+ran_mail : (sc : Scenario) (w : State) (at : ServerId) (part : Part Server) (s : Server) (from : Actor) (said : Body) → Pairs sc w → IsServerUp w at part s → IsSoundBody sc (actor.Server at) said
+    → BodyPairs sc (pair_at w.actors) from (actor.Server at) said → RanMail s said
+ran_mail sc w at part s from (body.Prepare p) pairs up m asked = λ entry found epoch none.
+    let there = declared_by sc p.txn m.txn in
+    let site = site_of sc at.0 there.0 in
+    let seen : pair_at w.actors p.txn at.0 ≡ pair_up p.txn (asker_at w.actors.coordinators p.txn.0 at.0) s part.log = pair_of_up w.actors at part s p.txn up.found up.up in
+    has_deeds site (pair_up p.txn (asker_at w.actors.coordinators p.txn.0 at.0) s part.log) entry p refl found (subst (Fits site) seen (pairs.fits p.txn at.0 there.0 there.1))
+    (subst (λ (pair : Pair). PrepareFits site pair p) seen (asked there.0 there.1)) epoch none
+ran_mail sc w at part s from _ pairs up m asked = tt
+
 receipt_by_server_in_trusted : (sc : Scenario) (w : State) → IsValid sc → WaitRightly sc w → IsSound sc w → ArePast (length w.steps) w.facts → Pairs sc w → Trusts sc w → (n : ℕ) (mail : Mail) (at : ServerId) (part : Part Server) (s : Server)
     → WasSent w n mail (actor.Server at) → IsServerUp w at part s → MoveTrusts sc w (server_move w.actors at (acts_by (server_fact at) [] part.log (server_row sc s mail)))
 receipt_by_server_in_trusted sc w valid rightly sound past pairs h n mail at part s sent up =
@@ -108,6 +122,7 @@ receipt_by_server_in_trusted sc w valid rightly sound past pairs h n mail at par
     let row =
     server_row_trusts sc w.facts place T s mail valid (rightly at part s up) here.sound (subst (λ (a : ServerId). IsSoundBody sc (actor.Server a) mail.letter.body) (sym here.server_is) m.says) trusted m.fits
     (subst (λ (a : ServerId). NamedMail sc a mail.letter.body) (sym here.server_is) (named_mail sc (pair_at w.actors) mail.letter.from at mail.letter.body said))
+    (ran_mail sc w at part s mail.letter.from mail.letter.body pairs up m.says said)
     (timely_closed sc w.actors.coordinators) (heard_anywhere sc w.actors.coordinators mail.sent mail.letter.body (of_no_office sc at mail.letter.body m.says) m.timely) in
     server_acts_trusts sc w at part [] (Some effect.state) effect.reaction.append effect.reaction.letters past h up.found (record { still = tt; fit = λ facts. tt })
     (λ admin exists. let fits : ServerFits sc w.facts place effect.state = row.fits in
