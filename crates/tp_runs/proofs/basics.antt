@@ -7,6 +7,7 @@ pub mod Found
 pub mod Held
 pub mod Homes
 pub mod Ids
+pub mod Levels
 pub mod LockCounts
 pub mod Locks
 pub mod Logs

@@ -9,6 +9,7 @@ pub mod Kept
 pub mod Offices
 pub mod Phases
 pub mod RoundAims
+pub mod RoundLevels
 pub mod RoundProofs
 pub mod Rounds
 pub mod Server

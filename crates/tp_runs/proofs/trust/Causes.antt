@@ -11,6 +11,7 @@ use Rattle.tp_model.specs.Trust.{is_within}
 use Rattle.tp_model.specs.Versions.{is_publication, newest, opening_version}
 use Rattle.tp_model.specs.Words.{Fact, Met, Newer, Scenario, Transaction, TxnId}
 use Rattle.tp_runs.proofs.trust.Fit.{Later, newest_rises}
+use Rattle.tp_types.specs.Each.{Each}
 
 most_rises : (found low high : ℕ) → nat_le found low ≡ true → low ≤ high → nat_le found high ≡ true
 most_rises found low high e le = grind (arith, nat_tests)
@@ -47,6 +48,14 @@ met_past sc txn decided facts declared met h =
     let both = and_parts own (is_within txn decided facts met.place) within.0 in
     place_below met.place decided (and_parts (list_any (is_submission txn) (before met.place facts)) (nat_lt met.place decided) both.1).1
 
+-- so it is of all that rounds met
+pub mets_past : (sc : Scenario) (txn : TxnId) (decided : ℕ) (facts : List Fact) (declared : Transaction) (mets : List Met) → list_all (is_met_shown sc txn decided facts declared) mets ≡ true
+    → Each (λ (met : Met). met.place < decided) mets
+mets_past sc txn decided facts declared [] h = tt
+mets_past sc txn decided facts declared (met ∷ mets) h =
+    let parts = and_parts (is_met_shown sc txn decided facts declared met) (list_all (is_met_shown sc txn decided facts declared) mets) h in
+    (met_past sc txn decided facts declared met parts.0, mets_past sc txn decided facts declared mets parts.1)
+
 met_stays : (sc : Scenario) (txn : TxnId) (old new : List Fact) (low high : ℕ) (declared : Transaction) (met : Met) → Later old new low high → is_met_shown sc txn low old declared met ≡ true → is_met_shown sc txn high new declared met ≡ true
 met_stays sc txn old new low high declared met l h =
     let same : before met.place new ≡ before met.place old = l.grows.same met.place (let past = met_past sc txn low old declared met h in omega (arith, past)) in
@@ -58,7 +67,8 @@ met_stays sc txn old new low high declared met l h =
     let timely = and_parts (list_any (is_submission txn) (before met.place new)) (nat_lt met.place low) both.1 in
     and_from _ _ (and_from _ _ (and_from _ _ both.0 (and_from _ _ timely.0 (place_rises met.place low high timely.1 l.le))) within.1) less.1
 
-mets_stay : (sc : Scenario) (txn : TxnId) (old new : List Fact) (low high : ℕ) (declared : Transaction) (mets : List Met) → Later old new low high → list_all (is_met_shown sc txn low old declared) mets ≡ true
+-- rounds that met a newer version
+pub mets_stay : (sc : Scenario) (txn : TxnId) (old new : List Fact) (low high : ℕ) (declared : Transaction) (mets : List Met) → Later old new low high → list_all (is_met_shown sc txn low old declared) mets ≡ true
     → list_all (is_met_shown sc txn high new declared) mets ≡ true
 mets_stay sc txn old new low high declared [] l h = refl
 mets_stay sc txn old new low high declared (met ∷ mets) l h =
@@ -69,7 +79,8 @@ mets_stay sc txn old new low high declared (met ∷ mets) l h =
 abbrev after_by : Scenario → ℕ → Met → List Fact → Bool
 after_by sc place next earlier = nat_lt place next.place && (next.used.0 == (opening_version sc next.admin).0 + count_by (is_publication next.admin) earlier)
 
-met_on_stays : (sc : Scenario) (txn : TxnId) (old new : List Fact) (low high : ℕ) (declared : Transaction) (mets : List Met) → Later old new low high → list_all (is_met_shown sc txn low old declared) mets ≡ true
+-- and that used what was the newest at the one before
+pub met_on_stays : (sc : Scenario) (txn : TxnId) (old new : List Fact) (low high : ℕ) (declared : Transaction) (mets : List Met) → Later old new low high → list_all (is_met_shown sc txn low old declared) mets ≡ true
     → are_met_on sc old mets ≡ true → are_met_on sc new mets ≡ true
 met_on_stays sc txn old new low high declared [] l h e = refl
 met_on_stays sc txn old new low high declared (one ∷ []) l h e = refl

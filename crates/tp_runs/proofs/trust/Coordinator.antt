@@ -3,7 +3,7 @@ use Rattle.std.specs.List.{range_with_len}
 use Rattle.std.proofs.Common.{IfSome, List, None, Option, Some, [], ap, arith, false, is_none, length, map, option_and_then, refl, replicate, slice_get, subst, sym, true, ℕ, ℤ, ⊎_elim, ◌++◌, ◌+◌, ◌∙◌, ◌∷◌, ◌≡◌, ◌≤◌, ◌⊎◌}
 use Rattle.std.proofs.lemmas.Bool.{eqb-true}
 use Rattle.tp_types.specs.Effect.{Effect, ignores, sends}
-use Rattle.tp_model.specs.Limits.{admins_limit}
+use Rattle.tp_model.specs.Limits.{admins_limit, view_rounds}
 use Rattle.tp_model.specs.Words.actor
 use Rattle.tp_model.specs.Words.body
 use Rattle.tp_model.specs.Words.cause
@@ -192,7 +192,7 @@ brings_trusts : (sc : Scenario) (facts : List Fact) (place : ℕ) (c : Coordinat
 brings_trusts sc facts place c now query plain own s =
     record {
       fits = record {
-        awaits = (s.submitted, subst (λ (servers : List ServerId). RoundFits sc facts place c.txn (first_round servers 2 (replicate admins_limit level.View) false)) (sym own) (round_starts sc facts place c.txn));
+        awaits = (s.submitted, subst (λ (servers : List ServerId). RoundFits sc facts place c.txn (first_round servers view_rounds (replicate admins_limit level.View) false)) (sym own) (round_starts sc facts place c.txn plain));
         so_far = λ unsure. moved_on sc facts place c.txn c.phase (phase.Asking span.Commit (commit_round c)) now.instances now.gathered plain s.so_far;
         above = λ unsure. s.above;
         turn = subst (λ (n : ℕ). n ≤ until_round (query_count sc c.txn) 1 1) (sym s.rises) (round_move (query_count sc c.txn) query c.turn s.first s.last s.low);
@@ -375,12 +375,12 @@ denied_stands sc facts place c round staple verdict h e =
     }
 
 -- servers that are out of date are asked again
-updated_trusts : (sc : Scenario) (facts : List Fact) (place : ℕ) (c : Coordinator) (round : Round) (staple : Staple) (named : List Wanted) → AreFew sc → ArePlain sc → RoundTrusted sc facts place c round staple
+updated_trusts : (sc : Scenario) (facts : List Fact) (place : ℕ) (c : Coordinator) (round : Round) (staple : Staple) (named : List Wanted) → AreFew sc → ArePlain sc → IsValid sc → RoundTrusted sc facts place c round staple
     → judge round None ≡ judged.Update named → RowTrusts sc facts place c (asks c span.Commit (after_judgement round None))
-updated_trusts sc facts place c round staple named few plain h e =
+updated_trusts sc facts place c round staple named few plain valid h e =
     let count = query_count sc c.txn in
     let next = after_judgement round None in
-    let updated = round_updated sc facts place c.txn round named h.fits e in
+    let updated = round_updated sc facts place c.txn round named valid h.fits e in
     let rises : next_turn c ≡ c.turn + 1 = turn_rises c (low_round count round.number 2 c.turn (few c.txn) (few_rounds sc facts place c.txn round h.fits) (omega arith) h.low) in
     let number : next.number ≡ round.number + 1 = omega (arith, updated.first, updated.number) in
     record {
@@ -464,7 +464,7 @@ coordinator_row_trusts sc facts place P c mail few plain homes valid own h m f n
       counted = λ reply round staple server verdicts y. counted_trusts sc facts place c round staple server verdicts plain y.checking (replied reply round staple server verdicts y);
       decides = λ instances rounds passed. decided instances rounds passed;
       aborted = λ why ended. aborts_trusts sc facts place c why (end_stands why ended);
-      updated = λ reply round staple server verdicts named y e. updated_trusts sc facts place c (after_reply round server verdicts) staple named few plain (replied reply round staple server verdicts y) e;
+      updated = λ reply round staple server verdicts named y e. updated_trusts sc facts place c (after_reply round server verdicts) staple named few plain valid (replied reply round staple server verdicts y) e;
       acknowledged = λ ack ended awaited server k. acknowledged_trusts sc facts place c ended awaited server h k.ending;
     })
   where

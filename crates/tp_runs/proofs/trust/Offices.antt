@@ -26,6 +26,7 @@ use Rattle.tp_machine.specs.Named.{IsAdmin, IsCred}
 use Rattle.tp_runs.proofs.basics.Facts.{ArePast, before_past, facts_after}
 use Rattle.tp_types.proofs.EachLemmas.{each_as, each_both, missing, placed_set}
 use Rattle.tp_runs.proofs.basics.Logs.{get_set}
+use Rattle.tp_runs.proofs.trust.Causes.{mets_past}
 use Rattle.tp_runs.proofs.trust.Fit.{AuthorityFits, BodyFits, Right, newest_rises}
 use Rattle.tp_runs.proofs.trust.Phases.{PhaseFits}
 use Rattle.tp_runs.proofs.trust.Rounds.{RoundFits, proofs_right}
@@ -219,16 +220,15 @@ read_after sc facts place held c declared h found sound fits unsure =
           (each_as (IsSoundProof sc c.txn) (IsSoundVerdict sc c.txn) (λ proof p. p.sound) c.gathered sound.gathered) (fits.so_far unsure declared found).right;
     }
 
--- nor than the replies of a round. No round that reads the master begins yet, so none has met a newer version
+-- nor than the replies of a round, and all that rounds met is of the past
 read_in : (sc : Scenario) (facts : List Fact) (place : ℕ) (txn : TxnId) (held : Master) (round : Round) (declared : Transaction) → MasterFits sc facts place held → slice_get sc.txns txn.0 ≡ Some declared
-    → IsSoundRound sc txn round → RoundFits sc facts place txn round → round.reads ≡ true → IsReadIn place held.newest round
-read_in sc facts place txn held round declared h found sound fits reads =
+    → IsSoundRound sc txn round → RoundFits sc facts place txn round → IsReadIn place held.newest round
+read_in sc facts place txn held round declared h found sound fits =
     let right : Each (Right sc facts place txn) (proofs_in round.targets) = proofs_right sc facts place txn round fits in
-    let unread : round.reads ≡ false = fits.reads in
     record {
       replies = each_as (Right sc facts place txn) (λ (verdict : Verdict). verdict.place < place) (λ verdict r. (r declared found).past) (proofs_in round.targets) right;
       up_to = are_up_to sc facts place txn held (proofs_in round.targets) declared h found (replies_sound sc txn round.targets sound.targets) right;
-      mets = absurd (cc);
+      mets = mets_past sc txn place facts declared round.mets (fits.mets declared found).shown;
     }
 
 newest_now : (sc : Scenario) (facts : List Fact) (place : ℕ) (held : Master) (c : Coordinator) (awaited : Phase) (reply : NewestReply) (declared : Transaction) → reply.newest ≡ held.newest → MasterFits sc facts place held
@@ -236,7 +236,7 @@ newest_now : (sc : Scenario) (facts : List Fact) (place : ℕ) (held : Master) (
 newest_now sc facts place held c (phase.Probing number) reply declared told h found after sound fits = subst (λ (newest : List Version). IsReadAfter place newest c.instances c.gathered) (sym told) after
 newest_now sc facts place held c (phase.Reading over round) reply declared told h found after sound fits =
     subst (λ (newest : List Version). IsReadAfter place newest c.instances c.gathered × IsReadIn place newest round) (sym told)
-    (after, read_in sc facts place c.txn held round declared h found sound.1 fits.1 fits.2)
+    (after, read_in sc facts place c.txn held round declared h found sound.1 fits.1)
 newest_now sc facts place held c phase.VoteProbing reply declared told h found after sound fits = subst (λ (newest : List Version). IsReadAfter place newest c.instances c.gathered) (sym told) after
 newest_now sc facts place held c _ reply declared told h found after sound fits = tt
 

@@ -3,11 +3,12 @@ use Rattle.std.specs.List.{fold, list_all, list_any}
 use Rattle.std.specs.Option.{option_map_or}
 use Rattle.std.proofs.Common.{Bool, IfSome, List, None, Option, Some, [], ap, arith, cond, false, filter, find, inl, inr, is_none, is_some, length, map, max, refl, slice_get, subst, suc, sym, true, unwrap_or, zero, ℕ, ◌&&◌, ◌||◌, ◌<◌, ◌∙◌, ◌∷◌, ◌≡◌, ◌≤◌, ◌⊎◌, slice_index_or, Contains}
 use Rattle.std.proofs.lemmas.Bool.{and_from, or_left, or_parts, or_right}
+use Rattle.std.proofs.lemmas.List.{append-nil}
 use Rattle.tp_types.proofs.ListLemmas.{number_itself}
 use Rattle.tp_model.specs.Authorisation.{is_own_query}
 use Rattle.tp_model.specs.Ids.{same_server}
 use Rattle.tp_model.specs.Versions.{newest}
-use Rattle.tp_model.specs.Words.{AdminId, Fact, Scenario, ServerId, Transaction, TxnId, Verdict, Version}
+use Rattle.tp_model.specs.Words.{AdminId, Fact, Met, Scenario, ServerId, Transaction, TxnId, Verdict, Version}
 use Rattle.tp_round.specs.declared.round.Judged.TheVariants.{Update}
 use Rattle.tp_round.specs.declared.round.Round.{Round}
 use Rattle.tp_round.specs.declared.round.Target.{Target}
@@ -20,15 +21,17 @@ use Rattle.tp_round.proofs.AdminLemmas.{aimed_at, same_ids}
 use Rattle.tp_round.proofs.AgainLemmas.{IsUpdated, updated}
 use Rattle.tp_round.proofs.KeptLemmas.{same_servers, servers_renewed}
 use Rattle.tp_round.proofs.NamesLemmas.{admins_in, all_covered, is_covered}
-use Rattle.tp_round.proofs.RoundsLemmas.{IsLater, aim_at, all_viewed, all_wanted, are_read_for, are_wanted_at, first_only, is_wanted_at, number_two, renewed_at, unread_not_above, viewed_read}
+use Rattle.tp_round.proofs.RoundsLemmas.{IsLater, aim_at, all_wanted, are_read_for, are_wanted_at, first_only, is_wanted_at, number_two, renewed_at, unread_not_above}
 use Rattle.tp_runs.proofs.basics.Verdicts.{numbers_of}
 use Rattle.tp_types.proofs.EachLemmas.{each_from_all}
 use Rattle.tp_types.proofs.EachLemmas.{each_as, each_filter, each_map, each_two}
 use Rattle.tp_runs.proofs.basics.Aims.{wants_within}
+use Rattle.tp_runs.proofs.ids.Valid.{IsValid}
 use Rattle.tp_runs.proofs.pairs.Actors.{site_of}
 use Rattle.tp_runs.proofs.pairs.Site.{Site, here, here_within, in_upto, upto}
 use Rattle.tp_runs.proofs.trust.Fit.{IsPublished, Right}
-use Rattle.tp_runs.proofs.trust.Rounds.{AreNumbersAt, ArePublished, IsCovered, IsFirstRound, IsNamedFor, IsSecondRound, IsWithin, RoundFits, TargetFits, declared_with, own_here, proofs_right, same_admin_of, want_in}
+use Rattle.tp_runs.proofs.trust.RoundLevels.{round_read_for}
+use Rattle.tp_runs.proofs.trust.Rounds.{AreMet, AreNumbersAt, ArePublished, IsCovered, IsFirstRound, IsNamedFor, IsSecondRound, IsWithin, RoundFits, TargetFits, declared_with, own_here, proofs_right, same_admin_of, want_in}
 use Rattle.tp_types.specs.Each.{Each}
 
 -- ---- members
@@ -65,12 +68,15 @@ greatest_low sc facts place admin [] most h low = low
 greatest_low sc facts place admin (verdict ∷ verdicts) most h low =
     greatest_low sc facts place admin verdicts (with_greater admin most verdict) h.1 (greater_where sc facts place admin verdict most (is_of admin verdict) refl h.0 low)
 
+target_where : (sc : Scenario) (facts : List Fact) (place : ℕ) (round : Round) (admin : AdminId) (b : Bool) → Each (IsKnown sc facts place) (proofs_in round.targets)
+    → cond b (newest_in None admin) (greatest admin (proofs_in round.targets)) ≤ newest sc admin place facts
+target_where sc facts place round admin true known = omega arith
+target_where sc facts place round admin false known = greatest_low sc facts place admin (proofs_in round.targets) 0 known (omega arith)
+
 -- a round's targets are at most the newest versions
-target_low : (sc : Scenario) (facts : List Fact) (place : ℕ) (round : Round) (admin : AdminId) → is_global_at round.levels admin ≡ false → Each (IsKnown sc facts place) (proofs_in round.targets)
+target_low : (sc : Scenario) (facts : List Fact) (place : ℕ) (round : Round) (admin : AdminId) → Each (IsKnown sc facts place) (proofs_in round.targets)
     → target_in round None admin ≤ newest sc admin place facts
-target_low sc facts place round admin view known =
-    let low : greatest admin (proofs_in round.targets) ≤ newest sc admin place facts = greatest_low sc facts place admin (proofs_in round.targets) 0 known (omega arith) in
-    subst (λ (b : Bool). cond b (newest_in None admin) (greatest admin (proofs_in round.targets)) ≤ newest sc admin place facts) (sym view) low
+target_low sc facts place round admin known = target_where sc facts place round admin (is_global_at round.levels admin) known
 
 aim_published : (sc : Scenario) (facts : List Fact) (place : ℕ) (f : AdminId → ℕ) (ids : List AdminId) → ((admin : AdminId) → f admin ≤ newest sc admin place facts)
     → Each (IsPublished sc facts place) (map (aimed_at f) ids)
@@ -204,7 +210,7 @@ next_fits sc facts place txn round named declared found h is first =
     let at : list_all (is_wanted_at f) aim ≡ true = aim_at f (admins_in round) in
     let known : Each (IsKnown sc facts place) (proofs_in round.targets) =
     each_as (Right sc facts place txn) (IsKnown sc facts place) (λ verdict right. (right declared found).published) (proofs_in round.targets) (proofs_right sc facts place txn round h) in
-    let published : Each (IsPublished sc facts place) aim = aim_published sc facts place f (admins_in round) (λ admin. target_low sc facts place round admin (h.levels admin) known) in
+    let published : Each (IsPublished sc facts place) aim = aim_published sc facts place f (admins_in round) (λ admin. target_low sc facts place round admin known) in
     let replied : Each (λ (one : Target). is_missing one ≡ false) round.targets = replied_all round is.goes_on in
     let names : Each (NamesIfOutdated sc txn aim) round.targets =
     each_as (λ (one : Target). (is_missing one ≡ false) × (TargetFits sc facts place txn one × (is_covered round one ≡ true))) (NamesIfOutdated sc txn aim)
@@ -221,22 +227,27 @@ next_fits sc facts place txn round named declared found h is first =
       covers = subst (λ (ws : List Wanted). Each (IsCovered sc txn ws) (map (next_target aim) round.targets)) (sym is.is_named) (renewed_covers sc txn aim round.targets names replied);
       within = subst (Each (IsWithin aim)) (sym is.is_named) (wants_within aim round.targets);
     } in
+    let same : mets_in round (met_in round None) ≡ round.mets = append-nil round.mets in
     record {
+      limit = h.limit;
       levels = h.levels;
       reads = h.reads;
       servers = servers_renewed aim round.targets ∙ h.servers;
       targets = each_map (TargetFits sc facts place txn) (TargetFits sc facts place txn) (next_target aim) (λ one k. renewed_where sc facts place txn one (is_outdated aim one) k) round.targets h.targets;
       count = inr second;
+      few = subst (λ (mets : List Met). length mets < round.limit) (sym same) h.few;
+      unread = λ none. same ∙ h.unread none;
+      mets = λ other there. subst (AreMet sc facts place txn other) (sym same) (h.mets other there);
     }
 
 -- a round is updated only if it is the first, and the second one fits
-pub round_updated : (sc : Scenario) (facts : List Fact) (place : ℕ) (txn : TxnId) (round : Round) (named : List Wanted) → RoundFits sc facts place txn round → judge round None ≡ Update named
+pub round_updated : (sc : Scenario) (facts : List Fact) (place : ℕ) (txn : TxnId) (round : Round) (named : List Wanted) → IsValid sc → RoundFits sc facts place txn round → judge round None ≡ Update named
     → IsUpdatedRound sc facts place txn round named
-round_updated sc facts place txn round named h e =
-    let reads : are_read_for round ≡ true = viewed_read round (proofs_in round.targets) (all_viewed round.levels h.levels (proofs_in round.targets)) in
-    let first : round.number ≡ 1 = first_only round None named reads (unread_not_above round) e refl (keeps_count sc facts place txn round h.count) in
+round_updated sc facts place txn round named valid h e =
     let is : IsUpdated round None named = updated round None named e in
     let there = declared_with sc txn (is_outdated (aim_in round None)) round.targets h.servers is.is_out in
+    let reads : are_read_for round ≡ true = round_read_for sc facts place txn round there.0 valid there.1 h in
+    let first : round.number ≡ 1 = first_only round None named reads (unread_not_above round) e refl (keeps_count sc facts place txn round h.count) in
     record {
       first = first;
       number = ap (λ answer. (after round (aim_in round None) (met_in round None) answer).number) e ∙ number_two round first;

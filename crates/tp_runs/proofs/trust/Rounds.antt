@@ -1,20 +1,22 @@
--- Rounds of a coordinator under view consistency: what a round rests on, at its start, as facts are added, and after each reply.
+-- Rounds of a coordinator: what a round rests on, at its start, as facts are added, and after each reply.
 use Rattle.std.specs.List.{list_all, list_any}
 use Rattle.std.specs.Option.{option_map_or}
-use Rattle.std.proofs.Common.{Bool, IfSome, List, None, Option, Some, [], ap, arith, cond, false, find, inl, inr, is_none, length, map, refl, replicate, slice_get, subst, suc, sym, true, zero, ℕ, ⊎_elim, ◌==◌, ◌||◌, ◌∙◌, ◌∷◌, ◌≡◌, ◌≤◌, ◌⊎◌}
+use Rattle.std.proofs.Common.{Bool, IfSome, List, None, Option, Some, [], ap, arith, cond, false, find, inl, inr, is_none, length, map, refl, replicate, slice_get, subst, suc, sym, true, zero, ℕ, ⊎_elim, ◌==◌, ◌||◌, ◌∙◌, ◌∷◌, ◌≡◌, ◌<◌, ◌≤◌, ◌⊎◌}
 use Rattle.std.proofs.lemmas.Bool.{and_from, and_parts, eq-eqb, eqb-true}
 use Rattle.tp_types.proofs.ListLemmas.{number_itself}
 use Rattle.tp_model.specs.Authorisation.{is_item_at, is_own_query, is_query_at}
 use Rattle.tp_model.specs.Ids.{same_admin, same_server}
-use Rattle.tp_model.specs.Limits.{admins_limit}
+use Rattle.tp_model.specs.Causes.{are_met_on, is_met_shown}
+use Rattle.tp_model.specs.Levels.{is_global, level_of, reads_master}
+use Rattle.tp_model.specs.Limits.{admins_limit, view_rounds}
 use Rattle.tp_model.specs.Queries.{is_at_server, item_of, query_at, servers_of}
 use Rattle.tp_model.specs.Words.level
-use Rattle.tp_model.specs.Words.{AdminId, Fact, Item, Query, Scenario, ServerId, Transaction, TxnId, Verdict, Version}
+use Rattle.tp_model.specs.Words.{AdminId, Fact, Item, Met, Query, Scenario, ServerId, Transaction, TxnId, Verdict, Version}
 use Rattle.tp_round.specs.declared.round.Judged.TheVariants.{False}
 use Rattle.tp_round.specs.declared.round.Round.{Round}
 use Rattle.tp_round.specs.declared.round.Target.{Target}
 use Rattle.tp_round.specs.declared.round.Wanted.{Wanted}
-use Rattle.tp_round.specs.Judge.{after_reply, awaits, first_round, is_aimed, is_global_at, is_missing, judge, new_target, with_reply}
+use Rattle.tp_round.specs.Judge.{after_reply, awaits, first_round, is_aimed, is_missing, judge, new_target, with_reply}
 use Rattle.tp_round.specs.Replies.{proofs_in, verdicts_in}
 use Rattle.tp_round.proofs.AgreedLemmas.{false_is_least}
 use Rattle.tp_round.proofs.KeptLemmas.{server_of, servers_replied}
@@ -25,6 +27,7 @@ use Rattle.tp_runs.proofs.basics.Verdicts.{numbers_of}
 use Rattle.tp_types.proofs.EachLemmas.{by_cond, each_as, each_flat_map, each_get, each_more, each_of_all, each_two}
 use Rattle.tp_runs.proofs.agreement.Coordinator.{HaveItems, HoldsItem, servers_at_have_items}
 use Rattle.tp_runs.proofs.basics.Aims.{is_within}
+use Rattle.tp_runs.proofs.basics.Levels.{LevelsFit, limit_of}
 use Rattle.tp_runs.proofs.basics.Rounds.{EachServer, each_missing, missing_in}
 use Rattle.tp_runs.proofs.pairs.Actors.{site_of}
 use Rattle.tp_runs.proofs.pairs.CoordinatorRows.{NamesAt}
@@ -34,6 +37,8 @@ use Rattle.tp_coord.specs.Row.{server_of_target, want_for}
 use Rattle.tp_model.specs.Agreement.{has_item}
 use Rattle.tp_model.specs.Limits.{is_empty}
 use Rattle.tp_runs.proofs.pairs.Site.{Site, here, upto, with_number}
+use Rattle.tp_runs.proofs.trust.Built.{ArePlain}
+use Rattle.tp_runs.proofs.trust.Causes.{met_on_stays, mets_stay}
 use Rattle.tp_runs.proofs.trust.Fit.{IsPublished, Later, Right, newest_rises, right_stays}
 use Rattle.tp_types.specs.Each.{Each}
 use Rattle.tp_coord.specs.Opened.{servers_at}
@@ -81,19 +86,30 @@ pub record IsSecondRound (sc : Scenario) (facts : List Fact) (place : ℕ) (txn 
   pub covers : Each (IsCovered sc txn round.named) round.targets
   pub within : Each (IsWithin round.aim) round.named
 
--- a first round: nothing was wanted yet
+-- a first round: nothing was wanted or met yet
 pub record IsFirstRound (round : Round) : Type 0 where
   pub number : round.number ≡ 1
   pub aim : round.aim ≡ []
   pub named : round.named ≡ []
+  pub mets : round.mets ≡ []
 
--- a round of all the transaction's servers that reads no master, is the first or the second, and whose replies fit
+-- rounds each met a newer version at the master before the place, and each after the first used what was the newest at the one before
+pub record AreMet (sc : Scenario) (facts : List Fact) (place : ℕ) (txn : TxnId) (declared : Transaction) (mets : List Met) : Type 0 where
+  pub shown : list_all (is_met_shown sc txn place facts declared) mets ≡ true
+  pub on : are_met_on sc facts mets ≡ true
+
+-- a round of all the transaction's servers, whose replies fit. Its limit, its levels and whether it reads the master are those of the
+-- transaction; it is the first, or comes after an update; and fewer rounds than the limit were met, none where no master is read
 pub record RoundFits (sc : Scenario) (facts : List Fact) (place : ℕ) (txn : TxnId) (round : Round) : Type 0 where
-  pub levels : (admin : AdminId) → is_global_at round.levels admin ≡ false
-  pub reads : round.reads ≡ false
+  pub limit : (declared : Transaction) → slice_get sc.txns txn.0 ≡ Some declared → round.limit ≡ limit_of sc declared
+  pub levels : (declared : Transaction) → slice_get sc.txns txn.0 ≡ Some declared → LevelsFit sc declared round.levels
+  pub reads : (declared : Transaction) → slice_get sc.txns txn.0 ≡ Some declared → round.reads ≡ reads_master sc declared
   pub servers : map server_of round.targets ≡ servers_at sc txn
   pub targets : Each (TargetFits sc facts place txn) round.targets
   pub count : IsFirstRound round ⊎ IsSecondRound sc facts place txn round
+  pub few : length round.mets < round.limit
+  pub unread : round.reads ≡ false → round.mets ≡ []
+  pub mets : (declared : Transaction) → slice_get sc.txns txn.0 ≡ Some declared → AreMet sc facts place txn declared round.mets
 
 -- ---- the start
 
@@ -105,15 +121,23 @@ new_fit : (sc : Scenario) (facts : List Fact) (place : ℕ) (txn : TxnId) (serve
 new_fit sc facts place txn [] = tt
 new_fit sc facts place txn (server ∷ servers) = (record { right = tt; numbers = tt }, new_fit sc facts place txn servers)
 
--- the first round, before any reply
-pub round_starts : (sc : Scenario) (facts : List Fact) (place : ℕ) (txn : TxnId) → RoundFits sc facts place txn (first_round (servers_at sc txn) 2 (replicate admins_limit level.View) false)
-round_starts sc facts place txn =
+-- the first round of a transaction that reads no master, before any reply
+pub round_starts : (sc : Scenario) (facts : List Fact) (place : ℕ) (txn : TxnId) → ArePlain sc → RoundFits sc facts place txn (first_round (servers_at sc txn) view_rounds (replicate admins_limit level.View) false)
+round_starts sc facts place txn plain =
+    let unread : (declared : Transaction) → slice_get sc.txns txn.0 ≡ Some declared → reads_master sc declared ≡ false =
+    λ declared found. each_get (λ (t : Transaction). reads_master sc t ≡ false) sc.txns txn.0 declared plain.view found in
+    let view : (declared : Transaction) → slice_get sc.txns txn.0 ≡ Some declared → (admin : AdminId) → is_global (level_of declared admin) ≡ false =
+    λ declared found. each_get (λ (t : Transaction). (admin : AdminId) → is_global (level_of t admin) ≡ false) sc.txns txn.0 declared plain.levels found in
     record {
-      levels = view_for_each;
-      reads = refl;
+      limit = λ declared found. sym (ap (λ (b : Bool). cond b declared.rounds view_rounds) (unread declared found));
+      levels = λ declared found admin exists. view_for_each admin ∙ sym (view declared found admin);
+      reads = λ declared found. sym (unread declared found);
       servers = new_servers (servers_at sc txn);
       targets = new_fit sc facts place txn (servers_at sc txn);
-      count = inl (record { number = refl; aim = refl; named = refl });
+      count = inl (record { number = refl; aim = refl; named = refl; mets = refl });
+      few = omega arith;
+      unread = λ none. refl;
+      mets = λ declared found. record { shown = refl; on = refl };
     }
 
 -- ---- the round's number
@@ -160,14 +184,23 @@ count_stays sc old new low high txn round l (inr second) =
       within = second.within;
     })
 
+-- what rounds met stays so
+pub mets_fit_later : (sc : Scenario) (old new : List Fact) (low high : ℕ) (txn : TxnId) (declared : Transaction) (mets : List Met) → Later old new low high → AreMet sc old low txn declared mets → AreMet sc new high txn declared mets
+mets_fit_later sc old new low high txn declared mets l h =
+    record { shown = mets_stay sc txn old new low high declared mets l h.shown; on = met_on_stays sc txn old new low high declared mets l h.shown h.on }
+
 pub round_fits_later : (sc : Scenario) (old new : List Fact) (low high : ℕ) (txn : TxnId) (round : Round) → Later old new low high → RoundFits sc old low txn round → RoundFits sc new high txn round
 round_fits_later sc old new low high txn round l h =
     record {
+      limit = h.limit;
       levels = h.levels;
       reads = h.reads;
       servers = h.servers;
       targets = each_as (TargetFits sc old low txn) (TargetFits sc new high txn) (λ target f. target_stays sc old new low high txn target l f) round.targets h.targets;
       count = count_stays sc old new low high txn round l h.count;
+      few = h.few;
+      unread = h.unread;
+      mets = λ declared found. mets_fit_later sc old new low high txn declared round.mets l (h.mets declared found);
     }
 
 -- ---- queries at a server
@@ -360,7 +393,7 @@ declared_with sc txn test (target ∷ targets) e some = found (slice_get sc.txns
 
 count_replied : (sc : Scenario) (facts : List Fact) (place : ℕ) (txn : TxnId) (round : Round) (server : ServerId) (verdicts : List Verdict) → AimedReply round verdicts
     → IsFirstRound round ⊎ IsSecondRound sc facts place txn round → IsFirstRound (after_reply round server verdicts) ⊎ IsSecondRound sc facts place txn (after_reply round server verdicts)
-count_replied sc facts place txn round server verdicts has (inl first) = inl (record { number = first.number; aim = first.aim; named = first.named })
+count_replied sc facts place txn round server verdicts has (inl first) = inl (record { number = first.number; aim = first.aim; named = first.named; mets = first.mets })
 count_replied sc facts place txn round server verdicts has (inr second) =
     inr (record {
       number = second.number;
@@ -378,11 +411,15 @@ pub round_replied : (sc : Scenario) (facts : List Fact) (place : ℕ) (txn : Txn
     → Each (Right sc facts place txn) verdicts → AreNumbersAt sc txn server verdicts → AimedReply round verdicts → RoundFits sc facts place txn (after_reply round server verdicts)
 round_replied sc facts place txn round server verdicts h right numbers has =
     record {
+      limit = h.limit;
       levels = h.levels;
       reads = h.reads;
       servers = servers_replied round.targets server verdicts ∙ h.servers;
       targets = replied_each (TargetFits sc facts place txn) round.targets server verdicts (record { right = right; numbers = numbers }) h.targets;
       count = count_replied sc facts place txn round server verdicts has h.count;
+      few = h.few;
+      unread = h.unread;
+      mets = h.mets;
     }
 
 -- ---- judged false, or spent

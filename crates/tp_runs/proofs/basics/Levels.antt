@@ -1,0 +1,57 @@
+-- What a transaction's levels ask of its rounds: how often the master may be read, for which administrators, and whether at all.
+use Rattle.std.specs.List.{list_any}
+use Rattle.std.specs.Option.{option_map_or}
+use Rattle.std.proofs.Common.{Bool, List, None, Option, Some, [], false, if◌then◌else◌, refl, slice_get, subst, suc, sym, true, zero, ℕ, ◌||◌, ◌∷◌, ◌≡◌}
+use Rattle.std.proofs.lemmas.Bool.{and_parts, or_left, or_right}
+use Rattle.tp_model.specs.Authorisation.{is_item_at, is_own_query, is_query_at}
+use Rattle.tp_model.specs.Causes.{is_item_of, is_own_admin, is_query_of}
+use Rattle.tp_model.specs.Ids.{same_admin, same_server}
+use Rattle.tp_model.specs.Levels.{is_global, is_global_item, is_global_query, level_of, reads_master}
+use Rattle.tp_model.specs.Limits.{view_rounds}
+use Rattle.tp_model.specs.Queries.{item_of}
+use Rattle.tp_model.specs.Words.{AdminId, Item, Level, Query, Scenario, ServerId, Transaction}
+use Rattle.tp_round.proofs.AdminLemmas.{same_ids}
+use Rattle.tp_round.specs.Judge.{is_global_at}
+use Rattle.tp_machine.specs.Named.{IsAdmin}
+
+-- the limit of a transaction's rounds: as many as it asks for, where it reads the master; else as many as view consistency takes
+abbrev pub limit_of : Scenario → Transaction → ℕ
+limit_of sc txn = if reads_master sc txn then txn.rounds else view_rounds
+
+-- each administrator of the scenario has in the list the level that the transaction asks for it
+abbrev pub LevelsFit : Scenario → Transaction → List Level → Type 0
+LevelsFit sc txn levels = (admin : AdminId) → IsAdmin sc admin → is_global_at levels admin ≡ is_global (level_of txn admin)
+
+-- ---- the administrators of a transaction's queries
+
+any_as : {A : Type 0} (P Q : A → Bool) → ((x : A) → P x ≡ true → Q x ≡ true) → (xs : List A) → list_any P xs ≡ true → list_any Q xs ≡ true
+any_as P Q step [] e = absurd (cc)
+any_as {A = A} P Q step (x ∷ xs) e = by_first (P x) refl e (any_as P Q step xs)
+  where
+    by_first : (b : Bool) → P x ≡ b → (b || list_any P xs) ≡ true → (list_any P xs ≡ true → list_any Q xs ≡ true) → (Q x || list_any Q xs) ≡ true
+    by_first true here some later = or_left (Q x) (list_any Q xs) (step x here)
+    by_first false here some later = or_right (Q x) (list_any Q xs) (later some)
+
+item_of_admin : (at : ServerId) (admin : AdminId) (item : Option Item) → option_map_or (is_item_at at admin) item false ≡ true → option_map_or (is_item_of admin) item false ≡ true
+item_of_admin at admin None e = absurd (cc)
+item_of_admin at admin (Some item) e = (and_parts (same_server item.server at) (same_admin item.admin admin) e).1
+
+own_among : (sc : Scenario) (at : ServerId) (admin : AdminId) (queries : List Query) (n : ℕ) → option_map_or (is_query_at sc at admin) (slice_get queries n) false ≡ true → list_any (is_query_of sc admin) queries ≡ true
+own_among sc at admin [] n e = absurd (cc)
+own_among sc at admin (query ∷ queries) zero e =
+    or_left (is_query_of sc admin query) (list_any (is_query_of sc admin) queries) (item_of_admin at admin (slice_get sc.items (item_of query).0) e)
+own_among sc at admin (query ∷ queries) (suc n) e = or_right (is_query_of sc admin query) (list_any (is_query_of sc admin) queries) (own_among sc at admin queries n e)
+
+-- the administrator of one of the transaction's queries is its own
+pub own_admin : (sc : Scenario) (declared : Transaction) (number : ℕ) (at : ServerId) (admin : AdminId) → is_own_query sc declared number at admin ≡ true → is_own_admin sc admin declared ≡ true
+own_admin sc declared zero at admin e = absurd (cc)
+own_admin sc declared (suc before) at admin e = own_among sc at admin declared.queries before e
+
+global_item : (txn : Transaction) (admin : AdminId) (item : Option Item) → is_global (level_of txn admin) ≡ true → option_map_or (is_item_of admin) item false ≡ true → option_map_or (is_global_item txn) item false ≡ true
+global_item txn admin None g e = absurd (cc)
+global_item txn admin (Some item) g e = subst (λ (one : AdminId). is_global (level_of txn one) ≡ true) (sym (same_ids item.admin admin e)) g
+
+-- where an own administrator has the level global, the master is read
+pub reads_where : (sc : Scenario) (txn : Transaction) (admin : AdminId) → is_own_admin sc admin txn ≡ true → is_global (level_of txn admin) ≡ true → reads_master sc txn ≡ true
+reads_where sc txn admin own g =
+    any_as (is_query_of sc admin) (is_global_query sc txn) (λ query e. global_item txn admin (slice_get sc.items (item_of query).0) g e) txn.queries own

@@ -1,0 +1,78 @@
+-- The levels of a round's proofs: each is of an administrator of its transaction, and the master is read where one is under global consistency.
+use Rattle.std.specs.Option.{option_map_or}
+use Rattle.std.proofs.Common.{Bool, List, None, Option, Some, false, not, refl, slice_get, subst, true, ℕ, ◌||◌, ◌∙◌, ◌≡◌}
+use Rattle.std.proofs.lemmas.Bool.{and_parts, not_from_false, or_left, or_right}
+use Rattle.tp_model.specs.Authorisation.{is_item_at, is_own_query, is_query_at}
+use Rattle.tp_model.specs.Causes.{is_own_admin}
+use Rattle.tp_model.specs.Ids.{same_admin, same_server}
+use Rattle.tp_model.specs.Levels.{is_global, level_of, reads_master}
+use Rattle.tp_model.specs.Queries.{item_of, query_at}
+use Rattle.tp_model.specs.Words.{AdminId, Fact, Item, Level, Query, Scenario, ServerId, Transaction, TxnId, Verdict}
+use Rattle.tp_round.proofs.AdminLemmas.{same_ids}
+use Rattle.tp_round.proofs.RoundsLemmas.{are_read_for}
+use Rattle.tp_round.specs.Judge.{is_global_at}
+use Rattle.tp_round.specs.Laws.{is_read_for}
+use Rattle.tp_round.specs.Replies.{proofs_in}
+use Rattle.tp_round.specs.declared.round.Round.{Round}
+use Rattle.tp_types.proofs.EachLemmas.{each_as, each_get}
+use Rattle.tp_types.specs.Each.{Each}
+use Rattle.tp_machine.specs.Named.{IsAdmin}
+use Rattle.tp_runs.proofs.basics.Facts.{all_from_each}
+use Rattle.tp_runs.proofs.basics.Levels.{LevelsFit, own_admin, reads_where}
+use Rattle.tp_runs.proofs.ids.Valid.{IsValid, IsValidItem}
+use Rattle.tp_runs.proofs.trust.Fit.{Right}
+use Rattle.tp_runs.proofs.trust.Rounds.{RoundFits, proofs_right}
+
+-- the administrator of a proof is one of the scenario's, and of one of the transaction's queries
+pub record IsOwnProof (sc : Scenario) (declared : Transaction) (verdict : Verdict) : Type 0 where
+  pub exists : IsAdmin sc verdict.admin
+  pub own : is_own_admin sc verdict.admin declared ≡ true
+
+query_exists : (sc : Scenario) (at : ServerId) (admin : AdminId) (query : Query) → IsValid sc → is_query_at sc at admin query ≡ true → IsAdmin sc admin
+query_exists sc at admin query valid e = by_item (slice_get sc.items (item_of query).0) refl e
+  where
+    by_item : (item : Option Item) → slice_get sc.items (item_of query).0 ≡ item → option_map_or (is_item_at at admin) item false ≡ true → IsAdmin sc admin
+    by_item None f g = absurd (cc)
+    by_item (Some item) f g =
+        let same : item.admin ≡ admin = same_ids item.admin admin (and_parts (same_server item.server at) (same_admin item.admin admin) g).1 in
+        subst (IsAdmin sc) same (each_get (IsValidItem sc) sc.items (item_of query).0 item valid.items f).admin
+
+own_exists : (sc : Scenario) (at : ServerId) (admin : AdminId) (query : Option Query) → IsValid sc → option_map_or (is_query_at sc at admin) query false ≡ true → IsAdmin sc admin
+own_exists sc at admin None valid e = absurd (cc)
+own_exists sc at admin (Some query) valid e = query_exists sc at admin query valid e
+
+own_proof : (sc : Scenario) (facts : List Fact) (place : ℕ) (txn : TxnId) (declared : Transaction) (verdict : Verdict) → IsValid sc → slice_get sc.txns txn.0 ≡ Some declared → Right sc facts place txn verdict → IsOwnProof sc declared verdict
+own_proof sc facts place txn declared verdict valid found right =
+    let own : is_own_query sc declared verdict.query verdict.server verdict.admin ≡ true = (right declared found).own in
+    record { exists = own_exists sc verdict.server verdict.admin (query_at declared verdict.query) valid own; own = own_admin sc declared verdict.query verdict.server verdict.admin own }
+
+-- so are all proofs of a round
+pub own_proofs : (sc : Scenario) (facts : List Fact) (place : ℕ) (txn : TxnId) (round : Round) (declared : Transaction) → IsValid sc → slice_get sc.txns txn.0 ≡ Some declared → RoundFits sc facts place txn round
+    → Each (IsOwnProof sc declared) (proofs_in round.targets)
+own_proofs sc facts place txn round declared valid found h =
+    each_as (Right sc facts place txn) (IsOwnProof sc declared) (λ verdict right. own_proof sc facts place txn declared verdict valid found right) (proofs_in round.targets) (proofs_right sc facts place txn round h)
+
+-- where the master is not read, a proof is under view consistency
+pub unread_view : (sc : Scenario) (declared : Transaction) (levels : List Level) (verdict : Verdict) → LevelsFit sc declared levels → reads_master sc declared ≡ false → IsOwnProof sc declared verdict
+    → is_global_at levels verdict.admin ≡ false
+unread_view sc declared levels verdict fit unread k = by_level (is_global (level_of declared verdict.admin)) refl
+  where
+    by_level : (b : Bool) → is_global (level_of declared verdict.admin) ≡ b → is_global_at levels verdict.admin ≡ false
+    by_level false e = fit verdict.admin k.exists ∙ e
+    by_level true e = let reads = reads_where sc declared verdict.admin k.own e in absurd (cc)
+
+read_for : (sc : Scenario) (declared : Transaction) (round : Round) (verdict : Verdict) → LevelsFit sc declared round.levels → round.reads ≡ reads_master sc declared → IsOwnProof sc declared verdict
+    → is_read_for round verdict ≡ true
+read_for sc declared round verdict fit reads k = by_reading (reads_master sc declared) refl
+  where
+    by_reading : (b : Bool) → reads_master sc declared ≡ b → is_read_for round verdict ≡ true
+    by_reading true e = or_left round.reads (not (is_global_at round.levels verdict.admin)) (reads ∙ e)
+    by_reading false e =
+        or_right round.reads (not (is_global_at round.levels verdict.admin)) (not_from_false (is_global_at round.levels verdict.admin) (unread_view sc declared round.levels verdict fit e k))
+
+-- the master is read wherever a proof is under global consistency
+pub round_read_for : (sc : Scenario) (facts : List Fact) (place : ℕ) (txn : TxnId) (round : Round) (declared : Transaction) → IsValid sc → slice_get sc.txns txn.0 ≡ Some declared → RoundFits sc facts place txn round
+    → are_read_for round ≡ true
+round_read_for sc facts place txn round declared valid found h =
+    all_from_each (IsOwnProof sc declared) (is_read_for round) (λ verdict k. read_for sc declared round verdict (h.levels declared found) (h.reads declared found) k) (proofs_in round.targets)
+    (own_proofs sc facts place txn round declared valid found h)
