@@ -10,6 +10,7 @@ pub mod Offices
 pub mod Phases
 pub mod RoundAims
 pub mod RoundLevels
+pub mod RoundMets
 pub mod RoundProofs
 pub mod Rounds
 pub mod Server

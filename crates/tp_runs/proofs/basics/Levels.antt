@@ -1,7 +1,7 @@
--- What a transaction's levels ask of its rounds: how often the master may be read, for which administrators, and whether at all.
+-- What a transaction's levels ask of its rounds: how many there may be, and of which administrators the master is read.
 use Rattle.std.specs.List.{list_any}
 use Rattle.std.specs.Option.{option_map_or}
-use Rattle.std.proofs.Common.{Bool, List, None, Option, Some, [], false, if◌then◌else◌, refl, slice_get, subst, suc, sym, true, zero, ℕ, ◌||◌, ◌∷◌, ◌≡◌}
+use Rattle.std.proofs.Common.{Bool, List, None, Option, Some, [], ap, false, if◌then◌else◌, not, refl, slice_get, subst, suc, sym, true, zero, ℕ, ◌||◌, ◌∷◌, ◌≡◌}
 use Rattle.std.proofs.lemmas.Bool.{and_parts, or_left, or_right}
 use Rattle.tp_model.specs.Authorisation.{is_item_at, is_own_query, is_query_at}
 use Rattle.tp_model.specs.Causes.{is_item_of, is_own_admin, is_query_of}
@@ -14,13 +14,25 @@ use Rattle.tp_round.proofs.AdminLemmas.{same_ids}
 use Rattle.tp_round.specs.Judge.{is_global_at}
 use Rattle.tp_machine.specs.Named.{IsAdmin}
 
--- the limit of a transaction's rounds: as many as it asks for, where it reads the master; else as many as view consistency takes
+-- how many rounds may meet a newer version: as many as the transaction asks for, where it reads the master; else
+-- nothing is met, and the limit is the number of rounds that view consistency takes
 abbrev pub limit_of : Scenario → Transaction → ℕ
 limit_of sc txn = if reads_master sc txn then txn.rounds else view_rounds
 
 -- each administrator of the scenario has in the list the level that the transaction asks for it
 abbrev pub LevelsFit : Scenario → Transaction → List Level → Type 0
 LevelsFit sc txn levels = (admin : AdminId) → IsAdmin sc admin → is_global_at levels admin ≡ is_global (level_of txn admin)
+
+-- the item's administrator has the level view
+abbrev pub is_view_item : Transaction → Item → Bool
+is_view_item txn item = not (is_global (level_of txn item.admin))
+
+abbrev pub is_view_query : Scenario → Transaction → Query → Bool
+is_view_query sc txn query = option_map_or (is_view_item txn) (slice_get sc.items (item_of query).0) false
+
+-- one of these queries is on an item whose administrator has the level view
+abbrev pub has_view : Scenario → Transaction → List Query → Bool
+has_view sc txn queries = list_any (is_view_query sc txn) queries
 
 -- ---- the administrators of a transaction's queries
 
@@ -55,3 +67,12 @@ global_item txn admin (Some item) g e = subst (λ (one : AdminId). is_global (le
 pub reads_where : (sc : Scenario) (txn : Transaction) (admin : AdminId) → is_own_admin sc admin txn ≡ true → is_global (level_of txn admin) ≡ true → reads_master sc txn ≡ true
 reads_where sc txn admin own g =
     any_as (is_query_of sc admin) (is_global_query sc txn) (λ query e. global_item txn admin (slice_get sc.items (item_of query).0) g e) txn.queries own
+
+view_item : (txn : Transaction) (admin : AdminId) (item : Option Item) → is_global (level_of txn admin) ≡ false → option_map_or (is_item_of admin) item false ≡ true → option_map_or (is_view_item txn) item false ≡ true
+view_item txn admin None g e = absurd (cc)
+view_item txn admin (Some item) g e = subst (λ (one : AdminId). not (is_global (level_of txn one)) ≡ true) (sym (same_ids item.admin admin e)) (ap not g)
+
+-- and where it has not, one has the level view
+pub viewed_where : (sc : Scenario) (txn : Transaction) (admin : AdminId) → is_own_admin sc admin txn ≡ true → is_global (level_of txn admin) ≡ false → has_view sc txn txn.queries ≡ true
+viewed_where sc txn admin own g =
+    any_as (is_query_of sc admin) (is_view_query sc txn) (λ query e. view_item txn admin (slice_get sc.items (item_of query).0) g e) txn.queries own

@@ -40,7 +40,8 @@ met_by sc txn decided declared met earlier =
     && nat_lt met.used.0 met.newest.0
     && (met.newest.0 == (opening_version sc met.admin).0 + count_by (is_publication met.admin) earlier)
 
-met_past : (sc : Scenario) (txn : TxnId) (decided : ℕ) (facts : List Fact) (declared : Transaction) (met : Met) → is_met_shown sc txn decided facts declared met ≡ true → met.place < decided
+-- it was met before the place
+pub met_past : (sc : Scenario) (txn : TxnId) (decided : ℕ) (facts : List Fact) (declared : Transaction) (met : Met) → is_met_shown sc txn decided facts declared met ≡ true → met.place < decided
 met_past sc txn decided facts declared met h =
     let own = is_global (level_of declared met.admin) && is_own_admin sc met.admin declared in
     let less = and_parts (own && is_within txn decided facts met.place && nat_lt met.used.0 met.newest.0) (met.newest.0 == newest sc met.admin met.place facts) h in

@@ -380,15 +380,14 @@ updated_trusts : (sc : Scenario) (facts : List Fact) (place : ℕ) (c : Coordina
 updated_trusts sc facts place c round staple named few plain valid h e =
     let count = query_count sc c.txn in
     let next = after_judgement round None in
-    let updated = round_updated sc facts place c.txn round named valid h.fits e in
+    let updated = round_updated sc facts place c.txn round None named valid h.fits tt e in
     let rises : next_turn c ≡ c.turn + 1 = turn_rises c (low_round count round.number 2 c.turn (few c.txn) (few_rounds sc facts place c.txn round h.fits) (omega arith) h.low) in
-    let number : next.number ≡ round.number + 1 = omega (arith, updated.first, updated.number) in
     record {
       fits = record {
         awaits = (h.submitted, updated.fits);
         so_far = λ unsure. moved_on sc facts place c.txn c.phase (phase.Asking span.Commit next) c.instances c.gathered plain h.so_far;
         above = λ unsure. h.above;
-        turn = subst (λ (n : ℕ). next_turn c ≤ until_round count n 1) (sym number) (subst (λ (n : ℕ). n ≤ until_round count (round.number + 1) 1) (sym rises) (further_move count round.number c.turn (omega (arith, updated.first)) h.low));
+        turn = subst (λ (n : ℕ). next_turn c ≤ until_round count n 1) (sym updated.number) (subst (λ (n : ℕ). n ≤ until_round count (round.number + 1) 1) (sym rises) (further_move count round.number c.turn updated.begun h.low));
       };
       decides = tt;
       says = λ sent. (h.submitted, tt);

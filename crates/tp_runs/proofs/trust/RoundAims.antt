@@ -1,19 +1,20 @@
--- The update of a round: it comes after the first round alone, and wants published versions of each administrator of a server that is awaited.
+-- The update of a round, whatever the master was read to have: it wants published versions of each administrator of a
+-- server that is awaited, and rounds are counted on by what they meet.
 use Rattle.std.specs.List.{fold, list_all, list_any}
 use Rattle.std.specs.Option.{option_map_or}
-use Rattle.std.proofs.Common.{Bool, IfSome, List, None, Option, Some, [], ap, arith, cond, false, filter, find, inl, inr, is_none, is_some, length, map, max, refl, slice_get, subst, suc, sym, true, unwrap_or, zero, ℕ, ◌&&◌, ◌||◌, ◌<◌, ◌∙◌, ◌∷◌, ◌≡◌, ◌≤◌, ◌⊎◌, slice_index_or, Contains}
+use Rattle.std.proofs.Common.{Bool, IfSome, List, None, Option, Some, [], ap, arith, cond, false, filter, find, inl, inr, is_none, is_some, length, map, max, refl, slice_get, subst, suc, sym, true, unwrap_or, zero, ℕ, ◌&&◌, ◌+◌, ◌||◌, ◌<◌, ◌∙◌, ◌∷◌, ◌≡◌, ◌≤◌, slice_index_or, Contains}
 use Rattle.std.proofs.lemmas.Bool.{and_from, or_left, or_parts, or_right}
-use Rattle.std.proofs.lemmas.List.{append-nil}
+use Rattle.std.proofs.lemmas.Option.{same_Some}
 use Rattle.tp_types.proofs.ListLemmas.{number_itself}
 use Rattle.tp_model.specs.Authorisation.{is_own_query}
 use Rattle.tp_model.specs.Ids.{same_server}
-use Rattle.tp_model.specs.Versions.{newest}
-use Rattle.tp_model.specs.Words.{AdminId, Fact, Met, Scenario, ServerId, Transaction, TxnId, Verdict, Version}
+use Rattle.tp_model.specs.Versions.{is_publication, newest}
+use Rattle.tp_model.specs.Words.{AdminId, Fact, Met, Reading, Scenario, ServerId, Transaction, TxnId, Verdict, Version}
 use Rattle.tp_round.specs.declared.round.Judged.TheVariants.{Update}
 use Rattle.tp_round.specs.declared.round.Round.{Round}
 use Rattle.tp_round.specs.declared.round.Target.{Target}
 use Rattle.tp_round.specs.declared.round.Wanted.{Wanted}
-use Rattle.tp_round.specs.Judge.{after, after_judgement, aim_in, is_global_at, is_missing, is_outdated, is_proved_by, is_waiting, judge, met_in, mets_in, new_target, newest_in, next_round, next_target, want_of, wants_of}
+use Rattle.tp_round.specs.Judge.{after, after_judgement, aim_in, is_global_at, is_missing, is_outdated, is_proved_by, is_waiting, judge, met_in, mets_in, new_target, newest_in, next_number, next_round, next_target, want_of, wants_of}
 use Rattle.tp_round.specs.Laws.{target_in}
 use Rattle.tp_round.specs.Replies.{greatest, is_of, proofs_in, verdicts_in, with_greater}
 use Rattle.tp_round.proofs.AdminLemmas as admins
@@ -21,7 +22,7 @@ use Rattle.tp_round.proofs.AdminLemmas.{aimed_at, same_ids}
 use Rattle.tp_round.proofs.AgainLemmas.{IsUpdated, updated}
 use Rattle.tp_round.proofs.KeptLemmas.{same_servers, servers_renewed}
 use Rattle.tp_round.proofs.NamesLemmas.{admins_in, all_covered, is_covered}
-use Rattle.tp_round.proofs.RoundsLemmas.{IsLater, aim_at, all_wanted, are_read_for, are_wanted_at, first_only, is_wanted_at, number_two, renewed_at, unread_not_above}
+use Rattle.tp_round.proofs.RoundsLemmas.{IsCounted, aim_at, all_wanted, are_wanted_at, is_wanted_at, renewed_at}
 use Rattle.tp_runs.proofs.basics.Verdicts.{numbers_of}
 use Rattle.tp_types.proofs.EachLemmas.{each_from_all}
 use Rattle.tp_types.proofs.EachLemmas.{each_as, each_filter, each_map, each_two}
@@ -29,9 +30,12 @@ use Rattle.tp_runs.proofs.basics.Aims.{wants_within}
 use Rattle.tp_runs.proofs.ids.Valid.{IsValid}
 use Rattle.tp_runs.proofs.pairs.Actors.{site_of}
 use Rattle.tp_runs.proofs.pairs.Site.{Site, here, here_within, in_upto, upto}
-use Rattle.tp_runs.proofs.trust.Fit.{IsPublished, Right}
-use Rattle.tp_runs.proofs.trust.RoundLevels.{round_read_for}
-use Rattle.tp_runs.proofs.trust.Rounds.{AreMet, AreNumbersAt, ArePublished, IsCovered, IsFirstRound, IsNamedFor, IsSecondRound, IsWithin, RoundFits, TargetFits, declared_with, own_here, proofs_right, same_admin_of, want_in}
+use Rattle.tp_runs.proofs.basics.Levels.{has_view}
+use Rattle.tp_machine.specs.Named.{IsAdmin}
+use Rattle.tp_runs.proofs.trust.Fit.{IsPublished, Right, count_rises}
+use Rattle.tp_runs.proofs.trust.RoundLevels.{each_failing, own_admins, own_proofs, round_read_for}
+use Rattle.tp_runs.proofs.trust.RoundMets.{JudgedFits, NextMets, Updates, next_counted, next_few, next_mets, next_unread}
+use Rattle.tp_runs.proofs.trust.Rounds.{AreMet, AreNumbersAt, ArePublished, IsCovered, IsFresh, IsLaterRound, IsNamedFor, IsWithin, RoundFits, TargetFits, declared_with, few_rounds, last_met, own_here, proofs_right, round_counted, same_admin_of, want_in}
 use Rattle.tp_types.specs.Each.{Each}
 
 -- ---- members
@@ -43,11 +47,6 @@ each_member {A = A} Q test own (x ∷ xs) = (
   λ q. or_left (test x x) (list_any (test x) xs) (own x q),
   each_as (λ (y : A). Q y → list_any (test y) xs ≡ true) (λ (y : A). Q y → list_any (test y) (x ∷ xs) ≡ true) (λ y later q. or_right (test y x) (list_any (test y) xs) (later q)) xs (each_member Q test own xs),
 )
-
--- where no member passes a test each fails it
-pub each_failing : {A : Type 0} (test : A → Bool) (xs : List A) → list_any test xs ≡ false → Each (λ (x : A). test x ≡ false) xs
-each_failing test [] e = tt
-each_failing test (x ∷ xs) e = let parts = or_parts (test x) (list_any test xs) e in (parts.0, each_failing test xs parts.1)
 
 -- ---- the versions that are wanted
 
@@ -68,20 +67,31 @@ greatest_low sc facts place admin [] most h low = low
 greatest_low sc facts place admin (verdict ∷ verdicts) most h low =
     greatest_low sc facts place admin verdicts (with_greater admin most verdict) h.1 (greater_where sc facts place admin verdict most (is_of admin verdict) refl h.0 low)
 
-target_where : (sc : Scenario) (facts : List Fact) (place : ℕ) (round : Round) (admin : AdminId) (b : Bool) → Each (IsKnown sc facts place) (proofs_in round.targets)
-    → cond b (newest_in None admin) (greatest admin (proofs_in round.targets)) ≤ newest sc admin place facts
-target_where sc facts place round admin true known = omega arith
-target_where sc facts place round admin false known = greatest_low sc facts place admin (proofs_in round.targets) 0 known (omega arith)
+-- what the master was read to have of an administrator is at most the newest
+reading_low : (sc : Scenario) (facts : List Fact) (place : ℕ) (txn : TxnId) (round : Round) (reading : Option Reading) (admin : AdminId) → IsAdmin sc admin → JudgedFits sc facts place txn round reading
+    → newest_in reading admin ≤ newest sc admin place facts
+reading_low sc facts place txn round None admin exists r = omega arith
+reading_low sc facts place txn round (Some reading) admin exists r =
+    let past = r.past in
+    let rises = count_rises (is_publication admin) reading.place place facts (omega (arith, past)) in
+    omega (arith, r.newest_is admin exists, rises)
+
+target_where : (sc : Scenario) (facts : List Fact) (place : ℕ) (round : Round) (reading : Option Reading) (admin : AdminId) (b : Bool) → newest_in reading admin ≤ newest sc admin place facts
+    → Each (IsKnown sc facts place) (proofs_in round.targets) → cond b (newest_in reading admin) (greatest admin (proofs_in round.targets)) ≤ newest sc admin place facts
+target_where sc facts place round reading admin true low known = low
+target_where sc facts place round reading admin false low known = greatest_low sc facts place admin (proofs_in round.targets) 0 known (omega arith)
 
 -- a round's targets are at most the newest versions
-target_low : (sc : Scenario) (facts : List Fact) (place : ℕ) (round : Round) (admin : AdminId) → Each (IsKnown sc facts place) (proofs_in round.targets)
-    → target_in round None admin ≤ newest sc admin place facts
-target_low sc facts place round admin known = target_where sc facts place round admin (is_global_at round.levels admin) known
+target_low : (sc : Scenario) (facts : List Fact) (place : ℕ) (txn : TxnId) (round : Round) (reading : Option Reading) (admin : AdminId) → IsAdmin sc admin → JudgedFits sc facts place txn round reading
+    → Each (IsKnown sc facts place) (proofs_in round.targets) → target_in round reading admin ≤ newest sc admin place facts
+target_low sc facts place txn round reading admin exists r known =
+    target_where sc facts place round reading admin (is_global_at round.levels admin) (reading_low sc facts place txn round reading admin exists r) known
 
-aim_published : (sc : Scenario) (facts : List Fact) (place : ℕ) (f : AdminId → ℕ) (ids : List AdminId) → ((admin : AdminId) → f admin ≤ newest sc admin place facts)
-    → Each (IsPublished sc facts place) (map (aimed_at f) ids)
-aim_published sc facts place f [] low = tt
-aim_published sc facts place f (admin ∷ ids) low = (low admin, aim_published sc facts place f ids low)
+-- so are the versions of a round's aim
+aim_published : (sc : Scenario) (facts : List Fact) (place : ℕ) (txn : TxnId) (round : Round) (reading : Option Reading) → Each (IsAdmin sc) (admins_in round) → JudgedFits sc facts place txn round reading
+    → Each (IsKnown sc facts place) (proofs_in round.targets) → Each (IsPublished sc facts place) (aim_in round reading)
+aim_published sc facts place txn round reading exist r known =
+    each_map (IsAdmin sc) (IsPublished sc facts place) (aimed_at (target_in round reading)) (λ admin exists. target_low sc facts place txn round reading admin exists r known) (admins_in round) exist
 
 wants_published : (sc : Scenario) (facts : List Fact) (place : ℕ) (aim : List (AdminId × Version)) (targets : List Target) → Each (IsPublished sc facts place) aim
     → Each (ArePublished sc facts place) (map (want_of aim) targets)
@@ -126,10 +136,10 @@ some_where f admin true e = refl
 some_where f admin false e = absurd (cc)
 
 -- what is wanted of a server that replied names its administrators
-want_named : (sc : Scenario) (facts : List Fact) (place : ℕ) (txn : TxnId) (round : Round) (one : Target) → is_missing one ≡ false → TargetFits sc facts place txn one → is_covered round one ≡ true
-    → IsNamedFor sc txn one.server (want_of (aim_in round None) one).want
-want_named sc facts place txn round one e h covered declared found number admin own =
-    let f : AdminId → ℕ = target_in round None in
+want_named : (sc : Scenario) (facts : List Fact) (place : ℕ) (txn : TxnId) (round : Round) (reading : Option Reading) (one : Target) → is_missing one ≡ false → TargetFits sc facts place txn one → is_covered round one ≡ true
+    → IsNamedFor sc txn one.server (want_of (aim_in round reading) one).want
+want_named sc facts place txn round reading one e h covered declared found number admin own =
+    let f : AdminId → ℕ = target_in round reading in
     let proved : list_any (is_of admin) (verdicts_in one) ≡ true = proved_at sc facts place txn declared number one.server admin (verdicts_in one) found own h.right (numbers_at sc facts place txn one e h) in
     ap is_some (admins.wanted_is f (admins_in round) (verdicts_in one) covered admin) ∙ some_where f admin (list_any (is_of admin) (verdicts_in one)) proved
 
@@ -184,41 +194,50 @@ renewed_covers sc txn aim targets named replied =
 -- ---- the update
 
 -- a round that is updated
-pub record IsUpdatedRound (sc : Scenario) (facts : List Fact) (place : ℕ) (txn : TxnId) (round : Round) (named : List Wanted) : Type 0 where
-  pub first : round.number ≡ 1
-  pub number : (after_judgement round None).number ≡ 2
-  pub named_is : (after_judgement round None).named ≡ named
-  pub fits : RoundFits sc facts place txn (after_judgement round None)
-
-keeps_count : (sc : Scenario) (facts : List Fact) (place : ℕ) (txn : TxnId) (round : Round) → IsFirstRound round ⊎ IsSecondRound sc facts place txn round → (round.number ≡ 1) ⊎ IsLater round
-keeps_count sc facts place txn round (inl first) = inl first.number
-keeps_count sc facts place txn round (inr second) = inr (record { number = omega (arith, second.number); aimed = second.aimed; kept = second.kept; named = second.named })
+pub record IsUpdatedRound (sc : Scenario) (facts : List Fact) (place : ℕ) (txn : TxnId) (round : Round) (reading : Option Reading) (named : List Wanted) : Type 0 where
+  pub begun : 1 ≤ round.number
+  pub number : (after_judgement round reading).number ≡ round.number + 1
+  pub named_is : (after_judgement round reading).named ≡ named
+  pub fits : RoundFits sc facts place txn (after_judgement round reading)
 
 renewed_where : (sc : Scenario) (facts : List Fact) (place : ℕ) (txn : TxnId) (one : Target) (b : Bool) → TargetFits sc facts place txn one → TargetFits sc facts place txn (cond b (new_target one.server) one)
 renewed_where sc facts place txn one true h = record { right = tt; numbers = tt }
 renewed_where sc facts place txn one false h = h
 
--- every server has replied, where the round waits for none
-pub replied_all : (round : Round) → is_waiting round None ≡ false → Each (λ (one : Target). is_missing one ≡ false) round.targets
-replied_all round e = each_failing is_missing round.targets (or_parts (list_any is_missing round.targets) _ e).0
+-- every server has replied, where the round does not wait
+pub replied_all : (round : Round) (reading : Option Reading) → is_waiting round reading ≡ false → Each (λ (one : Target). is_missing one ≡ false) round.targets
+replied_all round reading e = each_failing is_missing round.targets (or_parts (list_any is_missing round.targets) _ e).0
 
-next_fits : (sc : Scenario) (facts : List Fact) (place : ℕ) (txn : TxnId) (round : Round) (named : List Wanted) (declared : Transaction) → slice_get sc.txns txn.0 ≡ Some declared
-    → RoundFits sc facts place txn round → IsUpdated round None named → round.number ≡ 1 → RoundFits sc facts place txn (next_round round (aim_in round None) named (mets_in round (met_in round None)))
-next_fits sc facts place txn round named declared found h is first =
-    let f : AdminId → ℕ = target_in round None in
-    let aim : List (AdminId × Version) = aim_in round None in
+-- what is said of a transaction is said of each that is found there
+same_found : (sc : Scenario) (txn : TxnId) (declared other : Transaction) → slice_get sc.txns txn.0 ≡ Some declared → slice_get sc.txns txn.0 ≡ Some other → declared ≡ other
+same_found sc txn declared other e f = same_Some declared other (sym e ∙ f)
+
+least_number : (number mets : ℕ) → IsCounted number mets → 1 ≤ number
+least_number number mets (inl one) = omega (arith, one)
+least_number number mets (inr two) = omega (arith, two)
+
+next_fits : (sc : Scenario) (facts : List Fact) (place : ℕ) (txn : TxnId) (round : Round) (reading : Option Reading) (named : List Wanted) (declared : Transaction) → Updates sc facts place txn round reading named declared
+    → RoundFits sc facts place txn (next_round round (aim_in round reading) named (mets_in round (met_in round reading)))
+next_fits sc facts place txn round reading named declared u =
+    let h : RoundFits sc facts place txn round = u.fits in
+    let is : IsUpdated round reading named = updated round reading named u.judged in
+    let f : AdminId → ℕ = target_in round reading in
+    let aim : List (AdminId × Version) = aim_in round reading in
     let at : list_all (is_wanted_at f) aim ≡ true = aim_at f (admins_in round) in
     let known : Each (IsKnown sc facts place) (proofs_in round.targets) =
-    each_as (Right sc facts place txn) (IsKnown sc facts place) (λ verdict right. (right declared found).published) (proofs_in round.targets) (proofs_right sc facts place txn round h) in
-    let published : Each (IsPublished sc facts place) aim = aim_published sc facts place f (admins_in round) (λ admin. target_low sc facts place round admin known) in
-    let replied : Each (λ (one : Target). is_missing one ≡ false) round.targets = replied_all round is.goes_on in
+    each_as (Right sc facts place txn) (IsKnown sc facts place) (λ verdict right. (right declared u.found).published) (proofs_in round.targets) (proofs_right sc facts place txn round h) in
+    let published : Each (IsPublished sc facts place) aim = aim_published sc facts place txn round reading (own_admins sc declared round u.own) u.read known in
+    let replied : Each (λ (one : Target). is_missing one ≡ false) round.targets = replied_all round reading is.goes_on in
     let names : Each (NamesIfOutdated sc txn aim) round.targets =
     each_as (λ (one : Target). (is_missing one ≡ false) × (TargetFits sc facts place txn one × (is_covered round one ≡ true))) (NamesIfOutdated sc txn aim)
-    (λ one k. want_named sc facts place txn round one k.0 k.1.0 k.1.1) round.targets
+    (λ one k. want_named sc facts place txn round reading one k.0 k.1.0 k.1.1) round.targets
     (each_two (λ (one : Target). is_missing one ≡ false) (λ (one : Target). TargetFits sc facts place txn one × (is_covered round one ≡ true)) round.targets replied
     (each_two (TargetFits sc facts place txn) (λ (one : Target). is_covered round one ≡ true) round.targets h.targets (each_from_all (is_covered round) round.targets (all_covered round)))) in
-    let second : IsSecondRound sc facts place txn (next_round round aim named (mets_in round (met_in round None))) = record {
-      number = number_two round first;
+    let number : 2 ≤ next_number round = let least = least_number round.number (length round.mets) (round_counted sc facts place txn round h.count) in omega (arith, least) in
+    let next : NextMets sc facts place txn round reading declared (mets_in round (met_in round reading)) = next_mets sc facts place txn round reading named declared u in
+    let mets : List Met = mets_in round (met_in round reading) in
+    let later : IsLaterRound sc facts place txn (next_round round aim named mets) = record {
+      number = number;
       aimed = f;
       kept = renewed_at f aim round.targets at;
       aim = at;
@@ -226,32 +245,37 @@ next_fits sc facts place txn round named declared found h is first =
       published = subst (λ (ws : List Wanted). Each (ArePublished sc facts place) ws) (sym is.is_named) (wants_published sc facts place aim (filter (is_outdated aim) round.targets) published);
       covers = subst (λ (ws : List Wanted). Each (IsCovered sc txn ws) (map (next_target aim) round.targets)) (sym is.is_named) (renewed_covers sc txn aim round.targets names replied);
       within = subst (Each (IsWithin aim)) (sym is.is_named) (wants_within aim round.targets);
+      counted = next_counted sc facts place txn round reading named declared u;
+      brought = λ other there. subst (λ (d : Transaction). next_number round ≡ length mets + 2 → has_view sc d d.queries ≡ true) (same_found sc txn declared other u.found there) next.brought;
+      fresh = λ other there. subst (λ (d : Transaction). IfSome (last_met mets) (IsFresh sc facts d f)) (same_found sc txn declared other u.found there) next.fresh;
     } in
-    let same : mets_in round (met_in round None) ≡ round.mets = append-nil round.mets in
     record {
       limit = h.limit;
       levels = h.levels;
       reads = h.reads;
       servers = servers_renewed aim round.targets ∙ h.servers;
       targets = each_map (TargetFits sc facts place txn) (TargetFits sc facts place txn) (next_target aim) (λ one k. renewed_where sc facts place txn one (is_outdated aim one) k) round.targets h.targets;
-      count = inr second;
-      few = subst (λ (mets : List Met). length mets < round.limit) (sym same) h.few;
-      unread = λ none. same ∙ h.unread none;
-      mets = λ other there. subst (AreMet sc facts place txn other) (sym same) (h.mets other there);
+      count = inr later;
+      top = h.top;
+      few = next_few sc facts place txn round reading named declared u;
+      unread = λ none. next_unread sc facts place txn round reading named declared u none;
+      mets = λ other there. subst (λ (d : Transaction). AreMet sc facts place txn d mets) (same_found sc txn declared other u.found there) next.met;
     }
 
--- a round is updated only if it is the first, and the second one fits
-pub round_updated : (sc : Scenario) (facts : List Fact) (place : ℕ) (txn : TxnId) (round : Round) (named : List Wanted) → IsValid sc → RoundFits sc facts place txn round → judge round None ≡ Update named
-    → IsUpdatedRound sc facts place txn round named
-round_updated sc facts place txn round named valid h e =
-    let is : IsUpdated round None named = updated round None named e in
-    let there = declared_with sc txn (is_outdated (aim_in round None)) round.targets h.servers is.is_out in
-    let reads : are_read_for round ≡ true = round_read_for sc facts place txn round there.0 valid there.1 h in
-    let first : round.number ≡ 1 = first_only round None named reads (unread_not_above round) e refl (keeps_count sc facts place txn round h.count) in
+-- an updated round's next one fits
+pub round_updated : (sc : Scenario) (facts : List Fact) (place : ℕ) (txn : TxnId) (round : Round) (reading : Option Reading) (named : List Wanted) → IsValid sc → RoundFits sc facts place txn round
+    → JudgedFits sc facts place txn round reading → judge round reading ≡ Update named → IsUpdatedRound sc facts place txn round reading named
+round_updated sc facts place txn round reading named valid h r e =
+    let is : IsUpdated round reading named = updated round reading named e in
+    let there = declared_with sc txn (is_outdated (aim_in round reading)) round.targets h.servers is.is_out in
+    let u : Updates sc facts place txn round reading named there.0 =
+    record { fits = h; read = r; judged = e; found = there.1; own = own_proofs sc facts place txn round there.0 valid there.1 h; read_for = round_read_for sc facts place txn round there.0 valid there.1 h } in
+    let low : round.number ≤ 17 = few_rounds sc facts place txn round h in
+    let further : next_number round ≡ round.number + 1 = omega (arith, low) in
     record {
-      first = first;
-      number = ap (λ answer. (after round (aim_in round None) (met_in round None) answer).number) e ∙ number_two round first;
-      named_is = ap (λ answer. (after round (aim_in round None) (met_in round None) answer).named) e;
-      fits = subst (λ answer. RoundFits sc facts place txn (after round (aim_in round None) (met_in round None) answer)) (sym e)
-          (next_fits sc facts place txn round named there.0 there.1 h is first);
+      begun = least_number round.number (length round.mets) (round_counted sc facts place txn round h.count);
+      number = ap (λ answer. (after round (aim_in round reading) (met_in round reading) answer).number) e ∙ further;
+      named_is = ap (λ answer. (after round (aim_in round reading) (met_in round reading) answer).named) e;
+      fits = subst (λ answer. RoundFits sc facts place txn (after round (aim_in round reading) (met_in round reading) answer)) (sym e)
+          (next_fits sc facts place txn round reading named there.0 u);
     }

@@ -1,14 +1,18 @@
--- The levels of a round's proofs: each is of an administrator of its transaction, and the master is read where one is under global consistency.
+-- The levels of a round's proofs: each is of an administrator of its transaction, and the master is read where one is
+-- under global consistency.
+use Rattle.std.specs.List.{list_any}
 use Rattle.std.specs.Option.{option_map_or}
-use Rattle.std.proofs.Common.{Bool, List, None, Option, Some, false, not, refl, slice_get, subst, true, ℕ, ◌||◌, ◌∙◌, ◌≡◌}
-use Rattle.std.proofs.lemmas.Bool.{and_parts, not_from_false, or_left, or_right}
+use Rattle.std.proofs.Common.{Bool, List, None, Option, Some, [], arith, false, length, nat_le, not, refl, slice_get, subst, true, ℕ, ◌<◌, ◌∙◌, ◌∷◌, ◌≡◌}
+use Rattle.std.proofs.lemmas.Bool.{and_parts, not_from_false, or_from, or_left, or_parts, or_right}
+use Rattle.std.proofs.lemmas.Bool.Decides.{nat_tests}
 use Rattle.tp_model.specs.Authorisation.{is_item_at, is_own_query, is_query_at}
 use Rattle.tp_model.specs.Causes.{is_own_admin}
 use Rattle.tp_model.specs.Ids.{same_admin, same_server}
 use Rattle.tp_model.specs.Levels.{is_global, level_of, reads_master}
 use Rattle.tp_model.specs.Queries.{item_of, query_at}
 use Rattle.tp_model.specs.Words.{AdminId, Fact, Item, Level, Query, Scenario, ServerId, Transaction, TxnId, Verdict}
-use Rattle.tp_round.proofs.AdminLemmas.{same_ids}
+use Rattle.tp_round.proofs.AdminLemmas.{any_admin, same_ids}
+use Rattle.tp_round.proofs.NamesLemmas.{admins_in}
 use Rattle.tp_round.proofs.RoundsLemmas.{are_read_for}
 use Rattle.tp_round.specs.Judge.{is_global_at}
 use Rattle.tp_round.specs.Laws.{is_read_for}
@@ -22,6 +26,11 @@ use Rattle.tp_runs.proofs.basics.Levels.{LevelsFit, own_admin, reads_where}
 use Rattle.tp_runs.proofs.ids.Valid.{IsValid, IsValidItem}
 use Rattle.tp_runs.proofs.trust.Fit.{Right}
 use Rattle.tp_runs.proofs.trust.Rounds.{RoundFits, proofs_right}
+
+-- where no member passes a test each fails it
+pub each_failing : {A : Type 0} (test : A → Bool) (xs : List A) → list_any test xs ≡ false → Each (λ (x : A). test x ≡ false) xs
+each_failing test [] e = tt
+each_failing test (x ∷ xs) e = let parts = or_parts (test x) (list_any test xs) e in (parts.0, each_failing test xs parts.1)
 
 -- the administrator of a proof is one of the scenario's, and of one of the transaction's queries
 pub record IsOwnProof (sc : Scenario) (declared : Transaction) (verdict : Verdict) : Type 0 where
@@ -51,6 +60,27 @@ pub own_proofs : (sc : Scenario) (facts : List Fact) (place : ℕ) (txn : TxnId)
     → Each (IsOwnProof sc declared) (proofs_in round.targets)
 own_proofs sc facts place txn round declared valid found h =
     each_as (Right sc facts place txn) (IsOwnProof sc declared) (λ verdict right. own_proof sc facts place txn declared verdict valid found right) (proofs_in round.targets) (proofs_right sc facts place txn round h)
+
+-- the administrator is past the last one of the scenario
+abbrev is_past_admin : Scenario → AdminId → Bool
+is_past_admin sc admin = nat_le (length sc.admins) admin.0
+
+-- so each administrator that has a proof is one of the scenario's
+pub own_admins : (sc : Scenario) (declared : Transaction) (round : Round) → Each (IsOwnProof sc declared) (proofs_in round.targets) → Each (IsAdmin sc) (admins_in round)
+own_admins sc declared round own =
+    let none : list_any (λ (verdict : Verdict). is_past_admin sc verdict.admin) (proofs_in round.targets) ≡ false = none_past (proofs_in round.targets) own in
+    each_as (λ (admin : AdminId). is_past_admin sc admin ≡ false) (IsAdmin sc) (λ admin e. there admin e) (admins_in round)
+    (each_failing (is_past_admin sc) (admins_in round) (any_admin (is_past_admin sc) (proofs_in round.targets) ∙ none))
+  where
+    there : (admin : AdminId) → is_past_admin sc admin ≡ false → admin.0 < length sc.admins
+    there admin e = grind (arith, nat_tests)
+
+    here : (admin : AdminId) → admin.0 < length sc.admins → is_past_admin sc admin ≡ false
+    here admin e = grind (arith, nat_tests)
+
+    none_past : (proofs : List Verdict) → Each (IsOwnProof sc declared) proofs → list_any (λ (verdict : Verdict). is_past_admin sc verdict.admin) proofs ≡ false
+    none_past [] k = refl
+    none_past (verdict ∷ proofs) k = or_from (is_past_admin sc verdict.admin) (list_any (λ (other : Verdict). is_past_admin sc other.admin) proofs) (here verdict.admin k.0.exists) (none_past proofs k.1)
 
 -- where the master is not read, a proof is under view consistency
 pub unread_view : (sc : Scenario) (declared : Transaction) (levels : List Level) (verdict : Verdict) → LevelsFit sc declared levels → reads_master sc declared ≡ false → IsOwnProof sc declared verdict

@@ -1,14 +1,15 @@
 -- Rounds of a coordinator: what a round rests on, at its start, as facts are added, and after each reply.
-use Rattle.std.specs.List.{list_all, list_any}
+use Rattle.std.specs.List.{count_by, list_all, list_any}
 use Rattle.std.specs.Option.{option_map_or}
-use Rattle.std.proofs.Common.{Bool, IfSome, List, None, Option, Some, [], ap, arith, cond, false, find, inl, inr, is_none, length, map, refl, replicate, slice_get, subst, suc, sym, true, zero, ℕ, ⊎_elim, ◌==◌, ◌||◌, ◌∙◌, ◌∷◌, ◌≡◌, ◌<◌, ◌≤◌, ◌⊎◌}
+use Rattle.std.proofs.Common.{Bool, IfSome, List, None, Option, Some, [], ap, arith, cond, false, find, inl, inr, is_none, length, map, refl, replicate, slice_get, subst, suc, sym, true, zero, ℕ, ◌+◌, ◌==◌, ◌||◌, ◌∙◌, ◌∷◌, ◌≡◌, ◌<◌, ◌≤◌, ◌⊎◌}
 use Rattle.std.proofs.lemmas.Bool.{and_from, and_parts, eq-eqb, eqb-true}
 use Rattle.tp_types.proofs.ListLemmas.{number_itself}
 use Rattle.tp_model.specs.Authorisation.{is_item_at, is_own_query, is_query_at}
 use Rattle.tp_model.specs.Ids.{same_admin, same_server}
 use Rattle.tp_model.specs.Causes.{are_met_on, is_met_shown}
 use Rattle.tp_model.specs.Levels.{is_global, level_of, reads_master}
-use Rattle.tp_model.specs.Limits.{admins_limit, view_rounds}
+use Rattle.tp_model.specs.Limits.{admins_limit, rounds_limit, view_rounds}
+use Rattle.tp_model.specs.Versions.{is_publication, newest, opening_version}
 use Rattle.tp_model.specs.Queries.{is_at_server, item_of, query_at, servers_of}
 use Rattle.tp_model.specs.Words.level
 use Rattle.tp_model.specs.Words.{AdminId, Fact, Item, Met, Query, Scenario, ServerId, Transaction, TxnId, Verdict, Version}
@@ -21,13 +22,13 @@ use Rattle.tp_round.specs.Replies.{proofs_in, verdicts_in}
 use Rattle.tp_round.proofs.AgreedLemmas.{false_is_least}
 use Rattle.tp_round.proofs.KeptLemmas.{server_of, servers_replied}
 use Rattle.tp_round.proofs.LevelLemmas.{view_for_each}
-use Rattle.tp_round.proofs.RoundsLemmas.{aimed_has, are_wanted_at, is_wanted_at, reply_keeps}
+use Rattle.tp_round.proofs.RoundsLemmas.{IsCounted, aimed_has, are_wanted_at, is_wanted_at, reply_keeps}
 use Rattle.tp_round.proofs.VersionLemmas.{are_at, is_at}
 use Rattle.tp_runs.proofs.basics.Verdicts.{numbers_of}
 use Rattle.tp_types.proofs.EachLemmas.{by_cond, each_as, each_flat_map, each_get, each_more, each_of_all, each_two}
 use Rattle.tp_runs.proofs.agreement.Coordinator.{HaveItems, HoldsItem, servers_at_have_items}
 use Rattle.tp_runs.proofs.basics.Aims.{is_within}
-use Rattle.tp_runs.proofs.basics.Levels.{LevelsFit, limit_of}
+use Rattle.tp_runs.proofs.basics.Levels.{LevelsFit, has_view, limit_of}
 use Rattle.tp_runs.proofs.basics.Rounds.{EachServer, each_missing, missing_in}
 use Rattle.tp_runs.proofs.pairs.Actors.{site_of}
 use Rattle.tp_runs.proofs.pairs.CoordinatorRows.{NamesAt}
@@ -35,10 +36,11 @@ use Rattle.tp_runs.proofs.pairs.Fits.{Names}
 use Rattle.tp_runs.proofs.basics.Turns.{WantNow}
 use Rattle.tp_coord.specs.Row.{server_of_target, want_for}
 use Rattle.tp_model.specs.Agreement.{has_item}
+use Rattle.tp_machine.specs.Named.{IsAdmin}
 use Rattle.tp_model.specs.Limits.{is_empty}
 use Rattle.tp_runs.proofs.pairs.Site.{Site, here, upto, with_number}
 use Rattle.tp_runs.proofs.trust.Built.{ArePlain}
-use Rattle.tp_runs.proofs.trust.Causes.{met_on_stays, mets_stay}
+use Rattle.tp_runs.proofs.trust.Causes.{met_on_stays, met_past, mets_stay}
 use Rattle.tp_runs.proofs.trust.Fit.{IsPublished, Later, Right, newest_rises, right_stays}
 use Rattle.tp_types.specs.Each.{Each}
 use Rattle.tp_coord.specs.Opened.{servers_at}
@@ -75,9 +77,21 @@ ArePublished sc facts place named = Each (IsPublished sc facts place) named.want
 abbrev pub IsWithin : List (AdminId × Version) → Wanted → Type 0
 IsWithin aim named = Each (λ (wanted : AdminId × Version). is_within aim wanted ≡ true) named.want
 
--- a second round: there is one version of each administrator which kept replies have and which is wanted
-pub record IsSecondRound (sc : Scenario) (facts : List Fact) (place : ℕ) (txn : TxnId) (round : Round) : Type 0 where
-  pub number : round.number ≡ 2
+-- of rounds that met a newer version, the last
+abbrev pub last_met : List Met → Option Met
+last_met [] = None
+last_met (one ∷ []) = Some one
+last_met (one ∷ next ∷ mets) = last_met (next ∷ mets)
+
+-- of an administrator under global consistency the version is the one that was the newest where a round met something
+abbrev pub IsFresh : Scenario → List Fact → Transaction → (AdminId → ℕ) → Met → Type 0
+IsFresh sc facts declared aimed met = (admin : AdminId) → IsAdmin sc admin → is_global (level_of declared admin) ≡ true → aimed admin ≡ newest sc admin met.place facts
+
+-- a round after an update: there is one version of each administrator which kept replies have and which is wanted. Each
+-- round before it met something, but for the first at most, which then brought together what is under view consistency;
+-- and under global consistency the version is the one that was the newest where a round met something last
+pub record IsLaterRound (sc : Scenario) (facts : List Fact) (place : ℕ) (txn : TxnId) (round : Round) : Type 0 where
+  pub number : 2 ≤ round.number
   pub aimed : AdminId → ℕ
   pub kept : list_all (are_at aimed) round.targets ≡ true
   pub aim : list_all (is_wanted_at aimed) round.aim ≡ true
@@ -85,6 +99,9 @@ pub record IsSecondRound (sc : Scenario) (facts : List Fact) (place : ℕ) (txn 
   pub published : Each (ArePublished sc facts place) round.named
   pub covers : Each (IsCovered sc txn round.named) round.targets
   pub within : Each (IsWithin round.aim) round.named
+  pub counted : IsCounted round.number (length round.mets)
+  pub brought : (declared : Transaction) → slice_get sc.txns txn.0 ≡ Some declared → round.number ≡ length round.mets + 2 → has_view sc declared declared.queries ≡ true
+  pub fresh : (declared : Transaction) → slice_get sc.txns txn.0 ≡ Some declared → IfSome (last_met round.mets) (IsFresh sc facts declared aimed)
 
 -- a first round: nothing was wanted or met yet
 pub record IsFirstRound (round : Round) : Type 0 where
@@ -93,20 +110,23 @@ pub record IsFirstRound (round : Round) : Type 0 where
   pub named : round.named ≡ []
   pub mets : round.mets ≡ []
 
--- rounds each met a newer version at the master before the place, and each after the first used what was the newest at the one before
+-- rounds each met a newer version at the master before the place, and each after the first used what was the newest at
+-- the one before
 pub record AreMet (sc : Scenario) (facts : List Fact) (place : ℕ) (txn : TxnId) (declared : Transaction) (mets : List Met) : Type 0 where
   pub shown : list_all (is_met_shown sc txn place facts declared) mets ≡ true
   pub on : are_met_on sc facts mets ≡ true
 
--- a round of all the transaction's servers, whose replies fit. Its limit, its levels and whether it reads the master are those of the
--- transaction; it is the first, or comes after an update; and fewer rounds than the limit were met, none where no master is read
+-- a round of all the transaction's servers, whose replies fit. Its limit, its levels and whether it reads the master
+-- are those of the transaction; it is the first, or comes after an update; and fewer rounds than the limit met
+-- something, none where no master is read
 pub record RoundFits (sc : Scenario) (facts : List Fact) (place : ℕ) (txn : TxnId) (round : Round) : Type 0 where
   pub limit : (declared : Transaction) → slice_get sc.txns txn.0 ≡ Some declared → round.limit ≡ limit_of sc declared
   pub levels : (declared : Transaction) → slice_get sc.txns txn.0 ≡ Some declared → LevelsFit sc declared round.levels
   pub reads : (declared : Transaction) → slice_get sc.txns txn.0 ≡ Some declared → round.reads ≡ reads_master sc declared
   pub servers : map server_of round.targets ≡ servers_at sc txn
   pub targets : Each (TargetFits sc facts place txn) round.targets
-  pub count : IsFirstRound round ⊎ IsSecondRound sc facts place txn round
+  pub count : IsFirstRound round ⊎ IsLaterRound sc facts place txn round
+  pub top : round.limit ≤ rounds_limit
   pub few : length round.mets < round.limit
   pub unread : round.reads ≡ false → round.mets ≡ []
   pub mets : (declared : Transaction) → slice_get sc.txns txn.0 ≡ Some declared → AreMet sc facts place txn declared round.mets
@@ -135,6 +155,7 @@ round_starts sc facts place txn plain =
       servers = new_servers (servers_at sc txn);
       targets = new_fit sc facts place txn (servers_at sc txn);
       count = inl (record { number = refl; aim = refl; named = refl; mets = refl });
+      top = omega arith;
       few = omega arith;
       unread = λ none. refl;
       mets = λ declared found. record { shown = refl; on = refl };
@@ -142,15 +163,17 @@ round_starts sc facts place txn plain =
 
 -- ---- the round's number
 
-number_of : (sc : Scenario) (facts : List Fact) (place : ℕ) (txn : TxnId) (round : Round) → IsFirstRound round ⊎ IsSecondRound sc facts place txn round → (round.number ≡ 1) ⊎ (round.number ≡ 2)
-number_of sc facts place txn round (inl first) = inl first.number
-number_of sc facts place txn round (inr second) = inr second.number
+few_by : (number mets limit : ℕ) → mets < limit → limit ≤ 16 → IsCounted number mets → number ≤ 17
+few_by number mets limit few top (inl one) = omega (arith, few, top, one)
+few_by number mets limit few top (inr two) = omega (arith, few, top, two)
 
-pub one_or_two : (sc : Scenario) (facts : List Fact) (place : ℕ) (txn : TxnId) (round : Round) → RoundFits sc facts place txn round → (round.number ≡ 1) ⊎ (round.number ≡ 2)
-one_or_two sc facts place txn round h = number_of sc facts place txn round h.count
+-- the round's number is one or two more than the rounds that met something
+pub round_counted : (sc : Scenario) (facts : List Fact) (place : ℕ) (txn : TxnId) (round : Round) → IsFirstRound round ⊎ IsLaterRound sc facts place txn round → IsCounted round.number (length round.mets)
+round_counted sc facts place txn round (inl first) = let none : length round.mets ≡ 0 = ap length first.mets in inl (omega (arith, first.number, none))
+round_counted sc facts place txn round (inr later) = later.counted
 
 pub few_rounds : (sc : Scenario) (facts : List Fact) (place : ℕ) (txn : TxnId) (round : Round) → RoundFits sc facts place txn round → round.number ≤ 17
-few_rounds sc facts place txn round h = ⊎_elim (λ (first : round.number ≡ 1). omega (arith, first)) (λ (second : round.number ≡ 2). omega (arith, second)) (one_or_two sc facts place txn round h)
+few_rounds sc facts place txn round h = few_by round.number (length round.mets) round.limit h.few h.top (round_counted sc facts place txn round h.count)
 
 -- nothing is wanted of a server in a first round
 pub first_wants : (round : Round) (server : ServerId) → IsFirstRound round → want_for round server ≡ []
@@ -168,26 +191,43 @@ target_stays sc old new low high txn target l h =
 published_stays : (sc : Scenario) (old new : List Fact) (low high : ℕ) (wanted : AdminId × Version) → Later old new low high → IsPublished sc old low wanted → IsPublished sc new high wanted
 published_stays sc old new low high wanted l h = let rises = newest_rises sc wanted.0 old new low high l in omega (arith, h, rises)
 
-count_stays : (sc : Scenario) (old new : List Fact) (low high : ℕ) (txn : TxnId) (round : Round) → Later old new low high → IsFirstRound round ⊎ IsSecondRound sc old low txn round
-    → IsFirstRound round ⊎ IsSecondRound sc new high txn round
-count_stays sc old new low high txn round l (inl first) = inl first
-count_stays sc old new low high txn round l (inr second) =
-    inr (record {
-      number = second.number;
-      aimed = second.aimed;
-      kept = second.kept;
-      aim = second.aim;
-      named = second.named;
-      published = each_as (ArePublished sc old low) (ArePublished sc new high)
-          (λ (one : Wanted) p. each_as (IsPublished sc old low) (IsPublished sc new high) (λ wanted q. published_stays sc old new low high wanted l q) one.want p) round.named second.published;
-      covers = second.covers;
-      within = second.within;
-    })
-
 -- what rounds met stays so
 pub mets_fit_later : (sc : Scenario) (old new : List Fact) (low high : ℕ) (txn : TxnId) (declared : Transaction) (mets : List Met) → Later old new low high → AreMet sc old low txn declared mets → AreMet sc new high txn declared mets
 mets_fit_later sc old new low high txn declared mets l h =
     record { shown = mets_stay sc txn old new low high declared mets l h.shown; on = met_on_stays sc txn old new low high declared mets l h.shown h.on }
+
+last_past : (sc : Scenario) (txn : TxnId) (place : ℕ) (facts : List Fact) (declared : Transaction) (mets : List Met) → list_all (is_met_shown sc txn place facts declared) mets ≡ true
+    → IfSome (last_met mets) (λ (one : Met). one.place < place)
+last_past sc txn place facts declared [] h = tt
+last_past sc txn place facts declared (one ∷ []) h = met_past sc txn place facts declared one (and_parts (is_met_shown sc txn place facts declared one) true h).0
+last_past sc txn place facts declared (one ∷ next ∷ mets) h =
+    last_past sc txn place facts declared (next ∷ mets) (and_parts (is_met_shown sc txn place facts declared one) (list_all (is_met_shown sc txn place facts declared) (next ∷ mets)) h).1
+
+fresh_stays : (sc : Scenario) (old new : List Fact) (low high : ℕ) (declared : Transaction) (aimed : AdminId → ℕ) (last : Option Met) → Later old new low high → IfSome last (λ (one : Met). one.place < low)
+    → IfSome last (IsFresh sc old declared aimed) → IfSome last (IsFresh sc new declared aimed)
+fresh_stays sc old new low high declared aimed None l past h = tt
+fresh_stays sc old new low high declared aimed (Some one) l past h = λ admin exists global.
+    h admin exists global ∙ ap (λ (earlier : List Fact). (opening_version sc admin).0 + count_by (is_publication admin) earlier) (sym (l.grows.same one.place (omega (arith, past))))
+
+count_stays : (sc : Scenario) (old new : List Fact) (low high : ℕ) (txn : TxnId) (round : Round) → Later old new low high
+    → ((declared : Transaction) → slice_get sc.txns txn.0 ≡ Some declared → AreMet sc old low txn declared round.mets) → IsFirstRound round ⊎ IsLaterRound sc old low txn round → IsFirstRound round ⊎ IsLaterRound sc new high txn round
+count_stays sc old new low high txn round l mets (inl first) = inl first
+count_stays sc old new low high txn round l mets (inr later) =
+    inr (record {
+      number = later.number;
+      aimed = later.aimed;
+      kept = later.kept;
+      aim = later.aim;
+      named = later.named;
+      published = each_as (ArePublished sc old low) (ArePublished sc new high)
+          (λ (one : Wanted) p. each_as (IsPublished sc old low) (IsPublished sc new high) (λ wanted q. published_stays sc old new low high wanted l q) one.want p) round.named later.published;
+      covers = later.covers;
+      within = later.within;
+      counted = later.counted;
+      brought = later.brought;
+      fresh = λ declared found.
+          fresh_stays sc old new low high declared later.aimed (last_met round.mets) l (last_past sc txn low old declared round.mets (mets declared found).shown) (later.fresh declared found);
+    })
 
 pub round_fits_later : (sc : Scenario) (old new : List Fact) (low high : ℕ) (txn : TxnId) (round : Round) → Later old new low high → RoundFits sc old low txn round → RoundFits sc new high txn round
 round_fits_later sc old new low high txn round l h =
@@ -197,7 +237,8 @@ round_fits_later sc old new low high txn round l h =
       reads = h.reads;
       servers = h.servers;
       targets = each_as (TargetFits sc old low txn) (TargetFits sc new high txn) (λ target f. target_stays sc old new low high txn target l f) round.targets h.targets;
-      count = count_stays sc old new low high txn round l h.count;
+      count = count_stays sc old new low high txn round l h.mets h.count;
+      top = h.top;
       few = h.few;
       unread = h.unread;
       mets = λ declared found. mets_fit_later sc old new low high txn declared round.mets l (h.mets declared found);
@@ -275,9 +316,9 @@ pub want_published : (sc : Scenario) (facts : List Fact) (place : ℕ) (txn : Tx
     → Each (IsPublished sc facts place) (want_for round server)
 want_published sc facts place txn round server h = published h.count
   where
-    published : IsFirstRound round ⊎ IsSecondRound sc facts place txn round → Each (IsPublished sc facts place) (want_for round server)
+    published : IsFirstRound round ⊎ IsLaterRound sc facts place txn round → Each (IsPublished sc facts place) (want_for round server)
     published (inl first) = subst (Each (IsPublished sc facts place)) (sym (first_wants round server first)) tt
-    published (inr second) = want_each (λ (want : List (AdminId × Version)). Each (IsPublished sc facts place) want) round.named server tt second.published
+    published (inr later) = want_each (λ (want : List (AdminId × Version)). Each (IsPublished sc facts place) want) round.named server tt later.published
 
 -- what a round wants of a server that is awaited names all administrators there
 named_missing : (sc : Scenario) (txn : TxnId) (named : List Wanted) (targets : List Target) → Each (IsCovered sc txn named) targets → Each (λ (at : ServerId). IsNamedFor sc txn at (want_in named at)) (missing_in targets)
@@ -286,11 +327,11 @@ named_missing sc txn named (target ∷ targets) h =
     by_cond (λ (left : List Target). Each (λ (at : ServerId). IsNamedFor sc txn at (want_in named at)) (map server_of_target left)) (is_missing target)
     (λ e. (h.0 e, named_missing sc txn named targets h.1)) (λ e. named_missing sc txn named targets h.1)
 
-names_by : (sc : Scenario) (facts : List Fact) (place : ℕ) (txn : TxnId) (round : Round) (declared : Transaction) → slice_get sc.txns txn.0 ≡ Some declared → IsFirstRound round ⊎ IsSecondRound sc facts place txn round
+names_by : (sc : Scenario) (facts : List Fact) (place : ℕ) (txn : TxnId) (round : Round) (declared : Transaction) → slice_get sc.txns txn.0 ≡ Some declared → IsFirstRound round ⊎ IsLaterRound sc facts place txn round
     → Each (NamesAt sc declared round) (missing_in round.targets)
 names_by sc facts place txn round declared e (inl first) = each_of_all _ (λ at. inl (ap is_empty (first_wants round at first))) (missing_in round.targets)
-names_by sc facts place txn round declared e (inr second) =
-    each_as (λ (at : ServerId). IsNamedFor sc txn at (want_in round.named at)) (NamesAt sc declared round) (λ at named. inr (named declared e)) (missing_in round.targets) (named_missing sc txn round.named round.targets second.covers)
+names_by sc facts place txn round declared e (inr later) =
+    each_as (λ (at : ServerId). IsNamedFor sc txn at (want_in round.named at)) (NamesAt sc declared round) (λ at named. inr (named declared e)) (missing_in round.targets) (named_missing sc txn round.named round.targets later.covers)
 
 pub round_names : (sc : Scenario) (facts : List Fact) (place : ℕ) (txn : TxnId) (round : Round) (declared : Transaction) → slice_get sc.txns txn.0 ≡ Some declared → RoundFits sc facts place txn round
     → Each (NamesAt sc declared round) (missing_in round.targets)
@@ -329,17 +370,17 @@ item_declared sc at txn None e h = absurd (cc)
 item_declared sc at txn (Some declared) e h = (declared, e, has_own sc declared at h)
 
 -- after an update what is wanted of a server that is awaited is something, and within what is aimed at
-wants_by : (sc : Scenario) (facts : List Fact) (place : ℕ) (txn : TxnId) (round : Round) → EachServer (HoldsItem sc txn) round.targets → IsFirstRound round ⊎ IsSecondRound sc facts place txn round
+wants_by : (sc : Scenario) (facts : List Fact) (place : ℕ) (txn : TxnId) (round : Round) → EachServer (HoldsItem sc txn) round.targets → IsFirstRound round ⊎ IsLaterRound sc facts place txn round
     → Each (λ (at : ServerId). WantNow round (want_for round at)) (missing_in round.targets)
 wants_by sc facts place txn round items (inl first) = each_of_all _ (λ at. inl first.number) (missing_in round.targets)
-wants_by sc facts place txn round items (inr second) =
+wants_by sc facts place txn round items (inr later) =
     each_as (λ (at : ServerId). HoldsItem sc txn at × IsNamedFor sc txn at (want_in round.named at)) (λ (at : ServerId). WantNow round (want_for round at))
     (λ at k. let there = item_declared sc at txn (slice_get sc.txns txn.0) refl k.0 in
     inr (
       not_empty sc there.0 at (want_for round at) there.2 (k.1 there.0 there.1),
-      want_each (λ (want : List (AdminId × Version)). Each (λ (wanted : AdminId × Version). is_within round.aim wanted ≡ true) want) round.named at tt second.within,
+      want_each (λ (want : List (AdminId × Version)). Each (λ (wanted : AdminId × Version). is_within round.aim wanted ≡ true) want) round.named at tt later.within,
     )) (missing_in round.targets)
-    (each_two (HoldsItem sc txn) (λ (at : ServerId). IsNamedFor sc txn at (want_in round.named at)) (missing_in round.targets) (each_missing (HoldsItem sc txn) round.targets items) (named_missing sc txn round.named round.targets second.covers))
+    (each_two (HoldsItem sc txn) (λ (at : ServerId). IsNamedFor sc txn at (want_in round.named at)) (missing_in round.targets) (each_missing (HoldsItem sc txn) round.targets items) (named_missing sc txn round.named round.targets later.covers))
 
 -- the transaction's servers have items of it
 servers_hold : (sc : Scenario) (txn : TxnId) (targets : List Target) (servers : List ServerId) → map server_of targets ≡ servers → HaveItems sc txn servers → EachServer (HoldsItem sc txn) targets
@@ -365,10 +406,10 @@ all_at f aim (verdict ∷ verdicts) e h =
     let parts = and_parts (is_aimed aim verdict) (list_all (is_aimed aim) verdicts) h in
     and_from (is_at f verdict) (list_all (is_at f) verdicts) (aimed_has f aim verdict e parts.0) (all_at f aim verdicts e parts.1)
 
-aimed_reply : (sc : Scenario) (facts : List Fact) (place : ℕ) (txn : TxnId) (round : Round) (verdicts : List Verdict) (second : IsSecondRound sc facts place txn round) → AimedReply round verdicts
-    → list_all (is_at second.aimed) verdicts ≡ true
-aimed_reply sc facts place txn round verdicts second (inl first) = let number = second.number in absurd (cc)
-aimed_reply sc facts place txn round verdicts second (inr aimed) = all_at second.aimed round.aim verdicts second.aim aimed
+aimed_reply : (sc : Scenario) (facts : List Fact) (place : ℕ) (txn : TxnId) (round : Round) (verdicts : List Verdict) (later : IsLaterRound sc facts place txn round) → AimedReply round verdicts
+    → list_all (is_at later.aimed) verdicts ≡ true
+aimed_reply sc facts place txn round verdicts later (inl first) = absurd (omega (arith, later.number, first))
+aimed_reply sc facts place txn round verdicts later (inr aimed) = all_at later.aimed round.aim verdicts later.aim aimed
 
 replied_where : (P : Target → Type 0) (new target : Target) (targets more : List Target) (b : Bool) → P new → P target → Each P targets → Each P more → Each P (cond b (new ∷ targets) (target ∷ more))
 replied_where P new target targets more true n t each rest = (n, each)
@@ -392,18 +433,21 @@ declared_with sc txn test (target ∷ targets) e some = found (slice_get sc.txns
     found (Some declared) f g = (declared, f)
 
 count_replied : (sc : Scenario) (facts : List Fact) (place : ℕ) (txn : TxnId) (round : Round) (server : ServerId) (verdicts : List Verdict) → AimedReply round verdicts
-    → IsFirstRound round ⊎ IsSecondRound sc facts place txn round → IsFirstRound (after_reply round server verdicts) ⊎ IsSecondRound sc facts place txn (after_reply round server verdicts)
+    → IsFirstRound round ⊎ IsLaterRound sc facts place txn round → IsFirstRound (after_reply round server verdicts) ⊎ IsLaterRound sc facts place txn (after_reply round server verdicts)
 count_replied sc facts place txn round server verdicts has (inl first) = inl (record { number = first.number; aim = first.aim; named = first.named; mets = first.mets })
-count_replied sc facts place txn round server verdicts has (inr second) =
+count_replied sc facts place txn round server verdicts has (inr later) =
     inr (record {
-      number = second.number;
-      aimed = second.aimed;
-      kept = reply_keeps second.aimed round.targets server verdicts second.kept (λ waits. aimed_reply sc facts place txn round verdicts second has);
-      aim = second.aim;
-      named = second.named;
-      published = second.published;
-      covers = replied_each (IsCovered sc txn round.named) round.targets server verdicts (λ missing. absurd (cc)) second.covers;
-      within = second.within;
+      number = later.number;
+      aimed = later.aimed;
+      kept = reply_keeps later.aimed round.targets server verdicts later.kept (λ waits. aimed_reply sc facts place txn round verdicts later has);
+      aim = later.aim;
+      named = later.named;
+      published = later.published;
+      covers = replied_each (IsCovered sc txn round.named) round.targets server verdicts (λ missing. absurd (cc)) later.covers;
+      within = later.within;
+      counted = later.counted;
+      brought = later.brought;
+      fresh = later.fresh;
     })
 
 -- a server's reply
@@ -417,6 +461,7 @@ round_replied sc facts place txn round server verdicts h right numbers has =
       servers = servers_replied round.targets server verdicts ∙ h.servers;
       targets = replied_each (TargetFits sc facts place txn) round.targets server verdicts (record { right = right; numbers = numbers }) h.targets;
       count = count_replied sc facts place txn round server verdicts has h.count;
+      top = h.top;
       few = h.few;
       unread = h.unread;
       mets = h.mets;
