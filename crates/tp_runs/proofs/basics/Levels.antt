@@ -2,7 +2,7 @@
 use Rattle.std.specs.List.{list_any}
 use Rattle.std.specs.Option.{option_map_or}
 use Rattle.std.proofs.Common.{Bool, List, None, Option, Some, [], ap, false, if◌then◌else◌, not, refl, slice_get, subst, suc, sym, true, zero, ℕ, ◌||◌, ◌∷◌, ◌≡◌}
-use Rattle.std.proofs.lemmas.Bool.{and_parts, or_left, or_right}
+use Rattle.std.proofs.lemmas.Bool.{and_parts, or_from, or_left, or_right}
 use Rattle.tp_model.specs.Authorisation.{is_item_at, is_own_query, is_query_at}
 use Rattle.tp_model.specs.Causes.{is_item_of, is_own_admin, is_query_of}
 use Rattle.tp_model.specs.Ids.{same_admin, same_server}
@@ -76,3 +76,21 @@ view_item txn admin (Some item) g e = subst (λ (one : AdminId). not (is_global 
 pub viewed_where : (sc : Scenario) (txn : Transaction) (admin : AdminId) → is_own_admin sc admin txn ≡ true → is_global (level_of txn admin) ≡ false → has_view sc txn txn.queries ≡ true
 viewed_where sc txn admin own g =
     any_as (is_query_of sc admin) (is_view_query sc txn) (λ query e. view_item txn admin (slice_get sc.items (item_of query).0) g e) txn.queries own
+
+none_of : {A : Type 0} (P : A → Bool) → ((x : A) → P x ≡ false) → (xs : List A) → list_any P xs ≡ false
+none_of P fails [] = refl
+none_of P fails (x ∷ xs) = or_from (P x) (list_any P xs) (fails x) (none_of P fails xs)
+
+no_item : (P : Item → Bool) → ((item : Item) → P item ≡ false) → (found : Option Item) → option_map_or P found false ≡ false
+no_item P fails None = refl
+no_item P fails (Some item) = fails item
+
+-- a transaction has one level for all administrators: where it reads the master none has the level view
+pub reads_unviewed : (sc : Scenario) (txn : Transaction) → reads_master sc txn ≡ true → has_view sc txn txn.queries ≡ false
+reads_unviewed sc txn reads = by_level (is_global txn.level) refl
+  where
+    by_level : (b : Bool) → is_global txn.level ≡ b → has_view sc txn txn.queries ≡ false
+    by_level true e = none_of (is_view_query sc txn) (λ query. no_item (is_view_item txn) (λ item. ap not e) (slice_get sc.items (item_of query).0)) txn.queries
+    by_level false e =
+        let none : reads_master sc txn ≡ false = none_of (is_global_query sc txn) (λ query. no_item (is_global_item txn) (λ item. e) (slice_get sc.items (item_of query).0)) txn.queries in
+        absurd (cc)

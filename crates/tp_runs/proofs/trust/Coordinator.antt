@@ -1,7 +1,7 @@
 -- Trust, the coordinator's rows: it commits on one instance whose proofs are right, true and of one version.
 use Rattle.std.specs.List.{range_with_len}
-use Rattle.std.proofs.Common.{IfSome, List, None, Option, Some, [], ap, arith, false, is_none, length, map, option_and_then, refl, replicate, slice_get, subst, sym, true, ℕ, ℤ, ⊎_elim, ◌++◌, ◌+◌, ◌∙◌, ◌∷◌, ◌≡◌, ◌≤◌, ◌⊎◌}
-use Rattle.std.proofs.lemmas.Bool.{eqb-true}
+use Rattle.std.proofs.Common.{Bool, IfSome, List, None, Option, Some, [], ap, arith, false, if◌then◌else◌, inl, inr, is_none, length, map, option_and_then, refl, replicate, slice_get, subst, sym, true, ℕ, ℤ, ⊎_elim, ◌++◌, ◌+◌, ◌<◌, ◌∙◌, ◌∷◌, ◌≡◌, ◌≤◌, ◌⊎◌}
+use Rattle.std.proofs.lemmas.Bool.{cases_lt, eqb-true}
 use Rattle.tp_types.specs.Effect.{Effect, ignores, sends}
 use Rattle.tp_model.specs.Limits.{admins_limit, view_rounds}
 use Rattle.tp_model.specs.Words.actor
@@ -34,7 +34,7 @@ use Rattle.tp_runs.proofs.trust.Fit.{BodyFits, IsSubmitted, Right, StapleFits, V
 use Rattle.tp_runs.proofs.trust.Phases.{PhaseFits}
 use Rattle.tp_runs.proofs.trust.RoundAims.{round_updated}
 use Rattle.tp_runs.proofs.trust.RoundProofs.{round_closes}
-use Rattle.tp_runs.proofs.trust.Rounds.{AimedReply, AreNumbersAt, RoundFits, few_rounds, round_denies, round_replied, round_starts, round_wants, want_published}
+use Rattle.tp_runs.proofs.trust.Rounds.{AimedReply, AreNumbersAt, IsRoundNumber, RoundFits, few_rounds, round_denies, round_replied, round_starts, round_wants, want_published}
 use Rattle.tp_runs.proofs.basics.Turns.{AreFew, IsAbove, IsOfPast, IsTimely, Now, PrepareNow, Stamp, TurnFits, ValidateNow, VerdictsNow, VoteNow, WantNow, admin_asked, admin_of_query, ceiling, died_move, end_move, first_move, further_move, low_query, low_round, next_move, number_within, query_count, raised, round_move, stamp_of, turn_rises}
 use Rattle.tp_scheme.specs.Gathered.{pin_of}
 use Rattle.tp_scheme.specs.declared.moves.Point.TheVariants as point
@@ -310,12 +310,18 @@ replied_trusted sc facts place c round staple server verdicts h e v =
       low = turn_low sc facts place c (phase.Checking span.Commit round staple) h e;
     }
 
+-- where no master is read the round is the first or the second
+view_number : (sc : Scenario) (declared : Transaction) (number : ℕ) → reads_master sc declared ≡ false → IsRoundNumber sc declared number → (number ≡ 1) ⊎ (number ≡ 2)
+view_number sc declared number view h =
+    let most : number ≤ view_rounds = subst (λ (b : Bool). number ≤ (if b then declared.rounds else view_rounds)) view h.1 in
+    ⊎_elim (λ (low : number < 2). inl (omega (arith, low, h.0))) (λ (high : 2 ≤ number). inr (omega (arith, most, high))) (cases_lt number 2)
+
 -- a round in which all is true closes the one instance
 committed_trusts : (sc : Scenario) (facts : List Fact) (place : ℕ) (c : Coordinator) (round : Round) (staple : Staple) → ArePlain sc → HaveHomes sc → IsValid sc → RoundTrusted sc facts place c round staple → judge round None ≡ judged.AllTrue
     → RowTrusts sc facts place c (commits (closes c (by_query (proofs_in round.targets))) round.number)
 committed_trusts sc facts place c round staple plain homes valid h e =
     let proofs = by_query (proofs_in round.targets) in
-    let closing = round_closes sc facts place c.txn round homes valid h.fits e in
+    let closing = round_closes sc facts place c.txn round None homes valid h.fits e in
     record {
       fits = record {
         awaits = tt;
@@ -326,7 +332,7 @@ committed_trusts sc facts place c round staple plain homes valid h e =
       decides = λ declared found.
           deferred_commit sc facts place c.txn declared c.phase c.instances c.gathered proofs (commit_record (closes c proofs) round.number)
           (each_get (λ (t : Transaction). t.scheme ≡ scheme.Deferred) sc.txns c.txn.0 declared plain.deferred found) (each_get (λ (t : Transaction). reads_master sc t ≡ false) sc.txns c.txn.0 declared plain.view found)
-          (h.so_far declared found) refl closing.number closing.right (closing.numbers declared found) closing.have_rules closing.one_version;
+          (h.so_far declared found) refl (view_number sc declared round.number (each_get (λ (t : Transaction). reads_master sc t ≡ false) sc.txns c.txn.0 declared plain.view found) (closing.number declared found)) closing.right (closing.numbers declared found) closing.have_rules closing.one_version;
       says = λ sent. orders_fit sc facts place sent c outcome.Commit c.servers;
       timely = λ sent. orders_timely sc c (Some (commits (closes c proofs) round.number).state) sent outcome.Commit c.servers;
       old = λ sent turn said t unsure. absurd (cc);
@@ -368,7 +374,7 @@ refused_stands sc facts place c round staple server number value h e =
 denied_stands : (sc : Scenario) (facts : List Fact) (place : ℕ) (c : Coordinator) (round : Round) (staple : Staple) (verdict : Verdict) → RoundTrusted sc facts place c round staple → judge round None ≡ judged.False verdict
     → EndStands sc facts place c (cause.Denied (denied_by verdict))
 denied_stands sc facts place c round staple verdict h e =
-    let denies = round_denies sc facts place c.txn round verdict h.fits e in
+    let denies = round_denies sc facts place c.txn round None verdict h.fits e in
     record {
       turn = end_move (query_count sc c.txn) round.number 2 c.turn (few_rounds sc facts place c.txn round h.fits) (omega arith) h.low;
       fits = record { verdict = verdict; denied_is = refl; right = denies.right; ruleless = denies.ruleless };

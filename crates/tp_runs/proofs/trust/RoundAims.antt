@@ -2,7 +2,7 @@
 -- server that is awaited, and rounds are counted on by what they meet.
 use Rattle.std.specs.List.{fold, list_all, list_any}
 use Rattle.std.specs.Option.{option_map_or}
-use Rattle.std.proofs.Common.{Bool, IfSome, List, None, Option, Some, [], ap, arith, cond, false, filter, find, inl, inr, is_none, is_some, length, map, max, refl, slice_get, subst, suc, sym, true, unwrap_or, zero, ℕ, ◌&&◌, ◌+◌, ◌||◌, ◌<◌, ◌∙◌, ◌∷◌, ◌≡◌, ◌≤◌, slice_index_or, Contains}
+use Rattle.std.proofs.Common.{Bool, IfSome, List, None, Option, Some, [], ap, arith, cond, false, filter, find, inr, is_none, is_some, length, map, max, refl, slice_get, subst, suc, sym, true, unwrap_or, zero, ℕ, ◌&&◌, ◌+◌, ◌||◌, ◌<◌, ◌∙◌, ◌∷◌, ◌≡◌, ◌≤◌, slice_index_or, Contains}
 use Rattle.std.proofs.lemmas.Bool.{and_from, or_left, or_parts, or_right}
 use Rattle.std.proofs.lemmas.Option.{same_Some}
 use Rattle.tp_types.proofs.ListLemmas.{number_itself}
@@ -22,7 +22,7 @@ use Rattle.tp_round.proofs.AdminLemmas.{aimed_at, same_ids}
 use Rattle.tp_round.proofs.AgainLemmas.{IsUpdated, updated}
 use Rattle.tp_round.proofs.KeptLemmas.{same_servers, servers_renewed}
 use Rattle.tp_round.proofs.NamesLemmas.{admins_in, all_covered, is_covered}
-use Rattle.tp_round.proofs.RoundsLemmas.{IsCounted, aim_at, all_wanted, are_wanted_at, is_wanted_at, renewed_at}
+use Rattle.tp_round.proofs.RoundsLemmas.{aim_at, all_wanted, are_wanted_at, is_wanted_at, renewed_at}
 use Rattle.tp_runs.proofs.basics.Verdicts.{numbers_of}
 use Rattle.tp_types.proofs.EachLemmas.{each_from_all}
 use Rattle.tp_types.proofs.EachLemmas.{each_as, each_filter, each_map, each_two}
@@ -35,7 +35,7 @@ use Rattle.tp_machine.specs.Named.{IsAdmin}
 use Rattle.tp_runs.proofs.trust.Fit.{IsPublished, Right, count_rises}
 use Rattle.tp_runs.proofs.trust.RoundLevels.{each_failing, own_admins, own_proofs, round_read_for}
 use Rattle.tp_runs.proofs.trust.RoundMets.{JudgedFits, NextMets, Updates, next_counted, next_few, next_mets, next_unread}
-use Rattle.tp_runs.proofs.trust.Rounds.{AreMet, AreNumbersAt, ArePublished, IsCovered, IsFresh, IsLaterRound, IsNamedFor, IsWithin, RoundFits, TargetFits, declared_with, few_rounds, last_met, own_here, proofs_right, round_counted, same_admin_of, want_in}
+use Rattle.tp_runs.proofs.trust.Rounds.{AreMet, AreNumbersAt, ArePublished, IsCovered, IsFresh, IsLaterRound, IsNamedFor, IsWithin, RoundFits, TargetFits, declared_with, few_rounds, last_met, own_here, proofs_right, round_number, same_admin_of, want_in}
 use Rattle.tp_types.specs.Each.{Each}
 
 -- ---- members
@@ -212,10 +212,6 @@ replied_all round reading e = each_failing is_missing round.targets (or_parts (l
 same_found : (sc : Scenario) (txn : TxnId) (declared other : Transaction) → slice_get sc.txns txn.0 ≡ Some declared → slice_get sc.txns txn.0 ≡ Some other → declared ≡ other
 same_found sc txn declared other e f = same_Some declared other (sym e ∙ f)
 
-least_number : (number mets : ℕ) → IsCounted number mets → 1 ≤ number
-least_number number mets (inl one) = omega (arith, one)
-least_number number mets (inr two) = omega (arith, two)
-
 next_fits : (sc : Scenario) (facts : List Fact) (place : ℕ) (txn : TxnId) (round : Round) (reading : Option Reading) (named : List Wanted) (declared : Transaction) → Updates sc facts place txn round reading named declared
     → RoundFits sc facts place txn (next_round round (aim_in round reading) named (mets_in round (met_in round reading)))
 next_fits sc facts place txn round reading named declared u =
@@ -233,7 +229,7 @@ next_fits sc facts place txn round reading named declared u =
     (λ one k. want_named sc facts place txn round reading one k.0 k.1.0 k.1.1) round.targets
     (each_two (λ (one : Target). is_missing one ≡ false) (λ (one : Target). TargetFits sc facts place txn one × (is_covered round one ≡ true)) round.targets replied
     (each_two (TargetFits sc facts place txn) (λ (one : Target). is_covered round one ≡ true) round.targets h.targets (each_from_all (is_covered round) round.targets (all_covered round)))) in
-    let number : 2 ≤ next_number round = let least = least_number round.number (length round.mets) (round_counted sc facts place txn round h.count) in omega (arith, least) in
+    let number : 2 ≤ next_number round = let least = (round_number sc facts place txn round declared u.found h).0 in omega (arith, least) in
     let next : NextMets sc facts place txn round reading declared (mets_in round (met_in round reading)) = next_mets sc facts place txn round reading named declared u in
     let mets : List Met = mets_in round (met_in round reading) in
     let later : IsLaterRound sc facts place txn (next_round round aim named mets) = record {
@@ -273,7 +269,7 @@ round_updated sc facts place txn round reading named valid h r e =
     let low : round.number ≤ 17 = few_rounds sc facts place txn round h in
     let further : next_number round ≡ round.number + 1 = omega (arith, low) in
     record {
-      begun = least_number round.number (length round.mets) (round_counted sc facts place txn round h.count);
+      begun = (round_number sc facts place txn round there.0 there.1 h).0;
       number = ap (λ answer. (after round (aim_in round reading) (met_in round reading) answer).number) e ∙ further;
       named_is = ap (λ answer. (after round (aim_in round reading) (met_in round reading) answer).named) e;
       fits = subst (λ answer. RoundFits sc facts place txn (after round (aim_in round reading) (met_in round reading) answer)) (sym e)

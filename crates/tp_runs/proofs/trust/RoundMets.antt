@@ -31,7 +31,7 @@ use Rattle.tp_machine.specs.Named.{IsAdmin}
 use Rattle.tp_runs.proofs.basics.Facts.{all_from_each}
 use Rattle.tp_runs.proofs.basics.Levels.{LevelsFit, has_view, viewed_where}
 use Rattle.tp_runs.proofs.trust.RoundLevels.{IsOwnProof, each_failing}
-use Rattle.tp_runs.proofs.trust.Rounds.{AreMet, IsFirstRound, IsFresh, IsLaterRound, RoundFits, few_rounds, last_met, round_counted}
+use Rattle.tp_runs.proofs.trust.Rounds.{AreMet, IsFirstRound, IsFresh, IsLaterRound, RoundFits, brought_of, few_rounds, last_met, round_counted}
 
 -- ---- a reading
 
@@ -274,11 +274,6 @@ pub record NextMets (sc : Scenario) (facts : List Fact) (place : ℕ) (txn : Txn
   pub fresh : IfSome (last_met mets) (IsFresh sc facts declared (target_in round reading))
   pub brought : next_number round ≡ length mets + 2 → has_view sc declared declared.queries ≡ true
 
-brought_before : (sc : Scenario) (facts : List Fact) (place : ℕ) (txn : TxnId) (round : Round) (declared : Transaction) → slice_get sc.txns txn.0 ≡ Some declared → IsFirstRound round ⊎ IsLaterRound sc facts place txn round
-    → round.number ≡ length round.mets + 2 → has_view sc declared declared.queries ≡ true
-brought_before sc facts place txn round declared found (inl first) e = absurd (omega (arith, first.number, e))
-brought_before sc facts place txn round declared found (inr later) e = later.brought declared found e
-
 number_before : (number mets all : ℕ) → all ≡ mets + 1 → number ≤ 17 → min (number + 1) (2 ^ 32 - 1) ≡ all + 2 → number ≡ mets + 2
 number_before number mets all e low is = omega (arith, e, low, is)
 
@@ -304,7 +299,7 @@ next_mets_by sc facts place txn round (Some reading) named declared (Some met) u
     record {
       met = more_met sc facts place txn round reading declared met u.fits u.found r new;
       fresh = subst (λ (last : Option Met). IfSome last (IsFresh sc facts declared (target_in round (Some reading)))) (sym (last_push round.mets met)) fresh;
-      brought = λ two. brought_before sc facts place txn round declared u.found u.fits.count
+      brought = λ two. brought_of sc facts place txn round declared u.found u.fits.count
           (number_before round.number (length round.mets) (length (round.mets ++ met ∷ [])) more (few_rounds sc facts place txn round u.fits) two);
     }
 

@@ -1,8 +1,8 @@
 -- A round that is judged true: its proofs are right and true, agree, and are of each of the transaction's queries once, in order.
 use Rattle.std.specs.List.{list_all, list_any, range_with_len}
 use Rattle.std.specs.Option.{option_map_or}
-use Rattle.std.proofs.Common.{Bool, List, None, Option, Some, [], ap, arith, cond, false, filter, inl, inr, is_some, length, map, nat_le, refl, slice_get, suc, sym, true, zero, ℕ, ◌&&◌, ◌++◌, ◌+◌, ◌<◌, ◌==◌, ◌∙◌, ◌∷◌, ◌≡◌, ◌≤◌, ◌⊎◌, ⊎_elim}
-use Rattle.std.proofs.lemmas.Bool.{cases_lt, le-leb, or_parts}
+use Rattle.std.proofs.Common.{Bool, List, None, Option, Some, [], ap, arith, cond, false, filter, inl, inr, is_some, length, map, nat_le, refl, slice_get, suc, sym, true, zero, ℕ, ◌&&◌, ◌++◌, ◌+◌, ◌<◌, ◌==◌, ◌∙◌, ◌∷◌, ◌≡◌, ◌≤◌, ⊎_elim}
+use Rattle.std.proofs.lemmas.Bool.{cases_lt, le-leb}
 use Rattle.std.proofs.lemmas.Bool.Decides.{eqb_tells, nat_tests}
 use Rattle.std.proofs.lemmas.List.{length-append}
 use Rattle.std.proofs.lemmas.List.Elements.{filter-append}
@@ -12,7 +12,7 @@ use Rattle.std.proofs.Math.Bool.{and-false, and-true}
 use Rattle.tp_types.proofs.ListLemmas.{number_itself}
 use Rattle.tp_model.specs.Queries.{is_at_server, item_of, servers_from, servers_of}
 use Rattle.tp_model.specs.Versions.{is_one_version}
-use Rattle.tp_model.specs.Words.{Fact, Item, Query, Scenario, ServerId, Transaction, TxnId, Verdict}
+use Rattle.tp_model.specs.Words.{Fact, Item, Query, Reading, Scenario, ServerId, Transaction, TxnId, Verdict}
 use Rattle.tp_round.specs.declared.round.Judged.TheVariants.{AllTrue}
 use Rattle.tp_round.specs.declared.round.Round.{Round}
 use Rattle.tp_round.specs.declared.round.Target.{Target}
@@ -22,7 +22,6 @@ use Rattle.tp_round.specs.Replies.{by_query, is_at_query, proofs_in, verdicts_in
 use Rattle.tp_round.proofs.AgreedLemmas.{all_agree, all_answered}
 use Rattle.tp_round.proofs.KeptLemmas.{server_of}
 use Rattle.tp_round.proofs.QueryLemmas.{goes_by_query}
-use Rattle.tp_round.proofs.RoundsLemmas.{IsCounted}
 use Rattle.tp_round.proofs.VersionLemmas.{all_by_query}
 use Rattle.tp_runs.proofs.basics.Verdicts.{numbers_of}
 use Rattle.tp_runs.proofs.basics.Facts.{all_from_each}
@@ -35,7 +34,7 @@ use Rattle.tp_runs.proofs.pairs.Actors.{site_of}
 use Rattle.tp_runs.proofs.pairs.Site.{Site, here, here_within, one_home, past_last, upto, with_number}
 use Rattle.tp_runs.proofs.trust.Fit.{Right}
 use Rattle.tp_runs.proofs.trust.RoundAims.{numbers_at, replied_all}
-use Rattle.tp_runs.proofs.trust.Rounds.{RoundFits, TargetFits, proofs_right, round_counted}
+use Rattle.tp_runs.proofs.trust.Rounds.{IsRoundNumber, RoundFits, TargetFits, proofs_right, round_number}
 use Rattle.tp_types.specs.Each.{Each}
 use Rattle.tp_machine.specs.Named.{IsServer}
 
@@ -256,29 +255,18 @@ pub record IsClosing (sc : Scenario) (facts : List Fact) (place : ℕ) (txn : Tx
   pub numbers : (declared : Transaction) → slice_get sc.txns txn.0 ≡ Some declared → numbers_of proofs ≡ range_with_len 1 (length declared.queries)
   pub have_rules : list_all (λ (verdict : Verdict). is_some verdict.rule) proofs ≡ true
   pub one_version : is_one_version proofs ≡ true
-  pub number : (round.number ≡ 1) ⊎ (round.number ≡ 2)
-
-one_or_two_by : (number mets : ℕ) → mets ≡ 0 → IsCounted number mets → (number ≡ 1) ⊎ (number ≡ 2)
-one_or_two_by number mets none (inl one) = inl (omega (arith, none, one))
-one_or_two_by number mets none (inr two) = inr (omega (arith, none, two))
-
--- a round that was judged without a reading met nothing before, so it is the first or the second
-one_or_two : (sc : Scenario) (facts : List Fact) (place : ℕ) (txn : TxnId) (round : Round) → RoundFits sc facts place txn round → judge round None ≡ AllTrue → (round.number ≡ 1) ⊎ (round.number ≡ 2)
-one_or_two sc facts place txn round h e =
-    let unread : (round.reads && true) ≡ false = (or_parts (list_any is_missing round.targets) (round.reads && true) (all_answered round None e)).1 in
-    let none : length round.mets ≡ 0 = ap length (h.unread (sym (and-true round.reads) ∙ unread)) in
-    one_or_two_by round.number (length round.mets) none (round_counted sc facts place txn round h.count)
+  pub number : (declared : Transaction) → slice_get sc.txns txn.0 ≡ Some declared → IsRoundNumber sc declared round.number
 
 -- so are those of a round that is judged true, by query
-pub round_closes : (sc : Scenario) (facts : List Fact) (place : ℕ) (txn : TxnId) (round : Round) → HaveHomes sc → IsValid sc → RoundFits sc facts place txn round → judge round None ≡ AllTrue
+pub round_closes : (sc : Scenario) (facts : List Fact) (place : ℕ) (txn : TxnId) (round : Round) (reading : Option Reading) → HaveHomes sc → IsValid sc → RoundFits sc facts place txn round → judge round reading ≡ AllTrue
     → IsClosing sc facts place txn round (by_query (proofs_in round.targets))
-round_closes sc facts place txn round homes valid h e =
-    let agree = all_agree round None e in
-    let replied : Each (λ (target : Target). is_missing target ≡ false) round.targets = replied_all round None (all_answered round None e) in
+round_closes sc facts place txn round reading homes valid h e =
+    let agree = all_agree round reading e in
+    let replied : Each (λ (target : Target). is_missing target ≡ false) round.targets = replied_all round reading (all_answered round reading e) in
     record {
       right = each_by_query (Right sc facts place txn) (proofs_in round.targets) (proofs_right sc facts place txn round h);
       numbers = λ declared found. goes_by_query (proofs_in round.targets) (length declared.queries) (homes.few txn.0 declared found) (one_for_each sc facts place txn declared round homes valid found h replied);
       have_rules = all_true (by_query (proofs_in round.targets)) (all_by_query is_true (proofs_in round.targets) agree.all_true);
       one_version = agree.one_version;
-      number = one_or_two sc facts place txn round h e;
+      number = λ declared found. round_number sc facts place txn round declared found h;
     }

@@ -1,18 +1,19 @@
 -- Rounds of a coordinator: what a round rests on, at its start, as facts are added, and after each reply.
 use Rattle.std.specs.List.{count_by, list_all, list_any}
 use Rattle.std.specs.Option.{option_map_or}
-use Rattle.std.proofs.Common.{Bool, IfSome, List, None, Option, Some, [], ap, arith, cond, false, find, inl, inr, is_none, length, map, refl, replicate, slice_get, subst, suc, sym, true, zero, ℕ, ◌+◌, ◌==◌, ◌||◌, ◌∙◌, ◌∷◌, ◌≡◌, ◌<◌, ◌≤◌, ◌⊎◌}
+use Rattle.std.proofs.Common.{Bool, IfSome, List, None, Option, Some, [], ap, arith, cond, false, find, if◌then◌else◌, inl, inr, is_none, length, map, refl, replicate, slice_get, subst, suc, sym, true, zero, ℕ, ◌+◌, ◌==◌, ◌||◌, ◌∙◌, ◌∷◌, ◌≡◌, ◌<◌, ◌≤◌, ◌⊎◌}
 use Rattle.std.proofs.lemmas.Bool.{and_from, and_parts, eq-eqb, eqb-true}
 use Rattle.tp_types.proofs.ListLemmas.{number_itself}
 use Rattle.tp_model.specs.Authorisation.{is_item_at, is_own_query, is_query_at}
 use Rattle.tp_model.specs.Ids.{same_admin, same_server}
 use Rattle.tp_model.specs.Causes.{are_met_on, is_met_shown}
+use Rattle.tp_model.specs.Demand.{most_rounds}
 use Rattle.tp_model.specs.Levels.{is_global, level_of, reads_master}
 use Rattle.tp_model.specs.Limits.{admins_limit, rounds_limit, view_rounds}
 use Rattle.tp_model.specs.Versions.{is_publication, newest, opening_version}
 use Rattle.tp_model.specs.Queries.{is_at_server, item_of, query_at, servers_of}
 use Rattle.tp_model.specs.Words.level
-use Rattle.tp_model.specs.Words.{AdminId, Fact, Item, Met, Query, Scenario, ServerId, Transaction, TxnId, Verdict, Version}
+use Rattle.tp_model.specs.Words.{AdminId, Fact, Item, Met, Query, Reading, Scenario, ServerId, Transaction, TxnId, Verdict, Version}
 use Rattle.tp_round.specs.declared.round.Judged.TheVariants.{False}
 use Rattle.tp_round.specs.declared.round.Round.{Round}
 use Rattle.tp_round.specs.declared.round.Target.{Target}
@@ -28,7 +29,7 @@ use Rattle.tp_runs.proofs.basics.Verdicts.{numbers_of}
 use Rattle.tp_types.proofs.EachLemmas.{by_cond, each_as, each_flat_map, each_get, each_more, each_of_all, each_two}
 use Rattle.tp_runs.proofs.agreement.Coordinator.{HaveItems, HoldsItem, servers_at_have_items}
 use Rattle.tp_runs.proofs.basics.Aims.{is_within}
-use Rattle.tp_runs.proofs.basics.Levels.{LevelsFit, has_view, limit_of}
+use Rattle.tp_runs.proofs.basics.Levels.{LevelsFit, has_view, limit_of, reads_unviewed}
 use Rattle.tp_runs.proofs.basics.Rounds.{EachServer, each_missing, missing_in}
 use Rattle.tp_runs.proofs.pairs.Actors.{site_of}
 use Rattle.tp_runs.proofs.pairs.CoordinatorRows.{NamesAt}
@@ -174,6 +175,44 @@ round_counted sc facts place txn round (inr later) = later.counted
 
 pub few_rounds : (sc : Scenario) (facts : List Fact) (place : ℕ) (txn : TxnId) (round : Round) → RoundFits sc facts place txn round → round.number ≤ 17
 few_rounds sc facts place txn round h = few_by round.number (length round.mets) round.limit h.few h.top (round_counted sc facts place txn round h.count)
+
+-- of so many rounds at commit none is past the most that the demand allows
+abbrev pub IsRoundNumber : Scenario → Transaction → ℕ → Type 0
+IsRoundNumber sc declared number = (1 ≤ number) × (number ≤ most_rounds sc declared)
+
+most_by : (number mets limit : ℕ) → mets < limit → IsCounted number mets → (number ≡ mets + 2 → ⊥) → number ≤ limit
+most_by number mets limit few (inl one) more = omega (arith, few, one)
+most_by number mets limit few (inr two) more = absurd (more two)
+
+least_by : (number mets : ℕ) → IsCounted number mets → 1 ≤ number
+least_by number mets (inl one) = omega (arith, one)
+least_by number mets (inr two) = omega (arith, two)
+
+view_by : (number mets : ℕ) → mets ≡ 0 → IsCounted number mets → number ≤ view_rounds
+view_by number mets none (inl one) = omega (arith, none, one)
+view_by number mets none (inr two) = omega (arith, none, two)
+
+-- a round whose number is two more than the rounds that met something brought together what is under view consistency
+pub brought_of : (sc : Scenario) (facts : List Fact) (place : ℕ) (txn : TxnId) (round : Round) (declared : Transaction) → slice_get sc.txns txn.0 ≡ Some declared → IsFirstRound round ⊎ IsLaterRound sc facts place txn round
+    → round.number ≡ length round.mets + 2 → has_view sc declared declared.queries ≡ true
+brought_of sc facts place txn round declared found (inl first) e = absurd (omega (arith, first.number, e))
+brought_of sc facts place txn round declared found (inr later) e = later.brought declared found e
+
+-- the round's number is one that the demand allows
+pub round_number : (sc : Scenario) (facts : List Fact) (place : ℕ) (txn : TxnId) (round : Round) (declared : Transaction) → slice_get sc.txns txn.0 ≡ Some declared → RoundFits sc facts place txn round
+    → IsRoundNumber sc declared round.number
+round_number sc facts place txn round declared found h = (least_by round.number (length round.mets) counted, by_reading (reads_master sc declared) refl)
+  where
+    counted : IsCounted round.number (length round.mets)
+    counted = round_counted sc facts place txn round h.count
+
+    by_reading : (b : Bool) → reads_master sc declared ≡ b → round.number ≤ (if b then declared.rounds else view_rounds)
+    by_reading true e =
+        let limit : round.limit ≡ declared.rounds = h.limit declared found ∙ ap (λ (b : Bool). cond b declared.rounds view_rounds) e in
+        let none : has_view sc declared declared.queries ≡ false = reads_unviewed sc declared e in
+        let most : round.number ≤ round.limit = most_by round.number (length round.mets) round.limit h.few counted (λ two. let some = brought_of sc facts place txn round declared found h.count two in cc) in
+        omega (arith, limit, most)
+    by_reading false e = view_by round.number (length round.mets) (ap length (h.unread (h.reads declared found ∙ e))) counted
 
 -- nothing is wanted of a server in a first round
 pub first_wants : (round : Round) (server : ServerId) → IsFirstRound round → want_for round server ≡ []
@@ -478,10 +517,10 @@ pub record IsFalseRight (sc : Scenario) (facts : List Fact) (place : ℕ) (txn :
   pub right : Right sc facts place txn verdict
   pub ruleless : is_none verdict.rule ≡ true
 
-pub round_denies : (sc : Scenario) (facts : List Fact) (place : ℕ) (txn : TxnId) (round : Round) (verdict : Verdict) → RoundFits sc facts place txn round → judge round None ≡ False verdict
+pub round_denies : (sc : Scenario) (facts : List Fact) (place : ℕ) (txn : TxnId) (round : Round) (reading : Option Reading) (verdict : Verdict) → RoundFits sc facts place txn round → judge round reading ≡ False verdict
     → IsFalseRight sc facts place txn verdict
-round_denies sc facts place txn round verdict h e =
-    let least = false_is_least round None verdict e in
+round_denies sc facts place txn round reading verdict h e =
+    let least = false_is_least round reading verdict e in
     record {
       right = each_get (Right sc facts place txn) (proofs_in round.targets) least.place verdict (proofs_right sc facts place txn round h) least.there;
       ruleless = least.untrue;
