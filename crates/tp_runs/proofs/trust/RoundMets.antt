@@ -6,31 +6,33 @@ use Rattle.std.proofs.lemmas.Bool.{and_from, and_parts, both_ways, eq-eqb, eqb-t
 use Rattle.std.proofs.lemmas.Option.{same_Some}
 use Rattle.std.proofs.lemmas.List.{append-nil, length-append}
 use Rattle.std.proofs.lemmas.List.Folds.{list_all-append}
-use Rattle.tp_model.specs.Causes.{are_met_on, is_met_after, is_met_shown, is_own_admin}
+use Rattle.tp_model.specs.Causes.{are_met_on, are_rounds_shown, is_met_after, is_met_shown, is_own_admin}
+use Rattle.tp_model.specs.Demand.{is_incremental}
 use Rattle.tp_model.specs.Facts.{was_submitted}
-use Rattle.tp_model.specs.Levels.{is_global, level_of}
-use Rattle.tp_model.specs.Limits.{count_limit}
+use Rattle.tp_model.specs.Levels.{is_global, level_of, reads_master}
+use Rattle.tp_model.specs.Limits.{count_limit, view_rounds}
 use Rattle.tp_model.specs.Versions.{newest}
 use Rattle.tp_model.specs.Words.{AdminId, Fact, Met, Reading, Scenario, Transaction, TxnId, Verdict, Version}
 use Rattle.tp_round.proofs.AdminLemmas.{aimed_at, same_ids}
-use Rattle.tp_round.proofs.MetLemmas.{meets_the_least}
+use Rattle.tp_round.proofs.MetLemmas.{meets_the_least, spent_has_all_mets}
 use Rattle.tp_round.proofs.NamesLemmas.{admins_in, all_of_each, any_outdated_is}
 use Rattle.tp_round.proofs.RoundsLemmas.{IsCounted, IsLater, are_not_above, are_read_for, counted_next, first_only, global_at, is_short_of, unmet_none_short, unread_not_above, unspent}
 use Rattle.tp_round.proofs.AgainLemmas.{IsUpdated, updated}
-use Rattle.tp_round.proofs.SpentLemmas.{nothing_met}
+use Rattle.tp_round.proofs.SpentLemmas.{nothing_met, unread_unspent}
 use Rattle.tp_round.proofs.VersionLemmas.{are_at, is_at}
 use Rattle.tp_round.specs.Judge.{aim_in, is_below, is_global_at, is_missing, is_outdated, is_waiting, judge, met_at, met_in, mets_in, newest_in, next_number}
-use Rattle.tp_round.specs.Laws.{IsLeastMet, is_behind, is_not_above, is_of_global, is_read_for, is_used, target_in}
+use Rattle.tp_round.specs.Laws.{HasAllMets, IsLeastMet, is_behind, is_not_above, is_of_global, is_read_for, is_used, target_in}
 use Rattle.tp_round.specs.Replies.{greatest, is_of, proofs_in, verdicts_in}
-use Rattle.tp_round.specs.declared.round.Judged.TheVariants.{Update}
+use Rattle.tp_round.specs.declared.round.Judged.TheVariants.{Spent, Update}
 use Rattle.tp_round.specs.declared.round.Round.{Round}
 use Rattle.tp_round.specs.declared.round.Wanted.{Wanted}
 use Rattle.tp_types.proofs.EachLemmas.{each_as, each_found, each_from_all, each_map, each_of_all, each_two, found_passes}
 use Rattle.tp_types.specs.Each.{Each}
 use Rattle.tp_machine.specs.Named.{IsAdmin}
 use Rattle.tp_runs.proofs.basics.Facts.{all_from_each}
-use Rattle.tp_runs.proofs.basics.Levels.{LevelsFit, has_view, viewed_where}
-use Rattle.tp_runs.proofs.trust.RoundLevels.{IsOwnProof, each_failing}
+use Rattle.tp_runs.proofs.basics.Levels.{LevelsFit, has_view, reads_where, viewed_where}
+use Rattle.tp_runs.proofs.ids.Valid.{IsValid}
+use Rattle.tp_runs.proofs.trust.RoundLevels.{IsOwnProof, each_failing, own_proofs}
 use Rattle.tp_runs.proofs.trust.Rounds.{AreMet, IsFirstRound, IsFresh, IsLaterRound, RoundFits, brought_of, few_rounds, last_met, round_counted}
 
 -- ---- a reading
@@ -113,6 +115,7 @@ least_met sc facts place txn round reading met r e =
 -- a newer version that a round met, as a history shows it
 pub record IsNewMet (sc : Scenario) (facts : List Fact) (place : ℕ) (txn : TxnId) (round : Round) (reading : Reading) (declared : Transaction) (met : Met) : Type 0 where
   pub exists : IsAdmin sc met.admin
+  pub own : is_own_admin sc met.admin declared ≡ true
   pub global : is_global (level_of declared met.admin) ≡ true
   pub place_is : met.place ≡ reading.place
   pub used : list_any (is_used met.admin met.used) (proofs_in round.targets) ≡ true
@@ -134,6 +137,7 @@ new_met sc facts place txn round reading declared met fit own r e =
     let newest_is : met.newest.0 ≡ newest sc met.admin met.place facts = is.newest ∙ (r.newest_is met.admin its.0 ∙ ap (λ (p : ℕ). newest sc met.admin p facts) (sym is.place)) in
     record {
       exists = its.0;
+      own = its.1;
       global = global;
       place_is = is.place;
       used = is.used;
@@ -203,6 +207,22 @@ more_met sc facts place txn round reading declared met h found r new =
           ∙ and_from (list_all (is_met_shown sc txn place facts declared) round.mets) (list_all (is_met_shown sc txn place facts declared) (met ∷ [])) before.shown (and_from (is_met_shown sc txn place facts declared met) true new.shown refl);
       on = met_on_more sc facts round.mets met before.on (met_after sc facts place txn round reading declared met found r new h.count);
     }
+
+-- ---- rounds that are spent
+
+-- the rounds that are spent are shown: as many as the transaction asks for, each of which met a newer version
+pub round_spent : (sc : Scenario) (facts : List Fact) (place : ℕ) (txn : TxnId) (round : Round) (reading : Option Reading) (mets : List Met) (declared : Transaction) → IsValid sc → slice_get sc.txns txn.0 ≡ Some declared
+    → is_incremental declared.scheme ≡ false → RoundFits sc facts place txn round → JudgedFits sc facts place txn round reading → judge round reading ≡ Spent mets
+    → are_rounds_shown sc txn place facts mets declared ≡ true
+round_spent sc facts place txn round None mets declared valid found not_incremental h r e = absurd (unread_unspent round mets e)
+round_spent sc facts place txn round (Some reading) mets declared valid found not_incremental h r e =
+    let all : HasAllMets round (Some reading) mets = spent_has_all_mets round (Some reading) mets e in
+    let new : IsNewMet sc facts place txn round reading declared all.met =
+    new_met sc facts place txn round reading declared all.met (h.levels declared found) (own_proofs sc facts place txn round declared valid found h) r all.is_met in
+    let reads : reads_master sc declared ≡ true = reads_where sc declared all.met.admin new.own new.global in
+    let limit : round.limit ≡ declared.rounds = h.limit declared found ∙ ap (λ (b : Bool). cond b declared.rounds view_rounds) reads in
+    let are : AreMet sc facts place txn declared mets = subst (AreMet sc facts place txn declared) (sym all.all) (more_met sc facts place txn round reading declared all.met h found r new) in
+    and_from _ _ (and_from _ _ (and_from _ _ (ap not not_incremental) (eq-eqb (length mets) declared.rounds (all.count ∙ limit))) are.shown) are.on
 
 -- ---- a round that meets nothing
 
