@@ -117,9 +117,9 @@ pub record AreMet (sc : Scenario) (facts : List Fact) (place : ℕ) (txn : TxnId
   pub shown : list_all (is_met_shown sc txn place facts declared) mets ≡ true
   pub on : are_met_on sc facts mets ≡ true
 
--- a round of all the transaction's servers, whose replies fit. Its limit, its levels and whether it reads the master
--- are those of the transaction; it is the first, or comes after an update; and fewer rounds than the limit met
--- something, none where no master is read
+-- a round of all the transaction's servers, whose replies fit. Its limit, which is at most 16, its levels and whether it
+-- reads the master are those of the transaction; it is the first, or comes after an update; and fewer rounds than the
+-- limit met something, none where no master is read
 pub record RoundFits (sc : Scenario) (facts : List Fact) (place : ℕ) (txn : TxnId) (round : Round) : Type 0 where
   pub limit : (declared : Transaction) → slice_get sc.txns txn.0 ≡ Some declared → round.limit ≡ limit_of sc declared
   pub levels : (declared : Transaction) → slice_get sc.txns txn.0 ≡ Some declared → LevelsFit sc declared round.levels
@@ -176,7 +176,7 @@ round_counted sc facts place txn round (inr later) = later.counted
 pub few_rounds : (sc : Scenario) (facts : List Fact) (place : ℕ) (txn : TxnId) (round : Round) → RoundFits sc facts place txn round → round.number ≤ 17
 few_rounds sc facts place txn round h = few_by round.number (length round.mets) round.limit h.few h.top (round_counted sc facts place txn round h.count)
 
--- of so many rounds at commit none is past the most that the demand allows
+-- so many rounds at commit are at least one, and no more than the demand allows
 abbrev pub IsRoundNumber : Scenario → Transaction → ℕ → Type 0
 IsRoundNumber sc declared number = (1 ≤ number) × (number ≤ most_rounds sc declared)
 
