@@ -2,19 +2,25 @@
 -- under global consistency.
 use Rattle.std.specs.List.{list_any}
 use Rattle.std.specs.Option.{option_map_or}
-use Rattle.std.proofs.Common.{Bool, List, None, Option, Some, [], arith, false, length, nat_le, not, refl, slice_get, subst, true, ℕ, ◌<◌, ◌∙◌, ◌∷◌, ◌≡◌}
+use Rattle.std.proofs.Common.{Bool, List, None, Option, Some, [], ap, arith, false, if◌then◌else◌, inl, length, nat_le, not, refl, replicate, slice_get, subst, sym, true, ℕ, ◌<◌, ◌∙◌, ◌∷◌, ◌≡◌, ◌≤◌}
 use Rattle.std.proofs.lemmas.Bool.{and_parts, not_from_false, or_from, or_left, or_parts, or_right}
 use Rattle.std.proofs.lemmas.Bool.Decides.{nat_tests}
+use Rattle.std.proofs.lemmas.Option.{same_Some}
+use Rattle.tp_types.proofs.ListLemmas.{three_parts}
+use Rattle.tp_coord.specs.Opened.{servers_at}
 use Rattle.tp_model.specs.Authorisation.{is_item_at, is_own_query, is_query_at}
 use Rattle.tp_model.specs.Causes.{is_own_admin}
 use Rattle.tp_model.specs.Ids.{same_admin, same_server}
 use Rattle.tp_model.specs.Levels.{is_global, level_of, reads_master}
+use Rattle.tp_model.specs.Limits.{admins_limit, is_from_to, rounds_limit, view_rounds}
+use Rattle.tp_model.specs.Valid.{has_valid_creds, is_valid_txn}
 use Rattle.tp_model.specs.Queries.{item_of, query_at}
 use Rattle.tp_model.specs.Words.{AdminId, Fact, Item, Level, Query, Scenario, ServerId, Transaction, TxnId, Verdict}
 use Rattle.tp_round.proofs.AdminLemmas.{any_admin, same_ids}
+use Rattle.tp_round.proofs.LevelLemmas.{level_for_each}
 use Rattle.tp_round.proofs.NamesLemmas.{admins_in}
 use Rattle.tp_round.proofs.RoundsLemmas.{are_read_for}
-use Rattle.tp_round.specs.Judge.{is_global_at}
+use Rattle.tp_round.specs.Judge.{first_round, is_global_at}
 use Rattle.tp_round.specs.Laws.{is_read_for}
 use Rattle.tp_round.specs.Replies.{proofs_in}
 use Rattle.tp_round.specs.declared.round.Round.{Round}
@@ -22,10 +28,10 @@ use Rattle.tp_types.proofs.EachLemmas.{each_as, each_get}
 use Rattle.tp_types.specs.Each.{Each}
 use Rattle.tp_machine.specs.Named.{IsAdmin}
 use Rattle.tp_runs.proofs.basics.Facts.{all_from_each}
-use Rattle.tp_runs.proofs.basics.Levels.{LevelsFit, own_admin, reads_where}
+use Rattle.tp_runs.proofs.basics.Levels.{LevelsFit, limit_of, own_admin, reads_where}
 use Rattle.tp_runs.proofs.ids.Valid.{IsValid, IsValidItem}
 use Rattle.tp_runs.proofs.trust.Fit.{Right}
-use Rattle.tp_runs.proofs.trust.Rounds.{RoundFits, proofs_right}
+use Rattle.tp_runs.proofs.trust.Rounds.{RoundFits, new_fit, new_servers, proofs_right}
 
 -- where no member passes a test each fails it
 pub each_failing : {A : Type 0} (test : A → Bool) (xs : List A) → list_any test xs ≡ false → Each (λ (x : A). test x ≡ false) xs
@@ -81,6 +87,42 @@ own_admins sc declared round own =
     none_past : (proofs : List Verdict) → Each (IsOwnProof sc declared) proofs → list_any (λ (verdict : Verdict). is_past_admin sc verdict.admin) proofs ≡ false
     none_past [] k = refl
     none_past (verdict ∷ proofs) k = or_from (is_past_admin sc verdict.admin) (list_any (λ (other : Verdict). is_past_admin sc other.admin) proofs) (here verdict.admin k.0.exists) (none_past proofs k.1)
+
+-- ---- the start, whatever the levels
+
+rounds_between : (rounds : ℕ) → is_from_to 1 rounds_limit rounds ≡ true → (1 ≤ rounds) × (rounds ≤ rounds_limit)
+rounds_between rounds e = (grind (arith, nat_tests), grind (arith, nat_tests))
+
+limit_by : (rounds : ℕ) (b : Bool) → (1 ≤ rounds) × (rounds ≤ rounds_limit) → (1 ≤ (if b then rounds else view_rounds)) × ((if b then rounds else view_rounds) ≤ rounds_limit)
+limit_by rounds true h = h
+limit_by rounds false h = (omega arith, omega arith)
+
+-- a transaction's limit is from one to 16
+limit_between : (sc : Scenario) (declared : Transaction) → is_valid_txn sc declared ≡ true → (1 ≤ limit_of sc declared) × (limit_of sc declared ≤ rounds_limit)
+limit_between sc declared e =
+    limit_by declared.rounds (reads_master sc declared) (rounds_between declared.rounds (three_parts (has_valid_creds sc declared) (is_from_to 1 rounds_limit declared.rounds) _ e).1)
+
+-- the first round with the limit and the levels of its transaction, and that reads the master where the transaction does
+pub round_begins : (sc : Scenario) (facts : List Fact) (place : ℕ) (txn : TxnId) (declared : Transaction) → IsValid sc → slice_get sc.txns txn.0 ≡ Some declared
+    → RoundFits sc facts place txn (first_round (servers_at sc txn) (limit_of sc declared) (replicate admins_limit declared.level) (reads_master sc declared))
+round_begins sc facts place txn declared valid found =
+    let between = limit_between sc declared (each_get (λ (t : Transaction). is_valid_txn sc t ≡ true) sc.txns txn.0 declared valid.txns found) in
+    let same : (other : Transaction) → slice_get sc.txns txn.0 ≡ Some other → declared ≡ other = λ other there. same_Some declared other (sym found ∙ there) in
+    let fit : LevelsFit sc declared (replicate admins_limit declared.level) = λ admin exists. level_for_each declared.level admin (let few = valid.few_admins in omega (arith, exists, few)) in
+    record {
+      limit = λ other there. ap (limit_of sc) (same other there);
+      levels = λ other there. subst (λ (t : Transaction). LevelsFit sc t (replicate admins_limit declared.level)) (same other there) fit;
+      reads = λ other there. ap (reads_master sc) (same other there);
+      servers = new_servers (servers_at sc txn);
+      targets = new_fit sc facts place txn (servers_at sc txn);
+      count = inl (record { number = refl; aim = refl; named = refl; mets = refl });
+      top = between.1;
+      few = between.0;
+      unread = λ none. refl;
+      mets = λ other there. record { shown = refl; on = refl };
+    }
+
+-- ---- which proofs the master is read for
 
 -- where the master is not read, a proof is under view consistency
 pub unread_view : (sc : Scenario) (declared : Transaction) (levels : List Level) (verdict : Verdict) → LevelsFit sc declared levels → reads_master sc declared ≡ false → IsOwnProof sc declared verdict

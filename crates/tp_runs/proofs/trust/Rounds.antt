@@ -134,11 +134,11 @@ pub record RoundFits (sc : Scenario) (facts : List Fact) (place : ℕ) (txn : Tx
 
 -- ---- the start
 
-new_servers : (servers : List ServerId) → map server_of (map new_target servers) ≡ servers
+pub new_servers : (servers : List ServerId) → map server_of (map new_target servers) ≡ servers
 new_servers [] = refl
 new_servers (server ∷ servers) = ap (λ (others : List ServerId). server ∷ others) (new_servers servers)
 
-new_fit : (sc : Scenario) (facts : List Fact) (place : ℕ) (txn : TxnId) (servers : List ServerId) → Each (TargetFits sc facts place txn) (map new_target servers)
+pub new_fit : (sc : Scenario) (facts : List Fact) (place : ℕ) (txn : TxnId) (servers : List ServerId) → Each (TargetFits sc facts place txn) (map new_target servers)
 new_fit sc facts place txn [] = tt
 new_fit sc facts place txn (server ∷ servers) = (record { right = tt; numbers = tt }, new_fit sc facts place txn servers)
 
