@@ -26,9 +26,9 @@ use Rattle.tp_runs.proofs.epochs.Server.{ServerMade}
 use Rattle.tp_runs.proofs.epochs.World.{Epochs, made_from_zero}
 use Rattle.tp_runs.proofs.ids.Queries.{have_homes}
 use Rattle.tp_runs.proofs.ids.Valid.{IsValid, valid_built}
-use Rattle.tp_runs.proofs.pairs.Actors.{BodyPairs, DoneFrom, LetterPairs, PrepareAt, QueryAt, VoteFrom, asker_at, asker_by, asker_in, asker_of, asker_up, body_stays, pair_at, pair_by, pair_of, pair_up, site_of}
-use Rattle.tp_runs.proofs.pairs.CoordinatorRows.{AnswerPairs, AskPairs, CoordinatorActsPairs, CoordinatorPaired, PhaseNames, PhaseNumbered, PrepareTo, QueryTo, RowAsks, SpanNumbered, coordinator_row_asks, submit_row_asks}
-use Rattle.tp_runs.proofs.pairs.Fits.{AskerFits, DoneFits, Fits, PrepareFits, QueryFits}
+use Rattle.tp_runs.proofs.pairs.Actors.{BodyPairs, DoneFrom, LetterPairs, PrepareAt, QueryAt, ValidateAt, VerdictsFrom, VoteFrom, asker_at, asker_by, asker_in, asker_of, asker_up, body_stays, pair_at, pair_by, pair_of, pair_up, site_of}
+use Rattle.tp_runs.proofs.pairs.CoordinatorRows.{AnswerPairs, AskPairs, CoordinatorActsPairs, CoordinatorPaired, PhaseNames, PhaseNumbered, PrepareTo, QueryTo, RowAsks, SpanNumbered, ValidateTo, coordinator_row_asks, submit_row_asks}
+use Rattle.tp_runs.proofs.pairs.Fits.{AskerFits, DoneFits, Fits, PrepareFits, QueryFits, ValidateFits, VerdictsFits}
 use Rattle.tp_runs.proofs.pairs.Follows.{Next, next_same}
 use Rattle.tp_runs.proofs.basics.Found.{of_some, some_as}
 use Rattle.tp_runs.proofs.pairs.Moves.{with_asker}
@@ -153,8 +153,11 @@ reply_pairs : (sc : Scenario) (at : ServerId) (P : TxnId → ℕ → Pair) (Q : 
 reply_pairs sc at P Q from to (body.Done done) is same h =
     subst (λ (f : Actor). DoneFrom sc P f done) (sym is) (λ declared e. subst (λ (p : Pair). DoneFits (site_of sc at.0 declared) p done) (sym (same done.txn)) (h declared e))
 reply_pairs sc at P Q from to (body.Vote reply) is same h = subst (λ (f : Actor). VoteFrom sc f reply) (sym is) h
+reply_pairs sc at P Q from to (body.Verdicts reply) is same h =
+    subst (λ (f : Actor). VerdictsFrom sc P f reply) (sym is) (λ declared e. subst (λ (p : Pair). VerdictsFits (site_of sc at.0 declared) p reply) (sym (same reply.txn)) (h declared e))
 reply_pairs sc at P Q from to (body.Query q) is same h = absurd h
 reply_pairs sc at P Q from to (body.Prepare r) is same h = absurd h
+reply_pairs sc at P Q from to (body.Validate v) is same h = absurd h
 reply_pairs sc at P Q from to _ is same h = tt
 
 -- the move of a server whose act goes on so, whether it is up before and after it or down
@@ -181,6 +184,7 @@ request_pairs : (sc : Scenario) (w : State) (from : Actor) (at : ServerId) (said
     → OrderDecided (λ txn. asker_at w.actors.coordinators txn.0 at.0) said → RequestPairs sc at (λ txn. asker_at w.actors.coordinators txn.0 at.0) P said
 request_pairs sc w from at (body.Query q) P same h d = λ declared e. subst (λ (p : Pair). QueryFits (site_of sc at.0 declared) p q) (same q.txn) (h declared e)
 request_pairs sc w from at (body.Prepare r) P same h d = λ declared e. subst (λ (p : Pair). PrepareFits (site_of sc at.0 declared) p r) (same r.txn) (h declared e)
+request_pairs sc w from at (body.Validate v) P same h d = λ declared e. subst (λ (p : Pair). ValidateFits p v) (same v.txn) (h declared e)
 request_pairs sc w from at (body.Decide order) P same h d = d
 request_pairs sc w from at _ P same h d = tt
 
@@ -280,8 +284,14 @@ ask_pairs sc declared txn P Q from to (body.Prepare r) exists same h = prepare_t
         subst (λ (d : Transaction). PrepareFits (site_of sc at.0 d) (P r.txn at.0) r) is
         (subst (λ (t : TxnId). PrepareFits (site_of sc at.0 declared) (P t at.0) r) (sym k.0) (subst (λ (p : Pair). PrepareFits (site_of sc at.0 declared) p r) (sym (same at.0)) k.1))
     prepare_to _ k = tt
+ask_pairs sc declared txn P Q from to (body.Validate v) exists same h = validate_to to h
+  where
+    validate_to : (to : Actor) → ValidateTo txn Q to v → ValidateAt sc P to v
+    validate_to (actor.Server at) k = λ other e. subst (λ (t : TxnId). ValidateFits (P t at.0) v) (sym k.0) (subst (λ (p : Pair). ValidateFits p v) (sym (same at.0)) k.1)
+    validate_to _ k = tt
 ask_pairs sc declared txn P Q from to (body.Done done) exists same h = absurd h
 ask_pairs sc declared txn P Q from to (body.Vote reply) exists same h = absurd h
+ask_pairs sc declared txn P Q from to (body.Verdicts reply) exists same h = absurd h
 ask_pairs sc declared txn P Q from to _ exists same h = tt
 
 -- the move of a coordinator whose act goes on so, whether it is up after it or down
@@ -434,6 +444,9 @@ answer_pairs : (sc : Scenario) (w : State) (declared : Transaction) (txn : TxnId
 answer_pairs sc w declared txn (actor.Server at) (body.Done done) exists sound h =
     let same : done.txn ≡ txn = same_txn_from txn done.txn sound.goes_to in
     subst (λ (t : TxnId). DoneFits (site_of sc at.0 declared) (pair_at w.actors t at.0) done) same (h declared (ap (λ (t : TxnId). slice_get sc.txns t.0) same ∙ exists))
+answer_pairs sc w declared txn (actor.Server at) (body.Verdicts reply) exists sound h =
+    let same : reply.txn ≡ txn = same_txn_from txn reply.txn sound.goes_to in
+    subst (λ (t : TxnId). VerdictsFits (site_of sc at.0 declared) (pair_at w.actors t at.0) reply) same (h declared (ap (λ (t : TxnId). slice_get sc.txns t.0) same ∙ exists))
 answer_pairs sc w declared txn _ _ exists sound h = tt
 
 same_txn_row : (sc : Scenario) (w : State) → IsSound sc w → Agrees sc w → (n : ℕ) (mail : Mail) (txn : TxnId) (part : Part Coordinator) (c : Coordinator) → WasSent w n mail (actor.Coordinator txn) → IsCoordinatorUp w txn part c

@@ -3,10 +3,10 @@ use Rattle.std.proofs.Common.{Bool, List, None, Option, Some, false, if◌then�
 use Rattle.std.specs.Option.{option_flatten, option_map_or}
 use Rattle.tp_model.specs.Words.actor
 use Rattle.tp_model.specs.Words.body
-use Rattle.tp_model.specs.Words.{Actor, Body, DoneReply, Letter, PrepareRequest, QueryRequest, Record, Scenario, Transaction, TxnId, VoteReply}
+use Rattle.tp_model.specs.Words.{Actor, Body, DoneReply, Letter, PrepareRequest, QueryRequest, Record, Scenario, Transaction, TxnId, ValidateRequest, VerdictsReply, VoteReply}
 use Rattle.tp_runs.proofs.basics.Phases.{is_undecided, stand_of}
-use Rattle.tp_runs.proofs.pairs.Fits.{DoneFits, Fits, PrepareFits, QueryFits, VoteFits}
-use Rattle.tp_runs.proofs.pairs.Follows.{Follows, Next, done_follows, prepare_follows, query_follows}
+use Rattle.tp_runs.proofs.pairs.Fits.{DoneFits, Fits, PrepareFits, QueryFits, ValidateFits, VerdictsFits, VoteFits}
+use Rattle.tp_runs.proofs.pairs.Follows.{Follows, Next, done_follows, prepare_follows, query_follows, validate_follows, verdicts_follow}
 use Rattle.tp_runs.proofs.pairs.Pair.{Asker, Pair}
 use Rattle.tp_runs.proofs.pairs.Site.{Site}
 use Rattle.tp_machine.specs.Logs.{epoch_by, prepared_by, settled_by}
@@ -99,9 +99,17 @@ abbrev pub PrepareAt : Scenario → (TxnId → ℕ → Pair) → Actor → Prepa
 PrepareAt sc P (actor.Server at) r = (declared : Transaction) → slice_get sc.txns r.txn.0 ≡ Some declared → PrepareFits (site_of sc at.0 declared) (P r.txn at.0) r
 PrepareAt sc P _ r = Unit {0}
 
+abbrev pub ValidateAt : Scenario → (TxnId → ℕ → Pair) → Actor → ValidateRequest → Type 0
+ValidateAt sc P (actor.Server at) v = (declared : Transaction) → slice_get sc.txns v.txn.0 ≡ Some declared → ValidateFits (P v.txn at.0) v
+ValidateAt sc P _ v = Unit {0}
+
 abbrev pub DoneFrom : Scenario → (TxnId → ℕ → Pair) → Actor → DoneReply → Type 0
 DoneFrom sc P (actor.Server at) done = (declared : Transaction) → slice_get sc.txns done.txn.0 ≡ Some declared → DoneFits (site_of sc at.0 declared) (P done.txn at.0) done
 DoneFrom sc P _ done = Unit {0}
+
+abbrev pub VerdictsFrom : Scenario → (TxnId → ℕ → Pair) → Actor → VerdictsReply → Type 0
+VerdictsFrom sc P (actor.Server at) reply = (declared : Transaction) → slice_get sc.txns reply.txn.0 ≡ Some declared → VerdictsFits (site_of sc at.0 declared) (P reply.txn at.0) reply
+VerdictsFrom sc P _ reply = Unit {0}
 
 -- a vote YES has a verdict on each query at its server or none, whatever the pair
 abbrev pub VoteFrom : Scenario → Actor → VoteReply → Type 0
@@ -112,7 +120,9 @@ VoteFrom sc _ reply = Unit {0}
 abbrev pub BodyPairs : Scenario → (TxnId → ℕ → Pair) → Actor → Actor → Body → Type 0
 BodyPairs sc P from to (body.Query q) = QueryAt sc P to q
 BodyPairs sc P from to (body.Prepare r) = PrepareAt sc P to r
+BodyPairs sc P from to (body.Validate v) = ValidateAt sc P to v
 BodyPairs sc P from to (body.Done done) = DoneFrom sc P from done
+BodyPairs sc P from to (body.Verdicts reply) = VerdictsFrom sc P from reply
 BodyPairs sc P from to (body.Vote reply) = VoteFrom sc from reply
 BodyPairs sc P from to _ = Unit {0}
 
@@ -135,10 +145,20 @@ done_stays_in_pairs : (sc : Scenario) (P Q : TxnId → ℕ → Pair) (from : Act
 done_stays_in_pairs sc P Q (actor.Server at) done f h = λ declared e. done_follows (site_of sc at.0 declared) (P done.txn at.0) (Q done.txn at.0) done (f done.txn at.0 declared e) (h declared e)
 done_stays_in_pairs sc P Q _ done f h = tt
 
+validate_stays : (sc : Scenario) (P Q : TxnId → ℕ → Pair) (to : Actor) (v : ValidateRequest) → AllFollow sc P Q → ValidateAt sc P to v → ValidateAt sc Q to v
+validate_stays sc P Q (actor.Server at) v f h = λ declared e. validate_follows (P v.txn at.0) (Q v.txn at.0) v (f v.txn at.0 declared e) (h declared e)
+validate_stays sc P Q _ v f h = tt
+
+verdicts_stay : (sc : Scenario) (P Q : TxnId → ℕ → Pair) (from : Actor) (reply : VerdictsReply) → AllFollow sc P Q → VerdictsFrom sc P from reply → VerdictsFrom sc Q from reply
+verdicts_stay sc P Q (actor.Server at) reply f h = λ declared e. verdicts_follow (site_of sc at.0 declared) (P reply.txn at.0) (Q reply.txn at.0) reply (f reply.txn at.0 declared e) (h declared e)
+verdicts_stay sc P Q _ reply f h = tt
+
 -- what a mail says stays true
 pub body_stays : (sc : Scenario) (P Q : TxnId → ℕ → Pair) (from to : Actor) (said : Body) → AllFollow sc P Q → BodyPairs sc P from to said → BodyPairs sc Q from to said
 body_stays sc P Q from to (body.Query q) f h = query_stays sc P Q to q f h
 body_stays sc P Q from to (body.Prepare r) f h = prepare_stays sc P Q to r f h
+body_stays sc P Q from to (body.Validate v) f h = validate_stays sc P Q to v f h
+body_stays sc P Q from to (body.Verdicts reply) f h = verdicts_stay sc P Q from reply f h
 body_stays sc P Q from to (body.Done done) f h = done_stays_in_pairs sc P Q from done f h
 body_stays sc P Q from to (body.Vote reply) f h = h
 body_stays sc P Q from to _ f h = tt

@@ -33,6 +33,8 @@ answered_later s a epoch value asks keeps =
       deeds = refl;
       epoch = keeps;
       prepares = λ prepares. absurd (cc);
+      turn_past = omega arith;
+      pauses = λ pauses. absurd (cc);
     }
 
 -- what the answer brings, whether its server is this one or another

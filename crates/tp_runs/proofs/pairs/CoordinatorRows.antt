@@ -12,7 +12,7 @@ use Rattle.tp_model.specs.Words.actor
 use Rattle.tp_model.specs.Words.body
 use Rattle.tp_model.specs.Words.cause
 use Rattle.tp_model.specs.Words.outcome
-use Rattle.tp_model.specs.Words.{Actor, Body, Deed, DoneReply, Item, Letter, Mail, Outcome, PrepareRequest, Query, QueryRequest, Scenario, ServerId, Staple, Transaction, TxnId}
+use Rattle.tp_model.specs.Words.{Actor, Body, Deed, DoneReply, Item, Letter, Mail, Outcome, PrepareRequest, Query, QueryRequest, Scenario, ServerId, Staple, Transaction, TxnId, ValidateRequest}
 use Rattle.tp_runs.proofs.agreement.Coordinator.{idle_is}
 use Rattle.tp_runs.proofs.basics.Homes.{HaveHomes, IsHome, home_is, last_is, next_is}
 use Rattle.tp_types.proofs.EachLemmas.{each_get, set_here}
@@ -22,7 +22,7 @@ use Rattle.tp_runs.proofs.epochs.Kept.{KeepsEpoch, PhaseKept, from_server, kept_
 use Rattle.tp_runs.proofs.ids.Valid.{IsValid, IsValidItem}
 use Rattle.tp_runs.proofs.pairs.Actors.{asker_in, asker_of, asker_up, site_of}
 use Rattle.tp_runs.proofs.pairs.Answered.{Taken, answered, elsewhere, next_deed, taken, takes}
-use Rattle.tp_runs.proofs.pairs.Fits.{AnswerFits, AskerFits, DoneFits, Fits, Names, PrepareFits, QueryFits, RanFits}
+use Rattle.tp_runs.proofs.pairs.Fits.{AnswerFits, AskerFits, DoneFits, Fits, Names, PrepareFits, QueryFits, RanFits, ValidateFits, VerdictsFits}
 use Rattle.tp_runs.proofs.pairs.Follows.{Next, next_both, next_same}
 use Rattle.tp_runs.proofs.pairs.Letters.{asks, prepares}
 use Rattle.tp_runs.proofs.basics.Found.{of_some}
@@ -76,12 +76,18 @@ abbrev pub PrepareTo : Scenario → Transaction → TxnId → (ℕ → Pair) →
 PrepareTo sc declared txn Q (actor.Server at) r = (r.txn ≡ txn) × PrepareFits (site_of sc at.0 declared) (Q at.0) r
 PrepareTo sc declared txn Q _ r = Unit {0}
 
+abbrev pub ValidateTo : TxnId → (ℕ → Pair) → Actor → ValidateRequest → Type 0
+ValidateTo txn Q (actor.Server at) v = (v.txn ≡ txn) × ValidateFits (Q at.0) v
+ValidateTo txn Q _ v = Unit {0}
+
 -- what a coordinator requests of its transaction; it answers nothing
 abbrev pub AskPairs : Scenario → Transaction → TxnId → (ℕ → Pair) → Actor → Body → Type 0
 AskPairs sc declared txn Q to (body.Query q) = QueryTo sc declared txn Q to q
 AskPairs sc declared txn Q to (body.Prepare r) = PrepareTo sc declared txn Q to r
+AskPairs sc declared txn Q to (body.Validate v) = ValidateTo txn Q to v
 AskPairs sc declared txn Q to (body.Done done) = ⊥
 AskPairs sc declared txn Q to (body.Vote reply) = ⊥
+AskPairs sc declared txn Q to (body.Verdicts reply) = ⊥
 AskPairs sc declared txn Q to _ = Unit {0}
 
 -- an act of a coordinator that is up or down after it: its transaction goes on by events at each server, and requests say so
@@ -170,8 +176,8 @@ sent_asks sc declared P c age server h idle home =
     moves (site_of sc at declared) (P at) (asker_of at c) Asks (next_turn c) (asker_there sc declared P c at h undecided) (h.fits at)
     (record {
       answered = λ asks. let rests = ap stand_of idle in cc;
-      turn_past = omega (arith, rises);
-      asks = λ e. (omega (arith, rises), omega (arith, short, within));
+      rises = omega (arith, rises);
+      asks = λ e. omega (arith, short, within);
       all = λ e. absurd (cc);
       stays = λ e. let rests = ap stand_of idle in absurd (cc);
     }) in
@@ -230,8 +236,8 @@ moves_on s p a b stand turn value epoch is past left all n =
     (moves s (with_asker p (Some b)) b stand turn refl n.fits
     (record {
       answered = λ again. absurd (cc);
-      turn_past = omega (arith, past, same_turn);
-      asks = λ e. let less = left e in (omega (arith, past, same_turn), omega (arith, longer, less));
+      rises = omega (arith, past, same_turn);
+      asks = λ e. let less = left e in omega (arith, longer, less);
       all = λ e. let whole = all e in omega (arith, longer, whole);
       stays = λ e. absurd (cc);
     }))
@@ -365,7 +371,7 @@ prepares_on sc declared P c next h stands undecided is at =
     (moves (site_of sc at declared) (P at) (asker_of at c) Prepares (next_turn c) (asker_there sc declared P c at h undecided) (h.fits at)
     (record {
       answered = λ asks. cc;
-      turn_past = omega (arith, rises);
+      rises = omega (arith, rises);
       asks = λ e. absurd (cc);
       all = λ e. old.all stands;
       stays = λ e. refl;
@@ -416,6 +422,7 @@ ends_asks sc declared P c next ended servers h decided numbered =
 -- what a mail to a coordinator says of its transaction
 abbrev pub AnswerPairs : Scenario → Transaction → (ℕ → Pair) → Actor → Body → Type 0
 AnswerPairs sc declared P (actor.Server at) (body.Done done) = DoneFits (site_of sc at.0 declared) (P at.0) done
+AnswerPairs sc declared P (actor.Server at) (body.Verdicts reply) = VerdictsFits (site_of sc at.0 declared) (P at.0) reply
 AnswerPairs sc declared P _ _ = Unit {0}
 
 answer_awaited : (sc : Scenario) (declared : Transaction) (P : ℕ → Pair) (c : Coordinator) (mail : Mail) (done : DoneReply) (server : ServerId) (asked : Query) (value : ℤ) → CoordinatorPaired sc declared P c

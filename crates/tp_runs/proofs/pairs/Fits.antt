@@ -1,5 +1,5 @@
 -- What holds of a transaction's deeds and epochs at a server in every state, and what each of its mails says of them.
-use Rattle.tp_runs.proofs.basics.Phases.{Asks, Prepares}
+use Rattle.tp_runs.proofs.basics.Phases.{Asks, Pauses, Prepares}
 use Rattle.tp_runs.proofs.basics.Verdicts.{numbers_of}
 use Rattle.tp_coord.specs.Sums.{asked_value}
 use Rattle.std.proofs.Common.{◌≡◌, ◌⊎◌, ℕ, ◌+◌, ◌<◌, ◌≤◌, List, [], ◌∷◌, ◌++◌, length, take, true, false, Option, Some, None, is_some, IfSome, Contains, option_map, ℤ}
@@ -7,7 +7,7 @@ use Rattle.tp_model.specs.Authorisation.{is_own_query}
 use Rattle.tp_model.specs.Limits.{is_empty}
 use Rattle.tp_round.specs.Laws.{wanted_of}
 use Rattle.tp_runs.proofs.basics.Ids.{server_number}
-use Rattle.tp_model.specs.Words.{AdminId, Answer, Deed, DoneReply, PrepareRequest, Prepared, QueryRequest, Verdict, Version, Vote}
+use Rattle.tp_model.specs.Words.{AdminId, Answer, Deed, DoneReply, PrepareRequest, Prepared, QueryRequest, ValidateRequest, Verdict, VerdictsReply, Version, Vote}
 use Rattle.tp_model.specs.Words.answer
 use Rattle.tp_model.specs.Words.vote
 use Rattle.tp_server.specs.declared.server.Ballot.{Ballot}
@@ -174,11 +174,38 @@ pub record PrepareFits (s : Site) (p : Pair) (r : PrepareRequest) : Type 0 where
   pub names : (is_empty r.want ≡ true) ⊎ Names s r.want
   pub live : IfSome p.asker (PrepareLive r)
 
--- ---- votes
+-- ---- verdicts
 
--- verdicts on just the transaction's queries at the server, in order
+-- verdicts on just the transaction's queries at the server up to a number, in order
+abbrev pub AreUpto : Site → ℕ → List Verdict → Type 0
+AreUpto s last verdicts = numbers_of verdicts ≡ upto s last
+
+-- and on all of them
 abbrev pub AreOnAll : Site → List Verdict → Type 0
-AreOnAll s verdicts = numbers_of verdicts ≡ upto s (count s)
+AreOnAll s verdicts = AreUpto s (count s) verdicts
+
+-- a request of this turn that a server proves what it has done so far, or the answer to it: in the present turn the
+-- coordinator pauses, and P. Of one of the past nothing is said, since more may have been done by then
+pub record ProofLive (turn : ℕ) (P : Type 0) (a : Asker) : Type 0 where
+  pub past : turn ≤ a.turn
+  pub pauses : turn ≡ a.turn → a.stand ≡ Pauses
+  pub now : turn ≡ a.turn → P
+
+-- a request to validate names the epoch that is kept
+abbrev pub ValidateLive : ValidateRequest → Asker → Type 0
+ValidateLive v a = ProofLive v.turn (a.epoch ≡ Some v.epoch) a
+
+abbrev pub ValidateFits : Pair → ValidateRequest → Type 0
+ValidateFits p v = IfSome p.asker (ValidateLive v)
+
+-- the answer has verdicts on the queries at the server that have run so far, or it says that what was done is lost
+abbrev pub VerdictsLive : Site → VerdictsReply → Asker → Type 0
+VerdictsLive s reply a = ProofLive reply.turn (IfSome reply.verdicts (AreUpto s (length a.deeds))) a
+
+abbrev pub VerdictsFits : Site → Pair → VerdictsReply → Type 0
+VerdictsFits s p reply = IfSome p.asker (VerdictsLive s reply)
+
+-- ---- votes
 
 -- a server that was asked to prepare without a staple proves nothing, and one that was asked with a staple proves all
 abbrev pub AreNoneOrAll : Site → List Verdict → Type 0

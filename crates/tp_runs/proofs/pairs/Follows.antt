@@ -1,16 +1,16 @@
 -- One state follows another, in which what was sent or kept before still fits. No event needs to look at it again.
 use Rattle.tp_coord.specs.Sums.{asked_value}
-use Rattle.std.proofs.Common.{◌≡◌, inl, inr, ⊎_elim, ℕ, ◌+◌, ◌≤◌, ℤ, List, [], ◌++◌, length, take, Option, Some, None, IfSome, Contains, refl, sym, ap, subst, ◌∙◌, append_assoc, append-nil}
+use Rattle.std.proofs.Common.{◌≡◌, inl, inr, ⊎_elim, ℕ, ◌+◌, ◌≤◌, ℤ, List, [], ◌++◌, length, take, Option, Some, None, IfSome, Contains, refl, sym, ap, subst, ◌∙◌, append_assoc, append-nil, arith}
 use Rattle.std.proofs.lemmas.List.{take-append-le}
 use Rattle.std.proofs.lemmas.List.Elements.{Contains-append_left}
-use Rattle.tp_model.specs.Words.{Answer, Deed, DoneReply, PrepareRequest, QueryRequest}
+use Rattle.tp_model.specs.Words.{Answer, Deed, DoneReply, PrepareRequest, QueryRequest, ValidateRequest, VerdictsReply}
 use Rattle.tp_model.specs.Words.answer
 use Rattle.tp_server.specs.declared.server.Entry.{Entry}
 use Rattle.tp_types.specs.Each.{Each}
 use Rattle.tp_coord.specs.Sums.{asked_value}
 use Rattle.tp_types.proofs.EachLemmas.{each_as}
-use Rattle.tp_runs.proofs.basics.Phases.{Prepares}
-use Rattle.tp_runs.proofs.pairs.Fits.{AnswerFits, AnsweredFits, Covers, DoneFits, EntryFits, Fits, IsAsked, Live, PrepareFits, PrepareLive, QueryFits, QueryLive, RanFits, RanLive, Tells, Waits}
+use Rattle.tp_runs.proofs.basics.Phases.{Pauses, Prepares}
+use Rattle.tp_runs.proofs.pairs.Fits.{AnswerFits, AnsweredFits, AreUpto, Covers, DoneFits, EntryFits, Fits, IsAsked, Live, PrepareFits, PrepareLive, ProofLive, QueryFits, QueryLive, RanFits, RanLive, Tells, ValidateFits, ValidateLive, VerdictsFits, VerdictsLive, Waits}
 use Rattle.tp_runs.proofs.pairs.Grows.{Grows, covers_more, grows_both, loses_grows, tells_grown}
 use Rattle.tp_runs.proofs.basics.Found.{some_as}
 use Rattle.tp_runs.proofs.pairs.Loses.{Loses, loses_same}
@@ -20,13 +20,16 @@ use Rattle.tp_runs.proofs.deeds.Runs.{deed_at}
 
 -- ---- the coordinator
 
--- the coordinator is further on: it keeps the epoch and its deeds, and leaves the way to a vote no more
+-- the coordinator is further on: it keeps the epoch and its deeds, leaves the way to a vote no more, and pauses
+-- until its turn rises
 pub record Later (a b : Asker) : Type 0 where
   pub live : (turn before : ℕ) → Live turn before a → Live turn before b
   pub more : List Deed
   pub deeds : b.deeds ≡ a.deeds ++ more
   pub epoch : (epoch : ℕ) → a.epoch ≡ Some epoch → b.epoch ≡ Some epoch
   pub prepares : a.stand ≡ Prepares → b.stand ≡ Prepares
+  pub turn_past : a.turn ≤ b.turn
+  pub pauses : a.stand ≡ Pauses → b.turn ≡ a.turn → (b.stand ≡ Pauses) × (b.deeds ≡ a.deeds)
 
 -- the coordinator is further on, or has decided or crashed, and then it asks no more
 abbrev pub Onward : Option Asker → Option Asker → Type 0
@@ -36,7 +39,16 @@ Onward (Some a) None = Unit {0}
 Onward (Some a) (Some b) = Later a b
 
 pub later_same : (a : Asker) → Later a a
-later_same a = record { live = λ turn before l. l; more = []; deeds = sym (append-nil a.deeds); epoch = λ e f. f; prepares = λ f. f }
+later_same a =
+    record {
+      live = λ turn before l. l;
+      more = [];
+      deeds = sym (append-nil a.deeds);
+      epoch = λ e f. f;
+      prepares = λ f. f;
+      turn_past = omega arith;
+      pauses = λ f same. (f, refl);
+    }
 
 later_both : (a b c : Asker) → Later a b → Later b c → Later a c
 later_both a b c first second =
@@ -46,6 +58,14 @@ later_both a b c first second =
       deeds = second.deeds ∙ (ap (λ (deeds : List Deed). deeds ++ second.more) first.deeds ∙ append_assoc a.deeds first.more second.more);
       epoch = λ e f. second.epoch e (first.epoch e f);
       prepares = λ f. second.prepares (first.prepares f);
+      turn_past = let one = first.turn_past in let other = second.turn_past in omega (arith, one, other);
+      pauses = λ f same.
+          let one = first.turn_past in
+          let other = second.turn_past in
+          let here : b.turn ≡ a.turn = omega (arith, one, other, same) in
+          let still = first.pauses f here in
+          let end = second.pauses still.0 (omega (arith, same, here)) in
+          (end.0, end.1 ∙ still.1);
     }
 
 pub onward_same : (o : Option Asker) → Onward o o
@@ -163,6 +183,36 @@ prepare_follows s p q r f h =
       names = h.names;
       live = some_onward (PrepareLive r) p.asker q.asker (prepare_live r) f.onward h.live;
     }
+
+-- what is said of the present turn stays, as the coordinator pauses until its next request
+proof_live : (turn : ℕ) (P Q : Type 0) (a b : Asker) → Later a b → (b.deeds ≡ a.deeds → P → Q) → ProofLive turn P a → ProofLive turn Q b
+proof_live turn P Q a b later step h = record { past = omega (arith, before, on); pauses = λ same. (still same).0; now = λ same. step (still same).1 (h.now (present same)) }
+  where
+    before : turn ≤ a.turn
+    before = h.past
+
+    on : a.turn ≤ b.turn
+    on = later.turn_past
+
+    present : turn ≡ b.turn → turn ≡ a.turn
+    present same = omega (arith, before, on, same)
+
+    still : turn ≡ b.turn → (b.stand ≡ Pauses) × (b.deeds ≡ a.deeds)
+    still same = later.pauses (h.pauses (present same)) (omega (arith, before, on, same))
+
+-- a request to validate fits what follows
+pub validate_follows : (p q : Pair) (v : ValidateRequest) → Follows p q → ValidateFits p v → ValidateFits q v
+validate_follows p q v f h =
+    some_onward (ValidateLive v) p.asker q.asker (λ a b later live. proof_live v.turn (a.epoch ≡ Some v.epoch) (b.epoch ≡ Some v.epoch) a b later (λ same kept. later.epoch v.epoch kept) live) f.onward h
+
+-- and so does the answer to it
+pub verdicts_follow : (s : Site) (p q : Pair) (reply : VerdictsReply) → Follows p q → VerdictsFits s p reply → VerdictsFits s q reply
+verdicts_follow s p q reply f h = some_onward (VerdictsLive s reply) p.asker q.asker stays f.onward h
+  where
+    stays : (a b : Asker) → Later a b → VerdictsLive s reply a → VerdictsLive s reply b
+    stays a b later live =
+        proof_live reply.turn (IfSome reply.verdicts (AreUpto s (length a.deeds))) (IfSome reply.verdicts (AreUpto s (length b.deeds))) a b later
+        (λ same on. subst (λ (deeds : List Deed). IfSome reply.verdicts (AreUpto s (length deeds))) (sym same) on) live
 
 -- ---- entries
 

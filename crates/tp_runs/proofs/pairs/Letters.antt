@@ -1,17 +1,20 @@
 -- What is sent fits the state in which it is sent.
 use Rattle.tp_coord.specs.Sums.{asked_value}
-use Rattle.std.proofs.Common.{◌≡◌, ⊎_elim, ℕ, ◌+◌, List, [], length, take, true, Option, Some, None, IfSome, Contains, refl, sym, ap, subst, ◌∙◌, arith, ◌⊎◌}
+use Rattle.std.proofs.Common.{◌≡◌, ⊎_elim, ℕ, ◌+◌, List, [], length, take, true, Option, Some, None, IfSome, Contains, refl, sym, ap, subst, ◌∙◌, arith, ◌⊎◌, inr, option_map}
 use Rattle.std.proofs.lemmas.List.{take_all}
-use Rattle.tp_model.specs.Words.{Deed, DoneReply, PrepareRequest, QueryRequest}
+use Rattle.tp_model.specs.Words.{Deed, DoneReply, PrepareRequest, QueryRequest, ValidateRequest, Verdict, VerdictsReply}
 use Rattle.tp_coord.specs.Sums.{asked_value}
 use Rattle.tp_server.specs.declared.server.Entry.{Entry}
 use Rattle.tp_model.specs.Limits.{is_empty}
-use Rattle.tp_runs.proofs.basics.Phases.{Asks, Prepares}
-use Rattle.tp_runs.proofs.pairs.Fits.{AskerFits, Covers, DoneFits, EntryFits, Fits, Matches, Names, OneMore, Pairing, PrepareFits, PrepareLive, QueryFits, QueryLive, Tells}
+use Rattle.tp_runs.proofs.basics.Phases.{Asks, Pauses, Prepares}
+use Rattle.tp_runs.proofs.pairs.Fits.{AreUpto, AskerFits, Covers, DoneFits, EntryFits, Fits, IsThere, Matches, Names, OneMore, Pairing, PrepareFits, PrepareLive, QueryFits, QueryLive, Tells, ValidateFits, ValidateLive, VerdictsFits, VerdictsLive}
+use Rattle.tp_runs.proofs.basics.Verdicts.{numbers_of}
+use Rattle.tp_runs.proofs.pairs.Answered.{there_matches}
 use Rattle.tp_runs.proofs.pairs.Grows.{covers_more}
-use Rattle.tp_runs.proofs.basics.Found.{answer_each, answer_in, of_some, to_some}
+use Rattle.tp_runs.proofs.basics.Found.{answer_each, answer_in, of_some, some_as, to_some}
 use Rattle.tp_runs.proofs.pairs.Loses.{tells_as}
-use Rattle.tp_runs.proofs.pairs.Pair.{Asker, Pair, got}
+use Rattle.tp_runs.proofs.pairs.Moves.{matched}
+use Rattle.tp_runs.proofs.pairs.Pair.{Asker, Pair, entry_held, got, held_up, numbers}
 use Rattle.tp_runs.proofs.pairs.Site.{IsUpto, Site, count, here, here_within, in_upto, upto, upto_none}
 
 -- ---- what the coordinator got
@@ -103,8 +106,36 @@ prepares s p a r is h stand epoch names =
       live = to_some (PrepareLive r) p.asker a is (record { epoch = epoch; prepares = stand });
     }
 
+-- a request to validate that names the epoch that is kept, the first time or again
+pub validates : (p : Pair) (a : Asker) (v : ValidateRequest) → p.asker ≡ Some a → a.stand ≡ Pauses → v.turn ≡ a.turn → a.epoch ≡ Some v.epoch → ValidateFits p v
+validates p a v is stand turn epoch = to_some (ValidateLive v) p.asker a is (record { past = omega (arith, turn); pauses = λ same. stand; now = λ same. epoch })
+
 -- ---- answers
 
 -- an answer that the entry keeps is sent, the first time or again
 pub says : (s : Site) (p : Pair) (entry : Entry) (number : ℕ) (done : DoneReply) → p.entry ≡ Some entry → Fits s p → answer_in number entry.answers ≡ Some done → DoneFits s p done
 says s p entry number done is h found = answer_each (DoneFits s p) number entry.answers done (of_some (EntryFits s p) p.entry entry is h.entry).answers found
+
+-- verdicts on what the server has in the epoch that is kept, while the coordinator pauses: that is what was got of it
+validated : (s : Site) (p : Pair) (a : Asker) (entry : Entry) (verdicts : List Verdict) → p.asker ≡ Some a → IsThere p entry.epoch entry.deeds → Fits s p → a.stand ≡ Pauses → a.epoch ≡ Some entry.epoch
+    → numbers_of verdicts ≡ numbers entry.deeds → AreUpto s (length a.deeds) verdicts
+validated s p a entry verdicts is found h pauses epoch on =
+    let old : AskerFits s p a = of_some (AskerFits s p) p.asker a is h.asker in
+    let matches : Matches s a entry.deeds = there_matches s p a a.epoch entry.epoch entry.deeds old.pairing (inr epoch) found in
+    let exact : entry.deeds ≡ got s a.deeds = matched s a entry.deeds (λ asks. cc) matches in
+    on ∙ (ap numbers exact ∙ old.numbers_are)
+
+-- the answer to a request to validate
+pub proves : (s : Site) (p : Pair) (entry : Entry) (v : ValidateRequest) (reply : VerdictsReply) (verdicts : List Verdict) → p.up ≡ true → p.entry ≡ Some entry → Fits s p → ValidateFits p v → entry.epoch ≡ v.epoch
+    → reply.turn ≡ v.turn → reply.verdicts ≡ Some verdicts → numbers_of verdicts ≡ numbers entry.deeds → VerdictsFits s p reply
+proves s p entry v reply verdicts up is h asked epoch turn said on =
+    let found : IsThere p entry.epoch entry.deeds = held_up p.up p.entry p.prepared up ∙ ap (option_map entry_held) is in
+    some_as (ValidateLive v) (VerdictsLive s reply) p.asker
+    (λ a there live. record {
+      past = let past = live.past in omega (arith, past, turn);
+      pauses = λ same. live.pauses (sym turn ∙ same);
+      now = λ same.
+          let kept : a.epoch ≡ Some entry.epoch = live.now (sym turn ∙ same) ∙ ap Some (sym epoch) in
+          let all : AreUpto s (length a.deeds) verdicts = validated s p a entry verdicts there found h (live.pauses (sym turn ∙ same)) kept on in
+          subst (λ (proved : Option (List Verdict)). IfSome proved (AreUpto s (length a.deeds))) (sym said) all;
+    }) asked

@@ -44,12 +44,12 @@ with_asker_fits s p a b is h later fits =
 
 -- ---- moves
 
--- the coordinator may stand so from now on: its last query was answered; it asks in a greater turn while queries are left, and
--- prepares once all have run, for good
+-- the coordinator may stand so from now on, in a greater turn: its last query was answered; it asks while queries are
+-- left, and prepares once all have run, for good
 pub record MayMove (s : Site) (a : Asker) (stand : Stand) (turn : ℕ) : Type 0 where
   pub answered : a.stand ≡ Asks → ⊥
-  pub turn_past : a.turn ≤ turn
-  pub asks : stand ≡ Asks → (a.turn < turn) × (length a.deeds < count s)
+  pub rises : a.turn < turn
+  pub asks : stand ≡ Asks → length a.deeds < count s
   pub all : stand ≡ Prepares → length a.deeds ≡ count s
   pub stays : a.stand ≡ Prepares → stand ≡ Prepares
 
@@ -67,13 +67,15 @@ moved_later s a stand turn may =
         past = l.past;
         now = λ same. absurd (may.answered (l.now same));
         present = λ same. absurd (may.answered (l.now same));
-        turn_past = let old = l.turn_past in let past = may.turn_past in omega (arith, old, past);
-        turn_now = λ asks same. let old = l.turn_past in let less = (may.asks asks).0 in absurd (omega (arith, old, less, same));
+        turn_past = let old = l.turn_past in let less = may.rises in omega (arith, old, less);
+        turn_now = λ asks same. let old = l.turn_past in let less = may.rises in absurd (omega (arith, old, less, same));
       };
       more = [];
       deeds = sym (append-nil a.deeds);
       epoch = λ e f. f;
       prepares = may.stays;
+      turn_past = let less = may.rises in omega (arith, less);
+      pauses = λ f same. let less = may.rises in absurd (omega (arith, less, same));
     }
 
 -- the coordinator moves on
@@ -87,7 +89,7 @@ moves s p a stand turn is h may =
       runs = old.runs;
       pairing = pairing_as s p (with_asker p (Some b)) a b a.epoch (asker_loses p (Some b)) refl (λ deeds m. inl (matched s a deeds may.answered m)) old.pairing;
       made = λ prepared there. let made = old.made prepared there in record { epoch = made.epoch; prepares = may.stays made.prepares };
-      least = λ asks. (may.asks asks).1;
+      least = may.asks;
       most = old.most;
       all = may.all;
       unsettled = λ ended. may.stays (old.unsettled ended);

@@ -26,8 +26,8 @@ use Rattle.tp_runs.proofs.pairs.Actors.{AllFit, AllNext, pair_of, pair_up, site_
 use Rattle.tp_runs.proofs.pairs.Ends as end
 use Rattle.tp_runs.proofs.pairs.Ends.{ordered}
 use Rattle.tp_runs.proofs.pairs.Entries.{begun, changed, denies, keeps, makes, with_entry}
-use Rattle.tp_runs.proofs.pairs.Fits.{AnsweredFits, AreNoneOrAll, DoneFits, EntryFits, Fits, Live, PrepareFits, QueryFits, QueryLive, VoteFits}
-use Rattle.tp_runs.proofs.pairs.Follows.{Next, done_follows, next_both, next_same, query_follows}
+use Rattle.tp_runs.proofs.pairs.Fits.{AnsweredFits, AreNoneOrAll, DoneFits, EntryFits, Fits, Live, PrepareFits, QueryFits, QueryLive, ValidateFits, VerdictsFits, VoteFits}
+use Rattle.tp_runs.proofs.pairs.Follows.{Next, done_follows, next_both, next_same, query_follows, verdicts_follow}
 use Rattle.tp_runs.proofs.basics.Found.{answer_in, of_some, some_as}
 use Rattle.tp_runs.proofs.pairs.Pair.{Asker, Pair}
 use Rattle.tp_runs.proofs.pairs.Ran.{IsAnswer, ran, runs}
@@ -56,8 +56,10 @@ use Rattle.tp_server.specs.Verdicts.{with_wants, verdicts_on}
 abbrev pub ReplyPairs : Scenario → ServerId → (TxnId → Pair) → Body → Type 0
 ReplyPairs sc at Q (body.Done done) = (declared : Transaction) → slice_get sc.txns done.txn.0 ≡ Some declared → DoneFits (site_of sc at.0 declared) (Q done.txn) done
 ReplyPairs sc at Q (body.Vote reply) = (declared : Transaction) → slice_get sc.txns reply.txn.0 ≡ Some declared → VoteFits (site_of sc at.0 declared) reply.vote
+ReplyPairs sc at Q (body.Verdicts reply) = (declared : Transaction) → slice_get sc.txns reply.txn.0 ≡ Some declared → VerdictsFits (site_of sc at.0 declared) (Q reply.txn) reply
 ReplyPairs sc at Q (body.Query q) = ⊥
 ReplyPairs sc at Q (body.Prepare r) = ⊥
+ReplyPairs sc at Q (body.Validate v) = ⊥
 ReplyPairs sc at Q _ = Unit {0}
 
 pub record IsReply (sc : Scenario) (at : ServerId) (Q : TxnId → Pair) (letter : Letter) : Type 0 where
@@ -86,6 +88,7 @@ pub record ServerPaired (sc : Scenario) (A : TxnId → Option Asker) (s : Server
 abbrev pub RequestPairs : Scenario → ServerId → (TxnId → Option Asker) → (TxnId → Pair) → Body → Type 0
 RequestPairs sc at A P (body.Query q) = (declared : Transaction) → slice_get sc.txns q.txn.0 ≡ Some declared → QueryFits (site_of sc at.0 declared) (P q.txn) q
 RequestPairs sc at A P (body.Prepare r) = (declared : Transaction) → slice_get sc.txns r.txn.0 ≡ Some declared → PrepareFits (site_of sc at.0 declared) (P r.txn) r
+RequestPairs sc at A P (body.Validate v) = (declared : Transaction) → slice_get sc.txns v.txn.0 ≡ Some declared → ValidateFits (P v.txn) v
 RequestPairs sc at A P (body.Decide d) = A d.txn ≡ None
 RequestPairs sc at A P _ = Unit {0}
 
@@ -483,8 +486,10 @@ runs_pairs sc A s kept sent q query entry value h fresh k place asked =
 reply_stays : (sc : Scenario) (at : ServerId) (P Q : TxnId → Pair) → AllNext sc at.0 P Q → (said : Body) → ReplyPairs sc at P said → ReplyPairs sc at Q said
 reply_stays sc at P Q next (body.Done done) h = λ declared found. done_follows (site_of sc at.0 declared) (P done.txn) (Q done.txn) done (next done.txn declared found).follows (h declared found)
 reply_stays sc at P Q next (body.Vote reply) h = h
+reply_stays sc at P Q next (body.Verdicts reply) h = λ declared found. verdicts_follow (site_of sc at.0 declared) (P reply.txn) (Q reply.txn) reply (next reply.txn declared found).follows (h declared found)
 reply_stays sc at P Q next (body.Query q) h = absurd h
 reply_stays sc at P Q next (body.Prepare r) h = absurd h
+reply_stays sc at P Q next (body.Validate v) h = absurd h
 reply_stays sc at P Q next _ h = tt
 
 all_both : (sc : Scenario) (at : ℕ) (P Q R : TxnId → Pair) → AllNext sc at P Q → AllNext sc at Q R → AllNext sc at P R
