@@ -1,7 +1,7 @@
 -- What a transaction's levels ask of its rounds: how many there may be, and of which administrators the master is read.
 use Rattle.std.specs.List.{list_any}
 use Rattle.std.specs.Option.{option_map_or}
-use Rattle.std.proofs.Common.{Bool, List, None, Option, Some, [], ap, false, if◌then◌else◌, not, refl, slice_get, subst, suc, sym, true, zero, ℕ, ◌||◌, ◌∷◌, ◌≡◌}
+use Rattle.std.proofs.Common.{Bool, List, None, Option, Some, [], ap, arith, false, if◌then◌else◌, not, refl, slice_get, subst, suc, sym, true, zero, ℕ, ◌||◌, ◌∷◌, ◌≡◌, ◌≤◌}
 use Rattle.std.proofs.lemmas.Bool.{and_parts, or_from, or_left, or_right}
 use Rattle.tp_model.specs.Authorisation.{is_item_at, is_own_query, is_query_at}
 use Rattle.tp_model.specs.Causes.{is_item_of, is_own_admin, is_query_of}
@@ -13,6 +13,8 @@ use Rattle.tp_model.specs.Words.{AdminId, Item, Level, Query, Scenario, ServerId
 use Rattle.tp_round.proofs.AdminLemmas.{same_ids}
 use Rattle.tp_round.specs.Judge.{is_global_at}
 use Rattle.tp_machine.specs.Named.{IsAdmin}
+use Rattle.tp_runs.proofs.basics.Phases.{last_spanned, spanned, spanned_get}
+use Rattle.tp_coord.specs.declared.coordinator.Span.{Span}
 
 -- how many rounds may meet a newer version: as many as the transaction asks for, where it reads the master; else
 -- nothing is met, and the limit is the number of rounds that view consistency takes
@@ -59,6 +61,14 @@ pub own_admin : (sc : Scenario) (declared : Transaction) (number : ℕ) (at : Se
 own_admin sc declared zero at admin e = absurd (cc)
 own_admin sc declared (suc before) at admin e = own_among sc at admin declared.queries before e
 
+-- that of one that a round is over is of one of these
+pub spanned_admin : (sc : Scenario) (declared : Transaction) (over : Span) (number : ℕ) (at : ServerId) (admin : AdminId) → number ≤ last_spanned over declared → is_own_query sc declared number at admin ≡ true
+    → list_any (is_query_of sc admin) (spanned over declared.queries) ≡ true
+spanned_admin sc declared over zero at admin low e = absurd (cc)
+spanned_admin sc declared over (suc before) at admin low e =
+    own_among sc at admin (spanned over declared.queries) before
+    (subst (λ (found : Option Query). option_map_or (is_query_at sc at admin) found false ≡ true) (sym (spanned_get over declared.queries before (omega (arith, low)))) e)
+
 global_item : (txn : Transaction) (admin : AdminId) (item : Option Item) → is_global (level_of txn admin) ≡ true → option_map_or (is_item_of admin) item false ≡ true → option_map_or (is_global_item txn) item false ≡ true
 global_item txn admin None g e = absurd (cc)
 global_item txn admin (Some item) g e = subst (λ (one : AdminId). is_global (level_of txn one) ≡ true) (sym (same_ids item.admin admin e)) g
@@ -72,10 +82,10 @@ view_item : (txn : Transaction) (admin : AdminId) (item : Option Item) → is_gl
 view_item txn admin None g e = absurd (cc)
 view_item txn admin (Some item) g e = subst (λ (one : AdminId). not (is_global (level_of txn one)) ≡ true) (sym (same_ids item.admin admin e)) (ap not g)
 
--- and where it has not, one has the level view
-pub viewed_where : (sc : Scenario) (txn : Transaction) (admin : AdminId) → is_own_admin sc admin txn ≡ true → is_global (level_of txn admin) ≡ false → has_view sc txn txn.queries ≡ true
-viewed_where sc txn admin own g =
-    any_as (is_query_of sc admin) (is_view_query sc txn) (λ query e. view_item txn admin (slice_get sc.items (item_of query).0) g e) txn.queries own
+-- and where that of one of some queries has not, one of them has the level view
+pub viewed_where : (sc : Scenario) (txn : Transaction) (admin : AdminId) (queries : List Query) → list_any (is_query_of sc admin) queries ≡ true → is_global (level_of txn admin) ≡ false → has_view sc txn queries ≡ true
+viewed_where sc txn admin queries own g =
+    any_as (is_query_of sc admin) (is_view_query sc txn) (λ query e. view_item txn admin (slice_get sc.items (item_of query).0) g e) queries own
 
 none_of : {A : Type 0} (P : A → Bool) → ((x : A) → P x ≡ false) → (xs : List A) → list_any P xs ≡ false
 none_of P fails [] = refl

@@ -2,7 +2,7 @@
 -- coordinator stands, and how many requests it has made at most.
 use Rattle.std.specs.List.{list_any}
 use Rattle.std.specs.Option.{option_map_or}
-use Rattle.std.proofs.Common.{Bool, List, None, Option, Some, [], ap, arith, false, not, option_and_then, option_map, refl, slice_get, subst, suc, sym, take, true, zero, ℕ, ◌*◌, ◌+◌, ◌-◌, ◌==◌, ◌||◌, ◌∙◌, ◌∷◌, ◌≡◌}
+use Rattle.std.proofs.Common.{Bool, List, None, Option, Some, [], ap, arith, false, length, not, option_and_then, option_map, refl, slice_get, subst, suc, sym, take, true, zero, ℕ, ◌*◌, ◌+◌, ◌-◌, ◌==◌, ◌||◌, ◌∙◌, ◌∷◌, ◌≡◌, ◌<◌, ◌≤◌}
 use Rattle.std.proofs.lemmas.Bool.{and_parts, eqb-true}
 use Rattle.std.proofs.lemmas.List.Folds.{list_any_more}
 use Rattle.std.proofs.lemmas.Option.{get_or_from_slice_get, same_Some, slice_get_within}
@@ -45,6 +45,14 @@ is_late _ = false
 abbrev pub spanned : Span → List Query → List Query
 spanned (span.Validate number) queries = take number queries
 spanned span.Commit queries = queries
+
+-- the transaction, of the queries alone that a round is over
+abbrev pub only_spanned : Span → Transaction → Transaction
+only_spanned over declared = record declared { queries = spanned over declared.queries }
+
+-- the number of the last query that a round is over
+abbrev pub last_spanned : Span → Transaction → ℕ
+last_spanned over declared = length (spanned over declared.queries)
 
 -- of a transaction's queries, those that ran before the phase of a coordinator that has not decided
 abbrev pub ran_before : Phase → List Query → List Query
@@ -190,6 +198,48 @@ take_all [] zero e = refl
 take_all [] (suc n) e = refl
 take_all (first ∷ queries) zero e = absurd (cc)
 take_all (first ∷ queries) (suc n) e = ap (λ (qs : List Query). first ∷ qs) (take_all queries n e)
+
+-- ---- queries that a round is over
+
+take_get : (queries : List Query) (number k : ℕ) → k < length (take number queries) → slice_get (take number queries) k ≡ slice_get queries k
+take_get [] zero k low = absurd (omega (arith, low))
+take_get [] (suc number) k low = absurd (omega (arith, low))
+take_get (first ∷ queries) zero k low = absurd (omega (arith, low))
+take_get (first ∷ queries) (suc number) zero low = refl
+take_get (first ∷ queries) (suc number) (suc k) low = take_get queries number k (omega (arith, low))
+
+-- each of them stands where it stands among all
+pub spanned_get : (over : Span) (queries : List Query) (k : ℕ) → k < length (spanned over queries) → slice_get (spanned over queries) k ≡ slice_get queries k
+spanned_get (span.Validate number) queries k low = take_get queries number k low
+spanned_get span.Commit queries k low = refl
+
+take_short : (queries : List Query) (number : ℕ) → length (take number queries) ≤ length queries
+take_short [] zero = omega arith
+take_short [] (suc number) = omega arith
+take_short (first ∷ queries) zero = omega arith
+take_short (first ∷ queries) (suc number) = omega (arith, take_short queries number)
+
+-- there are no more of them than of all
+pub spanned_short : (over : Span) (queries : List Query) → length (spanned over queries) ≤ length queries
+spanned_short (span.Validate number) queries = take_short queries number
+spanned_short span.Commit queries = omega arith
+
+take_any : (test : Query → Bool) (queries : List Query) (number : ℕ) → list_any test (take number queries) ≡ true → list_any test queries ≡ true
+take_any test [] zero e = absurd (cc)
+take_any test [] (suc number) e = absurd (cc)
+take_any test (first ∷ queries) zero e = absurd (cc)
+take_any test (first ∷ queries) (suc number) e = by_first (test first) e (take_any test queries number)
+  where
+    by_first : (b : Bool) → (b || list_any test (take number queries)) ≡ true → (list_any test (take number queries) ≡ true → list_any test queries ≡ true) → (b || list_any test queries) ≡ true
+    by_first true some later = refl
+    by_first false some later = later some
+
+-- what one of them passes one of all passes
+pub spanned_any : (test : Query → Bool) (over : Span) (queries : List Query) → list_any test (spanned over queries) ≡ true → list_any test queries ≡ true
+spanned_any test (span.Validate number) queries e = take_any test queries number e
+spanned_any test span.Commit queries e = e
+
+-- ---- queries that ran
 
 -- among the queries up to one are those before it and itself
 pub next_ran : (sc : Scenario) (txn : TxnId) (number : ℕ) (asked : Query) (test : Query → Bool) → query_in sc txn number ≡ Some asked

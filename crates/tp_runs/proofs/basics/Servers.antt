@@ -7,9 +7,39 @@ use Rattle.std.proofs.lemmas.Bool.Decides.{nat_tests}
 use Rattle.tp_model.specs.Words.{Query, Scenario, ServerId, Transaction, TxnId}
 use Rattle.tp_model.specs.Agreement.{has_item, has_item_at}
 use Rattle.tp_model.specs.Queries.{is_at_server, servers_from, servers_of}
+use Rattle.tp_types.proofs.EachLemmas.{by_cond}
 use Rattle.tp_types.specs.Each.{Each}
 use Rattle.tp_machine.specs.Named.{IsServer}
 use Rattle.tp_coord.specs.Opened.{servers_at}
+use Rattle.tp_coord.specs.declared.coordinator.Span.TheVariants as span
+use Rattle.tp_coord.specs.declared.coordinator.Span.{Span}
+use Rattle.tp_runs.proofs.basics.Phases.{only_spanned}
+
+-- the servers of those of a transaction's queries that a round is over
+abbrev pub servers_over : Scenario → TxnId → Span → List ServerId
+servers_over sc txn over = option_map_or (λ (declared : Transaction). servers_of sc (only_spanned over declared)) (slice_get sc.txns txn.0) []
+
+-- one of these queries is at the server
+abbrev pub has_item_over : Scenario → TxnId → Span → ServerId → Bool
+has_item_over sc txn over at = option_map_or (λ (declared : Transaction). has_item sc at (only_spanned over declared)) (slice_get sc.txns txn.0) false
+
+-- a round at commit is over all of them, so of all of the transaction's servers
+pub all_servers : (sc : Scenario) (txn : TxnId) → servers_over sc txn span.Commit ≡ servers_at sc txn
+all_servers sc txn = refl
+
+servers_have : (sc : Scenario) (declared : Transaction) (low left : ℕ) → Each (λ (at : ServerId). has_item sc at declared ≡ true) (servers_from sc declared.queries low left)
+servers_have sc declared low zero = tt
+servers_have sc declared low (suc left) =
+    let later = servers_have sc declared (low + 1) left in
+    by_cond (Each (λ (at : ServerId). has_item sc at declared ≡ true)) (list_any (is_at_server sc low) declared.queries) (λ here. (here, later)) (λ not_here. later)
+
+-- at each of them is one of the queries that the round is over
+pub servers_over_have : (sc : Scenario) (txn : TxnId) (over : Span) → Each (λ (at : ServerId). has_item_over sc txn over at ≡ true) (servers_over sc txn over)
+servers_over_have sc txn over = found (slice_get sc.txns txn.0)
+  where
+    found : (declared : Option Transaction) → Each (λ (at : ServerId). option_map_or (λ (t : Transaction). has_item sc at (only_spanned over t)) declared false ≡ true) (option_map_or (λ (t : Transaction). servers_of sc (only_spanned over t)) declared [])
+    found (Some declared) = servers_have sc (only_spanned over declared) 0 (length sc.servers)
+    found None = tt
 
 split_cond : {A : Type 0} (P : A → Type 0) (b : Bool) (x : A) (xs : List A) → Each P (if b then x ∷ xs else xs) → Each P xs × (b ≡ true → P x)
 split_cond P true x xs h = (h.1, λ e. h.0)

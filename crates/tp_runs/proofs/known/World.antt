@@ -355,15 +355,15 @@ low_turn sc facts place c (phase.Probing number) few h e within =
 low_turn sc facts place c (phase.Asking over round) few h e within =
     let low = turn_low sc facts place c (phase.Asking over round) h e in
     let f = subst (PhaseFits sc facts place c.txn) e h.awaits in
-    low_span (query_count sc c.txn) round.number 1 c.turn over (few c.txn) (few_rounds sc facts place c.txn round f.1) (omega arith) within low
+    low_span (query_count sc c.txn) round.number 1 c.turn over (few c.txn) (few_rounds sc facts place c.txn over round f.1) (omega arith) within low
 low_turn sc facts place c (phase.Checking over round staple) few h e within =
     let low = turn_low sc facts place c (phase.Checking over round staple) h e in
     let f = subst (PhaseFits sc facts place c.txn) e h.awaits in
-    low_span (query_count sc c.txn) round.number 2 c.turn over (few c.txn) (few_rounds sc facts place c.txn round f.1) (omega arith) within low
+    low_span (query_count sc c.txn) round.number 2 c.turn over (few c.txn) (few_rounds sc facts place c.txn over round f.1) (omega arith) within low
 low_turn sc facts place c (phase.Reading over round) few h e within =
     let low = turn_low sc facts place c (phase.Reading over round) h e in
     let f = subst (PhaseFits sc facts place c.txn) e h.awaits in
-    low_span (query_count sc c.txn) round.number 3 c.turn over (few c.txn) (few_rounds sc facts place c.txn round f.1) (omega arith) within low
+    low_span (query_count sc c.txn) round.number 3 c.turn over (few c.txn) (few_rounds sc facts place c.txn over round f.1) (omega arith) within low
 low_turn sc facts place c (phase.Voting awaited) few h e within =
     let low = turn_low sc facts place c (phase.Voting awaited) h e in
     low_round (query_count sc c.txn) 1 1 c.turn (few c.txn) (omega arith) (omega arith) low
@@ -406,7 +406,7 @@ asked_within sc declared P c awaited e declared_is numbered fits is = by_phase a
     by_phase _ f n = tt
 
 phase_names : (sc : Scenario) (facts : List Fact) (place : ℕ) (txn : TxnId) (awaited : Phase) (declared : Transaction) → slice_get sc.txns txn.0 ≡ Some declared → PhaseFits sc facts place txn awaited → PhaseNames sc declared awaited
-phase_names sc facts place txn (phase.Asking over round) declared e h = round_names sc facts place txn round declared e h.1
+phase_names sc facts place txn (phase.Asking span.Commit round) declared e h = round_names sc facts place txn round declared e h.1
 phase_names sc facts place txn _ declared e h = tt
 
 coordinator_paired : (sc : Scenario) (w : State) (declared : Transaction) (txn : TxnId) (part : Part Coordinator) (c : Coordinator) → AreFew sc → IsSound sc w → Epochs sc w → Trusts sc w → Pairs sc w → IsCoordinatorUp w txn part c

@@ -100,13 +100,13 @@ pub record CoordinatorActsPairs (sc : Scenario) (declared : Transaction) (txn : 
 abbrev pub RowAsks : Scenario → Transaction → (ℕ → Pair) → Effect Coordinator → Type 0
 RowAsks sc declared P effect = CoordinatorActsPairs sc declared effect.state.txn P (Some effect.state) effect.reaction.letters
 
--- what a round wants of a server, if it wants anything, names all administrators there
+-- what a round at commit wants of a server, if it wants anything, names all administrators there
 abbrev pub NamesAt : Scenario → Transaction → Round → ServerId → Type 0
 NamesAt sc declared round at = (is_empty (coord.want_for round at) ≡ true) ⊎ Names (site_of sc at.0 declared) (coord.want_for round at)
 
--- a round before which the authority is asked
+-- a round at commit before which the authority is asked
 abbrev pub PhaseNames : Scenario → Transaction → Phase → Type 0
-PhaseNames sc declared (phase.Asking over round) = Each (NamesAt sc declared round) (missing_in round.targets)
+PhaseNames sc declared (phase.Asking span.Commit round) = Each (NamesAt sc declared round) (missing_in round.targets)
 PhaseNames sc declared _ = Unit {0}
 
 -- a coordinator before its row

@@ -166,6 +166,10 @@ pub record PrepareLive (r : PrepareRequest) (a : Asker) : Type 0 where
 abbrev pub Names : Site → List (AdminId × Version) → Type 0
 Names s want = (number : ℕ) (admin : AdminId) → is_own_query s.scenario s.txn number (server_number s.at) admin ≡ true → is_some (wanted_of want admin) ≡ true
 
+-- so it is of those of the queries there up to one
+abbrev pub NamesUpto : Site → ℕ → List (AdminId × Version) → Type 0
+NamesUpto s last want = (number : ℕ) (admin : AdminId) → number ≤ last → is_own_query s.scenario s.txn number (server_number s.at) admin ≡ true → is_some (wanted_of want admin) ≡ true
+
 -- a request to prepare: there are queries at the server, and all of them have run in the epoch that it names; where it
 -- wants versions, it names all administrators
 pub record PrepareFits (s : Site) (p : Pair) (r : PrepareRequest) : Type 0 where

@@ -192,7 +192,7 @@ brings_trusts : (sc : Scenario) (facts : List Fact) (place : ℕ) (c : Coordinat
 brings_trusts sc facts place c now query plain own s =
     record {
       fits = record {
-        awaits = (s.submitted, subst (λ (servers : List ServerId). RoundFits sc facts place c.txn (first_round servers view_rounds (replicate admins_limit level.View) false)) (sym own) (round_starts sc facts place c.txn plain));
+        awaits = (s.submitted, subst (λ (servers : List ServerId). RoundFits sc facts place c.txn span.Commit (first_round servers view_rounds (replicate admins_limit level.View) false)) (sym own) (round_starts sc facts place c.txn span.Commit plain));
         so_far = λ unsure. moved_on sc facts place c.txn c.phase (phase.Asking span.Commit (commit_round c)) now.instances now.gathered plain s.so_far;
         above = λ unsure. s.above;
         turn = subst (λ (n : ℕ). n ≤ until_round (query_count sc c.txn) 1 1) (sym s.rises) (round_move (query_count sc c.txn) query c.turn s.first s.last s.low);
@@ -224,10 +224,10 @@ sends_trusts sc facts place c now query next plain s =
 
 -- a request to a server fits, as what is wanted of it is published
 prepare_letters_fit : (sc : Scenario) (facts : List Fact) (place sent : ℕ) (c : Coordinator) (round : Round) (staple : Staple) (servers : List ServerId) → StapleFits sc facts place c.txn staple
-    → RoundFits sc facts place c.txn round → Each (λ (letter : Letter). BodyFits sc facts place sent letter.body) (map (prepare_letter c round staple) servers)
+    → RoundFits sc facts place c.txn span.Commit round → Each (λ (letter : Letter). BodyFits sc facts place sent letter.body) (map (prepare_letter c round staple) servers)
 prepare_letters_fit sc facts place sent c round staple [] h r = tt
 prepare_letters_fit sc facts place sent c round staple (at ∷ servers) h r =
-    ((h, want_published sc facts place c.txn round at r), prepare_letters_fit sc facts place sent c round staple servers h r)
+    ((h, want_published sc facts place c.txn span.Commit round at r), prepare_letters_fit sc facts place sent c round staple servers h r)
 
 prepare_letters_timely : (sc : Scenario) (c : Coordinator) (round : Round) (staple : Staple) (sent : ℕ) (servers : List ServerId) → Each (λ (at : ServerId). WantNow round (want_for round at)) servers
     → Each (LetterOfTurn sc c.txn (Some (record c { turn = next_turn c; phase = phase.Checking span.Commit round staple })) sent) (map (prepare_letter c round staple) servers)
@@ -241,14 +241,14 @@ prepares_trusts sc facts place c round staple few plain h e s =
     let count = query_count sc c.txn in
     let f = phase_fits sc facts place c (phase.Asking span.Commit round) h e in
     let low : c.turn ≤ until_round count round.number 1 = turn_low sc facts place c (phase.Asking span.Commit round) h e in
-    let rises : next_turn c ≡ c.turn + 1 = turn_rises c (low_round count round.number 1 c.turn (few c.txn) (few_rounds sc facts place c.txn round f.1) (omega arith) low) in
+    let rises : next_turn c ≡ c.turn + 1 = turn_rises c (low_round count round.number 1 c.turn (few c.txn) (few_rounds sc facts place c.txn span.Commit round f.1) (omega arith) low) in
     let undecided : is_undecided c.phase ≡ true = ap is_undecided e in
     let next = record c { turn = next_turn c; phase = phase.Checking span.Commit round staple } in
     record {
       fits = record { awaits = (f.0, f.1, s); so_far = λ unsure. moved_on sc facts place c.txn c.phase next.phase c.instances c.gathered plain (h.so_far undecided); above = λ unsure. h.above undecided; turn = omega (arith, rises, low) };
       decides = tt;
       says = λ sent. prepare_letters_fit sc facts place sent c round staple (missing_in round.targets) s f.1;
-      timely = λ sent. prepare_letters_timely sc c round staple sent (missing_in round.targets) (round_wants sc facts place c.txn round f.1);
+      timely = λ sent. prepare_letters_timely sc c round staple sent (missing_in round.targets) (round_wants sc facts place c.txn span.Commit round f.1);
       old = λ sent turn said t. raised sc c next sent turn said undecided rises t;
     }
 
@@ -282,13 +282,13 @@ orders_timely sc c now sent ended (at ∷ servers) = (tt, orders_timely sc c now
 -- the verdicts of an awaited vote YES, as facts, the pair of its server and the present turn show them
 pub record VoteTrusted (sc : Scenario) (facts : List Fact) (place : ℕ) (c : Coordinator) (round : Round) (server : ServerId) (verdicts : List Verdict) : Type 0 where
   pub right : Each (Right sc facts place c.txn) verdicts
-  pub numbers : AreNumbersAt sc c.txn server verdicts
+  pub numbers : AreNumbersAt sc c.txn span.Commit server verdicts
   pub aimed : AimedReply round verdicts
 
 -- a coordinator whose round has one more reply
 record RoundTrusted (sc : Scenario) (facts : List Fact) (place : ℕ) (c : Coordinator) (round : Round) (staple : Staple) : Type 0 where
   submitted : IsSubmitted facts c.txn
-  fits : RoundFits sc facts place c.txn round
+  fits : RoundFits sc facts place c.txn span.Commit round
   stapled : StapleFits sc facts place c.txn staple
   undecided : is_undecided c.phase ≡ true
   so_far : AreSoFar sc facts place c.txn c.phase c.instances c.gathered
@@ -302,7 +302,7 @@ replied_trusted sc facts place c round staple server verdicts h e v =
     let undecided : is_undecided c.phase ≡ true = ap is_undecided e in
     record {
       submitted = f.0;
-      fits = round_replied sc facts place c.txn round server verdicts f.1 v.right v.numbers v.aimed;
+      fits = round_replied sc facts place c.txn span.Commit round server verdicts f.1 v.right v.numbers v.aimed;
       stapled = f.2;
       undecided = undecided;
       so_far = h.so_far undecided;
@@ -321,13 +321,13 @@ committed_trusts : (sc : Scenario) (facts : List Fact) (place : ℕ) (c : Coordi
     → RowTrusts sc facts place c (commits (closes c (by_query (proofs_in round.targets))) round.number)
 committed_trusts sc facts place c round staple plain homes valid h e =
     let proofs = by_query (proofs_in round.targets) in
-    let closing = round_closes sc facts place c.txn round None homes valid h.fits e in
+    let closing = round_closes sc facts place c.txn span.Commit round None homes valid h.fits e in
     record {
       fits = record {
         awaits = tt;
         so_far = λ unsure. absurd (cc);
         above = λ unsure. absurd (cc);
-        turn = end_move (query_count sc c.txn) round.number 2 c.turn (few_rounds sc facts place c.txn round h.fits) (omega arith) h.low;
+        turn = end_move (query_count sc c.txn) round.number 2 c.turn (few_rounds sc facts place c.txn span.Commit round h.fits) (omega arith) h.low;
       };
       decides = λ declared found.
           deferred_commit sc facts place c.txn declared c.phase c.instances c.gathered proofs (commit_record (closes c proofs) round.number)
@@ -368,15 +368,15 @@ refused_stands : (sc : Scenario) (facts : List Fact) (place : ℕ) (c : Coordina
 refused_stands sc facts place c round staple server number value h e =
     let f = phase_fits sc facts place c (phase.Checking span.Commit round staple) h e in
     let low : c.turn ≤ until_round (query_count sc c.txn) round.number 2 = turn_low sc facts place c (phase.Checking span.Commit round staple) h e in
-    record { turn = end_move (query_count sc c.txn) round.number 2 c.turn (few_rounds sc facts place c.txn round f.1) (omega arith) low; fits = tt }
+    record { turn = end_move (query_count sc c.txn) round.number 2 c.turn (few_rounds sc facts place c.txn span.Commit round f.1) (omega arith) low; fits = tt }
 
 -- a round in which a proof is false denies
 denied_stands : (sc : Scenario) (facts : List Fact) (place : ℕ) (c : Coordinator) (round : Round) (staple : Staple) (verdict : Verdict) → RoundTrusted sc facts place c round staple → judge round None ≡ judged.False verdict
     → EndStands sc facts place c (cause.Denied (denied_by verdict))
 denied_stands sc facts place c round staple verdict h e =
-    let denies = round_denies sc facts place c.txn round None verdict h.fits e in
+    let denies = round_denies sc facts place c.txn span.Commit round None verdict h.fits e in
     record {
-      turn = end_move (query_count sc c.txn) round.number 2 c.turn (few_rounds sc facts place c.txn round h.fits) (omega arith) h.low;
+      turn = end_move (query_count sc c.txn) round.number 2 c.turn (few_rounds sc facts place c.txn span.Commit round h.fits) (omega arith) h.low;
       fits = record { verdict = verdict; denied_is = refl; right = denies.right; ruleless = denies.ruleless };
     }
 
@@ -386,8 +386,8 @@ updated_trusts : (sc : Scenario) (facts : List Fact) (place : ℕ) (c : Coordina
 updated_trusts sc facts place c round staple named few plain valid h e =
     let count = query_count sc c.txn in
     let next = after_judgement round None in
-    let updated = round_updated sc facts place c.txn round None named valid h.fits tt e in
-    let rises : next_turn c ≡ c.turn + 1 = turn_rises c (low_round count round.number 2 c.turn (few c.txn) (few_rounds sc facts place c.txn round h.fits) (omega arith) h.low) in
+    let updated = round_updated sc facts place c.txn span.Commit round None named valid h.fits tt e in
+    let rises : next_turn c ≡ c.turn + 1 = turn_rises c (low_round count round.number 2 c.turn (few c.txn) (few_rounds sc facts place c.txn span.Commit round h.fits) (omega arith) h.low) in
     record {
       fits = record {
         awaits = (h.submitted, updated.fits);
@@ -431,7 +431,7 @@ yes_trusted sc facts place P c mail reply round staple server verdicts m f n t y
     let timely : IsTimely sc c mail.sent reply.turn (body.Vote reply) = subst (PresentMail sc c mail.sent) y.said_is t (sym same) in
     let now : VoteNow c.phase reply.vote = (timely (ap is_undecided y.checking)).now (eqb-true reply.turn c.turn y.present) in
     let checked : VoteNow (phase.Checking span.Commit round staple) (vote.Yes verdicts) = subst (λ (awaited : Phase). VoteNow awaited (vote.Yes verdicts)) y.checking (subst (VoteNow c.phase) y.vote_is now) in
-    let numbers : AreNumbersAt sc c.txn server verdicts = λ declared e.
+    let numbers : AreNumbersAt sc c.txn span.Commit server verdicts = λ declared e.
     let pair : PairVote.AreNoneOrAll (site_of sc server.0 declared) verdicts =
     subst (PairVote.VoteFits (site_of sc server.0 declared)) y.vote_is (from declared (ap (λ (x : TxnId). slice_get sc.txns x.0) (sym same) ∙ e)) in
     ⊎_elim (λ (none : verdicts ≡ []). absurd (checked.2 none)) (λ (all : PairVote.AreOnAll (site_of sc server.0 declared) verdicts). all) pair in

@@ -30,6 +30,7 @@ use Rattle.tp_runs.proofs.trust.Causes.{mets_past}
 use Rattle.tp_runs.proofs.trust.Fit.{AuthorityFits, BodyFits, Right, newest_rises}
 use Rattle.tp_runs.proofs.trust.Phases.{PhaseFits}
 use Rattle.tp_runs.proofs.trust.Rounds.{RoundFits, proofs_right}
+use Rattle.tp_coord.specs.declared.coordinator.Span.{Span}
 use Rattle.tp_runs.proofs.trust.Acts.{both_up_in_trust}
 use Rattle.tp_runs.proofs.trust.Coordinator.{CoordinatorFits}
 use Rattle.tp_runs.proofs.ids.Coordinator.{replies_sound}
@@ -221,10 +222,10 @@ read_after sc facts place held c declared h found sound fits unsure =
     }
 
 -- nor than the replies of a round, and all that rounds met is of the past
-read_in : (sc : Scenario) (facts : List Fact) (place : ℕ) (txn : TxnId) (held : Master) (round : Round) (declared : Transaction) → MasterFits sc facts place held → slice_get sc.txns txn.0 ≡ Some declared
-    → IsSoundRound sc txn round → RoundFits sc facts place txn round → IsReadIn place held.newest round
-read_in sc facts place txn held round declared h found sound fits =
-    let right : Each (Right sc facts place txn) (proofs_in round.targets) = proofs_right sc facts place txn round fits in
+read_in : (sc : Scenario) (facts : List Fact) (place : ℕ) (txn : TxnId) (over : Span) (held : Master) (round : Round) (declared : Transaction) → MasterFits sc facts place held → slice_get sc.txns txn.0 ≡ Some declared
+    → IsSoundRound sc txn round → RoundFits sc facts place txn over round → IsReadIn place held.newest round
+read_in sc facts place txn over held round declared h found sound fits =
+    let right : Each (Right sc facts place txn) (proofs_in round.targets) = proofs_right sc facts place txn over round fits in
     record {
       replies = each_as (Right sc facts place txn) (λ (verdict : Verdict). verdict.place < place) (λ verdict r. (r declared found).past) (proofs_in round.targets) right;
       up_to = are_up_to sc facts place txn held (proofs_in round.targets) declared h found (replies_sound sc txn round.targets sound.targets) right;
@@ -236,7 +237,7 @@ newest_now : (sc : Scenario) (facts : List Fact) (place : ℕ) (held : Master) (
 newest_now sc facts place held c (phase.Probing number) reply declared told h found after sound fits = subst (λ (newest : List Version). IsReadAfter place newest c.instances c.gathered) (sym told) after
 newest_now sc facts place held c (phase.Reading over round) reply declared told h found after sound fits =
     subst (λ (newest : List Version). IsReadAfter place newest c.instances c.gathered × IsReadIn place newest round) (sym told)
-    (after, read_in sc facts place c.txn held round declared h found sound.1 fits.1)
+    (after, read_in sc facts place c.txn over held round declared h found sound.1 fits.1)
 newest_now sc facts place held c phase.VoteProbing reply declared told h found after sound fits = subst (λ (newest : List Version). IsReadAfter place newest c.instances c.gathered) (sym told) after
 newest_now sc facts place held c _ reply declared told h found after sound fits = tt
 

@@ -31,6 +31,8 @@ use Rattle.tp_runs.proofs.ids.Valid.{IsValid}
 use Rattle.tp_runs.proofs.pairs.Actors.{site_of}
 use Rattle.tp_runs.proofs.pairs.Site.{Site, here, here_within, in_upto, upto}
 use Rattle.tp_runs.proofs.basics.Levels.{has_view}
+use Rattle.tp_runs.proofs.basics.Phases.{last_spanned, spanned}
+use Rattle.tp_coord.specs.declared.coordinator.Span.{Span}
 use Rattle.tp_machine.specs.Named.{IsAdmin}
 use Rattle.tp_runs.proofs.trust.Fit.{IsPublished, Right, count_rises}
 use Rattle.tp_runs.proofs.trust.RoundLevels.{each_failing, own_admins, own_proofs, round_read_for}
@@ -111,36 +113,36 @@ proved_where sc facts place txn declared number at admin e own (verdict ∷ verd
 proved_where sc facts place txn declared number at admin e own (verdict ∷ verdicts) (suc k) within is right =
     or_right (is_of admin verdict) (list_any (is_of admin) verdicts) (proved_where sc facts place txn declared number at admin e own verdicts k (omega (arith, within)) is right.1)
 
--- so there is one of each administrator of the server's queries, where the verdicts are of all of them
-proved_at : (sc : Scenario) (facts : List Fact) (place : ℕ) (txn : TxnId) (declared : Transaction) (number : ℕ) (at : ServerId) (admin : AdminId) (verdicts : List Verdict)
-    → slice_get sc.txns txn.0 ≡ Some declared → is_own_query sc declared number at admin ≡ true → Each (Right sc facts place txn) verdicts → AreNumbersAt sc txn at verdicts
+-- so there is one of each administrator of the server's queries that the round is over, where the verdicts are of all of them
+proved_at : (sc : Scenario) (facts : List Fact) (place : ℕ) (txn : TxnId) (over : Span) (declared : Transaction) (number : ℕ) (at : ServerId) (admin : AdminId) (verdicts : List Verdict)
+    → slice_get sc.txns txn.0 ≡ Some declared → number ≤ last_spanned over declared → is_own_query sc declared number at admin ≡ true → Each (Right sc facts place txn) verdicts → AreNumbersAt sc txn over at verdicts
     → list_any (is_of admin) verdicts ≡ true
-proved_at sc facts place txn declared number at admin verdicts e own right numbers =
+proved_at sc facts place txn over declared number at admin verdicts e low own right numbers =
     let s : Site = site_of sc at.0 declared in
     let at_site : here s number ≡ true = own_here sc declared number at admin own in
     let within = here_within s number at_site in
-    let among : Contains (upto s (length declared.queries)) number = in_upto s (length declared.queries) number (record { low = within.0; high = within.1; at = at_site }) in
+    let among : Contains (upto s (last_spanned over declared)) number = in_upto s (last_spanned over declared) number (record { low = within.0; high = low; at = at_site }) in
     let there : Contains (numbers_of verdicts) number = subst (λ (ns : List ℕ). Contains ns number) (sym (numbers declared e)) among in
     proved_where sc facts place txn declared number at admin e own verdicts there.0 there.1 there.2 right
 
-numbers_where : (sc : Scenario) (txn : TxnId) (at : ServerId) (reply : Option (List Verdict)) → is_none reply ≡ false → IfSome reply (AreNumbersAt sc txn at) → AreNumbersAt sc txn at (unwrap_or reply [])
-numbers_where sc txn at None e h = absurd (cc)
-numbers_where sc txn at (Some verdicts) e h = h
+numbers_where : (sc : Scenario) (txn : TxnId) (over : Span) (at : ServerId) (reply : Option (List Verdict)) → is_none reply ≡ false → IfSome reply (AreNumbersAt sc txn over at) → AreNumbersAt sc txn over at (unwrap_or reply [])
+numbers_where sc txn over at None e h = absurd (cc)
+numbers_where sc txn over at (Some verdicts) e h = h
 
 -- the numbers of a server that replied
-pub numbers_at : (sc : Scenario) (facts : List Fact) (place : ℕ) (txn : TxnId) (one : Target) → is_missing one ≡ false → TargetFits sc facts place txn one → AreNumbersAt sc txn one.server (verdicts_in one)
-numbers_at sc facts place txn one e h = numbers_where sc txn one.server one.reply e h.numbers
+pub numbers_at : (sc : Scenario) (facts : List Fact) (place : ℕ) (txn : TxnId) (over : Span) (one : Target) → is_missing one ≡ false → TargetFits sc facts place txn over one → AreNumbersAt sc txn over one.server (verdicts_in one)
+numbers_at sc facts place txn over one e h = numbers_where sc txn over one.server one.reply e h.numbers
 
 some_where : (f : AdminId → ℕ) (admin : AdminId) (b : Bool) → b ≡ true → is_some (cond b (Some (f admin)) None) ≡ true
 some_where f admin true e = refl
 some_where f admin false e = absurd (cc)
 
 -- what is wanted of a server that replied names its administrators
-want_named : (sc : Scenario) (facts : List Fact) (place : ℕ) (txn : TxnId) (round : Round) (reading : Option Reading) (one : Target) → is_missing one ≡ false → TargetFits sc facts place txn one → is_covered round one ≡ true
-    → IsNamedFor sc txn one.server (want_of (aim_in round reading) one).want
-want_named sc facts place txn round reading one e h covered declared found number admin own =
+want_named : (sc : Scenario) (facts : List Fact) (place : ℕ) (txn : TxnId) (over : Span) (round : Round) (reading : Option Reading) (one : Target) → is_missing one ≡ false → TargetFits sc facts place txn over one → is_covered round one ≡ true
+    → IsNamedFor sc txn over one.server (want_of (aim_in round reading) one).want
+want_named sc facts place txn over round reading one e h covered declared found number admin low own =
     let f : AdminId → ℕ = target_in round reading in
-    let proved : list_any (is_of admin) (verdicts_in one) ≡ true = proved_at sc facts place txn declared number one.server admin (verdicts_in one) found own h.right (numbers_at sc facts place txn one e h) in
+    let proved : list_any (is_of admin) (verdicts_in one) ≡ true = proved_at sc facts place txn over declared number one.server admin (verdicts_in one) found low own h.right (numbers_at sc facts place txn over one e h) in
     ap is_some (admins.wanted_is f (admins_in round) (verdicts_in one) covered admin) ∙ some_where f admin (list_any (is_of admin) (verdicts_in one)) proved
 
 -- ---- the servers that are awaited
@@ -150,59 +152,59 @@ abbrev is_outdated_at : List (AdminId × Version) → ServerId → Target → Bo
 is_outdated_at aim server one = is_outdated aim one && same_server one.server server
 
 -- a target is named for, where it is out of date
-abbrev NamesIfOutdated : Scenario → TxnId → List (AdminId × Version) → Target → Type 0
-NamesIfOutdated sc txn aim one = IsNamedFor sc txn one.server (want_of aim one).want
+abbrev NamesIfOutdated : Scenario → TxnId → Span → List (AdminId × Version) → Target → Type 0
+NamesIfOutdated sc txn over aim one = IsNamedFor sc txn over one.server (want_of aim one).want
 
-first_named : (sc : Scenario) (txn : TxnId) (aim : List (AdminId × Version)) (one : Target) (targets : List Target) (server : ServerId) (s : Bool) → same_server one.server server ≡ s → NamesIfOutdated sc txn aim one
-    → (s ≡ false → IsNamedFor sc txn server (want_in (wants_of aim targets) server))
-    → IsNamedFor sc txn server (option_map_or (λ (other : Wanted). other.want) (cond s (Some (want_of aim one)) (find (λ (other : Wanted). same_server other.server server) (wants_of aim targets))) [])
-first_named sc txn aim one targets server true e named later = subst (λ (at : ServerId). IsNamedFor sc txn at (want_of aim one).want) (same_servers one.server server e) named
-first_named sc txn aim one targets server false e named later = later refl
+first_named : (sc : Scenario) (txn : TxnId) (over : Span) (aim : List (AdminId × Version)) (one : Target) (targets : List Target) (server : ServerId) (s : Bool) → same_server one.server server ≡ s → NamesIfOutdated sc txn over aim one
+    → (s ≡ false → IsNamedFor sc txn over server (want_in (wants_of aim targets) server))
+    → IsNamedFor sc txn over server (option_map_or (λ (other : Wanted). other.want) (cond s (Some (want_of aim one)) (find (λ (other : Wanted). same_server other.server server) (wants_of aim targets))) [])
+first_named sc txn over aim one targets server true e named later = subst (λ (at : ServerId). IsNamedFor sc txn over at (want_of aim one).want) (same_servers one.server server e) named
+first_named sc txn over aim one targets server false e named later = later refl
 
 rest_any : (s rest : Bool) → (s || rest) ≡ true → s ≡ false → rest ≡ true
 rest_any true rest e f = absurd (cc)
 rest_any false rest e f = e
 
-named_where : (sc : Scenario) (txn : TxnId) (aim : List (AdminId × Version)) (one : Target) (targets : List Target) (server : ServerId) (rest o : Bool) → NamesIfOutdated sc txn aim one
-    → (rest ≡ true → IsNamedFor sc txn server (want_in (wants_of aim targets) server)) → ((o && same_server one.server server) || rest) ≡ true
-    → IsNamedFor sc txn server (want_in (map (want_of aim) (cond o (one ∷ filter (is_outdated aim) targets) (filter (is_outdated aim) targets))) server)
-named_where sc txn aim one targets server rest true named later some =
-    first_named sc txn aim one targets server (same_server one.server server) refl named (λ differs. later (rest_any (same_server one.server server) rest some differs))
-named_where sc txn aim one targets server rest false named later some = later some
+named_where : (sc : Scenario) (txn : TxnId) (over : Span) (aim : List (AdminId × Version)) (one : Target) (targets : List Target) (server : ServerId) (rest o : Bool) → NamesIfOutdated sc txn over aim one
+    → (rest ≡ true → IsNamedFor sc txn over server (want_in (wants_of aim targets) server)) → ((o && same_server one.server server) || rest) ≡ true
+    → IsNamedFor sc txn over server (want_in (map (want_of aim) (cond o (one ∷ filter (is_outdated aim) targets) (filter (is_outdated aim) targets))) server)
+named_where sc txn over aim one targets server rest true named later some =
+    first_named sc txn over aim one targets server (same_server one.server server) refl named (λ differs. later (rest_any (same_server one.server server) rest some differs))
+named_where sc txn over aim one targets server rest false named later some = later some
 
-named_outdated : (sc : Scenario) (txn : TxnId) (aim : List (AdminId × Version)) (targets : List Target) (server : ServerId) → Each (NamesIfOutdated sc txn aim) targets
-    → list_any (is_outdated_at aim server) targets ≡ true → IsNamedFor sc txn server (want_in (wants_of aim targets) server)
-named_outdated sc txn aim [] server h some = absurd (cc)
-named_outdated sc txn aim (one ∷ targets) server h some =
-    named_where sc txn aim one targets server (list_any (is_outdated_at aim server) targets) (is_outdated aim one) h.0 (named_outdated sc txn aim targets server h.1) some
+named_outdated : (sc : Scenario) (txn : TxnId) (over : Span) (aim : List (AdminId × Version)) (targets : List Target) (server : ServerId) → Each (NamesIfOutdated sc txn over aim) targets
+    → list_any (is_outdated_at aim server) targets ≡ true → IsNamedFor sc txn over server (want_in (wants_of aim targets) server)
+named_outdated sc txn over aim [] server h some = absurd (cc)
+named_outdated sc txn over aim (one ∷ targets) server h some =
+    named_where sc txn over aim one targets server (list_any (is_outdated_at aim server) targets) (is_outdated aim one) h.0 (named_outdated sc txn over aim targets server h.1) some
 
-covered_where : (sc : Scenario) (txn : TxnId) (named : List Wanted) (one : Target) (b : Bool) → is_missing one ≡ false → (b ≡ true → IsNamedFor sc txn one.server (want_in named one.server))
-    → IsCovered sc txn named (cond b (new_target one.server) one)
-covered_where sc txn named one true replied outdated missing = outdated refl
-covered_where sc txn named one false replied outdated missing = absurd (cc)
+covered_where : (sc : Scenario) (txn : TxnId) (over : Span) (named : List Wanted) (one : Target) (b : Bool) → is_missing one ≡ false → (b ≡ true → IsNamedFor sc txn over one.server (want_in named one.server))
+    → IsCovered sc txn over named (cond b (new_target one.server) one)
+covered_where sc txn over named one true replied outdated missing = outdated refl
+covered_where sc txn over named one false replied outdated missing = absurd (cc)
 
 -- after an update each server that is awaited was named
-renewed_covers : (sc : Scenario) (txn : TxnId) (aim : List (AdminId × Version)) (targets : List Target) → Each (NamesIfOutdated sc txn aim) targets → Each (λ (one : Target). is_missing one ≡ false) targets
-    → Each (IsCovered sc txn (wants_of aim targets)) (map (next_target aim) targets)
-renewed_covers sc txn aim targets named replied =
+renewed_covers : (sc : Scenario) (txn : TxnId) (over : Span) (aim : List (AdminId × Version)) (targets : List Target) → Each (NamesIfOutdated sc txn over aim) targets → Each (λ (one : Target). is_missing one ≡ false) targets
+    → Each (IsCovered sc txn over (wants_of aim targets)) (map (next_target aim) targets)
+renewed_covers sc txn over aim targets named replied =
     let own : (one : Target) → is_outdated aim one ≡ true → is_outdated_at aim one.server one ≡ true = λ one out. and_from (is_outdated aim one) (same_server one.server one.server) out (number_itself one.server.0) in
     let members = each_member (λ (one : Target). is_outdated aim one ≡ true) (λ (one : Target). is_outdated_at aim one.server) own targets in
-    each_map (λ (one : Target). (is_missing one ≡ false) × (is_outdated aim one ≡ true → list_any (is_outdated_at aim one.server) targets ≡ true)) (IsCovered sc txn (wants_of aim targets)) (next_target aim)
-    (λ one h. covered_where sc txn (wants_of aim targets) one (is_outdated aim one) h.0 (λ out. named_outdated sc txn aim targets one.server named (h.1 out))) targets
+    each_map (λ (one : Target). (is_missing one ≡ false) × (is_outdated aim one ≡ true → list_any (is_outdated_at aim one.server) targets ≡ true)) (IsCovered sc txn over (wants_of aim targets)) (next_target aim)
+    (λ one h. covered_where sc txn over (wants_of aim targets) one (is_outdated aim one) h.0 (λ out. named_outdated sc txn over aim targets one.server named (h.1 out))) targets
     (each_two (λ (one : Target). is_missing one ≡ false) (λ (one : Target). is_outdated aim one ≡ true → list_any (is_outdated_at aim one.server) targets ≡ true) targets replied members)
 
 -- ---- the update
 
 -- a round that is updated
-pub record IsUpdatedRound (sc : Scenario) (facts : List Fact) (place : ℕ) (txn : TxnId) (round : Round) (reading : Option Reading) (named : List Wanted) : Type 0 where
+pub record IsUpdatedRound (sc : Scenario) (facts : List Fact) (place : ℕ) (txn : TxnId) (over : Span) (round : Round) (reading : Option Reading) (named : List Wanted) : Type 0 where
   pub begun : 1 ≤ round.number
   pub number : (after_judgement round reading).number ≡ round.number + 1
   pub named_is : (after_judgement round reading).named ≡ named
-  pub fits : RoundFits sc facts place txn (after_judgement round reading)
+  pub fits : RoundFits sc facts place txn over (after_judgement round reading)
 
-renewed_where : (sc : Scenario) (facts : List Fact) (place : ℕ) (txn : TxnId) (one : Target) (b : Bool) → TargetFits sc facts place txn one → TargetFits sc facts place txn (cond b (new_target one.server) one)
-renewed_where sc facts place txn one true h = record { right = tt; numbers = tt }
-renewed_where sc facts place txn one false h = h
+renewed_where : (sc : Scenario) (facts : List Fact) (place : ℕ) (txn : TxnId) (over : Span) (one : Target) (b : Bool) → TargetFits sc facts place txn over one → TargetFits sc facts place txn over (cond b (new_target one.server) one)
+renewed_where sc facts place txn over one true h = record { right = tt; numbers = tt }
+renewed_where sc facts place txn over one false h = h
 
 -- every server has replied, where the round does not wait
 pub replied_all : (round : Round) (reading : Option Reading) → is_waiting round reading ≡ false → Each (λ (one : Target). is_missing one ≡ false) round.targets
@@ -212,37 +214,37 @@ replied_all round reading e = each_failing is_missing round.targets (or_parts (l
 same_found : (sc : Scenario) (txn : TxnId) (declared other : Transaction) → slice_get sc.txns txn.0 ≡ Some declared → slice_get sc.txns txn.0 ≡ Some other → declared ≡ other
 same_found sc txn declared other e f = same_Some declared other (sym e ∙ f)
 
-next_fits : (sc : Scenario) (facts : List Fact) (place : ℕ) (txn : TxnId) (round : Round) (reading : Option Reading) (named : List Wanted) (declared : Transaction) → Updates sc facts place txn round reading named declared
-    → RoundFits sc facts place txn (next_round round (aim_in round reading) named (mets_in round (met_in round reading)))
-next_fits sc facts place txn round reading named declared u =
-    let h : RoundFits sc facts place txn round = u.fits in
+next_fits : (sc : Scenario) (facts : List Fact) (place : ℕ) (txn : TxnId) (over : Span) (round : Round) (reading : Option Reading) (named : List Wanted) (declared : Transaction) → Updates sc facts place txn over round reading named declared
+    → RoundFits sc facts place txn over (next_round round (aim_in round reading) named (mets_in round (met_in round reading)))
+next_fits sc facts place txn over round reading named declared u =
+    let h : RoundFits sc facts place txn over round = u.fits in
     let is : IsUpdated round reading named = updated round reading named u.judged in
     let f : AdminId → ℕ = target_in round reading in
     let aim : List (AdminId × Version) = aim_in round reading in
     let at : list_all (is_wanted_at f) aim ≡ true = aim_at f (admins_in round) in
     let known : Each (IsKnown sc facts place) (proofs_in round.targets) =
-    each_as (Right sc facts place txn) (IsKnown sc facts place) (λ verdict right. (right declared u.found).published) (proofs_in round.targets) (proofs_right sc facts place txn round h) in
+    each_as (Right sc facts place txn) (IsKnown sc facts place) (λ verdict right. (right declared u.found).published) (proofs_in round.targets) (proofs_right sc facts place txn over round h) in
     let published : Each (IsPublished sc facts place) aim = aim_published sc facts place txn round reading (own_admins sc declared round u.own) u.read known in
     let replied : Each (λ (one : Target). is_missing one ≡ false) round.targets = replied_all round reading is.goes_on in
-    let names : Each (NamesIfOutdated sc txn aim) round.targets =
-    each_as (λ (one : Target). (is_missing one ≡ false) × (TargetFits sc facts place txn one × (is_covered round one ≡ true))) (NamesIfOutdated sc txn aim)
-    (λ one k. want_named sc facts place txn round reading one k.0 k.1.0 k.1.1) round.targets
-    (each_two (λ (one : Target). is_missing one ≡ false) (λ (one : Target). TargetFits sc facts place txn one × (is_covered round one ≡ true)) round.targets replied
-    (each_two (TargetFits sc facts place txn) (λ (one : Target). is_covered round one ≡ true) round.targets h.targets (each_from_all (is_covered round) round.targets (all_covered round)))) in
-    let number : 2 ≤ next_number round = let least = (round_number sc facts place txn round declared u.found h).0 in omega (arith, least) in
-    let next : NextMets sc facts place txn round reading declared (mets_in round (met_in round reading)) = next_mets sc facts place txn round reading named declared u in
+    let names : Each (NamesIfOutdated sc txn over aim) round.targets =
+    each_as (λ (one : Target). (is_missing one ≡ false) × (TargetFits sc facts place txn over one × (is_covered round one ≡ true))) (NamesIfOutdated sc txn over aim)
+    (λ one k. want_named sc facts place txn over round reading one k.0 k.1.0 k.1.1) round.targets
+    (each_two (λ (one : Target). is_missing one ≡ false) (λ (one : Target). TargetFits sc facts place txn over one × (is_covered round one ≡ true)) round.targets replied
+    (each_two (TargetFits sc facts place txn over) (λ (one : Target). is_covered round one ≡ true) round.targets h.targets (each_from_all (is_covered round) round.targets (all_covered round)))) in
+    let number : 2 ≤ next_number round = let least = (round_number sc facts place txn over round declared u.found h).0 in omega (arith, least) in
+    let next : NextMets sc facts place txn over round reading declared (mets_in round (met_in round reading)) = next_mets sc facts place txn over round reading named declared u in
     let mets : List Met = mets_in round (met_in round reading) in
-    let later : IsLaterRound sc facts place txn (next_round round aim named mets) = record {
+    let later : IsLaterRound sc facts place txn over (next_round round aim named mets) = record {
       number = number;
       aimed = f;
       kept = renewed_at f aim round.targets at;
       aim = at;
       named = ap (list_all (are_wanted_at f)) is.is_named ∙ all_wanted f aim (filter (is_outdated aim) round.targets) at;
       published = subst (λ (ws : List Wanted). Each (ArePublished sc facts place) ws) (sym is.is_named) (wants_published sc facts place aim (filter (is_outdated aim) round.targets) published);
-      covers = subst (λ (ws : List Wanted). Each (IsCovered sc txn ws) (map (next_target aim) round.targets)) (sym is.is_named) (renewed_covers sc txn aim round.targets names replied);
+      covers = subst (λ (ws : List Wanted). Each (IsCovered sc txn over ws) (map (next_target aim) round.targets)) (sym is.is_named) (renewed_covers sc txn over aim round.targets names replied);
       within = subst (Each (IsWithin aim)) (sym is.is_named) (wants_within aim round.targets);
-      counted = next_counted sc facts place txn round reading named declared u;
-      brought = λ other there. subst (λ (d : Transaction). next_number round ≡ length mets + 2 → has_view sc d d.queries ≡ true) (same_found sc txn declared other u.found there) next.brought;
+      counted = next_counted sc facts place txn over round reading named declared u;
+      brought = λ other there. subst (λ (d : Transaction). next_number round ≡ length mets + 2 → has_view sc d (spanned over d.queries) ≡ true) (same_found sc txn declared other u.found there) next.brought;
       fresh = λ other there. subst (λ (d : Transaction). IfSome (last_met mets) (IsFresh sc facts d f)) (same_found sc txn declared other u.found there) next.fresh;
     } in
     record {
@@ -250,28 +252,28 @@ next_fits sc facts place txn round reading named declared u =
       levels = h.levels;
       reads = h.reads;
       servers = servers_renewed aim round.targets ∙ h.servers;
-      targets = each_map (TargetFits sc facts place txn) (TargetFits sc facts place txn) (next_target aim) (λ one k. renewed_where sc facts place txn one (is_outdated aim one) k) round.targets h.targets;
+      targets = each_map (TargetFits sc facts place txn over) (TargetFits sc facts place txn over) (next_target aim) (λ one k. renewed_where sc facts place txn over one (is_outdated aim one) k) round.targets h.targets;
       count = inr later;
       top = h.top;
-      few = next_few sc facts place txn round reading named declared u;
-      unread = λ none. next_unread sc facts place txn round reading named declared u none;
+      few = next_few sc facts place txn over round reading named declared u;
+      unread = λ none. next_unread sc facts place txn over round reading named declared u none;
       mets = λ other there. subst (λ (d : Transaction). AreMet sc facts place txn d mets) (same_found sc txn declared other u.found there) next.met;
     }
 
 -- an updated round's next one fits
-pub round_updated : (sc : Scenario) (facts : List Fact) (place : ℕ) (txn : TxnId) (round : Round) (reading : Option Reading) (named : List Wanted) → IsValid sc → RoundFits sc facts place txn round
-    → JudgedFits sc facts place txn round reading → judge round reading ≡ Update named → IsUpdatedRound sc facts place txn round reading named
-round_updated sc facts place txn round reading named valid h r e =
+pub round_updated : (sc : Scenario) (facts : List Fact) (place : ℕ) (txn : TxnId) (over : Span) (round : Round) (reading : Option Reading) (named : List Wanted) → IsValid sc → RoundFits sc facts place txn over round
+    → JudgedFits sc facts place txn round reading → judge round reading ≡ Update named → IsUpdatedRound sc facts place txn over round reading named
+round_updated sc facts place txn over round reading named valid h r e =
     let is : IsUpdated round reading named = updated round reading named e in
-    let there = declared_with sc txn (is_outdated (aim_in round reading)) round.targets h.servers is.is_out in
-    let u : Updates sc facts place txn round reading named there.0 =
-    record { fits = h; read = r; judged = e; found = there.1; own = own_proofs sc facts place txn round there.0 valid there.1 h; read_for = round_read_for sc facts place txn round there.0 valid there.1 h } in
-    let low : round.number ≤ 17 = few_rounds sc facts place txn round h in
+    let there = declared_with sc txn over (is_outdated (aim_in round reading)) round.targets h.servers is.is_out in
+    let u : Updates sc facts place txn over round reading named there.0 =
+    record { fits = h; read = r; judged = e; found = there.1; own = own_proofs sc facts place txn over round there.0 valid there.1 h; read_for = round_read_for sc facts place txn over round there.0 valid there.1 h } in
+    let low : round.number ≤ 17 = few_rounds sc facts place txn over round h in
     let further : next_number round ≡ round.number + 1 = omega (arith, low) in
     record {
-      begun = (round_number sc facts place txn round there.0 there.1 h).0;
+      begun = (round_number sc facts place txn over round there.0 there.1 h).0;
       number = ap (λ answer. (after round (aim_in round reading) (met_in round reading) answer).number) e ∙ further;
       named_is = ap (λ answer. (after round (aim_in round reading) (met_in round reading) answer).named) e;
-      fits = subst (λ answer. RoundFits sc facts place txn (after round (aim_in round reading) (met_in round reading) answer)) (sym e)
-          (next_fits sc facts place txn round reading named there.0 u);
+      fits = subst (λ answer. RoundFits sc facts place txn over (after round (aim_in round reading) (met_in round reading) answer)) (sym e)
+          (next_fits sc facts place txn over round reading named there.0 u);
     }

@@ -2,14 +2,14 @@
 -- under global consistency.
 use Rattle.std.specs.List.{list_any}
 use Rattle.std.specs.Option.{option_map_or}
-use Rattle.std.proofs.Common.{Bool, List, None, Option, Some, [], ap, arith, false, if◌then◌else◌, inl, length, nat_le, not, refl, replicate, slice_get, subst, sym, true, ℕ, ◌<◌, ◌∙◌, ◌∷◌, ◌≡◌, ◌≤◌}
+use Rattle.std.proofs.Common.{Bool, Contains, IfSome, List, None, Option, Some, [], ap, arith, false, if◌then◌else◌, inl, length, nat_le, not, refl, replicate, slice_get, subst, suc, sym, true, unwrap_or, zero, ℕ, ◌<◌, ◌∙◌, ◌∷◌, ◌≡◌, ◌≤◌}
 use Rattle.std.proofs.lemmas.Bool.{and_parts, not_from_false, or_from, or_left, or_parts, or_right}
 use Rattle.std.proofs.lemmas.Bool.Decides.{nat_tests}
 use Rattle.std.proofs.lemmas.Option.{same_Some}
 use Rattle.tp_types.proofs.ListLemmas.{three_parts}
-use Rattle.tp_coord.specs.Opened.{servers_at}
+use Rattle.tp_coord.specs.declared.coordinator.Span.{Span}
 use Rattle.tp_model.specs.Authorisation.{is_item_at, is_own_query, is_query_at}
-use Rattle.tp_model.specs.Causes.{is_own_admin}
+use Rattle.tp_model.specs.Causes.{is_own_admin, is_query_of}
 use Rattle.tp_model.specs.Ids.{same_admin, same_server}
 use Rattle.tp_model.specs.Levels.{is_global, level_of, reads_master}
 use Rattle.tp_model.specs.Limits.{admins_limit, is_from_to, rounds_limit, view_rounds}
@@ -22,16 +22,21 @@ use Rattle.tp_round.proofs.NamesLemmas.{admins_in}
 use Rattle.tp_round.proofs.RoundsLemmas.{are_read_for}
 use Rattle.tp_round.specs.Judge.{first_round, is_global_at}
 use Rattle.tp_round.specs.Laws.{is_read_for}
-use Rattle.tp_round.specs.Replies.{proofs_in}
+use Rattle.tp_round.specs.Replies.{proofs_in, verdicts_in}
 use Rattle.tp_round.specs.declared.round.Round.{Round}
-use Rattle.tp_types.proofs.EachLemmas.{each_as, each_get}
+use Rattle.tp_types.proofs.EachLemmas.{each_as, each_both, each_flat_map, each_get}
 use Rattle.tp_types.specs.Each.{Each}
 use Rattle.tp_machine.specs.Named.{IsAdmin}
 use Rattle.tp_runs.proofs.basics.Facts.{all_from_each}
-use Rattle.tp_runs.proofs.basics.Levels.{LevelsFit, limit_of, own_admin, reads_where}
+use Rattle.tp_runs.proofs.basics.Levels.{LevelsFit, limit_of, own_admin, reads_where, spanned_admin}
+use Rattle.tp_runs.proofs.basics.Phases.{last_spanned, spanned}
+use Rattle.tp_runs.proofs.basics.Servers.{servers_over}
+use Rattle.tp_runs.proofs.basics.Verdicts.{numbers_of}
 use Rattle.tp_runs.proofs.ids.Valid.{IsValid, IsValidItem}
+use Rattle.tp_runs.proofs.pairs.Actors.{site_of}
+use Rattle.tp_runs.proofs.pairs.Site.{upto_in}
 use Rattle.tp_runs.proofs.trust.Fit.{Right}
-use Rattle.tp_runs.proofs.trust.Rounds.{RoundFits, new_fit, new_servers, proofs_right}
+use Rattle.tp_runs.proofs.trust.Rounds.{AreNumbersAt, RoundFits, TargetFits, new_fit, new_servers, proofs_right}
 
 -- where no member passes a test each fails it
 pub each_failing : {A : Type 0} (test : A → Bool) (xs : List A) → list_any test xs ≡ false → Each (λ (x : A). test x ≡ false) xs
@@ -62,10 +67,32 @@ own_proof sc facts place txn declared verdict valid found right =
     record { exists = own_exists sc verdict.server verdict.admin (query_at declared verdict.query) valid own; own = own_admin sc declared verdict.query verdict.server verdict.admin own }
 
 -- so are all proofs of a round
-pub own_proofs : (sc : Scenario) (facts : List Fact) (place : ℕ) (txn : TxnId) (round : Round) (declared : Transaction) → IsValid sc → slice_get sc.txns txn.0 ≡ Some declared → RoundFits sc facts place txn round
+pub own_proofs : (sc : Scenario) (facts : List Fact) (place : ℕ) (txn : TxnId) (over : Span) (round : Round) (declared : Transaction) → IsValid sc → slice_get sc.txns txn.0 ≡ Some declared → RoundFits sc facts place txn over round
     → Each (IsOwnProof sc declared) (proofs_in round.targets)
-own_proofs sc facts place txn round declared valid found h =
-    each_as (Right sc facts place txn) (IsOwnProof sc declared) (λ verdict right. own_proof sc facts place txn declared verdict valid found right) (proofs_in round.targets) (proofs_right sc facts place txn round h)
+own_proofs sc facts place txn over round declared valid found h =
+    each_as (Right sc facts place txn) (IsOwnProof sc declared) (λ verdict right. own_proof sc facts place txn declared verdict valid found right) (proofs_in round.targets) (proofs_right sc facts place txn over round h)
+
+-- the administrator of a proof is that of one of the queries that the round is over
+abbrev pub IsSpannedProof : Scenario → Span → Transaction → Verdict → Type 0
+IsSpannedProof sc over declared verdict = list_any (is_query_of sc verdict.admin) (spanned over declared.queries) ≡ true
+
+each_numbered : (P : ℕ → Type 0) (verdicts : List Verdict) → ((number : ℕ) → Contains (numbers_of verdicts) number → P number) → Each (λ (verdict : Verdict). P verdict.query) verdicts
+each_numbered P [] h = tt
+each_numbered P (verdict ∷ verdicts) h = (h verdict.query (zero, omega arith, refl), each_numbered P verdicts (λ number there. let within = there.1 in h number (suc there.0, omega (arith, within), there.2)))
+
+reply_spanned : (sc : Scenario) (facts : List Fact) (place : ℕ) (txn : TxnId) (over : Span) (declared : Transaction) (at : ServerId) (reply : Option (List Verdict)) → slice_get sc.txns txn.0 ≡ Some declared
+    → Each (Right sc facts place txn) (unwrap_or reply []) → IfSome reply (AreNumbersAt sc txn over at) → Each (IsSpannedProof sc over declared) (unwrap_or reply [])
+reply_spanned sc facts place txn over declared at None found right numbers = tt
+reply_spanned sc facts place txn over declared at (Some verdicts) found right numbers =
+    let last : ℕ = last_spanned over declared in
+    each_both (Right sc facts place txn) (λ (verdict : Verdict). verdict.query ≤ last) (IsSpannedProof sc over declared)
+    (λ verdict r low. spanned_admin sc declared over verdict.query verdict.server verdict.admin low (r declared found).own) verdicts right
+    (each_numbered (λ (number : ℕ). number ≤ last) verdicts (λ number there. (upto_in (site_of sc at.0 declared) last number (subst (λ (ns : List ℕ). Contains ns number) (numbers declared found) there)).high))
+
+pub spanned_proofs : (sc : Scenario) (facts : List Fact) (place : ℕ) (txn : TxnId) (over : Span) (round : Round) (declared : Transaction) → slice_get sc.txns txn.0 ≡ Some declared → RoundFits sc facts place txn over round
+    → Each (IsSpannedProof sc over declared) (proofs_in round.targets)
+spanned_proofs sc facts place txn over round declared found h =
+    each_flat_map (TargetFits sc facts place txn over) (IsSpannedProof sc over declared) verdicts_in (λ target f. reply_spanned sc facts place txn over declared target.server target.reply found f.right f.numbers) round.targets h.targets
 
 -- the administrator is past the last one of the scenario
 abbrev is_past_admin : Scenario → AdminId → Bool
@@ -103,9 +130,9 @@ limit_between sc declared e =
     limit_by declared.rounds (reads_master sc declared) (rounds_between declared.rounds (three_parts (has_valid_creds sc declared) (is_from_to 1 rounds_limit declared.rounds) _ e).1)
 
 -- the first round with the limit and the levels of its transaction, and that reads the master where the transaction does
-pub round_begins : (sc : Scenario) (facts : List Fact) (place : ℕ) (txn : TxnId) (declared : Transaction) → IsValid sc → slice_get sc.txns txn.0 ≡ Some declared
-    → RoundFits sc facts place txn (first_round (servers_at sc txn) (limit_of sc declared) (replicate admins_limit declared.level) (reads_master sc declared))
-round_begins sc facts place txn declared valid found =
+pub round_begins : (sc : Scenario) (facts : List Fact) (place : ℕ) (txn : TxnId) (over : Span) (declared : Transaction) → IsValid sc → slice_get sc.txns txn.0 ≡ Some declared
+    → RoundFits sc facts place txn over (first_round (servers_over sc txn over) (limit_of sc declared) (replicate admins_limit declared.level) (reads_master sc declared))
+round_begins sc facts place txn over declared valid found =
     let between = limit_between sc declared (each_get (λ (t : Transaction). is_valid_txn sc t ≡ true) sc.txns txn.0 declared valid.txns found) in
     let same : (other : Transaction) → slice_get sc.txns txn.0 ≡ Some other → declared ≡ other = λ other there. same_Some declared other (sym found ∙ there) in
     let fit : LevelsFit sc declared (replicate admins_limit declared.level) = λ admin exists. level_for_each declared.level admin (let few = valid.few_admins in omega (arith, exists, few)) in
@@ -113,8 +140,8 @@ round_begins sc facts place txn declared valid found =
       limit = λ other there. ap (limit_of sc) (same other there);
       levels = λ other there. subst (λ (t : Transaction). LevelsFit sc t (replicate admins_limit declared.level)) (same other there) fit;
       reads = λ other there. ap (reads_master sc) (same other there);
-      servers = new_servers (servers_at sc txn);
-      targets = new_fit sc facts place txn (servers_at sc txn);
+      servers = new_servers (servers_over sc txn over);
+      targets = new_fit sc facts place txn over (servers_over sc txn over);
       count = inl (record { number = refl; aim = refl; named = refl; mets = refl });
       top = between.1;
       few = between.0;
@@ -143,8 +170,8 @@ read_for sc declared round verdict fit reads k = by_reading (reads_master sc dec
         or_right round.reads (not (is_global_at round.levels verdict.admin)) (not_from_false (is_global_at round.levels verdict.admin) (unread_view sc declared round.levels verdict fit e k))
 
 -- the master is read wherever a proof is under global consistency
-pub round_read_for : (sc : Scenario) (facts : List Fact) (place : ℕ) (txn : TxnId) (round : Round) (declared : Transaction) → IsValid sc → slice_get sc.txns txn.0 ≡ Some declared → RoundFits sc facts place txn round
+pub round_read_for : (sc : Scenario) (facts : List Fact) (place : ℕ) (txn : TxnId) (over : Span) (round : Round) (declared : Transaction) → IsValid sc → slice_get sc.txns txn.0 ≡ Some declared → RoundFits sc facts place txn over round
     → are_read_for round ≡ true
-round_read_for sc facts place txn round declared valid found h =
+round_read_for sc facts place txn over round declared valid found h =
     all_from_each (IsOwnProof sc declared) (is_read_for round) (λ verdict k. read_for sc declared round verdict (h.levels declared found) (h.reads declared found) k) (proofs_in round.targets)
-    (own_proofs sc facts place txn round declared valid found h)
+    (own_proofs sc facts place txn over round declared valid found h)

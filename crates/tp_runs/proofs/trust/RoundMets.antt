@@ -26,13 +26,15 @@ use Rattle.tp_round.specs.Replies.{greatest, is_of, proofs_in, verdicts_in}
 use Rattle.tp_round.specs.declared.round.Judged.TheVariants.{Spent, Update}
 use Rattle.tp_round.specs.declared.round.Round.{Round}
 use Rattle.tp_round.specs.declared.round.Wanted.{Wanted}
-use Rattle.tp_types.proofs.EachLemmas.{each_as, each_found, each_from_all, each_map, each_of_all, each_two, found_passes}
+use Rattle.tp_types.proofs.EachLemmas.{each_as, each_both, each_found, each_from_all, each_map, each_of_all, each_two, found_passes}
 use Rattle.tp_types.specs.Each.{Each}
 use Rattle.tp_machine.specs.Named.{IsAdmin}
 use Rattle.tp_runs.proofs.basics.Facts.{all_from_each}
 use Rattle.tp_runs.proofs.basics.Levels.{LevelsFit, has_view, reads_where, viewed_where}
+use Rattle.tp_runs.proofs.basics.Phases.{spanned}
 use Rattle.tp_runs.proofs.ids.Valid.{IsValid}
-use Rattle.tp_runs.proofs.trust.RoundLevels.{IsOwnProof, each_failing, own_proofs}
+use Rattle.tp_coord.specs.declared.coordinator.Span.{Span}
+use Rattle.tp_runs.proofs.trust.RoundLevels.{IsOwnProof, IsSpannedProof, each_failing, own_proofs, spanned_proofs}
 use Rattle.tp_runs.proofs.trust.Rounds.{AreMet, IsFirstRound, IsFresh, IsLaterRound, RoundFits, brought_of, few_rounds, last_met, round_counted}
 
 -- ---- a reading
@@ -57,32 +59,32 @@ none_above sc facts place txn round (Some reading) r = r.above
 
 -- ---- what an update stands on
 
-later_of : (sc : Scenario) (facts : List Fact) (place : ℕ) (txn : TxnId) (round : Round) → IsFirstRound round ⊎ IsLaterRound sc facts place txn round → (round.number ≡ 1) ⊎ IsLater round
-later_of sc facts place txn round (inl first) = inl first.number
-later_of sc facts place txn round (inr later) = inr (record { number = later.number; aimed = later.aimed; kept = later.kept; named = later.named })
+later_of : (sc : Scenario) (facts : List Fact) (place : ℕ) (txn : TxnId) (over : Span) (round : Round) → IsFirstRound round ⊎ IsLaterRound sc facts place txn over round → (round.number ≡ 1) ⊎ IsLater round
+later_of sc facts place txn over round (inl first) = inl first.number
+later_of sc facts place txn over round (inr later) = inr (record { number = later.number; aimed = later.aimed; kept = later.kept; named = later.named })
 
-unmet_of : (sc : Scenario) (facts : List Fact) (place : ℕ) (txn : TxnId) (round : Round) → round.number ≡ 1 → IsFirstRound round ⊎ IsLaterRound sc facts place txn round → round.mets ≡ []
-unmet_of sc facts place txn round e (inl first) = first.mets
-unmet_of sc facts place txn round e (inr later) = absurd (omega (arith, later.number, e))
+unmet_of : (sc : Scenario) (facts : List Fact) (place : ℕ) (txn : TxnId) (over : Span) (round : Round) → round.number ≡ 1 → IsFirstRound round ⊎ IsLaterRound sc facts place txn over round → round.mets ≡ []
+unmet_of sc facts place txn over round e (inl first) = first.mets
+unmet_of sc facts place txn over round e (inr later) = absurd (omega (arith, later.number, e))
 
 -- a round that is updated, of a transaction of the scenario, and what it was judged with
-pub record Updates (sc : Scenario) (facts : List Fact) (place : ℕ) (txn : TxnId) (round : Round) (reading : Option Reading) (named : List Wanted) (declared : Transaction) : Type 0 where
-  pub fits : RoundFits sc facts place txn round
+pub record Updates (sc : Scenario) (facts : List Fact) (place : ℕ) (txn : TxnId) (over : Span) (round : Round) (reading : Option Reading) (named : List Wanted) (declared : Transaction) : Type 0 where
+  pub fits : RoundFits sc facts place txn over round
   pub read : JudgedFits sc facts place txn round reading
   pub judged : judge round reading ≡ Update named
   pub found : slice_get sc.txns txn.0 ≡ Some declared
   pub own : Each (IsOwnProof sc declared) (proofs_in round.targets)
   pub read_for : are_read_for round ≡ true
 
-above_of : (sc : Scenario) (facts : List Fact) (place : ℕ) (txn : TxnId) (round : Round) (reading : Option Reading) (named : List Wanted) (declared : Transaction) → Updates sc facts place txn round reading named declared → are_not_above round reading ≡ true
-above_of sc facts place txn round reading named declared u = none_above sc facts place txn round reading u.read
+above_of : (sc : Scenario) (facts : List Fact) (place : ℕ) (txn : TxnId) (over : Span) (round : Round) (reading : Option Reading) (named : List Wanted) (declared : Transaction) → Updates sc facts place txn over round reading named declared → are_not_above round reading ≡ true
+above_of sc facts place txn over round reading named declared u = none_above sc facts place txn round reading u.read
 
 -- where nothing is met the round is the first, so nothing was met before
-unmet_before : (sc : Scenario) (facts : List Fact) (place : ℕ) (txn : TxnId) (round : Round) (reading : Option Reading) (named : List Wanted) (declared : Transaction) → Updates sc facts place txn round reading named declared
+unmet_before : (sc : Scenario) (facts : List Fact) (place : ℕ) (txn : TxnId) (over : Span) (round : Round) (reading : Option Reading) (named : List Wanted) (declared : Transaction) → Updates sc facts place txn over round reading named declared
     → met_in round reading ≡ None → round.mets ≡ []
-unmet_before sc facts place txn round reading named declared u e =
-    let first : round.number ≡ 1 = first_only round reading named u.read_for (above_of sc facts place txn round reading named declared u) u.judged e (later_of sc facts place txn round u.fits.count) in
-    unmet_of sc facts place txn round first u.fits.count
+unmet_before sc facts place txn over round reading named declared u e =
+    let first : round.number ≡ 1 = first_only round reading named u.read_for (above_of sc facts place txn over round reading named declared u) u.judged e (later_of sc facts place txn over round u.fits.count) in
+    unmet_of sc facts place txn over round first u.fits.count
 
 -- ---- the round that is met
 
@@ -171,11 +173,11 @@ both_of P Q R None step h k = tt
 both_of P Q R (Some x) step h k = step x h k
 
 -- in a later round what is met is met after the one before, and used what was the newest there
-met_after : (sc : Scenario) (facts : List Fact) (place : ℕ) (txn : TxnId) (round : Round) (reading : Reading) (declared : Transaction) (met : Met) → slice_get sc.txns txn.0 ≡ Some declared
-    → ReadingFits sc facts place txn round reading → IsNewMet sc facts place txn round reading declared met → IsFirstRound round ⊎ IsLaterRound sc facts place txn round
+met_after : (sc : Scenario) (facts : List Fact) (place : ℕ) (txn : TxnId) (over : Span) (round : Round) (reading : Reading) (declared : Transaction) (met : Met) → slice_get sc.txns txn.0 ≡ Some declared
+    → ReadingFits sc facts place txn round reading → IsNewMet sc facts place txn round reading declared met → IsFirstRound round ⊎ IsLaterRound sc facts place txn over round
     → IfSome (last_met round.mets) (λ (one : Met). is_met_after sc facts one.place met ≡ true)
-met_after sc facts place txn round reading declared met found r new (inl first) = subst (λ (mets : List Met). IfSome (last_met mets) (λ (one : Met). is_met_after sc facts one.place met ≡ true)) (sym first.mets) tt
-met_after sc facts place txn round reading declared met found r new (inr later) =
+met_after sc facts place txn over round reading declared met found r new (inl first) = subst (λ (mets : List Met). IfSome (last_met mets) (λ (one : Met). is_met_after sc facts one.place met ≡ true)) (sym first.mets) tt
+met_after sc facts place txn over round reading declared met found r new (inr later) =
     let at : list_all (is_at later.aimed) (proofs_in round.targets) ≡ true = all_of_each (is_at later.aimed) round.targets ∙ later.kept in
     let used : met.used.0 ≡ later.aimed met.admin = used_at later.aimed met (proofs_in round.targets) at new.used in
     both_of (λ (one : Met). one.place < reading.place) (IsFresh sc facts declared later.aimed) (λ (one : Met). is_met_after sc facts one.place met ≡ true) (last_met round.mets)
@@ -198,30 +200,30 @@ last_push (one ∷ []) met = refl
 last_push (one ∷ next ∷ mets) met = last_push (next ∷ mets) met
 
 -- with what a round met, all that was met is as a history shows it
-more_met : (sc : Scenario) (facts : List Fact) (place : ℕ) (txn : TxnId) (round : Round) (reading : Reading) (declared : Transaction) (met : Met) → RoundFits sc facts place txn round → slice_get sc.txns txn.0 ≡ Some declared
+more_met : (sc : Scenario) (facts : List Fact) (place : ℕ) (txn : TxnId) (over : Span) (round : Round) (reading : Reading) (declared : Transaction) (met : Met) → RoundFits sc facts place txn over round → slice_get sc.txns txn.0 ≡ Some declared
     → ReadingFits sc facts place txn round reading → IsNewMet sc facts place txn round reading declared met → AreMet sc facts place txn declared (round.mets ++ met ∷ [])
-more_met sc facts place txn round reading declared met h found r new =
+more_met sc facts place txn over round reading declared met h found r new =
     let before : AreMet sc facts place txn declared round.mets = h.mets declared found in
     record {
       shown = list_all-append (is_met_shown sc txn place facts declared) round.mets (met ∷ [])
           ∙ and_from (list_all (is_met_shown sc txn place facts declared) round.mets) (list_all (is_met_shown sc txn place facts declared) (met ∷ [])) before.shown (and_from (is_met_shown sc txn place facts declared met) true new.shown refl);
-      on = met_on_more sc facts round.mets met before.on (met_after sc facts place txn round reading declared met found r new h.count);
+      on = met_on_more sc facts round.mets met before.on (met_after sc facts place txn over round reading declared met found r new h.count);
     }
 
 -- ---- rounds that are spent
 
 -- the rounds that are spent are shown: as many as the transaction asks for, each of which met a newer version
-pub round_spent : (sc : Scenario) (facts : List Fact) (place : ℕ) (txn : TxnId) (round : Round) (reading : Option Reading) (mets : List Met) (declared : Transaction) → IsValid sc → slice_get sc.txns txn.0 ≡ Some declared
-    → is_incremental declared.scheme ≡ false → RoundFits sc facts place txn round → JudgedFits sc facts place txn round reading → judge round reading ≡ Spent mets
+pub round_spent : (sc : Scenario) (facts : List Fact) (place : ℕ) (txn : TxnId) (over : Span) (round : Round) (reading : Option Reading) (mets : List Met) (declared : Transaction) → IsValid sc → slice_get sc.txns txn.0 ≡ Some declared
+    → is_incremental declared.scheme ≡ false → RoundFits sc facts place txn over round → JudgedFits sc facts place txn round reading → judge round reading ≡ Spent mets
     → are_rounds_shown sc txn place facts mets declared ≡ true
-round_spent sc facts place txn round None mets declared valid found not_incremental h r e = absurd (unread_unspent round mets e)
-round_spent sc facts place txn round (Some reading) mets declared valid found not_incremental h r e =
+round_spent sc facts place txn over round None mets declared valid found not_incremental h r e = absurd (unread_unspent round mets e)
+round_spent sc facts place txn over round (Some reading) mets declared valid found not_incremental h r e =
     let all : HasAllMets round (Some reading) mets = spent_has_all_mets round (Some reading) mets e in
     let new : IsNewMet sc facts place txn round reading declared all.met =
-    new_met sc facts place txn round reading declared all.met (h.levels declared found) (own_proofs sc facts place txn round declared valid found h) r all.is_met in
+    new_met sc facts place txn round reading declared all.met (h.levels declared found) (own_proofs sc facts place txn over round declared valid found h) r all.is_met in
     let reads : reads_master sc declared ≡ true = reads_where sc declared all.met.admin new.own new.global in
     let limit : round.limit ≡ declared.rounds = h.limit declared found ∙ ap (λ (b : Bool). cond b declared.rounds view_rounds) reads in
-    let are : AreMet sc facts place txn declared mets = subst (AreMet sc facts place txn declared) (sym all.all) (more_met sc facts place txn round reading declared all.met h found r new) in
+    let are : AreMet sc facts place txn declared mets = subst (AreMet sc facts place txn declared) (sym all.all) (more_met sc facts place txn over round reading declared all.met h found r new) in
     and_from _ _ (and_from _ _ (and_from _ _ (ap not not_incremental) (eq-eqb (length mets) declared.rounds (all.count ∙ limit))) are.shown) are.on
 
 -- ---- a round that meets nothing
@@ -268,47 +270,49 @@ global_agrees round reading goes_on read unmet above global =
     (sym (all_of_each (is_at f) round.targets) ∙ all)
 
 -- an update of a round that meets nothing brings together what is under view consistency
-unmet_view : (sc : Scenario) (facts : List Fact) (place : ℕ) (txn : TxnId) (round : Round) (reading : Option Reading) (named : List Wanted) (declared : Transaction) → Updates sc facts place txn round reading named declared
-    → met_in round reading ≡ None → has_view sc declared declared.queries ≡ true
-unmet_view sc facts place txn round reading named declared u unmet = by_view (has_view sc declared declared.queries) refl
+unmet_view : (sc : Scenario) (facts : List Fact) (place : ℕ) (txn : TxnId) (over : Span) (round : Round) (reading : Option Reading) (named : List Wanted) (declared : Transaction) → Updates sc facts place txn over round reading named declared
+    → met_in round reading ≡ None → has_view sc declared (spanned over declared.queries) ≡ true
+unmet_view sc facts place txn over round reading named declared u unmet = by_view (has_view sc declared (spanned over declared.queries)) refl
   where
     is : IsUpdated round reading named
     is = updated round reading named u.judged
 
-    global_of : (verdict : Verdict) (b : Bool) → is_global (level_of declared verdict.admin) ≡ b → has_view sc declared declared.queries ≡ false → IsOwnProof sc declared verdict → is_global_at round.levels verdict.admin ≡ true
-    global_of verdict true e none k = u.fits.levels declared u.found verdict.admin k.exists ∙ e
-    global_of verdict false e none k = let some = viewed_where sc declared verdict.admin k.own e in absurd (cc)
+    global_of : (verdict : Verdict) (b : Bool) → is_global (level_of declared verdict.admin) ≡ b → has_view sc declared (spanned over declared.queries) ≡ false → IsOwnProof sc declared verdict → IsSpannedProof sc over declared verdict
+        → is_global_at round.levels verdict.admin ≡ true
+    global_of verdict true e none k among = u.fits.levels declared u.found verdict.admin k.exists ∙ e
+    global_of verdict false e none k among = let some = viewed_where sc declared verdict.admin (spanned over declared.queries) among e in absurd (cc)
 
-    by_view : (b : Bool) → has_view sc declared declared.queries ≡ b → has_view sc declared declared.queries ≡ true
+    by_view : (b : Bool) → has_view sc declared (spanned over declared.queries) ≡ b → has_view sc declared (spanned over declared.queries) ≡ true
     by_view true e = e
     by_view false e =
         let agrees = global_agrees round reading is.goes_on u.read_for unmet (none_above sc facts place txn round reading u.read)
-        (each_as (IsOwnProof sc declared) (λ (verdict : Verdict). is_global_at round.levels verdict.admin ≡ true) (λ verdict k. global_of verdict (is_global (level_of declared verdict.admin)) refl e k) (proofs_in round.targets) u.own) in
+        (each_both (IsOwnProof sc declared) (IsSpannedProof sc over declared) (λ (verdict : Verdict). is_global_at round.levels verdict.admin ≡ true)
+        (λ verdict k among. global_of verdict (is_global (level_of declared verdict.admin)) refl e k among) (proofs_in round.targets) u.own (spanned_proofs sc facts place txn over round declared u.found u.fits)) in
         absurd (both_ways (list_any (is_outdated (aim_in round reading)) round.targets) agrees is.is_out)
 
 -- ---- the next round
 
 -- what was met by a round that is updated, with what it met itself
-pub record NextMets (sc : Scenario) (facts : List Fact) (place : ℕ) (txn : TxnId) (round : Round) (reading : Option Reading) (declared : Transaction) (mets : List Met) : Type 0 where
+pub record NextMets (sc : Scenario) (facts : List Fact) (place : ℕ) (txn : TxnId) (over : Span) (round : Round) (reading : Option Reading) (declared : Transaction) (mets : List Met) : Type 0 where
   pub met : AreMet sc facts place txn declared mets
   pub fresh : IfSome (last_met mets) (IsFresh sc facts declared (target_in round reading))
-  pub brought : next_number round ≡ length mets + 2 → has_view sc declared declared.queries ≡ true
+  pub brought : next_number round ≡ length mets + 2 → has_view sc declared (spanned over declared.queries) ≡ true
 
 number_before : (number mets all : ℕ) → all ≡ mets + 1 → number ≤ 17 → min (number + 1) (2 ^ 32 - 1) ≡ all + 2 → number ≡ mets + 2
 number_before number mets all e low is = omega (arith, e, low, is)
 
-next_mets_by : (sc : Scenario) (facts : List Fact) (place : ℕ) (txn : TxnId) (round : Round) (reading : Option Reading) (named : List Wanted) (declared : Transaction) (met : Option Met) → Updates sc facts place txn round reading named declared
-    → met_in round reading ≡ met → NextMets sc facts place txn round reading declared (mets_in round met)
-next_mets_by sc facts place txn round reading named declared None u e =
+next_mets_by : (sc : Scenario) (facts : List Fact) (place : ℕ) (txn : TxnId) (over : Span) (round : Round) (reading : Option Reading) (named : List Wanted) (declared : Transaction) (met : Option Met) → Updates sc facts place txn over round reading named declared
+    → met_in round reading ≡ met → NextMets sc facts place txn over round reading declared (mets_in round met)
+next_mets_by sc facts place txn over round reading named declared None u e =
     let same : round.mets ++ [] ≡ round.mets = append-nil round.mets in
-    let none : round.mets ++ [] ≡ [] = same ∙ unmet_before sc facts place txn round reading named declared u e in
+    let none : round.mets ++ [] ≡ [] = same ∙ unmet_before sc facts place txn over round reading named declared u e in
     record {
       met = subst (AreMet sc facts place txn declared) (sym same) (u.fits.mets declared u.found);
       fresh = subst (λ (mets : List Met). IfSome (last_met mets) (IsFresh sc facts declared (target_in round reading))) (sym none) tt;
-      brought = λ two. unmet_view sc facts place txn round reading named declared u e;
+      brought = λ two. unmet_view sc facts place txn over round reading named declared u e;
     }
-next_mets_by sc facts place txn round None named declared (Some met) u e = absurd (cc)
-next_mets_by sc facts place txn round (Some reading) named declared (Some met) u e =
+next_mets_by sc facts place txn over round None named declared (Some met) u e = absurd (cc)
+next_mets_by sc facts place txn over round (Some reading) named declared (Some met) u e =
     let fit : LevelsFit sc declared round.levels = u.fits.levels declared u.found in
     let r : ReadingFits sc facts place txn round reading = u.read in
     let new : IsNewMet sc facts place txn round reading declared met = new_met sc facts place txn round reading declared met fit u.own r e in
@@ -317,32 +321,32 @@ next_mets_by sc facts place txn round (Some reading) named declared (Some met) u
     ap (λ (b : Bool). cond b (newest_in (Some reading) admin) (greatest admin (proofs_in round.targets))) (fit admin exists ∙ global)
     ∙ (r.newest_is admin exists ∙ ap (λ (p : ℕ). newest sc admin p facts) (sym new.place_is)) in
     record {
-      met = more_met sc facts place txn round reading declared met u.fits u.found r new;
+      met = more_met sc facts place txn over round reading declared met u.fits u.found r new;
       fresh = subst (λ (last : Option Met). IfSome last (IsFresh sc facts declared (target_in round (Some reading)))) (sym (last_push round.mets met)) fresh;
-      brought = λ two. brought_of sc facts place txn round declared u.found u.fits.count
-          (number_before round.number (length round.mets) (length (round.mets ++ met ∷ [])) more (few_rounds sc facts place txn round u.fits) two);
+      brought = λ two. brought_of sc facts place txn over round declared u.found u.fits.count
+          (number_before round.number (length round.mets) (length (round.mets ++ met ∷ [])) more (few_rounds sc facts place txn over round u.fits) two);
     }
 
-pub next_mets : (sc : Scenario) (facts : List Fact) (place : ℕ) (txn : TxnId) (round : Round) (reading : Option Reading) (named : List Wanted) (declared : Transaction) → Updates sc facts place txn round reading named declared
-    → NextMets sc facts place txn round reading declared (mets_in round (met_in round reading))
-next_mets sc facts place txn round reading named declared u = next_mets_by sc facts place txn round reading named declared (met_in round reading) u refl
+pub next_mets : (sc : Scenario) (facts : List Fact) (place : ℕ) (txn : TxnId) (over : Span) (round : Round) (reading : Option Reading) (named : List Wanted) (declared : Transaction) → Updates sc facts place txn over round reading named declared
+    → NextMets sc facts place txn over round reading declared (mets_in round (met_in round reading))
+next_mets sc facts place txn over round reading named declared u = next_mets_by sc facts place txn over round reading named declared (met_in round reading) u refl
 
 -- rounds are counted on by what they meet
-pub next_counted : (sc : Scenario) (facts : List Fact) (place : ℕ) (txn : TxnId) (round : Round) (reading : Option Reading) (named : List Wanted) (declared : Transaction) → Updates sc facts place txn round reading named declared
+pub next_counted : (sc : Scenario) (facts : List Fact) (place : ℕ) (txn : TxnId) (over : Span) (round : Round) (reading : Option Reading) (named : List Wanted) (declared : Transaction) → Updates sc facts place txn over round reading named declared
     → IsCounted (next_number round) (length (mets_in round (met_in round reading)))
-next_counted sc facts place txn round reading named declared u =
-    counted_next round reading named u.read_for (above_of sc facts place txn round reading named declared u) u.judged (later_of sc facts place txn round u.fits.count) u.fits.few u.fits.top
-    (round_counted sc facts place txn round u.fits.count)
+next_counted sc facts place txn over round reading named declared u =
+    counted_next round reading named u.read_for (above_of sc facts place txn over round reading named declared u) u.judged (later_of sc facts place txn over round u.fits.count) u.fits.few u.fits.top
+    (round_counted sc facts place txn over round u.fits.count)
 
 -- fewer than the limit were met
-pub next_few : (sc : Scenario) (facts : List Fact) (place : ℕ) (txn : TxnId) (round : Round) (reading : Option Reading) (named : List Wanted) (declared : Transaction) → Updates sc facts place txn round reading named declared
+pub next_few : (sc : Scenario) (facts : List Fact) (place : ℕ) (txn : TxnId) (over : Span) (round : Round) (reading : Option Reading) (named : List Wanted) (declared : Transaction) → Updates sc facts place txn over round reading named declared
     → length (mets_in round (met_in round reading)) < round.limit
-next_few sc facts place txn round reading named declared u = unspent round (met_in round reading) (updated round reading named u.judged).unspent u.fits.few
+next_few sc facts place txn over round reading named declared u = unspent round (met_in round reading) (updated round reading named u.judged).unspent u.fits.few
 
 -- a round that reads no master meets nothing
-pub next_unread : (sc : Scenario) (facts : List Fact) (place : ℕ) (txn : TxnId) (round : Round) (reading : Option Reading) (named : List Wanted) (declared : Transaction) → Updates sc facts place txn round reading named declared
+pub next_unread : (sc : Scenario) (facts : List Fact) (place : ℕ) (txn : TxnId) (over : Span) (round : Round) (reading : Option Reading) (named : List Wanted) (declared : Transaction) → Updates sc facts place txn over round reading named declared
     → round.reads ≡ false → mets_in round (met_in round reading) ≡ []
-next_unread sc facts place txn round reading named declared u none =
+next_unread sc facts place txn over round reading named declared u none =
     let view : list_any (is_of_global round.levels) (proofs_in round.targets) ≡ false =
     none_out (is_read_for round) (is_of_global round.levels) (λ verdict e. not-true (is_of_global round.levels verdict) (sym (ap (λ (b : Bool). b || not (is_of_global round.levels verdict)) none) ∙ e)) (proofs_in round.targets) u.read_for in
     ap (mets_in round) (nothing_met round reading view) ∙ (append-nil round.mets ∙ u.fits.unread none)
