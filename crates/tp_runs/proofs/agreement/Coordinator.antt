@@ -2,7 +2,7 @@
 -- acknowledgements are counted by what servers have prepared and settled.
 use Rattle.std.specs.List.{list_any}
 use Rattle.std.specs.Option.{option_map_or, option_or}
-use Rattle.std.proofs.Common.{Bool, IfSome, List, None, Option, Some, [], ap, cond, false, is_some, length, map, not, option_and_then, option_map, refl, slice_get, subst, suc, sym, true, zero, ℕ, ◌+◌, ◌==◌, ◌||◌, ◌∙◌, ◌∷◌, ◌≡◌}
+use Rattle.std.proofs.Common.{Bool, IfSome, List, None, Option, Some, [], ap, cond, false, is_some, map, not, option_and_then, option_map, refl, slice_get, subst, suc, sym, true, zero, ℕ, ◌+◌, ◌==◌, ◌||◌, ◌∙◌, ◌∷◌, ◌≡◌}
 use Rattle.std.proofs.lemmas.Bool.{or_left, or_parts}
 use Rattle.std.proofs.lemmas.Map.Keys.{any_passes_from_place}
 use Rattle.std.proofs.lemmas.Option.{same_Some}
@@ -10,7 +10,7 @@ use Rattle.tp_types.proofs.ListLemmas.{number_itself}
 use Rattle.tp_types.specs.Effect.{Effect, ignores, sends}
 use Rattle.tp_model.specs.Agreement.{has_item, has_item_at}
 use Rattle.tp_model.specs.Facts.{outcome_of}
-use Rattle.tp_model.specs.Queries.{is_at_server, item_of, query_at, servers_from, servers_of}
+use Rattle.tp_model.specs.Queries.{is_at_server, item_of, query_at}
 use Rattle.tp_model.specs.Words.actor
 use Rattle.tp_model.specs.Words.body
 use Rattle.tp_model.specs.Words.cause
@@ -21,8 +21,9 @@ use Rattle.tp_model.specs.Words.vote
 use Rattle.tp_model.specs.Words.{AckReply, Actor, Body, Cause, DecideRequest, Decision, DoneReply, Instance, Item, Letter, Mail, Outcome, Query, Record, Scenario, ServerId, Staple, Transaction, TxnId, Verdict, Vote, VoteReply}
 use Rattle.tp_runs.proofs.basics.Homes.{IsHome, home_is}
 use Rattle.tp_runs.proofs.basics.Ids.{same_server_is}
-use Rattle.tp_types.proofs.EachLemmas.{by_cond, each_as, each_filter}
+use Rattle.tp_types.proofs.EachLemmas.{each_as, each_filter}
 use Rattle.tp_runs.proofs.basics.Rounds.{EachServer, all_in, each_missing, each_renewed, each_replied, each_started, is_in, judged_whole, missing_in, none_missing, replied_is, updated_is}
+use Rattle.tp_runs.proofs.basics.Servers.{servers_over_have}
 use Rattle.tp_runs.proofs.basics.Logs.{appended, decided_with}
 use Rattle.tp_scheme.specs.declared.moves.Point.TheVariants as point
 use Rattle.tp_coord.proofs.Rows.{AllTrue, ByOlder, ByProof, ByRefusal, Gained, HasVoted, IsAck, IsEnded, IsPassed, IsYes, QueryRan, coordinator_by, gains_instances, submit_by, with_gained}
@@ -193,20 +194,9 @@ decided_begun (phase.Ending ended servers) decided h e = refl
 
 -- ---- servers
 
-servers_have_items : (sc : Scenario) (declared : Transaction) (low left : ℕ) → Each (λ (at : ServerId). has_item sc at declared ≡ true) (servers_from sc declared.queries low left)
-servers_have_items sc declared low zero = tt
-servers_have_items sc declared low (suc left) =
-    let later = servers_have_items sc declared (low + 1) left in
-    by_cond (Each (λ (at : ServerId). has_item sc at declared ≡ true)) (list_any (is_at_server sc low) declared.queries)
-    (λ here. (here, later)) (λ not_here. later)
-
 -- each of a transaction's servers has an item of it
 pub servers_at_have_items : (sc : Scenario) (txn : TxnId) → HaveItems sc txn (servers_at sc txn)
-servers_at_have_items sc txn = found (slice_get sc.txns txn.0)
-  where
-    found : (declared : Option Transaction) → Each (λ (at : ServerId). option_map_or (has_item sc at) declared false ≡ true) (option_map_or (servers_of sc) declared [])
-    found (Some declared) = servers_have_items sc declared 0 (length sc.servers)
-    found None = tt
+servers_at_have_items sc txn = servers_over_have sc txn span.Commit
 
 -- ---- the server of a query
 

@@ -25,6 +25,7 @@ use Rattle.tp_runs.proofs.agreement.Coordinator.{idle_is}
 use Rattle.tp_runs.proofs.basics.Homes.{HaveHomes, next_is}
 use Rattle.tp_runs.proofs.basics.Phases.{awaits_is, before_query, ceiling_in, is_undecided, until_round}
 use Rattle.tp_runs.proofs.basics.Rounds.{missing_in}
+use Rattle.tp_runs.proofs.basics.Servers.{all_servers}
 use Rattle.tp_runs.proofs.basics.Verdicts.{numbers_of}
 use Rattle.tp_runs.proofs.ids.Valid.{IsValid}
 use Rattle.tp_runs.proofs.pairs.Actors.{BodyPairs, VoteFrom, site_of}
@@ -192,7 +193,7 @@ brings_trusts : (sc : Scenario) (facts : List Fact) (place : ℕ) (c : Coordinat
 brings_trusts sc facts place c now query plain own s =
     record {
       fits = record {
-        awaits = (s.submitted, subst (λ (servers : List ServerId). RoundFits sc facts place c.txn span.Commit (first_round servers view_rounds (replicate admins_limit level.View) false)) (sym own) (round_starts sc facts place c.txn span.Commit plain));
+        awaits = (s.submitted, subst (λ (servers : List ServerId). RoundFits sc facts place c.txn span.Commit (first_round servers view_rounds (replicate admins_limit level.View) false)) (all_servers sc c.txn ∙ sym own) (round_starts sc facts place c.txn span.Commit plain));
         so_far = λ unsure. moved_on sc facts place c.txn c.phase (phase.Asking span.Commit (commit_round c)) now.instances now.gathered plain s.so_far;
         above = λ unsure. s.above;
         turn = subst (λ (n : ℕ). n ≤ until_round (query_count sc c.txn) 1 1) (sym s.rises) (round_move (query_count sc c.txn) query c.turn s.first s.last s.low);

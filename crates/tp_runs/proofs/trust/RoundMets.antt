@@ -26,7 +26,7 @@ use Rattle.tp_round.specs.Replies.{greatest, is_of, proofs_in, verdicts_in}
 use Rattle.tp_round.specs.declared.round.Judged.TheVariants.{Spent, Update}
 use Rattle.tp_round.specs.declared.round.Round.{Round}
 use Rattle.tp_round.specs.declared.round.Wanted.{Wanted}
-use Rattle.tp_types.proofs.EachLemmas.{each_as, each_both, each_found, each_from_all, each_map, each_of_all, each_two, found_passes}
+use Rattle.tp_types.proofs.EachLemmas.{each_both, each_found, each_from_all, each_map, each_of_all, each_two, found_passes}
 use Rattle.tp_types.specs.Each.{Each}
 use Rattle.tp_machine.specs.Named.{IsAdmin}
 use Rattle.tp_runs.proofs.basics.Facts.{all_from_each}
