@@ -1,4 +1,5 @@
--- The servers of a transaction: what holds of them all holds of each that has an item of it.
+-- The servers of a transaction, and of the queries that a round is over: each has an item of these, and what holds of
+-- all of the transaction's holds of each that has an item of it.
 use Rattle.std.proofs.lemmas.Bool.{eqb-true}
 use Rattle.std.proofs.Common.{◌≡◌, ℕ, zero, suc, ◌+◌, ◌<◌, ◌≤◌, ◌==◌, List, [], ◌∷◌, length, slice_get, Bool, true, false, Option, Some, None, if◌then◌else◌, refl, sym, subst, arith}
 use Rattle.std.specs.List.{list_any}
@@ -14,6 +15,8 @@ use Rattle.tp_coord.specs.Opened.{servers_at}
 use Rattle.tp_coord.specs.declared.coordinator.Span.TheVariants as span
 use Rattle.tp_coord.specs.declared.coordinator.Span.{Span}
 use Rattle.tp_runs.proofs.basics.Phases.{only_spanned}
+
+-- ---- the servers of a round
 
 -- the servers of those of a transaction's queries that a round is over
 abbrev pub servers_over : Scenario → TxnId → Span → List ServerId
@@ -40,6 +43,8 @@ servers_over_have sc txn over = found (slice_get sc.txns txn.0)
     found : (declared : Option Transaction) → Each (λ (at : ServerId). option_map_or (λ (t : Transaction). has_item sc at (only_spanned over t)) declared false ≡ true) (option_map_or (λ (t : Transaction). servers_of sc (only_spanned over t)) declared [])
     found (Some declared) = servers_have sc (only_spanned over declared) 0 (length sc.servers)
     found None = tt
+
+-- ---- all of them
 
 split_cond : {A : Type 0} (P : A → Type 0) (b : Bool) (x : A) (xs : List A) → Each P (if b then x ∷ xs else xs) → Each P xs × (b ≡ true → P x)
 split_cond P true x xs h = (h.1, λ e. h.0)

@@ -113,7 +113,8 @@ proved_where sc facts place txn declared number at admin e own (verdict ∷ verd
 proved_where sc facts place txn declared number at admin e own (verdict ∷ verdicts) (suc k) within is right =
     or_right (is_of admin verdict) (list_any (is_of admin) verdicts) (proved_where sc facts place txn declared number at admin e own verdicts k (omega (arith, within)) is right.1)
 
--- so there is one of each administrator of the server's queries that the round is over, where the verdicts are of all of them
+-- so there is one of each administrator of the server's queries that the round is over, where the verdicts are of all
+-- of them
 proved_at : (sc : Scenario) (facts : List Fact) (place : ℕ) (txn : TxnId) (over : Span) (declared : Transaction) (number : ℕ) (at : ServerId) (admin : AdminId) (verdicts : List Verdict)
     → slice_get sc.txns txn.0 ≡ Some declared → number ≤ last_spanned over declared → is_own_query sc declared number at admin ≡ true → Each (Right sc facts place txn) verdicts → AreNumbersAt sc txn over at verdicts
     → list_any (is_of admin) verdicts ≡ true

@@ -1,4 +1,5 @@
--- A round that is judged true: its proofs are right and true, agree, and are of each of the queries that it is over once, in order.
+-- A round that is judged true: its proofs are right and true, agree, and are of each of the queries that it is over
+-- once, in order.
 use Rattle.std.specs.List.{list_all, list_any, range_with_len}
 use Rattle.std.specs.Option.{option_map_or}
 use Rattle.std.proofs.Common.{Bool, List, None, Option, Some, [], ap, arith, cond, false, filter, inl, inr, is_some, length, map, nat_le, refl, slice_get, suc, sym, true, zero, ℕ, ◌&&◌, ◌++◌, ◌+◌, ◌<◌, ◌==◌, ◌∙◌, ◌∷◌, ◌≡◌, ◌≤◌, ⊎_elim}
@@ -251,7 +252,8 @@ one_for_each sc facts place txn over declared round homes valid found h replied 
 all_true : (verdicts : List Verdict) → list_all is_true verdicts ≡ true → list_all (λ (verdict : Verdict). is_some verdict.rule) verdicts ≡ true
 all_true verdicts e = all_from_each (λ (verdict : Verdict). is_true verdict ≡ true) (λ (verdict : Verdict). is_some verdict.rule) (λ verdict t. some_if_not_none verdict.rule t) verdicts (each_from_all is_true verdicts e)
 
--- proofs that close an instance: right, of each query that the round is over, in order, true, and of one version of each administrator; and the round's number
+-- proofs that close an instance: right, of each query that the round is over, in order, true, and of one version of
+-- each administrator; and the round's number
 pub record IsClosing (sc : Scenario) (facts : List Fact) (place : ℕ) (txn : TxnId) (over : Span) (round : Round) (proofs : List Verdict) : Type 0 where
   pub right : Each (Right sc facts place txn) proofs
   pub numbers : (declared : Transaction) → slice_get sc.txns txn.0 ≡ Some declared → numbers_of proofs ≡ range_with_len 1 (last_spanned over declared)

@@ -119,9 +119,9 @@ pub record AreMet (sc : Scenario) (facts : List Fact) (place : ℕ) (txn : TxnId
   pub shown : list_all (is_met_shown sc txn place facts declared) mets ≡ true
   pub on : are_met_on sc facts mets ≡ true
 
--- a round of the servers of the queries that it is over, whose replies fit. Its limit, which is at most 16, its levels and whether it
--- reads the master are those of the transaction; it is the first, or comes after an update; and fewer rounds than the
--- limit met something, none where no master is read
+-- a round of the servers of the queries that it is over, whose replies fit. Its limit, which is at most 16, its levels
+-- and whether it reads the master are those of the transaction; it is the first, or comes after an update; and fewer
+-- rounds than the limit met something, none where no master is read
 pub record RoundFits (sc : Scenario) (facts : List Fact) (place : ℕ) (txn : TxnId) (over : Span) (round : Round) : Type 0 where
   pub limit : (declared : Transaction) → slice_get sc.txns txn.0 ≡ Some declared → round.limit ≡ limit_of sc declared
   pub levels : (declared : Transaction) → slice_get sc.txns txn.0 ≡ Some declared → LevelsFit sc declared round.levels
@@ -368,7 +368,7 @@ named_missing sc txn over named (target ∷ targets) h =
     by_cond (λ (left : List Target). Each (λ (at : ServerId). IsNamedFor sc txn over at (want_in named at)) (map server_of_target left)) (is_missing target)
     (λ e. (h.0 e, named_missing sc txn over named targets h.1)) (λ e. named_missing sc txn over named targets h.1)
 
--- those of all its queries are named
+-- up to the last query all administrators there are named
 names_all : (sc : Scenario) (declared : Transaction) (at : ServerId) (want : List (AdminId × Version)) → NamesUpto (site_of sc at.0 declared) (length declared.queries) want → Names (site_of sc at.0 declared) want
 names_all sc declared at want names number admin own = names number admin (here_within (site_of sc at.0 declared) number (own_here sc declared number at admin own)).1 own
 
