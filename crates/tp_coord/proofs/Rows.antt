@@ -1,7 +1,7 @@
 -- A coordinator's rows are walked once, in two: what a mail did, which is a point that the transaction has passed or its end, and which
 -- request follows. What is shown of each holds of the rows: a theorem shows once what holds at a point, and once that a move keeps it.
 -- A new move is a field here, and of each theorem's cases; a new point is a constructor.
-use Rattle.std.proofs.Common.{List, None, Option, Some, [], ap, refl, true, ℕ, ℤ, ◌&&◌, ◌==◌, ◌≡◌}
+use Rattle.std.proofs.Common.{List, None, Option, Some, [], ◌∷◌, map, ap, refl, true, ℕ, ℤ, ◌&&◌, ◌==◌, ◌≡◌}
 use Rattle.std.proofs.lemmas.Bool.{and_parts}
 use Rattle.tp_types.specs.Effect.{Effect, ignores, sends}
 use Rattle.tp_model.specs.Words.actor
@@ -10,13 +10,14 @@ use Rattle.tp_model.specs.Words.body
 use Rattle.tp_model.specs.Words.cause
 use Rattle.tp_model.specs.Words.no
 use Rattle.tp_model.specs.Words.vote
-use Rattle.tp_model.specs.Words.{AckReply, Actor, Answer, Body, Cause, Deed, DoneReply, Instance, Mail, No, Outcome, Query, Scenario, ServerId, Staple, TellReply, TxnId, Verdict, Vote, VoteReply}
+use Rattle.tp_model.specs.Words.{AckReply, Actor, Answer, Body, Cause, Deed, DoneReply, Instance, Letter, Mail, No, Outcome, Query, Scenario, ServerId, Staple, TellReply, TxnId, Verdict, Vote, VoteReply}
 use Rattle.tp_types.proofs.EachLemmas.{by_cond}
-use Rattle.tp_coord.specs.Row.{aborts, ack_from, asks, awaits_query, awaits_vote, begins, commit_round, commits, coordinator_row, counts, denied_by, died_for, home_of, instances_with, is_from, is_plain, makes, move_after, move_at, next_number, on_ack, on_all_true, on_answer, on_body, on_done_from, on_done_of_query, on_judged, on_no, on_staple, on_vote, on_vote_of, prepares, own_query, refused_by, sends_next, sends_query, server_of, staple_of, submit_row, vote_at, with_deed, without}
+use Rattle.tp_coord.specs.Row.{aborts, ack_from, ask_letter, asks, awaited_in, awaits_query, awaits_vote, begins, commit_round, commits, coordinator_row, counts, decide_letters, denied_by, died_for, home_of, instances_with, is_from, is_plain, makes, move_after, move_at, next_number, on_ack, on_all_true, on_answer, on_body, on_done_from, on_done_of_query, on_judged, on_no, on_staple, on_vote, on_vote_of, prepare_letter, prepares, own_query, query_again, query_request, refused_by, repeats, request, sends_next, sends_query, server_of, staple_of, submit_row, vote_at, with_deed, without}
 use Rattle.tp_coord.specs.State.{Coordinator}
 use Rattle.tp_coord.specs.declared.coordinator.Phase.TheVariants as phase
 use Rattle.tp_coord.specs.declared.coordinator.Phase.{Phase}
 use Rattle.tp_coord.specs.declared.coordinator.Span.TheVariants as span
+use Rattle.tp_coord.specs.declared.coordinator.Span.{Span}
 use Rattle.tp_scheme.specs.declared.moves.Move.TheVariants as move
 use Rattle.tp_scheme.specs.declared.moves.Point.TheVariants as point
 use Rattle.tp_scheme.specs.declared.moves.Move.{Move}
@@ -287,3 +288,30 @@ begins_by sc c P cases _ = cases.ignored
 
 pub submit_by : (sc : Scenario) (c : Coordinator) (P : Effect Coordinator → Type 0) → SubmitCases sc c P → P (submit_row sc c)
 submit_by sc c P cases = begins_by sc c P cases (move_at sc c (point.Begun 1))
+
+-- ---- timers
+
+-- what is to be shown of the letters of a timer, by the request that is outstanding
+pub record TimerCases (sc : Scenario) (c : Coordinator) (P : List Letter → Type 0) : Type 0 where
+  pub silent : P []
+  pub queried : (number : ℕ) (server : ServerId) → c.phase ≡ phase.Querying number None → home_of sc c number ≡ Some server
+      → P (request c server (body.Query (query_request sc c c.turn server number)) ∷ [])
+  pub asked : (over : Span) (round : Round) → c.phase ≡ phase.Asking over round → P (ask_letter c c.turn ∷ [])
+  pub prepared : (round : Round) (staple : Staple) → c.phase ≡ phase.Checking span.Commit round staple → P (map (prepare_letter c c.turn round staple) (awaited_in round))
+  pub ordered : (ended : Outcome) (awaited : List ServerId) → c.phase ≡ phase.Ending ended awaited → P (decide_letters c ended awaited)
+
+again_by : (sc : Scenario) (c : Coordinator) (P : List Letter → Type 0) → TimerCases sc c P → (number : ℕ) (server : Option ServerId) → c.phase ≡ phase.Querying number None → home_of sc c number ≡ server
+    → P (query_again sc c number server)
+again_by sc c P cases number None querying home = cases.silent
+again_by sc c P cases number (Some server) querying home = cases.queried number server querying home
+
+repeats_by : (sc : Scenario) (c : Coordinator) (P : List Letter → Type 0) → TimerCases sc c P → (awaited : Phase) → c.phase ≡ awaited → P (repeats sc c awaited)
+repeats_by sc c P cases (phase.Querying number None) e = again_by sc c P cases number (home_of sc c number) e refl
+repeats_by sc c P cases (phase.Asking over round) e = cases.asked over round e
+repeats_by sc c P cases (phase.Checking span.Commit round staple) e = cases.prepared round staple e
+repeats_by sc c P cases (phase.Ending ended awaited) e = cases.ordered ended awaited e
+repeats_by sc c P cases _ e = cases.silent
+
+-- what is shown of each request holds of what a timer sends
+pub timer_by : (sc : Scenario) (c : Coordinator) (P : List Letter → Type 0) → TimerCases sc c P → P (repeats sc c c.phase)
+timer_by sc c P cases = repeats_by sc c P cases c.phase refl

@@ -96,16 +96,17 @@ move_after sc c number = followed sc c number (move_at sc c (point.Ran number))
 
 -- ---- decisions
 
-abbrev pub decide_letters : Coordinator → Outcome → List Letter
-decide_letters c outcome =
-    requests c (body.Decide (record { txn = c.txn; outcome = outcome })) c.servers
+-- these servers are told the outcome
+abbrev pub decide_letters : Coordinator → Outcome → List ServerId → List Letter
+decide_letters c outcome servers =
+    requests c (body.Decide (record { txn = c.txn; outcome = outcome })) servers
 
 -- the decision is forced before it is sent to all of the transaction's servers
 abbrev pub decides : Coordinator → Outcome → Decision → Effect Coordinator
 decides c outcome decided =
     logs (record c { phase = phase.Ending outcome c.servers })
     (log.Decided (record { txn = c.txn; decision = decided }))
-    (decide_letters c outcome)
+    (decide_letters c outcome c.servers)
 
 -- the transaction aborts
 abbrev pub aborts : Coordinator → Cause → Effect Coordinator
@@ -123,11 +124,11 @@ value_of sc c number =
     option_and_then (λ (txn : Transaction). asked_value txn c.deeds number)
     (slice_get sc.txns c.txn.0)
 
--- the request for a query, with the value that it is asked with
-abbrev pub query_with : Coordinator → ServerId → ℕ → Option ℤ → QueryRequest
-query_with c server number value = record {
+-- the request of a turn for a query, with the value that it is asked with
+abbrev pub query_with : Coordinator → ℕ → ServerId → ℕ → Option ℤ → QueryRequest
+query_with c turn server number value = record {
   txn = c.txn;
-  turn = next_turn c;
+  turn = turn;
   query = number;
   age = c.age;
   epoch = epoch_told c server;
@@ -136,14 +137,14 @@ query_with c server number value = record {
   pin = None;
 }
 
-abbrev pub query_request : Scenario → Coordinator → ServerId → ℕ → QueryRequest
-query_request sc c server number = query_with c server number (value_of sc c number)
+abbrev pub query_request : Scenario → Coordinator → ℕ → ServerId → ℕ → QueryRequest
+query_request sc c turn server number = query_with c turn server number (value_of sc c number)
 
 -- a query is sent to the server of its item
 abbrev pub sends_query : Scenario → Coordinator → ℕ → ServerId → Effect Coordinator
 sends_query sc c number server =
     sends (record c { turn = next_turn c; phase = phase.Querying number None })
-    (request c server (body.Query (query_request sc c server number)) ∷ [])
+    (request c server (body.Query (query_request sc c (next_turn c) server number)) ∷ [])
 
 -- the server of the transaction's query of this number
 abbrev pub home_of : Scenario → Coordinator → ℕ → Option ServerId
@@ -175,17 +176,19 @@ abbrev pub is_from : Actor → ServerId → Bool
 is_from (actor.Server server) asked = server.0 == asked.0
 is_from _ asked = false
 
--- a request to the authority
-abbrev pub ask_letter : Coordinator → Letter
-ask_letter c = record {
+-- the request of a turn to the authority
+abbrev pub ask_letter : Coordinator → ℕ → Letter
+ask_letter c turn = record {
   from = actor.Coordinator c.txn;
   to = actor.Authority;
-  body = body.Ask (record { txn = c.txn; turn = next_turn c });
+  body = body.Ask (record { txn = c.txn; turn = turn });
 }
 
 -- before each round of validation the authority is asked
 abbrev pub asks : Coordinator → Span → Round → Effect Coordinator
-asks c over round = sends (record c { turn = next_turn c; phase = phase.Asking over round }) (ask_letter c ∷ [])
+asks c over round =
+    sends (record c { turn = next_turn c; phase = phase.Asking over round })
+    (ask_letter c (next_turn c) ∷ [])
 
 -- the first round at commit, of all of the transaction's servers. No master is read, and under view consistency two rounds are enough
 abbrev pub commit_round : Coordinator → Round
@@ -277,18 +280,18 @@ want_for round server =
     option_map_or (λ (named : Wanted). named.want)
     (find (λ (named : Wanted). same_server named.server server) round.named) []
 
-abbrev pub prepare_request : Coordinator → Round → Staple → ServerId → PrepareRequest
-prepare_request c round staple server = record {
+abbrev pub prepare_request : Coordinator → ℕ → Round → Staple → ServerId → PrepareRequest
+prepare_request c turn round staple server = record {
   txn = c.txn;
-  turn = next_turn c;
+  turn = turn;
   epoch = epoch_of c server;
   staple = Some staple;
   want = want_for round server;
 }
 
-abbrev pub prepare_letter : Coordinator → Round → Staple → ServerId → Letter
-prepare_letter c round staple server =
-    request c server (body.Prepare (prepare_request c round staple server))
+abbrev pub prepare_letter : Coordinator → ℕ → Round → Staple → ServerId → Letter
+prepare_letter c turn round staple server =
+    request c server (body.Prepare (prepare_request c turn round staple server))
 
 abbrev pub staple_of : TellReply → ℕ → Staple
 staple_of tell sent = record { place = sent; clock = tell.clock; revoked = tell.revoked }
@@ -304,7 +307,7 @@ awaited_in round = map server_of_target (filter is_missing round.targets)
 abbrev pub prepares : Coordinator → Span → Round → Staple → Effect Coordinator
 prepares c over round staple =
     sends (record c { turn = next_turn c; phase = phase.Checking over round staple })
-    (map (prepare_letter c round staple) (awaited_in round))
+    (map (prepare_letter c (next_turn c) round staple) (awaited_in round))
 
 -- the authority was asked before a round at commit
 abbrev pub on_staple : Coordinator → Phase → Staple → Effect Coordinator
@@ -423,6 +426,32 @@ on_body sc c sent from _ = ignores c
 
 abbrev pub coordinator_row : Scenario → Coordinator → Mail → Effect Coordinator
 coordinator_row sc c mail = on_body sc c mail.sent mail.letter.from mail.letter.body
+
+-- ---- timers
+
+-- what is sent again in a phase that no coordinator enters yet
+abbrev pub unbuilt_repeat : List Letter
+unbuilt_repeat = []
+
+-- a query is asked again where it has a server
+abbrev pub query_again : Scenario → Coordinator → ℕ → Option ServerId → List Letter
+query_again sc c number None = []
+query_again sc c number (Some server) =
+    request c server (body.Query (query_request sc c c.turn server number)) ∷ []
+
+-- the request that is outstanding, in its own turn, to each from whom a reply is awaited
+abbrev pub repeats : Scenario → Coordinator → Phase → List Letter
+repeats sc c phase.Idle = []
+repeats sc c (phase.Querying number None) = query_again sc c number (home_of sc c number)
+repeats sc c (phase.Asking over round) = ask_letter c c.turn ∷ []
+repeats sc c (phase.Checking span.Commit round staple) =
+    map (prepare_letter c c.turn round staple) (awaited_in round)
+repeats sc c (phase.Ending outcome awaited) = decide_letters c outcome awaited
+repeats sc c _ = unbuilt_repeat
+
+-- a timer sends the outstanding request again, and changes nothing
+abbrev pub timer_row : Scenario → Coordinator → Effect Coordinator
+timer_row sc c = sends c (repeats sc c c.phase)
 
 -- ---- submitted and armed
 

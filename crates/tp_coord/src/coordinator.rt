@@ -204,7 +204,7 @@ impl Coordinator {
     }
 
     /// The server of the transaction's query of this number.
-    fn home_of(&self, scenario: &Scenario, number: u32) -> Option<ServerId>
+    pub(crate) fn home_of(&self, scenario: &Scenario, number: u32) -> Option<ServerId>
         ensures { result ≡ row.home_of scenario.now self.now number }
     {
         match self.query_of(scenario, number) {
@@ -254,7 +254,7 @@ impl Coordinator {
     }
 
     /// The value that a query is asked with: a write's sum over what was read.
-    fn value_of(
+    pub(crate) fn value_of(
         &self,
         alloc: Global,
         scenario: &Scenario,
@@ -279,7 +279,7 @@ impl Coordinator {
             Gives (row.sends_query scenario.now self.old number server) self.new reaction) }
     {
         let value = self.value_of(alloc, scenario, number)?;
-        let letter = self.query_letter(server, number, value);
+        let letter = self.query_letter(self.next_turn(), server, number, value);
         self.awaits(Phase::Querying {
             query: number,
             staple: None,
@@ -287,13 +287,19 @@ impl Coordinator {
         sent_alone(alloc, letter)
     }
 
-    fn query_letter(&self, server: ServerId, number: u32, value: Option<i128>) -> Letter
+    pub(crate) fn query_letter(
+        &self,
+        turn: u32,
+        server: ServerId,
+        number: u32,
+        value: Option<i128>,
+    ) -> Letter
         ensures { result ≡ row.request self.now server
-            (body.Query (row.query_with self.now server number value)) }
+            (body.Query (row.query_with self.now turn server number value)) }
     {
         let query = QueryRequest {
             txn: self.txn,
-            turn: self.next_turn(),
+            turn,
             query: number,
             age: self.age,
             epoch: self.epoch_told(server),

@@ -51,7 +51,7 @@ impl Coordinator {
         ensures { IfOk result (λ reaction.
             Gives (row.decides self.old outcome decision) self.new reaction) }
     {
-        let letters = self.decide_letters(alloc, outcome)?;
+        let letters = self.decide_letters(alloc, outcome, self.servers.as_slice())?;
         self.ends(alloc, outcome)?;
         let decided = Record::Decided(Decided {
             txn: self.txn,
@@ -73,11 +73,17 @@ impl Coordinator {
         Ok(())
     }
 
-    fn decide_letters(&self, alloc: Global, outcome: Outcome) -> Result<List<Letter>, NoMemory>
-        ensures { IfOk result (λ letters. letters ≡ row.decide_letters self.now outcome) }
+    pub(crate) fn decide_letters(
+        &self,
+        alloc: Global,
+        outcome: Outcome,
+        servers: &[ServerId],
+    ) -> Result<List<Letter>, NoMemory>
+        ensures { IfOk result (λ letters.
+            letters ≡ row.decide_letters self.now outcome servers.now) }
     {
         let mut letters = List::new(alloc);
-        for server in self.servers.as_slice() {
+        for server in servers {
             let decide = DecideRequest {
                 txn: self.txn,
                 outcome,

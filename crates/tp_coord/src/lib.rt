@@ -12,5 +12,6 @@ mod decisions;
 mod moves;
 mod rounds;
 mod sums;
+mod timers;
 
 pub use coordinator::{Coordinator, Phase, Span};

@@ -39,20 +39,20 @@ impl Coordinator {
     fn asks(&mut self, alloc: Global, span: Span, round: Round) -> Result<Reaction, NoMemory>
         ensures { IfOk result (λ reaction. Gives (row.asks self.old span round) self.new reaction) }
     {
-        let letter = self.ask_letter();
+        let letter = self.ask_letter(self.next_turn());
         self.awaits(Phase::Asking { span, round });
         sent_alone(alloc, letter)
     }
 
-    fn ask_letter(&self) -> Letter
-        ensures { result ≡ row.ask_letter self.now }
+    pub(crate) fn ask_letter(&self, turn: u32) -> Letter
+        ensures { result ≡ row.ask_letter self.now turn }
     {
         Letter {
             from: Actor::Coordinator(self.txn),
             to: Actor::Authority,
             body: Body::Ask(AskRequest {
                 txn: self.txn,
-                turn: self.next_turn(),
+                turn,
             }),
         }
     }
@@ -66,16 +66,17 @@ impl Coordinator {
     fn prepare_letter(
         &self,
         alloc: Global,
+        turn: u32,
         round: &Round,
         staple: &Staple,
         server: ServerId,
     ) -> Result<Letter, NoMemory>
         ensures { IfOk result (λ letter.
-            letter ≡ row.prepare_letter self.now round.now staple.now server) }
+            letter ≡ row.prepare_letter self.now turn round.now staple.now server) }
     {
         let prepare = PrepareRequest {
             txn: self.txn,
-            turn: self.next_turn(),
+            turn,
             epoch: self.epoch_of(server),
             staple: Some(staple.try_clone(alloc)?),
             want: want_for(alloc, round, server)?,
@@ -83,20 +84,23 @@ impl Coordinator {
         Ok(self.request(server, Body::Prepare(prepare)))
     }
 
-    fn prepare_letters(
+    pub(crate) fn prepare_letters(
         &self,
         alloc: Global,
+        turn: u32,
         round: &Round,
         staple: &Staple,
     ) -> Result<List<Letter>, NoMemory>
         ensures { IfOk result (λ letters.
             letters
-            ≡ map (row.prepare_letter self.now round.now staple.now) (row.awaited_in round.now)) }
+            ≡ map (row.prepare_letter self.now turn round.now staple.now)
+            (row.awaited_in round.now)) }
     {
         let mut letters = List::new(alloc);
         for target in round.targets.as_slice() {
             if target.reply.is_none() {
-                letters.push(self.prepare_letter(alloc, round, staple, target.server)?)?;
+                let letter = self.prepare_letter(alloc, turn, round, staple, target.server)?;
+                letters.push(letter)?;
             }
         }
         Ok(letters)
@@ -139,7 +143,7 @@ impl Coordinator {
         ensures { IfOk result (λ reaction.
             Gives (row.prepares self.old span round staple) self.new reaction) }
     {
-        let letters = self.prepare_letters(alloc, &round, &staple)?;
+        let letters = self.prepare_letters(alloc, self.next_turn(), &round, &staple)?;
         self.awaits(Phase::Checking {
             span,
             round,

@@ -117,9 +117,10 @@ told_age : (A : TxnId → ℕ → Type 0) (txn : TxnId) (age : Option ℕ) (plac
 told_age A txn None place e h = absurd (cc)
 told_age A txn (Some old) place e h = h
 
-prepare_letters_aged : (A : TxnId → ℕ → Type 0) (place : ℕ) (c : Coordinator) (round : Round) (staple : Staple) (servers : List ServerId) → Each (LetterAged A place) (map (coord.prepare_letter c round staple) servers)
-prepare_letters_aged A place c round staple [] = tt
-prepare_letters_aged A place c round staple (at ∷ servers) = (tt, prepare_letters_aged A place c round staple servers)
+prepare_letters_aged : (A : TxnId → ℕ → Type 0) (place : ℕ) (c : Coordinator) (turn : ℕ) (round : Round) (staple : Staple) (servers : List ServerId)
+    → Each (LetterAged A place) (map (coord.prepare_letter c turn round staple) servers)
+prepare_letters_aged A place c turn round staple [] = tt
+prepare_letters_aged A place c turn round staple (at ∷ servers) = (tt, prepare_letters_aged A place c turn round staple servers)
 
 orders_aged : (A : TxnId → ℕ → Type 0) (place : ℕ) (c : Coordinator) (ended : Outcome) (servers : List ServerId)
     → Each (LetterAged A place) (map (λ (at : ServerId). coord.request c at (body.Decide (record { txn = c.txn; outcome = ended }))) servers)
@@ -137,7 +138,7 @@ coordinator_row_ages A place sc c mail h =
           record { same_age = refl; known = λ querying. age_known; same_txn = refl; letters = (told_age A c.txn c.age place age_known h.age, tt) };
       commit_rounds = λ query now passed moves. record { same_age = refl; known = λ querying. absurd (cc); same_txn = refl; letters = (tt, tt) };
       told = λ tell round k.
-          record { same_age = refl; known = λ querying. absurd (cc); same_txn = refl; letters = prepare_letters_aged A place c round (coord.staple_of tell mail.sent) (coord.awaited_in round) };
+          record { same_age = refl; known = λ querying. absurd (cc); same_txn = refl; letters = prepare_letters_aged A place c (coord.next_turn c) round (coord.staple_of tell mail.sent) (coord.awaited_in round) };
       counted = λ reply round staple server verdicts y. record { same_age = refl; known = λ querying. absurd (cc); same_txn = refl; letters = tt };
       decides = λ instances rounds passed. record { same_age = refl; known = λ querying. absurd (cc); same_txn = refl; letters = orders_aged A place c outcome.Commit c.servers };
       aborted = λ why ended. record { same_age = refl; known = λ querying. absurd (cc); same_txn = refl; letters = orders_aged A place c outcome.Abort c.servers };

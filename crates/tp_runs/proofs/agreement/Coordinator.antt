@@ -31,7 +31,7 @@ use Rattle.tp_recover.specs.Log.{decided_in, decision_in}
 use Rattle.tp_machine.specs.Machine.{log_with, with_age}
 use Rattle.tp_types.specs.Each.{Each}
 use Rattle.tp_coord.specs.Opened.{servers_at}
-use Rattle.tp_coord.specs.Row.{aborts, asks, awaits_query, commit_round, commits, coordinator_row, is_begun, next_number, prepare_letter, prepares, own_query, request, sends_query, server_of, staple_of, submit_row, without}
+use Rattle.tp_coord.specs.Row.{aborts, asks, awaits_query, commit_round, commits, coordinator_row, is_begun, next_number, next_turn, prepare_letter, prepares, own_query, request, sends_query, server_of, staple_of, submit_row, without}
 use Rattle.tp_coord.specs.State.{Coordinator}
 use Rattle.tp_coord.specs.declared.coordinator.Phase.TheVariants as phase
 use Rattle.tp_coord.specs.declared.coordinator.Phase.{Phase}
@@ -308,11 +308,11 @@ sends_query_lawful sc P S c kept number at d b s k =
       letters = (record { same_txn = refl; item = asked_has_item sc c number k.asked at k.asked_is k.server_is; submitted = refl }, tt);
     }
 
-prepare_letters_lawful : (sc : Scenario) (c : Coordinator) (begun : Bool) (decided : Option Decision) (round : Round) (staple : Staple) (servers : List ServerId) → begun ≡ true → HaveItems sc c.txn servers
-    → Each (LetterAgrees sc c.txn begun decided) (map (prepare_letter c round staple) servers)
-prepare_letters_lawful sc c begun decided round staple [] b h = tt
-prepare_letters_lawful sc c begun decided round staple (at ∷ servers) b h =
-    (record { same_txn = refl; item = h.0; submitted = b }, prepare_letters_lawful sc c begun decided round staple servers b h.1)
+prepare_letters_lawful : (sc : Scenario) (c : Coordinator) (begun : Bool) (decided : Option Decision) (turn : ℕ) (round : Round) (staple : Staple) (servers : List ServerId) → begun ≡ true → HaveItems sc c.txn servers
+    → Each (LetterAgrees sc c.txn begun decided) (map (prepare_letter c turn round staple) servers)
+prepare_letters_lawful sc c begun decided turn round staple [] b h = tt
+prepare_letters_lawful sc c begun decided turn round staple (at ∷ servers) b h =
+    (record { same_txn = refl; item = h.0; submitted = b }, prepare_letters_lawful sc c begun decided turn round staple servers b h.1)
 
 -- each awaited server is asked to prepare
 prepares_lawful : (sc : Scenario) (P S : ServerId → Type 0) (c : Coordinator) (kept : List Record) (round : Round) (staple : Staple) → Keeps sc P S c kept → c.phase ≡ phase.Asking span.Commit round
@@ -325,7 +325,7 @@ prepares_lawful sc P S c kept round staple h e =
       same_begun = sym (ap is_begun e);
       same_txn = refl;
       fresh = tt;
-      letters = prepare_letters_lawful sc c true (decided_in kept) round staple (missing_in round.targets) refl (each_missing (HoldsItem sc c.txn) round.targets items);
+      letters = prepare_letters_lawful sc c true (decided_in kept) (next_turn c) round staple (missing_in round.targets) refl (each_missing (HoldsItem sc c.txn) round.targets items);
     }
 
 -- an order to each of these servers

@@ -106,9 +106,9 @@ record RanBounded (query : ℕ) (now : Gained) : Type 0 where
 
 -- ---- letters without a value
 
-prepares_say_none : (c : Coordinator) (round : Round) (staple : Staple) (servers : List ServerId) → Each IsBoundedLetter (map (coord.prepare_letter c round staple) servers)
-prepares_say_none c round staple [] = tt
-prepares_say_none c round staple (at ∷ servers) = (tt, prepares_say_none c round staple servers)
+prepares_say_none : (c : Coordinator) (turn : ℕ) (round : Round) (staple : Staple) (servers : List ServerId) → Each IsBoundedLetter (map (coord.prepare_letter c turn round staple) servers)
+prepares_say_none c turn round staple [] = tt
+prepares_say_none c turn round staple (at ∷ servers) = (tt, prepares_say_none c turn round staple servers)
 
 orders_say_none : (c : Coordinator) (ended : Outcome) (servers : List ServerId) → Each IsBoundedLetter (map (λ (at : ServerId). coord.request c at (body.Decide (record { txn = c.txn; outcome = ended }))) servers)
 orders_say_none c ended [] = tt
@@ -126,7 +126,7 @@ coordinator_row_bounds sc c mail valid homes h said =
           let b = ran_bounded query now passed in
           asks_bounded sc (with_gained c now) (next_number query) next valid homes b.deeds b.earlier;
       commit_rounds = λ query now passed moves. record { state = record { deeds = (ran_bounded query now passed).deeds; low = tt }; forces = tt; letters = (tt, tt) };
-      told = λ tell round k. record { state = record { deeds = h.deeds; low = tt }; forces = tt; letters = prepares_say_none c round (coord.staple_of tell mail.sent) (coord.awaited_in round) };
+      told = λ tell round k. record { state = record { deeds = h.deeds; low = tt }; forces = tt; letters = prepares_say_none c (coord.next_turn c) round (coord.staple_of tell mail.sent) (coord.awaited_in round) };
       counted = λ reply round staple server verdicts y. record { state = record { deeds = h.deeds; low = tt }; forces = tt; letters = tt };
       decides = λ instances rounds passed. record { state = record { deeds = h.deeds; low = tt }; forces = h.deeds; letters = orders_say_none c outcome.Commit c.servers };
       aborted = λ why ended. record { state = record { deeds = h.deeds; low = tt }; forces = cause_bounded why ended; letters = orders_say_none c outcome.Abort c.servers };

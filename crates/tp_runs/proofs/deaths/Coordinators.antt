@@ -11,7 +11,7 @@ use Rattle.tp_model.specs.Words.outcome
 use Rattle.tp_model.specs.Words.what
 use Rattle.tp_model.specs.Words.decision
 use Rattle.tp_model.specs.Words.{Actor, Answer, Cause, DoneReply, Fact, Letter, Mail, Outcome, Record, Scenario, ServerId, TxnId}
-use Rattle.tp_coord.specs.Row.{awaited_in, coordinator_row, is_from, prepare_letter, requests, staple_of, submit_row}
+use Rattle.tp_coord.specs.Row.{awaited_in, coordinator_row, is_from, next_turn, prepare_letter, requests, staple_of, submit_row}
 use Rattle.tp_coord.specs.State.{Coordinator}
 use Rattle.tp_runs.proofs.deaths.Fit.{Adds, AnswerSent, BodyDies, Death, LetterDies, WhatDies, body_dies_still, death_shown}
 use Rattle.tp_coord.proofs.Rows.{ByOlder, ByProof, ByRefusal, IsEnded, coordinator_by, submit_by}
@@ -61,7 +61,7 @@ coordinator_row_dies sc old place c mail less h own =
       ignored = record { forces = λ facts a. tt; sends = tt };
       sends_query = λ query now next passed moves home. record { forces = λ facts a. tt; sends = (tt, tt) };
       commit_rounds = λ query now passed moves. record { forces = λ facts a. tt; sends = (tt, tt) };
-      told = λ tell round k. record { forces = λ facts a. tt; sends = all_none sc old place (prepare_letter c round (staple_of tell mail.sent)) (λ at. tt) (awaited_in round) };
+      told = λ tell round k. record { forces = λ facts a. tt; sends = all_none sc old place (prepare_letter c (next_turn c) round (staple_of tell mail.sent)) (λ at. tt) (awaited_in round) };
       counted = λ reply round staple server verdicts y. record { forces = λ facts a. tt; sends = tt };
       decides = λ instances rounds passed. record { forces = λ facts a. tt; sends = orders_none sc old place c outcome.Commit c.servers };
       aborted = λ why ended. record { forces = cause_dies why ended; sends = orders_none sc old place c outcome.Abort c.servers };

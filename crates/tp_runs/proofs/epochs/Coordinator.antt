@@ -34,25 +34,25 @@ pub some_is : (kept : Option ℕ) → is_some kept ≡ true → kept ≡ Some (u
 some_is None e = absurd (cc)
 some_is (Some n) e = refl
 
-prepares_name : (c : Coordinator) (round : Round) (staple : Staple) (servers : List ServerId) → Each (KeepsEpoch c) servers → Each (NamesKept c.txn (kept_epoch c)) (map (coord.prepare_letter c round staple) servers)
-prepares_name c round staple [] h = tt
-prepares_name c round staple (at ∷ servers) h = ((refl, some_is (kept_epoch c at) h.0), prepares_name c round staple servers h.1)
+prepares_name : (c : Coordinator) (turn : ℕ) (round : Round) (staple : Staple) (servers : List ServerId) → Each (KeepsEpoch c) servers → Each (NamesKept c.txn (kept_epoch c)) (map (coord.prepare_letter c turn round staple) servers)
+prepares_name c turn round staple [] h = tt
+prepares_name c turn round staple (at ∷ servers) h = ((refl, some_is (kept_epoch c at) h.0), prepares_name c turn round staple servers h.1)
 
-prepares_first : (sc : Scenario) (c : Coordinator) (round : Round) (staple : Staple) (servers : List ServerId) → Each (LetterFirst sc) (map (coord.prepare_letter c round staple) servers)
-prepares_first sc c round staple [] = tt
-prepares_first sc c round staple (at ∷ servers) = (tt, prepares_first sc c round staple servers)
+prepares_first : (sc : Scenario) (c : Coordinator) (turn : ℕ) (round : Round) (staple : Staple) (servers : List ServerId) → Each (LetterFirst sc) (map (coord.prepare_letter c turn round staple) servers)
+prepares_first sc c turn round staple [] = tt
+prepares_first sc c turn round staple (at ∷ servers) = (tt, prepares_first sc c turn round staple servers)
 
-prepares_told : (sc : Scenario) (A : Asking) (E : ℕ → ℕ) (c : Coordinator) (round : Round) (staple : Staple) (servers : List ServerId) → Each (LetterTold sc A E) (map (coord.prepare_letter c round staple) servers)
-prepares_told sc A E c round staple [] = tt
-prepares_told sc A E c round staple (at ∷ servers) = (tt, prepares_told sc A E c round staple servers)
+prepares_told : (sc : Scenario) (A : Asking) (E : ℕ → ℕ) (c : Coordinator) (turn : ℕ) (round : Round) (staple : Staple) (servers : List ServerId) → Each (LetterTold sc A E) (map (coord.prepare_letter c turn round staple) servers)
+prepares_told sc A E c turn round staple [] = tt
+prepares_told sc A E c turn round staple (at ∷ servers) = (tt, prepares_told sc A E c turn round staple servers)
 
 prepares_keeps : (sc : Scenario) (E : ℕ → ℕ) (A : Asking) (c : Coordinator) (round : Round) (staple : Staple) → CoordinatorKeeps sc E (A c.txn) c → c.phase ≡ phase.Asking span.Commit round
     → RowKeeps sc E A c (coord.prepares c span.Commit round staple)
 prepares_keeps sc E A c round staple h e =
     let k : KeepsAsked sc (A c.txn) c = h.undecided (ap is_undecided e) in
     let kept : EachServer (KeepsEpoch c) round.targets = subst (PhaseKept (KeepsEpoch c)) e k.round in
-    let letters = map (coord.prepare_letter c round staple) (missing_in round.targets) in
-    let names : Each (NamesKept c.txn (kept_epoch c)) letters = prepares_name c round staple (missing_in round.targets) (each_missing (KeepsEpoch c) round.targets kept) in
+    let letters = map (coord.prepare_letter c (coord.next_turn c) round staple) (missing_in round.targets) in
+    let names : Each (NamesKept c.txn (kept_epoch c)) letters = prepares_name c (coord.next_turn c) round staple (missing_in round.targets) (each_missing (KeepsEpoch c) round.targets kept) in
     record {
       keeps = record {
         places = h.places;
@@ -66,8 +66,8 @@ prepares_keeps sc E A c round staple h e =
       own = kept_are_own c.txn (kept_epoch c) letters names;
       sent = record {
         named = kept_are_asked A c.txn (kept_epoch c) letters k.asked names;
-        first = prepares_first sc c round staple (missing_in round.targets);
-        told = prepares_told sc (asked_then A letters) E c round staple (missing_in round.targets);
+        first = prepares_first sc c (coord.next_turn c) round staple (missing_in round.targets);
+        told = prepares_told sc (asked_then A letters) E c (coord.next_turn c) round staple (missing_in round.targets);
       };
     }
 
@@ -130,10 +130,10 @@ coordinator_row_keeps sc E A c mail homes h servers m =
       told = λ tell round k. prepares_keeps sc E A c round (coord.staple_of tell mail.sent) h k.asking;
       counted = λ reply round staple at verdicts y. counted_keeps sc E A c round staple at verdicts h y.checking;
       decides = λ instances rounds passed.
-          plain_keeps sc E A c.txn (Some (coord.commits (with_gained c (gains_instances c instances)) rounds).state) (coord.decide_letters c outcome.Commit)
+          plain_keeps sc E A c.txn (Some (coord.commits (with_gained c (gains_instances c instances)) rounds).state) (coord.decide_letters c outcome.Commit c.servers)
           (record { places = h.places; past = h.past; undecided = λ unsure. absurd (cc) }) (orders_plain c outcome.Commit c.servers);
       aborted = λ why ended.
-          plain_keeps sc E A c.txn (Some (coord.aborts c why).state) (coord.decide_letters c outcome.Abort)
+          plain_keeps sc E A c.txn (Some (coord.aborts c why).state) (coord.decide_letters c outcome.Abort c.servers)
           (record { places = h.places; past = h.past; undecided = λ unsure. absurd (cc) }) (orders_plain c outcome.Abort c.servers);
       updated = λ reply round staple at verdicts named y e. updated_keeps sc E A c round staple at verdicts named h y.checking e;
       acknowledged = λ ack ended awaited at k.

@@ -108,7 +108,7 @@ has_value sc c number asked e = found (slice_get sc.txns c.txn.0) e
 sends_query_sound : (sc : Scenario) (c : Coordinator) (number : ℕ) (server : ServerId) → IsValid sc → IsSoundCoordinator sc c → IsHome sc c number server → IsSoundCoordinatorEffect sc c (sends_query sc c number server)
 sends_query_sound sc c number server valid h k =
     let at : IsServerOf sc k.asked server = server_found sc k.asked server (slice_get sc.items (item_of k.asked).0) valid refl k.server_is in
-    let asks_of : IsSoundQuery sc (actor.Server server) (query_request sc c server number) =
+    let asks_of : IsSoundQuery sc (actor.Server server) (query_request sc c (next_turn c) server number) =
     record {
       txn = h.exists;
       asked = k.asked;
@@ -180,7 +180,7 @@ prepares_sound sc c round staple h r t =
       same_txn = refl;
       state_is = moved_in_ids sc c (phase.Checking span.Commit round staple) (next_turn c) c.epochs h (tt, r, t);
       forces = tt;
-      sends_only = each_map (IsServer sc) (IsSoundLetter sc) (prepare_letter c round staple)
+      sends_only = each_map (IsServer sc) (IsSoundLetter sc) (prepare_letter c (next_turn c) round staple)
           (λ server exists. request_sound sc c server _ h exists
           (record { txn = h.exists; goes_to = tt; staple = t; want = want_sound sc round server (find (λ (named : Wanted). same_server named.server server) round.named) refl r.named }))
           (missing_in round.targets) (each_missing (IsServer sc) round.targets (each_as (IsSoundTarget sc c.txn) (λ (target : Target). IsServer sc target.server) (λ target k. k.server) round.targets r.targets));

@@ -173,7 +173,7 @@ coordinator_row_sends most sc c mail one servers h =
       commit_rounds = λ query now passed moves. record { awaits = omega (arith, servers, length-map c.servers new_target); letters = one };
       told = λ tell round k.
           let few = awaits_in most c _ h k.asking in
-          record { awaits = few; letters = omega (arith, few, missing_few round.targets, length-map (missing_in round.targets) (coord.prepare_letter c round (coord.staple_of tell mail.sent))) };
+          record { awaits = few; letters = omega (arith, few, missing_few round.targets, length-map (missing_in round.targets) (coord.prepare_letter c (coord.next_turn c) round (coord.staple_of tell mail.sent))) };
       counted = λ reply round staple server verdicts y. record { awaits = omega (arith, awaits_in most c _ h y.checking, replied_length round.targets server verdicts); letters = omega arith };
       decides = λ instances rounds passed. record { awaits = servers; letters = decides_few most c c.servers outcome.Commit servers };
       aborted = λ why ended. record { awaits = servers; letters = decides_few most c c.servers outcome.Abort servers };

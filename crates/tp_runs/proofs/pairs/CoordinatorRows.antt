@@ -151,10 +151,10 @@ query_here_in_pairs sc declared number asked server e f =
 -- a coordinator that asks its next query
 query_requested : (sc : Scenario) (declared : Transaction) (p : Pair) (c : Coordinator) (number : ℕ) (server : ServerId) → slice_get sc.txns c.txn.0 ≡ Some declared → Fits (site_of sc server.0 declared) p
     → p.asker ≡ Some (asker_of server.0 (coord.sends_query sc c number server).state) → number ≡ length c.deeds + 1 → IsHome sc c number server
-    → QueryFits (site_of sc server.0 declared) p (coord.query_request sc c server number)
+    → QueryFits (site_of sc server.0 declared) p (coord.query_request sc c (next_turn c) server number)
 query_requested sc declared p c number server declared_is fits is number_is home =
     let asked_is : query_at declared number ≡ Some home.asked = query_declared sc c declared number home.asked declared_is home.asked_is in
-    asks (site_of sc server.0 declared) p (asker_of server.0 (coord.sends_query sc c number server).state) (coord.query_request sc c server number) is fits refl
+    asks (site_of sc server.0 declared) p (asker_of server.0 (coord.sends_query sc c number server).state) (coord.query_request sc c (next_turn c) server number) is fits refl
     (subst (λ (n : ℕ). here (site_of sc server.0 declared) n ≡ true) number_is (query_here_in_pairs sc declared number home.asked server asked_is home.server_is))
     (record {
       turn = refl;
@@ -348,16 +348,16 @@ next_asks sc declared P c done asked server next value h k further home =
 -- ---- Tell
 
 -- a request to prepare names the epoch that is kept
-prepare_fits_in_pairs : (sc : Scenario) (declared : Transaction) (Q : ℕ → Pair) (c next : Coordinator) (round : Round) (staple : Staple) (servers : List ServerId) → c.txn ≡ next.txn
+prepare_fits_in_pairs : (sc : Scenario) (declared : Transaction) (Q : ℕ → Pair) (c next : Coordinator) (turn : ℕ) (round : Round) (staple : Staple) (servers : List ServerId) → c.txn ≡ next.txn
     → ((at : ℕ) → (Q at).asker ≡ Some (asker_of at next)) → ((at : ℕ) → Fits (site_of sc at declared) (Q at)) → stand_of next.phase ≡ Prepares → c.epochs ≡ next.epochs → Each (KeepsEpoch c) servers → Each (NamesAt sc declared round) servers
-    → Each (λ (letter : Letter). AskPairs sc declared next.txn Q letter.to letter.body) (map (coord.prepare_letter c round staple) servers)
-prepare_fits_in_pairs sc declared Q c next round staple [] own is fits stand same h names = tt
-prepare_fits_in_pairs sc declared Q c next round staple (at ∷ servers) own is fits stand same h names =
+    → Each (λ (letter : Letter). AskPairs sc declared next.txn Q letter.to letter.body) (map (coord.prepare_letter c turn round staple) servers)
+prepare_fits_in_pairs sc declared Q c next turn round staple [] own is fits stand same h names = tt
+prepare_fits_in_pairs sc declared Q c next turn round staple (at ∷ servers) own is fits stand same h names =
     let site = site_of sc at.0 declared in
     let kept : (asker_of at.0 next).epoch ≡ Some (coord.epoch_of c at) =
     ap (λ (epochs : List (Option ℕ)). option_flatten (slice_get epochs at.0)) (sym same) ∙ some_is (kept_epoch c at) h.0 in (
-      (own, prepares site (Q at.0) (asker_of at.0 next) (coord.prepare_request c round staple at) (is at.0) (fits at.0) stand kept names.0),
-      prepare_fits_in_pairs sc declared Q c next round staple servers own is fits stand same h.1 names.1,
+      (own, prepares site (Q at.0) (asker_of at.0 next) (coord.prepare_request c turn round staple at) (is at.0) (fits at.0) stand kept names.0),
+      prepare_fits_in_pairs sc declared Q c next turn round staple servers own is fits stand same h.1 names.1,
     )
 
 -- a coordinator that prepares, in a further turn
@@ -387,7 +387,7 @@ prepares_asks sc declared P c round staple h asking =
     record {
       next = event;
       numbered = tt;
-      requests = prepare_fits_in_pairs sc declared (λ at. with_asker (P at) (asker_up at next)) c next round staple (missing_in round.targets) refl (λ at. refl) (λ at. (event at).fits) refl refl
+      requests = prepare_fits_in_pairs sc declared (λ at. with_asker (P at) (asker_up at next)) c next (next_turn c) round staple (missing_in round.targets) refl (λ at. refl) (λ at. (event at).fits) refl refl
           (each_missing (KeepsEpoch c) round.targets kept) (subst (PhaseNames sc declared) asking h.names);
     }
 

@@ -31,11 +31,11 @@ told_since : (S : TxnId → ServerId → ℕ → Type 0) (c : Coordinator) (at :
 told_since S c at None e h = tt
 told_since S c at (Some epoch) e h = h at.0 epoch e
 
-prepares_since : (S : TxnId → ServerId → ℕ → Type 0) (R : TxnId → ServerId → Type 0) (c : Coordinator) (round : Round) (staple : Staple) (servers : List ServerId) → KeptSince S c.txn c → Each (KeepsEpoch c) servers
-    → Each (LetterSince S R) (map (coord.prepare_letter c round staple) servers)
-prepares_since S R c round staple [] h kept = tt
-prepares_since S R c round staple (at ∷ servers) h kept =
-    (h at.0 (coord.epoch_of c at) (some_is (kept_epoch c at) kept.0), prepares_since S R c round staple servers h kept.1)
+prepares_since : (S : TxnId → ServerId → ℕ → Type 0) (R : TxnId → ServerId → Type 0) (c : Coordinator) (turn : ℕ) (round : Round) (staple : Staple) (servers : List ServerId) → KeptSince S c.txn c → Each (KeepsEpoch c) servers
+    → Each (LetterSince S R) (map (coord.prepare_letter c turn round staple) servers)
+prepares_since S R c turn round staple [] h kept = tt
+prepares_since S R c turn round staple (at ∷ servers) h kept =
+    (h at.0 (coord.epoch_of c at) (some_is (kept_epoch c at) kept.0), prepares_since S R c turn round staple servers h kept.1)
 
 orders_since : (S : TxnId → ServerId → ℕ → Type 0) (R : TxnId → ServerId → Type 0) (c : Coordinator) (ended : Outcome) (servers : List ServerId)
     → Each (LetterSince S R) (coord.requests c (body.Decide (record { txn = c.txn; outcome = ended })) servers)
@@ -64,7 +64,7 @@ coordinator_row_since S R Q sc c mail h round heard own =
       commit_rounds = λ query now passed moves. record { kept = ran_since query now passed; letters = (tt, tt) };
       told = λ tell asking k.
           let targets : EachServer (KeepsEpoch c) asking.targets = subst (PhaseKept (KeepsEpoch c)) k.asking (round (ap is_undecided k.asking)) in
-          record { kept = h; letters = prepares_since S Q c asking (coord.staple_of tell mail.sent) (missing_in asking.targets) h (each_missing (KeepsEpoch c) asking.targets targets) };
+          record { kept = h; letters = prepares_since S Q c (coord.next_turn c) asking (coord.staple_of tell mail.sent) (missing_in asking.targets) h (each_missing (KeepsEpoch c) asking.targets targets) };
       counted = λ reply asking staple server verdicts y. record { kept = h; letters = tt };
       decides = λ instances rounds passed. record { kept = h; letters = orders_since S Q c outcome.Commit c.servers };
       aborted = λ why ended. record { kept = h; letters = orders_since S Q c outcome.Abort c.servers };

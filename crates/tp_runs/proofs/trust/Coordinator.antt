@@ -224,14 +224,14 @@ sends_trusts sc facts place c now query next plain s =
 -- ---- Tell
 
 -- a request to a server fits, as what is wanted of it is published
-prepare_letters_fit : (sc : Scenario) (facts : List Fact) (place sent : ℕ) (c : Coordinator) (round : Round) (staple : Staple) (servers : List ServerId) → StapleFits sc facts place c.txn staple
-    → RoundFits sc facts place c.txn span.Commit round → Each (λ (letter : Letter). BodyFits sc facts place sent letter.body) (map (prepare_letter c round staple) servers)
-prepare_letters_fit sc facts place sent c round staple [] h r = tt
-prepare_letters_fit sc facts place sent c round staple (at ∷ servers) h r =
-    ((h, want_published sc facts place c.txn span.Commit round at r), prepare_letters_fit sc facts place sent c round staple servers h r)
+prepare_letters_fit : (sc : Scenario) (facts : List Fact) (place sent : ℕ) (c : Coordinator) (turn : ℕ) (round : Round) (staple : Staple) (servers : List ServerId) → StapleFits sc facts place c.txn staple
+    → RoundFits sc facts place c.txn span.Commit round → Each (λ (letter : Letter). BodyFits sc facts place sent letter.body) (map (prepare_letter c turn round staple) servers)
+prepare_letters_fit sc facts place sent c turn round staple [] h r = tt
+prepare_letters_fit sc facts place sent c turn round staple (at ∷ servers) h r =
+    ((h, want_published sc facts place c.txn span.Commit round at r), prepare_letters_fit sc facts place sent c turn round staple servers h r)
 
 prepare_letters_timely : (sc : Scenario) (c : Coordinator) (round : Round) (staple : Staple) (sent : ℕ) (servers : List ServerId) → Each (λ (at : ServerId). WantNow round (want_for round at)) servers
-    → Each (LetterOfTurn sc c.txn (Some (record c { turn = next_turn c; phase = phase.Checking span.Commit round staple })) sent) (map (prepare_letter c round staple) servers)
+    → Each (LetterOfTurn sc c.txn (Some (record c { turn = next_turn c; phase = phase.Checking span.Commit round staple })) sent) (map (prepare_letter c (next_turn c) round staple) servers)
 prepare_letters_timely sc c round staple sent [] h = tt
 prepare_letters_timely sc c round staple sent (at ∷ servers) h =
     (record { own = refl; timely = λ unsure. record { past = omega arith; now = λ same. (refl, h.0) } }, prepare_letters_timely sc c round staple sent servers h.1)
@@ -248,7 +248,7 @@ prepares_trusts sc facts place c round staple few plain h e s =
     record {
       fits = record { awaits = (f.0, f.1, s); so_far = λ unsure. moved_on sc facts place c.txn c.phase next.phase c.instances c.gathered plain (h.so_far undecided); above = λ unsure. h.above undecided; turn = omega (arith, rises, low) };
       decides = tt;
-      says = λ sent. prepare_letters_fit sc facts place sent c round staple (missing_in round.targets) s f.1;
+      says = λ sent. prepare_letters_fit sc facts place sent c (next_turn c) round staple (missing_in round.targets) s f.1;
       timely = λ sent. prepare_letters_timely sc c round staple sent (missing_in round.targets) (round_wants sc facts place c.txn span.Commit round f.1);
       old = λ sent turn said t. raised sc c next sent turn said undecided rises t;
     }

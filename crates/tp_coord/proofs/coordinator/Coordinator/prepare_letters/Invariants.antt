@@ -6,4 +6,4 @@ use Rattle.tp_coord.proofs.coordinator.Coordinator.prepare_letters.Given as goal
 -- the awaited servers so far have their letters
 abbrev pub invariant-loop-target : goal.invariant-loop-target
 invariant-loop-target l =
-    l.letters ≡ map (prepare_letter l.self l.round l.staple) (map server_of_target (filter is_missing (take l.target-index l.round.targets)))
+    l.letters ≡ map (prepare_letter l.self l.turn l.round l.staple) (map server_of_target (filter is_missing (take l.target-index l.round.targets)))

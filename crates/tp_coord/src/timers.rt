@@ -1,0 +1,66 @@
+//! A coordinator's timer: the request that is outstanding is sent again, in its own turn. No reply comes twice into a round, and
+//! a server answers a repeat as it answered before, so nothing is decided by how often a mail comes.
+ghost use Rattle.std.specs.Prelude.{◌≡◌, IfOk};
+ghost use Rattle.tp_types.specs.Effect.{Gives};
+ghost use Rattle.tp_coord.specs.Row as row;
+
+use crate::coordinator::{Coordinator, Phase, Span};
+use std::alloc::Global;
+use tp_types::{Letter, List, NoMemory, Reaction, Scenario};
+
+impl Coordinator {
+    /// Sends the outstanding request again, to each from whom a reply is awaited. Before the submission, and when all servers
+    /// have acknowledged the end, nothing is sent.
+    pub fn timer(&self, alloc: Global, scenario: &Scenario) -> Result<Reaction, NoMemory>
+        ensures { IfOk result (λ reaction.
+            Gives (row.timer_row scenario.now self.now) self.now reaction) }
+    {
+        Ok(Reaction {
+            append: None,
+            letters: self.repeats(alloc, scenario)?,
+        })
+    }
+
+    fn repeats(&self, alloc: Global, scenario: &Scenario) -> Result<List<Letter>, NoMemory>
+        ensures { IfOk result (λ letters.
+            letters ≡ row.repeats scenario.now self.now self.now.phase) }
+    {
+        match &self.phase {
+            Phase::Querying {
+                query,
+                staple: None,
+            } => self.query_again(alloc, scenario, *query),
+            Phase::Asking { .. } => List::of_one(alloc, self.ask_letter(self.turn)),
+            Phase::Checking {
+                span: Span::Commit,
+                round,
+                staple,
+            } => self.prepare_letters(alloc, self.turn, round, staple),
+            Phase::Ending { outcome, awaited } => {
+                self.decide_letters(alloc, *outcome, awaited.as_slice())
+            }
+            // the other phases are entered by no coordinator yet
+            _ => Ok(List::new(alloc)),
+        }
+    }
+
+    fn query_again(
+        &self,
+        alloc: Global,
+        scenario: &Scenario,
+        number: u32,
+    ) -> Result<List<Letter>, NoMemory>
+        ensures { IfOk result (λ letters.
+            letters
+            ≡ row.query_again scenario.now self.now number
+            (row.home_of scenario.now self.now number)) }
+    {
+        match self.home_of(scenario, number) {
+            None => Ok(List::new(alloc)),
+            Some(server) => {
+                let value = self.value_of(alloc, scenario, number)?;
+                List::of_one(alloc, self.query_letter(self.turn, server, number, value))
+            }
+        }
+    }
+}
