@@ -5,3 +5,4 @@ pub mod Opened
 pub mod Parts
 pub mod Rules
 pub mod Start
+pub mod Timers

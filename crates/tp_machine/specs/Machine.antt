@@ -1,7 +1,7 @@
 -- The cluster as a machine: its state, what a step does to it, and the state after a list of steps.
 use Rattle.std.specs.Prelude.{ℕ, ◌+◌, ◌-◌, ◌==◌, List, [], ◌∷◌, ◌++◌, length, map, filter, drop, slice_get, slice_set, Bool, true, false, not, Option, Some, None, is_some, is_none, nat_lt, unwrap_or, ℤ, if◌then◌else◌}
 use Rattle.std.specs.List.{flat_map, range_with_len}
-use Rattle.std.specs.Option.{option_map_or}
+use Rattle.std.specs.Option.{option_map_or, option_or}
 use Rattle.tp_model.specs.Words.{Actor, AdminId, CredId, Ending, Fact, Item, Letter, Mail, Record, Scenario, ServerId, Step, TxnId, What}
 use Rattle.tp_model.specs.Words.actor
 use Rattle.tp_model.specs.Words.log
@@ -15,7 +15,7 @@ use Rattle.tp_machine.specs.Parts.{Part}
 use Rattle.tp_server.specs.State.{Server}
 use Rattle.tp_types.specs.Effect.{Effect}
 use Rattle.tp_coord.specs.Opened as coord
-use Rattle.tp_coord.specs.Row.{coordinator_row, is_begun, submit_row, coordinator_with_age}
+use Rattle.tp_coord.specs.Row.{coordinator_row, is_armed, is_begun, submit_row, timer_row, coordinator_with_age}
 use Rattle.tp_offices.specs.Authority as office
 use Rattle.tp_offices.specs.Master as master
 use Rattle.tp_offices.specs.declared.master.Master.{Master}
@@ -249,6 +249,21 @@ pushes actors admin server =
       letters = (master.pushes actors.master admin server).reaction.letters;
     }
 
+-- what a coordinator sends again at its timer; nothing while it is down
+abbrev pub repeats_of : Scenario → Option Coordinator → List Letter
+repeats_of sc None = []
+repeats_of sc (Some c) = (timer_row sc c).reaction.letters
+
+-- a transaction's timer fires: no actor changes
+abbrev pub times : Scenario → Actors → TxnId → Move
+times sc actors txn =
+    record {
+      actors = actors;
+      happened = [];
+      letters = option_map_or (λ (part : Part Coordinator). repeats_of sc part.up)
+          (slice_get actors.coordinators txn.0) [];
+    }
+
 -- the numbers but this one
 abbrev pub without_number : List ℕ → ℕ → List ℕ
 without_number numbers number = filter (λ (other : ℕ). not (other == number)) numbers
@@ -266,6 +281,13 @@ with_new before after undelivered =
 abbrev pub does : Machine → Step → Move → Machine
 does m taken move = with_new m.state (state_after m.state taken move) m.undelivered
 
+-- a mail is lost: no actor sees it
+abbrev pub machine_after_loss : Machine → ℕ → Machine
+machine_after_loss m mail =
+    with_new m.state
+    (state_after m.state (step.Lose mail) (idle_move m.state.actors (what.Lost mail ∷ [])))
+    (without_number m.undelivered mail)
+
 -- a step that is not built changes nothing so far
 abbrev pub unbuilt_step : Machine → Machine
 unbuilt_step m = m
@@ -279,17 +301,15 @@ machine_after sc m (step.Deliver mail) =
     (state_after m.state (step.Deliver mail)
     (delivery sc m.state.actors (slice_get m.state.mails mail)))
     (without_number m.undelivered mail)
--- the code does not take this step yet; it shares the refusal of a number that no mail has
-machine_after sc m (step.Lose mail) =
-    with_new m.state
-    (state_after m.state (step.Lose mail) (idle_move m.state.actors (what.Lost mail ∷ [])))
-    (without_number m.undelivered mail)
+machine_after sc m (step.Lose mail) = machine_after_loss m mail
 machine_after sc m (step.Publish admin) =
     does m (step.Publish admin) (publishes m.state.actors admin)
 machine_after sc m (step.Push admin server) =
     does m (step.Push admin server) (pushes m.state.actors admin server)
 machine_after sc m (step.Tick by) = does m (step.Tick by) (ticks m.state.actors by)
 machine_after sc m (step.Revoke cred) = does m (step.Revoke cred) (revokes m.state.actors cred)
+machine_after sc m (step.Timer txn) =
+    does m (step.Timer txn) (times sc m.state.actors txn)
 machine_after sc m _ = unbuilt_step m
 
 -- a coordinator that is down was submitted before
@@ -301,6 +321,22 @@ is_part_submitted (Some c) = is_begun c.phase
 abbrev pub is_submitted : Actors → TxnId → Bool
 is_submitted actors txn =
     option_map_or (λ (part : Part Coordinator). is_part_submitted part.up)
+    (slice_get actors.coordinators txn.0) false
+
+-- whether an actor is down; the offices never are
+abbrev pub is_part_down : {S : Type 0} → Part S → Bool
+is_part_down part = is_none part.up
+
+abbrev pub is_down : Actors → Actor → Bool
+is_down actors (actor.Server at) = option_map_or is_part_down (slice_get actors.servers at.0) false
+is_down actors (actor.Coordinator txn) =
+    option_map_or is_part_down (slice_get actors.coordinators txn.0) false
+is_down actors _ = false
+
+-- the transaction's coordinator is up, and some request of it is outstanding
+abbrev pub is_armed_at : Actors → TxnId → Bool
+is_armed_at actors txn =
+    option_map_or (λ (part : Part Coordinator). option_map_or is_armed part.up false)
     (slice_get actors.coordinators txn.0) false
 
 abbrev pub missing_mail : List Mail → ℕ → Option StepError
@@ -315,6 +351,14 @@ none_left held admin = if master.has_more held admin then None else Some (error.
 abbrev pub too_late : ℕ → ℕ → Option StepError
 too_late clock by = if nat_lt (clock + by) office.clock_end then None else Some (error.TooLate clock)
 
+-- a transaction that was not submitted
+abbrev pub unsubmitted : Actors → TxnId → Option StepError
+unsubmitted actors txn = if is_submitted actors txn then None else Some (error.NotSubmitted txn)
+
+-- an actor that is down
+abbrev pub down_now : Actors → Actor → Option StepError
+down_now actors who = if is_down actors who then Some (error.IsDown who) else None
+
 -- why a step is refused, if it is
 abbrev pub refusal : State → Step → Option StepError
 refusal w (step.Submit txn) =
@@ -323,6 +367,8 @@ refusal w (step.Deliver mail) = missing_mail w.mails mail
 refusal w (step.Lose mail) = missing_mail w.mails mail
 refusal w (step.Publish admin) = none_left w.actors.master admin
 refusal w (step.Tick by) = too_late w.actors.authority.clock by
+refusal w (step.Timer txn) =
+    option_or (unsubmitted w.actors txn) (down_now w.actors (actor.Coordinator txn))
 refusal w _ = None
 
 -- a step that is refused changes nothing
@@ -371,16 +417,6 @@ abbrev pub after : Scenario → List Step → Machine
 after sc taken = after_steps sc (opening sc) taken
 
 -- ---- what is seen
-
-abbrev pub is_part_down : {S : Type 0} → Part S → Bool
-is_part_down part = is_none part.up
-
--- whether an actor is down; the offices never are
-abbrev pub is_down : Actors → Actor → Bool
-is_down actors (actor.Server at) = option_map_or is_part_down (slice_get actors.servers at.0) false
-is_down actors (actor.Coordinator txn) =
-    option_map_or is_part_down (slice_get actors.coordinators txn.0) false
-is_down actors _ = false
 
 -- what a server that is down holds is not built, so the opening value is shown so far
 abbrev pub unbuilt_value : ℤ → ℤ

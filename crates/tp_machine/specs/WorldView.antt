@@ -55,7 +55,7 @@ pub record IsWorld (world : WorldView) : Type 0 where
   pub told : HasItsFacts world
   pub reached : IsReached world
 
--- a step of a kind that is built: a submission, the delivery of a mail, or what the master and the authority are told
+-- a step of a kind that is built: every one but a crash and a boot
 abbrev pub IsBuiltStep : Step → Type 0
 IsBuiltStep (step.Submit txn) = Unit {0}
 IsBuiltStep (step.Deliver mail) = Unit {0}
@@ -63,6 +63,8 @@ IsBuiltStep (step.Publish admin) = Unit {0}
 IsBuiltStep (step.Push admin server) = Unit {0}
 IsBuiltStep (step.Tick by) = Unit {0}
 IsBuiltStep (step.Revoke cred) = Unit {0}
+IsBuiltStep (step.Lose mail) = Unit {0}
+IsBuiltStep (step.Timer txn) = Unit {0}
 IsBuiltStep _ = ⊥
 
 -- the step was not refused, and was done

@@ -185,6 +185,16 @@ impl Actors {
         })
     }
 
+    /// A transaction's timer fires: its coordinator sends its outstanding request again.
+    pub fn timer(&self, alloc: Global, scenario: &Scenario, txn: TxnId) -> Result<Act, NoMemory>
+        ensures { IfOk result (λ act. Moves (machine.times scenario.now self.now txn) self.now act) }
+    {
+        match self.coordinators.get(txn.0 as usize) {
+            None => Ok(no_act(alloc)),
+            Some(part) => repeats_of(alloc, scenario, part.state()),
+        }
+    }
+
     /// The clock moves.
     pub fn tick(&mut self, alloc: Global, by: u64) -> Result<Act, NoMemory>
         requires { self.old.authority.clock + by < clock_end }
@@ -230,6 +240,24 @@ impl Actors {
                 letters: List::new(alloc),
             }),
             Some(part) => coordinator_submits(part, alloc, scenario, txn, place),
+        }
+    }
+}
+
+/// What a coordinator sends again at its timer; nothing while it is down.
+fn repeats_of(alloc: Global, scenario: &Scenario, up: Option<&Coordinator>) -> Result<Act, NoMemory>
+    ensures ok { IfOk result (λ act. act.happened ≡ []) }
+    ensures letters { IfOk result (λ act.
+        act.letters ≡ machine.repeats_of scenario.now (option_copied up.entry)) }
+{
+    match up {
+        None => Ok(no_act(alloc)),
+        Some(coordinator) => {
+            let Reaction { append: _, letters } = coordinator.timer(alloc, scenario)?;
+            Ok(Act {
+                happened: List::new(alloc),
+                letters,
+            })
         }
     }
 }

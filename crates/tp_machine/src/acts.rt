@@ -1,6 +1,7 @@
 //! What a step does to the actors and the history.
-ghost use Rattle.std.specs.Prelude.{◌≡◌, ◌+◌, ◌<◌, length, true, Some, None, slice_get, IfOk, OnOk, OnErr};
-ghost use Rattle.std.specs.Option.{option_copied};
+ghost use Rattle.std.specs.Prelude.{◌≡◌, ◌+◌, ◌<◌, length, false, true, Some, None, slice_get, IfOk, OnOk, OnErr};
+ghost use Rattle.std.specs.Option.{option_copied, option_map_or};
+ghost use Rattle.tp_coord.specs.Row.{is_armed};
 ghost use Rattle.tp_model.specs.Words.step;
 ghost use Rattle.tp_machine.specs.mirrors.Acts.{Moves, SameUp};
 ghost use Rattle.tp_machine.specs.mirrors.History.{SameHistory};
@@ -13,11 +14,11 @@ ghost use Rattle.tp_offices.specs.Master as office;
 use crate::actors::Actors;
 use crate::error::StepError;
 use crate::history::History;
-use crate::part::{Act, no_act};
+use crate::part::{Act, loss, no_act};
 use std::alloc::Global;
 use tp_coord::Coordinator;
 use tp_offices::{CLOCK_END, Master};
-use tp_types::{AdminId, CredId, Mail, NoMemory, Scenario, ServerId, Step, TxnId};
+use tp_types::{Actor, AdminId, CredId, Mail, NoMemory, Scenario, ServerId, Step, TxnId};
 
 /// Whether a transaction was submitted.
 pub fn is_submitted(actors: &Actors, txn: TxnId) -> bool
@@ -38,6 +39,25 @@ fn is_part_submitted(up: Option<&Coordinator>) -> bool
     }
 }
 
+/// Whether the transaction's coordinator is up, and some request of it is outstanding.
+pub fn is_armed(actors: &Actors, txn: TxnId) -> bool
+    ensures { result ≡ machine.is_armed_at actors.now txn }
+{
+    match actors.coordinators.get(txn.0 as usize) {
+        None => false,
+        Some(part) => is_part_armed(part.state()),
+    }
+}
+
+fn is_part_armed(up: Option<&Coordinator>) -> bool
+    ensures { result ≡ option_map_or is_armed (option_copied up.entry) false }
+{
+    match up {
+        None => false,
+        Some(coordinator) => coordinator.armed(),
+    }
+}
+
 /// Why a step is refused, if it is.
 pub fn refusal(actors: &Actors, history: &History, taken: &Step) -> Option<StepError>
     ensures { result ≡ machine.refusal (state_of actors.now history.now) taken.now }
@@ -54,7 +74,31 @@ pub fn refusal(actors: &Actors, history: &History, taken: &Step) -> Option<StepE
         Step::Lose { mail } => missing_mail(history.mails.as_slice(), mail),
         Step::Publish { admin } => none_left(&actors.master, admin),
         Step::Tick { by } => too_late(actors.authority.clock, by),
+        Step::Timer { txn } => match unsubmitted(actors, txn) {
+            Some(why) => Some(why),
+            None => down_now(actors, Actor::Coordinator(txn)),
+        },
         _ => None,
+    }
+}
+
+fn unsubmitted(actors: &Actors, txn: TxnId) -> Option<StepError>
+    ensures { result ≡ machine.unsubmitted actors.now txn }
+{
+    if is_submitted(actors, txn) {
+        None
+    } else {
+        Some(StepError::NotSubmitted { txn })
+    }
+}
+
+fn down_now(actors: &Actors, actor: Actor) -> Option<StepError>
+    ensures { result ≡ machine.down_now actors.now actor }
+{
+    if actors.is_down(actor) {
+        Some(StepError::IsDown { actor })
+    } else {
+        None
     }
 }
 
@@ -112,7 +156,9 @@ pub fn act(
         Step::Push { admin, server } => push(actors, history, alloc, admin, server),
         Step::Tick { by } => tick(actors, history, alloc, by),
         Step::Revoke { cred } => revoke(actors, history, alloc, cred),
-        // a step that is unbuilt: a crash, a boot, a timer
+        Step::Lose { mail } => lose(actors, history, alloc, mail),
+        Step::Timer { txn } => timer(actors, history, alloc, scenario, txn),
+        // a step that is unbuilt: a crash, a boot
         _ => Ok(()),
     }
 }
@@ -190,6 +236,36 @@ fn push(
 {
     let act = actors.push(alloc, admin, server)?;
     history.note(Step::Push { admin, server }, act.happened, act.letters)
+}
+
+fn lose(actors: &Actors, history: &mut History, alloc: Global, mail: u64) -> Result<(), NoMemory>
+    requires sent { mail < length history.old.mails }
+    ensures ok { OnOk result
+        (machine_of actors.now history.new
+        ≡ machine.machine_after_loss (machine_of actors.now history.old) mail) }
+    ensures same_history { OnErr result (SameHistory history.old history.new) }
+{
+    let act = loss(alloc, mail)?;
+    history.note(Step::Lose { mail }, act.happened, act.letters)?;
+    history.mark(mail as usize);
+    Ok(())
+}
+
+fn timer(
+    actors: &Actors,
+    history: &mut History,
+    alloc: Global,
+    scenario: &Scenario,
+    txn: TxnId,
+) -> Result<(), NoMemory>
+    ensures ok { OnOk result
+        (machine_of actors.now history.new
+        ≡ machine.does (machine_of actors.now history.old) (step.Timer txn)
+        (machine.times scenario.now actors.now txn)) }
+    ensures same_history { OnErr result (SameHistory history.old history.new) }
+{
+    let act = actors.timer(alloc, scenario, txn)?;
+    history.note(Step::Timer { txn }, act.happened, act.letters)
 }
 
 fn tick(actors: &mut Actors, history: &mut History, alloc: Global, by: u64) -> Result<(), NoMemory>

@@ -1,5 +1,5 @@
 //! Why a step is refused.
-use tp_types::{AdminId, TxnId};
+use tp_types::{Actor, AdminId, TxnId};
 
 /// Why a step was not done.
 #[derive(Clone, Copy)]
@@ -8,6 +8,10 @@ pub enum StepError {
     NoSuchMail { mail: u64, mails: u64 },
     /// The transaction was submitted before.
     AlreadySubmitted { txn: TxnId },
+    /// The transaction was not submitted.
+    NotSubmitted { txn: TxnId },
+    /// The actor is down.
+    IsDown { actor: Actor },
     /// The newest version of the administrator's policy is the last in the library.
     NoMore { admin: AdminId },
     /// The clock is at this moment, and would pass the last one, 2^63 - 1.

@@ -13,13 +13,12 @@
 //!   built, its steps name what exists, and its facts are those that they give, also of a world that is given
 //!   up (`World::facts`: `reached`, `built`, `named`, `of_steps`; `World::scenario`: `built`)
 //! - The views show the machine (`World::facts` and `scenario`: `value`; `mails`; `undelivered_count`: `value`;
-//!   `steps`, `given_up`, `down`, `undelivered`, `is_submitted`; `ending`: `value`)
+//!   `steps`, `given_up`, `down`, `undelivered`, `is_submitted`, `armed`; `ending`: `value`)
 //! - The oldest undelivered mail is the first of the undelivered ones, and it was sent (`World::oldest`:
 //!   `value`, `sent`)
 //!
-//! `World::start` asks that the scenario has the built form; `World::step` that the step is a submission, a
-//! delivery, a publication, a push, a tick or a revocation (`built`), and that what it names exists in the
-//! scenario (`ids`).
+//! `World::start` asks that the scenario has the built form; `World::step` that the step is no crash and no boot
+//! (`built`), and that what it names exists in the scenario (`ids`).
 #![tactic(auto)]
 
 mod actors;

@@ -1,8 +1,9 @@
 //! An actor with its log, and what it does to both when it acts.
-ghost use Rattle.std.specs.Prelude.{◌≡◌, [], ◌++◌, IfOk, OnOk};
+ghost use Rattle.std.specs.Prelude.{◌≡◌, [], ◌∷◌, ◌++◌, IfOk, OnOk};
 ghost use Rattle.std.specs.Option.{option_copied, option_map_or};
 ghost use Rattle.tp_machine.specs.mirrors.Acts.{Acts};
 ghost use Rattle.tp_machine.specs.Machine as machine;
+ghost use Rattle.tp_model.specs.Words.what;
 ghost use Rattle.tp_server.specs.Verdicts.{HasFewRules};
 
 use std::alloc::Global;
@@ -71,6 +72,16 @@ pub fn no_act(alloc: Global) -> Act
         happened: List::new(alloc),
         letters: List::new(alloc),
     }
+}
+
+/// A mail is lost, and no actor acts.
+pub fn loss(alloc: Global, mail: u64) -> Result<Act, NoMemory>
+    ensures { IfOk result (λ act. act ≡ record { happened = what.Lost mail ∷ []; letters = [] }) }
+{
+    Ok(Act {
+        happened: List::of_one(alloc, What::Lost(mail))?,
+        letters: List::new(alloc),
+    })
 }
 
 /// A server receives a mail. After NoMemory nothing is said of its state, but that it is up as before.

@@ -9,7 +9,7 @@ ghost use Rattle.tp_types.specs.Each.{Each};
 ghost use Rattle.tp_machine.specs.Named.{IsStepOf};
 
 use crate::actors::Actors;
-use crate::acts::{act, is_submitted, refusal};
+use crate::acts::{act, is_armed, is_submitted, refusal};
 use crate::error::StepError;
 use crate::history::History;
 use std::alloc::Global;
@@ -170,6 +170,13 @@ impl World {
         ensures { result ≡ machine.is_submitted self.now.machine.state.actors txn }
     {
         is_submitted(&self.actors, txn)
+    }
+
+    /// Whether a transaction's coordinator is up, and some request of it is outstanding.
+    pub fn armed(&self, txn: TxnId) -> bool
+        ensures { result ≡ machine.is_armed_at self.now.machine.state.actors txn }
+    {
+        is_armed(&self.actors, txn)
     }
 
     /// How many steps and mails there were, and the value of each item at its server.

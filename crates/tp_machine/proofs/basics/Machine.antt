@@ -95,6 +95,8 @@ steps_next sc m (step.Publish admin) h = refl
 steps_next sc m (step.Push admin server) h = refl
 steps_next sc m (step.Tick by) h = refl
 steps_next sc m (step.Revoke cred) h = refl
+steps_next sc m (step.Lose mail) h = refl
+steps_next sc m (step.Timer txn) h = refl
 steps_next sc m _ h = absurd h
 
 -- a machine that its steps give is given by them after one more step

@@ -1,6 +1,6 @@
 -- Ages, the rows: a server keeps for a transaction the age that a request told, or the place at which the request was sent, and a
 -- coordinator its own. A says which places are the submissions of which transactions.
-use Rattle.std.proofs.Common.{IfSome, List, None, Option, Some, [], is_some, map, refl, subst, sym, true, unwrap_or, ℕ, ℤ, ⊎_elim, ◌∷◌, ◌≡◌}
+use Rattle.std.proofs.Common.{IfSome, List, None, Option, Some, [], ap, is_some, map, refl, subst, sym, true, unwrap_or, ℕ, ℤ, ⊎_elim, ◌∷◌, ◌≡◌}
 use Rattle.tp_types.specs.Effect.{Effect, ignores}
 use Rattle.tp_model.specs.Words.body
 use Rattle.tp_model.specs.Words.outcome
@@ -9,7 +9,7 @@ use Rattle.tp_types.proofs.EachLemmas.{each_more, placed_emptied, placed_set}
 use Rattle.tp_runs.proofs.basics.Logs.{Prepares}
 use Rattle.tp_runs.proofs.basics.Phases.{is_querying, querying_is}
 use Rattle.tp_scheme.specs.declared.moves.Point.TheVariants as point
-use Rattle.tp_coord.proofs.Rows.{Gained, IsPassed, QueryRan, coordinator_by, submit_by}
+use Rattle.tp_coord.proofs.Rows.{Gained, IsPassed, QueryRan, coordinator_by, submit_by, timer_by}
 use Rattle.tp_server.proofs.Rows.{AreRightWaits, IsAsking, IsFirstHere, IsFurther, server_by}
 use Rattle.tp_machine.specs.Machine.{with_age}
 use Rattle.tp_model.specs.Deeds.{deed_of}
@@ -170,4 +170,18 @@ submit_row_ages A place sc c h m =
     (record {
       ignored = record { age_is = refl; same_txn = refl; letters = tt };
       sent = λ server home. record { age_is = refl; same_txn = refl; letters = (told_or_sent A c.txn c.age place m h, tt) };
+    })
+
+-- ---- timers
+
+-- a request that is sent again: one that awaits the answer to a query knows its age
+pub repeats_aged : (A : TxnId → ℕ → Type 0) (place : ℕ) (sc : Scenario) (c : Coordinator) → CoordinatorAged A c → Each (LetterAged A place) (coord.repeats sc c c.phase)
+repeats_aged A place sc c h =
+    timer_by sc c (Each (LetterAged A place))
+    (record {
+      silent = tt;
+      queried = λ number server querying home. (told_age A c.txn c.age place (h.known (ap is_querying querying)) h.age, tt);
+      asked = λ over round asking. (tt, tt);
+      prepared = λ round staple checking. prepare_letters_aged A place c c.turn round staple (coord.awaited_in round);
+      ordered = λ ended awaited ending. orders_aged A place c ended awaited;
     })

@@ -5,7 +5,7 @@ use Rattle.tp_model.specs.Words.body
 use Rattle.tp_model.specs.Words.step
 use Rattle.tp_model.specs.Words.what
 use Rattle.tp_model.specs.Words.{Body, Letter, Mail, Prepared, Record, Scenario, ServerId, Step, TxnId, What}
-use Rattle.tp_runs.proofs.ages.Actors.{BodyAged, CoordinatorAged, CoordinatorAges, EntryAged, LetterAged, PreparedAged, RecordAged, SubmissionAges, coordinator_row_ages, server_row_ages, submit_row_ages}
+use Rattle.tp_runs.proofs.ages.Actors.{BodyAged, CoordinatorAged, CoordinatorAges, EntryAged, LetterAged, PreparedAged, RecordAged, SubmissionAges, coordinator_row_ages, repeats_aged, server_row_ages, submit_row_ages}
 use Rattle.tp_runs.proofs.agreement.Steps.{own_txn}
 use Rattle.tp_runs.proofs.agreement.World.{Agrees}
 use Rattle.tp_runs.proofs.basics.Facts.{each_new_mail}
@@ -233,6 +233,11 @@ ages_cases sc w rightly sound h =
       ticked = λ by. offices_ages w (step.Tick by) (office.after_tick by w.actors.authority) w.actors.master (what.Ticked by ∷ []) h;
       revoked = λ cred exists. offices_ages w (step.Revoke cred) (office.after_revocation cred w.actors.authority) w.actors.master (what.Revoked cred ∷ []) h;
       begun = λ txn part c exists up new. begun_ages sc w sound h txn part c up;
+      timed = λ txn part c exists up begun.
+          let taken = step.Timer txn in
+          let now = ages_now w taken h in
+          let aged = subst (λ (u : Option Coordinator). IfSome u (CoordinatorAged (Now w taken))) up.up (now.coordinators txn.0 part up.found) in
+          record { actors_are = now; letters = repeats_aged (Now w taken) (length w.steps) sc c aged };
     }
 
 -- a step that is not refused keeps what is said of ages

@@ -26,12 +26,12 @@ use Rattle.tp_runs.proofs.basics.Rounds.{EachServer, all_in, each_missing, each_
 use Rattle.tp_runs.proofs.basics.Servers.{servers_over_have}
 use Rattle.tp_runs.proofs.basics.Logs.{appended, decided_with}
 use Rattle.tp_scheme.specs.declared.moves.Point.TheVariants as point
-use Rattle.tp_coord.proofs.Rows.{AllTrue, ByOlder, ByProof, ByRefusal, Gained, HasVoted, IsAck, IsEnded, IsPassed, IsYes, QueryRan, coordinator_by, gains_instances, submit_by, with_gained}
+use Rattle.tp_coord.proofs.Rows.{AllTrue, ByOlder, ByProof, ByRefusal, Gained, HasVoted, IsAck, IsEnded, IsPassed, IsYes, QueryRan, coordinator_by, gains_instances, submit_by, timer_by, with_gained}
 use Rattle.tp_recover.specs.Log.{decided_in, decision_in}
 use Rattle.tp_machine.specs.Machine.{log_with, with_age}
 use Rattle.tp_types.specs.Each.{Each}
 use Rattle.tp_coord.specs.Opened.{servers_at}
-use Rattle.tp_coord.specs.Row.{aborts, asks, awaits_query, commit_round, commits, coordinator_row, is_begun, next_number, next_turn, prepare_letter, prepares, own_query, request, sends_query, server_of, staple_of, submit_row, without}
+use Rattle.tp_coord.specs.Row.{aborts, asks, awaits_query, commit_round, commits, coordinator_row, is_begun, next_number, next_turn, prepare_letter, prepares, own_query, repeats, request, sends_query, server_of, staple_of, submit_row, without}
 use Rattle.tp_coord.specs.State.{Coordinator}
 use Rattle.tp_coord.specs.declared.coordinator.Phase.TheVariants as phase
 use Rattle.tp_coord.specs.declared.coordinator.Phase.{Phase}
@@ -542,3 +542,23 @@ submit_row_lawful sc P S c kept place h e b =
             letters = (record { same_txn = refl; item = asked_has_item sc c 1 k.asked server k.asked_is k.server_is; submitted = refl }, tt);
           };
     }) b
+
+-- ---- timers
+
+-- a request that is sent again goes to a server with an item of the transaction, and an order to end says what was decided
+pub repeats_lawful : (sc : Scenario) (P S : ServerId → Type 0) (c : Coordinator) (kept : List Record) → Keeps sc P S c kept → Each (LetterAgrees sc c.txn true (decided_in kept)) (repeats sc c c.phase)
+repeats_lawful sc P S c kept h =
+    timer_by sc c (Each (LetterAgrees sc c.txn true (decided_in kept)))
+    (record {
+      silent = tt;
+      queried = λ number server querying home.
+          let k : IsHome sc c number server = home_is sc c number server home in
+          (record { same_txn = refl; item = asked_has_item sc c number k.asked server k.asked_is k.server_is; submitted = refl }, tt);
+      asked = λ over round asking. (tt, tt);
+      prepared = λ round staple checking.
+          let items : EachServer (HoldsItem sc c.txn) round.targets = subst (PhaseHasItems sc c.txn) checking h.agrees.awaited in
+          prepare_letters_lawful sc c true (decided_in kept) c.turn round staple (missing_in round.targets) refl (each_missing (HoldsItem sc c.txn) round.targets items);
+      ordered = λ ended awaited ending.
+          let decided : option_map outcome_of (decided_in kept) ≡ Some ended = subst (λ (p : Phase). PhaseAgrees p (decided_in kept)) ending h.agrees.decided in
+          orders_lawful sc c.txn true (decided_in kept) ended c awaited refl refl decided (subst (PhaseHasItems sc c.txn) ending h.agrees.awaited);
+    })

@@ -405,3 +405,13 @@ submission_acts sc w txn part c effect up same unborn l =
       undecided = λ other. refl;
       unsettled = λ at other. refl;
     }
+
+-- ---- timers
+
+-- letters of a coordinator that is up and was submitted, where nothing else changes
+pub letters_rest_again : (sc : Scenario) (w : State) (txn : TxnId) (part : Part Coordinator) (c : Coordinator) (letters : List Letter) → slice_get w.actors.coordinators txn.0 ≡ Some part → part.up ≡ Some c → c.txn ≡ txn
+    → is_begun c.phase ≡ true → Each (LetterAgrees sc c.txn true (decided_in part.log)) letters → Each (LetterRests sc w.actors) letters
+letters_rest_again sc w txn part c letters found up same begun agree =
+    letters_rest_in_coordinator_acts sc w.actors txn true (decided_in part.log) letters (ap (option_and_then decided_by) found)
+    (λ submitted. ap submitted_count found ∙ (ap submitted_up up ∙ ap once begun))
+    (subst (λ (t : TxnId). Each (LetterAgrees sc t true (decided_in part.log)) letters) same agree)

@@ -88,7 +88,7 @@ outcome_found : (found : Option Settled) (ended : Outcome) → option_map outcom
 outcome_found None ended e = absurd (cc)
 outcome_found (Some s) ended e = (s, refl, same_Some s.outcome ended e)
 
-settled_part : (sc : Scenario) (w : State) (at : ServerId) (txn : TxnId) (s : Settled) (found : Option (Part Server)) → Agrees sc w → slice_get w.actors.servers at.0 ≡ found
+pub settled_part : (sc : Scenario) (w : State) (at : ServerId) (txn : TxnId) (s : Settled) (found : Option (Part Server)) → Agrees sc w → slice_get w.actors.servers at.0 ≡ found
     → option_and_then (settled_by txn) found ≡ Some s → SettledRests sc w.actors.coordinators at txn s
 settled_part sc w at txn s None h e f = absurd (cc)
 settled_part sc w at txn s (Some part) h e f = (h.servers at.0 part e).settled txn s f

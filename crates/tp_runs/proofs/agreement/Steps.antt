@@ -13,8 +13,8 @@ use Rattle.tp_model.specs.Words.vote
 use Rattle.tp_model.specs.Words.what
 use Rattle.tp_model.specs.Words.{Actor, AdminId, Body, CredId, Decision, Mail, Outcome, Record, Scenario, ServerId, Settled, Step, TxnId, Version, Vote, What}
 use Rattle.tp_runs.proofs.ids.Valid.{IsValid}
-use Rattle.tp_runs.proofs.agreement.Coordinator.{CoordinatorLawful, Keeps, ReplyRests, SubmissionLawful, YesRests, coordinator_row_lawful, submit_row_lawful}
-use Rattle.tp_runs.proofs.agreement.CoordinatorActs.{coordinator_acts_agrees, receipt_acts, submission_acts}
+use Rattle.tp_runs.proofs.agreement.Coordinator.{CoordinatorLawful, Keeps, ReplyRests, SubmissionLawful, YesRests, coordinator_row_lawful, repeats_lawful, submit_row_lawful}
+use Rattle.tp_runs.proofs.agreement.CoordinatorActs.{coordinator_acts_agrees, letters_rest_again, receipt_acts, submission_acts}
 use Rattle.tp_runs.proofs.agreement.Known.{KnowsTold, learns_knows, opening_knows, row_learns}
 use Rattle.tp_runs.proofs.agreement.Logs.{DecidedAs, IsAsked, IsPrepared, IsSettled, outcome_settled, submitted_count, submitted_up}
 use Rattle.tp_runs.proofs.agreement.Server.{IsUnsettled, LetterKept, RefusalsAbort, RequestRests, ServerAgrees, ServerLawful, cast_in, server_row_lawful}
@@ -34,7 +34,7 @@ use Rattle.tp_types.specs.Each.{Each, EachAt}
 use Rattle.tp_runs.specs.Sound.{IsSound, IsSoundBody, IsSoundCoordinatorUp, IsSoundLetter, IsSoundMail, IsSoundServerUp}
 use Rattle.tp_machine.specs.Named.{IsStepOf, IsTxn}
 use Rattle.tp_coord.specs.Opened as coord
-use Rattle.tp_coord.specs.Row.{coordinator_row, submit_row}
+use Rattle.tp_coord.specs.Row.{coordinator_row, is_begun, repeats, submit_row}
 use Rattle.tp_coord.specs.State.{Coordinator}
 use Rattle.tp_machine.specs.declared.actors.Actors.{Actors}
 use Rattle.tp_server.specs.Opened as server
@@ -172,6 +172,15 @@ begun_agrees sc w valid first sound h txn part c exists up new =
     coordinator_acts_agrees sc w txn part (Some effect.state) (what.Submitted txn ∷ []) effect.reaction.append effect.reaction.letters h up.found
     (submission_acts sc w txn part c effect up.up own new (begun_lawful sc w valid first sound h txn part c exists up new))
 
+-- ---- timers
+
+timed_agrees : (sc : Scenario) (w : State) → IsSound sc w → Agrees sc w → (txn : TxnId) (part : Part Coordinator) (c : Coordinator) → IsCoordinatorUp w txn part c → is_begun c.phase ≡ true
+    → MoveAgrees sc w (record { actors = w.actors; happened = []; letters = repeats sc c c.phase })
+timed_agrees sc w sound h txn part c up begun =
+    unmoved_agrees sc w [] (repeats sc c c.phase) h (silent_says sc w)
+    (letters_rest_again sc w txn part c (repeats sc c c.phase) up.found up.up (own_txn sc w txn part c sound up.found up.up) begun
+    (repeats_lawful sc (IsPrepared w.actors.servers txn) (IsSettled w.actors.servers txn) c part.log (coordinator_agrees sc w txn part c h up)))
+
 -- ---- receipts
 
 settled_own : (b : Bool) (one settled : Settled) (later : Option Settled) (txn : TxnId) → same_txn one.txn txn ≡ b → option_or (if b then Some one else None) later ≡ Some settled
@@ -251,6 +260,7 @@ agrees_cases sc w valid first rightly sound h =
       ticked = λ by. offices_agree sc w (office.after_tick by w.actors.authority) w.actors.master (what.Ticked by ∷ []) h (ticked_says sc w by);
       revoked = λ cred exists. offices_agree sc w (office.after_revocation cred w.actors.authority) w.actors.master (what.Revoked cred ∷ []) h (revoked_says sc w cred);
       begun = λ txn part c exists up new. begun_agrees sc w valid first sound h txn part c exists up new;
+      timed = λ txn part c exists up begun. timed_agrees sc w sound h txn part c up begun;
     }
 
 -- a step that is not refused keeps agreement

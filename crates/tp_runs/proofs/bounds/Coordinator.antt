@@ -15,7 +15,7 @@ use Rattle.tp_runs.proofs.bounds.Numbers.{AreBefore, asked_bounded}
 use Rattle.tp_runs.proofs.bounds.Server.{IsBoundedLetter}
 use Rattle.tp_runs.proofs.ids.Valid.{IsValid}
 use Rattle.tp_scheme.specs.declared.moves.Point.TheVariants as point
-use Rattle.tp_coord.proofs.Rows.{ByOlder, ByProof, ByRefusal, Gained, IsEnded, IsPassed, IsRanAnswer, QueryRan, coordinator_by, submit_by, with_gained}
+use Rattle.tp_coord.proofs.Rows.{ByOlder, ByProof, ByRefusal, Gained, IsEnded, IsPassed, IsRanAnswer, QueryRan, coordinator_by, submit_by, timer_by, with_gained}
 use Rattle.tp_runs.specs.Bounded.{AreBoundedDeeds, IsBounded, IsBoundedAnswer, IsBoundedBody, IsBoundedDeed, IsBoundedRecord, IsBoundedVote}
 use Rattle.tp_machine.specs.Machine.{with_age}
 use Rattle.tp_model.specs.Deeds.{deed_of}
@@ -150,4 +150,16 @@ submit_row_bounds sc c place valid homes h new =
     (record {
       ignored = record { state = record { deeds = h.deeds; low = h.low }; forces = tt; letters = tt };
       sent = λ server home. record { state = record { deeds = h.deeds; low = low }; forces = tt; letters = (value_bounded sc c 1 valid homes h.deeds low, tt) };
+    })
+
+-- a request that is sent again
+pub repeats_bounded : (sc : Scenario) (c : Coordinator) → IsValid sc → HaveHomes sc → CoordinatorLow c → Each IsBoundedLetter (coord.repeats sc c c.phase)
+repeats_bounded sc c valid homes h =
+    timer_by sc c (Each IsBoundedLetter)
+    (record {
+      silent = tt;
+      queried = λ number server querying home. (value_bounded sc c number valid homes h.deeds (subst (λ (p : Phase). PhaseLow p c.deeds) querying h.low), tt);
+      asked = λ over round asking. (tt, tt);
+      prepared = λ round staple checking. prepares_say_none c c.turn round staple (coord.awaited_in round);
+      ordered = λ ended awaited ending. orders_say_none c ended awaited;
     })

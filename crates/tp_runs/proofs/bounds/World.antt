@@ -18,7 +18,7 @@ use Rattle.tp_runs.proofs.agreement.World.{Agrees}
 use Rattle.tp_runs.proofs.basics.Facts.{each_new_mail}
 use Rattle.tp_types.proofs.EachLemmas.{at_made, at_set, each_append, each_as, each_drop, each_flat_map, each_get, each_map, each_more, placed_none}
 use Rattle.tp_runs.proofs.basics.Stores.{opened_each}
-use Rattle.tp_runs.proofs.bounds.Coordinator.{CoordinatorBounds, CoordinatorLow, coordinator_row_bounds, submit_row_bounds}
+use Rattle.tp_runs.proofs.bounds.Coordinator.{CoordinatorBounds, CoordinatorLow, coordinator_row_bounds, repeats_bounded, submit_row_bounds}
 use Rattle.tp_runs.proofs.bounds.Numbers.{AreBefore, number_low, sums_exact, values_most}
 use Rattle.tp_runs.proofs.bounds.Server.{IsBoundedLetter, OrdersBounded, ServerBefore, server_row_bounds}
 use Rattle.tp_runs.proofs.bounds.Values.{grown_in_range, log_in_range}
@@ -42,7 +42,7 @@ use Rattle.tp_runs.specs.Sound.{IsSound, IsSoundCoordinatorUp, IsSoundDeed}
 use Rattle.tp_machine.specs.Named.{IsStepOf}
 use Rattle.tp_coord.specs.Opened as coord_opened
 use Rattle.tp_coord.specs.Opened.{idle}
-use Rattle.tp_coord.specs.Row.{coordinator_row, submit_row}
+use Rattle.tp_coord.specs.Row.{coordinator_row, repeats, submit_row}
 use Rattle.tp_coord.specs.State.{Coordinator}
 use Rattle.tp_machine.specs.declared.actors.Actors.{Actors}
 use Rattle.tp_server.specs.declared.server.Entry.{Entry}
@@ -238,6 +238,8 @@ bounds_cases sc w valid rightly sound agrees pairs serial h =
       ticked = λ by. still_bounds sc w (office.after_tick by w.actors.authority) w.actors.master (what.Ticked by ∷ []) [] h (tt, tt) tt;
       revoked = λ cred exists. still_bounds sc w (office.after_revocation cred w.actors.authority) w.actors.master (what.Revoked cred ∷ []) [] h (tt, tt) tt;
       begun = λ txn part c exists up new. begun_bounds sc w valid h txn part c up new;
+      timed = λ txn part c exists up begun.
+          still_bounds sc w w.actors.authority w.actors.master [] (repeats sc c c.phase) h tt (repeats_bounded sc c valid (have_homes sc valid) (low_of sc w txn part c h up));
     }
 
 -- a step that is not refused keeps all values within their bounds

@@ -11,10 +11,10 @@ use Rattle.tp_model.specs.Words.outcome
 use Rattle.tp_model.specs.Words.what
 use Rattle.tp_model.specs.Words.decision
 use Rattle.tp_model.specs.Words.{Actor, Answer, Cause, DoneReply, Fact, Letter, Mail, Outcome, Record, Scenario, ServerId, TxnId}
-use Rattle.tp_coord.specs.Row.{awaited_in, coordinator_row, is_from, next_turn, prepare_letter, requests, staple_of, submit_row}
+use Rattle.tp_coord.specs.Row.{awaited_in, coordinator_row, is_from, next_turn, prepare_letter, repeats, requests, staple_of, submit_row}
 use Rattle.tp_coord.specs.State.{Coordinator}
 use Rattle.tp_runs.proofs.deaths.Fit.{Adds, AnswerSent, BodyDies, Death, LetterDies, WhatDies, body_dies_still, death_shown}
-use Rattle.tp_coord.proofs.Rows.{ByOlder, ByProof, ByRefusal, IsEnded, coordinator_by, submit_by}
+use Rattle.tp_coord.proofs.Rows.{ByOlder, ByProof, ByRefusal, IsEnded, coordinator_by, submit_by, timer_by}
 use Rattle.tp_machine.specs.Machine.{with_age}
 use Rattle.tp_types.specs.Each.{Each}
 
@@ -88,4 +88,16 @@ submit_row_dies sc old place c =
     (record {
       ignored = record { forces = λ facts a. tt; sends = tt };
       sent = λ server home. record { forces = λ facts a. tt; sends = (tt, tt) };
+    })
+
+-- a request that is sent again answers no query
+pub repeats_none : (sc : Scenario) (facts : List Fact) (place : ℕ) (c : Coordinator) → Each (LetterDies sc facts place) (repeats sc c c.phase)
+repeats_none sc facts place c =
+    timer_by sc c (Each (LetterDies sc facts place))
+    (record {
+      silent = tt;
+      queried = λ number server querying home. (tt, tt);
+      asked = λ over round asking. (tt, tt);
+      prepared = λ round staple checking. all_none sc facts place (prepare_letter c c.turn round staple) (λ at. tt) (awaited_in round);
+      ordered = λ ended awaited ending. orders_none sc facts place c ended awaited;
     })

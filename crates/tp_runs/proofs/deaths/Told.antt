@@ -116,6 +116,7 @@ told_cases sc w a =
             fresh = any_submitted txn w.facts ∙ none_any (submissions txn (said w.facts)) (a.submitted txn ∙ (ap submitted_count up.found ∙ (ap submitted_up up.up ∙ ap once new)));
           } in
           subst (λ (t : TxnId). IsNewlyTold w t move) same told;
+      timed = λ txn part c exists up begun other is. absurd (cc);
     }
   where
     submit_is : (one other : TxnId) → step.Submit one ≡ step.Submit other → one ≡ other

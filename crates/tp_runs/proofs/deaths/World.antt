@@ -21,7 +21,7 @@ use Rattle.tp_runs.proofs.basics.Facts.{ArePast, each_new_fact, each_new_mail, f
 use Rattle.tp_types.proofs.EachLemmas.{at_made, at_set, each_append, each_as, each_get, placed_none}
 use Rattle.tp_runs.proofs.basics.Locks.{no_locks, stands_in_the_way}
 use Rattle.tp_runs.proofs.basics.Logs.{gained, listed}
-use Rattle.tp_runs.proofs.deaths.Coordinators.{CoordinatorActsDie, RecordDies, coordinator_row_dies, submit_row_dies}
+use Rattle.tp_runs.proofs.deaths.Coordinators.{CoordinatorActsDie, RecordDies, coordinator_row_dies, repeats_none, submit_row_dies}
 use Rattle.tp_runs.proofs.deaths.Dying.{dies_for}
 use Rattle.tp_runs.proofs.deaths.Fit.{Adds, BodyDies, Death, DoneDies, FactDies, LetterDies, LockFits, WhatDies, body_dies_still, done_stays, what_dies_still}
 use Rattle.tp_runs.proofs.deaths.Servers.{AnswersDie, AskerKnown, ServerDies, server_row_dies}
@@ -36,7 +36,7 @@ use Rattle.tp_machine.specs.Parts.{Part}
 use Rattle.tp_types.specs.Each.{Each, EachAt, EachPlaced}
 use Rattle.tp_runs.specs.Sound.{IsItemOf, IsSound, IsSoundBody, IsSoundQuery, IsSoundServerUp}
 use Rattle.tp_machine.specs.Named.{IsStepOf}
-use Rattle.tp_coord.specs.Row.{coordinator_row, submit_row}
+use Rattle.tp_coord.specs.Row.{coordinator_row, repeats, submit_row}
 use Rattle.tp_coord.specs.State.{Coordinator}
 use Rattle.tp_machine.specs.declared.actors.Actors.{Actors}
 use Rattle.tp_server.specs.declared.server.Entry.{Entry}
@@ -269,6 +269,7 @@ deaths_cases sc w rightly sound a ages pairs h =
       begun = λ txn part c exists up new.
           let effect = with_age (submit_row sc c) (length w.steps) in
           coordinator_acts_deaths sc w txn part (Some effect.state) (what.Submitted txn ∷ []) effect.reaction.append effect.reaction.letters a.past h (λ facts. tt, tt) (submit_row_dies sc w.facts (length w.steps) c);
+      timed = λ txn part c exists up begun. still_deaths sc w [] (repeats sc c c.phase) w.actors h refl tt (repeats_none sc w.facts (length w.steps) c);
     }
   where
     own_done : (txn : TxnId) (done : DoneReply) → actor.Coordinator txn ≡ actor.Coordinator done.txn → done.txn ≡ txn

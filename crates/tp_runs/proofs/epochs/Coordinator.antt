@@ -9,11 +9,11 @@ use Rattle.tp_runs.proofs.agreement.Coordinator.{idle_is}
 use Rattle.tp_runs.proofs.basics.Homes.{HaveHomes}
 use Rattle.tp_runs.proofs.basics.Phases.{has_run_at, is_undecided}
 use Rattle.tp_runs.proofs.epochs.Asked.{Asking, NamesKept, asked_then, kept_are_asked, kept_are_own, then_kept}
-use Rattle.tp_runs.proofs.epochs.Kept.{CoordinatorKeeps, IsDoneMail, KeepsAsked, KeepsEpoch, PhaseKept, RowKeeps, ignores_keeps, kept_epoch, plain_keeps, query_keeps, ran_last_keeps, ran_next_keeps}
+use Rattle.tp_runs.proofs.epochs.Kept.{CoordinatorEpochs, CoordinatorKeeps, IsDoneMail, KeepsAsked, KeepsEpoch, PhaseKept, RowKeeps, again_keeps, ignores_keeps, kept_epoch, plain_keeps, query_again_keeps, query_keeps, ran_last_keeps, ran_next_keeps}
 use Rattle.tp_runs.proofs.epochs.Server.{IsPlainLetter, LetterFirst, LetterTold}
 use Rattle.tp_scheme.specs.declared.moves.Move.TheVariants as move
 use Rattle.tp_scheme.specs.declared.moves.Point.TheVariants as point
-use Rattle.tp_coord.proofs.Rows.{Gained, IsPassed, QueryRan, coordinator_by, gains_instances, submit_by, with_gained}
+use Rattle.tp_coord.proofs.Rows.{Gained, IsPassed, QueryRan, coordinator_by, gains_instances, submit_by, timer_by, with_gained}
 use Rattle.tp_machine.specs.Machine.{with_age}
 use Rattle.tp_types.specs.Each.{Each}
 use Rattle.tp_coord.specs.Opened.{servers_at}
@@ -171,4 +171,28 @@ submit_row_keeps sc E A c age h b =
     (record {
       ignored = aged_keeps sc E A c (ignores c) age (ignores_keeps sc E A c h);
       sent = λ at home. aged_keeps sc E A c (coord.sends_query sc c 1 at) age (sent_keeps sc E A c at h (idle_is c.phase b));
+    })
+
+-- ---- timers
+
+-- the awaited servers are asked to prepare again
+prepares_again_keeps : (sc : Scenario) (E : ℕ → ℕ) (A : Asking) (c : Coordinator) (round : Round) (staple : Staple) → CoordinatorKeeps sc E (A c.txn) c → c.phase ≡ phase.Checking span.Commit round staple
+    → CoordinatorEpochs sc E A c.txn (Some c) (map (coord.prepare_letter c c.turn round staple) (missing_in round.targets))
+prepares_again_keeps sc E A c round staple h e =
+    let undecided : is_undecided c.phase ≡ true = ap is_undecided e in
+    let kept : EachServer (KeepsEpoch c) round.targets = subst (PhaseKept (KeepsEpoch c)) e (h.undecided undecided).round in
+    let letters = map (coord.prepare_letter c c.turn round staple) (missing_in round.targets) in
+    again_keeps sc E A c letters h undecided (prepares_name c c.turn round staple (missing_in round.targets) (each_missing (KeepsEpoch c) round.targets kept))
+    (prepares_first sc c c.turn round staple (missing_in round.targets)) (prepares_told sc (asked_then A letters) E c c.turn round staple (missing_in round.targets))
+
+-- what a timer sends again
+pub timer_keeps : (sc : Scenario) (E : ℕ → ℕ) (A : Asking) (c : Coordinator) → CoordinatorKeeps sc E (A c.txn) c → CoordinatorEpochs sc E A c.txn (Some c) (coord.repeats sc c c.phase)
+timer_keeps sc E A c h =
+    timer_by sc c (CoordinatorEpochs sc E A c.txn (Some c))
+    (record {
+      silent = ignores_keeps sc E A c h;
+      queried = λ number at querying home. query_again_keeps sc E A c number at h querying;
+      asked = λ over round asking. plain_keeps sc E A c.txn (Some c) (coord.ask_letter c c.turn ∷ []) h (tt, tt);
+      prepared = λ round staple checking. prepares_again_keeps sc E A c round staple h checking;
+      ordered = λ ended awaited ending. plain_keeps sc E A c.txn (Some c) (coord.decide_letters c ended awaited) h (orders_plain c ended awaited);
     })

@@ -1,7 +1,7 @@
 -- Epochs, what a coordinator keeps: of each server at which a query of its transaction ran, one that has not decided keeps an epoch, and
 -- all that was asked of a server is what it keeps. And its row on the answer to a query, which is where it learns an epoch.
 use Rattle.std.specs.List.{list_any}
-use Rattle.std.proofs.Common.{Bool, IfSome, List, None, Option, Some, [], ap, arith, false, if◌then◌else◌, is_none, is_some, length, not, option_map, refl, slice_get, slice_set, subst, sym, take, true, ℕ, ℤ, ◌+◌, ◌-◌, ◌<◌, ◌==◌, ◌||◌, ◌∙◌, ◌≡◌, ◌≤◌}
+use Rattle.std.proofs.Common.{Bool, IfSome, List, None, Option, Some, [], ap, arith, false, if◌then◌else◌, is_none, is_some, length, not, option_map, refl, slice_get, slice_set, subst, sym, take, true, ℕ, ℤ, ◌+◌, ◌-◌, ◌<◌, ◌==◌, ◌||◌, ◌∙◌, ◌∷◌, ◌≡◌, ◌≤◌}
 use Rattle.std.proofs.lemmas.Bool.{eqb-true, not-true}
 use Rattle.std.proofs.lemmas.List.{length-set}
 use Rattle.std.proofs.lemmas.Option.{same_Some}
@@ -20,7 +20,7 @@ use Rattle.tp_runs.proofs.basics.Logs.{get_set}
 use Rattle.tp_runs.proofs.basics.Phases.{all_ran, awaits_is, has_run_at, is_first_at, is_undecided, late_has_run, next_ran, queries_of, sent_to_server}
 use Rattle.tp_runs.proofs.basics.Rounds.{EachServer, each_started}
 use Rattle.tp_runs.proofs.epochs.Asked.{Asking, IsKeptNaming, NamesKept, NamesOwn, asked_then, kept_are_asked, kept_are_own, naming, none_then, then_kept}
-use Rattle.tp_runs.proofs.epochs.Server.{BodyTold, DoneMade, IsPlainLetter, LettersEpochs, has_restarted, plain_letters, plain_names_none, plain_names_own}
+use Rattle.tp_runs.proofs.epochs.Server.{BodyTold, DoneMade, IsPlainLetter, LetterFirst, LetterTold, LettersEpochs, has_restarted, plain_letters, plain_names_none, plain_names_own}
 use Rattle.tp_coord.proofs.Rows.{IsRanAnswer}
 use Rattle.tp_types.specs.Each.{Each, EachPlaced}
 use Rattle.tp_runs.specs.Sound.{IsActor, query_in}
@@ -263,3 +263,29 @@ pub ran_next_keeps : (sc : Scenario) (E : ℕ → ℕ) (A : Asking) (c : Coordin
     → RowKeeps sc E A c (coord.sends_query sc (coord.with_deed c at done asked value) (coord.next_number done.query) next)
 ran_next_keeps sc E A c mail done at asked value next homes h m k =
     next_keeps sc E A c done asked at next value h (is_answer sc E A c mail done at asked value m k) (next_is sc c done.query asked homes k.asked_is)
+
+-- ---- timers
+
+-- letters that are sent again name what is kept, and their coordinator stays as it was
+pub again_keeps : (sc : Scenario) (E : ℕ → ℕ) (A : Asking) (c : Coordinator) (letters : List Letter) → CoordinatorKeeps sc E (A c.txn) c → is_undecided c.phase ≡ true → Each (NamesKept c.txn (kept_epoch c)) letters
+    → Each (LetterFirst sc) letters → Each (LetterTold sc (asked_then A letters) E) letters → CoordinatorEpochs sc E A c.txn (Some c) letters
+again_keeps sc E A c letters h undecided names first told =
+    let k : KeepsAsked sc (A c.txn) c = h.undecided undecided in
+    record {
+      keeps = record {
+        places = h.places;
+        past = h.past;
+        undecided = λ unsure. record { asked = λ s epoch. then_kept A c.txn s (kept_epoch c) letters (k.asked s) names epoch; ran = k.ran; round = k.round };
+      };
+      own = kept_are_own c.txn (kept_epoch c) letters names;
+      sent = record { named = kept_are_asked A c.txn (kept_epoch c) letters k.asked names; first = first; told = told };
+    }
+
+-- a query that is sent again
+pub query_again_keeps : (sc : Scenario) (E : ℕ → ℕ) (A : Asking) (c : Coordinator) (number : ℕ) (at : ServerId) → CoordinatorKeeps sc E (A c.txn) c → c.phase ≡ phase.Querying number None
+    → CoordinatorEpochs sc E A c.txn (Some c) (coord.request c at (body.Query (coord.query_request sc c c.turn at number)) ∷ [])
+query_again_keeps sc E A c number at h e =
+    let undecided : is_undecided c.phase ≡ true = ap is_undecided e in
+    let ran : is_some (kept_epoch c at) ≡ has_run_at sc c.txn (phase.Querying number None) at = (h.undecided undecided).ran at ∙ ap (λ (p : Phase). has_run_at sc c.txn p at) e in
+    again_keeps sc E A c (coord.request c at (body.Query (coord.query_request sc c c.turn at number)) ∷ []) h undecided (names_told c at (kept_epoch c at) refl, tt)
+    (none_or_some (kept_epoch c at) (has_run_at sc c.txn (phase.Querying number None) at) ran, tt) (tt, tt)

@@ -19,9 +19,9 @@ use Rattle.tp_runs.proofs.basics.Facts.{each_new_mail}
 use Rattle.tp_runs.proofs.basics.Homes.{HaveHomes}
 use Rattle.tp_runs.proofs.basics.Ids.{same_txn_from, server_number, txn_number}
 use Rattle.tp_types.proofs.EachLemmas.{at_made, at_set, each_append, each_as, each_get, placed_none, unset_at}
-use Rattle.tp_runs.proofs.basics.Logs.{appended, get_set, prepared_either}
+use Rattle.tp_runs.proofs.basics.Logs.{appended, get_set, prepared_either, set_same}
 use Rattle.tp_runs.proofs.epochs.Asked.{Asking, IsAsked, LetterNamed, NamesNone, StaysAsked, asked_in, asked_more, asked_then, letter_stays, naming, naming_of, none_then, other_then, then_stays}
-use Rattle.tp_runs.proofs.epochs.Coordinator.{IsMail, coordinator_row_keeps, submit_row_keeps}
+use Rattle.tp_runs.proofs.epochs.Coordinator.{IsMail, coordinator_row_keeps, submit_row_keeps, timer_keeps}
 use Rattle.tp_runs.proofs.epochs.Kept.{CoordinatorEpochs, CoordinatorKeeps}
 use Rattle.tp_runs.proofs.epochs.Server.{BodyTold, DoneMade, DoneTold, EntryMade, IsPlainLetter, LetterFirst, LetterTold, LettersEpochs, PreparedMade, QueryFirst, RecordMade, ReplyMade, ServerEpochs, ServerMade, WaitsMade, epoch_rises, plain_letters, plain_names_none, server_row_made}
 use Rattle.tp_server.proofs.Rows.{AreRightWaits}
@@ -35,7 +35,7 @@ use Rattle.tp_runs.specs.Sound.{IsSound, IsSoundLetter, IsSoundMail, IsSoundServ
 use Rattle.tp_machine.specs.Named.{IsStepOf}
 use Rattle.tp_coord.specs.Opened as coord_opened
 use Rattle.tp_coord.specs.Opened.{idle}
-use Rattle.tp_coord.specs.Row.{coordinator_row, submit_row}
+use Rattle.tp_coord.specs.Row.{coordinator_row, repeats, submit_row}
 use Rattle.tp_coord.specs.State.{Coordinator}
 use Rattle.tp_machine.specs.declared.actors.Actors.{Actors}
 use Rattle.tp_server.specs.declared.server.Entry.{Entry}
@@ -337,6 +337,24 @@ begun_epochs sc w sound h txn part c up new =
     (subst (λ (t : TxnId). CoordinatorEpochs sc E A t (Some effect.state) effect.reaction.letters) same
     (submit_row_keeps sc E A c (length w.steps) (coordinator_keeps sc w txn part c h up same) new))
 
+-- a timer sends requests again, and its coordinator stays as it was
+timed_epochs : (sc : Scenario) (w : State) → IsSound sc w → Epochs sc w → (txn : TxnId) (part : Part Coordinator) (c : Coordinator) → IsCoordinatorUp w txn part c
+    → StepEpochs sc w (record { actors = w.actors; happened = []; letters = repeats sc c c.phase })
+timed_epochs sc w sound h txn part c up =
+    let E = epoch_at w.actors.servers in
+    let A = asked_in w.mails in
+    let letters = repeats sc c c.phase in
+    let same : c.txn ≡ txn = own_txn sc w txn part c sound up.found up.up in
+    let act : StepEpochs sc w (coordinator_move w.actors txn (acts coordinator_fact [] part.log part.up part.log letters)) =
+    coordinator_acts_epochs sc w txn part [] part.up None letters h up.found
+    (subst (λ (u : Option Coordinator). CoordinatorEpochs sc E A txn u letters) (sym up.up)
+    (subst (λ (t : TxnId). CoordinatorEpochs sc E A t (Some c) letters) same (timer_keeps sc E A c (coordinator_keeps sc w txn part c h up same)))) in
+    record {
+      actors_are = subst (λ (coordinators : List (Part Coordinator)). AreEpochs sc (asked_then A letters) (record w.actors { coordinators = coordinators }) w.mails)
+          (set_same w.actors.coordinators txn.0 part up.found) act.actors_are;
+      sent = act.sent;
+    }
+
 tells_plain_in_epochs : (authority : Authority) (said : Body) → Each IsPlainLetter (office.on_body authority said).reaction.letters
 tells_plain_in_epochs authority (body.Ask ask) = (tt, tt)
 tells_plain_in_epochs authority _ = tt
@@ -370,6 +388,7 @@ epochs_cases sc w homes rightly sound a h =
       ticked = λ by. offices_epochs sc w (office.after_tick by w.actors.authority) w.actors.master (what.Ticked by ∷ []) h;
       revoked = λ cred exists. offices_epochs sc w (office.after_revocation cred w.actors.authority) w.actors.master (what.Revoked cred ∷ []) h;
       begun = λ txn part c exists up new. begun_epochs sc w sound h txn part c up new;
+      timed = λ txn part c exists up begun. timed_epochs sc w sound h txn part c up;
     }
 
 -- a step that is not refused keeps what is said of epochs

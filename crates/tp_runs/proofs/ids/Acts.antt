@@ -16,7 +16,7 @@ use Rattle.tp_model.specs.Words.what
 use Rattle.tp_model.specs.Words.{Admin, AdminId, Body, CredId, Letter, Mail, Query, Record, Scenario, ServerDecl, ServerId, Settled, Transaction, TxnId, What}
 use Rattle.tp_types.proofs.EachLemmas.{by_cond, each_append, each_drop, each_flat_map, each_get, each_more, each_set, missing, placed_none}
 use Rattle.tp_runs.proofs.basics.Stores.{opened_each}
-use Rattle.tp_runs.proofs.ids.Coordinator.{IsSoundCoordinatorEffect, coordinator_row_sound, coordinator_with_age_sound, submit_row_sound}
+use Rattle.tp_runs.proofs.ids.Coordinator.{IsSoundCoordinatorEffect, coordinator_row_sound, coordinator_with_age_sound, repeats_sound, submit_row_sound}
 use Rattle.tp_runs.proofs.ids.Server.{IsSoundServerEffect, server_row_sound, version_of, versions_set}
 use Rattle.tp_runs.proofs.ids.Valid.{IsValid}
 use Rattle.tp_server.proofs.Rows.{AreRightWaits}
@@ -26,7 +26,7 @@ use Rattle.tp_runs.specs.Sound.{AreCreds, AreVersions, IsActor, IsSettledOf, IsS
 use Rattle.tp_types.specs.Each.{Each}
 use Rattle.tp_machine.specs.Named.{IsAdmin, IsCred, IsServer, IsTxn}
 use Rattle.tp_coord.specs.Opened as coord
-use Rattle.tp_coord.specs.Row.{coordinator_row, submit_row}
+use Rattle.tp_coord.specs.Row.{coordinator_row, repeats, submit_row}
 use Rattle.tp_coord.specs.State.{Coordinator}
 use Rattle.tp_server.specs.declared.server.Entry.{Entry}
 use Rattle.tp_server.specs.Opened as server
@@ -170,6 +170,13 @@ coordinator_begun_sound sc txn part c place valid h e =
     let effect = with_age (submit_row sc c) place in
     coordinator_acts_sound sc txn part (Some effect.state) (what.Submitted txn ∷ []) effect.reaction.append effect.reaction.letters h
     (coordinator_row_acts sc txn c (what.Submitted txn ∷ []) effect state.txn_is (h.exists, tt) (with_age_sound sc c (submit_row sc c) place (submit_row_sound sc c valid state.sound)))
+
+-- what a coordinator that is up sends again
+pub coordinator_repeats_sound : (sc : Scenario) (txn : TxnId) (part : Part Coordinator) (c : Coordinator) → IsValid sc → IsSoundCoordinatorPart sc txn part → part.up ≡ Some c
+    → Each (IsSoundLetter sc) (repeats sc c c.phase)
+coordinator_repeats_sound sc txn part c valid h e =
+    let state : IsSoundCoordinatorUp sc txn c = subst (λ (up : Option Coordinator). IfSome up (IsSoundCoordinatorUp sc txn)) e h.state in
+    repeats_sound sc c valid state.sound
 
 -- ---- the authority
 

@@ -7,7 +7,9 @@ use Rattle.tp_types.specs.Effect.{Effect, ignores, sends}
 use Rattle.tp_model.specs.Ids.{same_server}
 use Rattle.tp_model.specs.Queries.{item_of, query_at}
 use Rattle.tp_model.specs.Words.actor
+use Rattle.tp_model.specs.Words.body
 use Rattle.tp_model.specs.Words.cause
+use Rattle.tp_model.specs.Words.outcome
 use Rattle.tp_model.specs.Words.query
 use Rattle.tp_model.specs.Words.{Actor, AdminId, Body, Cause, DoneReply, Instance, Item, Mail, Outcome, Query, Scenario, ServerId, Staple, Transaction, TxnId, Verdict, Version, VoteReply}
 use Rattle.tp_runs.proofs.basics.Homes.{IsHome, home_is}
@@ -15,7 +17,7 @@ use Rattle.tp_runs.proofs.basics.Ids.{same_txn_from}
 use Rattle.tp_types.proofs.EachLemmas.{by_cond, each_append, each_as, each_filter, each_flat_map, each_found, each_get, each_map, each_more, each_passing, some_if_not_none}
 use Rattle.tp_runs.proofs.ids.Valid.{IsValid, IsValidItem}
 use Rattle.tp_scheme.specs.declared.moves.Point.TheVariants as point
-use Rattle.tp_coord.proofs.Rows.{AllTrue, ByOlder, ByProof, ByRefusal, Gained, HasVoted, IsDiedAnswer, IsEnded, IsNo, IsPassed, IsYes, QueryRan, coordinator_by, gains_instances, submit_by, with_gained}
+use Rattle.tp_coord.proofs.Rows.{AllTrue, ByOlder, ByProof, ByRefusal, Gained, HasVoted, IsDiedAnswer, IsEnded, IsNo, IsPassed, IsYes, QueryRan, coordinator_by, gains_instances, submit_by, timer_by, with_gained}
 use Rattle.tp_model.specs.Deeds.{deed_of}
 use Rattle.tp_runs.specs.Sound.{AreSoundVerdicts, AreWanted, IsActor, IsItemOf, IsRefusalOf, IsSoundAnswer, IsSoundBallot, IsSoundBody, IsSoundCause, IsSoundCoordinator, IsSoundCoordinatorRecord, IsSoundDeed, IsSoundInstance, IsSoundLetter, IsSoundPhase, IsSoundProof, IsSoundQuery, IsSoundMet, IsSoundRefusal, IsSoundRound, IsSoundStaple, IsSoundTarget, IsSoundVerdict, IsSoundWanted, IsVersion, ProvesEach, query_in}
 use Rattle.tp_scheme.specs.Moves.{proves_each}
@@ -23,7 +25,7 @@ use Rattle.tp_types.specs.Each.{Each}
 use Rattle.tp_server.specs.Values.{HasValue}
 use Rattle.tp_machine.specs.Named.{IsServer}
 use Rattle.tp_coord.specs.Sums.{asked_value, registers_after, sum_asked}
-use Rattle.tp_coord.specs.Row.{aborts, asks, commit_round, commits, coordinator_row, coordinator_with_age, denied_by, died_for, next_number, next_turn, prepare_letter, prepares, own_query, query_request, refused_by, request, sends_query, staple_of, submit_row, value_of, with_deed, without}
+use Rattle.tp_coord.specs.Row.{aborts, ask_letter, asks, commit_round, commits, coordinator_row, coordinator_with_age, decide_letters, denied_by, died_for, next_number, next_turn, prepare_letter, prepares, own_query, query_request, refused_by, repeats, request, sends_query, staple_of, submit_row, value_of, with_deed, without}
 use Rattle.tp_coord.specs.State.{Coordinator}
 use Rattle.tp_coord.specs.declared.coordinator.Phase.TheVariants as phase
 use Rattle.tp_coord.specs.declared.coordinator.Phase.{Phase}
@@ -105,10 +107,12 @@ has_value sc c number asked e = found (slice_get sc.txns c.txn.0) e
     found None f = absurd (cc)
     found (Some declared) f = valued (registers_after declared c.deeds) asked (query_at declared number) f
 
-sends_query_sound : (sc : Scenario) (c : Coordinator) (number : ℕ) (server : ServerId) → IsValid sc → IsSoundCoordinator sc c → IsHome sc c number server → IsSoundCoordinatorEffect sc c (sends_query sc c number server)
-sends_query_sound sc c number server valid h k =
+-- a query is asked in a turn at the server of its item
+query_sound : (sc : Scenario) (c : Coordinator) (turn number : ℕ) (server : ServerId) → IsValid sc → IsSoundCoordinator sc c → IsHome sc c number server
+    → IsSoundLetter sc (request c server (body.Query (query_request sc c turn server number)))
+query_sound sc c turn number server valid h k =
     let at : IsServerOf sc k.asked server = server_found sc k.asked server (slice_get sc.items (item_of k.asked).0) valid refl k.server_is in
-    let asks_of : IsSoundQuery sc (actor.Server server) (query_request sc c (next_turn c) server number) =
+    let asks_of : IsSoundQuery sc (actor.Server server) (query_request sc c turn server number) =
     record {
       txn = h.exists;
       asked = k.asked;
@@ -121,11 +125,15 @@ sends_query_sound sc c number server valid h k =
       staple = tt;
       pin = tt;
     } in
+    request_sound sc c server _ h at.exists asks_of
+
+sends_query_sound : (sc : Scenario) (c : Coordinator) (number : ℕ) (server : ServerId) → IsValid sc → IsSoundCoordinator sc c → IsHome sc c number server → IsSoundCoordinatorEffect sc c (sends_query sc c number server)
+sends_query_sound sc c number server valid h k =
     record {
       same_txn = refl;
       state_is = moved_in_ids sc c (phase.Querying number None) (next_turn c) c.epochs h (record { asked = k.asked; asked_is = k.asked_is }, tt);
       forces = tt;
-      sends_only = (request_sound sc c server _ h at.exists asks_of, tt);
+      sends_only = (query_sound sc c (next_turn c) number server valid h k, tt);
     }
 
 pub submit_row_sound : (sc : Scenario) (c : Coordinator) → IsValid sc → IsSoundCoordinator sc c → IsSoundCoordinatorEffect sc c (submit_row sc c)
@@ -140,13 +148,16 @@ coordinator_with_age_sound sc c place h =
 
 -- ---- Done
 
+ask_sound : (sc : Scenario) (c : Coordinator) (turn : ℕ) → IsSoundCoordinator sc c → IsSoundLetter sc (ask_letter c turn)
+ask_sound sc c turn h = record { from_is_actor = h.exists; to_is_actor = tt; says = record { txn = h.exists; goes_to = refl }; refuses = tt }
+
 asks_sound : (sc : Scenario) (c : Coordinator) (round : Round) → IsSoundCoordinator sc c → IsSoundRound sc c.txn round → IsSoundCoordinatorEffect sc c (asks c span.Commit round)
 asks_sound sc c round h r =
     record {
       same_txn = refl;
       state_is = moved_in_ids sc c (phase.Asking span.Commit round) (next_turn c) c.epochs h (tt, r);
       forces = tt;
-      sends_only = (record { from_is_actor = h.exists; to_is_actor = tt; says = record { txn = h.exists; goes_to = refl }; refuses = tt }, tt);
+      sends_only = (ask_sound sc c (next_turn c) h, tt);
     }
 
 -- the first round, of servers that exist
@@ -173,6 +184,15 @@ want_sound : (sc : Scenario) (round : Round) (server : ServerId) (found : Option
 want_sound sc round server None e h = tt
 want_sound sc round server (Some named) e h = (each_found (IsSoundWanted sc) (λ (one : Wanted). same_server one.server server) round.named named h e).want
 
+-- each awaited server is asked in a turn to prepare
+prepare_letters_sound : (sc : Scenario) (c : Coordinator) (turn : ℕ) (round : Round) (staple : Staple) → IsSoundCoordinator sc c → IsSoundRound sc c.txn round → IsSoundStaple sc staple
+    → Each (IsSoundLetter sc) (map (prepare_letter c turn round staple) (missing_in round.targets))
+prepare_letters_sound sc c turn round staple h r t =
+    each_map (IsServer sc) (IsSoundLetter sc) (prepare_letter c turn round staple)
+    (λ server exists. request_sound sc c server _ h exists
+    (record { txn = h.exists; goes_to = tt; staple = t; want = want_sound sc round server (find (λ (named : Wanted). same_server named.server server) round.named) refl r.named }))
+    (missing_in round.targets) (each_missing (IsServer sc) round.targets (each_as (IsSoundTarget sc c.txn) (λ (target : Target). IsServer sc target.server) (λ target k. k.server) round.targets r.targets))
+
 prepares_sound : (sc : Scenario) (c : Coordinator) (round : Round) (staple : Staple) → IsSoundCoordinator sc c → IsSoundRound sc c.txn round → IsSoundStaple sc staple
     → IsSoundCoordinatorEffect sc c (prepares c span.Commit round staple)
 prepares_sound sc c round staple h r t =
@@ -180,10 +200,7 @@ prepares_sound sc c round staple h r t =
       same_txn = refl;
       state_is = moved_in_ids sc c (phase.Checking span.Commit round staple) (next_turn c) c.epochs h (tt, r, t);
       forces = tt;
-      sends_only = each_map (IsServer sc) (IsSoundLetter sc) (prepare_letter c (next_turn c) round staple)
-          (λ server exists. request_sound sc c server _ h exists
-          (record { txn = h.exists; goes_to = tt; staple = t; want = want_sound sc round server (find (λ (named : Wanted). same_server named.server server) round.named) refl r.named }))
-          (missing_in round.targets) (each_missing (IsServer sc) round.targets (each_as (IsSoundTarget sc c.txn) (λ (target : Target). IsServer sc target.server) (λ target k. k.server) round.targets r.targets));
+      sends_only = prepare_letters_sound sc c (next_turn c) round staple h r t;
     }
 
 -- ---- Vote
@@ -203,6 +220,11 @@ proofs_sound sc txn round e h =
     (each_passing (IsSoundVerdict sc txn) (IsSoundProof sc txn) is_true (λ verdict sound passes. record { sound = sound; has_rule = some_if_not_none verdict.rule passes }) (proofs_in round.targets) (all_agree round None e).all_true
     (replies_sound sc txn round.targets h))
 
+-- each of these servers is told the outcome
+orders_sound : (sc : Scenario) (c : Coordinator) (ended : Outcome) (servers : List ServerId) → IsSoundCoordinator sc c → Each (IsServer sc) servers → Each (IsSoundLetter sc) (decide_letters c ended servers)
+orders_sound sc c ended servers h exist =
+    each_map (IsServer sc) (IsSoundLetter sc) _ (λ server exists. request_sound sc c server _ h exists (record { txn = h.exists; goes_to = tt })) servers exist
+
 commits_sound : (sc : Scenario) (c : Coordinator) (instances : List Instance) (rounds : ℕ) → IsSoundCoordinator sc c → Each (IsSoundInstance sc c.txn) instances
     → IsSoundCoordinatorEffect sc c (commits (with_gained c (gains_instances c instances)) rounds)
 commits_sound sc c instances rounds h closed =
@@ -210,8 +232,7 @@ commits_sound sc c instances rounds h closed =
       same_txn = refl;
       state_is = record { exists = h.exists; servers = h.servers; deeds = h.deeds; gathered = h.gathered; instances = closed; awaits = h.servers };
       forces = record { txn_is = refl; rests_on = record { instances = closed; deeds = h.deeds } };
-      sends_only = each_map (IsServer sc) (IsSoundLetter sc) _
-          (λ server exists. request_sound sc c server _ h exists (record { txn = h.exists; goes_to = tt })) c.servers h.servers;
+      sends_only = orders_sound sc c outcome.Commit c.servers h h.servers;
     }
 
 aborts_sound : (sc : Scenario) (c : Coordinator) (why : Cause) → IsSoundCoordinator sc c → IsSoundCause sc c.txn why → IsSoundCoordinatorEffect sc c (aborts c why)
@@ -220,8 +241,7 @@ aborts_sound sc c why h caused =
       same_txn = refl;
       state_is = record { exists = h.exists; servers = h.servers; deeds = h.deeds; gathered = h.gathered; instances = h.instances; awaits = h.servers };
       forces = record { txn_is = refl; rests_on = caused };
-      sends_only = each_map (IsServer sc) (IsSoundLetter sc) _
-          (λ server exists. request_sound sc c server _ h exists (record { txn = h.exists; goes_to = tt })) c.servers h.servers;
+      sends_only = orders_sound sc c outcome.Abort c.servers h h.servers;
     }
 
 -- a false verdict that is sound denies what exists
@@ -285,12 +305,12 @@ next_sound sc txn round named e r =
 
 -- ---- Ack
 
-acknowledged_sound : (sc : Scenario) (c : Coordinator) (outcome : Outcome) (awaited : List ServerId) (server : ServerId) → IsSoundCoordinator sc c → Each (IsServer sc) awaited
-    → IsSoundCoordinatorEffect sc c (sends (record c { phase = phase.Ending outcome (without awaited server) }) [])
-acknowledged_sound sc c outcome awaited server h a =
+acknowledged_sound : (sc : Scenario) (c : Coordinator) (ended : Outcome) (awaited : List ServerId) (server : ServerId) → IsSoundCoordinator sc c → Each (IsServer sc) awaited
+    → IsSoundCoordinatorEffect sc c (sends (record c { phase = phase.Ending ended (without awaited server) }) [])
+acknowledged_sound sc c ended awaited server h a =
     record {
       same_txn = refl;
-      state_is = moved_in_ids sc c (phase.Ending outcome (without awaited server)) c.turn c.epochs h (without_sound sc awaited server a);
+      state_is = moved_in_ids sc c (phase.Ending ended (without awaited server)) c.turn c.epochs h (without_sound sc awaited server a);
       forces = tt;
       sends_only = tt;
     }
@@ -310,7 +330,7 @@ no_sound : (sc : Scenario) (c : Coordinator) (mail : Mail) (reply : VoteReply) (
     → IsSoundBody sc (actor.Coordinator c.txn) mail.letter.body → IsNo c mail reply round staple server number value → IsSoundCause sc c.txn (cause.No (refused_by server number value))
 no_sound sc c mail reply round staple server number value r m k =
     let said = subst (IsSoundBody sc (actor.Coordinator c.txn)) k.said_is m in
-    let refusal : IsRefusalOf sc server reply.txn reply.vote = subst (λ (body : Body). IsSoundRefusal sc (actor.Server server) body) k.said_is (subst (λ (from : Actor). IsSoundRefusal sc from mail.letter.body) k.from_is r) in
+    let refusal : IsRefusalOf sc server reply.txn reply.vote = subst (λ (told : Body). IsSoundRefusal sc (actor.Server server) told) k.said_is (subst (λ (from : Actor). IsSoundRefusal sc from mail.letter.body) k.from_is r) in
     let own : IsRefusalOf sc server c.txn reply.vote = subst (λ (txn : TxnId). IsRefusalOf sc server txn reply.vote) (same_txn_from c.txn reply.txn said.goes_to) refusal in
     record { query = subst (IsRefusalOf sc server c.txn) k.vote_is own }
 
@@ -368,3 +388,20 @@ coordinator_row_sound sc c mail valid h a r m =
     cause_sound _ (ByOlder done server asked other k) = died_sound sc c mail done server asked other valid m k
     cause_sound _ (ByProof reply round staple server verdicts verdict y e) = denied_sound sc c.txn (after_reply round server verdicts) verdict e (replied reply round staple server verdicts y).targets
     cause_sound _ (ByRefusal reply round staple server number value k) = no_sound sc c mail reply round staple server number value r m k
+
+-- ---- timers
+
+-- a request that is sent again
+pub repeats_sound : (sc : Scenario) (c : Coordinator) → IsValid sc → IsSoundCoordinator sc c → Each (IsSoundLetter sc) (repeats sc c c.phase)
+repeats_sound sc c valid h =
+    timer_by sc c (Each (IsSoundLetter sc))
+    (record {
+      silent = tt;
+      queried = λ number server querying home. (query_sound sc c c.turn number server valid h (home_is sc c number server home), tt);
+      asked = λ over round asking. (ask_sound sc c c.turn h, tt);
+      prepared = λ round staple checking. prepare_letters_sound sc c c.turn round staple h (awaits checking).1 (awaits checking).2;
+      ordered = λ ended awaited ending. orders_sound sc c ended awaited h (awaits ending);
+    })
+  where
+    awaits : {awaited : Phase} → c.phase ≡ awaited → IsSoundPhase sc c.txn awaited
+    awaits e = subst (IsSoundPhase sc c.txn) e h.awaits

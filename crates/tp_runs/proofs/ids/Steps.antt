@@ -7,7 +7,7 @@ use Rattle.tp_model.specs.Words.what
 use Rattle.tp_model.specs.Words.{Actor, Mail, Scenario, ServerId, Step, TxnId, What}
 use Rattle.tp_runs.proofs.basics.Facts.{each_new_fact, each_new_mail}
 use Rattle.tp_types.proofs.EachLemmas.{at_made, at_set, each_append, each_get}
-use Rattle.tp_runs.proofs.ids.Acts.{IsSoundAct, authority_sends_sound, coordinator_begun_sound, coordinator_idle_sound, coordinator_receipt_sound, master_sends_sound, none_sound, published_exists, published_sound, pushes_sound, revoked_sound, server_opening_sound, server_receipt_sound}
+use Rattle.tp_runs.proofs.ids.Acts.{IsSoundAct, authority_sends_sound, coordinator_begun_sound, coordinator_idle_sound, coordinator_receipt_sound, coordinator_repeats_sound, master_sends_sound, none_sound, published_exists, published_sound, pushes_sound, revoked_sound, server_opening_sound, server_receipt_sound}
 use Rattle.tp_runs.proofs.ids.Valid.{IsValid, valid_built}
 use Rattle.tp_runs.proofs.walks.Steps.{Cases, SaysIdle, WaitRightly, WasSent, machine_after_by}
 use Rattle.tp_machine.specs.Machine.{Machine, Move, State, facts_of, idle_move, machine_after, mails_of, opened_part, opening_state, refusal, state_after}
@@ -108,6 +108,8 @@ sound_cases sc w valid rightly h =
       begun = λ txn part c exists up new.
           let move = coordinator_begun_sound sc txn part c (length w.steps) valid (h.actors_are.coordinators txn.0 part up.found) up.up in
           record { actors_are = coordinators_sound sc w.actors txn _ h.actors_are move.part_is; left = move.left };
+      timed = λ txn part c exists up begun.
+          record { actors_are = h.actors_are; left = record { facts_are = tt; letters_are = coordinator_repeats_sound sc txn part c valid (h.actors_are.coordinators txn.0 part up.found) up.up } };
     }
 
 -- ---- a step

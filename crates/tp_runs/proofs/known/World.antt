@@ -27,7 +27,7 @@ use Rattle.tp_runs.proofs.epochs.World.{Epochs, made_from_zero}
 use Rattle.tp_runs.proofs.ids.Queries.{have_homes}
 use Rattle.tp_runs.proofs.ids.Valid.{IsValid, valid_built}
 use Rattle.tp_runs.proofs.pairs.Actors.{BodyPairs, DoneFrom, LetterPairs, PrepareAt, QueryAt, ValidateAt, VerdictsFrom, VoteFrom, asker_at, asker_by, asker_in, asker_of, asker_up, body_stays, pair_at, pair_by, pair_of, pair_up, site_of}
-use Rattle.tp_runs.proofs.pairs.CoordinatorRows.{AnswerPairs, AskPairs, CoordinatorActsPairs, CoordinatorPaired, PhaseNames, PhaseNumbered, PrepareTo, QueryTo, RowAsks, SpanNumbered, ValidateTo, coordinator_row_asks, submit_row_asks}
+use Rattle.tp_runs.proofs.pairs.CoordinatorRows.{AnswerPairs, AskPairs, CoordinatorActsPairs, CoordinatorPaired, PhaseNames, PhaseNumbered, PrepareTo, QueryTo, RowAsks, SpanNumbered, ValidateTo, coordinator_row_asks, repeats_ask, submit_row_asks}
 use Rattle.tp_runs.proofs.pairs.Fits.{AskerFits, DoneFits, Fits, PrepareFits, QueryFits, ValidateFits, VerdictsFits}
 use Rattle.tp_runs.proofs.pairs.Follows.{Next, next_same}
 use Rattle.tp_runs.proofs.basics.Found.{of_some, some_as}
@@ -52,7 +52,7 @@ use Rattle.tp_runs.specs.Sound.{IsSound, IsSoundBody, IsSoundServerUp}
 use Rattle.tp_machine.specs.Named.{IsStepOf, IsTxn}
 use Rattle.tp_coord.specs.Opened as coord_opened
 use Rattle.tp_coord.specs.Opened.{idle}
-use Rattle.tp_coord.specs.Row.{coordinator_row, submit_row}
+use Rattle.tp_coord.specs.Row.{coordinator_row, repeats, submit_row}
 use Rattle.tp_coord.specs.State.{Coordinator}
 use Rattle.tp_machine.specs.declared.actors.Actors.{Actors}
 use Rattle.tp_coord.specs.declared.coordinator.Phase.TheVariants as phase
@@ -407,6 +407,7 @@ asked_within sc declared P c awaited e declared_is numbered fits is = by_phase a
 
 phase_names : (sc : Scenario) (facts : List Fact) (place : ℕ) (txn : TxnId) (awaited : Phase) (declared : Transaction) → slice_get sc.txns txn.0 ≡ Some declared → PhaseFits sc facts place txn awaited → PhaseNames sc declared awaited
 phase_names sc facts place txn (phase.Asking span.Commit round) declared e h = round_names sc facts place txn round declared e h.1
+phase_names sc facts place txn (phase.Checking span.Commit round staple) declared e h = round_names sc facts place txn round declared e h.1
 phase_names sc facts place txn _ declared e h = tt
 
 coordinator_paired : (sc : Scenario) (w : State) (declared : Transaction) (txn : TxnId) (part : Part Coordinator) (c : Coordinator) → AreFew sc → IsSound sc w → Epochs sc w → Trusts sc w → Pairs sc w → IsCoordinatorUp w txn part c
@@ -477,6 +478,23 @@ begun_pairs sc w built few sound a epochs trusts h txn part c exists up new =
     (row_asks sc d.0 txn (pair_at w.actors txn) effect same
     (submit_row_asks sc d.0 (pair_at w.actors txn) c (length w.steps) (coordinator_paired sc w d.0 txn part c few sound epochs trusts h up d.1) new))
 
+-- a timer sends requests again, and all pairs are as they were
+timed_pairs : (sc : Scenario) (w : State) → AreFew sc → IsSound sc w → Epochs sc w → Trusts sc w → Pairs sc w → (txn : TxnId) (part : Part Coordinator) (c : Coordinator) → IsTxn sc txn → IsCoordinatorUp w txn part c
+    → MovePairs sc w (record { actors = w.actors; happened = []; letters = repeats sc c c.phase })
+timed_pairs sc w few sound epochs trusts h txn part c exists up =
+    let d = declared_by sc txn exists in
+    let P : ℕ → Pair = pair_at w.actors txn in
+    let same : c.txn ≡ txn = own_txn sc w txn part c sound up.found up.up in
+    record {
+      next = λ other at declared e. next_same (site_of sc at declared) (pair_at w.actors other at) (h.fits other at declared e);
+      numbered = h.numbered;
+      places = h.places;
+      letters = each_as (λ (letter : Letter). AskPairs sc d.0 txn P letter.to letter.body) (LetterPairs sc (pair_at w.actors))
+          (λ letter asks. ask_pairs sc d.0 txn (pair_at w.actors) P letter.from letter.to letter.body d.1 (λ at. refl) asks) (repeats sc c c.phase)
+          (subst (λ (t : TxnId). Each (λ (letter : Letter). AskPairs sc d.0 t P letter.to letter.body) (repeats sc c c.phase)) same
+          (repeats_ask sc d.0 P c (coordinator_paired sc w d.0 txn part c few sound epochs trusts h up d.1)));
+    }
+
 -- ---- steps
 
 tells_plain_in_known : (sc : Scenario) (authority : Authority) (said : Body) → Each (λ (letter : Letter). (P : TxnId → ℕ → Pair) → LetterPairs sc P letter) (office.on_body authority said).reaction.letters
@@ -501,6 +519,7 @@ pairs_cases sc w built valid few rightly sound a epochs trusts h =
       ticked = λ by. still_pairs sc w (what.Ticked by ∷ []) [] (record w.actors { authority = office.after_tick by w.actors.authority }) h refl refl tt;
       revoked = λ cred exists. still_pairs sc w (what.Revoked cred ∷ []) [] (record w.actors { authority = office.after_revocation cred w.actors.authority }) h refl refl tt;
       begun = λ txn part c exists up new. begun_pairs sc w built few sound a epochs trusts h txn part c exists up new;
+      timed = λ txn part c exists up begun. timed_pairs sc w few sound epochs trusts h txn part c exists up;
     }
 
 -- a step that is not refused keeps what is said of deeds and epochs

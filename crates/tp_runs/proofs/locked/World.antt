@@ -79,6 +79,7 @@ locked_cases sc w rightly sound pairs h =
       ticked = λ by. h;
       revoked = λ cred exists. h;
       begun = λ txn part c exists up new. h;
+      timed = λ txn part c exists up begun. h;
     }
 
 -- a step that is not refused keeps what locks keep

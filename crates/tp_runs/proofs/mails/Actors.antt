@@ -5,7 +5,7 @@ use Rattle.std.specs.Option.{option_flatten}
 use Rattle.tp_types.specs.Effect.{Effect}
 use Rattle.tp_model.specs.Words.body
 use Rattle.tp_model.specs.Words.outcome
-use Rattle.tp_model.specs.Words.{Mail, Outcome, Query, QueryRequest, Scenario, ServerId, Verdict}
+use Rattle.tp_model.specs.Words.{Letter, Mail, Outcome, Query, QueryRequest, Scenario, ServerId, Verdict}
 use Rattle.tp_model.specs.Deeds.{deed_of}
 use Rattle.tp_round.specs.Judge.{after_judgement, after_reply, aim_in, awaits, is_missing, judge, new_target, next_target, with_reply}
 use Rattle.tp_round.specs.declared.round.Judged.TheVariants as judged
@@ -15,7 +15,7 @@ use Rattle.tp_round.specs.declared.round.Wanted.{Wanted}
 use Rattle.tp_runs.proofs.basics.Rounds.{missing_in, updated_is}
 use Rattle.tp_coord.specs.declared.coordinator.Phase.TheVariants as phase
 use Rattle.tp_types.proofs.EachLemmas.{by_cond}
-use Rattle.tp_coord.proofs.Rows.{coordinator_by, submit_by}
+use Rattle.tp_coord.proofs.Rows.{coordinator_by, submit_by, timer_by}
 use Rattle.tp_server.proofs.Rows.{AreRightWaits, IsAsking, IsFirstHere, IsFurther, server_by, unwaiting}
 use Rattle.tp_machine.specs.Machine.{with_age}
 use Rattle.tp_coord.specs.Row as coord
@@ -189,4 +189,18 @@ submit_row_sends most place sc c one h =
     (record {
       ignored = record { awaits = h; letters = omega arith };
       sent = λ server home. record { awaits = omega arith; letters = one };
+    })
+
+-- a request that is sent again goes to those that are awaited at most
+pub repeats_sends : (most : ℕ) (sc : Scenario) (c : Coordinator) → 1 ≤ most → AwaitsFew most c → length (coord.repeats sc c c.phase) ≤ most
+repeats_sends most sc c one h =
+    timer_by sc c (λ (letters : List Letter). length letters ≤ most)
+    (record {
+      silent = omega arith;
+      queried = λ number server querying home. one;
+      asked = λ over round asking. one;
+      prepared = λ round staple checking.
+          let few = awaits_in most c _ h checking in
+          omega (arith, few, missing_few round.targets, length-map (missing_in round.targets) (coord.prepare_letter c c.turn round staple));
+      ordered = λ ended awaited ending. decides_few most c awaited ended (awaits_in most c _ h ending);
     })

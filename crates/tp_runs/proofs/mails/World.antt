@@ -16,7 +16,7 @@ use Rattle.tp_runs.proofs.agreement.Steps.{coordinator_agrees}
 use Rattle.tp_runs.proofs.agreement.World.{Agrees}
 use Rattle.tp_machine.proofs.basics.Flags.{length_mails_of}
 use Rattle.tp_types.proofs.EachLemmas.{at_made, at_set, by_cond}
-use Rattle.tp_runs.proofs.mails.Actors.{AwaitsFew, coordinator_row_sends, server_row_sends, submit_row_sends, waits_in}
+use Rattle.tp_runs.proofs.mails.Actors.{AwaitsFew, coordinator_row_sends, repeats_sends, server_row_sends, submit_row_sends, waits_in}
 use Rattle.tp_runs.proofs.walks.Steps.{Cases, IsCoordinatorUp, IsServerUp, WaitRightly, machine_after_by}
 use Rattle.tp_machine.specs.Machine.{Machine, Move, State, acts, acts_by, after_step, after_steps, coordinator_fact, coordinator_move, log_with, machine_after, mails_of, opened_part, opening_state, refusal, server_fact, server_move, state_after, with_age}
 use Rattle.tp_machine.specs.Parts.{Part}
@@ -168,6 +168,7 @@ few_cases sc w built rightly a h =
           let effect = with_age (submit_row sc c) (length w.steps) in
           let few = submit_row_sends 16 (length w.steps) sc c (omega arith) (own_awaits w txn part c h up) in
           coordinator_acts_few w txn part (Some effect.state) (what.Submitted txn ∷ []) effect.reaction.append effect.reaction.letters h few.awaits (omega (arith, few.letters));
+      timed = λ txn part c exists up begun. record { awaits = h.awaits; letters = omega (arith, repeats_sends 16 sc c (omega arith) (own_awaits w txn part c h up)) };
     }
 
 -- a step that is not refused sends few mails
@@ -210,6 +211,7 @@ step_counted sc m (step.Publish admin) = omega (arith, length-append m.state.ste
 step_counted sc m (step.Push admin server) = omega (arith, length-append m.state.steps (step.Push admin server ∷ []))
 step_counted sc m (step.Tick by) = omega (arith, length-append m.state.steps (step.Tick by ∷ []))
 step_counted sc m (step.Revoke cred) = omega (arith, length-append m.state.steps (step.Revoke cred ∷ []))
+step_counted sc m (step.Timer txn) = omega (arith, length-append m.state.steps (step.Timer txn ∷ []))
 step_counted sc m _ = omega arith
 
 taken_counted : (sc : Scenario) (m : Machine) (taken : Step) (why : Option StepError) → length (if is_some why then m else machine_after sc m taken).state.steps ≤ length m.state.steps + 1

@@ -153,6 +153,7 @@ outside_cases sc w fits =
       ticked = λ by. refl;
       revoked = λ cred exists. refl;
       begun = λ txn part c exists up new. ap (λ (told : List What). what.Submitted txn ∷ told) (coordinator_says part (submit_row sc c));
+      timed = λ txn part c exists up begun. refl;
     }
 
 -- a step keeps that the facts from outside are what the steps say

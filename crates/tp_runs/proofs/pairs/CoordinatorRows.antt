@@ -34,7 +34,7 @@ use Rattle.tp_runs.proofs.deeds.Runs.{deed_asked, deed_at}
 use Rattle.tp_runs.proofs.basics.Turns.{turn_rises}
 use Rattle.tp_scheme.specs.declared.moves.Move.TheVariants as move
 use Rattle.tp_scheme.specs.declared.moves.Point.TheVariants as point
-use Rattle.tp_coord.proofs.Rows.{Gained, IsPassed, IsRanAnswer, QueryRan, coordinator_by, gains_instances, submit_by, with_gained}
+use Rattle.tp_coord.proofs.Rows.{Gained, IsPassed, IsRanAnswer, QueryRan, coordinator_by, gains_instances, submit_by, timer_by, with_gained}
 use Rattle.tp_machine.specs.Machine.{with_age}
 use Rattle.tp_model.specs.Deeds.{deed_of}
 use Rattle.tp_types.specs.Each.{Each}
@@ -104,9 +104,10 @@ RowAsks sc declared P effect = CoordinatorActsPairs sc declared effect.state.txn
 abbrev pub NamesAt : Scenario → Transaction → Round → ServerId → Type 0
 NamesAt sc declared round at = (is_empty (coord.want_for round at) ≡ true) ⊎ Names (site_of sc at.0 declared) (coord.want_for round at)
 
--- a round at commit before which the authority is asked
+-- a round at commit before which the authority is asked, or whose votes are awaited
 abbrev pub PhaseNames : Scenario → Transaction → Phase → Type 0
 PhaseNames sc declared (phase.Asking span.Commit round) = Each (NamesAt sc declared round) (missing_in round.targets)
+PhaseNames sc declared (phase.Checking span.Commit round staple) = Each (NamesAt sc declared round) (missing_in round.targets)
 PhaseNames sc declared _ = Unit {0}
 
 -- a coordinator before its row
@@ -148,13 +149,16 @@ query_here_in_pairs : (sc : Scenario) (declared : Transaction) (number : ℕ) (a
 query_here_in_pairs sc declared number asked server e f =
     ap (λ (found : Option Query). option_map_or (is_at_server sc server.0) found false) e ∙ (sent_to_server sc asked server server.0 f ∙ number_itself server.0)
 
--- a coordinator that asks its next query
-query_requested : (sc : Scenario) (declared : Transaction) (p : Pair) (c : Coordinator) (number : ℕ) (server : ServerId) → slice_get sc.txns c.txn.0 ≡ Some declared → Fits (site_of sc server.0 declared) p
-    → p.asker ≡ Some (asker_of server.0 (coord.sends_query sc c number server).state) → number ≡ length c.deeds + 1 → IsHome sc c number server
-    → QueryFits (site_of sc server.0 declared) p (coord.query_request sc c (next_turn c) server number)
-query_requested sc declared p c number server declared_is fits is number_is home =
+-- a coordinator that asks in this turn, as the server of this number sees it
+abbrev asking_of : ℕ → Coordinator → ℕ → Asker
+asking_of at c turn = record { stand = Asks; turn = turn; epoch = option_flatten (slice_get c.epochs at); deeds = c.deeds }
+
+-- a coordinator that asks its next query, the first time or again
+query_requested : (sc : Scenario) (declared : Transaction) (p : Pair) (c : Coordinator) (turn number : ℕ) (server : ServerId) → slice_get sc.txns c.txn.0 ≡ Some declared → Fits (site_of sc server.0 declared) p
+    → p.asker ≡ Some (asking_of server.0 c turn) → number ≡ length c.deeds + 1 → IsHome sc c number server → QueryFits (site_of sc server.0 declared) p (coord.query_request sc c turn server number)
+query_requested sc declared p c turn number server declared_is fits is number_is home =
     let asked_is : query_at declared number ≡ Some home.asked = query_declared sc c declared number home.asked declared_is home.asked_is in
-    asks (site_of sc server.0 declared) p (asker_of server.0 (coord.sends_query sc c number server).state) (coord.query_request sc c (next_turn c) server number) is fits refl
+    asks (site_of sc server.0 declared) p (asking_of server.0 c turn) (coord.query_request sc c turn server number) is fits refl
     (subst (λ (n : ℕ). here (site_of sc server.0 declared) n ≡ true) number_is (query_here_in_pairs sc declared number home.asked server asked_is home.server_is))
     (record {
       turn = refl;
@@ -184,7 +188,7 @@ sent_asks sc declared P c age server h idle home =
     record {
       next = event;
       numbered = first;
-      requests = ((refl, query_requested sc declared (with_asker (P server.0) (asker_up server.0 next)) c 1 server h.declared_is (event server.0).fits refl first home), tt);
+      requests = ((refl, query_requested sc declared (with_asker (P server.0) (asker_up server.0 next)) c (next_turn c) 1 server h.declared_is (event server.0).fits refl first home), tt);
     }
 
 -- a submission that sends nothing
@@ -338,7 +342,7 @@ next_asks sc declared P c done asked server next value h k further home =
       requests = (
         (
           refl,
-          query_requested sc declared (with_asker (P next.0) (Some (asker_of next.0 (coord.sends_query sc now (next_number done.query) next).state))) now (next_number done.query) next h.declared_is (event next.0).fits refl numbered
+          query_requested sc declared (with_asker (P next.0) (Some (asker_of next.0 (coord.sends_query sc now (next_number done.query) next).state))) now (next_turn now) (next_number done.query) next h.declared_is (event next.0).fits refl numbered
               (record { asked = home.asked; asked_is = home.asked_is; server_is = home.server_is }),
         ),
         tt,
@@ -403,19 +407,21 @@ counted_asker : (at : ℕ) (c : Coordinator) (round other : Round) (staple : Sta
 counted_asker at c round other staple e =
     ap (λ (s : Stand). Some (record { stand = s; turn = c.turn; epoch = option_flatten (slice_get c.epochs at); deeds = c.deeds })) (sym (ap stand_of e)) ∙ sym (undecided_asker at c (ap is_undecided e))
 
+-- an order to end says nothing of deeds
+orders_ask : (sc : Scenario) (declared : Transaction) (txn : TxnId) (Q : ℕ → Pair) (c : Coordinator) (ended : Outcome) (servers : List ServerId)
+    → Each (λ (letter : Letter). AskPairs sc declared txn Q letter.to letter.body) (coord.decide_letters c ended servers)
+orders_ask sc declared txn Q c ended [] = tt
+orders_ask sc declared txn Q c ended (at ∷ servers) = (tt, orders_ask sc declared txn Q c ended servers)
+
 -- a decision
 ends_asks : (sc : Scenario) (declared : Transaction) (P : ℕ → Pair) (c next : Coordinator) (ended : Outcome) (servers : List ServerId) → CoordinatorPaired sc declared P c → is_undecided next.phase ≡ false
-    → PhaseNumbered next.phase next.deeds → CoordinatorActsPairs sc declared next.txn P (Some next) (coord.requests c (body.Decide (record { txn = c.txn; outcome = ended })) servers)
+    → PhaseNumbered next.phase next.deeds → CoordinatorActsPairs sc declared next.txn P (Some next) (coord.decide_letters c ended servers)
 ends_asks sc declared P c next ended servers h decided numbered =
     record {
       next = λ at. subst (λ (o : Option Asker). Next (site_of sc at declared) (P at) (with_asker (P at) o)) (sym (ap (λ (b : Bool). if b then Some (asker_of at next) else None) decided)) (ends (site_of sc at declared) (P at) (h.fits at));
       numbered = numbered;
-      requests = orders servers;
+      requests = orders_ask sc declared next.txn (λ at. with_asker (P at) (asker_up at next)) c ended servers;
     }
-  where
-    orders : (others : List ServerId) → Each (λ (letter : Letter). AskPairs sc declared next.txn (λ at. with_asker (P at) (asker_up at next)) letter.to letter.body) (coord.requests c (body.Decide (record { txn = c.txn; outcome = ended })) others)
-    orders [] = tt
-    orders (at ∷ others) = (tt, orders others)
 
 -- ---- all mails
 
@@ -488,3 +494,35 @@ coordinator_row_asks sc declared P c mail valid homes h m =
         → RowAsks sc declared P (coord.asks (with_gained c now) span.Commit (coord.commit_round c))
     brought _ _ (QueryRan done server asked value k) moves =
         last_asks sc declared P c done asked server value h (awaited done server asked value k) (no_query sc c declared (done.query + 1) h.declared_is (last_is sc c done.query asked homes k.asked_is moves))
+
+-- ---- timers
+
+-- a query that is sent again is the one that is asked, in its own turn
+query_again_fits : (sc : Scenario) (declared : Transaction) (P : ℕ → Pair) (c : Coordinator) (number : ℕ) (server : ServerId) → CoordinatorPaired sc declared P c → c.phase ≡ phase.Querying number None
+    → coord.home_of sc c number ≡ Some server → QueryFits (site_of sc server.0 declared) (P server.0) (coord.query_request sc c c.turn server number)
+query_again_fits sc declared P c number server h querying home =
+    let is : (P server.0).asker ≡ Some (asking_of server.0 c c.turn) = asker_there sc declared P c server.0 h (ap is_undecided querying)
+    ∙ ap (λ (s : Stand). Some (record { stand = s; turn = c.turn; epoch = option_flatten (slice_get c.epochs server.0); deeds = c.deeds })) (ap stand_of querying) in
+    query_requested sc declared (P server.0) c c.turn number server h.declared_is (h.fits server.0) is (subst (λ (p : Phase). PhaseNumbered p c.deeds) querying h.numbered) (home_is sc c number server home)
+
+-- the awaited servers are asked to prepare again
+prepares_again_ask : (sc : Scenario) (declared : Transaction) (P : ℕ → Pair) (c : Coordinator) (round : Round) (staple : Staple) → CoordinatorPaired sc declared P c → c.phase ≡ phase.Checking span.Commit round staple
+    → Each (λ (letter : Letter). AskPairs sc declared c.txn P letter.to letter.body) (map (coord.prepare_letter c c.turn round staple) (missing_in round.targets))
+prepares_again_ask sc declared P c round staple h checking =
+    let undecided : is_undecided c.phase ≡ true = ap is_undecided checking in
+    let kept : EachServer (KeepsEpoch c) round.targets = subst (PhaseKept (KeepsEpoch c)) checking (h.keeps undecided) in
+    prepare_fits_in_pairs sc declared P c c c.turn round staple (missing_in round.targets) refl (λ at. asker_there sc declared P c at h undecided) h.fits (ap stand_of checking) refl
+    (each_missing (KeepsEpoch c) round.targets kept) (subst (PhaseNames sc declared) checking h.names)
+
+-- what a timer sends again, at each server as it is
+pub repeats_ask : (sc : Scenario) (declared : Transaction) (P : ℕ → Pair) (c : Coordinator) → CoordinatorPaired sc declared P c
+    → Each (λ (letter : Letter). AskPairs sc declared c.txn P letter.to letter.body) (coord.repeats sc c c.phase)
+repeats_ask sc declared P c h =
+    timer_by sc c (λ (letters : List Letter). Each (λ (letter : Letter). AskPairs sc declared c.txn P letter.to letter.body) letters)
+    (record {
+      silent = tt;
+      queried = λ number server querying home. ((refl, query_again_fits sc declared P c number server h querying home), tt);
+      asked = λ over round asking. (tt, tt);
+      prepared = λ round staple checking. prepares_again_ask sc declared P c round staple h checking;
+      ordered = λ ended awaited ending. orders_ask sc declared c.txn P c ended awaited;
+    })

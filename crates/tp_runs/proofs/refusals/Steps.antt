@@ -48,7 +48,7 @@ use Rattle.tp_machine.specs.Parts.{Part}
 use Rattle.tp_types.specs.Each.{Each}
 use Rattle.tp_runs.specs.Sound.{IsSound, IsSoundBody, IsSoundMail}
 use Rattle.tp_machine.specs.Named.{IsStepOf}
-use Rattle.tp_coord.specs.Row.{asks, commit_round, coordinator_row, next_number, refused_by, sends_query, submit_row}
+use Rattle.tp_coord.specs.Row.{asks, commit_round, coordinator_row, next_number, refused_by, repeats, sends_query, submit_row}
 use Rattle.tp_coord.specs.State.{Coordinator}
 use Rattle.tp_machine.specs.declared.actors.Actors.{Actors}
 use Rattle.tp_coord.specs.declared.coordinator.Phase.TheVariants as phase
@@ -428,6 +428,7 @@ refusals_cases sc w valid rightly sound a pairs serial known h =
           (row_opens part.up c effect.state up.up
           (λ undecided. other_phase c effect.state (ap is_undecided idle) (λ prepares. let stands : stand_of c.phase ≡ Rests = ap stand_of idle in cc))) (tt, tt)
           (begins_shown sc w (own ++ coordinator_facts effect.reaction.append) c);
+      timed = λ txn part c exists up begun. still_refuses sc w [] w.actors (repeats sc c c.phase) h refl refl (λ other. refl) tt;
     }
 
 -- a step that is not refused keeps what is said of refusals

@@ -8,7 +8,7 @@ use Rattle.tp_types.proofs.EachLemmas.{placed_set}
 use Rattle.tp_types.specs.Each.{Each, EachPlaced}
 use Rattle.tp_machine.specs.Machine.{with_age}
 use Rattle.tp_scheme.specs.declared.moves.Point.TheVariants as point
-use Rattle.tp_coord.proofs.Rows.{Gained, IsPassed, QueryRan, coordinator_by, submit_by, with_gained}
+use Rattle.tp_coord.proofs.Rows.{Gained, IsPassed, QueryRan, coordinator_by, submit_by, timer_by, with_gained}
 use Rattle.tp_coord.specs.Row as coord
 use Rattle.tp_coord.specs.State.{Coordinator}
 use Rattle.tp_round.specs.declared.round.Round.{Round}
@@ -89,4 +89,19 @@ submit_row_since S R sc c place h =
     (record {
       ignored = record { kept = h; letters = tt };
       sent = λ server home. record { kept = h; letters = (told_since S c server (coord.epoch_told c server) refl h, tt) };
+    })
+
+-- a request that is sent again
+pub repeats_since : (S : TxnId → ServerId → ℕ → Type 0) (R : TxnId → ServerId → Type 0) (sc : Scenario) (c : Coordinator) → KeptSince S c.txn c → (is_undecided c.phase ≡ true → PhaseKept (KeepsEpoch c) c.phase)
+    → Each (LetterSince S R) (coord.repeats sc c c.phase)
+repeats_since S R sc c h round =
+    timer_by sc c (Each (LetterSince S R))
+    (record {
+      silent = tt;
+      queried = λ number server querying home. (told_since S c server (coord.epoch_told c server) refl h, tt);
+      asked = λ over asking e. (tt, tt);
+      prepared = λ asking staple checking.
+          let targets : EachServer (KeepsEpoch c) asking.targets = subst (PhaseKept (KeepsEpoch c)) checking (round (ap is_undecided checking)) in
+          prepares_since S R c c.turn asking staple (missing_in asking.targets) h (each_missing (KeepsEpoch c) asking.targets targets);
+      ordered = λ ended awaited ending. orders_since S R c ended awaited;
     })

@@ -14,7 +14,7 @@ use Rattle.tp_machine.specs.Parts.{Part}
 use Rattle.tp_types.proofs.EachLemmas.{each_get, placed_none, some_value}
 use Rattle.tp_types.specs.Each.{Each}
 use Rattle.tp_coord.specs.Opened as coord_opened
-use Rattle.tp_coord.specs.Row.{coordinator_row, submit_row}
+use Rattle.tp_coord.specs.Row.{coordinator_row, repeats, submit_row}
 use Rattle.tp_coord.specs.State.{Coordinator}
 use Rattle.tp_server.proofs.Rows.{IsLateRequest, IsLost}
 use Rattle.tp_server.specs.Opened as server_opened
@@ -40,7 +40,7 @@ use Rattle.tp_runs.proofs.epochs.World.{Epochs, made_from_zero}
 use Rattle.tp_runs.proofs.known.World.{Pairs, declared_by}
 use Rattle.tp_runs.proofs.pairs.Actors.{BodyPairs, LetterPairs, pair_at, site_of}
 use Rattle.tp_runs.proofs.pairs.Fits.{Covers, QueryFits, Tells}
-use Rattle.tp_runs.proofs.restarts.Coordinators.{ActSince, coordinator_row_since, submit_row_since}
+use Rattle.tp_runs.proofs.restarts.Coordinators.{ActSince, coordinator_row_since, repeats_since, submit_row_since}
 use Rattle.tp_runs.proofs.restarts.Counted.{IsCounted, since_made}
 use Rattle.tp_runs.proofs.restarts.Servers.{IsKnownMail, RowSince, server_row_since}
 use Rattle.tp_runs.proofs.restarts.Shown.{other_epoch, restart_shown}
@@ -150,6 +150,14 @@ begun_since sc w txn part c sound h up =
     coordinator_acts_since w txn part.log (Some effect.state) (what.Submitted txn ∷ []) effect.reaction.append effect.reaction.letters h
     (record { state = subst (λ (t : TxnId). KeptSince S t effect.state) same row.kept; letters_are = row.letters; servers = λ other. refl; down = λ down. absurd (cc) })
 
+-- ---- a timer fires
+
+timed_since : (sc : Scenario) (w : State) (txn : TxnId) (part : Part Coordinator) (c : Coordinator) → IsSound sc w → Epochs sc w → Restarts w → IsCoordinatorUp w txn part c
+    → MoveSince w (record { actors = w.actors; happened = []; letters = repeats sc c c.phase })
+timed_since sc w txn part c sound epochs h up =
+    still_since w w.actors [] (repeats sc c c.phase) h refl refl (λ n. refl)
+    (repeats_since (SinceIn w.steps w.facts) (ShownIn w.facts (length w.steps)) sc c (kept_here sc w txn part c h up (own_txn sc w txn part c sound up.found up.up)) (round_kept sc w txn part c epochs up))
+
 -- ---- the others
 
 tells_no_epoch : (S : TxnId → ServerId → ℕ → Type 0) (R : TxnId → ServerId → Type 0) (authority : Authority) (said : Body) → Each (LetterSince S R) (office.on_body authority said).reaction.letters
@@ -183,6 +191,7 @@ restarts_cases sc w rightly sound a epochs ages pairs told h =
       ticked = λ by. still_since w (record w.actors { authority = office.after_tick by w.actors.authority }) (what.Ticked by ∷ []) [] h refl refl (λ other. refl) tt;
       revoked = λ cred exists. still_since w (record w.actors { authority = office.after_revocation cred w.actors.authority }) (what.Revoked cred ∷ []) [] h refl refl (λ other. refl) tt;
       begun = λ txn part c exists up new. begun_since sc w txn part c sound h up;
+      timed = λ txn part c exists up begun. timed_since sc w txn part c sound epochs h up;
     }
 
 -- a step that is not refused keeps what is said of restarts

@@ -48,6 +48,7 @@ uncrashed_cases sc w =
       ticked = λ by who. refl;
       revoked = λ cred exists who. refl;
       begun = λ txn part c exists up new who. coordinator_notes who (what.Submitted txn ∷ []) part.log (submit_row sc c).reaction.append;
+      timed = λ txn part c exists up begun who. refl;
     }
 
 pub uncrashed_next : (sc : Scenario) (m : Machine) (taken : Step) → IsStepOf sc taken → refusal m.state taken ≡ None → Agrees sc m.state → Uncrashed m.state → Uncrashed (machine_after sc m taken).state

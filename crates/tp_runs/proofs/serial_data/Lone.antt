@@ -152,6 +152,7 @@ lone_cases sc w =
       ticked = λ by. omega arith;
       revoked = λ cred exists. omega arith;
       begun = λ txn part c exists up new. after_submission txn (flat_map coordinator_fact (drop (length part.log) (log_with part.log (submit_row sc c).reaction.append))) (coordinator_one sc part (submit_row sc c));
+      timed = λ txn part c exists up begun. omega arith;
     }
 
 -- a step keeps that no place has two commits

@@ -45,7 +45,7 @@ use Rattle.tp_runs.specs.Sound.{IsSound, IsSoundBody, IsSoundQuery}
 use Rattle.tp_machine.specs.Named.{IsStepOf, IsTxn}
 use Rattle.tp_coord.specs.Opened as coord
 use Rattle.tp_coord.specs.Opened.{idle}
-use Rattle.tp_coord.specs.Row.{coordinator_row, submit_row}
+use Rattle.tp_coord.specs.Row.{coordinator_row, repeats, submit_row}
 use Rattle.tp_coord.specs.State.{Coordinator}
 use Rattle.tp_server.specs.declared.server.Ballot.{Ballot}
 use Rattle.tp_server.specs.declared.server.Entry.{Entry}
@@ -175,6 +175,7 @@ serial_cases sc w valid rightly sound agrees pairs h =
       ticked = λ by. unmoved_serial sc w (record w.actors { authority = office.after_tick by w.actors.authority }) (what.Ticked by ∷ []) [] h refl refl (tt, tt);
       revoked = λ cred exists. unmoved_serial sc w (record w.actors { authority = office.after_revocation cred w.actors.authority }) (what.Revoked cred ∷ []) [] h refl refl (tt, tt);
       begun = λ txn part c exists up new. begun_serial sc w valid sound agrees pairs h txn part c exists up new;
+      timed = λ txn part c exists up begun. unmoved_serial sc w w.actors [] (repeats sc c c.phase) h refl refl tt;
     }
 
 -- a step that is not refused keeps data serial

@@ -359,6 +359,7 @@ sizes_cases sc w plain homes valid rightly sound agrees pairs trusts h =
       revoked = λ cred exists. unmoved_small w.actors _ refl refl h;
       begun = λ txn part c exists up new.
           coordinators_small w.actors txn part (Some (with_age (submit_row sc c) (length w.steps)).state) (with_age (submit_row sc c) (length w.steps)).reaction.append h up.found (submit_small sc c (length w.steps));
+      timed = λ txn part c exists up begun. h;
     }
 
 -- a step that is not refused forces small records

@@ -190,6 +190,13 @@ sent_timely sc coordinators txn now sent said e h =
     (λ stamped k. subst (λ (t : TxnId). IfSome (up_at coordinators t.0) (TurnFits sc sent stamped.turn said)) (sym k.own)
     (subst (λ (u : Option Coordinator). IfSome u (TurnFits sc sent stamped.turn said)) (sym e) k.timely)) h
 
+-- what a coordinator that stays sends in its turn is timely
+pub own_timely : (sc : Scenario) (coordinators : List (Part Coordinator)) (txn : TxnId) (part : Part Coordinator) (c : Coordinator) (sent : ℕ) (letters : List Letter) → slice_get coordinators txn.0 ≡ Some part → part.up ≡ Some c
+    → Each (LetterOfTurn sc txn (Some c) sent) letters → Each (λ (letter : Letter). BodyTimely sc coordinators sent letter.body) letters
+own_timely sc coordinators txn part c sent letters found up h =
+    each_as (LetterOfTurn sc txn (Some c) sent) (λ (letter : Letter). BodyTimely sc coordinators sent letter.body)
+    (λ letter k. sent_timely sc coordinators txn (Some c) sent letter.body (ap (option_and_then up_of) found ∙ up) k) letters h
+
 -- the act of a coordinator, with what the step says by itself; what it rests on is said of the facts after it
 pub record ActTrusts (sc : Scenario) (w : State) (txn : TxnId) (was now : Option Coordinator) (own : List What) (append : Option Record) (sent : List Letter) : Type 0 where
   pub says : SaysFit sc (length w.steps) own

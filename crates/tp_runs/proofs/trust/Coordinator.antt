@@ -36,15 +36,15 @@ use Rattle.tp_runs.proofs.trust.Phases.{PhaseFits}
 use Rattle.tp_runs.proofs.trust.RoundAims.{round_updated}
 use Rattle.tp_runs.proofs.trust.RoundProofs.{round_closes}
 use Rattle.tp_runs.proofs.trust.Rounds.{AimedReply, AreNumbersAt, IsRoundNumber, RoundFits, few_rounds, round_denies, round_replied, round_starts, round_wants, want_published}
-use Rattle.tp_runs.proofs.basics.Turns.{AreFew, IsAbove, IsOfPast, IsTimely, Now, PrepareNow, Stamp, TurnFits, ValidateNow, VerdictsNow, VoteNow, WantNow, admin_asked, admin_of_query, ceiling, died_move, end_move, first_move, further_move, low_query, low_round, next_move, number_within, query_count, raised, round_move, stamp_of, turn_rises}
+use Rattle.tp_runs.proofs.basics.Turns.{AreFew, IsAbove, IsOfPast, IsTimely, Now, PrepareNow, QueryNow, Stamp, TurnFits, ValidateNow, VerdictsNow, VoteNow, WantNow, admin_asked, admin_of_query, ceiling, died_move, end_move, first_move, further_move, low_query, low_round, next_move, number_within, query_count, raised, round_move, stamp_of, turn_rises}
 use Rattle.tp_scheme.specs.Gathered.{pin_of}
 use Rattle.tp_scheme.specs.declared.moves.Point.TheVariants as point
-use Rattle.tp_coord.proofs.Rows.{AllTrue, ByOlder, ByProof, ByRefusal, Gained, HasVoted, IsEnded, IsPassed, IsYes, QueryRan, coordinator_by, gains_instances, submit_by, with_gained}
+use Rattle.tp_coord.proofs.Rows.{AllTrue, ByOlder, ByProof, ByRefusal, Gained, HasVoted, IsEnded, IsPassed, IsYes, QueryRan, coordinator_by, gains_instances, submit_by, timer_by, with_gained}
 use Rattle.tp_machine.specs.Machine.{with_age}
 use Rattle.tp_types.specs.Each.{Each}
 use Rattle.tp_runs.specs.Sound.{IsSoundBody, query_in}
 use Rattle.tp_coord.specs.Opened.{servers_at}
-use Rattle.tp_coord.specs.Row.{aborts, asks, closes, commit_record, commit_round, commits, coordinator_row, coordinator_with_age, denied_by, died_for, is_begun, next_number, next_turn, prepare_letter, prepares, refused_by, requests, sends_query, staple_of, submit_row, want_for, without}
+use Rattle.tp_coord.specs.Row.{aborts, asks, closes, commit_record, commit_round, commits, coordinator_row, coordinator_with_age, denied_by, died_for, is_begun, next_number, next_turn, prepare_letter, prepare_request, prepares, query_request, refused_by, repeats, requests, sends_query, staple_of, submit_row, want_for, without}
 use Rattle.tp_coord.specs.State.{Coordinator}
 use Rattle.tp_coord.specs.declared.coordinator.Phase.TheVariants as phase
 use Rattle.tp_coord.specs.declared.coordinator.Phase.{Phase}
@@ -230,11 +230,14 @@ prepare_letters_fit sc facts place sent c turn round staple [] h r = tt
 prepare_letters_fit sc facts place sent c turn round staple (at ∷ servers) h r =
     ((h, want_published sc facts place c.txn span.Commit round at r), prepare_letters_fit sc facts place sent c turn round staple servers h r)
 
-prepare_letters_timely : (sc : Scenario) (c : Coordinator) (round : Round) (staple : Staple) (sent : ℕ) (servers : List ServerId) → Each (λ (at : ServerId). WantNow round (want_for round at)) servers
-    → Each (LetterOfTurn sc c.txn (Some (record c { turn = next_turn c; phase = phase.Checking span.Commit round staple })) sent) (map (prepare_letter c (next_turn c) round staple) servers)
-prepare_letters_timely sc c round staple sent [] h = tt
-prepare_letters_timely sc c round staple sent (at ∷ servers) h =
-    (record { own = refl; timely = λ unsure. record { past = omega arith; now = λ same. (refl, h.0) } }, prepare_letters_timely sc c round staple sent servers h.1)
+-- and is of the turn of the coordinator that checks by it
+prepare_letters_timely : (sc : Scenario) (c next : Coordinator) (round : Round) (staple : Staple) (sent : ℕ) (servers : List ServerId) → next.phase ≡ phase.Checking span.Commit round staple
+    → Each (λ (at : ServerId). WantNow round (want_for round at)) servers → Each (LetterOfTurn sc c.txn (Some next) sent) (map (prepare_letter c next.turn round staple) servers)
+prepare_letters_timely sc c next round staple sent [] e h = tt
+prepare_letters_timely sc c next round staple sent (at ∷ servers) e h = (
+  record { own = refl; timely = λ unsure. record { past = omega arith; now = λ same. subst (λ (awaited : Phase). PrepareNow awaited (prepare_request c next.turn round staple at)) (sym e) (refl, h.0) } },
+  prepare_letters_timely sc c next round staple sent servers e h.1,
+)
 
 prepares_trusts : (sc : Scenario) (facts : List Fact) (place : ℕ) (c : Coordinator) (round : Round) (staple : Staple) → AreFew sc → ArePlain sc → CoordinatorFits sc facts place c → c.phase ≡ phase.Asking span.Commit round
     → StapleFits sc facts place c.txn staple → RowTrusts sc facts place c (prepares c span.Commit round staple)
@@ -249,7 +252,7 @@ prepares_trusts sc facts place c round staple few plain h e s =
       fits = record { awaits = (f.0, f.1, s); so_far = λ unsure. moved_on sc facts place c.txn c.phase next.phase c.instances c.gathered plain (h.so_far undecided); above = λ unsure. h.above undecided; turn = omega (arith, rises, low) };
       decides = tt;
       says = λ sent. prepare_letters_fit sc facts place sent c (next_turn c) round staple (missing_in round.targets) s f.1;
-      timely = λ sent. prepare_letters_timely sc c round staple sent (missing_in round.targets) (round_wants sc facts place c.txn span.Commit round f.1);
+      timely = λ sent. prepare_letters_timely sc c next round staple sent (missing_in round.targets) refl (round_wants sc facts place c.txn span.Commit round f.1);
       old = λ sent turn said t. raised sc c next sent turn said undecided rises t;
     }
 
@@ -537,3 +540,41 @@ pub submit_row_trusts : (sc : Scenario) (facts : List Fact) (place age : ℕ) (c
 submit_row_trusts sc facts place age c plain h b submitted =
     submit_by sc c (λ (effect : Effect Coordinator). RowTrusts sc facts place c (with_age effect age))
     (record { ignored = unsent_trusts sc facts place age c h; sent = λ server home. sent_trusts sc facts place age c server plain h (idle_is c.phase b) submitted })
+
+-- ---- timers
+
+-- a request that is sent again fits, as it did before
+pub repeats_fit : (sc : Scenario) (facts : List Fact) (place sent : ℕ) (c : Coordinator) → CoordinatorFits sc facts place c → Each (λ (letter : Letter). BodyFits sc facts place sent letter.body) (repeats sc c c.phase)
+repeats_fit sc facts place sent c h =
+    timer_by sc c (Each (λ (letter : Letter). BodyFits sc facts place sent letter.body))
+    (record {
+      silent = tt;
+      queried = λ number server querying home. (record { stapled = tt; pinned = tt }, tt);
+      asked = λ over round asking. ((phase_fits sc facts place c (phase.Asking over round) h asking).0, tt);
+      prepared = λ round staple checking.
+          let f = phase_fits sc facts place c (phase.Checking span.Commit round staple) h checking in
+          prepare_letters_fit sc facts place sent c c.turn round staple (missing_in round.targets) f.2 f.1;
+      ordered = λ ended awaited ending. orders_fit sc facts place sent c ended awaited;
+    })
+
+-- a query that is asked again is that of the phase
+query_again_now : (sc : Scenario) (facts : List Fact) (place : ℕ) (c : Coordinator) (number : ℕ) (server : ServerId) → ArePlain sc → CoordinatorFits sc facts place c → c.phase ≡ phase.Querying number None
+    → QueryNow sc c c.phase (query_request sc c c.turn server number)
+query_again_now sc facts place c number server plain h querying =
+    subst (λ (awaited : Phase). QueryNow sc c awaited (query_request sc c c.turn server number)) (sym querying)
+    (record { query = refl; staple_is = refl; pin_is = unpinned sc facts place c.txn c.phase c.instances c.gathered number plain (h.so_far (ap is_undecided querying)) })
+
+-- what is sent again is of the coordinator's present turn
+pub repeats_timely : (sc : Scenario) (facts : List Fact) (place sent : ℕ) (c : Coordinator) → ArePlain sc → CoordinatorFits sc facts place c → Each (LetterOfTurn sc c.txn (Some c) sent) (repeats sc c c.phase)
+repeats_timely sc facts place sent c plain h =
+    timer_by sc c (Each (LetterOfTurn sc c.txn (Some c) sent))
+    (record {
+      silent = tt;
+      queried = λ number server querying home.
+          (record { own = refl; timely = λ unsure. record { past = omega arith; now = λ same. query_again_now sc facts place c number server plain h querying } }, tt);
+      asked = λ over round asking. (record { own = refl; timely = λ unsure. record { past = omega arith; now = λ same. tt } }, tt);
+      prepared = λ round staple checking.
+          prepare_letters_timely sc c c round staple sent (missing_in round.targets) checking
+          (round_wants sc facts place c.txn span.Commit round (phase_fits sc facts place c (phase.Checking span.Commit round staple) h checking).1);
+      ordered = λ ended awaited ending. orders_timely sc c (Some c) sent ended awaited;
+    })

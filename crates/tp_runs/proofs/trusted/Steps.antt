@@ -28,9 +28,9 @@ use Rattle.tp_runs.proofs.pairs.Fits.{Fits, PrepareFits}
 use Rattle.tp_runs.proofs.pairs.Pair.{Pair}
 use Rattle.tp_runs.proofs.pairs.Votes.{has_deeds}
 use Rattle.tp_runs.proofs.known.World.{Pairs, declared_by, pair_of_up}
-use Rattle.tp_runs.proofs.trust.Acts.{ActTrusts, act_trusts, coordinator_acts_trusts, server_acts_trusts, tells_fit, tells_timely, timely_closed, unmoved_trusts}
+use Rattle.tp_runs.proofs.trust.Acts.{ActTrusts, act_trusts, coordinator_acts_trusts, own_timely, server_acts_trusts, tells_fit, tells_timely, timely_closed, unmoved_trusts}
 use Rattle.tp_runs.proofs.trust.Built.{ArePlain, are_plain, known_at_first}
-use Rattle.tp_runs.proofs.trust.Coordinator.{CoordinatorFits, CoordinatorTrusts, LetterOfTurn, PresentMail, RecordDecides, RowTrusts, coordinator_row_trusts, submit_row_trusts}
+use Rattle.tp_runs.proofs.trust.Coordinator.{CoordinatorFits, CoordinatorTrusts, LetterOfTurn, PresentMail, RecordDecides, RowTrusts, coordinator_row_trusts, repeats_fit, repeats_timely, submit_row_trusts}
 use Rattle.tp_runs.proofs.trust.Fit.{BodyFits, IsSubmitted, Later, MailFits, ServerFits, maybe_stays}
 use Rattle.tp_runs.proofs.trust.Kept.{AreKept, IsKept, IsTrusted}
 use Rattle.tp_runs.proofs.trust.Offices.{newest_fits, newest_timely, none_revoked, opening_fits, published_trusts, pushed_fits, revoked_trusts, ticked_trusts}
@@ -48,7 +48,7 @@ use Rattle.tp_runs.proofs.epochs.World.{made_from_zero}
 use Rattle.tp_coord.proofs.Rows.{submit_by}
 use Rattle.tp_coord.specs.Opened as coord
 use Rattle.tp_coord.specs.Opened.{idle}
-use Rattle.tp_coord.specs.Row.{coordinator_row, is_begun, submit_row}
+use Rattle.tp_coord.specs.Row.{coordinator_row, is_begun, repeats, submit_row}
 use Rattle.tp_coord.specs.State.{Coordinator}
 use Rattle.tp_server.specs.declared.server.Entry.{Entry}
 use Rattle.tp_server.specs.Opened as server
@@ -209,6 +209,20 @@ begun_trusts sc w plain sound past h txn part c up new =
     (subst (λ (was : Option Coordinator). ActTrusts sc w txn was (Some effect.state) own effect.reaction.append effect.reaction.letters) (sym up.up)
     (submission_fits sc w txn c plain (own_txn sc w txn part c sound up.found up.up) (coordinator_fits sc w txn part c h up) new))
 
+-- ---- timers
+
+-- what is sent again fits, and is of the present turn
+timed_trusts : (sc : Scenario) (w : State) → ArePlain sc → IsSound sc w → ArePast (length w.steps) w.facts → Trusts sc w → (txn : TxnId) (part : Part Coordinator) (c : Coordinator) → IsCoordinatorUp w txn part c
+    → MoveTrusts sc w (record { actors = w.actors; happened = []; letters = repeats sc c c.phase })
+timed_trusts sc w plain sound past h txn part c up =
+    let place = length w.steps in
+    let same : c.txn ≡ txn = own_txn sc w txn part c sound up.found up.up in
+    let fits = coordinator_fits sc w txn part c h up in
+    let later = coordinator_stays sc w.facts (facts_after w []) place (place + 1) c (later_with_facts w [] (place + 1) (omega arith)) fits in
+    unmoved_trusts sc w [] (repeats sc c c.phase) past h (record { still = tt; fit = λ facts. tt }) (repeats_fit sc (facts_after w []) (place + 1) place c later)
+    (own_timely sc w.actors.coordinators txn part c place (repeats sc c c.phase) up.found up.up
+    (subst (λ (t : TxnId). Each (LetterOfTurn sc t (Some c) place) (repeats sc c c.phase)) same (repeats_timely sc w.facts place place c plain fits)))
+
 -- ---- steps
 
 trusts_cases : (sc : Scenario) (w : State) → is_built sc ≡ true → IsValid sc → AreFew sc → WaitRightly sc w → IsSound sc w → Agrees sc w → Pairs sc w → Trusts sc w → Cases sc w (λ taken move. MoveTrusts sc w move)
@@ -230,6 +244,7 @@ trusts_cases sc w built valid few rightly sound a pairs h =
       ticked = λ by. ticked_trusts sc w by a.past h;
       revoked = λ cred exists. revoked_trusts sc w cred exists a.past h;
       begun = λ txn part c exists up new. begun_trusts sc w (are_plain sc built) sound a.past h txn part c up new;
+      timed = λ txn part c exists up begun. timed_trusts sc w (are_plain sc built) sound a.past h txn part c up;
     }
 
 -- a step that is not refused keeps what trust rests on

@@ -1,7 +1,7 @@
 -- One walk of a step: what a theorem shows of each kind of step it shows of every step. A new kind of step is a new field here, and a
 -- field of each theorem's cases.
-use Rattle.std.proofs.Common.{◌≡◌, ℕ, List, [], ◌∷◌, length, slice_get, Bool, true, false, Option, Some, None, if◌then◌else◌, refl, sym, subst, arith}
-use Rattle.std.specs.Option.{option_map_or}
+use Rattle.std.proofs.Common.{◌≡◌, ℕ, List, [], ◌∷◌, length, slice_get, Bool, true, false, Option, Some, None, is_none, if◌then◌else◌, refl, sym, subst, arith}
+use Rattle.std.specs.Option.{option_map_or, option_or}
 use Rattle.tp_model.specs.Words.{Actor, AdminId, CredId, Mail, Scenario, ServerId, Step, TxnId, What}
 use Rattle.tp_model.specs.Words.actor
 use Rattle.tp_model.specs.Words.step
@@ -11,10 +11,10 @@ use Rattle.tp_machine.specs.declared.error.StepError.{StepError}
 use Rattle.tp_machine.specs.declared.error.StepError.TheVariants as error
 use Rattle.tp_machine.specs.Parts.{Part}
 use Rattle.tp_server.specs.State.{Server}
-use Rattle.tp_machine.specs.Machine.{Machine, Move, State, acts_by, coordinator_fact, coordinator_move, coordinator_submits_up, coordinator_takes_up, delivery, idle_move, is_part_submitted, is_submitted, machine_after, publishes, pushes, receipt, refusal, revokes, server_fact, server_move, server_takes_up, state_after, submission, submission_by, ticks, to_authority, to_coordinator, to_master, to_server, with_age}
+use Rattle.tp_machine.specs.Machine.{Machine, Move, State, acts_by, coordinator_fact, coordinator_move, coordinator_submits_up, coordinator_takes_up, delivery, idle_move, is_down, is_part_down, is_part_submitted, is_submitted, machine_after, publishes, pushes, receipt, refusal, repeats_of, revokes, server_fact, server_move, server_takes_up, state_after, submission, submission_by, ticks, times, to_authority, to_coordinator, to_master, to_server, with_age}
 use Rattle.tp_machine.specs.Named.{IsAdmin, IsCred, IsServer, IsStepOf, IsTxn}
 use Rattle.tp_server.proofs.Rows.{AreRightWaits}
-use Rattle.tp_coord.specs.Row.{coordinator_row, submit_row}
+use Rattle.tp_coord.specs.Row.{coordinator_row, is_begun, repeats, submit_row}
 use Rattle.tp_server.specs.Row.{server_row}
 use Rattle.tp_offices.specs.Master as master
 use Rattle.tp_runs.proofs.basics.Logs.{set_same}
@@ -60,6 +60,9 @@ pub record Cases (sc : Scenario) (w : State) (P : Step → Move → Type 0) : Ty
   pub revoked : (cred : CredId) → IsCred sc cred → P (step.Revoke cred) (revokes w.actors cred)
   pub begun : (txn : TxnId) (part : Part Coordinator) (c : Coordinator) → IsTxn sc txn → IsCoordinatorUp w txn part c → is_part_submitted (Some c) ≡ false
       → P (step.Submit txn) (coordinator_move w.actors txn (acts_by coordinator_fact (what.Submitted txn ∷ []) part.log (with_age (submit_row sc c) (length w.steps))))
+  -- a timer fires, and the coordinator's outstanding request is sent again
+  pub timed : (txn : TxnId) (part : Part Coordinator) (c : Coordinator) → IsTxn sc txn → IsCoordinatorUp w txn part c → is_begun c.phase ≡ true
+      → P (step.Timer txn) (record { actors = w.actors; happened = []; letters = repeats sc c c.phase })
 
 -- ---- receipts
 
@@ -112,6 +115,26 @@ submission_by_part : (sc : Scenario) (w : State) (P : Step → Move → Type 0) 
 submission_by_part sc w P cases txn None count exists e new = absurd (missing w.actors.coordinators txn.0 (omega (arith, exists, count)) e)
 submission_by_part sc w P cases txn (Some part) count exists e new = begun_by_up sc w P cases txn part part.up exists e refl new
 
+-- ---- timers
+
+-- a timer that is not refused is of a transaction that was submitted, and whose coordinator is up
+is_timed : (begun down : Bool) (one other : StepError) → option_or (if begun then None else Some one) (if down then Some other else None) ≡ None → (begun ≡ true) × (down ≡ false)
+is_timed true false one other e = (refl, refl)
+is_timed true true one other e = absurd (cc)
+is_timed false down one other e = absurd (cc)
+
+timed_by_up : (sc : Scenario) (w : State) (P : Step → Move → Type 0) → Cases sc w P → (txn : TxnId) (part : Part Coordinator) (up : Option Coordinator) → IsTxn sc txn
+    → slice_get w.actors.coordinators txn.0 ≡ Some part → part.up ≡ up → is_part_submitted up ≡ true → is_none up ≡ false
+    → P (step.Timer txn) (record { actors = w.actors; happened = []; letters = repeats_of sc up })
+timed_by_up sc w P cases txn part None exists found e submitted running = absurd (cc)
+timed_by_up sc w P cases txn part (Some c) exists found e submitted running = cases.timed txn part c exists (record { found = found; up = e }) submitted
+
+timed_by_part : (sc : Scenario) (w : State) (P : Step → Move → Type 0) → Cases sc w P → (txn : TxnId) (part : Option (Part Coordinator)) → length w.actors.coordinators ≡ length sc.txns → IsTxn sc txn
+    → slice_get w.actors.coordinators txn.0 ≡ part → option_map_or (λ (p : Part Coordinator). is_part_submitted p.up) part false ≡ true → option_map_or is_part_down part false ≡ false
+    → P (step.Timer txn) (record { actors = w.actors; happened = []; letters = option_map_or (λ (p : Part Coordinator). repeats_of sc p.up) part [] })
+timed_by_part sc w P cases txn None count exists e submitted running = absurd (missing w.actors.coordinators txn.0 (omega (arith, exists, count)) e)
+timed_by_part sc w P cases txn (Some part) count exists e submitted running = timed_by_up sc w P cases txn part part.up exists e refl submitted running
+
 -- ---- publications
 
 -- a publication that is not refused finds a version in the library
@@ -138,4 +161,7 @@ machine_after_by sc m P Q cases count ends unchanged (step.Push admin server) ex
     ends (step.Push admin server) (pushes m.state.actors admin server) (cases.pushed admin server exists.0 exists.1)
 machine_after_by sc m P Q cases count ends unchanged (step.Tick by) exists allowed = ends (step.Tick by) (ticks m.state.actors by) (cases.ticked by)
 machine_after_by sc m P Q cases count ends unchanged (step.Revoke cred) exists allowed = ends (step.Revoke cred) (revokes m.state.actors cred) (cases.revoked cred exists)
+machine_after_by sc m P Q cases count ends unchanged (step.Timer txn) exists allowed =
+    let parts = is_timed (is_submitted m.state.actors txn) (is_down m.state.actors (actor.Coordinator txn)) (error.NotSubmitted txn) (error.IsDown (actor.Coordinator txn)) allowed in
+    ends (step.Timer txn) (times sc m.state.actors txn) (timed_by_part sc m.state P cases txn (slice_get m.state.actors.coordinators txn.0) count exists refl parts.0 parts.1)
 machine_after_by sc m P Q cases count ends unchanged _ exists allowed = unchanged
