@@ -2,6 +2,7 @@
 pub mod Coordinator
 pub mod CoordinatorActs
 pub mod End
+pub mod Ended
 pub mod Known
 pub mod Logs
 pub mod Server

@@ -1,14 +1,15 @@
 -- What holds of every run of the machine.
-use Rattle.std.specs.Prelude.{◌≡◌, ◌*◌, ◌≤◌, List, length, true, ℕ}
-use Rattle.tp_model.specs.Words.{Record, Scenario, Step}
+use Rattle.std.specs.Prelude.{◌≡◌, ◌*◌, ◌≤◌, ◌&&◌, Bool, List, length, not, true, ℕ}
+use Rattle.tp_model.specs.Words.{Record, Scenario, Step, TxnId}
 use Rattle.tp_model.specs.Built.{is_built}
 use Rattle.tp_model.specs.SerialRun.{store_of}
 use Rattle.tp_model.specs.TrustedHistory.{TrustedSoFar, have_ended}
-use Rattle.tp_machine.specs.Machine.{State, after, ending_of}
+use Rattle.tp_machine.specs.declared.actors.Actors.{Actors}
+use Rattle.tp_machine.specs.Machine.{State, after, ending_of, is_armed_at, is_submitted}
 use Rattle.tp_machine.specs.WorldView.{WorldView}
 use Rattle.tp_types.specs.Each.{Each}
 use Rattle.tp_coord.specs.State.{Coordinator}
-use Rattle.tp_machine.specs.Named.{IsStepOf}
+use Rattle.tp_machine.specs.Named.{IsStepOf, IsTxn}
 use Rattle.tp_machine.specs.Parts.{Part}
 use Rattle.tp_record.specs.Spelling.{spelling}
 use Rattle.tp_server.specs.State.{Server}
@@ -26,6 +27,18 @@ abbrev pub HasAllCommits : Scenario → State → Type 0
 HasAllCommits sc w =
     have_ended sc w.facts 0 sc.txns ≡ true → (ending_of sc w).values ≡ store_of sc w.facts
 
+-- the transaction was submitted, and no request of it is outstanding: each of its servers has acknowledged its end
+abbrev pub is_finished : Actors → TxnId → Bool
+is_finished actors txn = is_submitted actors txn && not (is_armed_at actors txn)
+
+-- each transaction is finished
+abbrev pub AreFinished : Scenario → State → Type 0
+AreFinished sc w = (txn : TxnId) → IsTxn sc txn → is_finished w.actors txn ≡ true
+
+-- where each is finished, each was decided, and settled so at each of its servers
+abbrev pub HasAllEnds : Scenario → State → Type 0
+HasAllEnds sc w = AreFinished sc w → have_ended sc w.facts 0 sc.txns ≡ true
+
 -- of every scenario that is run, after every list of steps that name what exists, the history is trusted so far
 abbrev pub IsAlwaysTrusted : Type 0
 IsAlwaysTrusted =
@@ -37,6 +50,12 @@ abbrev pub HasAlwaysAllCommits : Type 0
 HasAlwaysAllCommits =
     (sc : Scenario) (steps : List Step) → is_built sc ≡ true → Each (IsStepOf sc) steps
     → HasAllCommits sc (after sc steps).state
+
+-- and where all are finished, all have ended
+abbrev pub HasAlwaysAllEnds : Type 0
+HasAlwaysAllEnds =
+    (sc : Scenario) (steps : List Step) → is_built sc ≡ true → Each (IsStepOf sc) steps
+    → HasAllEnds sc (after sc steps).state
 
 -- so many mails come on each step, if each query that waits counts as one more: a server that boots asks the coordinator of each
 -- transaction that it has prepared, and a scenario has at most 128 transactions; no step that is built so far sends more than 16

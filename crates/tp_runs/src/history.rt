@@ -1,10 +1,10 @@
 //! What a world has seen so far, with what holds of it at every moment.
-ghost use Rattle.std.specs.Prelude.{◌≡◌, ◌≤◌, ◌*◌, length, true, false, IfOk, IsErr};
+ghost use Rattle.std.specs.Prelude.{◌≡◌, ◌≤◌, ◌*◌, length, true, false, IfOk, IsErr, OnOk};
 ghost use Rattle.tp_model.specs.SerialRun.{overlay, store_of};
 ghost use Rattle.tp_model.specs.TrustedHistory.{have_ended};
 ghost use Rattle.tp_machine.specs.Machine.{ending_of};
 ghost use Rattle.tp_runs.specs.Bounded.{AreBounded};
-ghost use Rattle.tp_runs.specs.Laws.{IsTrustedSoFar, mails_most};
+ghost use Rattle.tp_runs.specs.Laws.{HasAllEnds, IsTrustedSoFar, mails_most};
 ghost use Rattle.tp_runs.specs.Sound.{IsSound};
 
 use std::alloc::Global;
@@ -45,12 +45,14 @@ pub fn undelivered_count(world: &World) -> u64
 }
 
 /// How many steps and mails there were, and the value of each item: its opening value, overlaid by the commits that its
-/// server has settled. Where every transaction has ended at all its servers these are the values that all commits leave.
+/// server has settled. Where every transaction is finished, each has ended at all its servers, and these are the values that all
+/// commits leave.
 pub fn ending(world: &World, alloc: Global) -> Result<Ending, NoMemory>
     ensures value { IfOk result (λ ending.
         ending ≡ ending_of world.now.scenario world.now.machine.state) }
     ensures overlaid { IfOk result (λ ending.
         ending.values ≡ overlay world.now.scenario world.now.machine.state.facts) }
+    ensures ended { OnOk result (HasAllEnds world.now.scenario world.now.machine.state) }
     ensures whole { IfOk result (λ ending.
         have_ended world.now.scenario world.now.machine.state.facts 0 world.now.scenario.txns
         ≡ true

@@ -1,12 +1,14 @@
 //! What holds of every run of the machine.
-ghost use Rattle.tp_runs.specs.Laws.{AlwaysFitLogs, HasAlwaysAllCommits, IsAlwaysTrusted, SendsFewMails};
+ghost use Rattle.tp_runs.specs.Laws.{AlwaysFitLogs, HasAlwaysAllCommits, HasAlwaysAllEnds, IsAlwaysTrusted, SendsFewMails};
 
 /// Of every scenario that is run, after every list of steps that name what exists, in any order and with any mail delivered again, the
 /// history is trusted so far: its facts agree, its commits are trusted, serial and apart, its aborts have causes, what comes from
-/// outside is what the steps say, and the values are those that the servers have settled. Where all transactions have ended at all
-/// their servers, the values are those that all commits leave.
+/// outside is what the steps say, and the values are those that the servers have settled. Where each transaction is submitted and has no
+/// request outstanding, each was decided, and settled so at each of its servers; and where that is so, the values are those that all
+/// commits leave.
 pub fn histories_are_trusted()
     ensures trusted { IsAlwaysTrusted }
+    ensures ended { HasAlwaysAllEnds }
     ensures whole { HasAlwaysAllCommits }
 {}
 

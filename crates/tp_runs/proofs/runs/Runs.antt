@@ -15,6 +15,7 @@ use Rattle.tp_runs.proofs.ages.World.{Ages, ages_next, ages_opening}
 use Rattle.tp_runs.proofs.deaths.World.{Deaths, deaths_next, deaths_opening}
 use Rattle.tp_runs.proofs.bounds.World.{Bounds, all_bounded, bounds_next, bounds_opening}
 use Rattle.tp_runs.proofs.agreement.End.{facts_agreed}
+use Rattle.tp_runs.proofs.agreement.Ended.{all_ended}
 use Rattle.tp_runs.proofs.agreement.Steps.{agrees_next, agrees_opening}
 use Rattle.tp_runs.proofs.agreement.World.{Agrees}
 use Rattle.tp_runs.proofs.epochs.World.{Epochs, epochs_next, epochs_opening, prepares_named}
@@ -27,7 +28,7 @@ use Rattle.tp_runs.proofs.known.World.{Pairs, pairs_next, pairs_opening}
 use Rattle.tp_runs.proofs.refusals.Steps.{refusals_next, refusals_opening}
 use Rattle.tp_runs.proofs.refusals.World.{Refusals}
 use Rattle.tp_runs.proofs.restarts.Steps.{restarts_next, restarts_opening}
-use Rattle.tp_runs.proofs.restarts.Uncrashed.{Uncrashed, nobody_is_down, servers_up, uncrashed_next, uncrashed_opening}
+use Rattle.tp_runs.proofs.restarts.Uncrashed.{Uncrashed, coordinator_is_up, nobody_is_down, servers_up, uncrashed_next, uncrashed_opening}
 use Rattle.tp_runs.proofs.restarts.World.{Restarts}
 use Rattle.tp_runs.proofs.serial_data.End.{serial_facts, serial_values, values_at_end}
 use Rattle.tp_runs.proofs.serial_data.Lone.{AreLone, facts_lone, lone_next, lone_opening}
@@ -39,7 +40,7 @@ use Rattle.tp_runs.proofs.trusted.End.{facts_caused, facts_trusted}
 use Rattle.tp_runs.proofs.trusted.Steps.{trusts_next, trusts_opening}
 use Rattle.tp_runs.proofs.trust.World.{Trusts}
 use Rattle.tp_runs.specs.Bounded.{AreBounded}
-use Rattle.tp_runs.specs.Laws.{FitLogs, HasAllCommits, IsTrustedState, mails_most}
+use Rattle.tp_runs.specs.Laws.{FitLogs, HasAllCommits, HasAllEnds, IsTrustedState, mails_most}
 use Rattle.tp_machine.specs.Machine.{Machine, State, after, after_step, after_steps, is_down, machine_after, opening, opening_state, refusal}
 use Rattle.tp_types.specs.Each.{Each}
 use Rattle.tp_runs.specs.Sound.{IsSound}
@@ -144,6 +145,13 @@ shows sc w built h none =
 pub always_trusted : (sc : Scenario) (steps : List Step) → is_built sc ≡ true → Each (IsStepOf sc) steps → IsTrustedState sc (after sc steps).state
 always_trusted sc steps built exist = shows sc (after sc steps).state built (holds_after sc steps built exist) (uncrashed_after sc steps built exist)
 
+-- where all transactions are finished they have ended
+pub has_all_ends : (sc : Scenario) (steps : List Step) → is_built sc ≡ true → Each (IsStepOf sc) steps → HasAllEnds sc (after sc steps).state
+has_all_ends sc steps built exist finished =
+    let w = (after sc steps).state in
+    let h = holds_after sc steps built exist in
+    all_ended sc w h.sound h.agrees (λ n part found. coordinator_is_up w (record { 0 = n }) part (uncrashed_after sc steps built exist) h.restarts found) finished
+
 -- and where all transactions have ended the values are those of all commits
 pub has_all_commits : (sc : Scenario) (steps : List Step) → is_built sc ≡ true → Each (IsStepOf sc) steps → HasAllCommits sc (after sc steps).state
 has_all_commits sc steps built exist ended =
@@ -171,6 +179,9 @@ bounded_after sc steps w built exist e =
 
 pub so_far_after : (sc : Scenario) (steps : List Step) (w : State) → is_built sc ≡ true → Each (IsStepOf sc) steps → w ≡ (after sc steps).state → IsTrustedState sc w
 so_far_after sc steps w built exist e = subst (IsTrustedState sc) (sym e) (always_trusted sc steps built exist)
+
+pub ends_after : (sc : Scenario) (steps : List Step) (w : State) → is_built sc ≡ true → Each (IsStepOf sc) steps → w ≡ (after sc steps).state → HasAllEnds sc w
+ends_after sc steps w built exist e = subst (HasAllEnds sc) (sym e) (has_all_ends sc steps built exist)
 
 pub whole_after : (sc : Scenario) (steps : List Step) (w : State) → is_built sc ≡ true → Each (IsStepOf sc) steps → w ≡ (after sc steps).state → HasAllCommits sc w
 whole_after sc steps w built exist e = subst (HasAllCommits sc) (sym e) (has_all_commits sc steps built exist)
