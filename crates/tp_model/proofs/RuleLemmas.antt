@@ -44,11 +44,11 @@ few_txns sc h = count_most 0 128 (length sc.txns) (three_parts (has_count 0 128 
 -- the conditions of the present stage
 pub record IsStage (sc : Scenario) : Type 0 where
   pub txns : are_plain_txns sc.txns ≡ true
-  pub steps : are_plain_steps [] sc.steps ≡ true
+  pub steps : are_plain_steps sc.steps ≡ true
 
 pub stage_of : (sc : Scenario) → is_stage sc ≡ true → IsStage sc
 stage_of sc h =
-    let whole = and_parts (are_plain_txns sc.txns) (are_plain_steps [] sc.steps) h in
+    let whole = and_parts (are_plain_txns sc.txns) (are_plain_steps sc.steps) h in
     record { txns = whole.0; steps = whole.1 }
 
 -- a built scenario is valid, and of the present stage

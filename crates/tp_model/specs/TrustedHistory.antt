@@ -1,4 +1,4 @@
--- The trusted history: all that the report of a run shows, at any moment and at a quiet end.
+-- The trusted history: all that the report of a run shows, at any moment and once all transactions have ended.
 use Rattle.std.specs.Prelude.{◌≡◌, ℕ, ◌+◌, ◌&&◌, ◌||◌, List, [], ◌∷◌, length, Bool, true, ℤ}
 use Rattle.std.specs.List.{list_all, list_any}
 use Rattle.tp_model.specs.Words.{Ending, Fact, Outcome, Scenario, ServerId, Step, Transaction, TxnId}
@@ -26,7 +26,7 @@ pub record TrustedSoFar (sc : Scenario) (steps : List Step) (facts : List Fact) 
   pub lone : are_lone facts ≡ true
   pub values_are : values ≡ overlay sc facts
 
--- ---- at a quiet end
+-- ---- once all transactions have ended
 
 abbrev pub is_settled_everywhere : List ServerId → List Fact → TxnId → Outcome → Bool
 is_settled_everywhere servers facts txn ended =
@@ -50,10 +50,11 @@ have_ended sc facts first [] = true
 have_ended sc facts first (declared ∷ others) =
     has_ended sc facts (record { 0 = first }) declared && have_ended sc facts (first + 1) others
 
--- the history of a run of these steps: it is trusted as at any moment; where every transaction has ended at all its
--- servers, each item has the value that all commits leave; and the steps are counted
+-- the history of a run of these steps: it is trusted as at any moment; every transaction was submitted, decided, and settled so at each of
+-- its servers; each item has the value that all commits leave; and the steps are counted
 pub record TrustedHistory (sc : Scenario) (steps : List Step) (facts : List Fact) (ending : Ending)
     : Type 0 where
   pub so_far : TrustedSoFar sc steps facts ending.values
-  pub whole : have_ended sc facts 0 sc.txns ≡ true → ending.values ≡ store_of sc facts
+  pub ended : have_ended sc facts 0 sc.txns ≡ true
+  pub whole : ending.values ≡ store_of sc facts
   pub steps_are : ending.steps ≡ length steps

@@ -3,7 +3,7 @@ use Rattle.std.proofs.Common.{◌≡◌, ℕ, ◌+◌, ◌&&◌, List, [], ◌�
 use Rattle.std.proofs.lemmas.Bool.{and_from}
 use Rattle.std.specs.List.{list_all}
 use Rattle.tp_model.specs.Words.{Scenario, Step, Transaction}
-use Rattle.tp_model.specs.Stage.{are_plain_steps, are_plain_txns, delivered_after, is_deferred, is_plain_step, is_plain_txn, is_stage, is_view}
+use Rattle.tp_model.specs.Stage.{are_plain_steps, are_plain_txns, is_deferred, is_plain_step, is_plain_txn, is_stage, is_view}
 use Rattle.tp_scenario.specs.declared.path.Key.TheVariants.{Transactions, Scheme, Level}
 use Rattle.tp_scenario.specs.declared.path.Path.TheVariants.{Field}
 use Rattle.tp_scenario.specs.declared.path.Site.{Site}
@@ -42,13 +42,12 @@ txns_none at (txn ∷ txns) e =
 
 -- ---- steps
 
-steps_none : (delivered : List ℕ) (at : ℕ) (steps : List Step) → steps_form delivered at steps ≡ None → are_plain_steps delivered steps ≡ true
-steps_none delivered at [] e = refl
-steps_none delivered at (taken ∷ steps) e = by_test (is_plain_step delivered taken) refl (steps_none (delivered_after delivered taken) (at + 1) steps) e
+steps_none : (at : ℕ) (steps : List Step) → steps_form at steps ≡ None → are_plain_steps steps ≡ true
+steps_none at [] e = refl
+steps_none at (taken ∷ steps) e = by_test (is_plain_step taken) refl (steps_none (at + 1) steps) e
   where
-    by_test : (plain : Bool) → is_plain_step delivered taken ≡ plain → (steps_form (delivered_after delivered taken) (at + 1) steps ≡ None → are_plain_steps (delivered_after delivered taken) steps ≡ true)
-        → (if not plain then Some at else steps_form (delivered_after delivered taken) (at + 1) steps) ≡ None
-        → (is_plain_step delivered taken && are_plain_steps (delivered_after delivered taken) steps) ≡ true
+    by_test : (plain : Bool) → is_plain_step taken ≡ plain → (steps_form (at + 1) steps ≡ None → are_plain_steps steps ≡ true) → (if not plain then Some at else steps_form (at + 1) steps) ≡ None
+        → (is_plain_step taken && are_plain_steps steps) ≡ true
     by_test true t later f = and_from _ _ t (later f)
     by_test false t later f = absurd (cc)
 
@@ -58,6 +57,6 @@ pub stage_of_none : (sc : Scenario) → first_form sc ≡ None → is_stage sc �
 unfolding first_form
 stage_of_none sc e =
     let listed : listed_form sc ≡ None = second_none (txns_form 0 sc.txns) (listed_form sc) e in
-    and_from (are_plain_txns sc.txns) (are_plain_steps [] sc.steps)
+    and_from (are_plain_txns sc.txns) (are_plain_steps sc.steps)
     (txns_none 0 sc.txns (first_none (txns_form 0 sc.txns) (listed_form sc) e))
-    (steps_none [] 0 sc.steps (unmapped step_site (steps_form [] 0 sc.steps) listed))
+    (steps_none 0 sc.steps (unmapped step_site (steps_form 0 sc.steps) listed))

@@ -3,7 +3,7 @@
 use Rattle.std.specs.Prelude.{ℕ, ◌+◌, List, [], ◌∷◌, Bool, not, if◌then◌else◌, Option, Some, None, option_map}
 use Rattle.std.specs.Option.{option_or}
 use Rattle.tp_model.specs.Words.{Scenario, Step, Transaction}
-use Rattle.tp_model.specs.Stage.{delivered_after, is_deferred, is_plain_step, is_view}
+use Rattle.tp_model.specs.Stage.{is_deferred, is_plain_step, is_view}
 use Rattle.tp_scenario.specs.declared.path.Key.TheVariants.{Transactions, Scheme, Level, Steps}
 use Rattle.tp_scenario.specs.declared.path.Path.TheVariants.{Member, Field}
 use Rattle.tp_scenario.specs.declared.path.Site.{Site}
@@ -25,17 +25,14 @@ txns_form at (txn ∷ txns) = option_or (txn_form at txn) (txns_form (at + 1) tx
 
 -- ---- steps
 
--- after the deliveries of these mails: another step than to submit, to publish, to push, to tick, to revoke, or to deliver a mail for the
--- first time
-abbrev pub is_step_form : List ℕ → Step → Bool
-is_step_form delivered step = not (is_plain_step delivered step)
+-- a crash or a boot
+abbrev pub is_step_form : Step → Bool
+is_step_form step = not (is_plain_step step)
 
 -- the number of the first such step, where the first has this number
-abbrev pub steps_form : List ℕ → ℕ → List Step → Option ℕ
-steps_form delivered at [] = None
-steps_form delivered at (step ∷ steps) =
-    if is_step_form delivered step then Some at
-    else steps_form (delivered_after delivered step) (at + 1) steps
+abbrev pub steps_form : ℕ → List Step → Option ℕ
+steps_form at [] = None
+steps_form at (step ∷ steps) = if is_step_form step then Some at else steps_form (at + 1) steps
 
 abbrev pub step_site : ℕ → Site
 step_site at = At (Member Steps at)
@@ -44,7 +41,7 @@ step_site at = At (Member Steps at)
 
 -- a listed step that is not built
 abbrev pub listed_form : Scenario → Option Site
-listed_form sc = option_map step_site (steps_form [] 0 sc.steps)
+listed_form sc = option_map step_site (steps_form 0 sc.steps)
 
 -- the first place at which a form stands that is not built
 unfoldable pub first_form : Scenario → Option Site

@@ -115,10 +115,9 @@ fn built(alloc: Global, scenario: Scenario) -> Result<Scenario, ScenarioError>
 fn why_not_built(alloc: Global, scenario: &Scenario) -> Option<ScenarioError>
     ensures { IsUnbuilt result (forms.first_form scenario.now) }
 {
-    match first_form(alloc, scenario) {
-        Err(NoMemory) => Some(ScenarioError::NoMemory),
-        Ok(None) => None,
-        Ok(Some(site)) => Some(not_yet(alloc, &site)),
+    match first_form(scenario) {
+        None => None,
+        Some(site) => Some(not_yet(alloc, &site)),
     }
 }
 

@@ -7,7 +7,7 @@ use Rattle.tp_model.specs.Words.{Scenario, Step}
 use Rattle.tp_model.specs.Words.step
 use Rattle.tp_model.specs.Built.{is_built}
 use Rattle.tp_model.specs.Limits.{has_count, steps_limit}
-use Rattle.tp_model.specs.Stage.{are_plain_steps, delivered_after, is_plain_step}
+use Rattle.tp_model.specs.Stage.{are_plain_steps, is_plain_step}
 use Rattle.tp_model.specs.Valid.{is_admin, is_server, is_valid_step}
 use Rattle.tp_model.proofs.RuleLemmas.{stage_built, valid_built}
 use Rattle.tp_machine.specs.declared.error.StepError.{StepError}
@@ -25,51 +25,51 @@ use Rattle.tp_top.specs.mirrors.Answers.{Follows}
 -- ---- each listed step
 
 -- a plain step of a valid scenario names what exists
-plain_exists : (sc : Scenario) (delivered : List ℕ) (taken : Step) → is_valid_step sc taken ≡ true → is_plain_step delivered taken ≡ true → IsStepOf sc taken
-plain_exists sc delivered (step.Submit txn) valid plain = ltb-true _ _ valid
-plain_exists sc delivered (step.Tick by) valid plain = tt
-plain_exists sc delivered (step.Revoke cred) valid plain = ltb-true _ _ valid
-plain_exists sc delivered (step.Deliver mail) valid plain = tt
-plain_exists sc delivered (step.Publish admin) valid plain = ltb-true _ _ valid
-plain_exists sc delivered (step.Push admin server) valid plain =
+plain_exists : (sc : Scenario) (taken : Step) → is_valid_step sc taken ≡ true → is_plain_step taken ≡ true → IsStepOf sc taken
+plain_exists sc (step.Submit txn) valid plain = ltb-true _ _ valid
+plain_exists sc (step.Tick by) valid plain = tt
+plain_exists sc (step.Revoke cred) valid plain = ltb-true _ _ valid
+plain_exists sc (step.Deliver mail) valid plain = tt
+plain_exists sc (step.Publish admin) valid plain = ltb-true _ _ valid
+plain_exists sc (step.Push admin server) valid plain =
     let parts = and_parts (is_admin sc admin) (is_server sc server) valid in (ltb-true _ _ parts.0, ltb-true _ _ parts.1)
-plain_exists sc delivered (step.Lose mail) valid plain = absurd (cc)
-plain_exists sc delivered (step.Crash who cut) valid plain = absurd (cc)
-plain_exists sc delivered (step.Boot who) valid plain = absurd (cc)
-plain_exists sc delivered (step.Timer txn) valid plain = absurd (cc)
+plain_exists sc (step.Lose mail) valid plain = tt
+plain_exists sc (step.Crash who cut) valid plain = absurd (cc)
+plain_exists sc (step.Boot who) valid plain = absurd (cc)
+plain_exists sc (step.Timer txn) valid plain = ltb-true _ _ valid
 
 -- and is of a kind that is built
-plain_kind : (delivered : List ℕ) (taken : Step) → is_plain_step delivered taken ≡ true → IsBuiltStep taken
-plain_kind delivered (step.Submit txn) plain = tt
-plain_kind delivered (step.Tick by) plain = tt
-plain_kind delivered (step.Revoke cred) plain = tt
-plain_kind delivered (step.Deliver mail) plain = tt
-plain_kind delivered (step.Publish admin) plain = tt
-plain_kind delivered (step.Push admin server) plain = tt
-plain_kind delivered (step.Lose mail) plain = absurd (cc)
-plain_kind delivered (step.Crash who cut) plain = absurd (cc)
-plain_kind delivered (step.Boot who) plain = absurd (cc)
-plain_kind delivered (step.Timer txn) plain = absurd (cc)
+plain_kind : (taken : Step) → is_plain_step taken ≡ true → IsBuiltStep taken
+plain_kind (step.Submit txn) plain = tt
+plain_kind (step.Tick by) plain = tt
+plain_kind (step.Revoke cred) plain = tt
+plain_kind (step.Deliver mail) plain = tt
+plain_kind (step.Publish admin) plain = tt
+plain_kind (step.Push admin server) plain = tt
+plain_kind (step.Lose mail) plain = tt
+plain_kind (step.Crash who cut) plain = absurd (cc)
+plain_kind (step.Boot who) plain = absurd (cc)
+plain_kind (step.Timer txn) plain = tt
 
-all_exist : (sc : Scenario) (delivered : List ℕ) (steps : List Step) → list_all (is_valid_step sc) steps ≡ true → are_plain_steps delivered steps ≡ true → Each (IsStepOf sc) steps
-all_exist sc delivered [] valid plain = tt
-all_exist sc delivered (taken ∷ steps) valid plain =
+all_exist : (sc : Scenario) (steps : List Step) → list_all (is_valid_step sc) steps ≡ true → are_plain_steps steps ≡ true → Each (IsStepOf sc) steps
+all_exist sc [] valid plain = tt
+all_exist sc (taken ∷ steps) valid plain =
     let v = and_parts (is_valid_step sc taken) (list_all (is_valid_step sc) steps) valid in
-    let p = and_parts (is_plain_step delivered taken) (are_plain_steps (delivered_after delivered taken) steps) plain in
-    (plain_exists sc delivered taken v.0 p.0, all_exist sc (delivered_after delivered taken) steps v.1 p.1)
+    let p = and_parts (is_plain_step taken) (are_plain_steps steps) plain in
+    (plain_exists sc taken v.0 p.0, all_exist sc steps v.1 p.1)
 
-all_kinds : (delivered : List ℕ) (steps : List Step) → are_plain_steps delivered steps ≡ true → Each IsBuiltStep steps
-all_kinds delivered [] plain = tt
-all_kinds delivered (taken ∷ steps) plain =
-    let p = and_parts (is_plain_step delivered taken) (are_plain_steps (delivered_after delivered taken) steps) plain in
-    (plain_kind delivered taken p.0, all_kinds (delivered_after delivered taken) steps p.1)
+all_kinds : (steps : List Step) → are_plain_steps steps ≡ true → Each IsBuiltStep steps
+all_kinds [] plain = tt
+all_kinds (taken ∷ steps) plain =
+    let p = and_parts (is_plain_step taken) (are_plain_steps steps) plain in
+    (plain_kind taken p.0, all_kinds steps p.1)
 
 pub listed_exist : (sc : Scenario) → is_built sc ≡ true → Each (IsStepOf sc) sc.steps
 listed_exist sc built =
-    all_exist sc [] sc.steps (and_parts (has_count 0 steps_limit sc.steps) (list_all (is_valid_step sc) sc.steps) (valid_built sc built).steps).1 (stage_built sc built).steps
+    all_exist sc sc.steps (and_parts (has_count 0 steps_limit sc.steps) (list_all (is_valid_step sc) sc.steps) (valid_built sc built).steps).1 (stage_built sc built).steps
 
 pub listed_kinds : (sc : Scenario) → is_built sc ≡ true → Each IsBuiltStep sc.steps
-listed_kinds sc built = all_kinds [] sc.steps (stage_built sc built).steps
+listed_kinds sc built = all_kinds sc.steps (stage_built sc built).steps
 
 -- ---- none is refused
 

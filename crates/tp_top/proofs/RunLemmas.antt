@@ -8,15 +8,15 @@ use Rattle.tp_scenario.specs.declared.from_bytes.ScenarioError.{ScenarioError}
 use Rattle.tp_top.proofs.TrustedRun.{trusted_run}
 use Rattle.tp_top.specs.declared.answer.Answer.{Answer}
 use Rattle.tp_top.specs.declared.answer.Answer.TheVariants as answer
-use Rattle.tp_top.specs.Auto.{automatic_from, next_of}
+use Rattle.tp_top.specs.Auto.{automatic_from, cursor_after, next_of}
 use Rattle.tp_top.specs.mirrors.Answers.{IsRefusal, IsReported}
 use Rattle.tp_scenario.specs.Reads.{IsOutOfMemory}
 use Rattle.tp_top.specs.Input.{Reads, TakesAll}
 use Rattle.tp_top.specs.Run.{Answers, IsInputRefused, automatic_bound, after_listed}
 
 length-next : (sc : Scenario) (left cursor : ℕ) (m : Machine) (next : Option Step)
-    → ((taken : Step) → length (automatic_from sc left cursor (after_step sc m taken)) ≤ left)
-    → length (option_map_or (λ (taken : Step). taken ∷ automatic_from sc left cursor (after_step sc m taken)) next []) ≤ suc left
+    → ((taken : Step) → length (automatic_from sc left (cursor_after taken cursor) (after_step sc m taken)) ≤ left)
+    → length (option_map_or (λ (taken : Step). taken ∷ automatic_from sc left (cursor_after taken cursor) (after_step sc m taken)) next []) ≤ suc left
 length-next sc left cursor m None h = omega arith
 length-next sc left cursor m (Some taken) h = omega (arith, h taken)
 
@@ -24,7 +24,7 @@ length-next sc left cursor m (Some taken) h = omega (arith, h taken)
 pub length-automatic_from : (sc : Scenario) (count cursor : ℕ) (m : Machine) → length (automatic_from sc count cursor m) ≤ count
 length-automatic_from sc zero cursor m = omega arith
 length-automatic_from sc (suc left) cursor m =
-    length-next sc left cursor m (next_of sc m cursor) (λ taken. length-automatic_from sc left cursor (after_step sc m taken))
+    length-next sc left cursor m (next_of sc m cursor) (λ taken. length-automatic_from sc left (cursor_after taken cursor) (after_step sc m taken))
 
 -- what comes of a scenario that was read is the answer to its input
 pub answers_reported : (old new : Option (List ℕ)) (faults faults' : ℕ) (bytes : List ℕ) (sc : Scenario) (answer : Answer)
@@ -38,7 +38,7 @@ answers_reported old new faults faults' bytes sc (answer.Report text) taken buil
       lawful = h.lawful;
       quiet = h.quiet;
       within = length-automatic_from sc (automatic_bound sc) 0 (after_listed sc);
-      trusted = trusted_run sc built h.lawful h.so_far h.whole;
+      trusted = trusted_run sc built h.lawful h.quiet h.so_far h.whole.ended h.whole.commits;
       text_is = h.text_is;
     }
 answers_reported old new faults faults' bytes sc answer.Budget taken built reads h =

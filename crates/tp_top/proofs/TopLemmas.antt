@@ -1,7 +1,7 @@
 -- Each cause in a told input has its status.
 use Rattle.std.proofs.Common.{◌≡◌, inl, inr, ℕ, zero, suc, ◌+◌, ◌<◌, List, [], ◌∷◌, ◌++◌, length, slice_get, true, false, Option, Some, None, option_map, Result, Ok, Err, refl, sym, ap, subst, ◌∙◌, arith}
 use Rattle.std.specs.List.{list_all}
-use Rattle.std.specs.Option.{option_map_or}
+use Rattle.std.specs.Option.{option_map_or, option_or}
 use Rattle.std.proofs.lemmas.List.{length-append, append-nil}
 use Rattle.std.specs.Prelude.{IfSome}
 use Rattle.std.specs.Io.KnownBytes.{Appends, Consumes}
@@ -15,7 +15,7 @@ use Rattle.tp_top.specs.declared.status.Status.{Status}
 use Rattle.tp_top.specs.declared.status.Status.TheVariants.{Done, Refused, NoMemory, Budget}
 use Rattle.tp_machine.specs.declared.actors.Actors.{Actors}
 use Rattle.tp_machine.specs.Machine.{Machine, after_step, ending_of}
-use Rattle.tp_top.specs.Auto.{automatic_from, is_quiet, lowest_unsubmitted, next_by, next_of}
+use Rattle.tp_top.specs.Auto.{automatic_from, cursor_after, first_armed, is_quiet, lowest_unsubmitted, next_by, next_of}
 use Rattle.tp_top.specs.Headline.{PrintsTrusted, comes_by_itself}
 use Rattle.tp_top.specs.Refusals.{refusal_line, step_line}
 use Rattle.tp_top.specs.Input.{AreRefused, Reads, TakesAll}
@@ -44,26 +44,30 @@ long_input input (Some rest) t = omega (arith, t.exact, ap length t.consumed, le
 
 -- ---- the headline
 
-submission_by_itself : (found : Option TxnId) (taken : Step) → option_map (λ (txn : TxnId). step.Submit txn) found ≡ Some taken → comes_by_itself taken ≡ true
-submission_by_itself None taken e = absurd (cc)
-submission_by_itself (Some txn) taken e = subst (λ (s : Step). comes_by_itself s ≡ true) (same_Some (step.Submit txn) taken e) refl
+chosen_by_itself : (make : TxnId → Step) → ((txn : TxnId) → comes_by_itself (make txn) ≡ true) → (found : Option TxnId) (taken : Step) → option_map make found ≡ Some taken → comes_by_itself taken ≡ true
+chosen_by_itself make made None taken e = absurd (cc)
+chosen_by_itself make made (Some txn) taken e = subst (λ (s : Step). comes_by_itself s ≡ true) (same_Some (make txn) taken e) (made txn)
 
-next_by_itself : (sc : Scenario) (actors : Actors) (oldest : Option ℕ) (taken : Step) → next_by sc actors oldest ≡ Some taken → comes_by_itself taken ≡ true
-next_by_itself sc actors None taken e = submission_by_itself (lowest_unsubmitted sc actors) taken e
-next_by_itself sc actors (Some mail) taken e = subst (λ (s : Step). comes_by_itself s ≡ true) (same_Some (step.Deliver mail) taken e) refl
+unasked_by_itself : (found armed : Option TxnId) (taken : Step) → option_or (option_map (λ (txn : TxnId). step.Submit txn) found) (option_map (λ (txn : TxnId). step.Timer txn) armed) ≡ Some taken → comes_by_itself taken ≡ true
+unasked_by_itself None armed taken e = chosen_by_itself (λ (txn : TxnId). step.Timer txn) (λ txn. refl) armed taken e
+unasked_by_itself (Some txn) armed taken e = chosen_by_itself (λ (t : TxnId). step.Submit t) (λ t. refl) (Some txn) taken e
 
-rest_by_themselves : (sc : Scenario) (left : ℕ) (m : Machine) (next : Option Step) → next_of sc m 0 ≡ next → ((k : Machine) → list_all comes_by_itself (automatic_from sc left 0 k) ≡ true)
-    → list_all comes_by_itself (option_map_or (λ (taken : Step). taken ∷ automatic_from sc left 0 (after_step sc m taken)) next []) ≡ true
-rest_by_themselves sc left m None e rest = refl
-rest_by_themselves sc left m (Some taken) e rest =
-    let here : comes_by_itself taken ≡ true = next_by_itself sc m.state.actors (slice_get m.undelivered 0) taken e in
-    let later : list_all comes_by_itself (automatic_from sc left 0 (after_step sc m taken)) ≡ true = rest (after_step sc m taken) in
+next_by_itself : (sc : Scenario) (actors : Actors) (cursor : ℕ) (oldest : Option ℕ) (taken : Step) → next_by sc actors cursor oldest ≡ Some taken → comes_by_itself taken ≡ true
+next_by_itself sc actors cursor None taken e = unasked_by_itself (lowest_unsubmitted sc actors) (first_armed sc actors cursor) taken e
+next_by_itself sc actors cursor (Some mail) taken e = subst (λ (s : Step). comes_by_itself s ≡ true) (same_Some (step.Deliver mail) taken e) refl
+
+rest_by_themselves : (sc : Scenario) (left cursor : ℕ) (m : Machine) (next : Option Step) → next_of sc m cursor ≡ next → ((after : ℕ) (k : Machine) → list_all comes_by_itself (automatic_from sc left after k) ≡ true)
+    → list_all comes_by_itself (option_map_or (λ (taken : Step). taken ∷ automatic_from sc left (cursor_after taken cursor) (after_step sc m taken)) next []) ≡ true
+rest_by_themselves sc left cursor m None e rest = refl
+rest_by_themselves sc left cursor m (Some taken) e rest =
+    let here : comes_by_itself taken ≡ true = next_by_itself sc m.state.actors cursor (slice_get m.undelivered 0) taken e in
+    let later : list_all comes_by_itself (automatic_from sc left (cursor_after taken cursor) (after_step sc m taken)) ≡ true = rest (cursor_after taken cursor) (after_step sc m taken) in
     grind arith
 
 -- the automatic steps come by themselves
-automatic_by_themselves : (sc : Scenario) (count : ℕ) (m : Machine) → list_all comes_by_itself (automatic_from sc count 0 m) ≡ true
-automatic_by_themselves sc zero m = refl
-automatic_by_themselves sc (suc left) m = rest_by_themselves sc left m (next_of sc m 0) refl (λ k. automatic_by_themselves sc left k)
+automatic_by_themselves : (sc : Scenario) (count cursor : ℕ) (m : Machine) → list_all comes_by_itself (automatic_from sc count cursor m) ≡ true
+automatic_by_themselves sc zero cursor m = refl
+automatic_by_themselves sc (suc left) cursor m = rest_by_themselves sc left cursor m (next_of sc m cursor) refl (λ after k. automatic_by_themselves sc left after k)
 
 -- what a run comes to is a trusted history whose steps begin with the listed ones, and its report was written
 pub prints_trusted : (input input' out out' : Option (List ℕ)) (text : List ℕ) → RunsTo input input' text → Appends out out' text → PrintsTrusted input input' out out'
@@ -76,7 +80,7 @@ prints_trusted input input' out out' text r written =
       ending = ending_of r.scenario (final r.scenario).state;
       taken = r.taken;
       read = r.reads;
-      by_themselves = automatic_by_themselves r.scenario (automatic_bound r.scenario) (after_listed r.scenario);
+      by_themselves = automatic_by_themselves r.scenario (automatic_bound r.scenario) 0 (after_listed r.scenario);
       trusted = r.trusted;
       written = subst (Appends out out') r.text_is written;
     }

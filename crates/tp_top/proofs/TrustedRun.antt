@@ -1,6 +1,7 @@
 -- The history of a whole run is trusted: the invariants of every world, and the end of the one run.
-use Rattle.std.proofs.Common.{◌≡◌, ℕ, zero, suc, ◌+◌, ◌-◌, ◌<◌, ◌≤◌, ◌==◌, List, [], ◌∷◌, ◌++◌, length, find, cond, nat_lt, slice_get, Bool, true, false, not, Option, Some, None, option_map, if◌then◌else◌, refl, sym, ap, subst, ◌∙◌, arith, append_assoc}
+use Rattle.std.proofs.Common.{◌≡◌, ℕ, zero, suc, ◌+◌, ◌-◌, ◌<◌, ◌≤◌, ◌==◌, List, [], ◌∷◌, ◌++◌, length, drop, take, find, cond, nat_lt, slice_get, Bool, true, false, not, Option, Some, None, option_map, if◌then◌else◌, refl, sym, ap, subst, ◌∙◌, arith, append_assoc}
 use Rattle.std.specs.List.{range_with_len}
+use Rattle.std.specs.Option.{option_or}
 use Rattle.std.proofs.lemmas.Bool.Decides.{nat_tests}
 use Rattle.std.proofs.lemmas.List.{append_assoc, append-nil, length-append}
 use Rattle.std.proofs.lemmas.Option.{same_Some}
@@ -8,30 +9,28 @@ use Rattle.tp_model.specs.Words.{Scenario, Step, TxnId}
 use Rattle.tp_model.specs.Words.step
 use Rattle.tp_model.specs.Words.what
 use Rattle.tp_model.specs.Built.{is_built}
-use Rattle.tp_model.specs.TrustedHistory.{TrustedHistory, TrustedSoFar}
+use Rattle.tp_model.specs.TrustedHistory.{TrustedHistory, TrustedSoFar, have_ended}
 use Rattle.tp_machine.specs.declared.error.StepError.{StepError}
 use Rattle.tp_machine.specs.declared.error.StepError.TheVariants as error
-use Rattle.tp_runs.specs.Laws.{HasAllCommits, IsTrustedState}
-use Rattle.tp_machine.specs.Machine.{Machine, Move, State, after, after_step, after_steps, delivery, ending_of, idle_move, is_submitted, machine_after, mails_of, opening, publishes, pushes, refusal, revokes, state_after, submission, ticks, with_new, without_number}
+use Rattle.tp_runs.specs.Laws.{HasAllCommits, HasAllEnds, IsTrustedState}
+use Rattle.tp_machine.specs.Machine.{Machine, Move, State, after, after_step, after_steps, delivery, ending_of, idle_move, is_armed_at, is_submitted, machine_after, mails_of, opening, publishes, pushes, refusal, revokes, state_after, submission, ticks, times, with_new, without_number}
 use Rattle.tp_machine.specs.WorldView.{IsBuiltStep}
 use Rattle.tp_types.specs.Each.{Each}
 use Rattle.tp_machine.specs.Named.{IsStepOf, IsTxn}
 use Rattle.tp_machine.proofs.basics.Machine.{steps_next}
-use Rattle.tp_types.proofs.EachLemmas.{each_append, each_as, each_filter, each_map}
-use Rattle.tp_top.specs.Auto.{automatic_from, lowest_unsubmitted, next_by, next_of, txns_of}
+use Rattle.tp_machine.proofs.basics.Timers.{timer_allowed}
+use Rattle.tp_types.proofs.EachLemmas.{each_append, each_as, each_drop, each_filter, each_map}
+use Rattle.tp_top.specs.Auto.{automatic_from, cursor_after, first_armed, is_quiet, lowest_unsubmitted, next_by, next_of, txns_of}
 use Rattle.tp_top.specs.Listed.{refused_from}
 use Rattle.tp_top.specs.Run.{all_steps, automatic, automatic_bound, final, first_refused, after_listed}
 use Rattle.tp_top.proofs.AutoLemmas.{after_allowed, automatic-none, automatic-some}
+use Rattle.tp_top.proofs.NextLemmas.{armed_found, below, found_holds, quiet_finished, txns_exist}
 use Rattle.tp_top.proofs.ListedRun.{listed_exist, listed_kinds, none_refused}
 
 -- ---- the undelivered mails were sent
 
 abbrev AreSent : Machine → Type 0
 AreSent m = Each (λ (number : ℕ). number < length m.state.mails) m.undelivered
-
-below : (low count high : ℕ) → low + count ≤ high → Each (λ (number : ℕ). number < high) (range_with_len low count)
-below low zero high le = tt
-below low (suc count) high le = (omega (arith, le), below (low + 1) count high (omega (arith, le)))
 
 -- mails of before stay, and the new ones are those that were sent since
 sent_new : (before after : State) (undelivered : List ℕ) → length before.mails ≤ length after.mails → Each (λ (number : ℕ). number < length before.mails) undelivered → AreSent (with_new before after undelivered)
@@ -59,6 +58,7 @@ sent_next sc m (step.Publish admin) h = sent_after m.state (step.Publish admin) 
 sent_next sc m (step.Push admin server) h = sent_after m.state (step.Push admin server) (pushes m.state.actors admin server) m.undelivered h
 sent_next sc m (step.Tick by) h = sent_after m.state (step.Tick by) (ticks m.state.actors by) m.undelivered h
 sent_next sc m (step.Revoke cred) h = sent_after m.state (step.Revoke cred) (revokes m.state.actors cred) m.undelivered h
+sent_next sc m (step.Timer txn) h = sent_after m.state (step.Timer txn) (times sc m.state.actors txn) m.undelivered h
 sent_next sc m _ h = h
 
 -- ---- the next automatic step is done
@@ -80,17 +80,6 @@ mail_allowed mails number false why low e = absurd (below_fails e)
     below_fails : nat_lt number mails ≡ false → ⊥
     below_fails f = let t : nat_lt number mails ≡ true = grind (arith, nat_tests) in cc
 
-chosen_holds : (P : TxnId → Type 0) (test : TxnId → Bool) (first txn : TxnId) (later : Option TxnId) (b : Bool) → test first ≡ b → P first → (later ≡ Some txn → P txn × (test txn ≡ true))
-    → cond b (Some first) later ≡ Some txn → P txn × (test txn ≡ true)
-chosen_holds P test first txn later true t h rest e =
-    let same : first ≡ txn = same_Some first txn e in
-    (subst P same h, subst (λ (x : TxnId). test x ≡ true) same t)
-chosen_holds P test first txn later false t h rest e = rest e
-
-found_holds : (P : TxnId → Type 0) (test : TxnId → Bool) (txns : List TxnId) (txn : TxnId) → Each P txns → find test txns ≡ Some txn → P txn × (test txn ≡ true)
-found_holds P test [] txn h e = absurd (cc)
-found_holds P test (first ∷ txns) txn h e = chosen_holds P test first txn (find test txns) (test first) refl h.0 (λ f. found_holds P test txns txn h.1 f) e
-
 submitted_allowed : (b : Bool) (why : StepError) → not b ≡ true → (if b then Some why else None) ≡ None
 submitted_allowed true why e = absurd (cc)
 submitted_allowed false why e = refl
@@ -98,15 +87,25 @@ submitted_allowed false why e = refl
 submit_done : (sc : Scenario) (m : Machine) (found : Option TxnId) (taken : Step) → lowest_unsubmitted sc m.state.actors ≡ found → option_map (λ (txn : TxnId). step.Submit txn) found ≡ Some taken → IsDone sc m taken
 submit_done sc m None taken e f = absurd (cc)
 submit_done sc m (Some txn) taken e f =
-    let exist : Each (IsTxn sc) (txns_of sc) =
-    each_map (λ (n : ℕ). n < length sc.txns) (IsTxn sc) (λ (n : ℕ). record { 0 = n }) (λ n low. low) (range_with_len 0 (length sc.txns)) (below 0 (length sc.txns) (length sc.txns) (omega arith)) in
-    let facts = found_holds (IsTxn sc) (λ (t : TxnId). not (is_submitted m.state.actors t)) (txns_of sc) txn exist e in
+    let facts = found_holds (IsTxn sc) (λ (t : TxnId). not (is_submitted m.state.actors t)) (txns_of sc) txn (txns_exist sc) e in
     subst (IsDone sc m) (same_Some (step.Submit txn) taken f)
     (record { exists = facts.0; kind = tt; allowed = submitted_allowed (is_submitted m.state.actors txn) (error.AlreadySubmitted txn) facts.1 })
 
-next_done : (sc : Scenario) (m : Machine) (oldest : Option ℕ) (taken : Step) → AreSent m → slice_get m.undelivered 0 ≡ oldest → next_by sc m.state.actors oldest ≡ Some taken → IsDone sc m taken
-next_done sc m None taken h e f = submit_done sc m (lowest_unsubmitted sc m.state.actors) taken refl f
-next_done sc m (Some mail) taken h e f =
+timer_done : (sc : Scenario) (m : Machine) (cursor : ℕ) (found : Option TxnId) (taken : Step) → first_armed sc m.state.actors cursor ≡ found → option_map (λ (txn : TxnId). step.Timer txn) found ≡ Some taken
+    → IsDone sc m taken
+timer_done sc m cursor None taken e f = absurd (cc)
+timer_done sc m cursor (Some txn) taken e f =
+    let facts = armed_found sc m.state.actors cursor txn e in
+    subst (IsDone sc m) (same_Some (step.Timer txn) taken f) (record { exists = facts.0; kind = tt; allowed = timer_allowed m.state txn facts.1 })
+
+unasked_done : (sc : Scenario) (m : Machine) (cursor : ℕ) (found : Option TxnId) (taken : Step) → lowest_unsubmitted sc m.state.actors ≡ found
+    → option_or (option_map (λ (txn : TxnId). step.Submit txn) found) (option_map (λ (txn : TxnId). step.Timer txn) (first_armed sc m.state.actors cursor)) ≡ Some taken → IsDone sc m taken
+unasked_done sc m cursor None taken e f = timer_done sc m cursor (first_armed sc m.state.actors cursor) taken refl f
+unasked_done sc m cursor (Some txn) taken e f = submit_done sc m (Some txn) taken e f
+
+next_done : (sc : Scenario) (m : Machine) (cursor : ℕ) (oldest : Option ℕ) (taken : Step) → AreSent m → slice_get m.undelivered 0 ≡ oldest → next_by sc m.state.actors cursor oldest ≡ Some taken → IsDone sc m taken
+next_done sc m cursor None taken h e f = unasked_done sc m cursor (lowest_unsubmitted sc m.state.actors) taken refl f
+next_done sc m cursor (Some mail) taken h e f =
     let low : mail < length m.state.mails = first_holds (λ (number : ℕ). number < length m.state.mails) m.undelivered mail h e in
     subst (IsDone sc m) (same_Some (step.Deliver mail) taken f)
     (record { exists = tt; kind = tt; allowed = mail_allowed (length m.state.mails) mail (nat_lt mail (length m.state.mails)) (error.NoSuchMail mail (length m.state.mails)) low refl })
@@ -127,17 +126,18 @@ done_first sc m taken others d rest =
           ∙ (rest.steps_are ∙ (ap (λ (steps : List Step). steps ++ others) (steps_next sc m taken d.kind) ∙ append_assoc m.state.steps (taken ∷ []) others));
     }
 
-by_next : (sc : Scenario) (left : ℕ) (m : Machine) (next : Option Step) → next_of sc m 0 ≡ next → AreSent m → ((k : Machine) → AreSent k → AreDone sc k (automatic_from sc left 0 k))
-    → AreDone sc m (automatic_from sc (suc left) 0 m)
-by_next sc left m None e h rest = subst (AreDone sc m) (sym (automatic-none sc (suc left) m e)) (record { exist = tt; steps_are = sym (append-nil m.state.steps) })
-by_next sc left m (Some taken) e h rest =
-    subst (AreDone sc m) (sym (automatic-some sc left m taken e (next_done sc m (slice_get m.undelivered 0) taken h refl e).allowed))
-    (done_first sc m taken (automatic_from sc left 0 (machine_after sc m taken)) (next_done sc m (slice_get m.undelivered 0) taken h refl e)
-    (rest (machine_after sc m taken) (sent_next sc m taken h)))
+by_next : (sc : Scenario) (left cursor : ℕ) (m : Machine) (next : Option Step) → next_of sc m cursor ≡ next → AreSent m
+    → ((cursor : ℕ) (k : Machine) → AreSent k → AreDone sc k (automatic_from sc left cursor k)) → AreDone sc m (automatic_from sc (suc left) cursor m)
+by_next sc left cursor m None e h rest = subst (AreDone sc m) (sym (automatic-none sc (suc left) cursor m e)) (record { exist = tt; steps_are = sym (append-nil m.state.steps) })
+by_next sc left cursor m (Some taken) e h rest =
+    let done : IsDone sc m taken = next_done sc m cursor (slice_get m.undelivered 0) taken h refl e in
+    subst (AreDone sc m) (sym (automatic-some sc left cursor m taken e done.allowed))
+    (done_first sc m taken (automatic_from sc left (cursor_after taken cursor) (machine_after sc m taken)) done
+    (rest (cursor_after taken cursor) (machine_after sc m taken) (sent_next sc m taken h)))
 
-automatic_done : (sc : Scenario) (count : ℕ) (m : Machine) → AreSent m → AreDone sc m (automatic_from sc count 0 m)
-automatic_done sc zero m h = record { exist = tt; steps_are = sym (append-nil m.state.steps) }
-automatic_done sc (suc left) m h = by_next sc left m (next_of sc m 0) refl h (λ k s. automatic_done sc left k s)
+automatic_done : (sc : Scenario) (count cursor : ℕ) (m : Machine) → AreSent m → AreDone sc m (automatic_from sc count cursor m)
+automatic_done sc zero cursor m h = record { exist = tt; steps_are = sym (append-nil m.state.steps) }
+automatic_done sc (suc left) cursor m h = by_next sc left cursor m (next_of sc m cursor) refl h (λ after k s. automatic_done sc left after k s)
 
 -- ---- the whole run
 
@@ -183,18 +183,20 @@ all_done : (sc : Scenario) → is_built sc ≡ true → first_refused sc ≡ Non
 all_done sc built lawful =
     done_after sc (opening sc) sc.steps (automatic sc)
     (listed_done sc (opening sc) 0 sc.steps (listed_exist sc built) (listed_kinds sc built) lawful)
-    (automatic_done sc (automatic_bound sc) (after_listed sc) (listed_sent sc (opening sc) 0 sc.steps lawful tt))
+    (automatic_done sc (automatic_bound sc) 0 (after_listed sc) (listed_sent sc (opening sc) 0 sc.steps lawful tt))
 
 steps_of : (sc : Scenario) → is_built sc ≡ true → first_refused sc ≡ None → (final sc).state.steps ≡ all_steps sc
 steps_of sc built lawful = ap (λ (m : Machine). m.state.steps) (final_after sc) ∙ (all_done sc built lawful).steps_are
 
--- the run of a built scenario leaves a trusted history, where its last state is trusted
-pub trusted_run : (sc : Scenario) → is_built sc ≡ true → first_refused sc ≡ None → IsTrustedState sc (final sc).state → HasAllCommits sc (final sc).state
-    → TrustedHistory sc (all_steps sc) (final sc).state.facts (ending_of sc (final sc).state)
-trusted_run sc built lawful so_far whole =
+-- the run of a built scenario that comes to be quiet leaves a trusted history, where its last state is trusted
+pub trusted_run : (sc : Scenario) → is_built sc ≡ true → first_refused sc ≡ None → is_quiet sc (final sc) ≡ true → IsTrustedState sc (final sc).state → HasAllEnds sc (final sc).state
+    → HasAllCommits sc (final sc).state → TrustedHistory sc (all_steps sc) (final sc).state.facts (ending_of sc (final sc).state)
+trusted_run sc built lawful quiet so_far ends whole =
     let w = (final sc).state in
+    let ended : have_ended sc w.facts 0 sc.txns ≡ true = ends (quiet_finished sc (final sc) quiet) in
     record {
       so_far = subst (λ (steps : List Step). TrustedSoFar sc steps w.facts (ending_of sc w).values) (steps_of sc built lawful) so_far;
-      whole = whole;
+      ended = ended;
+      whole = whole ended;
       steps_are = ap length (steps_of sc built lawful);
     }

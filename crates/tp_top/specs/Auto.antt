@@ -1,11 +1,11 @@
 -- The automatic phase: which step comes next by itself, what so many such steps are, and how many are allowed.
-use Rattle.std.specs.Prelude.{◌≡◌, ◌<◌, ℕ, ◌+◌, ◌*◌, max, List, [], ◌∷◌, length, map, find, fold, slice_get, take, Bool, false, not, Option, Some, None, is_none, option_map, zero, suc}
+use Rattle.std.specs.Prelude.{◌≡◌, ◌<◌, ℕ, ◌+◌, ◌*◌, max, List, [], ◌∷◌, length, map, drop, find, fold, slice_get, take, Bool, false, not, Option, Some, None, is_none, option_map, zero, suc}
 use Rattle.std.specs.List.{range_with_len}
-use Rattle.std.specs.Option.{option_map_or}
+use Rattle.std.specs.Option.{option_map_or, option_or}
 use Rattle.tp_model.specs.Words.{Scenario, Step, Transaction, TxnId}
 use Rattle.tp_model.specs.Words.step
 use Rattle.tp_machine.specs.declared.actors.Actors.{Actors}
-use Rattle.tp_machine.specs.Machine.{Machine, after_step, after_steps, is_submitted}
+use Rattle.tp_machine.specs.Machine.{Machine, after_step, after_steps, is_armed_at, is_submitted}
 use Rattle.tp_machine.specs.WorldView.{GivesUp, WorldView}
 
 -- ---- which step is next
@@ -18,15 +18,27 @@ txns_of sc = map (λ (n : ℕ). record { 0 = n }) (range_with_len 0 (length sc.t
 abbrev pub lowest_unsubmitted : Scenario → Actors → Option TxnId
 lowest_unsubmitted sc actors = find (λ (txn : TxnId). not (is_submitted actors txn)) (txns_of sc)
 
--- the oldest undelivered mail is delivered; where there is none, a transaction is submitted
-abbrev pub next_by : Scenario → Actors → Option ℕ → Option Step
-next_by sc actors (Some mail) = Some (step.Deliver mail)
-next_by sc actors None =
-    option_map (λ (txn : TxnId). step.Submit txn) (lowest_unsubmitted sc actors)
+-- the first armed transaction at or after the cursor, going round
+abbrev pub first_armed : Scenario → Actors → ℕ → Option TxnId
+first_armed sc actors cursor =
+    option_or (find (is_armed_at actors) (drop cursor (txns_of sc)))
+    (find (is_armed_at actors) (take cursor (txns_of sc)))
 
--- the next automatic step, if there is one; the cursor is where timers will be looked for
+-- the oldest undelivered mail is delivered; where there is none, a transaction is submitted; and where all were, a timer fires
+abbrev pub next_by : Scenario → Actors → ℕ → Option ℕ → Option Step
+next_by sc actors cursor (Some mail) = Some (step.Deliver mail)
+next_by sc actors cursor None =
+    option_or (option_map (λ (txn : TxnId). step.Submit txn) (lowest_unsubmitted sc actors))
+    (option_map (λ (txn : TxnId). step.Timer txn) (first_armed sc actors cursor))
+
+-- the next automatic step, if there is one; timers are looked for from the cursor on
 abbrev pub next_of : Scenario → Machine → ℕ → Option Step
-next_of sc m cursor = next_by sc m.state.actors (slice_get m.undelivered 0)
+next_of sc m cursor = next_by sc m.state.actors cursor (slice_get m.undelivered 0)
+
+-- a timer that fired moves the cursor behind its transaction
+abbrev pub cursor_after : Step → ℕ → ℕ
+cursor_after (step.Timer txn) cursor = txn.0 + 1
+cursor_after _ cursor = cursor
 
 -- no rule gives a step
 abbrev pub is_quiet : Scenario → Machine → Bool
@@ -38,7 +50,9 @@ is_quiet sc m = is_none (next_of sc m 0)
 abbrev pub automatic_from : Scenario → ℕ → ℕ → Machine → List Step
 automatic_from sc zero cursor m = []
 automatic_from sc (suc left) cursor m =
-    option_map_or (λ (taken : Step). taken ∷ automatic_from sc left cursor (after_step sc m taken))
+    option_map_or
+    (λ (taken : Step). taken
+    ∷ automatic_from sc left (cursor_after taken cursor) (after_step sc m taken))
     (next_of sc m cursor) []
 
 -- the cursor begins at 0

@@ -7,7 +7,7 @@ use Rattle.tp_policy_text.specs.declared.parsing.ParseError.{ParseError}
 use Rattle.tp_policy_text.specs.declared.parsing.ParseError.TheVariants as fault
 use Rattle.tp_scenario.specs.declared.from_bytes.ScenarioError.{ScenarioError}
 use Rattle.tp_scenario.specs.declared.from_bytes.ScenarioError.TheVariants.{TooLong, BadJson, Shape, Range, Unknown, Policy, NotYet, NoMemory}
-use Rattle.tp_top.specs.ReportText.{admin_name, txn_name}
+use Rattle.tp_top.specs.ReportText.{actor_name, admin_name, txn_name}
 
 -- what is wrong with a policy's text, and at which byte of it
 abbrev pub fault_text : ParseError → List ℕ
@@ -33,6 +33,8 @@ abbrev pub step_fault_text : Scenario → StepError → List ℕ
 step_fault_text sc (step.NoSuchMail mail mails) =
     codes " nomail " ++ decimal mail ++ codes " " ++ decimal mails
 step_fault_text sc (step.AlreadySubmitted txn) = codes " submitted " ++ txn_name sc txn
+step_fault_text sc (step.NotSubmitted txn) = codes " notsubmitted " ++ txn_name sc txn
+step_fault_text sc (step.IsDown actor) = codes " isdown " ++ actor_name sc actor
 step_fault_text sc (step.NoMore admin) = codes " nomore " ++ admin_name sc admin
 step_fault_text sc (step.TooLate clock) = codes " toolate " ++ decimal clock
 step_fault_text sc step.NoMemory = []

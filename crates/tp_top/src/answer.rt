@@ -7,12 +7,12 @@ ghost use Rattle.tp_model.specs.Commits.{are_lone};
 ghost use Rattle.tp_model.specs.SerialRun.{is_serial};
 ghost use Rattle.tp_model.specs.Trust.{is_trusted};
 ghost use Rattle.tp_io.specs.Whole.{TakesAtMost, input_max};
-ghost use Rattle.tp_runs.specs.Laws.{HasAllCommits, IsTrustedState};
+ghost use Rattle.tp_runs.specs.Laws.{IsTrustedState};
 ghost use Rattle.tp_machine.specs.Machine.{ending_of};
 ghost use Rattle.tp_machine.specs.WorldView.{start};
 ghost use Rattle.tp_top.specs.ReportText.{report_text};
 ghost use Rattle.tp_top.specs.Run.{Answers, automatic_bound};
-ghost use Rattle.tp_top.specs.mirrors.Answers.{IsListed, IsRefusal, IsReported};
+ghost use Rattle.tp_top.specs.mirrors.Answers.{IsListed, IsRefusal, IsReported, IsWhole};
 
 use crate::auto::{Drained, bound, drain};
 use crate::listed::follow;
@@ -148,13 +148,13 @@ fn proved_facts(world: &World) -> &List<Fact>
     agreed(world)
 }
 
-/// The report of a world, of whose history all that holds at this moment is told.
+/// The report of a world, of whose history all is told that holds at this moment, and once its transactions are finished.
 fn text_of(alloc: Global, world: &World) -> Result<Text, NoMemory>
     ensures text { IfOk result (λ text.
         text.0 ≡ report_text world.now.scenario world.now.machine.state.facts
         (ending_of world.now.scenario world.now.machine.state)) }
     ensures so_far { OnOk result (IsTrustedState world.now.scenario world.now.machine.state) }
-    ensures whole { OnOk result (HasAllCommits world.now.scenario world.now.machine.state) }
+    ensures whole { OnOk result (IsWhole world.now.scenario world.now.machine.state) }
 {
     let ending = history::ending(world, alloc)?;
     print(alloc, world.scenario(), proved_facts(world), &ending)

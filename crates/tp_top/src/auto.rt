@@ -1,9 +1,10 @@
 //! The automatic phase: what happens by itself when no step is listed, until the world is quiet.
-ghost use Rattle.std.specs.Prelude.{◌≡◌, ◌≢◌, ◌<◌, ◌≤◌, ◌^◌, true, false, None, length, IfSome};
+ghost use Rattle.std.specs.Prelude.{◌≡◌, ◌≢◌, ◌<◌, ◌≤◌, ◌^◌, true, false, None, drop, find, length, take, IfSome};
+ghost use Rattle.tp_model.specs.Words.step;
 ghost use Rattle.tp_model.specs.Built as built;
-ghost use Rattle.tp_machine.specs.Machine.{is_submitted, refusal};
+ghost use Rattle.tp_machine.specs.Machine.{is_armed_at, is_submitted, refusal};
 ghost use Rattle.tp_machine.specs.WorldView.{IsBuiltStep};
-ghost use Rattle.tp_machine.specs.Named.{IsStepOf};
+ghost use Rattle.tp_machine.specs.Named.{IsStepOf, IsTxn};
 ghost use Rattle.tp_top.specs.Auto as automatic;
 ghost use Rattle.tp_top.specs.Auto.{Drains, IsSpent, Stops, is_quiet, lowest_unsubmitted, next_of};
 
@@ -35,9 +36,47 @@ fn lowest_unsubmitted(world: &World) -> Option<TxnId>
         .find(|txn| !world.is_submitted(*txn))
 }
 
+/// The first armed transaction at or after the cursor.
+#[tactic(auto, using(crate::proofs::BoundLemmas::few_txns_built))]
+fn armed_behind(world: &World, cursor: u32) -> Option<TxnId>
+    ensures value { result ≡ find (is_armed_at world.now.machine.state.actors)
+        (drop cursor (automatic.txns_of world.now.scenario)) }
+{
+    (0..world.scenario().txns.len() as u32)
+        .map(TxnId)
+        .skip(cursor as usize)
+        .find(|txn| world.armed(*txn))
+}
+
+/// The first armed transaction before the cursor.
+#[tactic(auto, using(crate::proofs::BoundLemmas::few_txns_built))]
+fn armed_before(world: &World, cursor: u32) -> Option<TxnId>
+    ensures value { result ≡ find (is_armed_at world.now.machine.state.actors)
+        (take cursor (automatic.txns_of world.now.scenario)) }
+{
+    (0..world.scenario().txns.len() as u32)
+        .map(TxnId)
+        .take(cursor as usize)
+        .find(|txn| world.armed(*txn))
+}
+
+/// The first armed transaction at or after the cursor, going round.
+fn first_armed(world: &World, cursor: u32) -> Option<TxnId>
+    ensures value { result
+        ≡ automatic.first_armed world.now.scenario world.now.machine.state.actors cursor }
+    ensures declared { IfSome result (IsTxn world.now.scenario) }
+    ensures allowed { IfSome result (λ txn.
+        refusal world.now.machine.state (step.Timer txn) ≡ None) }
+{
+    match armed_behind(world, cursor) {
+        Some(txn) => Some(txn),
+        None => armed_before(world, cursor),
+    }
+}
+
 /// The next step that comes by itself, or None where the world is quiet: the oldest undelivered mail is delivered, or else
-/// the lowest transaction that is not submitted is submitted. The cursor is where a timer will be looked for first.
-/// It does not use the cursor yet, so that its callers and its contract stay as they are when timers come.
+/// the lowest transaction that is not submitted is submitted, or else the timer of the first armed transaction at or after the
+/// cursor fires, going round.
 pub fn next(world: &World, cursor: u32) -> Option<Step>
     ensures value { result ≡ next_of world.now.scenario world.now.machine cursor }
     ensures built { IfSome result IsBuiltStep }
@@ -46,7 +85,23 @@ pub fn next(world: &World, cursor: u32) -> Option<Step>
 {
     match world.oldest() {
         Some(mail) => Some(Step::Deliver { mail }),
-        None => lowest_unsubmitted(world).map(|txn| Step::Submit { txn }),
+        None => match lowest_unsubmitted(world) {
+            Some(txn) => Some(Step::Submit { txn }),
+            None => first_armed(world, cursor).map(|txn| Step::Timer { txn }),
+        },
+    }
+}
+
+/// Where timers are looked for after a step of a scenario.
+#[tactic(auto, using(crate::proofs::BoundLemmas::few_txns_built))]
+fn cursor_after(scenario: &Scenario, taken: &Step, cursor: u32) -> u32
+    requires built { built.is_built scenario.now ≡ true }
+    requires exists { IsStepOf scenario.now taken.now }
+    ensures { result ≡ automatic.cursor_after taken.now cursor }
+{
+    match taken {
+        Step::Timer { txn } => txn.0 + 1,
+        _ => cursor,
     }
 }
 
@@ -65,16 +120,20 @@ pub fn drain(world: &mut World, alloc: Global, budget: u64) -> Drained
     if world.given_up() {
         return Drained::NoMemory;
     }
+    let mut cursor = 0;
     for _turn in 0..budget {
-        match next(world, 0) {
+        match next(world, cursor) {
             None => return Drained::Quiet,
-            Some(step) => match world.step(alloc, &step) {
-                Ok(()) => {}
-                Err(_) => return Drained::NoMemory,
-            },
+            Some(step) => {
+                let after = cursor_after(world.scenario(), &step, cursor);
+                match world.step(alloc, &step) {
+                    Ok(()) => cursor = after,
+                    Err(_) => return Drained::NoMemory,
+                }
+            }
         }
     }
-    match next(world, 0) {
+    match next(world, cursor) {
         None => Drained::Quiet,
         Some(_) => Drained::Budget,
     }

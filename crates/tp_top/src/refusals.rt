@@ -1,15 +1,16 @@
 //! The lines of refusals.
 ghost use Rattle.std.specs.Prelude.{◌≡◌, ◌++◌, IfOk, OnOk, codes};
 ghost use Rattle.tp_top.specs.Refusals as refusals;
+ghost use Rattle.tp_top.specs.ReportText.{txn_name};
 
 use crate::listed::StepRefusal;
-use crate::report::piece::{put, put_admin, put_number, put_txn};
+use crate::report::piece::{put, put_actor, put_admin, put_number, put_txn};
 use itoa::Integer;
 use std::alloc::Global;
 use tp_machine::StepError;
 use tp_policy_text::ParseError;
 use tp_scenario::ScenarioError;
-use tp_types::{List, NoMemory, Scenario, Text};
+use tp_types::{List, NoMemory, Scenario, Text, TxnId};
 
 /// Puts a word, and a number after it.
 fn put_after<I: Integer>(line: &mut Vec<u8>, word: &[u8], number: I) -> Result<(), NoMemory>
@@ -17,6 +18,20 @@ fn put_after<I: Integer>(line: &mut Vec<u8>, word: &[u8], number: I) -> Result<(
 {
     put(line, word)?;
     put_number(line, number)
+}
+
+/// Puts a word, and a transaction's name after it.
+fn put_txn_after(
+    line: &mut Vec<u8>,
+    word: &[u8],
+    scenario: &Scenario,
+    txn: TxnId,
+) -> Result<(), NoMemory>
+    ensures { OnOk result
+        (line.new.items ≡ line.old.items ++ (word.now ++ txn_name scenario.now txn)) }
+{
+    put(line, word)?;
+    put_txn(line, scenario, txn)
 }
 
 /// The line that says why a scenario was refused.
@@ -95,9 +110,11 @@ fn put_step_fault(line: &mut Vec<u8>, scenario: &Scenario, why: StepError) -> Re
             put_after(line, b" nomail ", mail)?;
             put_after(line, b" ", mails)
         }
-        StepError::AlreadySubmitted { txn } => {
-            put(line, b" submitted ")?;
-            put_txn(line, scenario, txn)
+        StepError::AlreadySubmitted { txn } => put_txn_after(line, b" submitted ", scenario, txn),
+        StepError::NotSubmitted { txn } => put_txn_after(line, b" notsubmitted ", scenario, txn),
+        StepError::IsDown { actor } => {
+            put(line, b" isdown ")?;
+            put_actor(line, scenario, actor)
         }
         StepError::NoMore { admin } => {
             put(line, b" nomore ")?;

@@ -1,11 +1,11 @@
 //! Calls on the world of the first scenario that no scenario makes: a clock that comes to its end, the bound of the automatic
-//! phase, and automatic steps that come to their budget.
+//! phase, automatic steps that come to their budget, and what a timer sends after each step.
 use crate::run::FIRST;
 use std::process::Abort;
 use tp_machine::{StepError, World};
 use tp_scenario::read;
 use tp_top::auto::{Drained, bound, drain, next};
-use tp_types::{Fact, Step, What};
+use tp_types::{Fact, Step, TxnId, What};
 
 /// The last moment of the clock.
 const LAST: u64 = (1 << 63) - 1;
@@ -84,4 +84,51 @@ fn comes_to_its_budget(rt: HostRuntime) {
     let mail = next_mail_after(&rt, &mut world, 8);
     drop(world);
     assert_eq!(rt; mail, Some(7));
+}
+
+/// Submits the one transaction.
+fn submit(rt: &impl AllocGlobal, world: &mut World) -> bool {
+    if world.scenario().txns.len() == 0 {
+        return false;
+    }
+    world
+        .step(rt.alloc(), &Step::Submit { txn: TxnId(0) })
+        .is_ok()
+}
+
+/// Fires the timer of the one transaction, and answers how many mails there are then, and whether it is armed.
+fn fire(rt: &impl AllocGlobal, world: &mut World) -> Option<(u64, bool)> {
+    if world.scenario().txns.len() == 0 {
+        return None;
+    }
+    match world.step(rt.alloc(), &Step::Timer { txn: TxnId(0) }) {
+        Ok(()) => Some((world.mails(), world.armed(TxnId(0)))),
+        Err(_) => None,
+    }
+}
+
+/// Delivers a mail, and fires the timer after it.
+fn deliver_and_fire(rt: &impl AllocGlobal, world: &mut World, mail: u64) -> Option<(u64, bool)> {
+    match world.step(rt.alloc(), &Step::Deliver { mail }) {
+        Ok(()) => fire(rt, world),
+        Err(_) => None,
+    }
+}
+
+/// The transaction awaits, in this order, the answer to its query, the authority's, the vote, and the acknowledgement. As long as
+/// it does, each step sends one mail and the timer after it one more; with the acknowledgement nothing is outstanding.
+#[test]
+fn sends_again_what_is_outstanding(rt: HostRuntime) {
+    let mut world = start(&rt);
+    assert!(rt; !world.armed(TxnId(0)));
+    assert!(rt; fire(&rt, &mut world).is_none());
+    assert!(rt; submit(&rt, &mut world));
+    assert_eq!(rt; fire(&rt, &mut world), Some((2, true)));
+    for exchange in 0..7 {
+        let fired = deliver_and_fire(&rt, &mut world, 2 * exchange);
+        assert_eq!(rt; fired, Some((2 * exchange + 4, true)));
+    }
+    let last = deliver_and_fire(&rt, &mut world, 14);
+    drop(world);
+    assert_eq!(rt; last, Some((16, false)));
 }

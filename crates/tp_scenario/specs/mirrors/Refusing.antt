@@ -21,8 +21,8 @@ IsTextError bytes (refusal.Unknown path) = ⊥
 IsTextError bytes (refusal.Policy path fault) = ⊥
 IsTextError bytes (refusal.NotYet path) = ⊥
 
--- the refusal for the first form that is not built, if there is one, or memory was refused
+-- the refusal for the first form that is not built, if there is one, beside the want of memory for its path
 abbrev pub IsUnbuilt : Option ScenarioError → Option Site → Type 0
 IsUnbuilt None found = found ≡ None
-IsUnbuilt (Some given) None = given ≡ refusal.NoMemory
+IsUnbuilt (Some given) None = ⊥
 IsUnbuilt (Some given) (Some site) = IsRefusal (refusal.NotYet (path_of site)) given

@@ -1,7 +1,8 @@
 -- What the helpers of the answer to an input promise to one another.
 use Rattle.std.specs.Prelude.{◌≡◌, List, ℕ, length, true, false, Option, Some, None}
 use Rattle.tp_model.specs.Words.{Scenario, Step}
-use Rattle.tp_runs.specs.Laws.{HasAllCommits, IsTrustedState}
+use Rattle.tp_runs.specs.Laws.{HasAllCommits, HasAllEnds, IsTrustedState}
+use Rattle.tp_machine.specs.Machine.{State}
 use Rattle.tp_machine.specs.WorldView.{WorldView}
 use Rattle.tp_scenario.specs.declared.from_bytes.ScenarioError.{ScenarioError}
 use Rattle.tp_top.specs.declared.answer.Answer.{Answer}
@@ -28,12 +29,17 @@ pub record IsListed (world : WorldView) : Type 0 where
 
 -- ---- what comes of a scenario that was read
 
+-- where all of its transactions are finished they have ended, and where they have, its values are those that all commits leave
+pub record IsWhole (sc : Scenario) (w : State) : Type 0 where
+  pub ended : HasAllEnds sc w
+  pub commits : HasAllCommits sc w
+
 -- its listed steps are done, its run comes to rest, and the text is its report
 pub record IsRunTo (sc : Scenario) (text : List ℕ) : Type 0 where
   pub lawful : first_refused sc ≡ None
   pub quiet : is_quiet sc (final sc) ≡ true
   pub so_far : IsTrustedState sc (final sc).state
-  pub whole : HasAllCommits sc (final sc).state
+  pub whole : IsWhole sc (final sc).state
   pub text_is : text ≡ report_of sc
 
 -- its listed steps are done, and its run does not end within the bound

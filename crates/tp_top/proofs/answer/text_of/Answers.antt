@@ -1,4 +1,5 @@
-use Rattle.std.proofs.Common.{◌≡◌, Bool, true, false, Result, Ok, Err, OnOk, refl}
+use Rattle.std.proofs.Common.{◌≡◌, Bool, true, false, Result, Ok, Err, OnOk, refl, ap, sym, ◌∙◌}
+use Rattle.tp_model.specs.Words.{Ending}
 use Rattle.tp_top.proofs.answer.text_of.Goals as goal
 
 contrary : false ≡ true → ⊥
@@ -15,3 +16,11 @@ kept P (Err e) p = tt
 
 pub returns-clause-so_far : goal.returns-clause-so_far
 returns-clause-so_far c = kept _ c.print.result (c.proved_facts.ensures.so_far (up c.args.world.now.given_up c.in_ok-ending.ensures.given_up))
+
+pub returns-clause-whole : goal.returns-clause-whole
+returns-clause-whole c =
+    kept _ c.print.result
+    (record {
+      ended = c.in_ok-ending.ensures.ended;
+      commits = λ ended. ap (λ (it : Ending). it.values) (sym c.in_ok-ending.ensures.value) ∙ c.in_ok-ending.ensures.whole ended;
+    })
