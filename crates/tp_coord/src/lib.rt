@@ -1,9 +1,12 @@
-//! The coordinator of one transaction: its state, and what it does on its submission and on each mail.
+//! The coordinator of one transaction: its state, and what it does on its submission, on each mail, and at its timer.
 //!
 //! What is promised, with the contract that carries it:
 //!
-//! - A coordinator does exactly its rows (`Coordinator::submit`, `Coordinator::receive`; its age is set by
-//!   `Coordinator::placed`)
+//! - A coordinator does exactly its rows: at its submission, on receipt of a mail, and at its timer, where it sends the
+//!   request again that is outstanding (`Coordinator::submit`, `receive`, `timer`; its age is set by `placed`). What a
+//!   transaction does after a query and after its votes is what the table of moves says (`next_move` of `tp_scheme`)
+//! - Whether its transaction was submitted, and whether some request of it is outstanding, is told
+//!   (`Coordinator::begun`, `armed`)
 //! - A coordinator begins as defined (`Coordinator::idle`)
 #![tactic(auto)]
 

@@ -55,7 +55,7 @@ pub enum Judged {
     AllTrue,
     /// No server is out of date, and of the false proofs this is the one of least query.
     False { verdict: Verdict },
-    /// As many rounds as may be met a newer version at the master: what each of them met.
+    /// So many rounds as the limit allows have met a newer version at the master: what each of them met.
     Spent(List<Met>),
     /// These servers are to evaluate again, at these versions. The next round has begun.
     Update(List<Wanted>),
@@ -146,12 +146,10 @@ fn with_met(alloc: Global, mets: &List<Met>, met: Option<Met>) -> Result<List<Me
 }
 
 impl Round {
-    /// The first round over these servers, which are to differ: of one that stands twice two replies are awaited. The room for replies is made
-    /// here.
-    /// The level is that of each administrator. Under global consistency each round reads the master, and at most
-    /// `limit` rounds may meet a newer version there, from 1 to 16.
-    /// It has no condition that the servers differ: its result is exact for every list, and a coordinator's
-    /// differ since they stand in order of number.
+    /// The first round over these servers, with room for their replies. Each administrator has this level; under global
+    /// consistency each round reads the master, and at most `limit` rounds, from 1 to 16, may meet a newer version there.
+    /// Of a server that stands twice two replies are awaited; a coordinator's servers differ, as they stand in order of
+    /// number.
     pub fn start(
         alloc: Global,
         targets: &[ServerId],

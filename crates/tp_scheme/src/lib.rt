@@ -12,8 +12,8 @@
 //!   do the rounds at commit begin, never under incremental. A transaction commits only after the votes
 //!   (`moves_have_their_schemes`: `probes`, `validates`, `votes`, `rounds`, `decides`)
 //! - Each query leads to the next by the moves that are listed for its scheme, and the last to the decision by those of
-//!   the end: deferred, punctual and continuous evaluate all queries once more, and incremental votes, and reads the
-//!   master after the votes where it is read (`queries_lead_on`: `next`, `last`)
+//!   the end: deferred, punctual and continuous evaluate all queries in the rounds at commit, and incremental votes, and
+//!   reads the master after the votes where it is read (`queries_lead_on`: `next`, `last`)
 //! - Nothing is gathered at first (`Gathered::new`). A proof is added at the end; an instance that is closed has all
 //!   proofs so far, in their order, with the given reading, and is added at the end, as is an instance that is given;
 //!   where memory is refused nothing changes (`Gathered::add`: `added`, `memory`; `close` and `closes`: `closed`,
