@@ -1,7 +1,7 @@
 //! A plain program that judges histories: one call for each of agreement, trust, causes, serial data, and that commits
 //! stand apart, which has the definition as its contract. It knows a scenario and a flat list of facts, and nothing of
 //! how they came. So it does not judge what else a trusted history says: which facts the steps say, since it is given
-//! no steps, and the values of items.
+//! no steps, that every transaction has ended, and the values of items.
 //!
 //! What is promised, with the contract that carries it:
 //!

@@ -1,5 +1,5 @@
--- A coordinator's rows: what it does when its transaction is submitted, and on receipt of a mail. A reply is used only in
--- the phase that awaits it, with the present turn, and once from each server; otherwise nothing happens.
+-- A coordinator's rows: what it does when its transaction is submitted, on receipt of a mail, and at its timer. A reply is used
+-- only in the phase that awaits it, with the present turn, and once from each server; otherwise nothing happens.
 use Rattle.std.specs.List.{find}
 use Rattle.std.specs.Option.{option_flatten, option_map_or}
 use Rattle.std.specs.Prelude.{Bool, List, None, Option, Some, [], false, filter, if◌then◌else◌, map, not, length, min, option_and_then, option_map, replicate, slice_get, slice_set, true, unwrap_or, ℕ, ℤ, ◌&&◌, ◌++◌, ◌==◌, ◌∷◌}

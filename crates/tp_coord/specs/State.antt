@@ -9,7 +9,7 @@ pub record Coordinator : Type 0 where
   pub servers : List ServerId
   -- the place of the submission, once it is known
   pub age : Option ℕ
-  -- the number of requests so far
+  -- the number of requests so far, repeats not counted
   pub turn : ℕ
   -- the epoch of each server of the scenario, as its last reply told it
   pub epochs : List (Option ℕ)

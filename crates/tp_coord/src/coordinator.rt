@@ -87,7 +87,7 @@ pub struct Coordinator {
     pub servers: List<ServerId>,
     /// The place of the submission, once there was one.
     pub age: Option<Place>,
-    /// The number of requests so far.
+    /// The number of requests so far, repeats not counted.
     pub turn: u32,
     /// The epoch of each server of the scenario, as its last reply told it.
     pub epochs: List<Option<u64>>,

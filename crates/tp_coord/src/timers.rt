@@ -1,5 +1,5 @@
-//! A coordinator's timer: the request that is outstanding is sent again, in its own turn. No reply comes twice into a round, and
-//! a server answers a repeat as it answered before, so nothing is decided by how often a mail comes.
+//! A coordinator's timer: the request that is outstanding is sent again, in its own turn, as it was sent before but for the age of
+//! a first query. So whichever of its replies comes first is used, and no other.
 ghost use Rattle.std.specs.Prelude.{◌≡◌, IfOk};
 ghost use Rattle.tp_types.specs.Effect.{Gives};
 ghost use Rattle.tp_coord.specs.Row as row;

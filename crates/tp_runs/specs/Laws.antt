@@ -27,7 +27,8 @@ abbrev pub HasAllCommits : Scenario → State → Type 0
 HasAllCommits sc w =
     have_ended sc w.facts 0 sc.txns ≡ true → (ending_of sc w).values ≡ store_of sc w.facts
 
--- the transaction was submitted, and no request of it is outstanding: each of its servers has acknowledged its end
+-- the transaction was submitted, and no request of it is outstanding: where its coordinator is up, each of its servers has acknowledged
+-- its end
 abbrev pub is_finished : Actors → TxnId → Bool
 is_finished actors txn = is_submitted actors txn && not (is_armed_at actors txn)
 

@@ -20,9 +20,11 @@
 //! - Each item's value at any moment is its opening value, overlaid by the commits that its server has settled;
 //!   where every transaction has ended at all its servers these are the values that all commits leave
 //!   (`history::ending`: `overlaid`, `whole`)
+//! - Where each transaction was submitted and no request of it is outstanding, each was decided, and settled so at
+//!   each of its servers (`history::ending`: `ended`)
 //! - The law behind these: of every scenario that is run, after every list of steps that name what exists, the
-//!   history is trusted so far; and where all transactions have ended the values are those of all commits
-//!   (`laws::histories_are_trusted`: `trusted`, `whole`)
+//!   history is trusted so far; where all transactions are finished they have ended; and where they have ended the
+//!   values are those of all commits (`laws::histories_are_trusted`: `trusted`, `ended`, `whole`)
 //! - In a world that is not given up at most 128 times as many mails were sent as steps were done, though a
 //!   single step may send more; so no more are undelivered (`history::mails`: `few`;
 //!   `history::undelivered_count`: `few`)
@@ -31,8 +33,8 @@
 //! - Of every scenario that is run, after every list of steps that name what exists, no record on an actor's log is
 //!   too long for a log (`laws::records_fit`)
 //!
-//! These hold after every list of steps, in any order, with deliveries of any mail ever sent; agreement, trust
-//! with causes, and serial data also of a world that was given up. The calls lean on the condition of
+//! These hold after every list of steps, in any order, with losses, timers, and deliveries of any mail ever sent;
+//! agreement, trust with causes, and serial data also of a world that was given up. The calls lean on the condition of
 //! `World::start`, that the scenario has the built form, and on that of `World::step`; the laws ask both of
 //! their scenario and their steps. Each call takes from `World::facts` that the world is what its steps give.
 #![tactic(auto)]

@@ -8,7 +8,7 @@ use Rattle.tp_model.specs.Words.{Ending, Fact, Scenario, Step}
 use Rattle.tp_top.specs.Input.{Reads, TakesAll}
 use Rattle.tp_top.specs.ReportText.{report_text}
 
--- a step that comes by itself, as nothing from outside does: a submission of a transaction, the delivery of a mail, or a timer
+-- a step that the automatic phase may take: a submission of a transaction, the delivery of a mail, or a timer
 abbrev pub comes_by_itself : Step → Bool
 comes_by_itself (step.Submit txn) = true
 comes_by_itself (step.Deliver mail) = true

@@ -7,10 +7,11 @@
 //!   (`tpvc`: `printed`)
 //! - The report's text is exactly the defined one, for any scenario, facts and ending (`report::print`)
 //! - Each status has its number (`Status::number`)
-//! - The next step is the defined one, or None exactly where the world is quiet; it is one that `World::step`
-//!   takes and does not refuse (`auto::next`: `value`, `built`, `ids`, `allowed`)
-//! - A drain does exactly the automatic steps of the world, at most as many as its budget (`auto::drain`:
-//!   `steps`)
+//! - The next step is the defined one, or None exactly where the world is quiet: a delivery, a submission, or the
+//!   timer of the first armed transaction from the cursor on; it is one that `World::step` takes and does not
+//!   refuse (`auto::next`: `value`, `built`, `ids`, `allowed`)
+//! - A drain does exactly the automatic steps of the world, with the cursor at 0 at first, and at most as many as
+//!   its budget (`auto::drain`: `steps`)
 //! - It answers Quiet only where the world is quiet, and Budget only where it did the whole budget and the
 //!   world is not quiet (`auto::drain`: `quiet`, `budget`)
 //! - Where memory is refused the world is given up, after the automatic steps that came before (`auto::drain`:
@@ -22,9 +23,9 @@
 //!   is quiet. The output has gained exactly the report's text of this machine's facts and ending, and the
 //!   notes have gained nothing. The history that was printed is trusted (`TrustedHistory`): no two actors
 //!   decide a transaction differently, every commit's proofs evaluate true as its scheme demands, every abort
-//!   has its cause, data are those of a serial run, what comes from outside is what the steps say, the printed
-//!   values are those that the servers have settled, and where every transaction has ended those that all
-//!   commits leave (`tpvc`: `ended`: `IsDone`)
+//!   has its cause, data are those of a serial run, what comes from outside is what the steps say, every
+//!   transaction was submitted, decided, and settled so at each of its servers, and the printed values are those
+//!   that the servers have settled, which are those that all commits leave (`tpvc`: `ended`: `IsDone`)
 //! - At Refused the notes have gained exactly the line of a refusal, and the output nothing; the cause stands
 //!   in what was taken (`Run.RefusesInput`), or it is the first listed step that the machine refuses, with its
 //!   number and the reason (`Run.RefusesStep`) (`tpvc`: `ended`: `IsRefused`)
