@@ -7,9 +7,9 @@
 //!   `write_at`, `cut`, `sync`: `effect`; of all: `cause`, `time`)
 //! - The disk in memory meets this, and what each of its calls does is told exactly: it is stopped after so
 //!   many calls, and a call that is stopped changes nothing and counts a fault (`MemoryDisk`: `read`: `exact`;
-//!   `write_at`, `cut`, `sync`: `call`; `fresh`, `stop_after`)
+//!   `write_at`, `cut`, `sync`: `call`; `fresh`, `stop_after`, `run_on`, `content`)
 //! - A crash of it fills what was written since the last sync, and leaves one of the images that may be left
-//!   (`MemoryDisk::crashed`: `exact`, `image`)
+//!   (`MemoryDisk::crashed`, `crash`: `exact`, `image`)
 #![tactic(auto)]
 
 mod disk;

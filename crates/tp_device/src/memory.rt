@@ -12,6 +12,7 @@ use crate::disk::{Disk, DiskError};
 use crate::span::Span;
 use std::alloc::{AllocError, Global};
 use std::marker::Model;
+use std::mem;
 use tp_types::{List, NoMemory};
 
 /// How many calls still pass, and how many faults there have been.
@@ -141,6 +142,20 @@ impl MemoryDisk {
         self.fuse.left = Some(calls);
     }
 
+    /// No call is stopped any more.
+    pub fn run_on(&mut self)
+        ensures { self.new ≡ record self.old { left = None } }
+    {
+        self.fuse.left = None;
+    }
+
+    /// All the bytes, as a read gives them. It is no call of the disk, and takes no memory.
+    pub fn content(&self) -> &[u8]
+        ensures { result.now ≡ self.now.disk.seen }
+    {
+        self.content.as_slice()
+    }
+
     /// The disk after a crash: each byte that was written since the last sync that succeeded reads `fill`, and the
     /// length is the length then reached. Nothing on it is unsynced, and no call of it is stopped.
     pub fn crashed(self, fill: u8) -> MemoryDisk
@@ -168,6 +183,25 @@ impl MemoryDisk {
                 faults: fuse.faults,
             },
         }
+    }
+
+    /// Crashes in place, as `crashed` does. It takes no memory.
+    pub fn crash(&mut self, alloc: Global, fill: u8)
+        ensures exact { self.new ≡ memory.after_crash fill self.old }
+        ensures image { MayLeave self.old.disk self.new.disk.seen }
+    {
+        let empty = MemoryDisk {
+            content: Vec::new(alloc),
+            least: 0,
+            greatest: 0,
+            written: List::new(alloc),
+            fuse: Fuse {
+                left: None,
+                faults: 0,
+            },
+        };
+        let before = mem::replace(self, empty);
+        *self = before.crashed(fill);
     }
 }
 
