@@ -3,6 +3,7 @@ pub mod AppendAnswers
 pub mod Appends
 pub mod Blocks
 pub mod Found
+pub mod InPlace
 pub mod LastStep
 pub mod Near
 pub mod Openings

@@ -11,7 +11,7 @@ pub enum LogError {
     Device,
     /// Behind an open gate no record and a next gate stand. The place is that behind the gate, in bytes.
     NotALog { place: u64 },
-    /// An earlier append of this log answered `Device`.
+    /// An earlier append of this log answered `Device`, or the log crashed, and it was not read again since.
     Closed,
     /// The record's body is longer than `BODY_MAX`.
     TooLong,

@@ -28,6 +28,10 @@
 //!   with the new one or without (`Log::disk`, `into_disk`: `kept`, `failed`)
 //! - A log over a disk in memory that is stopped after some calls of an append, and crashes, has the new record
 //!   exactly by `kept_after` (`Log::stop_after`, `crashed_in_append`: `kept`, `forced`, `refused`)
+//! - The same in place: after a crash the log is closed until it is read again, nothing on its disk is unsynced and no
+//!   call of it is stopped. Where the crash within an append is refused the log keeps its records (`Log::crash`,
+//!   `crash_in_append`, `run_on`). What the bytes of the disk give is read without a call of it, and a log is opened
+//!   anew without giving its disk up (`Log::records`, `reread`)
 #![tactic(auto)]
 
 ghost use Rattle.std.specs.Prelude.{◌≡◌, ◌<◌, ◌^◌, ℕ, List, All};
@@ -41,6 +45,7 @@ mod error;
 mod image;
 mod log;
 mod opening;
+mod running;
 
 pub use block::BODY_MAX;
 pub use error::LogError;

@@ -4,10 +4,11 @@ use crate::calls::force;
 use crate::error::LogError;
 use crate::image::records_of;
 use crate::opening::taken;
+use crate::running::{sync_running, write_gate_running};
 use std::alloc::Global;
 use std::marker::Model;
 use tp_device::{Disk, DiskError, MemoryDisk};
-use tp_types::{List, Record};
+use tp_types::{List, NoMemory, Record};
 
 /// A log on a disk, to which records are appended one by one. A record that was appended outlives a crash.
 #[derive(Drop)]
@@ -15,7 +16,7 @@ pub struct Log<D: Disk> {
     disk: D,
     /// The place of the gate that ends the log.
     gate: u64,
-    /// An append failed.
+    /// An append failed, or the log crashed and was not read again.
     closed: bool,
 }
 
@@ -136,19 +137,26 @@ impl<D: Disk> Log<D> {
 }
 
 impl Log<MemoryDisk> {
-    ghost use Rattle.std.specs.Prelude.{◌≡◌, List, Some, IfErr, IfOk};
+    ghost use Rattle.std.specs.Prelude.{◌≡◌, ◌≢◌, ◌<◌, ◌≤◌, [], ◌∷◌, List, length, Some, None, true, Err, IfErr, IfOk, OnErr, OnOk};
     ghost use Rattle.tp_types.specs.declared.records.Record.{Record};
-    ghost use Rattle.tp_device.specs.Disks.{clean_state};
-    ghost use Rattle.tp_device.specs.Memory.{disk_of};
-    ghost use Rattle.tp_log.specs.Images.{Gives};
+    ghost use Rattle.tp_device.specs.Disks.{MayLeave, after_sync, clean_state};
+    ghost use Rattle.tp_device.specs.Memory.{after_crash, disk_of};
+    ghost use Rattle.tp_log.specs.Images.{FailsAt, Gives};
     ghost use Rattle.tp_log.specs.Logs.{Keeps, kept_after};
-    ghost use Rattle.tp_log.specs.Refusals.{IfUncalled};
+    ghost use Rattle.tp_log.specs.Refusals.{IfNotALog, IfUncalled};
 
     /// Lets so many further calls of the disk pass. The records stay.
     pub fn stop_after(&mut self, calls: u32)
         ensures { self.new ≡ record self.old { disk = record self.old.disk { left = Some calls } } }
     {
         self.disk.stop_after(calls);
+    }
+
+    /// No call of the disk is stopped any more. The records stay.
+    pub fn run_on(&mut self)
+        ensures { self.new ≡ record self.old { disk = record self.old.disk { left = None } } }
+    {
+        self.disk.run_on();
     }
 
     /// Crashes within an append: so many of its calls of the disk pass, and what is then unsynced reads `fill`.
@@ -173,5 +181,115 @@ impl Log<MemoryDisk> {
             Err(LogError::Device) => Ok(self.into_disk().crashed(fill)),
             Err(error) => Err(error),
         }
+    }
+
+    /// Crashes the disk, on which what is unsynced then reads `fill`, and closes the log.
+    fn crash_with(&mut self, alloc: Global, fill: u8)
+        ensures exact { self.new ≡ record self.old { disk = after_crash fill self.old.disk; closed = true } }
+        ensures image { MayLeave self.old.disk.disk self.new.disk.disk.seen }
+    {
+        self.disk.crash(alloc, fill);
+        self.closed = true;
+    }
+
+    /// Crashes in place. What is unsynced on the disk then reads 0, and no call of it is stopped. The log takes no record
+    /// until it is read again. It takes no memory.
+    pub fn crash(&mut self, alloc: Global)
+        ensures exact { self.new ≡ record self.old { disk = after_crash 0 self.old.disk; closed = true } }
+        ensures image { MayLeave self.old.disk.disk self.new.disk.disk.seen }
+        // Where nothing is unsynced, as on the disk of a log that keeps its records, the bytes stay.
+        ensures forced { self.old.disk.disk ≡ clean_state self.old.disk.disk.seen
+            → self.new.disk ≡ record self.old.disk { left = None } }
+    {
+        self.crash_with(alloc, 0);
+    }
+
+    /// Crashes within an append, as `crashed_in_append` does, in place. The log then takes no record until it is read
+    /// again. A refusal is as of `append`, and is no crash. At each answer no call of the disk is stopped any more.
+    pub fn crash_in_append(
+        &mut self,
+        alloc: Global,
+        r: &Record,
+        calls: u32,
+        fill: u8,
+    ) -> Result<(), LogError>
+        // The record is there where all four calls passed, or three and the gate reads 1.
+        ensures kept { OnOk result ((records : List Record) → Keeps disk_of self.old records
+            → Gives self.new.disk.disk.seen (kept_after calls fill records r.now)) }
+        ensures forced { OnOk result (self.new.disk.disk ≡ clean_state self.new.disk.disk.seen) }
+        ensures closed { OnOk result (self.new.closed ≡ true) }
+        ensures running { self.new.disk.left ≡ None }
+        ensures refused { IfErr result (λ error. IfUncalled error self.old.closed r.now) }
+        // Where it is refused the log keeps its records.
+        ensures stays { OnErr result ((records : List Record) → Keeps disk_of self.old records
+            → Keeps disk_of self.new records) }
+        // Other bytes behind its gate are there only where memory was refused.
+        ensures same { IfErr result (λ error. error ≢ LogError.NoMemory
+            → self.new ≡ record self.old { disk = record self.old.disk { left = None } }) }
+    {
+        self.stop_after(calls);
+        match self.append(alloc, r) {
+            Ok(()) => {
+                self.crash_with(alloc, fill);
+                Ok(())
+            }
+            Err(LogError::Device) => {
+                self.crash_with(alloc, fill);
+                Ok(())
+            }
+            Err(error) => {
+                self.run_on();
+                Err(error)
+            }
+        }
+    }
+
+    /// The records that the bytes of the disk give. It makes no call of the disk.
+    pub fn records(&self, alloc: Global) -> Result<List<Record>, NoMemory>
+        requires gives { (records : List Record) × Gives self.now.disk.disk.seen records }
+        ensures { IfOk result (λ records. Gives self.now.disk.disk.seen records) }
+    {
+        let image = self.disk.content();
+        if image.len() <= 1 {
+            return Ok(List::new(alloc));
+        }
+        match records_of(alloc, image) {
+            Ok(found) => Ok(found.records),
+            Err(LogError::NotALog { .. }) => unreachable!(),
+            Err(_) => Err(NoMemory),
+        }
+    }
+
+    /// Opens the log anew on its disk, as `opened` does, in place, and gives its records. The log is closed where it is
+    /// refused.
+    pub fn reread(&mut self, alloc: Global) -> Result<List<Record>, LogError>
+        requires running { self.old.disk.left ≡ None }
+        ensures records { IfOk result (λ records. Gives self.old.disk.disk.seen records) }
+        ensures kept { IfOk result (λ records. Keeps disk_of self.new records) }
+        // A disk of more than one byte is as a sync leaves it. A shorter one holds a closed gate.
+        ensures long { OnOk result (1 < length self.old.disk.disk.seen
+            → self.new.disk ≡ record self.old.disk { disk = after_sync self.old.disk.disk }) }
+        ensures short { OnOk result (length self.old.disk.disk.seen ≤ 1
+            → self.new.disk ≡ record self.old.disk { disk = clean_state (0 ∷ []) }) }
+        ensures stays { OnErr result (self.new ≡ record self.old {
+          disk = record self.old.disk { disk = after_sync self.old.disk.disk };
+          closed = true;
+        }) }
+        // Only where no records are given.
+        ensures not_a_log { IfErr result (λ error. IfNotALog error (FailsAt self.old.disk.disk.seen)) }
+        ensures device { result ≡ Err LogError.Device → ⊥ }
+    {
+        self.closed = true;
+        sync_running(&mut self.disk);
+        if self.disk.len() <= 1 {
+            write_gate_running(&mut self.disk)?;
+            self.gate = 0;
+            self.closed = false;
+            return Ok(List::new(alloc));
+        }
+        let found = records_of(alloc, self.disk.content())?;
+        self.gate = found.gate;
+        self.closed = false;
+        Ok(found.records)
     }
 }
