@@ -179,6 +179,84 @@ fn a_stopped_disk_refuses_each_call(rt: HostRuntime) {
     assert!(rt; holds(&rt, disk.crashed(9), &[0]));
 }
 
+// ---- in place
+
+#[test]
+fn a_disk_crashes_in_place(rt: HostRuntime) {
+    let mut disk = disk_of(&rt, &[7, 6]);
+    let written = disk.write_at(0, &[8]).is_ok();
+    disk.stop_after(0);
+    disk.crash(rt.alloc(), 9);
+    let runs = disk.sync().is_ok();
+    let left: &[u8] = &[9, 6];
+    let is_left = disk.content() == left;
+    disk.stop_after(0);
+    disk.run_on();
+    let runs_on = disk.sync().is_ok();
+    drop(disk);
+    assert!(rt; written && runs && is_left && runs_on);
+}
+
+/// How many records a log of one record has after a crash in place that let so many calls of an append pass. It is read
+/// again, and then takes a record.
+fn found_in_place(rt: &(impl Abort + AllocGlobal), number: usize, calls: u32, fill: u8) -> usize {
+    let (mut log, records) = opened(rt, disk_of(rt, &ONE_BOOT));
+    drop(records);
+    let record = record(rt, number);
+    let crashed = log.crash_in_append(rt.alloc(), &record, calls, fill);
+    drop(record);
+    let reread = log.reread(rt.alloc()).expect(rt, "records");
+    let count = reread.len();
+    drop(reread);
+    let appended = log.append(rt.alloc(), &Record::Boot);
+    drop(log);
+    assert!(*rt; crashed.is_ok() && appended.is_ok());
+    count
+}
+
+#[test]
+fn a_crash_in_place_keeps_a_record_whose_gate_is_open(rt: HostRuntime) {
+    for number in 0..KINDS.len() {
+        for calls in 0..6 {
+            let wanted = if calls >= 4 { 2 } else { 1 };
+            assert_case(
+                &rt,
+                number,
+                found_in_place(&rt, number, calls, 90) == wanted,
+            );
+        }
+    }
+    assert!(rt; found_in_place(&rt, 0, 3, 1) == 2);
+}
+
+#[test]
+fn a_log_is_read_in_place(rt: HostRuntime) {
+    let mut log = fresh_log(&rt);
+    let appended = log.append(rt.alloc(), &Record::Boot);
+    log.crash(rt.alloc());
+    let closed = log.append(rt.alloc(), &Record::Boot);
+    log.run_on();
+    let reread = log.reread(rt.alloc()).expect(&rt, "records");
+    let records = log.records(rt.alloc()).expect(&rt, "records");
+    let counts = [reread.len(), records.len()];
+    drop(reread);
+    drop(records);
+    drop(log);
+    assert!(rt; appended.is_ok() && closed == Err(LogError::Closed) && counts == [1, 1]);
+}
+
+#[test]
+fn a_refused_crash_leaves_a_log_open(rt: HostRuntime) {
+    let mut log = fresh_log(&rt);
+    let record = long(&rt, 0, 262_134);
+    let refused = log.crash_in_append(rt.alloc(), &record, 2, 90);
+    drop(record);
+    let appended = log.append(rt.alloc(), &Record::Boot);
+    let is_one_boot = log.disk().content() == &ONE_BOOT[..];
+    drop(log);
+    assert!(rt; refused == Err(LogError::TooLong) && appended.is_ok() && is_one_boot);
+}
+
 // ---- sizes
 
 /// Appends a vote with so many deeds and versions.
