@@ -3,15 +3,15 @@
 //! What is promised, with the contract that carries it:
 //!
 //! - A log that was opened gives the records of the image, keeps them, and nothing on its disk is unsynced
-//!   (`Log::opened`: `records`, `kept`)
+//!   (`Log::open`, `opened`: `records`, `kept`)
 //! - Opening leaves a disk of more than one byte as a sync leaves it, and a shorter one with one closed gate,
 //!   synced. A crash at any moment of it leaves what `LeftOpening` says, and its calls are those of `Opens`.
-//!   The count of faults does not fall (`Log::opened`: `opens`)
+//!   The count of faults does not fall (`Log::open`, `opened`: `opens`)
 //! - It is refused as no log only where the image fails, at that place. It is refused as Device only where, by
 //!   calls as of `Opens` up to one that was refused, the given disk leads to one of which the count of faults
-//!   rose. The disk itself is given up: that it is that one no clause says, and it follows only from this, that
-//!   code which knows of a disk no more than its trait makes no other. Of a disk given up for another cause
-//!   nothing is told (`Log::opened`: `not_a_log`, `device`)
+//!   rose. `Log::open` gives the disk back, and says so of that one. Whatever the cause, a read of a disk of more
+//!   than one byte then gives what it gave (`Log::open`: `not_a_log`, `device`, `same`). `Log::opened` is the same
+//!   call, which gives the disk up (`not_a_log`, `device`)
 //! - Every image of bytes gives a list of records or fails at a place. It gives one list, which a function of
 //!   it finds, or fails at one place, and never both: so both answers are exact (`one_reading`: `some`;
 //!   `records`, `found`, `place`, `apart`)

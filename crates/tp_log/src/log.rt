@@ -34,7 +34,7 @@ impl<D: Disk> Model for Log<D> {
 }
 
 impl<D: Disk> Log<D> {
-    ghost use Rattle.std.specs.Prelude.{◌≡◌, ℕ, List, Err, IfErr, IfOk};
+    ghost use Rattle.std.specs.Prelude.{◌≡◌, ◌<◌, ℕ, List, length, Err, IfErr, IfOk};
     ghost use Rattle.tp_types.specs.declared.records.Record.{Record};
     ghost use Rattle.tp_device.specs.Disks.{LeavesOnly, MayLeave};
     ghost use Rattle.tp_log.specs.Images.{FailsAt, Gives};
@@ -43,13 +43,57 @@ impl<D: Disk> Log<D> {
     ghost use Rattle.tp_log.specs.Refusals.{IfNotALog};
 
     /// Opens the log that a disk holds, and gives its records. A disk of at most one byte gets a closed gate. What
-    /// was unsynced on the disk is synced first, and one of more than one byte is only read then. Where the answer is a
-    /// refusal the disk is given up, and of what was done to it no more is told than `device` tells.
-    pub fn opened(alloc: Global, mut disk: D) -> Result<(Log<D>, List<Record>), LogError>
+    /// was unsynced on the disk is synced first, and one of more than one byte is only read then. Where it is refused
+    /// the disk is given back.
+    pub fn open(alloc: Global, mut disk: D) -> Result<(Log<D>, List<Record>), (D, LogError)>
         ensures records { IfOk result (λ made. Gives (D.state disk).seen made.1) }
         ensures kept { IfOk result (λ made. Keeps D.state made.0 made.1) }
         // A disk of more than one byte is as a sync leaves it. A crash at any moment leaves what it might have left
         // before, or the bytes that a read gives; of a shorter disk an image of at most one byte.
+        ensures opens { IfOk result (λ made.
+            Opens D.state D.left_since D.does D.faults disk made.0.disk) }
+        // Only where no records are given.
+        ensures not_a_log { IfErr result (λ refused. IfNotALog refused.1 (FailsAt (D.state disk).seen)) }
+        // Only where a call was refused, and a fault counted.
+        ensures device { IfErr result (λ refused. refused.1 ≡ LogError.Device
+            → GivesUp D.state D.left_since D.does D.faults disk refused.0) }
+        // A read of a disk of more than one byte gives what it gave.
+        ensures same { IfErr result (λ refused. 1 < length (D.state disk).seen
+            → (D.state refused.0).seen ≡ (D.state disk).seen) }
+    {
+        match taken(alloc, &mut disk) {
+            Ok(image) => {
+                if image.len() <= 1 {
+                    return Ok((
+                        Log {
+                            disk,
+                            gate: 0,
+                            closed: false,
+                        },
+                        List::new(alloc),
+                    ));
+                }
+                match records_of(alloc, &image) {
+                    Ok(found) => Ok((
+                        Log {
+                            disk,
+                            gate: found.gate,
+                            closed: false,
+                        },
+                        found.records,
+                    )),
+                    Err(error) => Err((disk, error)),
+                }
+            }
+            Err(error) => Err((disk, error)),
+        }
+    }
+
+    /// Opens the log that a disk holds, as `open` does. Where the answer is a refusal the disk is given up, and of what
+    /// was done to it no more is told than `device` tells.
+    pub fn opened(alloc: Global, disk: D) -> Result<(Log<D>, List<Record>), LogError>
+        ensures records { IfOk result (λ made. Gives (D.state disk).seen made.1) }
+        ensures kept { IfOk result (λ made. Keeps D.state made.0 made.1) }
         ensures opens { IfOk result (λ made.
             Opens D.state D.left_since D.does D.faults disk made.0.disk) }
         // Only where no records are given.
@@ -59,26 +103,13 @@ impl<D: Disk> Log<D> {
         ensures device { result ≡ Err LogError.Device
             → (gone : D) × GivesUp D.state D.left_since D.does D.faults disk gone }
     {
-        let image = taken(alloc, &mut disk)?;
-        if image.len() <= 1 {
-            return Ok((
-                Log {
-                    disk,
-                    gate: 0,
-                    closed: false,
-                },
-                List::new(alloc),
-            ));
+        match Log::open(alloc, disk) {
+            Ok(made) => Ok(made),
+            Err((disk, error)) => {
+                drop(disk);
+                Err(error)
+            }
         }
-        let found = records_of(alloc, &image)?;
-        Ok((
-            Log {
-                disk,
-                gate: found.gate,
-                closed: false,
-            },
-            found.records,
-        ))
     }
 
     /// Adds a record with four calls of the disk: the body and a closed gate behind it, a sync, the gate before it,

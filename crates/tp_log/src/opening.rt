@@ -1,5 +1,5 @@
 //! Taking a disk for a log.
-ghost use Rattle.std.specs.Prelude.{◌≡◌, IfErr, IfOk, OnOk};
+ghost use Rattle.std.specs.Prelude.{◌≡◌, ◌<◌, length, IfErr, IfOk, OnOk};
 ghost use Rattle.tp_log.specs.Openings.{GivesUp, Opens};
 ghost use Rattle.tp_log.specs.Refusals.{IfDevice};
 
@@ -14,6 +14,8 @@ pub(crate) fn taken<D: Disk>(alloc: Global, disk: &mut D) -> Result<Vec<u8>, Log
     ensures opens { OnOk result (Opens D.state D.left_since D.does D.faults disk.old disk.new) }
     ensures refused { IfErr result (λ error.
         IfDevice error (GivesUp D.state D.left_since D.does D.faults disk.old disk.new)) }
+    // A read of a disk of more than one byte gives what it gave, whatever the answer.
+    ensures same { 1 < length (D.state disk.old).seen → (D.state disk.new).seen ≡ (D.state disk.old).seen }
 {
     disk.sync()?;
     let image = image_of(alloc, disk)?;
