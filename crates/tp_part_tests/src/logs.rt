@@ -111,6 +111,34 @@ fn images_that_are_no_log_are_refused(rt: HostRuntime) {
     }
 }
 
+/// Why no log opens on a disk, and whether the disk that is given back holds these bytes.
+fn given_back(
+    rt: &(impl Abort + AllocGlobal),
+    disk: MemoryDisk,
+    bytes: &[u8],
+) -> Option<(LogError, bool)> {
+    match Log::open(rt.alloc(), disk) {
+        Ok((log, records)) => {
+            drop(records);
+            drop(log);
+            None
+        }
+        Err((disk, error)) => Some((error, holds(rt, disk, bytes))),
+    }
+}
+
+#[test]
+fn an_image_that_is_no_log_is_given_back(rt: HostRuntime) {
+    for (number, (bytes, place)) in BROKEN.iter().enumerate() {
+        let wanted = Some((LogError::NotALog { place: *place }, true));
+        assert_case(
+            &rt,
+            number,
+            given_back(&rt, disk_of(&rt, bytes), bytes) == wanted,
+        );
+    }
+}
+
 // ---- appends
 
 #[test]
