@@ -1,7 +1,7 @@
 -- A coordinator's rows are walked once, in two: what a mail did, which is a point that the transaction has passed or its end, and which
 -- request follows. What is shown of each holds of the rows: a theorem shows once what holds at a point, and once that a move keeps it.
 -- A new move is a field here, and of each theorem's cases; a new point is a constructor.
-use Rattle.std.proofs.Common.{List, None, Option, Some, [], ◌∷◌, map, ap, refl, true, ℕ, ℤ, ◌&&◌, ◌==◌, ◌≡◌}
+use Rattle.std.proofs.Common.{List, None, Option, Some, [], ◌∷◌, map, refl, true, ℕ, ℤ, ◌&&◌, ◌==◌, ◌≡◌}
 use Rattle.std.proofs.lemmas.Bool.{and_parts}
 use Rattle.tp_types.specs.Effect.{Effect, ignores, sends}
 use Rattle.tp_model.specs.Words.actor
@@ -10,9 +10,9 @@ use Rattle.tp_model.specs.Words.body
 use Rattle.tp_model.specs.Words.cause
 use Rattle.tp_model.specs.Words.no
 use Rattle.tp_model.specs.Words.vote
-use Rattle.tp_model.specs.Words.{AckReply, Actor, Answer, Body, Cause, Deed, DoneReply, Instance, Letter, Mail, No, Outcome, Query, Scenario, ServerId, Staple, TellReply, TxnId, Verdict, Vote, VoteReply}
+use Rattle.tp_model.specs.Words.{AckReply, Actor, Answer, Body, Cause, Deed, DoneReply, InquireRequest, Instance, Letter, Mail, No, Outcome, Query, Scenario, ServerId, Staple, TellReply, TxnId, Verdict, Vote, VoteReply}
 use Rattle.tp_types.proofs.EachLemmas.{by_cond}
-use Rattle.tp_coord.specs.Row.{aborts, ack_from, ask_letter, asks, awaited_in, awaits_query, awaits_vote, begins, commit_round, commits, coordinator_row, counts, decide_letters, denied_by, died_for, home_of, instances_with, is_from, is_plain, makes, move_after, move_at, next_number, on_ack, on_all_true, on_answer, on_body, on_done_from, on_done_of_query, on_judged, on_no, on_staple, on_vote, on_vote_of, prepare_letter, prepares, own_query, query_again, query_request, refused_by, repeats, request, sends_next, sends_query, server_of, staple_of, submit_row, vote_at, with_deed, without}
+use Rattle.tp_coord.specs.Row.{aborts, ack_from, ask_letter, asks, awaited_in, awaits_query, awaits_vote, begins, commit_round, commits, coordinator_row, counts, decide_letters, denied_by, died_for, home_of, instances_with, is_from, is_plain, makes, move_after, move_at, next_number, on_ack, on_all_true, on_answer, on_body, on_done_from, on_done_of_query, on_inquire, on_judged, on_no, on_staple, on_vote, on_vote_of, prepare_letter, prepares, own_query, query_again, query_request, refused_by, repeats, request, sends_next, sends_query, server_of, staple_of, submit_row, tells, vote_at, with_deed, without}
 use Rattle.tp_coord.specs.State.{Coordinator}
 use Rattle.tp_coord.specs.declared.coordinator.Phase.TheVariants as phase
 use Rattle.tp_coord.specs.declared.coordinator.Phase.{Phase}
@@ -32,25 +32,19 @@ use Rattle.tp_round.specs.declared.round.Wanted.{Wanted}
 
 -- ---- outcomes of a receipt
 
--- the awaited answer to a query, which ran
-pub record IsRanAnswer (sc : Scenario) (c : Coordinator) (mail : Mail) (done : DoneReply) (server : ServerId) (asked : Query) (value : ℤ) : Type 0 where
+-- the awaited answer to a query
+pub record IsAwaitedAnswer (sc : Scenario) (c : Coordinator) (mail : Mail) (done : DoneReply) (server : ServerId) (asked : Query) (given : Answer) : Type 0 where
   pub said_is : mail.letter.body ≡ body.Done done
   pub from_is : is_from mail.letter.from server ≡ true
   pub awaited : awaits_query c c.phase done ≡ true
   pub plain : is_plain c.phase ≡ true
   pub asked_is : own_query sc c done.query ≡ Some asked
   pub server_is : server_of sc asked ≡ Some server
-  pub answer_is : done.answer ≡ answer.Ran value None
+  pub answer_is : done.answer ≡ given
 
--- the awaited answer to a query in whose way an older transaction stood
-pub record IsDiedAnswer (sc : Scenario) (c : Coordinator) (mail : Mail) (done : DoneReply) (server : ServerId) (asked : Query) (other : TxnId) : Type 0 where
-  pub said_is : mail.letter.body ≡ body.Done done
-  pub from_is : is_from mail.letter.from server ≡ true
-  pub awaited : awaits_query c c.phase done ≡ true
-  pub plain : is_plain c.phase ≡ true
-  pub asked_is : own_query sc c done.query ≡ Some asked
-  pub server_is : server_of sc asked ≡ Some server
-  pub answer_is : done.answer ≡ answer.Died other
+-- that to one which ran
+abbrev pub IsRanAnswer : Scenario → Coordinator → Mail → DoneReply → ServerId → Query → ℤ → Type 0
+IsRanAnswer sc c mail done server asked value = IsAwaitedAnswer sc c mail done server asked (answer.Ran value None)
 
 -- the awaited answer of the authority, before a round at commit
 pub record IsStaple (c : Coordinator) (mail : Mail) (tell : TellReply) (round : Round) : Type 0 where
@@ -67,18 +61,24 @@ pub record IsYes (c : Coordinator) (mail : Mail) (reply : VoteReply) (round : Ro
   pub awaited : is_awaited round.targets server ≡ true
   pub vote_is : reply.vote ≡ vote.Yes verdicts
 
--- an awaited vote NO, for a value outside its range
-pub record IsNo (c : Coordinator) (mail : Mail) (reply : VoteReply) (round : Round) (staple : Staple) (server : ServerId) (number : ℕ) (value : ℤ) : Type 0 where
+-- an awaited vote NO
+pub record IsNo (c : Coordinator) (mail : Mail) (reply : VoteReply) (round : Round) (staple : Staple) (server : ServerId) (why : No) : Type 0 where
   pub said_is : mail.letter.body ≡ body.Vote reply
   pub from_is : mail.letter.from ≡ actor.Server server
   pub present : (reply.turn == c.turn) ≡ true
   pub checking : c.phase ≡ phase.Checking span.Commit round staple
   pub awaited : is_awaited round.targets server ≡ true
-  pub vote_is : reply.vote ≡ vote.No (no.Range number value)
+  pub vote_is : reply.vote ≡ vote.No why
 
 -- an acknowledgement of what was decided
 pub record IsAck (c : Coordinator) (mail : Mail) (ack : AckReply) (ended : Outcome) (awaited : List ServerId) (server : ServerId) : Type 0 where
   pub said_is : mail.letter.body ≡ body.Ack ack
+  pub from_is : mail.letter.from ≡ actor.Server server
+  pub ending : c.phase ≡ phase.Ending ended awaited
+
+-- a server asks how the transaction was decided, which was decided so
+pub record IsInquiry (c : Coordinator) (mail : Mail) (inquiry : InquireRequest) (ended : Outcome) (awaited : List ServerId) (server : ServerId) : Type 0 where
+  pub said_is : mail.letter.body ≡ body.Inquire inquiry
   pub from_is : mail.letter.from ≡ actor.Server server
   pub ending : c.phase ≡ phase.Ending ended awaited
 
@@ -124,11 +124,13 @@ pub data HasVoted (sc : Scenario) (c : Coordinator) (mail : Mail) : Point → Li
 
 -- by the mail the transaction aborts, for this cause
 pub data IsEnded (sc : Scenario) (c : Coordinator) (mail : Mail) : Cause → Type 0 where
-  ByOlder : (done : DoneReply) (server : ServerId) (asked : Query) (other : TxnId) → IsDiedAnswer sc c mail done server asked other → IsEnded sc c mail (cause.Died (died_for server done other mail.sent))
+  ByOlder : (done : DoneReply) (server : ServerId) (asked : Query) (other : TxnId) → IsAwaitedAnswer sc c mail done server asked (answer.Died other) → IsEnded sc c mail (cause.Died (died_for server done other mail.sent))
+  ByRestart : (done : DoneReply) (server : ServerId) (asked : Query) → IsAwaitedAnswer sc c mail done server asked answer.Restarted → IsEnded sc c mail (cause.Restarted server)
   ByProof : (reply : VoteReply) (round : Round) (staple : Staple) (server : ServerId) (verdicts : List Verdict) (verdict : Verdict) → IsYes c mail reply round staple server verdicts
       → judge (after_reply round server verdicts) None ≡ judged.False verdict → IsEnded sc c mail (cause.Denied (denied_by verdict))
-  ByRefusal : (reply : VoteReply) (round : Round) (staple : Staple) (server : ServerId) (number : ℕ) (value : ℤ) → IsNo c mail reply round staple server number value
+  ByRefusal : (reply : VoteReply) (round : Round) (staple : Staple) (server : ServerId) (number : ℕ) (value : ℤ) → IsNo c mail reply round staple server (no.Range number value)
       → IsEnded sc c mail (cause.No (refused_by server number value))
+  ByLoss : (reply : VoteReply) (round : Round) (staple : Staple) (server : ServerId) → IsNo c mail reply round staple server no.Restarted → IsEnded sc c mail (cause.Restarted server)
 
 -- what is to be shown of the outcomes of a receipt: P of the effect
 pub record CoordinatorCases (sc : Scenario) (c : Coordinator) (mail : Mail) (P : Effect Coordinator → Type 0) : Type 0 where
@@ -145,6 +147,7 @@ pub record CoordinatorCases (sc : Scenario) (c : Coordinator) (mail : Mail) (P :
       → judge (after_reply round server verdicts) None ≡ judged.Update named → P (asks c span.Commit (after_judgement (after_reply round server verdicts) None))
   pub acknowledged : (ack : AckReply) (ended : Outcome) (awaited : List ServerId) (server : ServerId) → IsAck c mail ack ended awaited server
       → P (sends (record c { phase = phase.Ending ended (without awaited server) }) [])
+  pub inquired : (inquiry : InquireRequest) (ended : Outcome) (awaited : List ServerId) (server : ServerId) → IsInquiry c mail inquiry ended awaited server → P (sends c (decide_letters c ended (server ∷ [])))
 
 -- ---- Done
 
@@ -161,12 +164,11 @@ makes_by sc c mail P cases done server asked value move.CommitRounds k m = cases
 makes_by sc c mail P cases done server asked value _ k m = cases.ignored
 
 on_answer_by : (sc : Scenario) (c : Coordinator) (mail : Mail) (P : Effect Coordinator → Type 0) → CoordinatorCases sc c mail P → (done : DoneReply) (server : ServerId) (asked : Query) (given : Answer)
-    → ((value : ℤ) → given ≡ answer.Ran value None → IsRanAnswer sc c mail done server asked value) → ((other : TxnId) → given ≡ answer.Died other → IsDiedAnswer sc c mail done server asked other)
-    → P (on_answer sc c (record { sent = mail.sent; server = server; done = done; query = asked }) given)
-on_answer_by sc c mail P cases done server asked (answer.Ran value None) ran died =
-    makes_by sc c mail P cases done server asked value (move_after sc c done.query) (ran value refl) refl
-on_answer_by sc c mail P cases done server asked (answer.Died other) ran died = cases.aborted (cause.Died (died_for server done other mail.sent)) (ByOlder done server asked other (died other refl))
-on_answer_by sc c mail P cases done server asked _ ran died = cases.ignored
+    → IsAwaitedAnswer sc c mail done server asked given → P (on_answer sc c (record { sent = mail.sent; server = server; done = done; query = asked }) given)
+on_answer_by sc c mail P cases done server asked (answer.Ran value None) k = makes_by sc c mail P cases done server asked value (move_after sc c done.query) k refl
+on_answer_by sc c mail P cases done server asked (answer.Died other) k = cases.aborted (cause.Died (died_for server done other mail.sent)) (ByOlder done server asked other k)
+on_answer_by sc c mail P cases done server asked answer.Restarted k = cases.aborted (cause.Restarted server) (ByRestart done server asked k)
+on_answer_by sc c mail P cases done server asked _ k = cases.ignored
 
 on_done_from_by : (sc : Scenario) (c : Coordinator) (mail : Mail) (P : Effect Coordinator → Type 0) → CoordinatorCases sc c mail P → (done : DoneReply) (asked : Query) (server : Option ServerId)
     → mail.letter.body ≡ body.Done done → awaits_query c c.phase done ≡ true → is_plain c.phase ≡ true → own_query sc c done.query ≡ Some asked → server_of sc asked ≡ server
@@ -175,8 +177,7 @@ on_done_from_by sc c mail P cases done asked None e awaited plain asked_is serve
 on_done_from_by sc c mail P cases done asked (Some server) e awaited plain asked_is server_is =
     by_cond P (is_from mail.letter.from server)
     (λ from. on_answer_by sc c mail P cases done server asked done.answer
-    (λ value given. record { said_is = e; from_is = from; awaited = awaited; plain = plain; asked_is = asked_is; server_is = server_is; answer_is = given })
-    (λ other given. record { said_is = e; from_is = from; awaited = awaited; plain = plain; asked_is = asked_is; server_is = server_is; answer_is = given }))
+    (record { said_is = e; from_is = from; awaited = awaited; plain = plain; asked_is = asked_is; server_is = server_is; answer_is = refl }))
     (λ other. cases.ignored)
 
 asked_by : (sc : Scenario) (c : Coordinator) (mail : Mail) (P : Effect Coordinator → Type 0) → CoordinatorCases sc c mail P → (done : DoneReply) (asked : Option Query)
@@ -211,18 +212,18 @@ judged_by sc c mail P cases reply round staple server verdicts (judged.Spent met
 judged_by sc c mail P cases reply round staple server verdicts (judged.Update named) y e = cases.updated reply round staple server verdicts named y e
 
 on_no_by : (sc : Scenario) (c : Coordinator) (mail : Mail) (P : Effect Coordinator → Type 0) → CoordinatorCases sc c mail P → (reply : VoteReply) (round : Round) (staple : Staple) (server : ServerId) (why : No)
-    → ((number : ℕ) (value : ℤ) → why ≡ no.Range number value → IsNo c mail reply round staple server number value) → P (on_no c server why)
+    → IsNo c mail reply round staple server why → P (on_no c server why)
 on_no_by sc c mail P cases reply round staple server (no.Range number value) n =
-    cases.aborted (cause.No (refused_by server number value)) (ByRefusal reply round staple server number value (n number value refl))
-on_no_by sc c mail P cases reply round staple server no.Restarted n = cases.ignored
+    cases.aborted (cause.No (refused_by server number value)) (ByRefusal reply round staple server number value n)
+on_no_by sc c mail P cases reply round staple server no.Restarted n = cases.aborted (cause.Restarted server) (ByLoss reply round staple server n)
 
 on_vote_of_by : (sc : Scenario) (c : Coordinator) (mail : Mail) (P : Effect Coordinator → Type 0) → CoordinatorCases sc c mail P → (reply : VoteReply) (round : Round) (staple : Staple) (server : ServerId) (said : Vote)
     → ((verdicts : List Verdict) → said ≡ vote.Yes verdicts → IsYes c mail reply round staple server verdicts)
-    → ((number : ℕ) (value : ℤ) → said ≡ vote.No (no.Range number value) → IsNo c mail reply round staple server number value) → P (on_vote_of sc c span.Commit round staple server said)
+    → ((why : No) → said ≡ vote.No why → IsNo c mail reply round staple server why) → P (on_vote_of sc c span.Commit round staple server said)
 on_vote_of_by sc c mail P cases reply round staple server (vote.Yes verdicts) y n =
     judged_by sc c mail P cases reply round staple server verdicts (judge (after_reply round server verdicts) None) (y verdicts refl) refl
 on_vote_of_by sc c mail P cases reply round staple server (vote.No why) y n =
-    on_no_by sc c mail P cases reply round staple server why (λ number value e. n number value (ap (λ (w : No). vote.No w) e))
+    on_no_by sc c mail P cases reply round staple server why (n why refl)
 
 vote_by_phase : (sc : Scenario) (c : Coordinator) (mail : Mail) (P : Effect Coordinator → Type 0) → CoordinatorCases sc c mail P → (reply : VoteReply) (awaited : Phase) (server : ServerId)
     → mail.letter.body ≡ body.Vote reply → mail.letter.from ≡ actor.Server server → (reply.turn == c.turn) ≡ true → c.phase ≡ awaited → awaits_vote awaited server ≡ true
@@ -230,7 +231,7 @@ vote_by_phase : (sc : Scenario) (c : Coordinator) (mail : Mail) (P : Effect Coor
 vote_by_phase sc c mail P cases reply (phase.Checking span.Commit round staple) server e from present checking is_awaited_here =
     on_vote_of_by sc c mail P cases reply round staple server reply.vote
     (λ verdicts yes_is. record { said_is = e; from_is = from; present = present; checking = checking; awaited = is_awaited_here; vote_is = yes_is })
-    (λ number value no_is. record { said_is = e; from_is = from; present = present; checking = checking; awaited = is_awaited_here; vote_is = no_is })
+    (λ why no_is. record { said_is = e; from_is = from; present = present; checking = checking; awaited = is_awaited_here; vote_is = no_is })
 vote_by_phase sc c mail P cases reply _ server e from present checking is_awaited_here = cases.ignored
 
 vote_by_sender : (sc : Scenario) (c : Coordinator) (mail : Mail) (P : Effect Coordinator → Type 0) → CoordinatorCases sc c mail P → (reply : VoteReply) (from : Actor)
@@ -253,6 +254,18 @@ ack_by_phase : (sc : Scenario) (c : Coordinator) (mail : Mail) (P : Effect Coord
 ack_by_phase sc c mail P cases ack (phase.Ending ended awaited) e ending = ack_by_sender sc c mail P cases ack ended awaited mail.letter.from e refl ending
 ack_by_phase sc c mail P cases ack _ e ending = cases.ignored
 
+-- ---- Inquire
+
+inquiry_by_sender : (sc : Scenario) (c : Coordinator) (mail : Mail) (P : Effect Coordinator → Type 0) → CoordinatorCases sc c mail P → (inquiry : InquireRequest) (ended : Outcome) (awaited : List ServerId) (from : Actor)
+    → mail.letter.body ≡ body.Inquire inquiry → mail.letter.from ≡ from → c.phase ≡ phase.Ending ended awaited → P (tells c ended from)
+inquiry_by_sender sc c mail P cases inquiry ended awaited (actor.Server server) e from ending = cases.inquired inquiry ended awaited server (record { said_is = e; from_is = from; ending = ending })
+inquiry_by_sender sc c mail P cases inquiry ended awaited _ e from ending = cases.ignored
+
+inquiry_by_phase : (sc : Scenario) (c : Coordinator) (mail : Mail) (P : Effect Coordinator → Type 0) → CoordinatorCases sc c mail P → (inquiry : InquireRequest) (awaited : Phase)
+    → mail.letter.body ≡ body.Inquire inquiry → c.phase ≡ awaited → P (on_inquire c awaited mail.letter.from)
+inquiry_by_phase sc c mail P cases inquiry (phase.Ending ended awaited) e ending = inquiry_by_sender sc c mail P cases inquiry ended awaited mail.letter.from e refl ending
+inquiry_by_phase sc c mail P cases inquiry _ e ending = cases.ignored
+
 -- ---- all mails
 
 said_by : (sc : Scenario) (c : Coordinator) (mail : Mail) (P : Effect Coordinator → Type 0) → CoordinatorCases sc c mail P → (said : Body) → mail.letter.body ≡ said
@@ -265,6 +278,7 @@ said_by sc c mail P cases (body.Tell tell) e =
     by_cond P (tell.turn == c.turn) (λ present. on_staple_by sc c mail P cases tell c.phase e present refl) (λ late. cases.ignored)
 said_by sc c mail P cases (body.Vote reply) e = vote_by_sender sc c mail P cases reply mail.letter.from e refl
 said_by sc c mail P cases (body.Ack ack) e = ack_by_phase sc c mail P cases ack c.phase e refl
+said_by sc c mail P cases (body.Inquire inquiry) e = inquiry_by_phase sc c mail P cases inquiry c.phase e refl
 said_by sc c mail P cases _ e = cases.ignored
 
 -- what is shown of each outcome holds of the row

@@ -226,13 +226,14 @@ pub record QueryReply : Type 0 where
   pub done : DoneReply
   pub query : Query
 
--- by the answer: what ran is kept, and the transaction goes on; where an older one stood in the way it aborts. Another answer that ends
--- the transaction is not built
+-- by the answer: what ran is kept, and the transaction goes on; where an older one stood in the way, or what was done at the server was
+-- lost, it aborts. Another answer that ends the transaction is not built
 abbrev pub on_answer : Scenario → Coordinator → QueryReply → Answer → Effect Coordinator
 on_answer sc c reply (answer.Ran value None) =
     goes_on sc c (with_deed c reply.server reply.done reply.query value) reply.done.query
 on_answer sc c reply (answer.Died other) =
     aborts c (cause.Died (died_for reply.server reply.done other reply.sent))
+on_answer sc c reply answer.Restarted = aborts c (cause.Restarted reply.server)
 on_answer sc c reply _ = unbuilt c
 
 -- the reply to a query, from the server that was asked
@@ -373,10 +374,10 @@ on_reply sc c over round staple = on_judged sc c over round staple (judge round 
 abbrev pub refused_by : ServerId → ℕ → ℤ → OutOfRange
 refused_by server number value = record { query = number; server = server; value = value }
 
--- a NO ends the transaction at once. One of a server that has restarted is not built
+-- a NO ends the transaction at once
 abbrev pub on_no : Coordinator → ServerId → No → Effect Coordinator
 on_no c server (no.Range number value) = aborts c (cause.No (refused_by server number value))
-on_no c server no.Restarted = unbuilt c
+on_no c server no.Restarted = aborts c (cause.Restarted server)
 
 abbrev pub on_vote_of : Scenario → Coordinator → Span → Round → Staple → ServerId → Vote → Effect Coordinator
 on_vote_of sc c over round staple server (vote.Yes verdicts) =
@@ -412,6 +413,18 @@ abbrev pub on_ack : Coordinator → Phase → Actor → Effect Coordinator
 on_ack c (phase.Ending outcome awaited) from = ack_from c outcome awaited from
 on_ack c _ from = ignores c
 
+-- ---- Inquire
+
+-- a server is told the outcome again
+abbrev pub tells : Coordinator → Outcome → Actor → Effect Coordinator
+tells c outcome (actor.Server server) = sends c (decide_letters c outcome (server ∷ []))
+tells c outcome _ = ignores c
+
+-- a server that asks how the transaction was decided is told once it was
+abbrev pub on_inquire : Coordinator → Phase → Actor → Effect Coordinator
+on_inquire c (phase.Ending outcome awaited) from = tells c outcome from
+on_inquire c _ from = ignores c
+
 -- ---- all mails
 
 abbrev pub on_body : Scenario → Coordinator → ℕ → Actor → Body → Effect Coordinator
@@ -421,7 +434,7 @@ on_body sc c sent from (body.Vote reply) = on_vote sc c c.phase from reply
 on_body sc c sent from (body.Ack ack) = on_ack c c.phase from
 on_body sc c sent from (body.Verdicts reply) = unbuilt c
 on_body sc c sent from (body.Newest reply) = unbuilt c
-on_body sc c sent from (body.Inquire inquiry) = unbuilt c
+on_body sc c sent from (body.Inquire inquiry) = on_inquire c c.phase from
 on_body sc c sent from _ = ignores c
 
 abbrev pub coordinator_row : Scenario → Coordinator → Mail → Effect Coordinator
@@ -460,10 +473,11 @@ abbrev pub is_begun : Phase → Bool
 is_begun phase.Idle = false
 is_begun _ = true
 
-abbrev pub is_ending : Phase → Bool
-is_ending (phase.Ending outcome []) = true
-is_ending _ = false
+-- all servers have acknowledged the end
+abbrev pub is_done : Phase → Bool
+is_done (phase.Ending outcome []) = true
+is_done _ = false
 
 -- the transaction is submitted, and some server has not acknowledged its end
 abbrev pub is_armed : Coordinator → Bool
-is_armed c = is_begun c.phase && not (is_ending c.phase)
+is_armed c = is_begun c.phase && not (is_done c.phase)

@@ -170,7 +170,7 @@ impl Coordinator {
     pub fn armed(&self) -> bool
         ensures { result ≡ row.is_armed self.now }
     {
-        self.begun() && !is_ending(&self.phase)
+        self.begun() && !is_done(&self.phase)
     }
 
     /// What the coordinator does on receipt of a mail. After NoMemory nothing is said of the state.
@@ -189,7 +189,8 @@ impl Coordinator {
             Body::Tell(tell) => self.on_tell(alloc, mail.sent, tell),
             Body::Vote(reply) => self.on_vote(alloc, scenario, from, reply),
             Body::Ack(_) => self.on_ack(alloc, from),
-            Body::Verdicts(_) | Body::Newest(_) | Body::Inquire(_) => Ok(unbuilt(alloc)),
+            Body::Inquire(_) => self.on_inquire(alloc, from),
+            Body::Verdicts(_) | Body::Newest(_) => Ok(unbuilt(alloc)),
             _ => Ok(ignored(alloc)),
         }
     }
@@ -448,6 +449,7 @@ impl Coordinator {
                 };
                 self.aborts(alloc, Cause::Died(died))
             }
+            Answer::Restarted => self.aborts(alloc, Cause::Restarted { server }),
             _ => Ok(unbuilt(alloc)),
         }
     }
@@ -504,8 +506,9 @@ fn is_from(from: Actor, asked: ServerId) -> bool
     }
 }
 
-fn is_ending(phase: &Phase) -> bool
-    ensures { result ≡ row.is_ending phase.now }
+/// Whether all servers have acknowledged the end.
+fn is_done(phase: &Phase) -> bool
+    ensures { result ≡ row.is_done phase.now }
 {
     match phase {
         Phase::Ending {

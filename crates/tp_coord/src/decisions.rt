@@ -1,7 +1,8 @@
-//! A coordinator's decision, which is forced before it is sent, and the acknowledgements of it.
+//! A coordinator's decision, which is forced before it is sent, the acknowledgements of it, and those who ask for it.
 ghost use Rattle.std.specs.Prelude.{◌≡◌, ◌==◌, not, Option, None, filter, IfOk, OnOk};
 ghost use Rattle.tp_coord.specs.declared.coordinator.Phase.TheVariants as Phase;
 ghost use Rattle.tp_model.specs.Words.{ServerId};
+ghost use Rattle.tp_model.specs.Words.body;
 ghost use Rattle.tp_types.specs.Effect.{Gives};
 ghost use Rattle.tp_round.specs.Replies as replies;
 ghost use Rattle.tp_coord.specs.Row as row;
@@ -12,6 +13,7 @@ use tp_round::Round;
 use tp_types::{
     Actor, Body, Cause, CommitRecord, DecideRequest, Decided, Decision, Denied, Instance, Letter,
     List, NoMemory, Outcome, Reaction, Record, ServerId, TryClone, Verdict, ignored, nothing,
+    sent_alone,
 };
 
 impl Coordinator {
@@ -84,13 +86,37 @@ impl Coordinator {
     {
         let mut letters = List::new(alloc);
         for server in servers {
-            let decide = DecideRequest {
-                txn: self.txn,
-                outcome,
-            };
-            letters.push(self.request(*server, Body::Decide(decide)))?;
+            letters.push(self.decide_letter(outcome, *server))?;
         }
         Ok(letters)
+    }
+
+    fn decide_letter(&self, outcome: Outcome, server: ServerId) -> Letter
+        ensures { result ≡ row.request self.now server
+            (body.Decide (record { txn = self.now.txn; outcome = outcome })) }
+    {
+        let decide = DecideRequest {
+            txn: self.txn,
+            outcome,
+        };
+        self.request(server, Body::Decide(decide))
+    }
+
+    /// A server that booted asks how the transaction was decided: once it was, the server is told again.
+    pub(crate) fn on_inquire(&self, alloc: Global, from: Actor) -> Result<Reaction, NoMemory>
+        ensures { IfOk result (λ reaction.
+            Gives (row.on_inquire self.now self.now.phase from) self.now reaction) }
+    {
+        let Actor::Server(server) = from else {
+            return Ok(ignored(alloc));
+        };
+        match &self.phase {
+            Phase::Ending {
+                outcome,
+                awaited: _,
+            } => sent_alone(alloc, self.decide_letter(*outcome, server)),
+            _ => Ok(ignored(alloc)),
+        }
     }
 
     pub(crate) fn on_ack(&mut self, alloc: Global, from: Actor) -> Result<Reaction, NoMemory>

@@ -22,7 +22,7 @@ use tp_scheme::{Move, Point};
 use tp_types::{
     Actor, AdminId, AskRequest, Body, Cause, Letter, Level, List, No, NoMemory, OutOfRange, Place,
     PrepareRequest, Reaction, Scenario, ServerId, Staple, TellReply, TryClone, Verdict, Version,
-    Vote, VoteReply, ignored, nothing, sent_alone, unbuilt,
+    Vote, VoteReply, ignored, nothing, sent_alone,
 };
 
 impl Coordinator {
@@ -234,7 +234,7 @@ impl Coordinator {
                     value,
                 }),
             ),
-            No::Restarted => Ok(unbuilt(alloc)),
+            No::Restarted => self.aborts(alloc, Cause::Restarted { server }),
         }
     }
 

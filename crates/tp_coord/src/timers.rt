@@ -26,6 +26,8 @@ impl Coordinator {
             letters ≡ row.repeats scenario.now self.now self.now.phase) }
     {
         match &self.phase {
+            // nothing is outstanding before the submission
+            Phase::Idle => Ok(List::new(alloc)),
             Phase::Querying {
                 query,
                 staple: None,

@@ -1,7 +1,7 @@
 -- A server's row is walked once: what is shown of each of its outcomes holds of the row. A new outcome is a field here, and of each theorem's cases.
 use Rattle.std.specs.Option.{option_flatten, option_map_or}
 use Rattle.std.proofs.Common.{IfSome, List, None, Option, Some, [], ap, append-nil, drop, false, inl, inr, is_none, is_some, arith, length, nat_lt, not, option_and_then, option_map, refl, slice_get, slice_set, subst, sym, true, ℕ, ℤ, ◌&&◌, ◌++◌, ◌<◌, ◌==◌, ◌∙◌, ◌∷◌, ◌≡◌, ◌≤◌, ◌⊎◌}
-use Rattle.std.proofs.lemmas.Bool.{not-false}
+use Rattle.std.proofs.lemmas.Bool.{eqb-false, not-false, not-true}
 use Rattle.std.proofs.lemmas.Bool.Decides.{nat_tests}
 use Rattle.std.proofs.lemmas.Option.{same_Some}
 use Rattle.tp_types.specs.Effect.{Effect, ignores, sends}
@@ -22,7 +22,7 @@ use Rattle.tp_types.specs.Each.{Each, EachPlaced}
 use Rattle.tp_server.specs.Values.{HasValue}
 use Rattle.tp_server.specs.declared.server.Ballot.{Ballot}
 use Rattle.tp_server.specs.declared.server.Entry.{Entry}
-use Rattle.tp_server.specs.Row.{ack_letter, after_asking, age_of, after_grants, answer_to, answers, asked_query, asked_to_vote, asks, asks_query, asks_with, by_lock, closes, completes, dies, done_letter, ends, entry_after, entry_at, evaluates, followed_by, is_open, kept_by, learns, lock_answer, names_another_epoch, new_entry, no_letter, on_body, on_open_query, on_refused, on_settled_decide, on_settled_prepare, on_unlost_query, refused_as, restarts, after_grant, resumes_at, resumes_query, resumes_waiting, resumes_with, server_row, settled_as, taken_from, value_of_run, votes_at, votes_in_range, votes_on, votes_with, waiting_at, waits, with_entry, yes_letter}
+use Rattle.tp_server.specs.Row.{ack_letter, after_asking, age_of, after_grants, answer_to, answers, asked_query, asked_to_vote, asks, asks_query, asks_with, by_lock, closes, completes, dies, done_letter, ends, entry_after, entry_at, evaluates, followed_by, is_open, kept_by, learns, lock_answer, names_another_epoch, new_entry, no_letter, on_body, on_open_query, on_refused, on_settled_decide, on_settled_prepare, on_unlost_query, refused_as, refuses, restarts, after_grant, resumes_at, resumes_query, resumes_waiting, resumes_with, server_row, settled_as, taken_from, value_of_run, votes_at, votes_in_range, votes_on, votes_with, waiting_at, waits, with_entry, yes_letter}
 use Rattle.tp_server.specs.State.{Server}
 use Rattle.tp_server.specs.Verdicts.{with_wants, version_known}
 use Rattle.tp_store.specs.Rule.{first_outside_in, read_in}
@@ -90,6 +90,12 @@ pub record IsRefusal (s : Server) (mail : Mail) (p : PrepareRequest) (entry : En
   pub same_epoch : (entry.epoch == p.epoch) ≡ true
   pub unvoted : entry.ballot ≡ None
   pub outside : first_outside_in s.store p.txn ≡ Some (number, value)
+
+-- a request to prepare a transaction that is not settled, which names an epoch that no entry of it has
+pub record IsLostVote (s : Server) (mail : Mail) (p : PrepareRequest) : Type 0 where
+  pub said_is : mail.letter.body ≡ body.Prepare p
+  pub unsettled : is_open s p.txn ≡ true
+  pub elsewhere : (entry : Entry) → entry_at s p.txn ≡ Some entry → entry.epoch ≡ p.epoch → ⊥
 
 -- a request to prepare a transaction that was settled by a vote NO
 pub record IsLateRequest (s : Server) (mail : Mail) (p : PrepareRequest) (settled : Settled) (why : No) : Type 0 where
@@ -185,6 +191,7 @@ pub record LockCases (sc : Scenario) (s : Server) (mail : Mail) (P : Effect Serv
   pub voted : (p : PrepareRequest) (entry : Entry) (staple : Staple) (txn : Transaction) → IsVote sc s mail p entry staple txn → P (votes_on sc (with_wants s p.want) p entry staple txn)
   pub voted_again : (p : PrepareRequest) (entry : Entry) (cast : Ballot) → IsVoteAgain s mail p entry cast → P (sends s (yes_letter s p.txn cast ∷ []))
   pub refused : (p : PrepareRequest) (entry : Entry) (number : ℕ) (value : ℤ) → IsRefusal s mail p entry number value → P (closes s (refused_as p (no.Range number value)) (no_letter s p (no.Range number value)))
+  pub lost : (p : PrepareRequest) → IsLostVote s mail p → P (closes s (refused_as p no.Restarted) (no_letter s p no.Restarted))
   pub refused_again : (p : PrepareRequest) (settled : Settled) (why : No) → IsLateRequest s mail p settled why → P (sends s (no_letter s p why ∷ []))
   pub settled : (d : DecideRequest) → IsOrder s mail d → P (closes s (settled_as d) (ack_letter s d.txn))
   pub acknowledged : (d : DecideRequest) (settled : Settled) → IsLateOrder s mail d settled → P (sends s (ack_letter s d.txn ∷ []))
@@ -207,6 +214,7 @@ pub record ServerCases (sc : Scenario) (s : Server) (mail : Mail) (P : Effect Se
   pub voted : (p : PrepareRequest) (entry : Entry) (staple : Staple) (txn : Transaction) → IsVote sc s mail p entry staple txn → P (votes_on sc (with_wants s p.want) p entry staple txn)
   pub voted_again : (p : PrepareRequest) (entry : Entry) (cast : Ballot) → IsVoteAgain s mail p entry cast → P (sends s (yes_letter s p.txn cast ∷ []))
   pub refused : (p : PrepareRequest) (entry : Entry) (number : ℕ) (value : ℤ) → IsRefusal s mail p entry number value → P (closes s (refused_as p (no.Range number value)) (no_letter s p (no.Range number value)))
+  pub lost : (p : PrepareRequest) → IsLostVote s mail p → P (closes s (refused_as p no.Restarted) (no_letter s p no.Restarted))
   pub refused_again : (p : PrepareRequest) (settled : Settled) (why : No) → IsLateRequest s mail p settled why → P (sends s (no_letter s p why ∷ []))
   pub settled : (d : DecideRequest) → IsOrder s mail d → P (closes s (settled_as d) (ack_letter s d.txn))
   pub acknowledged : (d : DecideRequest) (settled : Settled) → IsLateOrder s mail d settled → P (sends s (ack_letter s d.txn ∷ []))
@@ -228,6 +236,7 @@ lock_cases sc s mail P cases =
       voted = cases.voted;
       voted_again = cases.voted_again;
       refused = cases.refused;
+      lost = cases.lost;
       refused_again = cases.refused_again;
       settled = cases.settled;
       acknowledged = cases.acknowledged;
@@ -418,11 +427,21 @@ votes_at_by sc s mail P waits cases p entry (Some cast) e unsettled found same b
     (λ other. by_cond P (nat_lt p.turn cast.turn) (λ earlier. cases.ignored)
     (λ not_earlier. evaluated_by sc s mail P cases p entry e unsettled found same (inr (record { cast = cast; ballot_is = ballot_is; later = later_turn p cast other not_earlier }))))
 
+-- what was done in the epoch that is named was lost
+lost_by : (sc : Scenario) (s : Server) (mail : Mail) (P : Effect Server → Type 0) → AreRightWaits sc s → LockCases sc s mail P → (p : PrepareRequest) → IsLostVote s mail p → P (refuses sc s p no.Restarted)
+lost_by sc s mail P waits cases p k = ends_by sc s mail P waits cases (refused_as p no.Restarted) (no_letter s p no.Restarted) (cases.lost p k)
+
 asked_to_vote_by : (sc : Scenario) (s : Server) (mail : Mail) (P : Effect Server → Type 0) → AreRightWaits sc s → LockCases sc s mail P → (p : PrepareRequest) (entry : Option Entry) → mail.letter.body ≡ body.Prepare p
     → is_open s p.txn ≡ true → entry_at s p.txn ≡ entry → P (asked_to_vote sc s p entry)
-asked_to_vote_by sc s mail P waits cases p None e unsettled found = cases.ignored
+asked_to_vote_by sc s mail P waits cases p None e unsettled found = lost_by sc s mail P waits cases p (record { said_is = e; unsettled = unsettled; elsewhere = λ entry there same. cc })
 asked_to_vote_by sc s mail P waits cases p (Some entry) e unsettled found =
-    by_cond P (not (entry.epoch == p.epoch)) (λ another. cases.ignored)
+    by_cond P (not (entry.epoch == p.epoch))
+    (λ another. lost_by sc s mail P waits cases p
+    (record {
+      said_is = e;
+      unsettled = unsettled;
+      elsewhere = λ other there same. eqb-false entry.epoch p.epoch (not-true (entry.epoch == p.epoch) another) (ap (λ (x : Entry). x.epoch) (same_Some entry other (sym found ∙ there)) ∙ same);
+    }))
     (λ same. votes_at_by sc s mail P waits cases p entry entry.ballot e unsettled found (not-false (entry.epoch == p.epoch) same) refl)
 
 refused_by : (sc : Scenario) (s : Server) (mail : Mail) (P : Effect Server → Type 0) → LockCases sc s mail P → (p : PrepareRequest) (settled : Settled) (why : Option No) → mail.letter.body ≡ body.Prepare p

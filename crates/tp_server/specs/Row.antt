@@ -384,11 +384,13 @@ abbrev pub votes_at : Scenario → Server → PrepareRequest → Entry → Optio
 votes_at sc s p entry (Some cast) = on_prepared sc s p entry cast
 votes_at sc s p entry None = votes_in_range sc s p entry (first_outside_in s.store p.txn)
 
--- a request to prepare a transaction that is not settled. Without an entry of that epoch it is to be refused
+-- a request to prepare a transaction that is not settled. Where no entry is of the epoch that it names, what was done here in that epoch
+-- was lost, and the transaction is refused
 abbrev pub asked_to_vote : Scenario → Server → PrepareRequest → Option Entry → Effect Server
-asked_to_vote sc s p None = unbuilt s
+asked_to_vote sc s p None = refuses sc s p no.Restarted
 asked_to_vote sc s p (Some entry) =
-    if not (entry.epoch == p.epoch) then unbuilt s else votes_at sc s p entry entry.ballot
+    if not (entry.epoch == p.epoch) then refuses sc s p no.Restarted
+    else votes_at sc s p entry entry.ballot
 
 -- a vote NO is given again with its reason
 abbrev pub on_refused : Server → PrepareRequest → Option No → Effect Server

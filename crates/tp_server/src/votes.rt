@@ -34,10 +34,10 @@ impl<L: LockTable + Drop> Server<L> {
         }
         let outside = self.store.first_outside(request.txn);
         let Some(entry) = self.entry_at(request.txn) else {
-            return Ok(unbuilt(alloc));
+            return self.refuses(alloc, scenario, request, No::Restarted);
         };
         if entry.epoch != request.epoch {
-            return Ok(unbuilt(alloc));
+            return self.refuses(alloc, scenario, request, No::Restarted);
         }
         if let Some(cast) = &entry.ballot {
             if cast.turn == request.turn {

@@ -5,7 +5,7 @@ use Rattle.std.proofs.lemmas.Bool.{and_parts}
 use Rattle.tp_model.specs.Words.{TxnId}
 use Rattle.tp_model.specs.Words.actor
 use Rattle.tp_model.specs.Words.step
-use Rattle.tp_coord.specs.Row.{is_armed, is_begun, is_ending}
+use Rattle.tp_coord.specs.Row.{is_armed, is_begun, is_done}
 use Rattle.tp_coord.specs.State.{Coordinator}
 use Rattle.tp_machine.specs.declared.error.StepError.{StepError}
 use Rattle.tp_machine.specs.declared.error.StepError.TheVariants as error
@@ -14,7 +14,7 @@ use Rattle.tp_machine.specs.Machine.{State, is_armed_at, is_down, is_part_down, 
 
 submitted_up : (up : Option Coordinator) → option_map_or is_armed up false ≡ true → (is_part_submitted up ≡ true) × (is_none up ≡ false)
 submitted_up None e = absurd (cc)
-submitted_up (Some c) e = ((and_parts (is_begun c.phase) (not (is_ending c.phase)) e).0, refl)
+submitted_up (Some c) e = ((and_parts (is_begun c.phase) (not (is_done c.phase)) e).0, refl)
 
 submitted_there : (found : Option (Part Coordinator)) → option_map_or (λ (part : Part Coordinator). option_map_or is_armed part.up false) found false ≡ true
     → (option_map_or (λ (part : Part Coordinator). is_part_submitted part.up) found false ≡ true) × (option_map_or is_part_down found false ≡ false)

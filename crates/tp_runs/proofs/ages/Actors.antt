@@ -95,6 +95,7 @@ server_row_ages A place sc s mail waits h m =
           record { entries = placed_set (EntryAged A) s.entries p.txn.0 _ h old; forces = old; letters = (tt, tt) };
       voted_again = λ p entry cast k. record { entries = h; forces = tt; letters = (tt, tt) };
       refused = λ p entry number value k. record { entries = placed_emptied (EntryAged A) s.entries p.txn.0 h; forces = tt; letters = (tt, tt) };
+      lost = λ p k. record { entries = placed_emptied (EntryAged A) s.entries p.txn.0 h; forces = tt; letters = (tt, tt) };
       refused_again = λ p settled why k. record { entries = h; forces = tt; letters = (tt, tt) };
       settled = λ d k. record { entries = placed_emptied (EntryAged A) s.entries d.txn.0 h; forces = tt; letters = (tt, tt) };
       acknowledged = λ d settled k. record { entries = h; forces = tt; letters = (tt, tt) };
@@ -144,6 +145,7 @@ coordinator_row_ages A place sc c mail h =
       aborted = λ why ended. record { same_age = refl; known = λ querying. absurd (cc); same_txn = refl; letters = orders_aged A place c outcome.Abort c.servers };
       updated = λ reply round staple server verdicts named y e. record { same_age = refl; known = λ querying. absurd (cc); same_txn = refl; letters = (tt, tt) };
       acknowledged = λ ack ended awaited server a. record { same_age = refl; known = λ querying. absurd (cc); same_txn = refl; letters = tt };
+      inquired = λ inquiry ended awaited server k. record { same_age = refl; known = h.known; same_txn = refl; letters = orders_aged A place c ended (server ∷ []) };
     })
   where
     -- where a query ran, the age is known

@@ -18,7 +18,7 @@ use Rattle.tp_model.specs.Words.decision
 use Rattle.tp_model.specs.Words.log
 use Rattle.tp_model.specs.Words.outcome
 use Rattle.tp_model.specs.Words.vote
-use Rattle.tp_model.specs.Words.{AckReply, Actor, Body, Cause, DecideRequest, Decision, DoneReply, Instance, Item, Letter, Mail, Outcome, Query, Record, Scenario, ServerId, Staple, Transaction, TxnId, Verdict, Vote, VoteReply}
+use Rattle.tp_model.specs.Words.{AckReply, Actor, Body, Cause, DecideRequest, Decision, DoneReply, InquireRequest, Instance, Item, Letter, Mail, Outcome, Query, Record, Scenario, ServerId, Staple, Transaction, TxnId, Verdict, Vote, VoteReply}
 use Rattle.tp_runs.proofs.basics.Homes.{IsHome, home_is}
 use Rattle.tp_runs.proofs.basics.Ids.{same_server_is}
 use Rattle.tp_types.proofs.EachLemmas.{each_as, each_filter}
@@ -26,12 +26,12 @@ use Rattle.tp_runs.proofs.basics.Rounds.{EachServer, all_in, each_missing, each_
 use Rattle.tp_runs.proofs.basics.Servers.{servers_over_have}
 use Rattle.tp_runs.proofs.basics.Logs.{appended, decided_with}
 use Rattle.tp_scheme.specs.declared.moves.Point.TheVariants as point
-use Rattle.tp_coord.proofs.Rows.{AllTrue, ByOlder, ByProof, ByRefusal, Gained, HasVoted, IsAck, IsEnded, IsPassed, IsYes, QueryRan, coordinator_by, gains_instances, submit_by, timer_by, with_gained}
+use Rattle.tp_coord.proofs.Rows.{AllTrue, ByLoss, ByOlder, ByProof, ByRefusal, ByRestart, Gained, HasVoted, IsAck, IsEnded, IsInquiry, IsPassed, IsYes, QueryRan, coordinator_by, gains_instances, submit_by, timer_by, with_gained}
 use Rattle.tp_recover.specs.Log.{decided_in, decision_in}
 use Rattle.tp_machine.specs.Machine.{log_with, with_age}
 use Rattle.tp_types.specs.Each.{Each}
 use Rattle.tp_coord.specs.Opened.{servers_at}
-use Rattle.tp_coord.specs.Row.{aborts, asks, awaits_query, commit_round, commits, coordinator_row, is_begun, next_number, next_turn, prepare_letter, prepares, own_query, repeats, request, sends_query, server_of, staple_of, submit_row, without}
+use Rattle.tp_coord.specs.Row.{aborts, asks, awaits_query, commit_round, commits, coordinator_row, decide_letters, is_begun, next_number, next_turn, prepare_letter, prepares, own_query, repeats, request, sends_query, server_of, staple_of, submit_row, without}
 use Rattle.tp_coord.specs.State.{Coordinator}
 use Rattle.tp_coord.specs.declared.coordinator.Phase.TheVariants as phase
 use Rattle.tp_coord.specs.declared.coordinator.Phase.{Phase}
@@ -108,7 +108,8 @@ pub record OrderAgrees (sc : Scenario) (txn : TxnId) (begun : Bool) (decided : O
   pub asked : RequestAgrees sc txn begun to order.txn
   pub decided_is : option_map outcome_of decided ≡ Some order.outcome
 
--- what a letter of the transaction's coordinator says agrees with what it has decided; coordinators send no votes and acknowledge nothing
+-- what a letter of the transaction's coordinator says agrees with what it has decided; coordinators send no votes, acknowledge nothing, and
+-- do not ask how it was decided
 abbrev pub BodyAgrees : Scenario → TxnId → Bool → Option Decision → Actor → Body → Type 0
 BodyAgrees sc txn begun decided to (body.Query q) = RequestAgrees sc txn begun to q.txn
 BodyAgrees sc txn begun decided to (body.Validate v) = RequestAgrees sc txn begun to v.txn
@@ -116,6 +117,7 @@ BodyAgrees sc txn begun decided to (body.Prepare p) = RequestAgrees sc txn begun
 BodyAgrees sc txn begun decided to (body.Decide order) = OrderAgrees sc txn begun decided to order
 BodyAgrees sc txn begun decided to (body.Vote reply) = ⊥
 BodyAgrees sc txn begun decided to (body.Ack ack) = ⊥
+BodyAgrees sc txn begun decided to (body.Inquire inquiry) = ⊥
 BodyAgrees sc txn begun decided to _ = Unit {0}
 
 abbrev pub LetterAgrees : Scenario → TxnId → Bool → Option Decision → Letter → Type 0
@@ -141,15 +143,17 @@ pub record IsFirst (sc : Scenario) (P : ServerId → Type 0) (txn : TxnId) (kept
   pub own : IsOwn txn forced
   pub prepared : RecordServed P (servers_at sc txn) forced
 
--- what a reply says of its sender: while nothing is decided, a vote YES comes from one that has prepared; and who acknowledges has settled
+-- what a reply says of its sender: while nothing is decided, a vote YES comes from one that has prepared; who acknowledges has settled; and
+-- who asks for the decision has an item of the transaction
 abbrev pub YesRests : Type 0 → Vote → Type 0
 YesRests prepared (vote.Yes verdicts) = prepared
 YesRests prepared (vote.No why) = Unit {0}
 
-abbrev pub ReplyRests : (P S : ServerId → Type 0) → Option Decision → Actor → Body → Type 0
-ReplyRests P S decided (actor.Server at) (body.Vote reply) = YesRests (decided ≡ None → P at) reply.vote
-ReplyRests P S decided (actor.Server at) (body.Ack ack) = S at
-ReplyRests P S decided _ _ = Unit {0}
+abbrev pub ReplyRests : (P S I : ServerId → Type 0) → Option Decision → Actor → Body → Type 0
+ReplyRests P S I decided (actor.Server at) (body.Vote reply) = YesRests (decided ≡ None → P at) reply.vote
+ReplyRests P S I decided (actor.Server at) (body.Ack ack) = S at
+ReplyRests P S I decided (actor.Server at) (body.Inquire inquiry) = I at
+ReplyRests P S I decided _ _ = Unit {0}
 
 -- an act of a coordinator: it agrees with its log after it, it forces nothing after a decision, and its letters agree
 pub record CoordinatorLawful (sc : Scenario) (P S : ServerId → Type 0) (c : Coordinator) (kept : List Record) (effect : Effect Coordinator) : Type 0 where
@@ -209,7 +213,7 @@ item_there_in_agreement None at e = absurd (cc)
 item_there_in_agreement (Some item) at e = ap (λ (server : ServerId). server.0 == at.0) (same_Some item.server at e) ∙ number_itself at.0
 
 -- the server of a query has an item of the transaction
-asked_has_item : (sc : Scenario) (c : Coordinator) (number : ℕ) (asked : Query) (at : ServerId) → own_query sc c number ≡ Some asked → server_of sc asked ≡ Some at → has_item_at sc at c.txn ≡ true
+pub asked_has_item : (sc : Scenario) (c : Coordinator) (number : ℕ) (asked : Query) (at : ServerId) → own_query sc c number ≡ Some asked → server_of sc asked ≡ Some at → has_item_at sc at c.txn ≡ true
 asked_has_item sc c number asked at e there = found (slice_get sc.txns c.txn.0) e
   where
     found : (declared : Option Transaction) → option_and_then (λ (txn : Transaction). query_at txn number) declared ≡ Some asked → option_map_or (has_item sc at) declared false ≡ true
@@ -378,11 +382,11 @@ record IsCounted (sc : Scenario) (P S : ServerId → Type 0) (c : Coordinator) (
   pub prepared : AllBut P (missing_in round.targets) (servers_at sc c.txn)
 
 yes_counted : (sc : Scenario) (P S : ServerId → Type 0) (c : Coordinator) (kept : List Record) (mail : Mail) (reply : VoteReply) (round : Round) (staple : Staple) (server : ServerId) (verdicts : List Verdict)
-    → Keeps sc P S c kept → ReplyRests P S (decided_in kept) mail.letter.from mail.letter.body → IsYes c mail reply round staple server verdicts → IsCounted sc P S c kept (after_reply round server verdicts)
+    → Keeps sc P S c kept → ReplyRests P S (HoldsItem sc c.txn) (decided_in kept) mail.letter.from mail.letter.body → IsYes c mail reply round staple server verdicts → IsCounted sc P S c kept (after_reply round server verdicts)
 yes_counted sc P S c kept mail reply round staple server verdicts h m y =
     let undecided : decided_in kept ≡ None = subst (λ (p : Phase). PhaseAgrees p (decided_in kept)) y.checking h.agrees.decided in
     let rests : YesRests (decided_in kept ≡ None → P server) reply.vote =
-    subst (λ (said : Body). ReplyRests P S (decided_in kept) (actor.Server server) said) y.said_is (subst (λ (from : Actor). ReplyRests P S (decided_in kept) from mail.letter.body) y.from_is m) in
+    subst (λ (said : Body). ReplyRests P S (HoldsItem sc c.txn) (decided_in kept) (actor.Server server) said) y.said_is (subst (λ (from : Actor). ReplyRests P S (HoldsItem sc c.txn) (decided_in kept) from mail.letter.body) y.from_is m) in
     let prepared : decided_in kept ≡ None → P server = subst (YesRests (decided_in kept ≡ None → P server)) y.vote_is rests in
     record {
       undecided = undecided;
@@ -408,11 +412,11 @@ updated_lawful sc P S c kept round named k s e =
     (each_as P (λ (at : ServerId). is_in (missing_in next.targets) at ≡ false → P at) (λ at p left. p) (servers_at sc c.txn) prepared))
 
 acknowledged_lawful : (sc : Scenario) (P S : ServerId → Type 0) (c : Coordinator) (kept : List Record) (mail : Mail) (ack : AckReply) (ended : Outcome) (awaited : List ServerId) (server : ServerId)
-    → Keeps sc P S c kept → ReplyRests P S (decided_in kept) mail.letter.from mail.letter.body → IsAck c mail ack ended awaited server
+    → Keeps sc P S c kept → ReplyRests P S (HoldsItem sc c.txn) (decided_in kept) mail.letter.from mail.letter.body → IsAck c mail ack ended awaited server
     → CoordinatorLawful sc P S c kept (sends (record c { phase = phase.Ending ended (without awaited server) }) [])
 acknowledged_lawful sc P S c kept mail ack ended awaited server h m a =
     let settled : S server =
-    subst (λ (said : Body). ReplyRests P S (decided_in kept) (actor.Server server) said) a.said_is (subst (λ (from : Actor). ReplyRests P S (decided_in kept) from mail.letter.body) a.from_is m) in
+    subst (λ (said : Body). ReplyRests P S (HoldsItem sc c.txn) (decided_in kept) (actor.Server server) said) a.said_is (subst (λ (from : Actor). ReplyRests P S (HoldsItem sc c.txn) (decided_in kept) from mail.letter.body) a.from_is m) in
     record {
       agrees = record {
         decided = subst (λ (p : Phase). PhaseAgrees p (decided_in kept)) a.ending h.agrees.decided;
@@ -424,6 +428,24 @@ acknowledged_lawful sc P S c kept mail ack ended awaited server h m a =
       same_txn = refl;
       fresh = tt;
       letters = tt;
+    }
+
+-- a server that asks for the decision is told it, once there is one
+inquired_lawful : (sc : Scenario) (P S : ServerId → Type 0) (c : Coordinator) (kept : List Record) (mail : Mail) (inquiry : InquireRequest) (ended : Outcome) (awaited : List ServerId) (server : ServerId)
+    → Keeps sc P S c kept → ReplyRests P S (HoldsItem sc c.txn) (decided_in kept) mail.letter.from mail.letter.body → IsInquiry c mail inquiry ended awaited server
+    → CoordinatorLawful sc P S c kept (sends c (decide_letters c ended (server ∷ [])))
+inquired_lawful sc P S c kept mail inquiry ended awaited server h m k =
+    let item : HoldsItem sc c.txn server =
+    subst (λ (said : Body). ReplyRests P S (HoldsItem sc c.txn) (decided_in kept) (actor.Server server) said) k.said_is
+    (subst (λ (from : Actor). ReplyRests P S (HoldsItem sc c.txn) (decided_in kept) from mail.letter.body) k.from_is m) in
+    let decided : option_map outcome_of (decided_in kept) ≡ Some ended = subst (λ (p : Phase). PhaseAgrees p (decided_in kept)) k.ending h.agrees.decided in
+    record {
+      agrees = h.agrees;
+      replied = h.replied;
+      same_begun = refl;
+      same_txn = refl;
+      fresh = tt;
+      letters = orders_lawful sc c.txn (is_begun c.phase) (decided_in kept) ended c (server ∷ []) refl (ap is_begun k.ending) decided (item, tt);
     }
 
 -- only a coordinator that is ending has decided
@@ -441,7 +463,7 @@ awaiting_query c (phase.Ending ended awaited) done decided e h = absurd (cc)
 
 -- every row of a coordinator on receipt of a mail
 pub coordinator_row_lawful : (sc : Scenario) (P S : ServerId → Type 0) (c : Coordinator) (kept : List Record) (mail : Mail) → Keeps sc P S c kept
-    → ReplyRests P S (decided_in kept) mail.letter.from mail.letter.body → CoordinatorLawful sc P S c kept (coordinator_row sc c mail)
+    → ReplyRests P S (HoldsItem sc c.txn) (decided_in kept) mail.letter.from mail.letter.body → CoordinatorLawful sc P S c kept (coordinator_row sc c mail)
 coordinator_row_lawful sc P S c kept mail h m =
     coordinator_by sc c mail (CoordinatorLawful sc P S c kept)
     (record {
@@ -478,6 +500,7 @@ coordinator_row_lawful sc P S c kept mail h m =
       updated = λ reply round staple server verdicts named y e.
           updated_lawful sc P S c kept (after_reply round server verdicts) named (counted_yes reply round staple server verdicts y) h.agrees.servers e;
       acknowledged = λ ack ended awaited server a. acknowledged_lawful sc P S c kept mail ack ended awaited server h m a;
+      inquired = λ inquiry ended awaited server k. inquired_lawful sc P S c kept mail inquiry ended awaited server h m k;
     })
   where
     counted_yes : (reply : VoteReply) (round : Round) (staple : Staple) (server : ServerId) (verdicts : List Verdict) → IsYes c mail reply round staple server verdicts → IsCounted sc P S c kept (after_reply round server verdicts)
@@ -496,6 +519,8 @@ coordinator_row_lawful sc P S c kept mail h m =
     undecided_at_end _ (ByProof reply round staple server verdicts verdict y e) = let counted = counted_yes reply round staple server verdicts y in (counted.undecided, counted.begun)
     undecided_at_end _ (ByRefusal reply round staple server number value k) =
         (subst (λ (p : Phase). PhaseAgrees p (decided_in kept)) k.checking h.agrees.decided, ap is_begun k.checking)
+    undecided_at_end _ (ByRestart done server asked k) = awaiting_query c c.phase done (decided_in kept) k.awaited h.agrees.decided
+    undecided_at_end _ (ByLoss reply round staple server k) = (subst (λ (p : Phase). PhaseAgrees p (decided_in kept)) k.checking h.agrees.decided, ap is_begun k.checking)
 
     -- where all have voted, all are prepared
     all_prepared : (instances : List Instance) (rounds : ℕ) → HasVoted sc c mail point.Voted instances rounds → Each P (servers_at sc c.txn)

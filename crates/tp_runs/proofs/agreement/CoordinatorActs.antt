@@ -211,6 +211,7 @@ letter_rests sc actors txn begun decided from to (body.Decide order) e submitted
     (subst (λ (t : TxnId). DecidedAs actors.coordinators t order.outcome) (sym h.asked.same_txn) (ap (option_map outcome_of) e ∙ h.decided_is), request_rests_in_coordinator_acts sc actors.coordinators txn order.txn begun to submitted h.asked)
 letter_rests sc actors txn begun decided from to (body.Vote reply) e submitted h = absurd h
 letter_rests sc actors txn begun decided from to (body.Ack ack) e submitted h = absurd h
+letter_rests sc actors txn begun decided from to (body.Inquire inquiry) e submitted h = absurd h
 letter_rests sc actors txn begun decided from to _ e submitted h = tt
 
 letters_rest_in_coordinator_acts : (sc : Scenario) (actors : Actors) (txn : TxnId) (begun : Bool) (decided : Option Decision) (letters : List Letter) → decided_at actors.coordinators txn.0 ≡ decided

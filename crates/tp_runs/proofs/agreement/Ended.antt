@@ -12,7 +12,7 @@ use Rattle.tp_model.specs.TrustedHistory.{ended_as, has_ended, have_ended}
 use Rattle.tp_model.specs.Words.outcome
 use Rattle.tp_model.specs.Words.{Decision, Fact, Outcome, Scenario, ServerId, Settled, Transaction, TxnId}
 use Rattle.tp_coord.specs.Opened.{servers_at}
-use Rattle.tp_coord.specs.Row.{is_armed, is_begun, is_ending}
+use Rattle.tp_coord.specs.Row.{is_armed, is_begun, is_done}
 use Rattle.tp_coord.specs.State.{Coordinator}
 use Rattle.tp_coord.specs.declared.coordinator.Phase.TheVariants as phase
 use Rattle.tp_coord.specs.declared.coordinator.Phase.{Phase}
@@ -34,7 +34,7 @@ use Rattle.tp_runs.specs.Sound.{IsSound}
 -- ---- a coordinator that awaits nothing
 
 -- it has decided, and awaits no server
-is_ended_phase : (awaited : Phase) → is_begun awaited ≡ true → (is_begun awaited && not (is_ending awaited)) ≡ false → (ended : Outcome) × (awaited ≡ phase.Ending ended [])
+is_ended_phase : (awaited : Phase) → is_begun awaited ≡ true → (is_begun awaited && not (is_done awaited)) ≡ false → (ended : Outcome) × (awaited ≡ phase.Ending ended [])
 is_ended_phase (phase.Ending ended []) begun armed = (ended, refl)
 is_ended_phase (phase.Ending ended (at ∷ servers)) begun armed = absurd (cc)
 is_ended_phase phase.Idle begun armed = absurd (cc)

@@ -131,6 +131,7 @@ row_learns sc s mail waits =
       };
       voted_again = λ p entry cast k. still_learns s _ refl (λ admin. refl);
       refused = λ p entry number value k. still_learns s _ (ended_known s.store p.txn outcome.Abort) (λ admin. refl);
+      lost = λ p k. still_learns s _ (ended_known s.store p.txn outcome.Abort) (λ admin. refl);
       refused_again = λ p settled why k. still_learns s _ refl (λ admin. refl);
       settled = λ d k. still_learns s _ (ended_known s.store d.txn d.outcome) (λ admin. refl);
       acknowledged = λ d settled k. still_learns s _ refl (λ admin. refl);

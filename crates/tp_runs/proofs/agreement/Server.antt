@@ -14,6 +14,7 @@ use Rattle.tp_model.specs.Ids.{same_txn}
 use Rattle.tp_model.specs.Words.actor
 use Rattle.tp_model.specs.Words.body
 use Rattle.tp_model.specs.Words.log
+use Rattle.tp_model.specs.Words.no
 use Rattle.tp_model.specs.Words.outcome
 use Rattle.tp_model.specs.Words.vote
 use Rattle.tp_model.specs.Words.{Body, DecideRequest, Deed, DoneReply, Letter, Mail, No, Outcome, PrepareRequest, Prepared, PushNotice, Query, QueryRequest, Record, Scenario, ServerId, Settled, TxnId, Verdict, Vote}
@@ -24,7 +25,7 @@ use Rattle.tp_runs.proofs.basics.Logs.{get_set, prepared_still, prepared_with, s
 use Rattle.tp_recover.proofs.LogLemmas.{first_none}
 use Rattle.tp_server.proofs.Tables.{written_over}
 use Rattle.tp_runs.proofs.basics.Folds.{set_elsewhere}
-use Rattle.tp_server.proofs.Rows.{AreRightWaits, IsAsking, IsFirstHere, IsFirstVote, IsFurther, IsLaterVote, IsResumed, resuming, server_by, unwaiting}
+use Rattle.tp_server.proofs.Rows.{AreRightWaits, IsAsking, IsFirstHere, IsFirstVote, IsFurther, IsLaterVote, IsLostVote, IsResumed, resuming, server_by, unwaiting}
 use Rattle.tp_recover.specs.Log.{prepared_in, settled_in, voted_in, while_unsettled}
 use Rattle.tp_machine.specs.Machine.{log_with}
 use Rattle.tp_model.specs.Deeds.{deed_of}
@@ -95,6 +96,7 @@ ReplyKept kept (body.Prepare p) = ⊥
 ReplyKept kept (body.Decide order) = ⊥
 ReplyKept kept (body.Vote reply) = VoteKept kept reply.txn reply.vote
 ReplyKept kept (body.Ack ack) = is_some (settled_in ack.txn kept) ≡ true
+ReplyKept kept (body.Inquire inquiry) = LogPrepared inquiry.txn kept
 ReplyKept kept _ = Unit {0}
 
 -- a letter is the server's own
@@ -421,16 +423,38 @@ none_voted entry found (Some p) e unvoted h =
     absurd (cc)
 
 -- the server aborts what it has not prepared
+refuses_unprepared : (V : TxnId → Outcome → Type 0) (M : TxnId → Type 0) (s : Server) (kept : List Record) (p : PrepareRequest) (why : No) → ServerAgrees s kept → is_open s p.txn ≡ true
+    → prepared_in p.txn kept ≡ None → M p.txn → ServerLawful V M s kept (closes s (refused_as p why) (no_letter s p why))
+refuses_unprepared V M s kept p why h unsettled unprepared asked =
+    ends_lawful V M s kept (refused_as p why) (no_letter s p why) h unsettled
+    (record { fresh = open_unsettled s kept p.txn h unsettled; asked = asked; ordered = λ none. absurd (cc); refused = λ some. (refl, unprepared) }) refl (λ settled. settled)
+
+-- on which it has not voted
 refuses_lawful : (V : TxnId → Outcome → Type 0) (M : TxnId → Type 0) (s : Server) (kept : List Record) (p : PrepareRequest) (entry : Entry) (why : No) → ServerAgrees s kept → is_open s p.txn ≡ true
     → entry_at s p.txn ≡ Some entry → entry.ballot ≡ None → M p.txn → ServerLawful V M s kept (closes s (refused_as p why) (no_letter s p why))
 refuses_lawful V M s kept p entry why h unsettled found unvoted asked =
-    ends_lawful V M s kept (refused_as p why) (no_letter s p why) h unsettled
-    (record {
-      fresh = open_unsettled s kept p.txn h unsettled;
-      asked = asked;
-      ordered = λ none. absurd (cc);
-      refused = λ some. (refl, none_voted (entry_at s p.txn) entry (prepared_in p.txn kept) found unvoted (h.prepared p.txn));
-    }) refl (λ settled. settled)
+    refuses_unprepared V M s kept p why h unsettled (none_voted (entry_at s p.txn) entry (prepared_in p.txn kept) found unvoted (h.prepared p.txn)) asked
+
+none_of_epoch : (entry : Option Entry) (epoch : ℕ) (old : Option Prepared) → ((found : Entry) → entry ≡ Some found → found.epoch ≡ epoch → ⊥) → ((v : Prepared) → old ≡ Some v → v.epoch ≡ epoch)
+    → option_map vote_of old ≡ option_and_then cast_in entry → old ≡ None
+none_of_epoch entry epoch None elsewhere named h = refl
+none_of_epoch None epoch (Some v) elsewhere named h = absurd (cc)
+none_of_epoch (Some found) epoch (Some v) elsewhere named h = absurd (elsewhere found refl (by_ballot found.ballot h ∙ named v refl))
+  where
+    by_ballot : (ballot : Option Ballot) → Some (vote_of v) ≡ option_map (vote_by found) ballot → found.epoch ≡ v.epoch
+    by_ballot None e = absurd (cc)
+    by_ballot (Some cast) e = sym (ap (λ (x : CastVote). x.epoch) (same_Some (vote_of v) (vote_by found cast) e))
+
+-- a request to prepare names the epoch of what is prepared
+abbrev pub NamesPrepared : List Record → Body → Type 0
+NamesPrepared kept (body.Prepare p) = (v : Prepared) → prepared_in p.txn kept ≡ Some v → v.epoch ≡ p.epoch
+NamesPrepared kept _ = Unit {0}
+
+-- where no entry is of the epoch that is named, nothing is prepared: what is prepared is of that epoch, and has an entry
+loses_lawful : (V : TxnId → Outcome → Type 0) (M : TxnId → Type 0) (s : Server) (kept : List Record) (mail : Mail) (p : PrepareRequest) → ServerAgrees s kept → IsLostVote s mail p → NamesPrepared kept (body.Prepare p) → M p.txn
+    → ServerLawful V M s kept (closes s (refused_as p no.Restarted) (no_letter s p no.Restarted))
+loses_lawful V M s kept mail p h k named asked =
+    refuses_unprepared V M s kept p no.Restarted h k.unsettled (none_of_epoch (entry_at s p.txn) p.epoch (prepared_in p.txn kept) k.elsewhere named (h.prepared p.txn)) asked
 
 -- an order to end what is settled is acknowledged again
 acknowledges_lawful : (V : TxnId → Outcome → Type 0) (M : TxnId → Type 0) (s : Server) (kept : List Record) (d : DecideRequest) (settled : Settled) → ServerAgrees s kept
@@ -476,8 +500,8 @@ learns_lawful V M s kept push h =
 
 -- every row of a server on receipt of a mail
 pub server_row_lawful : (V : TxnId → Outcome → Type 0) (M : TxnId → Type 0) (sc : Scenario) (s : Server) (kept : List Record) (mail : Mail) → AreRightWaits sc s → ServerAgrees s kept → RefusalsAbort kept
-    → RequestRests V M mail.letter.body → ServerLawful V M s kept (server_row sc s mail)
-server_row_lawful V M sc s kept mail waits h aborts m =
+    → RequestRests V M mail.letter.body → NamesPrepared kept mail.letter.body → ServerLawful V M s kept (server_row sc s mail)
+server_row_lawful V M sc s kept mail waits h aborts m named =
     server_by sc s mail (ServerLawful V M s kept) waits
     (record {
       relocked = λ effect locks k. record { agrees = record { settled = k.agrees.settled; unsettled = k.agrees.unsettled; prepared = k.agrees.prepared }; rests = k.rests; replies = k.replies };
@@ -496,6 +520,7 @@ server_row_lawful V M sc s kept mail waits h aborts m =
       voted_again = λ p entry cast k. votes_again_lawful V M s kept p entry cast h k.found k.ballot_is;
       refused = λ p entry number value k.
           refuses_lawful V M s kept p entry _ h k.unsettled k.found k.unvoted (subst (RequestRests V M) k.said_is m);
+      lost = λ p k. loses_lawful V M s kept mail p h k (subst (NamesPrepared kept) k.said_is named) (subst (RequestRests V M) k.said_is m);
       refused_again = λ p settled why k. refused_again_lawful V M s kept p settled why h aborts k.found k.why_is;
       settled = λ d k. let rests = subst (RequestRests V M) k.said_is m in settles_lawful V M s kept d h k.unsettled rests.0 rests.1;
       acknowledged = λ d settled k. acknowledges_lawful V M s kept d settled h k.found;

@@ -43,7 +43,7 @@ use Rattle.tp_runs.proofs.agreement.World.{Agrees, BodyRests, CoordinatorPartAgr
 use Rattle.tp_runs.proofs.basics.Servers.{among_servers}
 use Rattle.tp_runs.proofs.basics.Facts.{any_decided, any_submitted, decided_what, decisions, outcome_itself, said, settled_what, settlements, submissions, submitted_what}
 use Rattle.tp_runs.proofs.basics.Logs.{IsFresh, appended, first_stays, gained, get_set, has_voted_with, listed, listed_first, look_set, map_first, prepared_either, settled_with}
-use Rattle.tp_types.proofs.EachLemmas.{at_set, each_append, each_as, some_mapped}
+use Rattle.tp_types.proofs.EachLemmas.{at_set, each_append, each_as, some_mapped, some_value}
 
 -- ---- what the facts tell
 
@@ -410,10 +410,14 @@ coordinator_stays sc old new txn part stays was is h =
 
 -- ---- the move
 
+-- what is prepared on the log was asked for
+abbrev AskedOnLog : Scenario → List (Part Coordinator) → ServerId → List Record → Type 0
+AskedOnLog sc coordinators at kept = (txn : TxnId) (p : Prepared) → prepared_in txn kept ≡ Some p → IsAsked sc coordinators at txn
+
 -- a letter of a server rests on its log
 letter_rests_in_server_acts : (sc : Scenario) (servers : List (Part Server)) (rest : Actors) (at : ServerId) (part next : Part Server) (from to : Actor) (said_is : Body)
-    → slice_get servers at.0 ≡ Some part → from ≡ actor.Server at → ReplyKept next.log said_is → BodyRests sc (record rest { servers = slice_set servers at.0 next }) from to said_is
-letter_rests_in_server_acts sc servers rest at part next from to said_is found own k =
+    → slice_get servers at.0 ≡ Some part → from ≡ actor.Server at → AskedOnLog sc rest.coordinators at next.log → ReplyKept next.log said_is → BodyRests sc (record rest { servers = slice_set servers at.0 next }) from to said_is
+letter_rests_in_server_acts sc servers rest at part next from to said_is found own asked k =
     let actors = record rest { servers = slice_set servers at.0 next } in
     let now : slice_get (slice_set servers at.0 next) at.0 ≡ Some next =
     get_set servers at.0 at.0 part next found ∙ ap (λ (c : Bool). if c then Some next else slice_get servers at.0) (number_itself at.0) in
@@ -440,14 +444,14 @@ letter_rests_in_server_acts sc servers rest at part next from to said_is found o
     says now (body.Verdicts reply) v = tt
     says now (body.Probe probe) v = tt
     says now (body.Newest reply) v = tt
-    says now (body.Inquire inquiry) v = tt
+    says now (body.Inquire inquiry) v = let p = some_value (prepared_in inquiry.txn next.log) v in asked inquiry.txn p.0 p.1
     says now (body.Push push) v = tt
 
-letters_rest_in_server_acts : (sc : Scenario) (w : State) (at : ServerId) (part next : Part Server) (letters : List Letter) → slice_get w.actors.servers at.0 ≡ Some part → Each (LetterKept at next.log) letters
+letters_rest_in_server_acts : (sc : Scenario) (w : State) (at : ServerId) (part next : Part Server) (letters : List Letter) → slice_get w.actors.servers at.0 ≡ Some part → AskedOnLog sc w.actors.coordinators at next.log → Each (LetterKept at next.log) letters
     → Each (LetterRests sc (record w.actors { servers = slice_set w.actors.servers at.0 next })) letters
-letters_rest_in_server_acts sc w at part next [] found h = tt
-letters_rest_in_server_acts sc w at part next (letter ∷ letters) found h =
-    (letter_rests_in_server_acts sc w.actors.servers w.actors at part next letter.from letter.to letter.body found h.0.from_is h.0.says, letters_rest_in_server_acts sc w at part next letters found h.1)
+letters_rest_in_server_acts sc w at part next [] found asked h = tt
+letters_rest_in_server_acts sc w at part next (letter ∷ letters) found asked h =
+    (letter_rests_in_server_acts sc w.actors.servers w.actors at part next letter.from letter.to letter.body found h.0.from_is asked h.0.says, letters_rest_in_server_acts sc w at part next letters found asked h.1)
 
 -- a vote YES that was forced follows a request
 voted_asked : (V : TxnId → Outcome → Type 0) (M : TxnId → Type 0) (kept : List Record) (txn : TxnId) (append : Option Record) → IfSome append (RecordRests V M kept) → (p : Prepared) → appended (preparation_in txn) append ≡ Some p → M txn
@@ -470,6 +474,8 @@ server_acts_agrees sc w at part now own append letters h found l =
     let stays : LogsStay w.actors actors = server_logs_stay sc w at part next append found refl l.rests in
     let tells : own ++ flat_map (server_fact at) (drop (length part.log) (log_with part.log append)) ≡ own ++ server_facts at append = ap (λ (xs : List What). own ++ xs) (gained (server_fact at) part.log append) in
     let here = h.servers at.0 part found in
+    let asked : AskedOnLog sc w.actors.coordinators at next.log =
+    λ txn. prepared_either txn part.log append (λ (p : Prepared). M txn) (here.prepared txn) (λ p e. voted_asked V M part.log txn append l.rests p e) in
     record {
       coordinator_count = refl;
       server_count = length-set w.actors.servers at.0 next;
@@ -480,9 +486,9 @@ server_acts_agrees sc w at part now own append letters h found l =
             state = l.state;
             knows = l.knows;
             settled = λ txn s e. settled_after_in_agreement sc w at part append txn (settled_in txn part.log) s h found (here.settled txn) l.rests (sym (settled_with txn part.log append) ∙ e);
-            prepared = λ txn. prepared_either txn part.log append (λ (p : Prepared). M txn) (here.prepared txn) (λ p e. voted_asked V M part.log txn append l.rests p e);
+            prepared = asked;
           });
-      letters = letters_rest_in_server_acts sc w at part next letters found l.replies;
+      letters = letters_rest_in_server_acts sc w at part next letters found asked l.replies;
       stays = stays;
       happened = subst (Each (WhatFollows sc w.facts)) (sym tells)
           (each_append (WhatFollows sc w.facts) own (server_facts at append) l.own_says.follows (facts_follow_in_server_acts sc w at part.log append h l.rests));

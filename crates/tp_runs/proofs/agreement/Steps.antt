@@ -11,13 +11,13 @@ use Rattle.tp_model.specs.Words.outcome
 use Rattle.tp_model.specs.Words.step
 use Rattle.tp_model.specs.Words.vote
 use Rattle.tp_model.specs.Words.what
-use Rattle.tp_model.specs.Words.{Actor, AdminId, Body, CredId, Decision, Mail, Outcome, Record, Scenario, ServerId, Settled, Step, TxnId, Version, Vote, What}
+use Rattle.tp_model.specs.Words.{Actor, AdminId, Body, CredId, Decision, Mail, No, Outcome, Record, Scenario, ServerId, Settled, Step, TxnId, Version, Vote, VoteReply, What}
 use Rattle.tp_runs.proofs.ids.Valid.{IsValid}
-use Rattle.tp_runs.proofs.agreement.Coordinator.{CoordinatorLawful, Keeps, ReplyRests, SubmissionLawful, YesRests, coordinator_row_lawful, repeats_lawful, submit_row_lawful}
+use Rattle.tp_runs.proofs.agreement.Coordinator.{CoordinatorLawful, HoldsItem, Keeps, ReplyRests, SubmissionLawful, YesRests, coordinator_row_lawful, repeats_lawful, submit_row_lawful}
 use Rattle.tp_runs.proofs.agreement.CoordinatorActs.{coordinator_acts_agrees, letters_rest_again, receipt_acts, submission_acts}
 use Rattle.tp_runs.proofs.agreement.Known.{KnowsTold, learns_knows, opening_knows, row_learns}
 use Rattle.tp_runs.proofs.agreement.Logs.{DecidedAs, IsAsked, IsPrepared, IsSettled, outcome_settled, submitted_count, submitted_up}
-use Rattle.tp_runs.proofs.agreement.Server.{IsUnsettled, LetterKept, RefusalsAbort, RequestRests, ServerAgrees, ServerLawful, cast_in, server_row_lawful}
+use Rattle.tp_runs.proofs.agreement.Server.{IsUnsettled, LetterKept, NamesPrepared, RefusalsAbort, RequestRests, ServerAgrees, ServerLawful, cast_in, server_row_lawful}
 use Rattle.tp_runs.proofs.agreement.ServerActs.{SaysOnly, server_acts_agrees, unmoved_agrees}
 use Rattle.tp_runs.proofs.agreement.World.{Agrees, BodyRests, CoordinatorUpAgrees, DecidedServed, LetterRests, MailRests, MoveAgrees, PreparesNamed, VoteRests, state_after_agrees}
 use Rattle.tp_runs.proofs.basics.Homes.{SendFirst, first_row_begins}
@@ -27,7 +27,7 @@ use Rattle.tp_runs.proofs.basics.Logs.{listed}
 use Rattle.tp_runs.proofs.ids.Queries.{have_homes}
 use Rattle.tp_runs.proofs.walks.Steps.{Cases, IsCoordinatorUp, IsServerUp, SaysIdle, WasSent, WaitRightly, machine_after_by}
 use Rattle.tp_recover.specs.Log.{decided_in, prepared_in, settled_in}
-use Rattle.tp_machine.specs.Logs.{decided_at, decided_by, settled_by}
+use Rattle.tp_machine.specs.Logs.{decided_at, decided_by, prepared_by, settled_at, settled_by}
 use Rattle.tp_machine.specs.Machine.{Machine, State, acts_by, coordinator_fact, coordinator_move, idle_move, is_part_submitted, log_with, machine_after, opened_actors, opened_part, opening_state, refusal, server_fact, server_move, with_age}
 use Rattle.tp_machine.specs.Parts.{Part}
 use Rattle.tp_types.specs.Each.{Each, EachAt}
@@ -125,13 +125,29 @@ yes_kept actors at txn other decided (vote.Yes verdicts) same here h =
     λ none. subst (λ (t : TxnId). IsPrepared actors.servers t at) same (h.prepared (ap (λ (t : TxnId). decided_at actors.coordinators t.0) same ∙ (here ∙ none)))
 yes_kept actors at txn other decided (vote.No why) same here h = tt
 
--- what a reply to the coordinator of a transaction says of its sender
+-- what a reply to the coordinator of a transaction, or a question to it, says of its sender
 reply_rests : (sc : Scenario) (w : State) (txn : TxnId) (part : Part Coordinator) (from : Actor) (said : Body) → slice_get w.actors.coordinators txn.0 ≡ Some part → IsSoundBody sc (actor.Coordinator txn) said
-    → BodyRests sc w.actors from (actor.Coordinator txn) said → ReplyRests (IsPrepared w.actors.servers txn) (IsSettled w.actors.servers txn) (decided_in part.log) from said
+    → BodyRests sc w.actors from (actor.Coordinator txn) said → ReplyRests (IsPrepared w.actors.servers txn) (IsSettled w.actors.servers txn) (HoldsItem sc txn) (decided_in part.log) from said
 reply_rests sc w txn part (actor.Server at) (body.Vote reply) found sound h =
     yes_kept w.actors at txn reply.txn (decided_in part.log) reply.vote (same_txn_from txn reply.txn sound.goes_to) (ap (option_and_then decided_by) found) h
 reply_rests sc w txn part (actor.Server at) (body.Ack ack) found sound h = subst (λ (t : TxnId). IsSettled w.actors.servers t at) (same_txn_from txn ack.txn sound.goes_to) h
+reply_rests sc w txn part (actor.Server at) (body.Inquire inquiry) found sound h = subst (λ (t : TxnId). HoldsItem sc t at) (same_txn_from txn inquiry.txn sound.goes_to) h.item
 reply_rests sc w txn part _ _ found sound h = tt
+
+-- a vote NO is on its server's log
+pub no_settled : (sc : Scenario) (w : State) (from to : Actor) (said : Body) (reply : VoteReply) (server : ServerId) (why : No) → BodyRests sc w.actors from to said → said ≡ body.Vote reply → from ≡ actor.Server server
+    → reply.vote ≡ vote.No why → settled_at w.actors.servers server.0 reply.txn ≡ Some (record { txn = reply.txn; outcome = outcome.Abort; why = Some why })
+no_settled sc w from to said reply server why rests e f g =
+    let here : BodyRests sc w.actors (actor.Server server) to (body.Vote reply) = subst (λ (b : Body). BodyRests sc w.actors (actor.Server server) to b) e (subst (λ (a : Actor). BodyRests sc w.actors a to said) f rests) in
+    subst (VoteRests w.actors server reply.txn) g here
+
+-- a server that has settled a transaction has an item of it
+pub settled_item : (sc : Scenario) (w : State) (at : ServerId) (txn : TxnId) (settled : Settled) → Agrees sc w → settled_at w.actors.servers at.0 txn ≡ Some settled → HoldsItem sc txn at
+settled_item sc w at txn settled h e = by_part (slice_get w.actors.servers at.0) refl e
+  where
+    by_part : (part : Option (Part Server)) → slice_get w.actors.servers at.0 ≡ part → option_and_then (settled_by txn) part ≡ Some settled → HoldsItem sc txn at
+    by_part None found f = absurd (cc)
+    by_part (Some part) found f = ((h.servers at.0 part found).settled txn settled f).item
 
 -- what a mail that was sent says is sound
 pub mail_sound : (sc : Scenario) (w : State) (n : ℕ) (mail : Mail) (to : Actor) → IsSound sc w → WasSent w n mail to → IsSoundBody sc to mail.letter.body
@@ -206,25 +222,34 @@ refusals_abort sc w at part h found txn settled e some = by_outcome settled.outc
         ap (λ (t : TxnId). record { txn = t; outcome = settled.outcome; why = settled.why }) (settled_of txn part.log settled e)
         ∙ ap (λ (o : Outcome). record { txn = txn; outcome = o; why = settled.why }) is
 
+-- a request to prepare names the epoch of what is prepared on its server's log
+names_prepared : (w : State) (n : ℕ) (mail : Mail) (at : ServerId) (part : Part Server) → PreparesNamed w → WasSent w n mail (actor.Server at) → slice_get w.actors.servers at.0 ≡ Some part → NamesPrepared part.log mail.letter.body
+names_prepared w n mail at part named sent found = by_body mail.letter.body refl
+  where
+    by_body : (said : Body) → mail.letter.body ≡ said → NamesPrepared part.log said
+    by_body (body.Prepare p) e = λ v prepared. named n mail at p v sent.sent sent.goes_to e (ap (option_and_then (prepared_by p.txn)) found ∙ prepared)
+    by_body _ e = tt
+
 -- a server's row on a mail that was sent
-pub server_lawful : (sc : Scenario) (w : State) → WaitRightly sc w → Agrees sc w → (n : ℕ) (mail : Mail) (at : ServerId) (part : Part Server) (s : Server) → WasSent w n mail (actor.Server at) → IsServerUp w at part s
+pub server_lawful : (sc : Scenario) (w : State) → WaitRightly sc w → PreparesNamed w → Agrees sc w → (n : ℕ) (mail : Mail) (at : ServerId) (part : Part Server) (s : Server) → WasSent w n mail (actor.Server at) → IsServerUp w at part s
     → ServerLawful (DecidedAs w.actors.coordinators) (IsAsked sc w.actors.coordinators at) s part.log (server_row sc s mail)
-server_lawful sc w rightly h n mail at part s sent up =
+server_lawful sc w rightly named h n mail at part s sent up =
     server_row_lawful (DecidedAs w.actors.coordinators) (IsAsked sc w.actors.coordinators at) sc s part.log mail (rightly at part s up) (server_agrees sc w at part s h up) (refusals_abort sc w at part h up.found)
-    (request_rests sc w mail.letter.from at mail.letter.body (mail_rests sc w n mail (actor.Server at) h sent))
+    (request_rests sc w mail.letter.from at mail.letter.body (mail_rests sc w n mail (actor.Server at) h sent)) (names_prepared w n mail at part named sent up.found)
 
 -- a coordinator's row on a mail that was sent
 pub coordinator_lawful : (sc : Scenario) (w : State) → IsSound sc w → Agrees sc w → (n : ℕ) (mail : Mail) (txn : TxnId) (part : Part Coordinator) (c : Coordinator) → WasSent w n mail (actor.Coordinator txn)
     → IsCoordinatorUp w txn part c → CoordinatorLawful sc (IsPrepared w.actors.servers txn) (IsSettled w.actors.servers txn) c part.log (coordinator_row sc c mail)
 coordinator_lawful sc w sound h n mail txn part c sent up =
     coordinator_row_lawful sc (IsPrepared w.actors.servers txn) (IsSettled w.actors.servers txn) c part.log mail (coordinator_agrees sc w txn part c h up)
-    (reply_rests sc w txn part mail.letter.from mail.letter.body up.found (mail_sound sc w n mail (actor.Coordinator txn) sound sent) (mail_rests sc w n mail (actor.Coordinator txn) h sent))
+    (subst (λ (t : TxnId). ReplyRests (IsPrepared w.actors.servers txn) (IsSettled w.actors.servers txn) (HoldsItem sc t) (decided_in part.log) mail.letter.from mail.letter.body) (sym (own_txn sc w txn part c sound up.found up.up))
+    (reply_rests sc w txn part mail.letter.from mail.letter.body up.found (mail_sound sc w n mail (actor.Coordinator txn) sound sent) (mail_rests sc w n mail (actor.Coordinator txn) h sent)))
 
-receipt_by_server_in_agreement : (sc : Scenario) (w : State) → WaitRightly sc w → IsSound sc w → Agrees sc w → (n : ℕ) (mail : Mail) (at : ServerId) (part : Part Server) (s : Server) → WasSent w n mail (actor.Server at) → IsServerUp w at part s
+receipt_by_server_in_agreement : (sc : Scenario) (w : State) → WaitRightly sc w → IsSound sc w → PreparesNamed w → Agrees sc w → (n : ℕ) (mail : Mail) (at : ServerId) (part : Part Server) (s : Server) → WasSent w n mail (actor.Server at) → IsServerUp w at part s
     → MoveAgrees sc w (server_move w.actors at (acts_by (server_fact at) [] part.log (server_row sc s mail)))
-receipt_by_server_in_agreement sc w rightly sound h n mail at part s sent up =
+receipt_by_server_in_agreement sc w rightly sound named h n mail at part s sent up =
     let effect = server_row sc s mail in
-    let l = server_lawful sc w rightly h n mail at part s sent up in
+    let l = server_lawful sc w rightly named h n mail at part s sent up in
     server_acts_agrees sc w at part (Some effect.state) [] effect.reaction.append effect.reaction.letters h up.found
     (record {
       state = l.agrees;
@@ -243,11 +268,11 @@ receipt_by_coordinator_in_agreement sc w sound h n mail txn part c sent up =
 
 -- ---- steps
 
-agrees_cases : (sc : Scenario) (w : State) → IsValid sc → SendFirst sc → WaitRightly sc w → IsSound sc w → Agrees sc w → Cases sc w (λ taken move. MoveAgrees sc w move)
-agrees_cases sc w valid first rightly sound h =
+agrees_cases : (sc : Scenario) (w : State) → IsValid sc → SendFirst sc → WaitRightly sc w → IsSound sc w → PreparesNamed w → Agrees sc w → Cases sc w (λ taken move. MoveAgrees sc w move)
+agrees_cases sc w valid first rightly sound named h =
     record {
       idle = idle_agrees sc w h;
-      server_received = λ n mail at part s sent up. receipt_by_server_in_agreement sc w rightly sound h n mail at part s sent up;
+      server_received = λ n mail at part s sent up. receipt_by_server_in_agreement sc w rightly sound named h n mail at part s sent up;
       coordinator_received = λ n mail txn part c sent up. receipt_by_coordinator_in_agreement sc w sound h n mail txn part c sent up;
       authority_told = λ n mail sent.
           unmoved_agrees sc w [] (office.authority_row w.actors.authority mail).reaction.letters h (silent_says sc w) (tells_rest sc w.actors w.actors.authority mail.letter.body);
@@ -266,7 +291,7 @@ agrees_cases sc w valid first rightly sound h =
 -- a step that is not refused keeps agreement
 pub agrees_next : (sc : Scenario) (m : Machine) (taken : Step) → IsValid sc → SendFirst sc → IsStepOf sc taken → refusal m.state taken ≡ None → WaitRightly sc m.state → IsSound sc m.state → PreparesNamed m.state → Agrees sc m.state → Agrees sc (machine_after sc m taken).state
 agrees_next sc m taken valid first exists allowed rightly sound named h =
-    machine_after_by sc m (λ taken move. MoveAgrees sc m.state move) (Agrees sc) (agrees_cases sc m.state valid first rightly sound h) h.coordinator_count
+    machine_after_by sc m (λ taken move. MoveAgrees sc m.state move) (Agrees sc) (agrees_cases sc m.state valid first rightly sound named h) h.coordinator_count
     (λ taken move t. state_after_agrees sc m.state taken move h t) h taken exists allowed
 
 -- ---- before the first step

@@ -61,7 +61,7 @@ pub record ServerPartAgrees (sc : Scenario) (coordinators : List (Part Coordinat
   pub settled : (txn : TxnId) (settled : Settled) → settled_in txn part.log ≡ Some settled → SettledRests sc coordinators at txn settled
   pub prepared : (txn : TxnId) (p : Prepared) → prepared_in txn part.log ≡ Some p → IsAsked sc coordinators at txn
 
--- a request of a transaction that was submitted goes to a server with an item of it
+-- the actor is a server with an item of a transaction that was submitted: to such a one requests go
 abbrev pub RequestMade : Scenario → List (Part Coordinator) → Actor → TxnId → Type 0
 RequestMade sc coordinators (actor.Server at) txn = IsAsked sc coordinators at txn
 RequestMade sc coordinators _ txn = ⊥
@@ -86,7 +86,7 @@ abbrev pub AckFrom : Actors → Actor → TxnId → Type 0
 AckFrom actors (actor.Server at) txn = IsSettled actors.servers txn at
 AckFrom actors _ txn = Unit {0}
 
--- what is requested was submitted, an order to end was decided, and a reply rests on a log
+-- what is requested was submitted, an order to end was decided, a reply rests on a log, and who asks for a decision was asked before
 abbrev pub BodyRests : Scenario → Actors → Actor → Actor → Body → Type 0
 BodyRests sc actors from to (body.Query q) = RequestMade sc actors.coordinators to q.txn
 BodyRests sc actors from to (body.Validate v) = RequestMade sc actors.coordinators to v.txn
@@ -94,6 +94,7 @@ BodyRests sc actors from to (body.Prepare p) = RequestMade sc actors.coordinator
 BodyRests sc actors from to (body.Decide order) = DecidedAs actors.coordinators order.txn order.outcome × RequestMade sc actors.coordinators to order.txn
 BodyRests sc actors from to (body.Vote reply) = VoteFrom actors from reply.txn reply.vote
 BodyRests sc actors from to (body.Ack ack) = AckFrom actors from ack.txn
+BodyRests sc actors from to (body.Inquire inquiry) = RequestMade sc actors.coordinators from inquiry.txn
 BodyRests sc actors from to _ = Unit {0}
 
 abbrev pub LetterRests : Scenario → Actors → Letter → Type 0
@@ -199,6 +200,7 @@ body_stays sc old new from to (body.Prepare p) stays h = request_stays sc old ne
 body_stays sc old new from to (body.Decide order) stays h = (decided_stays old new order.txn order.outcome stays h.0, request_stays sc old new to order.txn stays h.1)
 body_stays sc old new from to (body.Vote reply) stays h = vote_from_stays old new from reply.txn reply.vote stays h
 body_stays sc old new from to (body.Ack ack) stays h = ack_from_stays old new from ack.txn stays h
+body_stays sc old new from to (body.Inquire inquiry) stays h = request_stays sc old new from inquiry.txn stays h
 body_stays sc old new from to _ stays h = tt
 
 mails_stay : (sc : Scenario) (old new : Actors) (mails : List Mail) → LogsStay old new → Each (MailRests sc old) mails → Each (MailRests sc new) mails

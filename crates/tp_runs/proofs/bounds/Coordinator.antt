@@ -15,7 +15,7 @@ use Rattle.tp_runs.proofs.bounds.Numbers.{AreBefore, asked_bounded}
 use Rattle.tp_runs.proofs.bounds.Server.{IsBoundedLetter}
 use Rattle.tp_runs.proofs.ids.Valid.{IsValid}
 use Rattle.tp_scheme.specs.declared.moves.Point.TheVariants as point
-use Rattle.tp_coord.proofs.Rows.{ByOlder, ByProof, ByRefusal, Gained, IsEnded, IsPassed, IsRanAnswer, QueryRan, coordinator_by, submit_by, timer_by, with_gained}
+use Rattle.tp_coord.proofs.Rows.{ByLoss, ByOlder, ByProof, ByRefusal, ByRestart, Gained, IsEnded, IsPassed, IsRanAnswer, QueryRan, coordinator_by, submit_by, timer_by, with_gained}
 use Rattle.tp_runs.specs.Bounded.{AreBoundedDeeds, IsBounded, IsBoundedAnswer, IsBoundedBody, IsBoundedDeed, IsBoundedRecord, IsBoundedVote}
 use Rattle.tp_machine.specs.Machine.{with_age}
 use Rattle.tp_model.specs.Deeds.{deed_of}
@@ -132,6 +132,7 @@ coordinator_row_bounds sc c mail valid homes h said =
       aborted = λ why ended. record { state = record { deeds = h.deeds; low = tt }; forces = cause_bounded why ended; letters = orders_say_none c outcome.Abort c.servers };
       updated = λ reply round staple server verdicts named y e. record { state = record { deeds = h.deeds; low = tt }; forces = tt; letters = (tt, tt) };
       acknowledged = λ ack ended awaited server a. record { state = record { deeds = h.deeds; low = tt }; forces = tt; letters = tt };
+      inquired = λ inquiry ended awaited server k. record { state = h; forces = tt; letters = orders_say_none c ended (server ∷ []) };
     })
   where
     ran_bounded : (query : ℕ) (now : Gained) → IsPassed sc c mail (point.Ran query) now → RanBounded query now
@@ -141,6 +142,8 @@ coordinator_row_bounds sc c mail valid homes h said =
     cause_bounded _ (ByOlder done server asked other k) = tt
     cause_bounded _ (ByProof reply round staple server verdicts verdict y e) = tt
     cause_bounded _ (ByRefusal reply round staple server number value k) = subst IsBoundedVote k.vote_is (subst IsBoundedBody k.said_is said)
+    cause_bounded _ (ByRestart done server asked k) = tt
+    cause_bounded _ (ByLoss reply round staple server k) = tt
 
 -- the submission of a transaction
 pub submit_row_bounds : (sc : Scenario) (c : Coordinator) (place : ℕ) → IsValid sc → HaveHomes sc → CoordinatorLow c → is_begun c.phase ≡ false → CoordinatorBounds (with_age (coord.submit_row sc c) place)

@@ -221,6 +221,7 @@ server_row_bounds sc M s mail waits h said reads clear orders =
       refused = λ p entry number value k.
           let why : IsBounded number value = refused_bounded s p.txn number value h k.outside in
           beside sc M s _ (keeps.refused p entry number value k) h.values (ends_bounded s _ _ h why why);
+      lost = λ p k. beside sc M s _ (keeps.lost p k) h.values (ends_bounded s _ _ h tt tt);
       refused_again = λ p settled why k.
           beside sc M s _ (keeps.refused_again p settled why k) h.values (stays_bounded s _ h (of_some IsBoundedNo settled.why why k.why_is (h.kept.settled p.txn.0 settled k.found), tt));
       settled = λ d k. beside sc M s _ (keeps.settled d k) (orders d k) (ends_bounded s _ _ h tt tt);

@@ -14,7 +14,7 @@ use Rattle.tp_model.specs.Words.{Body, Deed, Letter, Mail, Record, Scenario, Ser
 use Rattle.tp_runs.proofs.agreement.Logs.{DecidedAs, IsAsked}
 use Rattle.tp_runs.proofs.agreement.Server.{RequestRests, open_unsettled}
 use Rattle.tp_runs.proofs.agreement.Steps.{mail_rests, request_rests, server_agrees, server_lawful}
-use Rattle.tp_runs.proofs.agreement.World.{Agrees}
+use Rattle.tp_runs.proofs.agreement.World.{Agrees, PreparesNamed}
 use Rattle.tp_runs.proofs.basics.Facts.{each_new_mail}
 use Rattle.tp_types.proofs.EachLemmas.{at_made, at_set, each_append, each_as, each_drop, each_flat_map, each_get, each_map, each_more, placed_none}
 use Rattle.tp_runs.proofs.basics.Stores.{opened_each}
@@ -165,9 +165,9 @@ orders_bounded sc w valid agrees serial n mail at part s sent up in_range items_
     ∙ grown_in_range sc s.store.values part.log (Some (log.Settled (settled_as d))) (serial.servers at.0 part up.found).tested in_range in
     values_most sc (values_by s.store.values d.outcome (deeds_in (entry_at s d.txn))) valid (values_length (length sc.items) d.outcome s.store.values (deeds_in (entry_at s d.txn)) items_are) range
 
-receipt_by_server_in_bounds : (sc : Scenario) (w : State) → IsValid sc → WaitRightly sc w → IsSound sc w → Agrees sc w → Pairs sc w → Serial sc w → Bounds sc w → (n : ℕ) (mail : Mail) (at : ServerId) (part : Part Server) (s : Server)
+receipt_by_server_in_bounds : (sc : Scenario) (w : State) → IsValid sc → WaitRightly sc w → IsSound sc w → PreparesNamed w → Agrees sc w → Pairs sc w → Serial sc w → Bounds sc w → (n : ℕ) (mail : Mail) (at : ServerId) (part : Part Server) (s : Server)
     → WasSent w n mail (actor.Server at) → IsServerUp w at part s → MoveBounds sc (server_move w.actors at (acts_by (server_fact at) [] part.log (server_row sc s mail)))
-receipt_by_server_in_bounds sc w valid rightly sound agrees pairs serial h n mail at part s sent up =
+receipt_by_server_in_bounds sc w valid rightly sound named agrees pairs serial h n mail at part s sent up =
     let M = IsAsked sc w.actors.coordinators at in
     let effect = server_row sc s mail in
     let old : IsBoundedServer sc s = of_some (IsBoundedServer sc) part.up s up.up (h.servers at.0 part up.found).state in
@@ -178,7 +178,7 @@ receipt_by_server_in_bounds sc w valid rightly sound agrees pairs serial h n mai
     let row = server_row_bounds sc M s mail (rightly at part s up) before (each_get IsBoundedMail w.mails n mail h.mails sent.sent) was.reads clear
     (orders_bounded sc w valid agrees serial n mail at part s sent up old.in_range was.reads.items_are) in
     let after : UpOnLog sc effect.state (log_with part.log effect.reaction.append) =
-    acts_on_log sc M s part.log effect was (server_agrees sc w at part s agrees up) keeps (record_ends sc w at part effect.reaction.append agrees up.found (server_lawful sc w rightly agrees n mail at part s sent up).rests) in
+    acts_on_log sc M s part.log effect was (server_agrees sc w at part s agrees up) keeps (record_ends sc w at part effect.reaction.append agrees up.found (server_lawful sc w rightly named agrees n mail at part s sent up).rests) in
     let range : are_in_range sc.items effect.state.store.values ≡ true =
     ap (are_in_range sc.items) after.values ∙ log_in_range sc part.log effect.reaction.append (serial.servers at.0 part up.found).tested (h.servers at.0 part up.found).in_range in
     server_acts_bounds sc w at part (Some effect.state) [] effect.reaction.append effect.reaction.letters serial h up.found
@@ -224,11 +224,11 @@ begun_bounds sc w valid h txn part c up new =
 
 -- ---- steps
 
-bounds_cases : (sc : Scenario) (w : State) → IsValid sc → WaitRightly sc w → IsSound sc w → Agrees sc w → Pairs sc w → Serial sc w → Bounds sc w → Cases sc w (λ taken move. MoveBounds sc move)
-bounds_cases sc w valid rightly sound agrees pairs serial h =
+bounds_cases : (sc : Scenario) (w : State) → IsValid sc → WaitRightly sc w → IsSound sc w → PreparesNamed w → Agrees sc w → Pairs sc w → Serial sc w → Bounds sc w → Cases sc w (λ taken move. MoveBounds sc move)
+bounds_cases sc w valid rightly sound named agrees pairs serial h =
     record {
       idle = idle_bounds sc w h;
-      server_received = λ n mail at part s sent up. receipt_by_server_in_bounds sc w valid rightly sound agrees pairs serial h n mail at part s sent up;
+      server_received = λ n mail at part s sent up. receipt_by_server_in_bounds sc w valid rightly sound named agrees pairs serial h n mail at part s sent up;
       coordinator_received = λ n mail txn part c sent up. receipt_by_coordinator_in_bounds sc w valid h n mail txn part c sent up;
       authority_told = λ n mail sent. still_bounds sc w w.actors.authority w.actors.master [] _ h tt (authority_says_none w.actors.authority mail.letter.body);
       master_told = λ n mail sent. still_bounds sc w w.actors.authority w.actors.master [] _ h tt (master_says_none w.actors.master mail.letter.body);
@@ -243,10 +243,10 @@ bounds_cases sc w valid rightly sound agrees pairs serial h =
     }
 
 -- a step that is not refused keeps all values within their bounds
-pub bounds_next : (sc : Scenario) (m : Machine) (taken : Step) → IsValid sc → IsStepOf sc taken → refusal m.state taken ≡ None → WaitRightly sc m.state → IsSound sc m.state → Agrees sc m.state → Pairs sc m.state → Serial sc m.state
+pub bounds_next : (sc : Scenario) (m : Machine) (taken : Step) → IsValid sc → IsStepOf sc taken → refusal m.state taken ≡ None → WaitRightly sc m.state → IsSound sc m.state → PreparesNamed m.state → Agrees sc m.state → Pairs sc m.state → Serial sc m.state
     → Bounds sc m.state → Bounds sc (machine_after sc m taken).state
-bounds_next sc m taken valid exists allowed rightly sound agrees pairs serial h =
-    machine_after_by sc m (λ taken move. MoveBounds sc move) (Bounds sc) (bounds_cases sc m.state valid rightly sound agrees pairs serial h) agrees.coordinator_count
+bounds_next sc m taken valid exists allowed rightly sound named agrees pairs serial h =
+    machine_after_by sc m (λ taken move. MoveBounds sc move) (Bounds sc) (bounds_cases sc m.state valid rightly sound named agrees pairs serial h) agrees.coordinator_count
     (λ taken move t. state_after_bounds sc m.state taken move h t) h taken exists allowed
 
 -- ---- before the first step

@@ -14,7 +14,7 @@ use Rattle.tp_model.specs.Words.{Actor, Answer, Cause, DoneReply, Fact, Letter, 
 use Rattle.tp_coord.specs.Row.{awaited_in, coordinator_row, is_from, next_turn, prepare_letter, repeats, requests, staple_of, submit_row}
 use Rattle.tp_coord.specs.State.{Coordinator}
 use Rattle.tp_runs.proofs.deaths.Fit.{Adds, AnswerSent, BodyDies, Death, LetterDies, WhatDies, body_dies_still, death_shown}
-use Rattle.tp_coord.proofs.Rows.{ByOlder, ByProof, ByRefusal, IsEnded, coordinator_by, submit_by, timer_by}
+use Rattle.tp_coord.proofs.Rows.{ByLoss, ByOlder, ByProof, ByRefusal, ByRestart, IsEnded, coordinator_by, submit_by, timer_by}
 use Rattle.tp_machine.specs.Machine.{with_age}
 use Rattle.tp_types.specs.Each.{Each}
 
@@ -67,6 +67,7 @@ coordinator_row_dies sc old place c mail less h own =
       aborted = λ why ended. record { forces = cause_dies why ended; sends = orders_none sc old place c outcome.Abort c.servers };
       updated = λ reply round staple server verdicts named y e. record { forces = λ facts a. tt; sends = (tt, tt) };
       acknowledged = λ ack ended awaited server k. record { forces = λ facts a. tt; sends = tt };
+      inquired = λ inquiry ended awaited server k. record { forces = λ facts a. tt; sends = orders_none sc old place c ended (server ∷ []) };
     })
   where
     cause_dies : (why : Cause) → IsEnded sc c mail why → (facts : List Fact) → Adds old facts place → WhatDies sc facts place (what.Decided c.txn (decision.Abort why))
@@ -80,6 +81,8 @@ coordinator_row_dies sc old place c mail less h own =
         (subst (λ (t : TxnId). was_submitted t mail.sent facts ≡ true) same told.1) less there
     cause_dies _ (ByProof reply round staple server verdicts verdict y e) facts a = tt
     cause_dies _ (ByRefusal reply round staple server number value k) facts a = tt
+    cause_dies _ (ByRestart done server asked k) facts a = tt
+    cause_dies _ (ByLoss reply round staple server k) facts a = tt
 
 -- the submission of a transaction
 pub submit_row_dies : (sc : Scenario) (old : List Fact) (place : ℕ) (c : Coordinator) → ActDies sc old place (with_age (submit_row sc c) place)

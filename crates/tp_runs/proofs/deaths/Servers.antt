@@ -207,6 +207,7 @@ server_row_dies sc facts place s mail past rightly known h =
           };
       voted_again = λ p entry cast k. still_dies sc facts place s _ h (tt, tt);
       refused = λ p entry number value k. closes_dies sc facts place s (refused_as p _) (no_letter s p _) h tt;
+      lost = λ p k. closes_dies sc facts place s (refused_as p _) (no_letter s p _) h tt;
       refused_again = λ p settled why k. still_dies sc facts place s _ h (tt, tt);
       settled = λ d k. closes_dies sc facts place s (settled_as d) (ack_letter s d.txn) h tt;
       acknowledged = λ d settled k. still_dies sc facts place s _ h (tt, tt);

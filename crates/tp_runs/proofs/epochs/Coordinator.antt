@@ -139,6 +139,7 @@ coordinator_row_keeps sc E A c mail homes h servers m =
       acknowledged = λ ack ended awaited at k.
           plain_keeps sc E A c.txn (Some (record c { phase = phase.Ending ended (coord.without awaited at) })) []
           (record { places = h.places; past = h.past; undecided = λ unsure. absurd (cc) }) tt;
+      inquired = λ inquiry ended awaited at k. plain_keeps sc E A c.txn (Some c) (coord.decide_letters c ended (at ∷ [])) h (orders_plain c ended (at ∷ []));
     })
   where
     sent : (query : ℕ) (now : Gained) (next : ServerId) → IsPassed sc c mail (point.Ran query) now → RowKeeps sc E A c (coord.sends_query sc (with_gained c now) (coord.next_number query) next)

@@ -341,6 +341,7 @@ server_row_made sc A s kept mail waits h first m =
           votes_made sc A s kept p (verdicts_on sc (with_wants s p.want) txn staple p.want entry.deeds) entry h k.found (eqb-true entry.epoch p.epoch k.same_epoch) asked;
       voted_again = λ p entry cast k. record { made = h; forces = tt; replies = (tt, tt) };
       refused = λ p entry number value k. ends_made sc A s kept (server.refused_as p _) (server.no_letter s p _) h tt;
+      lost = λ p k. ends_made sc A s kept (server.refused_as p _) (server.no_letter s p _) h tt;
       refused_again = λ p settled why k. record { made = h; forces = tt; replies = (tt, tt) };
       settled = λ d k. ends_made sc A s kept (server.settled_as d) (server.ack_letter s d.txn) h tt;
       acknowledged = λ d settled k. record { made = h; forces = tt; replies = (tt, tt) };

@@ -7,8 +7,10 @@ use Rattle.tp_types.specs.Effect.{Effect, ignores, sends}
 use Rattle.tp_model.specs.Ids.{same_server}
 use Rattle.tp_model.specs.Queries.{item_of, query_at}
 use Rattle.tp_model.specs.Words.actor
+use Rattle.tp_model.specs.Words.answer
 use Rattle.tp_model.specs.Words.body
 use Rattle.tp_model.specs.Words.cause
+use Rattle.tp_model.specs.Words.no
 use Rattle.tp_model.specs.Words.outcome
 use Rattle.tp_model.specs.Words.query
 use Rattle.tp_model.specs.Words.{Actor, AdminId, Body, Cause, DoneReply, Instance, Item, Mail, Outcome, Query, Scenario, ServerId, Staple, Transaction, TxnId, Verdict, Version, VoteReply}
@@ -17,7 +19,7 @@ use Rattle.tp_runs.proofs.basics.Ids.{same_txn_from}
 use Rattle.tp_types.proofs.EachLemmas.{by_cond, each_append, each_as, each_filter, each_flat_map, each_found, each_get, each_map, each_more, each_passing, some_if_not_none}
 use Rattle.tp_runs.proofs.ids.Valid.{IsValid, IsValidItem}
 use Rattle.tp_scheme.specs.declared.moves.Point.TheVariants as point
-use Rattle.tp_coord.proofs.Rows.{AllTrue, ByOlder, ByProof, ByRefusal, Gained, HasVoted, IsDiedAnswer, IsEnded, IsNo, IsPassed, IsYes, QueryRan, coordinator_by, gains_instances, submit_by, timer_by, with_gained}
+use Rattle.tp_coord.proofs.Rows.{AllTrue, ByLoss, ByOlder, ByProof, ByRefusal, ByRestart, Gained, HasVoted, IsAwaitedAnswer, IsEnded, IsNo, IsPassed, IsYes, QueryRan, coordinator_by, gains_instances, submit_by, timer_by, with_gained}
 use Rattle.tp_model.specs.Deeds.{deed_of}
 use Rattle.tp_runs.specs.Sound.{AreSoundVerdicts, AreWanted, IsActor, IsItemOf, IsRefusalOf, IsSoundAnswer, IsSoundBallot, IsSoundBody, IsSoundCause, IsSoundCoordinator, IsSoundCoordinatorRecord, IsSoundDeed, IsSoundInstance, IsSoundLetter, IsSoundPhase, IsSoundProof, IsSoundQuery, IsSoundMet, IsSoundRefusal, IsSoundRound, IsSoundStaple, IsSoundTarget, IsSoundVerdict, IsSoundWanted, IsVersion, ProvesEach, query_in}
 use Rattle.tp_scheme.specs.Moves.{proves_each}
@@ -327,7 +329,7 @@ yes_sound sc c mail reply round staple server verdicts m y =
 
 -- the reason of an awaited vote NO
 no_sound : (sc : Scenario) (c : Coordinator) (mail : Mail) (reply : VoteReply) (round : Round) (staple : Staple) (server : ServerId) (number : ℕ) (value : ℤ) → IsSoundRefusal sc mail.letter.from mail.letter.body
-    → IsSoundBody sc (actor.Coordinator c.txn) mail.letter.body → IsNo c mail reply round staple server number value → IsSoundCause sc c.txn (cause.No (refused_by server number value))
+    → IsSoundBody sc (actor.Coordinator c.txn) mail.letter.body → IsNo c mail reply round staple server (no.Range number value) → IsSoundCause sc c.txn (cause.No (refused_by server number value))
 no_sound sc c mail reply round staple server number value r m k =
     let said = subst (IsSoundBody sc (actor.Coordinator c.txn)) k.said_is m in
     let refusal : IsRefusalOf sc server reply.txn reply.vote = subst (λ (told : Body). IsSoundRefusal sc (actor.Server server) told) k.said_is (subst (λ (from : Actor). IsSoundRefusal sc from mail.letter.body) k.from_is r) in
@@ -336,7 +338,7 @@ no_sound sc c mail reply round staple server number value r m k =
 
 -- the reason of an awaited answer that an older transaction stood in the way
 died_sound : (sc : Scenario) (c : Coordinator) (mail : Mail) (done : DoneReply) (server : ServerId) (asked : Query) (other : TxnId) → IsValid sc → IsSoundBody sc (actor.Coordinator c.txn) mail.letter.body
-    → IsDiedAnswer sc c mail done server asked other → IsSoundCause sc c.txn (cause.Died (died_for server done other mail.sent))
+    → IsAwaitedAnswer sc c mail done server asked (answer.Died other) → IsSoundCause sc c.txn (cause.Died (died_for server done other mail.sent))
 died_sound sc c mail done server asked other valid m k =
     let said = subst (IsSoundBody sc (actor.Coordinator c.txn)) k.said_is m in
     let at : IsServerOf sc asked server = server_found sc asked server (slice_get sc.items (item_of asked).0) valid refl k.server_is in
@@ -365,6 +367,7 @@ coordinator_row_sound sc c mail valid h a r m =
           let replied_round = after_reply round server verdicts in
           asks_sound sc c (after_judgement replied_round None) h (next_sound sc c.txn replied_round named e (replied reply round staple server verdicts y));
       acknowledged = λ ack ended awaited server k. acknowledged_sound sc c ended awaited server h (awaits k.ending);
+      inquired = λ inquiry ended awaited server k. record { same_txn = refl; state_is = h; forces = tt; sends_only = orders_sound sc c ended (server ∷ []) h (subst (IsActor sc) k.from_is a, tt) };
     })
   where
     awaits : {awaited : Phase} → c.phase ≡ awaited → IsSoundPhase sc c.txn awaited
@@ -388,6 +391,8 @@ coordinator_row_sound sc c mail valid h a r m =
     cause_sound _ (ByOlder done server asked other k) = died_sound sc c mail done server asked other valid m k
     cause_sound _ (ByProof reply round staple server verdicts verdict y e) = denied_sound sc c.txn (after_reply round server verdicts) verdict e (replied reply round staple server verdicts y).targets
     cause_sound _ (ByRefusal reply round staple server number value k) = no_sound sc c mail reply round staple server number value r m k
+    cause_sound _ (ByRestart done server asked k) = (server_found sc asked server (slice_get sc.items (item_of asked).0) valid refl k.server_is).exists
+    cause_sound _ (ByLoss reply round staple server k) = subst (IsActor sc) k.from_is a
 
 -- ---- timers
 

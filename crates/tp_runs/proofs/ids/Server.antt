@@ -391,6 +391,9 @@ server_row_sound sc s mail valid rightly h m =
           let exists = (said k.said_is).txn in
           let query : IsQueryOf sc p.txn number s.server = refused_query sc s p.txn number value h k.outside in
           closes_sound sc s (refused_as p _) (no_letter s p _) h (record { txn = exists; why = query }) (no_letter_sound sc s p _ h exists query);
+      lost = λ p k.
+          let exists = (said k.said_is).txn in
+          closes_sound sc s (refused_as p no.Restarted) (no_letter s p no.Restarted) h (record { txn = exists; why = tt }) (no_letter_sound sc s p no.Restarted h exists tt);
       refused_again = λ p settled why k.
           let exists = (said k.said_is).txn in
           let reason : IsReasonOf sc s.server p.txn why = settled_reason sc s p.txn settled why h k.found k.why_is in

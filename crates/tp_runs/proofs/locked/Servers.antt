@@ -396,6 +396,7 @@ row_taking sc s mail rightly known taken h =
           record { state = voted_locked sc s.entries s.locks p.txn.0 entry voted k.found refl refl h; places = length-set s.entries p.txn.0 (Some voted) };
       voted_again = λ p entry cast k. record { state = h; places = refl };
       refused = λ p entry number value k. record { state = closed_locked sc s.entries s.locks p.txn taken h; places = length-set s.entries p.txn.0 None };
+      lost = λ p k. record { state = closed_locked sc s.entries s.locks p.txn taken h; places = length-set s.entries p.txn.0 None };
       refused_again = λ p settled why k. record { state = h; places = refl };
       settled = λ d k. record { state = closed_locked sc s.entries s.locks d.txn taken h; places = length-set s.entries d.txn.0 None };
       acknowledged = λ d settled k. record { state = h; places = refl };

@@ -100,8 +100,9 @@ votes_at_taken sc s p entry (Some cast) e =
     by_cond HasTaken (cast.turn == p.turn) (λ again. e) (λ other. by_cond HasTaken (nat_lt p.turn cast.turn) (λ earlier. e) (λ later. evaluates_taken sc s p entry p.staple e))
 
 to_vote_taken : (sc : Scenario) (s : Server) (p : PrepareRequest) (entry : Option Entry) → s.locks.grants ≡ [] → HasTaken (asked_to_vote sc s p entry)
-to_vote_taken sc s p None e = e
-to_vote_taken sc s p (Some entry) e = by_cond HasTaken (not (entry.epoch == p.epoch)) (λ another. e) (λ same. votes_at_taken sc s p entry entry.ballot e)
+to_vote_taken sc s p None e = ends_taken sc s (refused_as p no.Restarted) (no_letter s p no.Restarted)
+to_vote_taken sc s p (Some entry) e =
+    by_cond HasTaken (not (entry.epoch == p.epoch)) (λ another. ends_taken sc s (refused_as p no.Restarted) (no_letter s p no.Restarted)) (λ same. votes_at_taken sc s p entry entry.ballot e)
 
 refused_taken : (s : Server) (p : PrepareRequest) (why : Option No) → s.locks.grants ≡ [] → HasTaken (on_refused s p why)
 refused_taken s p None e = e

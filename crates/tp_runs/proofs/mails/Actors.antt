@@ -92,6 +92,7 @@ server_row_sends sc s mail waits =
           omega (arith, same, waits_set s.entries p.txn.0 (Some (record entry { ballot = Some (server.ballot_of (server.prepared_record (with_wants s p.want) p entry (verdicts_on sc (with_wants s p.want) txn staple p.want entry.deeds))) })));
       voted_again = λ p entry cast k. omega arith;
       refused = λ p entry number value k. omega (arith, waits_set s.entries p.txn.0 None);
+      lost = λ p k. omega (arith, waits_set s.entries p.txn.0 None);
       refused_again = λ p settled why k. omega arith;
       settled = λ d k. omega (arith, waits_set s.entries d.txn.0 None);
       acknowledged = λ d settled k. omega arith;
@@ -180,6 +181,7 @@ coordinator_row_sends most sc c mail one servers h =
       updated = λ reply round staple server verdicts named y e.
           record { awaits = omega (arith, awaits_in most c _ h y.checking, replied_length round.targets server verdicts, updated_length (after_reply round server verdicts) named e); letters = one };
       acknowledged = λ ack ended awaited server a. record { awaits = without_few most awaited server (awaits_in most c _ h a.ending); letters = omega arith };
+      inquired = λ inquiry ended awaited server k. record { awaits = h; letters = one };
     })
 
 -- the submission of a transaction

@@ -480,6 +480,11 @@ coordinator_row_asks sc declared P c mail valid homes h m =
         numbered = tt;
         requests = tt;
       };
+      inquired = λ inquiry ended awaited server k. record {
+        next = λ at. still_asks sc declared P c c at h refl;
+        numbered = h.numbered;
+        requests = orders_ask sc declared c.txn (λ at. with_asker (P at) (asker_up at c)) c ended (server ∷ []);
+      };
     })
   where
     awaited : (done : DoneReply) (server : ServerId) (asked : Query) (value : ℤ) → IsRanAnswer sc c mail done server asked value → IsAwaited sc declared P c done asked server value

@@ -635,14 +635,13 @@ settles_pairs sc A s kept d h fresh exists decided =
       replies = (record { from_is = refl; says = tt }, tt);
     }
 
--- the server refuses what it has not voted on
-refuses_pairs : (sc : Scenario) (A : TxnId → Option Asker) (s : Server) (kept : List Record) (p : PrepareRequest) (entry : Entry) (why : No) → ServerPaired sc A s kept → settled_in p.txn kept ≡ None → p.txn.0 < length sc.txns
-    → entry_at s p.txn ≡ Some entry → entry.ballot ≡ None → RequestPairs sc s.server A (λ txn. pair_up txn (A txn) s kept) (body.Prepare p) → RowPairs sc A s kept (closes s (refused_as p why) (no_letter s p why))
-refuses_pairs sc A s kept p entry why h fresh exists found unvoted asked =
+-- the server refuses where no entry of the epoch that is named was voted on
+refuses_pairs : (sc : Scenario) (A : TxnId → Option Asker) (s : Server) (kept : List Record) (p : PrepareRequest) (why : No) → ServerPaired sc A s kept → settled_in p.txn kept ≡ None → p.txn.0 < length sc.txns
+    → ((entry : Entry) → entry_at s p.txn ≡ Some entry → entry.epoch ≡ p.epoch → entry.ballot ≡ None) → RequestPairs sc s.server A (λ txn. pair_up txn (A txn) s kept) (body.Prepare p) → RowPairs sc A s kept (closes s (refused_as p why) (no_letter s p why))
+refuses_pairs sc A s kept p why h fresh exists unvoted asked =
     record {
       next = ends_next sc A s kept (refused_as p why) (no_letter s p why) h fresh exists
-          (λ declared there. end.refuses (site_of sc s.server.0 declared) (pair_up p.txn (A p.txn) s kept) p refl (h.fits p.txn declared there) (asked declared there)
-          (λ other is epoch. subst (λ (e : Entry). e.ballot ≡ None) (same_Some entry other (sym found ∙ is)) unvoted));
+          (λ declared there. end.refuses (site_of sc s.server.0 declared) (pair_up p.txn (A p.txn) s kept) p refl (h.fits p.txn declared there) (asked declared there) unvoted);
       places = length-set s.entries p.txn.0 None ∙ h.places;
       replies = (record { from_is = refl; says = λ declared there. tt }, tt);
     }
@@ -696,7 +695,10 @@ server_row_pairs sc A s kept mail rightly h sound m asked =
           (subst (IsSoundBody sc to) k.said_is m).txn refl (record { epoch = refl; deeds = refl; verdicts = inr (numbers_kept sc (with_wants s p.want) txn staple p.want entry.deeds) }) (subst (RequestPairs sc s.server A P) k.said_is asked);
       voted_again = λ p entry cast k. votes_again_pairs sc A s kept p entry cast h k.found k.ballot_is;
       refused = λ p entry number value k.
-          refuses_pairs sc A s kept p entry _ h (open_unsettled s kept p.txn h.agrees k.unsettled) (subst (IsSoundBody sc to) k.said_is m).txn k.found k.unvoted
+          refuses_pairs sc A s kept p _ h (open_unsettled s kept p.txn h.agrees k.unsettled) (subst (IsSoundBody sc to) k.said_is m).txn
+          (λ other is epoch. subst (λ (e : Entry). e.ballot ≡ None) (same_Some entry other (sym k.found ∙ is)) k.unvoted) (subst (RequestPairs sc s.server A P) k.said_is asked);
+      lost = λ p k.
+          refuses_pairs sc A s kept p _ h (open_unsettled s kept p.txn h.agrees k.unsettled) (subst (IsSoundBody sc to) k.said_is m).txn (λ entry is epoch. absurd (k.elsewhere entry is epoch))
           (subst (RequestPairs sc s.server A P) k.said_is asked);
       refused_again = λ p settled why k. refused_again_pairs sc A s kept p why h;
       settled = λ d k.

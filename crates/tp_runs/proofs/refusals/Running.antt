@@ -82,7 +82,7 @@ pub record IsRunning (sc : Scenario) (w : State) (txn : TxnId) (declared : Trans
 pub record Remembers (sc : Scenario) (w : State) : Type 0 where
   pub epochs : Epochs sc w
   pub told : Told w
-  pub restarts : Restarts w
+  pub restarts : Restarts sc w
 
 pub asker_is : (w : State) (txn : TxnId) (at : ℕ) (awaiting : IsAwaiting w.actors.coordinators txn) → (pair_at w.actors txn at).asker ≡ Some (asker_of at awaiting.c)
 asker_is w txn at awaiting =
@@ -147,7 +147,7 @@ own_crash sc at declared (what.Crashed _) own e = absurd (cc)
 own_crash sc at declared _ own e = absurd (cc)
 
 -- one with an item of the transaction is among its servers
-own_server_of : (sc : Scenario) (at : ServerId) (txn : TxnId) (declared : Transaction) → slice_get sc.txns txn.0 ≡ Some declared → IsServer sc at → has_item_at sc at txn ≡ true → is_server_of sc at declared ≡ true
+pub own_server_of : (sc : Scenario) (at : ServerId) (txn : TxnId) (declared : Transaction) → slice_get sc.txns txn.0 ≡ Some declared → IsServer sc at → has_item_at sc at txn ≡ true → is_server_of sc at declared ≡ true
 own_server_of sc at txn declared there exists item =
     let own = servers_of sc declared in
     let each : Each (λ (s : ServerId). is_server_of sc s declared ≡ true) own =

@@ -17,15 +17,14 @@ use Rattle.tp_model.specs.Words.log
 use Rattle.tp_model.specs.Words.no
 use Rattle.tp_model.specs.Words.outcome
 use Rattle.tp_model.specs.Words.step
-use Rattle.tp_model.specs.Words.vote
 use Rattle.tp_model.specs.Words.what
-use Rattle.tp_model.specs.Words.{Actor, Body, Cause, DecideRequest, Fact, Letter, Mail, Record, Scenario, ServerId, Settled, Step, Transaction, TxnId, VoteReply, What}
+use Rattle.tp_model.specs.Words.{Actor, Cause, DecideRequest, Fact, Letter, Mail, Record, Scenario, ServerId, Settled, Step, Transaction, TxnId, VoteReply, What}
 use Rattle.tp_runs.proofs.ids.Valid.{IsValid}
 use Rattle.tp_runs.proofs.agreement.Coordinator.{idle_is}
 use Rattle.tp_runs.proofs.agreement.CoordinatorActs.{coordinator_facts}
 use Rattle.tp_runs.proofs.agreement.ServerActs.{each_server_fact, server_facts}
-use Rattle.tp_runs.proofs.agreement.Steps.{mail_rests, own_txn}
-use Rattle.tp_runs.proofs.agreement.World.{Agrees, BodyRests, MailRests, VoteRests}
+use Rattle.tp_runs.proofs.agreement.Steps.{mail_rests, no_settled, own_txn}
+use Rattle.tp_runs.proofs.agreement.World.{Agrees, BodyRests, MailRests}
 use Rattle.tp_runs.proofs.basics.Facts.{ArePast, before_past, facts_after, grows_with_facts}
 use Rattle.tp_runs.proofs.basics.Ids.{same_txn_from, same_txn_is, server_number}
 use Rattle.tp_types.proofs.EachLemmas.{at_made, each_append, each_as, each_get}
@@ -38,7 +37,7 @@ use Rattle.tp_runs.proofs.refusals.World.{AreAbortedRuns, IsAwaiting, IsRunBefor
 use Rattle.tp_runs.proofs.serial_data.Settling.{IsQuiet}
 use Rattle.tp_runs.proofs.serial_data.World.{Serial}
 use Rattle.tp_scheme.specs.declared.moves.Point.TheVariants as point
-use Rattle.tp_coord.proofs.Rows.{ByOlder, ByProof, ByRefusal, Gained, IsEnded, IsPassed, QueryRan, coordinator_by, submit_by, with_gained}
+use Rattle.tp_coord.proofs.Rows.{ByLoss, ByOlder, ByProof, ByRefusal, ByRestart, Gained, IsEnded, IsPassed, QueryRan, coordinator_by, submit_by, with_gained}
 use Rattle.tp_server.proofs.Rows.{server_by}
 use Rattle.tp_runs.proofs.walks.Steps.{Cases, IsCoordinatorUp, IsServerUp, SaysIdle, WasSent, WaitRightly, machine_after_by}
 use Rattle.tp_recover.specs.Log.{settled_in, settlement_in}
@@ -130,6 +129,7 @@ still_undecided sc c mail =
       aborted = λ why ended e. absurd (cc);
       updated = λ reply round staple server verdicts named y f e. record { undecided = ap is_undecided y.checking; keeps = λ prepares. record { prepares = refl; deeds = refl } };
       acknowledged = λ ack ended awaited server a e. absurd (cc);
+      inquired = λ inquiry ended awaited server k e. record { undecided = e; keeps = keeps_same c };
     })
   where
     ran_open : (new : Coordinator) (query : ℕ) (now : Gained) → IsPassed sc c mail (point.Ran query) now → LeavesOpen c new
@@ -158,14 +158,6 @@ abort_shown sc w happened txn server number value past h = λ declared e.
     refused_stays sc w.facts w.facts (before place (facts_after w happened)) happened place place place txn (refused_by server number value) declared
     (λ old. ap (list_any (is_settled_as server txn outcome.Abort)) all ∙ old) (omega arith) (omega arith) (h declared e)
 
--- what a vote NO rests on
-no_settled : (w : State) (from : Actor) (said : Body) (reply : VoteReply) (server : ServerId) (number : ℕ) (value : ℤ) (sc : Scenario) (to : Actor) → BodyRests sc w.actors from to said → said ≡ body.Vote reply → from ≡ actor.Server server
-    → reply.vote ≡ vote.No (no.Range number value)
-    → settled_at w.actors.servers server.0 reply.txn ≡ Some (record { txn = reply.txn; outcome = outcome.Abort; why = Some (no.Range number value) })
-no_settled w from said reply server number value sc to rests e f g =
-    let here : BodyRests sc w.actors (actor.Server server) to (body.Vote reply) = subst (λ (b : Body). BodyRests sc w.actors (actor.Server server) to b) e (subst (λ (a : Actor). BodyRests sc w.actors a to said) f rests) in
-    subst (VoteRests w.actors server reply.txn) g here
-
 coordinator_row_shown : (sc : Scenario) (w : State) (txn : TxnId) (part : Part Coordinator) (c : Coordinator) (n : ℕ) (mail : Mail) → IsSound sc w → Agrees sc w → Refusals sc w → WasSent w n mail (actor.Coordinator txn)
     → IsCoordinatorUp w txn part c → IfSome (coordinator_row sc c mail).reaction.append (DecisionShown sc w (coordinator_facts (coordinator_row sc c mail).reaction.append))
 coordinator_row_shown sc w txn part c n mail sound a h sent up =
@@ -180,6 +172,7 @@ coordinator_row_shown sc w txn part c n mail sound a h sent up =
       aborted = λ why ended. shown why ended;
       updated = λ reply round staple server verdicts named y f. tt;
       acknowledged = λ ack ended awaited server k. tt;
+      inquired = λ inquiry ended awaited server k. tt;
     })
   where
     reply_txn : (reply : VoteReply) → mail.letter.body ≡ body.Vote reply → reply.txn ≡ txn
@@ -193,10 +186,12 @@ coordinator_row_shown sc w txn part c n mail sound a h sent up =
         → WhatRefused sc (facts_after w (what.Decided c.txn (decision.Abort why) ∷ [])) (length w.steps) (what.Decided c.txn (decision.Abort why))
     shown _ (ByOlder done server asked other k) = tt
     shown _ (ByProof reply round staple server verdicts verdict y e) = tt
+    shown _ (ByRestart done server asked k) = tt
+    shown _ (ByLoss reply round staple server k) = tt
     shown _ (ByRefusal reply round staple server number value k) =
         let own : c.txn ≡ txn = own_txn sc w txn part c sound up.found up.up in
         let of_txn : reply.txn ≡ txn = reply_txn reply k.said_is in
-        let settled = no_settled w mail.letter.from mail.letter.body reply server number value sc mail.letter.to (each_get (MailRests sc w.actors) w.mails n mail a.mails sent.sent) k.said_is k.from_is k.vote_is in
+        let settled = no_settled sc w mail.letter.from mail.letter.to mail.letter.body reply server (no.Range number value) (each_get (MailRests sc w.actors) w.mails n mail a.mails sent.sent) k.said_is k.from_is k.vote_is in
         let there : settled_at w.actors.servers server.0 txn ≡ Some (record { txn = txn; outcome = outcome.Abort; why = Some (no.Range number value) }) =
         subst (λ (t : TxnId). settled_at w.actors.servers server.0 t ≡ Some (record { txn = t; outcome = outcome.Abort; why = Some (no.Range number value) })) of_txn settled in
         let awaiting : IsAwaiting w.actors.coordinators txn = record { part = part; c = c; found = up.found; up = up.up; undecided = ap is_undecided k.checking } in
@@ -281,6 +276,7 @@ server_row_shown sc w n mail at part s valid rightly sound a pairs serial known 
             prepares = λ declared there. asked_prepares sc w n mail at p declared awaiting pairs sent k.said_is there;
             why = refusal_shown sc w n mail at part s p entry number value valid sound a pairs serial known h sent up k awaiting;
           };
+      lost = λ p k awaiting. record { prepares = λ declared there. asked_prepares sc w n mail at p declared awaiting pairs sent k.said_is there; why = tt };
       refused_again = λ p settled why k. tt;
       settled = λ d k awaiting. record { prepares = λ declared there. absurd (not_ordered d k.said_is awaiting); why = tt };
       acknowledged = λ d settled k. tt;

@@ -3,12 +3,12 @@ use Rattle.std.proofs.Common.{IfSome, List, None, Option, Some, [], ap, map, ref
 use Rattle.tp_types.specs.Effect.{Effect}
 use Rattle.tp_model.specs.Words.body
 use Rattle.tp_model.specs.Words.outcome
-use Rattle.tp_model.specs.Words.{Actor, DoneReply, Mail, Outcome, Scenario, ServerId, Staple, TxnId}
+use Rattle.tp_model.specs.Words.{Actor, Cause, DoneReply, Mail, Outcome, Scenario, ServerId, Staple, TxnId}
 use Rattle.tp_types.proofs.EachLemmas.{placed_set}
 use Rattle.tp_types.specs.Each.{Each, EachPlaced}
 use Rattle.tp_machine.specs.Machine.{with_age}
 use Rattle.tp_scheme.specs.declared.moves.Point.TheVariants as point
-use Rattle.tp_coord.proofs.Rows.{Gained, IsPassed, QueryRan, coordinator_by, submit_by, timer_by, with_gained}
+use Rattle.tp_coord.proofs.Rows.{Gained, IsEnded, IsPassed, QueryRan, coordinator_by, submit_by, timer_by, with_gained}
 use Rattle.tp_coord.specs.Row as coord
 use Rattle.tp_coord.specs.State.{Coordinator}
 use Rattle.tp_round.specs.declared.round.Round.{Round}
@@ -17,12 +17,13 @@ use Rattle.tp_runs.proofs.basics.Phases.{is_undecided}
 use Rattle.tp_runs.proofs.basics.Rounds.{EachServer, each_missing, missing_in}
 use Rattle.tp_runs.proofs.epochs.Coordinator.{some_is}
 use Rattle.tp_runs.proofs.epochs.Kept.{KeepsEpoch, PhaseKept, from_server, kept_epoch}
-use Rattle.tp_runs.proofs.restarts.Since.{AnsweredSince, BodySince, DoneSince, KeptSince, LetterSince}
+use Rattle.tp_runs.proofs.restarts.Since.{AnsweredSince, BodySince, CauseSince, DecidesSince, DoneSince, KeptSince, LetterSince}
 
--- an act of a coordinator
-pub record ActSince (S : TxnId → ServerId → ℕ → Type 0) (R : TxnId → ServerId → Type 0) (txn : TxnId) (effect : Effect Coordinator) : Type 0 where
+-- an act of a coordinator; L says where work is shown to be lost, and H which coordinators have halted
+pub record ActSince (S : TxnId → ServerId → ℕ → Type 0) (R L : TxnId → ServerId → Type 0) (H : TxnId → Type 0) (txn : TxnId) (effect : Effect Coordinator) : Type 0 where
   pub kept : KeptSince S txn effect.state
   pub letters : Each (LetterSince S R) effect.reaction.letters
+  pub forces : IfSome effect.reaction.append (DecidesSince L H)
 
 -- ---- letters
 
@@ -51,25 +52,27 @@ heard_since S R c from at done from_is own h =
     let given : DoneSince S R at done = subst (λ (a : Actor). AnsweredSince S R a done) (from_server from at from_is) h in
     subst (λ (t : TxnId). S t at done.epoch) own given.epoch
 
--- every row of a coordinator on receipt of a mail, of which other crashes may be known
-pub coordinator_row_since : (S : TxnId → ServerId → ℕ → Type 0) (R Q : TxnId → ServerId → Type 0) (sc : Scenario) (c : Coordinator) (mail : Mail) → KeptSince S c.txn c → (is_undecided c.phase ≡ true → PhaseKept (KeepsEpoch c) c.phase)
-    → BodySince S R mail.letter.from mail.letter.to mail.letter.body → ((done : DoneReply) → mail.letter.body ≡ body.Done done → done.txn ≡ c.txn) → ActSince S Q c.txn (coord.coordinator_row sc c mail)
-coordinator_row_since S R Q sc c mail h round heard own =
-    coordinator_by sc c mail (ActSince S Q c.txn)
+-- every row of a coordinator on receipt of a mail, of which other crashes may be known; the cause of an abort is shown
+pub coordinator_row_since : (S : TxnId → ServerId → ℕ → Type 0) (R Q L : TxnId → ServerId → Type 0) (H : TxnId → Type 0) (sc : Scenario) (c : Coordinator) (mail : Mail) → KeptSince S c.txn c
+    → (is_undecided c.phase ≡ true → PhaseKept (KeepsEpoch c) c.phase) → BodySince S R mail.letter.from mail.letter.to mail.letter.body → ((done : DoneReply) → mail.letter.body ≡ body.Done done → done.txn ≡ c.txn)
+    → ((why : Cause) → IsEnded sc c mail why → CauseSince L H c.txn why) → ActSince S Q L H c.txn (coord.coordinator_row sc c mail)
+coordinator_row_since S R Q L H sc c mail h round heard own shown =
+    coordinator_by sc c mail (ActSince S Q L H c.txn)
     (record {
-      ignored = record { kept = h; letters = tt };
+      ignored = record { kept = h; letters = tt; forces = tt };
       sends_query = λ query now next passed moves home.
           let kept = ran_since query now passed in
-          record { kept = kept; letters = (told_since S (with_gained c now) next (coord.epoch_told (with_gained c now) next) refl kept, tt) };
-      commit_rounds = λ query now passed moves. record { kept = ran_since query now passed; letters = (tt, tt) };
+          record { kept = kept; letters = (told_since S (with_gained c now) next (coord.epoch_told (with_gained c now) next) refl kept, tt); forces = tt };
+      commit_rounds = λ query now passed moves. record { kept = ran_since query now passed; letters = (tt, tt); forces = tt };
       told = λ tell asking k.
           let targets : EachServer (KeepsEpoch c) asking.targets = subst (PhaseKept (KeepsEpoch c)) k.asking (round (ap is_undecided k.asking)) in
-          record { kept = h; letters = prepares_since S Q c (coord.next_turn c) asking (coord.staple_of tell mail.sent) (missing_in asking.targets) h (each_missing (KeepsEpoch c) asking.targets targets) };
-      counted = λ reply asking staple server verdicts y. record { kept = h; letters = tt };
-      decides = λ instances rounds passed. record { kept = h; letters = orders_since S Q c outcome.Commit c.servers };
-      aborted = λ why ended. record { kept = h; letters = orders_since S Q c outcome.Abort c.servers };
-      updated = λ reply asking staple server verdicts named y e. record { kept = h; letters = (tt, tt) };
-      acknowledged = λ ack ended awaited server k. record { kept = h; letters = tt };
+          record { kept = h; letters = prepares_since S Q c (coord.next_turn c) asking (coord.staple_of tell mail.sent) (missing_in asking.targets) h (each_missing (KeepsEpoch c) asking.targets targets); forces = tt };
+      counted = λ reply asking staple server verdicts y. record { kept = h; letters = tt; forces = tt };
+      decides = λ instances rounds passed. record { kept = h; letters = orders_since S Q c outcome.Commit c.servers; forces = tt };
+      aborted = λ why ended. record { kept = h; letters = orders_since S Q c outcome.Abort c.servers; forces = shown why ended };
+      updated = λ reply asking staple server verdicts named y e. record { kept = h; letters = (tt, tt); forces = tt };
+      acknowledged = λ ack ended awaited server k. record { kept = h; letters = tt; forces = tt };
+      inquired = λ inquiry ended awaited server k. record { kept = h; letters = orders_since S Q c ended (server ∷ []); forces = tt };
     })
   where
     heard_here : (done : DoneReply) (server : ServerId) → mail.letter.body ≡ body.Done done → coord.is_from mail.letter.from server ≡ true → S c.txn server done.epoch
@@ -83,12 +86,13 @@ coordinator_row_since S R Q sc c mail h round heard own =
     ran_since _ _ (QueryRan done server asked value k) = with_epoch done server (heard_here done server k.said_is k.from_is)
 
 -- the submission of a transaction
-pub submit_row_since : (S : TxnId → ServerId → ℕ → Type 0) (R : TxnId → ServerId → Type 0) (sc : Scenario) (c : Coordinator) (place : ℕ) → KeptSince S c.txn c → ActSince S R c.txn (with_age (coord.submit_row sc c) place)
-submit_row_since S R sc c place h =
-    submit_by sc c (λ (effect : Effect Coordinator). ActSince S R c.txn (with_age effect place))
+pub submit_row_since : (S : TxnId → ServerId → ℕ → Type 0) (R L : TxnId → ServerId → Type 0) (H : TxnId → Type 0) (sc : Scenario) (c : Coordinator) (place : ℕ) → KeptSince S c.txn c
+    → ActSince S R L H c.txn (with_age (coord.submit_row sc c) place)
+submit_row_since S R L H sc c place h =
+    submit_by sc c (λ (effect : Effect Coordinator). ActSince S R L H c.txn (with_age effect place))
     (record {
-      ignored = record { kept = h; letters = tt };
-      sent = λ server home. record { kept = h; letters = (told_since S c server (coord.epoch_told c server) refl h, tt) };
+      ignored = record { kept = h; letters = tt; forces = tt };
+      sent = λ server home. record { kept = h; letters = (told_since S c server (coord.epoch_told c server) refl h, tt); forces = tt };
     })
 
 -- a request that is sent again

@@ -9,7 +9,7 @@ use Rattle.tp_model.specs.Words.{DoneReply, Letter, Mail, No, PrepareRequest, Qu
 use Rattle.tp_model.specs.Deeds.{deed_of}
 use Rattle.tp_types.proofs.EachLemmas.{each_found, each_more, placed_emptied, placed_set}
 use Rattle.tp_types.specs.Each.{Each}
-use Rattle.tp_server.proofs.Rows.{AreRightWaits, IsAsking, IsFirstHere, IsFurther, IsLateRequest, IsLost, server_by}
+use Rattle.tp_server.proofs.Rows.{AreRightWaits, IsAsking, IsFirstHere, IsFurther, IsLateRequest, IsLost, IsLostVote, server_by}
 use Rattle.tp_server.specs.declared.server.Entry.{Entry}
 use Rattle.tp_server.specs.Row as server
 use Rattle.tp_server.specs.State.{Server}
@@ -28,6 +28,7 @@ pub record RowSince (S : TxnId → ServerId → ℕ → Type 0) (R : TxnId → S
 pub record IsKnownMail (S : TxnId → ServerId → ℕ → Type 0) (R : TxnId → ServerId → Type 0) (s : Server) (mail : Mail) : Type 0 where
   pub present : (q : QueryRequest) → mail.letter.body ≡ body.Query q → S q.txn s.server s.epoch
   pub lost : (q : QueryRequest) → IsLost s mail q → R q.txn s.server
+  pub lost_vote : (p : PrepareRequest) → IsLostVote s mail p → R p.txn s.server
   pub refused : (p : PrepareRequest) (settled : Settled) → IsLateRequest s mail p settled no.Restarted → R p.txn s.server
 
 -- an entry at which a query asks
@@ -89,6 +90,7 @@ server_row_since S R sc s mail waits h known =
           };
       voted_again = λ p entry cast k. still_since S R s _ h (λ e. absurd (cc), tt);
       refused = λ p entry number value k. closes_since S R s (server.refused_as p _) (server.no_letter s p _) h (λ e. absurd (cc)) (λ e. absurd (cc));
+      lost = λ p k. closes_since S R s (server.refused_as p _) (server.no_letter s p _) h (λ e. known.lost_vote p k) (λ e. known.lost_vote p k);
       refused_again = λ p settled why k. still_since S R s _ h (λ e. known.refused p settled (subst (IsLateRequest s mail p settled) (same_why why e) k), tt);
       settled = λ d k. closes_since S R s (server.settled_as d) (server.ack_letter s d.txn) h (λ e. absurd (cc)) tt;
       acknowledged = λ d settled k. still_since S R s _ h (tt, tt);

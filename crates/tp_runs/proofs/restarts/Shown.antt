@@ -32,7 +32,7 @@ pub told_submitted : (txn : TxnId) (place : ℕ) (facts : List Fact) → submitt
 told_submitted txn place facts e = found_before (is_submission txn) facts place (place + 1) e (omega arith)
 
 -- a server in a later epoch than one of after the submission has crashed since
-later_shown : (sc : Scenario) (w : State) (at : ServerId) (part : Part Server) (s : Server) (txn : TxnId) (epoch : ℕ) → Agrees sc w → Told w → Restarts w → IsServerUp w at part s → SinceIn w.steps w.facts txn at epoch
+later_shown : (sc : Scenario) (w : State) (at : ServerId) (part : Part Server) (s : Server) (txn : TxnId) (epoch : ℕ) → Agrees sc w → Told w → Restarts sc w → IsServerUp w at part s → SinceIn w.steps w.facts txn at epoch
     → epoch < epoch_in part.log → ShownIn w.facts (length w.steps) txn at
 later_shown sc w at part s txn epoch a told h up since over =
     crash_shown (is_server_actor at) txn (since.place + 1) (length w.steps) w.facts a.past (told_submitted txn since.place w.facts (told txn since.place since.submitted))
@@ -45,7 +45,7 @@ held_by_entry (Some entry) epoch deeds none e = none entry refl (ap (λ (h : Hel
 
 -- what was begun in an epoch of after the submission, of which no entry is left at a server that is up and has not
 -- settled the transaction
-pub restart_shown : (sc : Scenario) (w : State) (at : ServerId) (part : Part Server) (s : Server) (txn : TxnId) (epoch : ℕ) (P : List Deed → Type 0) → Agrees sc w → Told w → Restarts w → IsServerUp w at part s
+pub restart_shown : (sc : Scenario) (w : State) (at : ServerId) (part : Part Server) (s : Server) (txn : TxnId) (epoch : ℕ) (P : List Deed → Type 0) → Agrees sc w → Told w → Restarts sc w → IsServerUp w at part s
     → is_open s txn ≡ true → ((entry : Entry) → entry_at s txn ≡ Some entry → entry.epoch ≡ epoch → ⊥) → SinceIn w.steps w.facts txn at epoch → Tells (pair_at w.actors txn at.0) epoch P
     → ShownIn w.facts (length w.steps) txn at
 restart_shown sc w at part s txn epoch P a told h up unsettled none since tells =

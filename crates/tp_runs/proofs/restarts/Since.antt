@@ -3,10 +3,13 @@
 use Rattle.std.proofs.Common.{IfSome, None, Option, Some, true, ℕ, ◌≡◌}
 use Rattle.tp_model.specs.Words.actor
 use Rattle.tp_model.specs.Words.body
+use Rattle.tp_model.specs.Words.cause
+use Rattle.tp_model.specs.Words.decision
 use Rattle.tp_model.specs.Words.log
 use Rattle.tp_model.specs.Words.no
 use Rattle.tp_model.specs.Words.vote
-use Rattle.tp_model.specs.Words.{Actor, Body, DoneReply, Letter, Prepared, QueryRequest, Record, ServerId, Settled, TxnId, VoteReply}
+use Rattle.tp_model.specs.Words.what
+use Rattle.tp_model.specs.Words.{Actor, Body, Cause, Decision, DoneReply, Letter, Prepared, QueryRequest, Record, ServerId, Settled, TxnId, VoteReply, What}
 use Rattle.tp_recover.specs.Log.{prepared_in, settled_in}
 use Rattle.tp_machine.specs.Parts.{Part}
 use Rattle.tp_types.proofs.EachLemmas.{each_as}
@@ -88,6 +91,28 @@ pub record PartSince (S : TxnId → ServerId → ℕ → Type 0) (R : TxnId → 
 abbrev pub KeptSince : (TxnId → ServerId → ℕ → Type 0) → TxnId → Coordinator → Type 0
 KeptSince S txn c = EachPlaced (λ (n : ℕ) (epoch : ℕ). S txn (server_number n) epoch) c.epochs
 
+-- ---- decisions
+
+-- an abort for a restart has a crash of its server since the submission, and one for a halt a crash of its coordinator: R and H say so
+abbrev pub CauseSince : (TxnId → ServerId → Type 0) → (TxnId → Type 0) → TxnId → Cause → Type 0
+CauseSince R H txn (cause.Restarted at) = R txn at
+CauseSince R H txn cause.Halted = H txn
+CauseSince R H txn _ = Unit {0}
+
+abbrev pub DecisionSince : (TxnId → ServerId → Type 0) → (TxnId → Type 0) → TxnId → Decision → Type 0
+DecisionSince R H txn (decision.Abort why) = CauseSince R H txn why
+DecisionSince R H txn _ = Unit {0}
+
+-- what a coordinator forces
+abbrev pub DecidesSince : (TxnId → ServerId → Type 0) → (TxnId → Type 0) → Record → Type 0
+DecidesSince R H (log.Decided d) = DecisionSince R H d.txn d.decision
+DecidesSince R H _ = Unit {0}
+
+-- and what a fact tells
+abbrev pub WhatSince : (TxnId → ServerId → Type 0) → (TxnId → Type 0) → What → Type 0
+WhatSince R H (what.Decided txn decided) = DecisionSince R H txn decided
+WhatSince R H _ = Unit {0}
+
 -- ---- it stays where more is of after a submission, and more is shown
 
 abbrev pub MoreSince : (TxnId → ServerId → ℕ → Type 0) → (TxnId → ServerId → ℕ → Type 0) → Type 0
@@ -126,6 +151,16 @@ body_widens S T R Q from to (body.Prepare p) more shown h = request_widens S T t
 body_widens S T R Q from to (body.Done done) more shown h = answer_widens S T R Q from done more shown h
 body_widens S T R Q from to (body.Vote reply) more shown h = vote_widens R Q from reply shown h
 body_widens S T R Q from to _ more shown h = tt
+
+cause_widens : (R Q : TxnId → ServerId → Type 0) (H K : TxnId → Type 0) (txn : TxnId) (why : Cause) → MoreShown R Q → ((t : TxnId) → H t → K t) → CauseSince R H txn why → CauseSince Q K txn why
+cause_widens R Q H K txn (cause.Restarted at) shown halted h = shown txn at h
+cause_widens R Q H K txn cause.Halted shown halted h = halted txn h
+cause_widens R Q H K txn _ shown halted h = tt
+
+pub what_widens : (R Q : TxnId → ServerId → Type 0) (H K : TxnId → Type 0) (w : What) → MoreShown R Q → ((t : TxnId) → H t → K t) → WhatSince R H w → WhatSince Q K w
+what_widens R Q H K (what.Decided txn (decision.Abort why)) shown halted h = cause_widens R Q H K txn why shown halted h
+what_widens R Q H K (what.Decided txn (decision.Commit committed)) shown halted h = tt
+what_widens R Q H K _ shown halted h = tt
 
 entries_widen : (S T : TxnId → ServerId → ℕ → Type 0) (R Q : TxnId → ServerId → Type 0) (at : ServerId) (up : Option Server) → MoreSince S T → MoreShown R Q → IfSome up (EntriesSince S R at) → IfSome up (EntriesSince T Q at)
 entries_widen S T R Q at None more shown h = tt

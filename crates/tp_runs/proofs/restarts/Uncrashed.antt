@@ -70,18 +70,18 @@ up_once : {S : Type 0} (up : Option S) → once (is_none up) ≡ 0 → is_some u
 up_once None e = absurd (omega (arith, e))
 up_once (Some s) e = refl
 
-pub server_is_up : (w : State) (at : ServerId) (part : Part Server) → Uncrashed w → Restarts w → slice_get w.actors.servers at.0 ≡ Some part → IsNeverDown part
-server_is_up w at part none h found =
+pub server_is_up : (sc : Scenario) (w : State) (at : ServerId) (part : Part Server) → Uncrashed w → Restarts sc w → slice_get w.actors.servers at.0 ≡ Some part → IsNeverDown part
+server_is_up sc w at part none h found =
     let counted = h.counted at.0 part found in
     let none_here = none (is_server_actor at) in
     record { up = up_once part.up (omega (arith, counted, none_here)); boots = omega (arith, counted, none_here) }
 
 -- so are all
-pub servers_up : (w : State) → Uncrashed w → Restarts w → EachAt (λ (n : ℕ) (part : Part Server). is_some part.up ≡ true) w.actors.servers
-servers_up w none h n part found = (server_is_up w (record { 0 = n }) part none h found).up
+pub servers_up : (sc : Scenario) (w : State) → Uncrashed w → Restarts sc w → EachAt (λ (n : ℕ) (part : Part Server). is_some part.up ≡ true) w.actors.servers
+servers_up sc w none h n part found = (server_is_up sc w (record { 0 = n }) part none h found).up
 
-pub coordinator_is_up : (w : State) (txn : TxnId) (part : Part Coordinator) → Uncrashed w → Restarts w → slice_get w.actors.coordinators txn.0 ≡ Some part → is_some part.up ≡ true
-coordinator_is_up w txn part none h found = by_up part.up refl
+pub coordinator_is_up : (sc : Scenario) (w : State) (txn : TxnId) (part : Part Coordinator) → Uncrashed w → Restarts sc w → slice_get w.actors.coordinators txn.0 ≡ Some part → is_some part.up ≡ true
+coordinator_is_up sc w txn part none h found = by_up part.up refl
   where
     by_up : (up : Option Coordinator) → part.up ≡ up → is_some up ≡ true
     by_up None e =
@@ -94,16 +94,16 @@ not_none : {S : Type 0} (up : Option S) → is_some up ≡ true → is_none up �
 not_none None e = absurd (cc)
 not_none (Some s) e = refl
 
-pub nobody_is_down : (w : State) → Uncrashed w → Restarts w → (who : Actor) → is_down w.actors who ≡ false
-nobody_is_down w none h (actor.Server at) = by_part (slice_get w.actors.servers at.0) refl
+pub nobody_is_down : (sc : Scenario) (w : State) → Uncrashed w → Restarts sc w → (who : Actor) → is_down w.actors who ≡ false
+nobody_is_down sc w none h (actor.Server at) = by_part (slice_get w.actors.servers at.0) refl
   where
     by_part : (part : Option (Part Server)) → slice_get w.actors.servers at.0 ≡ part → option_map_or is_part_down part false ≡ false
     by_part None e = refl
-    by_part (Some part) e = not_none part.up (server_is_up w at part none h e).up
-nobody_is_down w none h (actor.Coordinator txn) = by_part (slice_get w.actors.coordinators txn.0) refl
+    by_part (Some part) e = not_none part.up (server_is_up sc w at part none h e).up
+nobody_is_down sc w none h (actor.Coordinator txn) = by_part (slice_get w.actors.coordinators txn.0) refl
   where
     by_part : (part : Option (Part Coordinator)) → slice_get w.actors.coordinators txn.0 ≡ part → option_map_or is_part_down part false ≡ false
     by_part None e = refl
-    by_part (Some part) e = not_none part.up (coordinator_is_up w txn part none h e)
-nobody_is_down w none h actor.Master = refl
-nobody_is_down w none h actor.Authority = refl
+    by_part (Some part) e = not_none part.up (coordinator_is_up sc w txn part none h e)
+nobody_is_down sc w none h actor.Master = refl
+nobody_is_down sc w none h actor.Authority = refl

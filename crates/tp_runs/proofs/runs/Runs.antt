@@ -17,7 +17,7 @@ use Rattle.tp_runs.proofs.bounds.World.{Bounds, all_bounded, bounds_next, bounds
 use Rattle.tp_runs.proofs.agreement.End.{facts_agreed}
 use Rattle.tp_runs.proofs.agreement.Ended.{all_ended}
 use Rattle.tp_runs.proofs.agreement.Steps.{agrees_next, agrees_opening}
-use Rattle.tp_runs.proofs.agreement.World.{Agrees}
+use Rattle.tp_runs.proofs.agreement.World.{Agrees, PreparesNamed}
 use Rattle.tp_runs.proofs.epochs.World.{Epochs, epochs_next, epochs_opening, prepares_named}
 use Rattle.tp_runs.proofs.ids.Queries.{have_homes}
 use Rattle.tp_runs.proofs.ids.Steps.{sound_next, sound_opening}
@@ -56,7 +56,7 @@ pub record Holds (sc : Scenario) (w : State) : Type 0 where
   pub epochs : Epochs sc w
   pub ages : Ages w
   pub deaths : Deaths sc w
-  pub restarts : Restarts w
+  pub restarts : Restarts sc w
   pub lone : AreLone w.facts
   pub outside : IsOutside sc w.steps w.facts
   pub trusts : Trusts sc w
@@ -76,20 +76,21 @@ pub holds_next : (sc : Scenario) (m : Machine) (taken : Step) → is_built sc �
 holds_next sc m taken built exists allowed h =
     let rightly = wait_rightly sc m.state h.sound h.pairs in
     let valid : IsValid sc = valid_built sc built in
+    let named : PreparesNamed m.state = prepares_named sc m.state h.epochs in
     record {
       sound = sound_next sc m taken built exists allowed h.agrees.coordinator_count rightly h.sound;
-      agrees = agrees_next sc m taken valid (send_first sc built (have_homes sc valid)) exists allowed rightly h.sound (prepares_named sc m.state h.epochs) h.agrees;
+      agrees = agrees_next sc m taken valid (send_first sc built (have_homes sc valid)) exists allowed rightly h.sound named h.agrees;
       epochs = epochs_next sc m taken (have_homes sc valid) exists allowed rightly h.sound h.agrees h.epochs;
       ages = ages_next sc m taken exists allowed rightly h.sound h.agrees h.ages;
       deaths = deaths_next sc m taken exists allowed rightly h.sound h.agrees h.ages h.pairs h.deaths;
-      restarts = restarts_next sc m taken exists allowed rightly h.sound h.agrees h.epochs h.ages h.pairs h.deaths.told h.restarts;
+      restarts = restarts_next sc m taken exists allowed rightly h.sound h.agrees h.epochs h.ages h.pairs h.deaths h.restarts;
       lone = lone_next sc m taken exists allowed h.agrees.coordinator_count h.agrees.past h.lone;
       outside = outside_next sc m taken exists allowed h.agrees.coordinator_count h.agrees.past h.trusts.master h.outside;
       trusts = trusts_next sc m taken built exists allowed rightly h.sound h.agrees h.pairs h.trusts;
       pairs = pairs_next sc m taken built exists allowed rightly h.sound h.agrees h.epochs h.trusts h.pairs;
-      serial = serial_next sc m taken valid exists allowed rightly h.sound h.agrees h.pairs h.serial;
+      serial = serial_next sc m taken valid exists allowed rightly h.sound named h.agrees h.pairs h.serial;
       refusals = refusals_next sc m taken valid exists allowed rightly h.sound h.agrees h.pairs h.serial (record { epochs = h.epochs; told = h.deaths.told; restarts = h.restarts }) h.refusals;
-      bounds = bounds_next sc m taken valid exists allowed rightly h.sound h.agrees h.pairs h.serial h.bounds;
+      bounds = bounds_next sc m taken valid exists allowed rightly h.sound named h.agrees h.pairs h.serial h.bounds;
       few = few_next sc m taken built exists allowed rightly h.agrees h.few;
       sizes = sizes_next sc m taken (are_plain sc built) (have_homes sc valid) valid exists allowed rightly h.sound h.agrees h.pairs h.trusts h.sizes;
     }
@@ -125,7 +126,7 @@ pub uncrashed_after : (sc : Scenario) (steps : List Step) → is_built sc ≡ tr
 uncrashed_after sc steps built exist = steps_uncrashed sc (opening sc) steps built exist (holds_opening sc built) (uncrashed_opening sc)
 
 pub nobody_down_after : (sc : Scenario) (steps : List Step) → is_built sc ≡ true → Each (IsStepOf sc) steps → (who : Actor) → is_down (after sc steps).state.actors who ≡ false
-nobody_down_after sc steps built exist who = nobody_is_down (after sc steps).state (uncrashed_after sc steps built exist) (holds_after sc steps built exist).restarts who
+nobody_down_after sc steps built exist who = nobody_is_down sc (after sc steps).state (uncrashed_after sc steps built exist) (holds_after sc steps built exist).restarts who
 
 -- ---- what the facts show
 
@@ -135,10 +136,10 @@ shows sc w built h none =
       outside = h.outside;
       agreed = facts_agreed sc w h.agrees;
       trusted = facts_trusted sc w h.sound h.trusts;
-      caused = facts_caused sc w built h.sound h.refusals h.deaths h.trusts;
+      caused = facts_caused sc w built h.sound h.refusals h.deaths h.restarts h.trusts;
       serial = serial_facts sc w h.serial;
       lone = facts_lone w.facts h.lone;
-      values_are = serial_values sc w (valid_built sc built) h.agrees h.serial (servers_up w none h.restarts);
+      values_are = serial_values sc w (valid_built sc built) h.agrees h.serial (servers_up sc w none h.restarts);
     }
 
 -- after every list of steps the history is trusted so far
@@ -150,14 +151,14 @@ pub has_all_ends : (sc : Scenario) (steps : List Step) → is_built sc ≡ true 
 has_all_ends sc steps built exist finished =
     let w = (after sc steps).state in
     let h = holds_after sc steps built exist in
-    all_ended sc w h.sound h.agrees (λ n part found. coordinator_is_up w (record { 0 = n }) part (uncrashed_after sc steps built exist) h.restarts found) finished
+    all_ended sc w h.sound h.agrees (λ n part found. coordinator_is_up sc w (record { 0 = n }) part (uncrashed_after sc steps built exist) h.restarts found) finished
 
 -- and where all transactions have ended the values are those of all commits
 pub has_all_commits : (sc : Scenario) (steps : List Step) → is_built sc ≡ true → Each (IsStepOf sc) steps → HasAllCommits sc (after sc steps).state
 has_all_commits sc steps built exist ended =
     let w = (after sc steps).state in
     let h = holds_after sc steps built exist in
-    serial_values sc w (valid_built sc built) h.agrees h.serial (servers_up w (uncrashed_after sc steps built exist) h.restarts) ∙ values_at_end sc w (valid_built sc built) h.agrees h.serial ended
+    serial_values sc w (valid_built sc built) h.agrees h.serial (servers_up sc w (uncrashed_after sc steps built exist) h.restarts) ∙ values_at_end sc w (valid_built sc built) h.agrees h.serial ended
 
 -- and few mails were sent
 pub sends_few : (sc : Scenario) (steps : List Step) → is_built sc ≡ true → Each (IsStepOf sc) steps → length (after sc steps).state.mails ≤ mails_most * length steps

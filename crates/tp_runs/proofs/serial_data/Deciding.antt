@@ -110,6 +110,7 @@ coordinator_row_own sc c mail =
       aborted = λ why ended. tt;
       updated = λ reply round staple server verdicts named y e. tt;
       acknowledged = λ ack ended awaited server a. tt;
+      inquired = λ inquiry ended awaited server k. tt;
     })
   where
     prepares : (instances : List Instance) (rounds : ℕ) → HasVoted sc c mail point.Voted instances rounds → stand_of c.phase ≡ Prepares

@@ -422,6 +422,7 @@ keeps_cases sc M s mail h clear =
       voted = λ p entry staple txn k. votes_keep sc M s mail p entry staple txn h (subst (RequestClear sc M s) k.said_is clear) k;
       voted_again = λ p entry cast k. stays_keep sc M s (yes_letter s p.txn cast ∷ []) h;
       refused = λ p entry number value k. ends_keep sc M s (refused_as p _) (no_letter s p _) h (subst (RequestClear sc M s) k.said_is clear).ends;
+      lost = λ p k. ends_keep sc M s (refused_as p _) (no_letter s p _) h (subst (RequestClear sc M s) k.said_is clear).ends;
       refused_again = λ p settled why k. stays_keep sc M s (no_letter s p why ∷ []) h;
       settled = λ d k. ends_keep sc M s (settled_as d) (ack_letter s d.txn) h (subst (RequestClear sc M s) k.said_is clear);
       acknowledged = λ d settled k. stays_keep sc M s (ack_letter s d.txn ∷ []) h;

@@ -13,7 +13,7 @@ use Rattle.tp_runs.proofs.agreement.Coordinator.{IsFirst, submission_unforced}
 use Rattle.tp_runs.proofs.agreement.Logs.{IsAsked, IsPrepared}
 use Rattle.tp_runs.proofs.agreement.Server.{CastVote, ServerAgrees, cast_in, vote_by, vote_of}
 use Rattle.tp_runs.proofs.agreement.Steps.{coordinator_lawful, mail_rests, mail_sound, own_txn, server_agrees, server_lawful}
-use Rattle.tp_runs.proofs.agreement.World.{Agrees, BodyRests}
+use Rattle.tp_runs.proofs.agreement.World.{Agrees, BodyRests, PreparesNamed}
 use Rattle.tp_types.proofs.EachLemmas.{at_made, each_get, none_if_not_some, placed_none, unset_at}
 use Rattle.tp_runs.proofs.ids.Valid.{IsValid}
 use Rattle.tp_runs.proofs.locked.World.{IsLockedServer, ServersLocked, locked_next, locked_opening}
@@ -111,9 +111,9 @@ received_clear sc w valid sound agrees pairs serial n mail at part s sent up =
     request_clear sc w at part s mail.letter.from mail.letter.body (of_some (IsLockedServer sc) part.up s up.up (serial.locked at.0 part up.found)) up pairs agrees serial (mail_sound sc w n mail (actor.Server at) sound sent)
     (mail_rests sc w n mail (actor.Server at) agrees sent) said
 
-receipt_by_server_in_serial_data : (sc : Scenario) (w : State) → IsValid sc → WaitRightly sc w → IsSound sc w → Agrees sc w → Pairs sc w → Serial sc w → (n : ℕ) (mail : Mail) (at : ServerId) (part : Part Server) (s : Server)
+receipt_by_server_in_serial_data : (sc : Scenario) (w : State) → IsValid sc → WaitRightly sc w → IsSound sc w → PreparesNamed w → Agrees sc w → Pairs sc w → Serial sc w → (n : ℕ) (mail : Mail) (at : ServerId) (part : Part Server) (s : Server)
     → WasSent w n mail (actor.Server at) → IsServerUp w at part s → MoveSerial sc w (server_move w.actors at (acts_by (server_fact at) [] part.log (server_row sc s mail)))
-receipt_by_server_in_serial_data sc w valid rightly sound agrees pairs h n mail at part s sent up =
+receipt_by_server_in_serial_data sc w valid rightly sound named agrees pairs h n mail at part s sent up =
     let was : UpOnLog sc s part.log = up_on_log sc w at part s h up.found up.up in
     server_receives_serial sc w at part s (server_row sc s mail) agrees h
     (record {
@@ -123,7 +123,7 @@ receipt_by_server_in_serial_data sc w valid rightly sound agrees pairs h n mail 
       agrees = server_agrees sc w at part s agrees up;
       keeps = server_row_keeps sc (IsAsked sc w.actors.coordinators at) s mail (rightly at part s up) was.reads
           (received_clear sc w valid sound agrees pairs h n mail at part s sent up);
-      rests = (server_lawful sc w rightly agrees n mail at part s sent up).rests;
+      rests = (server_lawful sc w rightly named agrees n mail at part s sent up).rests;
     })
 
 receipt_by_coordinator_in_serial_data : (sc : Scenario) (w : State) → IsValid sc → IsSound sc w → Agrees sc w → Pairs sc w → Serial sc w → (n : ℕ) (mail : Mail) (txn : TxnId) (part : Part Coordinator) (c : Coordinator)
@@ -161,11 +161,11 @@ begun_serial sc w valid sound agrees pairs h txn part c exists up new =
 
 -- ---- steps
 
-serial_cases : (sc : Scenario) (w : State) → IsValid sc → WaitRightly sc w → IsSound sc w → Agrees sc w → Pairs sc w → Serial sc w → Cases sc w (λ taken move. MoveSerial sc w move)
-serial_cases sc w valid rightly sound agrees pairs h =
+serial_cases : (sc : Scenario) (w : State) → IsValid sc → WaitRightly sc w → IsSound sc w → PreparesNamed w → Agrees sc w → Pairs sc w → Serial sc w → Cases sc w (λ taken move. MoveSerial sc w move)
+serial_cases sc w valid rightly sound named agrees pairs h =
     record {
       idle = idle_serial sc w h;
-      server_received = λ n mail at part s sent up. receipt_by_server_in_serial_data sc w valid rightly sound agrees pairs h n mail at part s sent up;
+      server_received = λ n mail at part s sent up. receipt_by_server_in_serial_data sc w valid rightly sound named agrees pairs h n mail at part s sent up;
       coordinator_received = λ n mail txn part c sent up. receipt_by_coordinator_in_serial_data sc w valid sound agrees pairs h n mail txn part c sent up;
       authority_told = λ n mail sent. unmoved_serial sc w w.actors [] (office.authority_row w.actors.authority mail).reaction.letters h refl refl tt;
       master_told = λ n mail sent. unmoved_serial sc w w.actors [] (master.master_row w.actors.master mail).reaction.letters h refl refl tt;
@@ -179,10 +179,10 @@ serial_cases sc w valid rightly sound agrees pairs h =
     }
 
 -- a step that is not refused keeps data serial
-pub serial_next : (sc : Scenario) (m : Machine) (taken : Step) → IsValid sc → IsStepOf sc taken → refusal m.state taken ≡ None → WaitRightly sc m.state → IsSound sc m.state → Agrees sc m.state → Pairs sc m.state → Serial sc m.state
+pub serial_next : (sc : Scenario) (m : Machine) (taken : Step) → IsValid sc → IsStepOf sc taken → refusal m.state taken ≡ None → WaitRightly sc m.state → IsSound sc m.state → PreparesNamed m.state → Agrees sc m.state → Pairs sc m.state → Serial sc m.state
     → Serial sc (machine_after sc m taken).state
-serial_next sc m taken valid exists allowed rightly sound agrees pairs h =
-    machine_after_by sc m (λ taken move. MoveSerial sc m.state move) (λ w. ServersLocked sc w.actors.servers → Serial sc w) (serial_cases sc m.state valid rightly sound agrees pairs h) agrees.coordinator_count
+serial_next sc m taken valid exists allowed rightly sound named agrees pairs h =
+    machine_after_by sc m (λ taken move. MoveSerial sc m.state move) (λ w. ServersLocked sc w.actors.servers → Serial sc w) (serial_cases sc m.state valid rightly sound named agrees pairs h) agrees.coordinator_count
     (λ taken move t locked. state_after_serial sc m.state taken move agrees h t locked) (λ locked. h) taken exists allowed (locked_next sc m taken exists allowed rightly sound agrees pairs h.locked)
 
 -- ---- before the first step

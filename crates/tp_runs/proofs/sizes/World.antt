@@ -127,6 +127,7 @@ server_row_small sc s mail rightly few =
           record { deeds = deeds; verdicts = omega (arith, deeds, length-map entry.deeds (verdict_on sc (with_wants s p.want) txn staple p.want)) };
       voted_again = λ p entry cast k. tt;
       refused = λ p entry number value k. tt;
+      lost = λ p k. tt;
       refused_again = λ p settled why k. tt;
       settled = λ d k. tt;
       acknowledged = λ d settled k. tt;
@@ -172,6 +173,7 @@ coordinator_row_few sc c mail few =
       aborted = λ why ended. (refl, tt);
       updated = λ reply round staple server verdicts named y e. tt;
       acknowledged = λ ack ended awaited server k. tt;
+      inquired = λ inquiry ended awaited server k. tt;
     })
   where
     undecided : (instances : List Instance) (rounds : ℕ) → HasVoted sc c mail point.Voted instances rounds → is_undecided c.phase ≡ true

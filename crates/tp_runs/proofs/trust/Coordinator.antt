@@ -1,6 +1,6 @@
 -- Trust, the coordinator's rows: it commits on one instance whose proofs are right, true and of one version.
 use Rattle.std.specs.List.{range_with_len}
-use Rattle.std.proofs.Common.{Bool, IfSome, List, None, Option, Some, [], ap, arith, false, if◌then◌else◌, inl, inr, is_none, length, map, option_and_then, refl, replicate, slice_get, subst, sym, true, ℕ, ℤ, ⊎_elim, ◌+◌, ◌<◌, ◌∙◌, ◌∷◌, ◌≡◌, ◌≤◌, ◌⊎◌}
+use Rattle.std.proofs.Common.{Bool, IfSome, List, None, Option, Some, [], ap, arith, false, if◌then◌else◌, inl, inr, is_none, length, map, option_and_then, refl, replicate, slice_get, subst, sym, true, ℕ, ⊎_elim, ◌+◌, ◌<◌, ◌∙◌, ◌∷◌, ◌≡◌, ◌≤◌, ◌⊎◌}
 use Rattle.std.proofs.lemmas.Bool.{cases_lt, eqb-true}
 use Rattle.tp_types.specs.Effect.{Effect, ignores, sends}
 use Rattle.tp_model.specs.Limits.{admins_limit, view_rounds}
@@ -13,7 +13,7 @@ use Rattle.tp_model.specs.Words.log
 use Rattle.tp_model.specs.Words.outcome
 use Rattle.tp_model.specs.Words.vote
 use Rattle.tp_model.specs.Words.scheme
-use Rattle.tp_model.specs.Words.{Actor, AdminId, Body, Cause, CommitRecord, Decision, Denied, Died, DoneReply, Fact, Instance, Letter, Mail, Outcome, Query, Record, Scenario, Scheme, ServerId, Staple, Transaction, TxnId, Verdict, Vote, VoteReply}
+use Rattle.tp_model.specs.Words.{Actor, AdminId, Body, Cause, CommitRecord, Decision, Denied, DoneReply, Fact, Instance, Letter, Mail, Outcome, Query, Record, Scenario, Scheme, ServerId, Staple, Transaction, TxnId, Verdict, Vote, VoteReply}
 use Rattle.tp_types.proofs.EachLemmas.{each_get}
 use Rattle.tp_model.specs.Levels.{reads_master}
 use Rattle.tp_model.specs.Queries.{query_at}
@@ -39,12 +39,12 @@ use Rattle.tp_runs.proofs.trust.Rounds.{AimedReply, AreNumbersAt, IsRoundNumber,
 use Rattle.tp_runs.proofs.basics.Turns.{AreFew, IsAbove, IsOfPast, IsTimely, Now, PrepareNow, QueryNow, Stamp, TurnFits, ValidateNow, VerdictsNow, VoteNow, WantNow, admin_asked, admin_of_query, ceiling, died_move, end_move, first_move, further_move, low_query, low_round, next_move, number_within, query_count, raised, round_move, stamp_of, turn_rises}
 use Rattle.tp_scheme.specs.Gathered.{pin_of}
 use Rattle.tp_scheme.specs.declared.moves.Point.TheVariants as point
-use Rattle.tp_coord.proofs.Rows.{AllTrue, ByOlder, ByProof, ByRefusal, Gained, HasVoted, IsEnded, IsPassed, IsYes, QueryRan, coordinator_by, gains_instances, submit_by, timer_by, with_gained}
+use Rattle.tp_coord.proofs.Rows.{AllTrue, ByLoss, ByOlder, ByProof, ByRefusal, ByRestart, Gained, HasVoted, IsEnded, IsPassed, IsYes, QueryRan, coordinator_by, gains_instances, submit_by, timer_by, with_gained}
 use Rattle.tp_machine.specs.Machine.{with_age}
 use Rattle.tp_types.specs.Each.{Each}
 use Rattle.tp_runs.specs.Sound.{IsSoundBody, query_in}
 use Rattle.tp_coord.specs.Opened.{servers_at}
-use Rattle.tp_coord.specs.Row.{aborts, asks, closes, commit_record, commit_round, commits, coordinator_row, coordinator_with_age, denied_by, died_for, is_begun, next_number, next_turn, prepare_letter, prepare_request, prepares, query_request, refused_by, repeats, requests, sends_query, staple_of, submit_row, want_for, without}
+use Rattle.tp_coord.specs.Row.{aborts, asks, closes, commit_record, commit_round, commits, coordinator_row, coordinator_with_age, decide_letters, denied_by, died_for, is_begun, next_number, next_turn, prepare_letter, prepare_request, prepares, query_request, refused_by, repeats, requests, sends_query, staple_of, submit_row, want_for, without}
 use Rattle.tp_coord.specs.State.{Coordinator}
 use Rattle.tp_coord.specs.declared.coordinator.Phase.TheVariants as phase
 use Rattle.tp_coord.specs.declared.coordinator.Phase.{Phase}
@@ -80,14 +80,12 @@ pub record DeniedFits (sc : Scenario) (facts : List Fact) (place : ℕ) (txn : T
   pub right : Right sc facts place txn verdict
   pub ruleless : is_none verdict.rule ≡ true
 
--- what a server refused, and a death for an older transaction, are shown elsewhere. No coordinator aborts for a restart or a halt yet
+-- what a server refused, a death for an older transaction, a restart and a halt are shown elsewhere
 abbrev pub CauseFits : Scenario → List Fact → ℕ → TxnId → Cause → Type 0
 CauseFits sc facts place txn (cause.Denied denied) = DeniedFits sc facts place txn denied
-CauseFits sc facts place txn (cause.No refused) = Unit {0}
-CauseFits sc facts place txn (cause.Died died) = Unit {0}
 CauseFits sc facts place txn (cause.Newer newer) = (declared : Transaction) → slice_get sc.txns txn.0 ≡ Some declared → is_newer_shown sc place facts newer declared ≡ true
 CauseFits sc facts place txn (cause.Rounds mets) = (declared : Transaction) → slice_get sc.txns txn.0 ≡ Some declared → are_rounds_shown sc txn place facts mets declared ≡ true
-CauseFits sc facts place txn _ = ⊥
+CauseFits sc facts place txn _ = Unit {0}
 
 abbrev pub DecisionFits : Scenario → List Fact → ℕ → TxnId → Decision → Type 0
 DecisionFits sc facts place txn (decision.Commit committed) = CommitFits sc facts place txn committed
@@ -358,21 +356,21 @@ aborts_trusts sc facts place c why s =
       old = λ sent turn said t unsure. absurd (cc);
     }
 
--- an older transaction stood in the way
-died_stands : (sc : Scenario) (facts : List Fact) (place : ℕ) (c : Coordinator) (done : DoneReply) (asked : Query) (died : Died) → CoordinatorFits sc facts place c → c.phase ≡ phase.Querying done.query None
-    → query_in sc c.txn done.query ≡ Some asked → EndStands sc facts place c (cause.Died died)
-died_stands sc facts place c done asked died h e q =
+-- the answer to a query ends the transaction
+answered_stands : (sc : Scenario) (facts : List Fact) (place : ℕ) (c : Coordinator) (done : DoneReply) (asked : Query) (why : Cause) → CoordinatorFits sc facts place c → c.phase ≡ phase.Querying done.query None
+    → query_in sc c.txn done.query ≡ Some asked → CauseFits sc facts place c.txn why → EndStands sc facts place c why
+answered_stands sc facts place c done asked why h e q fits =
     let low : c.turn ≤ ceiling_in (query_count sc c.txn) (phase.Querying done.query None) = turn_low sc facts place c (phase.Querying done.query None) h e in
     let number = number_within sc c.txn done.query asked q in
-    record { turn = died_move (query_count sc c.txn) done.query c.turn number.0 number.1 low; fits = tt }
+    record { turn = died_move (query_count sc c.txn) done.query c.turn number.0 number.1 low; fits = fits }
 
 -- a vote NO ends the transaction
-refused_stands : (sc : Scenario) (facts : List Fact) (place : ℕ) (c : Coordinator) (round : Round) (staple : Staple) (server : ServerId) (number : ℕ) (value : ℤ) → CoordinatorFits sc facts place c
-    → c.phase ≡ phase.Checking span.Commit round staple → EndStands sc facts place c (cause.No (refused_by server number value))
-refused_stands sc facts place c round staple server number value h e =
+refused_stands : (sc : Scenario) (facts : List Fact) (place : ℕ) (c : Coordinator) (round : Round) (staple : Staple) (why : Cause) → CoordinatorFits sc facts place c
+    → c.phase ≡ phase.Checking span.Commit round staple → CauseFits sc facts place c.txn why → EndStands sc facts place c why
+refused_stands sc facts place c round staple why h e fits =
     let f = phase_fits sc facts place c (phase.Checking span.Commit round staple) h e in
     let low : c.turn ≤ until_round (query_count sc c.txn) round.number 2 = turn_low sc facts place c (phase.Checking span.Commit round staple) h e in
-    record { turn = end_move (query_count sc c.txn) round.number 2 c.turn (few_rounds sc facts place c.txn span.Commit round f.1) (omega arith) low; fits = tt }
+    record { turn = end_move (query_count sc c.txn) round.number 2 c.turn (few_rounds sc facts place c.txn span.Commit round f.1) (omega arith) low; fits = fits }
 
 -- a round in which a proof is false denies
 denied_stands : (sc : Scenario) (facts : List Fact) (place : ℕ) (c : Coordinator) (round : Round) (staple : Staple) (verdict : Verdict) → RoundTrusted sc facts place c round staple → judge round None ≡ judged.False verdict
@@ -454,6 +452,19 @@ acknowledged_trusts sc facts place c ended awaited server h e =
       old = λ sent turn said t unsure. absurd (cc);
     }
 
+-- ---- Inquire
+
+-- a server is told the decision again
+inquired_trusts : (sc : Scenario) (facts : List Fact) (place : ℕ) (c : Coordinator) (ended : Outcome) (server : ServerId) → CoordinatorFits sc facts place c → RowTrusts sc facts place c (sends c (decide_letters c ended (server ∷ [])))
+inquired_trusts sc facts place c ended server h =
+    record {
+      fits = h;
+      decides = tt;
+      says = λ sent. orders_fit sc facts place sent c ended (server ∷ []);
+      timely = λ sent. orders_timely sc c (Some c) sent ended (server ∷ []);
+      old = λ sent turn said t. t;
+    }
+
 -- ---- all mails
 
 -- every row of a coordinator on receipt of a mail
@@ -475,6 +486,7 @@ coordinator_row_trusts sc facts place P c mail few plain homes valid own h m f n
       aborted = λ why ended. aborts_trusts sc facts place c why (end_stands why ended);
       updated = λ reply round staple server verdicts named y e. updated_trusts sc facts place c (after_reply round server verdicts) staple named few plain valid (replied reply round staple server verdicts y) e;
       acknowledged = λ ack ended awaited server k. acknowledged_trusts sc facts place c ended awaited server h k.ending;
+      inquired = λ inquiry ended awaited server k. inquired_trusts sc facts place c ended server h;
     })
   where
     replied : (reply : VoteReply) (round : Round) (staple : Staple) (server : ServerId) (verdicts : List Verdict) → IsYes c mail reply round staple server verdicts → RoundTrusted sc facts place c (after_reply round server verdicts) staple
@@ -487,10 +499,12 @@ coordinator_row_trusts sc facts place P c mail few plain homes valid own h m f n
 
     end_stands : (why : Cause) → IsEnded sc c mail why → EndStands sc facts place c why
     end_stands _ (ByOlder done server asked other k) =
-        died_stands sc facts place c done asked (died_for server done other mail.sent) h (awaits_is c c.phase done k.awaited k.plain) k.asked_is
+        answered_stands sc facts place c done asked (cause.Died (died_for server done other mail.sent)) h (awaits_is c c.phase done k.awaited k.plain) k.asked_is tt
+    end_stands _ (ByRestart done server asked k) = answered_stands sc facts place c done asked (cause.Restarted server) h (awaits_is c c.phase done k.awaited k.plain) k.asked_is tt
     end_stands _ (ByProof reply round staple server verdicts verdict y e) =
         denied_stands sc facts place c (after_reply round server verdicts) staple verdict (replied reply round staple server verdicts y) e
-    end_stands _ (ByRefusal reply round staple server number value k) = refused_stands sc facts place c round staple server number value h k.checking
+    end_stands _ (ByRefusal reply round staple server number value k) = refused_stands sc facts place c round staple (cause.No (refused_by server number value)) h k.checking tt
+    end_stands _ (ByLoss reply round staple server k) = refused_stands sc facts place c round staple (cause.Restarted server) h k.checking tt
 
 -- ---- Submit
 

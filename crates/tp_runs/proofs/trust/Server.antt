@@ -451,6 +451,7 @@ server_row_trusts sc facts place T s mail valid waits sound m h f named ran clos
       voted_again = λ p entry cast k. votes_again_trusts sc facts place T s p entry cast h k.found k.ballot_is;
       refused = λ p entry number value k.
           ends_trusts sc facts place T s (refused_as p _) (no_letter s p _) h (no_letter_trusts sc facts place T s p _ closed (subst T k.said_is t));
+      lost = λ p k. ends_trusts sc facts place T s (refused_as p _) (no_letter s p _) h (no_letter_trusts sc facts place T s p _ closed (subst T k.said_is t));
       refused_again = λ p settled why k.
           let l = no_letter_trusts sc facts place T s p why closed (subst T k.said_is t) in
           record { fits = h.fits; keeps = h.keeps; forces = tt; says = (l.says, tt); timely = (l.timely, tt) };

@@ -156,11 +156,9 @@ coordinator_up_stays sc old new low high (Some c) l h = coordinator_stays sc old
 cause_stays : (sc : Scenario) (old new : List Fact) (low high : ℕ) (txn : TxnId) (why : Cause) → Later old new low high → CauseFits sc old low txn why → CauseFits sc new high txn why
 cause_stays sc old new low high txn (cause.Denied denied) l h =
     record { verdict = h.verdict; denied_is = h.denied_is; right = right_stays sc old new low high txn h.verdict l h.right; ruleless = h.ruleless }
-cause_stays sc old new low high txn (cause.No refused) l h = tt
-cause_stays sc old new low high txn (cause.Died died) l h = tt
 cause_stays sc old new low high txn (cause.Newer newer) l h = λ declared found. newer_stays sc old new low high newer declared l (h declared found)
 cause_stays sc old new low high txn (cause.Rounds mets) l h = λ declared found. rounds_stay sc txn old new low high mets declared l (h declared found)
-cause_stays sc old new low high txn _ l h = absurd h
+cause_stays sc old new low high txn _ l h = tt
 
 pub decision_stays : (sc : Scenario) (old new : List Fact) (low high : ℕ) (txn : TxnId) (decided : Decision) → Later old new low high → DecisionFits sc old low txn decided → DecisionFits sc new high txn decided
 decision_stays sc old new low high txn (decision.Commit committed) l h = λ declared found. commit_stays sc old new low high txn declared committed l (h declared found)

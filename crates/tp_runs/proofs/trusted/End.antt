@@ -21,7 +21,9 @@ use Rattle.tp_runs.proofs.basics.Facts.{all_from_each}
 use Rattle.tp_types.proofs.EachLemmas.{all_four, each_get, each_placed, missing}
 use Rattle.tp_runs.proofs.deaths.Fit.{FactDies, WhatDies}
 use Rattle.tp_runs.proofs.deaths.World.{Deaths}
+use Rattle.tp_runs.proofs.refusals.Running.{own_server_of}
 use Rattle.tp_runs.proofs.refusals.World.{FactRefused, IsRefused, Refusals, WhatRefused}
+use Rattle.tp_runs.proofs.restarts.World.{FactSince, Restarts, ToldSince}
 use Rattle.tp_runs.proofs.trust.Built.{ArePlain, are_plain}
 use Rattle.tp_runs.proofs.trust.Coordinator.{CauseFits, CommitFits}
 use Rattle.tp_runs.proofs.trust.Fit.{IsRight, Right, has_rule}
@@ -114,25 +116,27 @@ is_refused_shown sc txn place facts refused declared h =
     (ap (λ (first : Option ℕ). option_map_or (is_explained_at sc txn facts refused declared) first false) h.first_is ∙ h.run)
 
 cause_shown : (sc : Scenario) (facts : List Fact) (place : ℕ) (txn : TxnId) (why : Cause) (declared : Transaction) → ArePlain sc → slice_get sc.txns txn.0 ≡ Some declared → IsSoundCause sc txn why
-    → WhatRefused sc facts place (what.Decided txn (decision.Abort why)) → WhatDies sc facts place (what.Decided txn (decision.Abort why)) → CauseFits sc facts place txn why → is_shown sc txn place facts why declared ≡ true
-cause_shown sc facts place txn (cause.Denied denied) declared form e sound r d h =
+    → WhatRefused sc facts place (what.Decided txn (decision.Abort why)) → WhatDies sc facts place (what.Decided txn (decision.Abort why))
+    → ToldSince sc facts place (what.Decided txn (decision.Abort why)) → CauseFits sc facts place txn why → is_shown sc txn place facts why declared ≡ true
+cause_shown sc facts place txn (cause.Denied denied) declared form e sound r d s h =
     let version : IsVersion sc h.verdict.admin h.verdict.version = subst (λ (d : Denied). IsVersion sc d.admin d.version) h.denied_is sound.version in
     let view = each_get (λ (t : Transaction). (admin : AdminId) → is_global (level_of t admin) ≡ false) sc.txns txn.0 declared form.levels e in
     ap (λ (d : Denied). is_denied sc txn place facts d declared) h.denied_is
     ∙ denial_shown sc txn declared place facts h.verdict (view h.verdict.admin) version (h.right declared e) h.ruleless
-cause_shown sc facts place txn (cause.No refused) declared form e sound r d h = is_refused_shown sc txn place facts refused declared (r declared e)
-cause_shown sc facts place txn (cause.Died died) declared form e sound r d h = d declared e
-cause_shown sc facts place txn (cause.Newer newer) declared form e sound r d h = h declared e
-cause_shown sc facts place txn (cause.Rounds mets) declared form e sound r d h = h declared e
-cause_shown sc facts place txn (cause.Restarted at) declared form e sound r d h = absurd h
-cause_shown sc facts place txn cause.Halted declared form e sound r d h = absurd h
+cause_shown sc facts place txn (cause.No refused) declared form e sound r d s h = is_refused_shown sc txn place facts refused declared (r declared e)
+cause_shown sc facts place txn (cause.Died died) declared form e sound r d s h = d declared e
+cause_shown sc facts place txn (cause.Newer newer) declared form e sound r d s h = h declared e
+cause_shown sc facts place txn (cause.Rounds mets) declared form e sound r d s h = h declared e
+cause_shown sc facts place txn (cause.Restarted at) declared form e sound r d s h = and_from _ _ (own_server_of sc at txn declared e sound s.item) s.crashed
+cause_shown sc facts place txn cause.Halted declared form e sound r d s h = s
 
-what_caused : (sc : Scenario) (facts : List Fact) (place : ℕ) (w : What) → ArePlain sc → IsSoundWhat sc w → WhatRefused sc facts place w → WhatDies sc facts place w → WhatFits sc facts place w → keeps_causes_what sc facts place w ≡ true
-what_caused sc facts place (what.Decided txn (decision.Commit committed)) form sound r d h = refl
-what_caused sc facts place (what.Decided txn (decision.Abort why)) form sound r d h =
+what_caused : (sc : Scenario) (facts : List Fact) (place : ℕ) (w : What) → ArePlain sc → IsSoundWhat sc w → WhatRefused sc facts place w → WhatDies sc facts place w → ToldSince sc facts place w → WhatFits sc facts place w
+    → keeps_causes_what sc facts place w ≡ true
+what_caused sc facts place (what.Decided txn (decision.Commit committed)) form sound r d s h = refl
+what_caused sc facts place (what.Decided txn (decision.Abort why)) form sound r d s h =
     let found = exists_txn sc txn (slice_get sc.txns txn.0) refl sound.0 in
-    ap (λ (d : Option Transaction). option_map_or (is_shown sc txn place facts why) d false) found.1 ∙ cause_shown sc facts place txn why found.0 form found.1 sound.1 r d h
-what_caused sc facts place _ form sound r d h = refl
+    ap (λ (d : Option Transaction). option_map_or (is_shown sc txn place facts why) d false) found.1 ∙ cause_shown sc facts place txn why found.0 form found.1 sound.1 r d s h
+what_caused sc facts place _ form sound r d s h = refl
 
 -- the commits of a world are trusted
 pub facts_trusted : (sc : Scenario) (w : State) → IsSound sc w → Trusts sc w → is_trusted sc w.facts ≡ true
@@ -142,9 +146,9 @@ facts_trusted sc w sound h =
     (λ n fact e. what_trusted sc w.facts fact.place fact.what (each_get (IsSoundFact sc) w.facts n fact sound.facts_are e) (each_get (FactFits sc w.facts) w.facts n fact h.facts_fit e)))
 
 -- and its aborts have causes
-pub facts_caused : (sc : Scenario) (w : State) → is_built sc ≡ true → IsSound sc w → Refusals sc w → Deaths sc w → Trusts sc w → is_caused sc w.facts ≡ true
-facts_caused sc w built sound r d h =
+pub facts_caused : (sc : Scenario) (w : State) → is_built sc ≡ true → IsSound sc w → Refusals sc w → Deaths sc w → Restarts sc w → Trusts sc w → is_caused sc w.facts ≡ true
+facts_caused sc w built sound r d s h =
     let form : ArePlain sc = are_plain sc built in
     all_from_each (λ (fact : Fact). keeps_causes sc w.facts fact ≡ true) (keeps_causes sc w.facts) (λ fact k. k) w.facts
     (each_placed (λ (fact : Fact). keeps_causes sc w.facts fact ≡ true) w.facts
-    (λ n fact e. what_caused sc w.facts fact.place fact.what form (each_get (IsSoundFact sc) w.facts n fact sound.facts_are e) (each_get (FactRefused sc w.facts) w.facts n fact r.facts e) (each_get (FactDies sc w.facts) w.facts n fact d.facts e) (each_get (FactFits sc w.facts) w.facts n fact h.facts_fit e)))
+    (λ n fact e. what_caused sc w.facts fact.place fact.what form (each_get (IsSoundFact sc) w.facts n fact sound.facts_are e) (each_get (FactRefused sc w.facts) w.facts n fact r.facts e) (each_get (FactDies sc w.facts) w.facts n fact d.facts e) (each_get (FactSince sc w.facts) w.facts n fact s.facts e) (each_get (FactFits sc w.facts) w.facts n fact h.facts_fit e)))
