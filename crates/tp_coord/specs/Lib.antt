@@ -1,3 +1,4 @@
+pub mod Booted
 pub mod Opened
 pub mod Row
 pub mod State

@@ -28,5 +28,6 @@ mod versions;
 
 pub use answer::Held;
 pub use decided::decision_of;
+pub use kept::Kept;
 pub use laws::logs_are_kept;
 pub use recovery::held;

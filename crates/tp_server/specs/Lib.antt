@@ -1,3 +1,4 @@
+pub mod Booted
 pub mod Evaluation
 pub mod Opened
 pub mod Row

@@ -3,6 +3,7 @@ use Rattle.std.proofs.Common.{◌≡◌, inl, inr, ⊎_elim, ◌+◌, [], true, 
 use Rattle.std.proofs.lemmas.Bool.{cases_Bool}
 use Rattle.std.proofs.lemmas.Option.{same_Some}
 use Rattle.tp_model.specs.Words.{PrepareRequest, Prepared}
+use Rattle.tp_server.specs.Booted.{restored}
 use Rattle.tp_server.specs.declared.server.Ballot.{Ballot}
 use Rattle.tp_server.specs.declared.server.Entry.{Entry}
 use Rattle.tp_runs.proofs.basics.Phases.{Prepares}
@@ -127,18 +128,6 @@ crashes s p up h =
     }
 
 -- ---- a boot
-
--- the entry of what was prepared
-abbrev pub restored : Prepared → Entry
-restored prepared =
-    record {
-      age = prepared.age;
-      epoch = prepared.epoch;
-      answers = [];
-      waiting = None;
-      deeds = prepared.deeds;
-      ballot = Some (record { turn = prepared.turn; verdicts = prepared.verdicts });
-    }
 
 abbrev pub booted : Pair → Pair
 booted p = record p { epoch = p.epoch + 1; up = true; entry = option_map restored p.prepared }
