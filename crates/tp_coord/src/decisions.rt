@@ -3,7 +3,7 @@ ghost use Rattle.std.specs.Prelude.{◌≡◌, ◌==◌, not, Option, None, filt
 ghost use Rattle.tp_coord.specs.declared.coordinator.Phase.TheVariants as Phase;
 ghost use Rattle.tp_model.specs.Words.{ServerId};
 ghost use Rattle.tp_model.specs.Words.body;
-ghost use Rattle.tp_types.specs.Effect.{Gives};
+ghost use Rattle.tp_types.specs.Effect.{Gives, sends};
 ghost use Rattle.tp_round.specs.Replies as replies;
 ghost use Rattle.tp_coord.specs.Row as row;
 
@@ -12,7 +12,7 @@ use std::alloc::Global;
 use tp_round::Round;
 use tp_types::{
     Actor, Body, Cause, CommitRecord, DecideRequest, Decided, Decision, Denied, Instance, Letter,
-    List, NoMemory, Outcome, Reaction, Record, ServerId, TryClone, Verdict, ignored, nothing,
+    List, NoMemory, Outcome, Reaction, Record, ServerId, TryClone, Verdict, both, ignored, nothing,
     sent_alone,
 };
 
@@ -53,8 +53,7 @@ impl Coordinator {
         ensures { IfOk result (λ reaction.
             Gives (row.decides self.old outcome decision) self.new reaction) }
     {
-        let letters = self.decide_letters(alloc, outcome, self.servers.as_slice())?;
-        self.ends(alloc, outcome)?;
+        let letters = self.ends(alloc, outcome)?;
         let decided = Record::Decided(Decided {
             txn: self.txn,
             decision,
@@ -65,14 +64,36 @@ impl Coordinator {
         })
     }
 
-    /// All of the transaction's servers are to acknowledge the decision.
-    fn ends(&mut self, alloc: Global, outcome: Outcome) -> Result<(), NoMemory>
-        ensures { OnOk result
+    /// All of the transaction's servers are told the outcome, and are to acknowledge it.
+    fn ends(&mut self, alloc: Global, outcome: Outcome) -> Result<List<Letter>, NoMemory>
+        ensures letters { IfOk result (λ letters.
+            letters ≡ row.decide_letters self.old outcome self.old.servers) }
+        ensures awaited { OnOk result
             (self.new ≡ record self.old { phase = Phase.Ending outcome self.old.servers }) }
     {
-        let awaited = self.servers.try_clone(alloc)?;
+        let letters = self.decide_letters(alloc, outcome, self.servers.as_slice());
+        let (letters, awaited) = both(letters, self.servers.try_clone(alloc))?;
         self.enters(Phase::Ending { outcome, awaited });
-        Ok(())
+        Ok(letters)
+    }
+
+    /// A coordinator that booted had decided so, and sends it again.
+    pub(crate) fn ends_again(
+        &mut self,
+        alloc: Global,
+        outcome: Outcome,
+    ) -> Result<Reaction, NoMemory>
+        ensures { IfOk result (λ reaction.
+            Gives
+            (sends (record self.old { phase = Phase.Ending outcome self.old.servers })
+            (row.decide_letters self.old outcome self.old.servers))
+            self.new reaction) }
+    {
+        let letters = self.ends(alloc, outcome)?;
+        Ok(Reaction {
+            append: None,
+            letters,
+        })
     }
 
     pub(crate) fn decide_letters(

@@ -7,9 +7,11 @@
 //!   transaction does after a query and after its votes is what the table of moves says (`next_move` of `tp_scheme`)
 //! - Whether its transaction was submitted, and whether some request of it is outstanding, is told
 //!   (`Coordinator::begun`, `armed`)
-//! - A coordinator begins as defined (`Coordinator::idle`)
+//! - A coordinator begins as defined (`Coordinator::idle`), and boots exactly as its row says, by its log
+//!   (`Coordinator::booted`)
 #![tactic(auto)]
 
+mod booted;
 mod coordinator;
 mod decisions;
 mod moves;

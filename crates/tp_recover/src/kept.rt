@@ -11,9 +11,10 @@ use tp_types::{
     none_for_each, take_at,
 };
 
-/// What the records so far come to.
+/// All that is kept of the records of a server's log.
 #[derive(Drop)]
 pub struct Kept {
+    /// One, and one more for each boot.
     pub epoch: u64,
     /// The newest version known of each administrator.
     pub newest: List<Version>,
@@ -25,6 +26,44 @@ pub struct Kept {
     pub settled: List<Option<Settled>>,
     /// These settlements in the order of the log.
     pub in_order: List<Settled>,
+}
+
+/// A copy of a table, or the want of memory for it.
+fn copied<T: TryClone + Drop>(
+    alloc: Global,
+    table: &[Option<T>],
+) -> Result<List<Option<T>>, NoMemory>
+    ensures { IfOk result (λ made. made ≡ table.now) }
+{
+    let mut made = List::new(alloc);
+    for place in table {
+        match place {
+            None => made.push(None)?,
+            Some(kept) => made.push(Some(kept.try_clone(alloc)?))?,
+        }
+    }
+    Ok(made)
+}
+
+impl TryClone for Kept {
+    fn try_clone(&self, alloc: Global) -> Result<Self, NoMemory> {
+        let numbers = both(self.newest.try_clone(alloc), self.values.try_clone(alloc));
+        let prepared = copied(alloc, self.prepared.as_slice());
+        let settled = copied(alloc, self.settled.as_slice());
+        let ends = both(settled, self.in_order.try_clone(alloc));
+        let ((newest, values), (prepared, (settled, in_order))) = both(
+            numbers,
+            both(prepared, ends),
+        )?;
+        Ok(Kept {
+            epoch: self.epoch,
+            newest,
+            values,
+            prepared,
+            settled,
+            in_order,
+        })
+    }
 }
 
 fn settled_of(settled: &List<Option<Settled>>, txn: TxnId) -> Option<Settled>

@@ -10,6 +10,8 @@
 //!   each of what was prepared of it. A vote is listed exactly where it is the last of its transaction, which is not
 //!   settled; the older first, and of one age by transaction. A settlement is listed exactly where it is the first of
 //!   its transaction, in the order of the log
+//! - All that is kept of a log is told too, of each transaction by its number (`kept_of`: `kept`), and what is prepared is put in
+//!   that order (`by_age`)
 //! - What is kept while records are taken in is what the log says so far, and stays so with each record
 //!   (`logs_are_kept`: `whole`, `step`)
 //!
@@ -26,8 +28,9 @@ mod recovery;
 mod values;
 mod versions;
 
+pub use ages::by_age;
 pub use answer::Held;
 pub use decided::decision_of;
 pub use kept::Kept;
 pub use laws::logs_are_kept;
-pub use recovery::held;
+pub use recovery::{held, kept_of};

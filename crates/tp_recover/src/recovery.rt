@@ -1,13 +1,32 @@
 //! What a server's log says.
-ghost use Rattle.std.specs.Prelude.{◌≡◌, IfOk};
+ghost use Rattle.std.specs.Prelude.{◌≡◌, ◌+◌, ◌<◌, ◌^◌, IfOk};
 ghost use Rattle.tp_types.specs.Each.{Each};
 ghost use Rattle.tp_recover.specs.Held as rule;
+ghost use Rattle.tp_recover.specs.Kept.{kept};
 ghost use Rattle.tp_recover.specs.Laws.{HeldSays, IsOfScenario};
 
 use crate::answer::{Held, answer};
 use crate::kept::Kept;
 use std::alloc::Global;
 use tp_types::{List, NoMemory, Record, Scenario, ServerId};
+
+/// All that is kept of the records of a server's log, over what the scenario says of the server at first. One more boot can be
+/// counted, since no list has 2^64 - 2 members.
+pub fn kept_of(
+    alloc: Global,
+    scenario: &Scenario,
+    server: ServerId,
+    records: &List<Record>,
+) -> Result<Kept, NoMemory>
+    ensures kept { IfOk result (λ made. made ≡ kept scenario.now server records.now) }
+    ensures epoch { IfOk result (λ made. made.epoch + 1 < 2 ^ 64) }
+{
+    let mut kept = Kept::opened(alloc, scenario, server)?;
+    match kept.take_all(alloc, records.as_slice()) {
+        Err(error) => Err(error),
+        Ok(()) => Ok(kept),
+    }
+}
 
 fn recovered(
     alloc: Global,
@@ -17,11 +36,8 @@ fn recovered(
 ) -> Result<Held, NoMemory>
     ensures { IfOk result (λ made. made ≡ rule.held_in scenario.now server records.now) }
 {
-    let mut kept = Kept::opened(alloc, scenario, server)?;
-    match kept.take_all(alloc, records.as_slice()) {
-        Err(error) => Err(error),
-        Ok(()) => answer(alloc, kept),
-    }
+    let kept = kept_of(alloc, scenario, server, records)?;
+    answer(alloc, kept)
 }
 
 /// What the records of a server's log come to, over what the scenario says of the server at first. A vote of a

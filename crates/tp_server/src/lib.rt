@@ -3,11 +3,13 @@
 //! What is promised, with the contract that carries it:
 //!
 //! - A server does exactly its row on every mail, over any table of locks (`Server::receive`)
-//! - A server begins as defined (`Server::opened`)
+//! - A server begins as defined (`Server::opened`), and boots exactly as its row says, by what is kept of its log
+//!   (`Server::booted`)
 //! - Where a staple's clock and revocations are those of its place in a history, what is evaluated with it is
 //!   right there (`evaluation::evaluations_are_right`)
 #![tactic(auto)]
 
+mod booted;
 mod endings;
 pub mod evaluation;
 mod queries;

@@ -19,14 +19,18 @@ abbrev pub known_at_first : Scenario → ServerId → List Version
 known_at_first sc server =
     option_map_or (λ (declared : ServerDecl). declared.knows) (slice_get sc.servers server.0) []
 
--- all items have their opening values, and no transaction has a write
-abbrev pub opening : Scenario → ServerId → Contents
-opening sc server = record {
+-- these values and versions, and no transaction has a write
+abbrev pub restored : Scenario → List ℤ → List Version → Contents
+restored sc values known = record {
   bounds = map bounds_of sc.items;
-  values = opening_store sc;
-  known = known_at_first sc server;
+  values = values;
+  known = known;
   tentative = replicate (length sc.txns) [];
 }
+
+-- all items have their opening values
+abbrev pub opening : Scenario → ServerId → Contents
+opening sc server = restored sc (opening_store sc) (known_at_first sc server)
 
 -- ---- items
 

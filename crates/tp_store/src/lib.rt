@@ -4,7 +4,7 @@
 //! What is promised, with the contract that carries it:
 //!
 //! - A store begins as the scenario says (`Store::opened`), and what it begins with is told (`opening_values`,
-//!   `known_at_first`)
+//!   `known_at_first`); or it begins with what a log leaves (`Store::restored`)
 //! - A transaction reads what it has written itself, or else the item's value (`Store::read`, `Store::value`)
 //! - Of two writes of one item the last by query is kept; where memory is refused the store stays
 //!   (`Store::write`: `ok`, `err`)

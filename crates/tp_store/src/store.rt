@@ -35,11 +35,23 @@ impl Store {
     pub fn opened(alloc: Global, scenario: &Scenario, server: ServerId) -> Result<Store, NoMemory>
         ensures { IfOk result (λ made. made ≡ rule.opening scenario.now server) }
     {
-        let items = scenario.items.as_slice();
-        let of_items = both(bounds_of(alloc, items), opening_values(alloc, items));
-        let of_versions = known_at_first(alloc, scenario, server);
-        let others = both(of_versions, no_writes(alloc, scenario.txns.len()));
-        let ((bounds, values), (known, tentative)) = both(of_items, others)?;
+        let values = opening_values(alloc, scenario.items.as_slice());
+        let (values, known) = both(values, known_at_first(alloc, scenario, server))?;
+        Store::restored(alloc, scenario, values, known)
+    }
+
+    /// A store with the values of items and the versions of administrators that its server has of its log, and with no write of
+    /// any transaction.
+    pub fn restored(
+        alloc: Global,
+        scenario: &Scenario,
+        values: List<i128>,
+        known: List<Version>,
+    ) -> Result<Store, NoMemory>
+        ensures { IfOk result (λ made. made ≡ rule.restored scenario.now values known) }
+    {
+        let bounds = bounds_of(alloc, scenario.items.as_slice());
+        let (bounds, tentative) = both(bounds, no_writes(alloc, scenario.txns.len()))?;
         Ok(Store {
             bounds,
             values,

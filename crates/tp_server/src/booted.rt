@@ -1,0 +1,233 @@
+//! A server that boots: what it has by all that is kept of its log, and what it asks.
+ghost use Rattle.std.specs.Prelude.{◌≡◌, ◌+◌, ◌<◌, ◌^◌, length, map, option_map, IfOk, OnOk};
+ghost use Rattle.tp_types.specs.Effect.{Gives};
+ghost use Rattle.tp_lock.specs.Rule as lock;
+ghost use Rattle.tp_recover.specs.Held.{by_age, by_txn};
+ghost use Rattle.tp_store.specs.Rule as rule;
+ghost use Rattle.tp_server.specs.Booted as booted;
+ghost use Rattle.tp_server.specs.mirrors.Inquiries as mirror;
+
+use crate::server::{Ballot, Entry, Server};
+use std::alloc::Global;
+use tp_lock::LockTable;
+use tp_recover::{Kept, by_age};
+use tp_store::Store;
+use tp_types::{
+    Action, Actor, Body, Deed, InquireRequest, Letter, List, NoMemory, Prepared, Reaction, Record,
+    Scenario, ServerId, TryClone, TxnId, Version, both,
+};
+
+impl<L: LockTable + Drop> Server<L> {
+    /// A server that boots, with a table of no locks on the scenario's items, and what it wants done: its next epoch is
+    /// forced, and then the coordinator of each transaction that it has prepared is asked for the outcome. Its state is
+    /// what its log comes to, and the locks of what it has prepared.
+    pub fn booted(
+        alloc: Global,
+        scenario: &Scenario,
+        server: ServerId,
+        kept: Kept,
+        locks: L,
+    ) -> Result<(Server<L>, Reaction), NoMemory>
+        requires epoch { kept.epoch + 1 < 2 ^ 64 }
+        requires locks { L.table locks ≡ lock.opening (length scenario.now.items) }
+        ensures { IfOk result (λ made.
+            Gives (booted.boot_row scenario.now server kept) made.0 made.1) }
+    {
+        let letters = inquiries(alloc, server, kept.prepared.as_slice());
+        let state = Server::restored(alloc, scenario, server, kept, locks);
+        let (state, letters) = both(state, letters)?;
+        let reaction = Reaction {
+            append: Some(Record::Boot),
+            letters,
+        };
+        Ok((state, reaction))
+    }
+
+    fn restored(
+        alloc: Global,
+        scenario: &Scenario,
+        server: ServerId,
+        kept: Kept,
+        locks: L,
+    ) -> Result<Server<L>, NoMemory>
+        requires epoch { kept.epoch + 1 < 2 ^ 64 }
+        requires locks { L.table locks ≡ lock.opening (length scenario.now.items) }
+        ensures { IfOk result (λ made. made ≡ booted.booted scenario.now server kept) }
+    {
+        let Kept {
+            epoch,
+            newest,
+            values,
+            prepared,
+            settled,
+            in_order: _,
+        } = kept;
+        let entries = entries_of(alloc, prepared.as_slice());
+        let store = store_of(alloc, scenario, values, newest, prepared.as_slice());
+        let locks = locks_of(alloc, locks, prepared);
+        let (locks, (store, entries)) = both(locks, both(store, entries))?;
+        Ok(Server {
+            server,
+            epoch: epoch + 1,
+            store,
+            settled,
+            entries,
+            locks,
+        })
+    }
+}
+
+/// A server that booted asks the coordinator of a transaction for the outcome.
+fn inquiry(server: ServerId, txn: TxnId) -> Letter
+    ensures { result ≡ mirror.inquiry_of server txn }
+{
+    Letter {
+        from: Actor::Server(server),
+        to: Actor::Coordinator(txn),
+        body: Body::Inquire(InquireRequest { txn }),
+    }
+}
+
+/// The same of each transaction that is prepared, by number.
+fn inquiries(
+    alloc: Global,
+    server: ServerId,
+    table: &[Option<Prepared>],
+) -> Result<List<Letter>, NoMemory>
+    ensures { IfOk result (λ letters. letters ≡ mirror.inquiries server (by_txn table.now)) }
+{
+    let mut letters = List::new(alloc);
+    for place in table {
+        if let Some(vote) = place {
+            letters.push(inquiry(server, vote.txn))?;
+        }
+    }
+    Ok(letters)
+}
+
+/// The entry of what is prepared.
+fn entry_of(alloc: Global, vote: &Prepared) -> Result<Entry, NoMemory>
+    ensures { IfOk result (λ made. made ≡ booted.restored vote.now) }
+{
+    let (deeds, verdicts) = both(vote.deeds.try_clone(alloc), vote.verdicts.try_clone(alloc))?;
+    Ok(Entry {
+        age: vote.age,
+        epoch: vote.epoch,
+        answers: List::new(alloc),
+        waiting: None,
+        deeds,
+        ballot: Some(Ballot {
+            turn: vote.turn,
+            verdicts,
+        }),
+    })
+}
+
+fn entries_of(alloc: Global, table: &[Option<Prepared>]) -> Result<List<Option<Entry>>, NoMemory>
+    ensures { IfOk result (λ made. made ≡ map (option_map booted.restored) table.now) }
+{
+    let mut made = List::new(alloc);
+    for place in table {
+        match place {
+            None => made.push(None)?,
+            Some(vote) => made.push(Some(entry_of(alloc, vote)?))?,
+        }
+    }
+    Ok(made)
+}
+
+fn keep_deed(store: &mut Store, alloc: Global, txn: TxnId, deed: &Deed) -> Result<(), NoMemory>
+    ensures { OnOk result
+        (store.new ≡ booted.with_deed_kept deed.now.action store.old txn deed.now) }
+{
+    match deed.action {
+        Action::Read => Ok(()),
+        Action::Write => store.write(alloc, txn, deed.query, deed.item, deed.value),
+    }
+}
+
+fn keep_deeds(store: &mut Store, alloc: Global, vote: &Prepared) -> Result<(), NoMemory>
+    ensures { OnOk result
+        (store.new ≡ booted.with_deeds_kept store.old vote.now.txn vote.now.deeds) }
+{
+    for deed in vote.deeds.as_slice() {
+        keep_deed(store, alloc, vote.txn, deed)?;
+    }
+    Ok(())
+}
+
+fn keep_prepared(
+    store: &mut Store,
+    alloc: Global,
+    table: &[Option<Prepared>],
+) -> Result<(), NoMemory>
+    ensures { OnOk result (store.new ≡ booted.with_prepared_kept store.old table.now) }
+{
+    for place in table {
+        if let Some(vote) = place {
+            keep_deeds(store, alloc, vote)?;
+        }
+    }
+    Ok(())
+}
+
+/// A store with these values and versions, and the writes of what is prepared.
+fn store_of(
+    alloc: Global,
+    scenario: &Scenario,
+    values: List<i128>,
+    newest: List<Version>,
+    table: &[Option<Prepared>],
+) -> Result<Store, NoMemory>
+    ensures { IfOk result (λ made.
+        made ≡ booted.with_prepared_kept (rule.restored scenario.now values newest) table.now) }
+{
+    let mut store = Store::restored(alloc, scenario, values, newest)?;
+    match keep_prepared(&mut store, alloc, table) {
+        Err(error) => Err(error),
+        Ok(()) => Ok(store),
+    }
+}
+
+fn lock_deeds<L: LockTable>(locks: &mut L, alloc: Global, vote: &Prepared) -> Result<(), NoMemory>
+    ensures { OnOk result
+        (L.table locks.new
+        ≡ booted.with_deeds_locked vote.now.txn vote.now.age vote.now.deeds
+        (L.table locks.old)) }
+{
+    for deed in vote.deeds.as_slice() {
+        locks.request(alloc, vote.txn, vote.age, deed.item, deed.action)?;
+    }
+    Ok(())
+}
+
+fn lock_prepared<L: LockTable>(
+    locks: &mut L,
+    alloc: Global,
+    prepared: &[Prepared],
+) -> Result<(), NoMemory>
+    ensures { OnOk result
+        (L.table locks.new ≡ booted.with_prepared_locked prepared.now (L.table locks.old)) }
+{
+    for vote in prepared {
+        lock_deeds(locks, alloc, vote)?;
+    }
+    Ok(())
+}
+
+/// The table once a lock was asked for each deed of what is prepared, by age.
+fn locks_of<L: LockTable + Drop>(
+    alloc: Global,
+    locks: L,
+    table: List<Option<Prepared>>,
+) -> Result<L, NoMemory>
+    ensures { IfOk result (λ made.
+        L.table made ≡ booted.with_prepared_locked (by_age (by_txn table)) (L.table locks)) }
+{
+    let mut locks = locks;
+    let prepared = by_age(alloc, table)?;
+    match lock_prepared(&mut locks, alloc, prepared.as_slice()) {
+        Err(error) => Err(error),
+        Ok(()) => Ok(locks),
+    }
+}
