@@ -2,10 +2,10 @@
 use crate::made::list;
 use crate::small_scenario::small;
 use std::process::Abort;
-use tp_recover::{Held, decision_of, held};
+use tp_recover::{Held, Kept, by_age, decision_of, held, kept_of};
 use tp_types::{
     Action, Cause, CommitRecord, Decided, Decision, Deed, ItemId, List, Outcome, Prepared, Record,
-    ServerId, Settled, TxnId, Version,
+    ServerId, Settled, TryClone, TxnId, Version,
 };
 
 const MOST: i128 = 1_000_000_000_000_000;
@@ -119,6 +119,53 @@ fn a_vote_after_the_settlement_is_none(rt: HostRuntime) {
     assert!(rt; held.epoch == 1 && are_prepared(&held, &[]) && is_settled(&held, 1, false));
     assert!(rt; has_values(&held, &[3, 0, MOST]));
     drop(held);
+}
+
+/// What is kept of these records, copied.
+fn all_kept(rt: &(impl Abort + AllocGlobal), records: List<Record>) -> Kept {
+    let scenario = small(rt);
+    let found = kept_of(rt.alloc(), &scenario, ServerId(0), &records);
+    drop(scenario);
+    drop(records);
+    let kept = found.expect(rt, "memory for what is kept");
+    let copy = kept.try_clone(rt.alloc());
+    drop(kept);
+    copy.expect(rt, "memory for a copy")
+}
+
+/// Whether this transaction is prepared, by its number.
+fn has_prepared(kept: &Kept, txn: usize) -> bool {
+    matches!(kept.prepared.get(txn), Some(Some(_)))
+}
+
+/// Whether this transaction is settled, by its number.
+fn has_settled(kept: &Kept, txn: usize) -> bool {
+    matches!(kept.settled.get(txn), Some(Some(_)))
+}
+
+#[test]
+fn all_is_kept_by_transaction(rt: HostRuntime) {
+    let commit = settled(0, Outcome::Commit);
+    let records = list(&rt, [vote(&rt, 0, 4, 0, 8), vote(&rt, 1, 5, 2, 7), commit]);
+    let kept = all_kept(&rt, records);
+    assert!(rt; kept.epoch == 1 && kept.in_order.len() == 1);
+    assert!(rt; has_settled(&kept, 0) && !has_prepared(&kept, 0));
+    assert!(rt; has_prepared(&kept, 1) && !has_settled(&kept, 1));
+    assert!(rt; kept.values.as_slice() == [8, 0, MOST]);
+    drop(kept);
+}
+
+#[test]
+fn what_is_prepared_is_put_by_age(rt: HostRuntime) {
+    let records = list(&rt, [vote(&rt, 0, 9, 0, 8), vote(&rt, 1, 4, 2, 5)]);
+    let kept = all_kept(&rt, records);
+    let placed = by_age(rt.alloc(), kept.prepared).expect(&rt, "memory for the order");
+    let first = match placed.get(0) {
+        None => false,
+        Some(vote) => vote.txn.0 == 1,
+    };
+    assert!(rt; first && placed.len() == 2);
+    drop(placed);
 }
 
 fn decided(decision: Decision) -> Record {

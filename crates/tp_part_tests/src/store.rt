@@ -1,5 +1,5 @@
 //! A store, call by call.
-use crate::made::assert_case;
+use crate::made::{assert_case, list};
 use crate::small_scenario::small;
 use tp_store::Store;
 use tp_types::{AdminId, ItemId, ServerId, TxnId, Version};
@@ -136,5 +136,19 @@ fn answers_by_the_table(rt: HostRuntime) {
         assert_case(&rt, at, plays(&rt, &mut store, line));
     }
     assert!(rt; store.value(ItemId(2)) == 5);
+    drop(store);
+}
+
+#[test]
+fn begins_with_what_a_log_leaves(rt: HostRuntime) {
+    let scenario = small(&rt);
+    let values = list(&rt, [7, 1, -2]);
+    let known = list(&rt, [Version(3), Version(1)]);
+    let made = Store::restored(rt.alloc(), &scenario, values, known);
+    drop(scenario);
+    let store = made.expect(&rt, "memory for a store");
+    assert!(rt; store.value(ItemId(0)) == 7 && store.value(ItemId(2)) == -2);
+    assert!(rt; store.newest(AdminId(0)) == Version(3));
+    assert!(rt; store.first_outside(TxnId(0)) == None);
     drop(store);
 }
