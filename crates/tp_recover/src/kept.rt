@@ -152,11 +152,12 @@ impl Kept {
         }
     }
 
-    /// Takes in these records, in their order. Each boot can be counted, since the epoch begins at 1 and no list has
-    /// 2^64 members.
+    /// Takes in these records, in their order. Each boot can be counted, and one more, since the epoch begins at 1 and no
+    /// list has so many members.
     pub fn take_all(&mut self, alloc: Global, records: &[Record]) -> Result<(), NoMemory>
         requires { self.old.epoch ≡ 1 }
-        ensures { OnOk result (self.new ≡ fold rule.kept_step self.old records.now) }
+        ensures all { OnOk result (self.new ≡ fold rule.kept_step self.old records.now) }
+        ensures epoch { OnOk result (self.new.epoch + 1 < 2 ^ 64) }
     {
         for forced in records {
             self.take_in(alloc, forced)?;
