@@ -1,5 +1,5 @@
 -- A server that boots: what it is by all that is kept of its log, and its row.
-use Rattle.std.specs.Prelude.{◌+◌, List, [], ◌∷◌, Option, Some, None, length, map, option_map}
+use Rattle.std.specs.Prelude.{ℕ, ◌+◌, List, [], ◌∷◌, Option, Some, None, length, map, option_map}
 use Rattle.tp_types.specs.Effect.{Effect, logs}
 use Rattle.tp_lock.specs.Rule as lock
 use Rattle.tp_lock.specs.Rule.{after_request}
