@@ -1,3 +1,4 @@
+pub mod Crashes
 pub mod Logs
 pub mod Machine
 pub mod Named

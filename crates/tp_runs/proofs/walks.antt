@@ -1,2 +1,3 @@
 -- What all theorems walk: each step once.
+pub mod Crashes
 pub mod Steps
