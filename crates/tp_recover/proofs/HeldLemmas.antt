@@ -90,56 +90,78 @@ are_first records = first_after [] records (record { listed = λ s there. absurd
 
 -- ---- votes
 
--- a vote of this transaction, which the scenario has
-abbrev IsVoteOf : Scenario → TxnId → Prepared → Type 0
-IsVoteOf sc txn p = (p.txn ≡ txn) × (p.txn.0 < length sc.txns)
+-- a vote of this transaction, whose record Q holds of
+abbrev pub IsVoteOf : (Record → Type 0) → TxnId → Prepared → Type 0
+IsVoteOf Q txn p = (p.txn ≡ txn) × Q (log.Prepared p)
 
-vote_is : (sc : Scenario) (txn : TxnId) (next : Record) → IsOfScenario sc next → (p : Prepared) → preparation_in txn next ≡ Some p → IsVoteOf sc txn p
-vote_is sc txn log.Boot there p e = absurd (cc)
-vote_is sc txn (log.Told t) there p e = absurd (cc)
-vote_is sc txn (log.Prepared q) there p e = chosen (same_txn q.txn txn) refl e
+vote_is : (Q : Record → Type 0) (txn : TxnId) (next : Record) → Q next → (p : Prepared) → preparation_in txn next ≡ Some p → IsVoteOf Q txn p
+vote_is Q txn log.Boot there p e = absurd (cc)
+vote_is Q txn (log.Told t) there p e = absurd (cc)
+vote_is Q txn (log.Prepared q) there p e = chosen (same_txn q.txn txn) refl e
   where
-    chosen : (b : Bool) → same_txn q.txn txn ≡ b → (if b then Some q else None) ≡ Some p → IsVoteOf sc txn p
-    chosen true same f = subst (IsVoteOf sc txn) (same_Some q p f) (same_txn_is q.txn txn same, there)
+    chosen : (b : Bool) → same_txn q.txn txn ≡ b → (if b then Some q else None) ≡ Some p → IsVoteOf Q txn p
+    chosen true same f = subst (IsVoteOf Q txn) (same_Some q p f) (same_txn_is q.txn txn same, there)
     chosen false apart f = absurd (cc)
-vote_is sc txn (log.Settled s) there p e = absurd (cc)
-vote_is sc txn (log.Decided d) there p e = absurd (cc)
+vote_is Q txn (log.Settled s) there p e = absurd (cc)
+vote_is Q txn (log.Decided d) there p e = absurd (cc)
 
-of_either : (P : Prepared → Type 0) (old new : Option Prepared) (p : Prepared) → ((q : Prepared) → old ≡ Some q → P q) → ((q : Prepared) → new ≡ Some q → P q)
-    → option_or old new ≡ Some p → P p
-of_either P (Some q) new p one other e = one p e
-of_either P None new p one other e = other p e
+of_either : {A : Type 0} (P : A → Type 0) (old new : Option A) (x : A) → ((y : A) → old ≡ Some y → P y) → ((y : A) → new ≡ Some y → P y) → option_or old new ≡ Some x → P x
+of_either P (Some y) new x one other e = one x e
+of_either P None new x one other e = other x e
 
-voted_is : (sc : Scenario) (txn : TxnId) (records : List Record) → Each (IsOfScenario sc) records → (p : Prepared) → voted_in txn records ≡ Some p → IsVoteOf sc txn p
-voted_is sc txn [] each p e = absurd (cc)
-voted_is sc txn (first ∷ records) each p e =
-    of_either (IsVoteOf sc txn) (voted_in txn records) (preparation_in txn first) p (λ q f. voted_is sc txn records each.1 q f) (λ q f. vote_is sc txn first each.0 q f) e
+voted_is : (Q : Record → Type 0) (txn : TxnId) (records : List Record) → Each Q records → (p : Prepared) → voted_in txn records ≡ Some p → IsVoteOf Q txn p
+voted_is Q txn [] each p e = absurd (cc)
+voted_is Q txn (first ∷ records) each p e =
+    of_either (IsVoteOf Q txn) (voted_in txn records) (preparation_in txn first) p (λ q f. voted_is Q txn records each.1 q f) (λ q f. vote_is Q txn first each.0 q f) e
 
 unsettled : (settled : Option Settled) (voted : Option Prepared) (p : Prepared) → while_unsettled settled voted ≡ Some p → voted ≡ Some p
 unsettled None voted p e = e
 unsettled (Some s) voted p e = absurd (cc)
 
--- what is prepared of a transaction is a vote of it
-prepared_is : (sc : Scenario) (txn : TxnId) (records : List Record) → Each (IsOfScenario sc) records → (p : Prepared) → prepared_in txn records ≡ Some p → IsVoteOf sc txn p
-prepared_is sc txn records each p e = voted_is sc txn records each p (unsettled (settled_in txn records) (voted_in txn records) p e)
+-- what is prepared of a transaction is a vote of it, and what holds of each record holds of that
+pub prepared_is : (Q : Record → Type 0) (txn : TxnId) (records : List Record) → Each Q records → (p : Prepared) → prepared_in txn records ≡ Some p → IsVoteOf Q txn p
+prepared_is Q txn records each p e = voted_is Q txn records each p (unsettled (settled_in txn records) (voted_in txn records) p e)
+
+-- a settlement of this transaction, whose record Q holds of
+abbrev pub IsEndOf : (Record → Type 0) → TxnId → Settled → Type 0
+IsEndOf Q txn s = (s.txn ≡ txn) × Q (log.Settled s)
+
+end_is : (Q : Record → Type 0) (txn : TxnId) (next : Record) → Q next → (s : Settled) → settlement_in txn next ≡ Some s → IsEndOf Q txn s
+end_is Q txn log.Boot there s e = absurd (cc)
+end_is Q txn (log.Told t) there s e = absurd (cc)
+end_is Q txn (log.Prepared p) there s e = absurd (cc)
+end_is Q txn (log.Settled r) there s e = chosen (same_txn r.txn txn) refl e
+  where
+    chosen : (b : Bool) → same_txn r.txn txn ≡ b → (if b then Some r else None) ≡ Some s → IsEndOf Q txn s
+    chosen true same f = subst (IsEndOf Q txn) (same_Some r s f) (same_txn_is r.txn txn same, there)
+    chosen false apart f = absurd (cc)
+end_is Q txn (log.Decided d) there s e = absurd (cc)
+
+-- and so it is of what is settled
+pub settled_is : (Q : Record → Type 0) (txn : TxnId) (records : List Record) → Each Q records → (s : Settled) → settled_in txn records ≡ Some s → IsEndOf Q txn s
+settled_is Q txn [] each s e = absurd (cc)
+settled_is Q txn (first ∷ records) each s e =
+    of_either (IsEndOf Q txn) (settlement_in txn first) (settled_in txn records) s (λ r f. end_is Q txn first each.0 r f) (λ r f. settled_is Q txn records each.1 r f) e
 
 -- ---- the answer
 
-filled_within : {A : Type 0} (table : List (Option A)) (n : ℕ) (x : A) → option_flatten (slice_get table n) ≡ Some x → n < length table
+-- a place of a table that is not empty is within it
+pub filled_within : {A : Type 0} (table : List (Option A)) (n : ℕ) (x : A) → option_flatten (slice_get table n) ≡ Some x → n < length table
 filled_within {A = A} table n x e = within (slice_get table n) refl e
   where
     within : (place : Option (Option A)) → slice_get table n ≡ place → option_flatten place ≡ Some x → n < length table
     within None is f = absurd (cc)
     within (Some there) is f = slice_get_within table n there is
 
-placed_is : (sc : Scenario) (at : ServerId) (k : Kept) (records : List Record) → SaysLog sc at k records → Each (IsOfScenario sc) records
+-- what the table of what is prepared has at a place is prepared on the log, of the transaction of the place
+pub placed_is : (sc : Scenario) (at : ServerId) (k : Kept) (records : List Record) → SaysLog sc at k records → Each (IsOfScenario sc) records
     → (n : ℕ) (p : Prepared) → option_flatten (slice_get k.prepared n) ≡ Some p → (prepared_in p.txn records ≡ Some p) × (p.txn.0 ≡ n)
 placed_is sc at k records h each n p e =
     let within : n < length k.prepared = filled_within k.prepared n p e in
     let inside : n < length sc.txns = omega (arith, h.prepared_places) in
     let txn : TxnId = record { 0 = n } in
     let is : prepared_in txn records ≡ Some p = sym (h.prepared txn inside) ∙ e in
-    let same : p.txn ≡ txn = (prepared_is sc txn records each p is).0 in
+    let same : p.txn ≡ txn = (prepared_is (IsOfScenario sc) txn records each p is).0 in
     (ap (λ (one : TxnId). prepared_in one records) same ∙ is, ap (λ (one : TxnId). one.0) same)
 
 answer_says : (sc : Scenario) (at : ServerId) (k : Kept) (records : List Record) → SaysLog sc at k records → Each (IsOfScenario sc) records → HeldSays sc at (held_of k) records
@@ -152,7 +174,7 @@ answer_says sc at k records h each =
       values = h.values;
       prepared = λ p. (
         λ there. let found = listed_in_table k.prepared p there in (placed_is sc at k records h each found.0 p found.1).0,
-        λ is. let inside = (prepared_is sc p.txn records each p is).1 in listed_from_table k.prepared p.txn.0 p (h.prepared p.txn inside ∙ is),
+        λ is. let inside = (prepared_is (IsOfScenario sc) p.txn records each p is).1 in listed_from_table k.prepared p.txn.0 p (h.prepared p.txn inside ∙ is),
       );
       rising = listed_rises k.prepared (λ n p e. (placed_is sc at k records h each n p e).1);
       settled = λ s. (

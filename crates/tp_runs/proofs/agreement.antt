@@ -1,6 +1,7 @@
 -- Actors agree with their logs, and logs with each other: one decision everywhere.
 pub mod Coordinator
 pub mod CoordinatorActs
+pub mod Crashes
 pub mod End
 pub mod Ended
 pub mod Known

@@ -1,5 +1,6 @@
 -- Lemmas on lists, tables, ids, logs and facts, which know no theorem.
 pub mod Aims
+pub mod Booted
 pub mod Crashes
 pub mod Facts
 pub mod Folds

@@ -8,6 +8,7 @@ pub mod Lengths
 pub mod Ranges
 pub mod Reads
 pub mod Refused
+pub mod Rising
 pub mod Runs
 pub mod Stores
 pub mod Tentative

@@ -2,6 +2,7 @@
 pub mod Acts
 pub mod Built
 pub mod Coordinator
+pub mod Crashes
 pub mod Queries
 pub mod Server
 pub mod Steps

@@ -1,2 +1,3 @@
 -- Facts of steps are those of the steps.
+pub mod Crashes
 pub mod Steps

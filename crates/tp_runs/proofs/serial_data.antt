@@ -1,6 +1,8 @@
 -- Reads and committed data are those of the serial run, in the order of commits. OnLog and UpOnLog say what a server's log keeps of it;
 -- Unsettled, Settling, Receiving and Deciding how the acts of servers and coordinators change it.
+pub mod Booted
 pub mod Clear
+pub mod Crashes
 pub mod Deciding
 pub mod End
 pub mod Lone

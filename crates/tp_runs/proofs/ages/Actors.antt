@@ -123,7 +123,7 @@ prepare_letters_aged : (A : TxnId → ℕ → Type 0) (place : ℕ) (c : Coordin
 prepare_letters_aged A place c turn round staple [] = tt
 prepare_letters_aged A place c turn round staple (at ∷ servers) = (tt, prepare_letters_aged A place c turn round staple servers)
 
-orders_aged : (A : TxnId → ℕ → Type 0) (place : ℕ) (c : Coordinator) (ended : Outcome) (servers : List ServerId)
+pub orders_aged : (A : TxnId → ℕ → Type 0) (place : ℕ) (c : Coordinator) (ended : Outcome) (servers : List ServerId)
     → Each (LetterAged A place) (map (λ (at : ServerId). coord.request c at (body.Decide (record { txn = c.txn; outcome = ended }))) servers)
 orders_aged A place c ended [] = tt
 orders_aged A place c ended (at ∷ servers) = (tt, orders_aged A place c ended servers)

@@ -1,17 +1,18 @@
 -- Ages over every list of steps: the age of an entry, of what is prepared and of a coordinator is the place of the submission.
 use Rattle.std.proofs.Common.{IfSome, List, None, Option, Some, [], ap, is_some, length, refl, slice_get, subst, suc, sym, zero, ℕ, ◌++◌, ◌∙◌, ◌∷◌, ◌≡◌}
 use Rattle.tp_types.specs.Effect.{Effect}
+use Rattle.tp_model.specs.Words.actor
 use Rattle.tp_model.specs.Words.body
 use Rattle.tp_model.specs.Words.step
 use Rattle.tp_model.specs.Words.what
 use Rattle.tp_model.specs.Words.{Body, Letter, Mail, Prepared, Record, Scenario, ServerId, Step, TxnId, What}
-use Rattle.tp_runs.proofs.ages.Actors.{BodyAged, CoordinatorAged, CoordinatorAges, EntryAged, LetterAged, PreparedAged, RecordAged, SubmissionAges, coordinator_row_ages, repeats_aged, server_row_ages, submit_row_ages}
+use Rattle.tp_runs.proofs.ages.Actors.{BodyAged, CoordinatorAged, CoordinatorAges, EntryAged, LetterAged, PreparedAged, RecordAged, ServerAges, SubmissionAges, coordinator_row_ages, repeats_aged, server_row_ages, submit_row_ages}
 use Rattle.tp_runs.proofs.agreement.Steps.{own_txn}
 use Rattle.tp_runs.proofs.agreement.World.{Agrees}
 use Rattle.tp_runs.proofs.basics.Facts.{each_new_mail}
 use Rattle.tp_types.proofs.EachLemmas.{at_made, at_set, each_append, each_as, each_get, placed_none}
 use Rattle.tp_runs.proofs.basics.Logs.{prepared_grown}
-use Rattle.tp_runs.proofs.walks.Steps.{Cases, IsCoordinatorUp, WaitRightly, machine_after_by}
+use Rattle.tp_runs.proofs.walks.Steps.{Cases, IsCoordinatorUp, IsServerUp, WaitRightly, WasSent, machine_after_by}
 use Rattle.tp_recover.specs.Log.{prepared_in}
 use Rattle.tp_machine.specs.Machine.{Machine, Move, State, acts, acts_by, coordinator_fact, coordinator_move, log_with, machine_after, mails_of, opened_part, opening_state, refusal, server_fact, server_move, state_after, with_age}
 use Rattle.tp_machine.specs.Parts.{Part}
@@ -97,10 +98,10 @@ all_widen A B actors mails wider h =
     }
 
 -- the submissions among the steps and one more
-abbrev Now : State → Step → TxnId → ℕ → Type 0
+abbrev pub Now : State → Step → TxnId → ℕ → Type 0
 Now w taken = IsSubmission (w.steps ++ taken ∷ [])
 
-ages_now : (w : State) (taken : Step) → Ages w → AreAged (Now w taken) w.actors w.mails
+pub ages_now : (w : State) (taken : Step) → Ages w → AreAged (Now w taken) w.actors w.mails
 ages_now w taken h = all_widen (IsSubmission w.steps) (Now w taken) w.actors w.mails (λ txn place e. found_still w.steps (taken ∷ []) place (step.Submit txn) e) h
 
 -- ---- a move
@@ -109,7 +110,7 @@ pub record MoveAges (w : State) (taken : Step) (move : Move) : Type 0 where
   pub actors_are : AreAged (Now w taken) move.actors w.mails
   pub letters : Each (LetterAged (Now w taken) (length w.steps)) move.letters
 
-state_after_ages : (w : State) (taken : Step) (move : Move) → MoveAges w taken move → Ages (state_after w taken move)
+pub state_after_ages : (w : State) (taken : Step) (move : Move) → MoveAges w taken move → Ages (state_after w taken move)
 state_after_ages w taken move t =
     record {
       servers = t.actors_are.servers;
@@ -121,12 +122,12 @@ state_after_ages w taken move t =
 -- ---- acts
 
 -- what an act of a server leaves and says of ages, whether it is up after it or down
-record ServerActsAges (A : TxnId → ℕ → Type 0) (place : ℕ) (now : Option Server) (append : Option Record) (letters : List Letter) : Type 0 where
+pub record ServerActsAges (A : TxnId → ℕ → Type 0) (place : ℕ) (now : Option Server) (append : Option Record) (letters : List Letter) : Type 0 where
   pub entries : IfSome now (λ (s : Server). EachPlaced (EntryAged A) s.entries)
   pub forces : IfSome append (RecordAged A)
   pub letters_are : Each (LetterAged A place) letters
 
-server_acts_ages : (w : State) (taken : Step) (at : ServerId) (part : Part Server) (now : Option Server) (own : List What) (append : Option Record) (letters : List Letter) → Ages w
+pub server_acts_ages : (w : State) (taken : Step) (at : ServerId) (part : Part Server) (now : Option Server) (own : List What) (append : Option Record) (letters : List Letter) → Ages w
     → slice_get w.actors.servers at.0 ≡ Some part → ServerActsAges (Now w taken) (length w.steps) now append letters
     → MoveAges w taken (server_move w.actors at (acts (server_fact at) own part.log now (log_with part.log append) letters))
 server_acts_ages w taken at part now own append letters h found t =
@@ -145,7 +146,7 @@ server_acts_ages w taken at part now own append letters h found t =
       letters = t.letters_are;
     }
 
-coordinator_acts_ages : (w : State) (taken : Step) (txn : TxnId) (kept : List Record) (now : Option Coordinator) (own : List What) (append : Option Record) (letters : List Letter) → Ages w
+pub coordinator_acts_ages : (w : State) (taken : Step) (txn : TxnId) (kept : List Record) (now : Option Coordinator) (own : List What) (append : Option Record) (letters : List Letter) → Ages w
     → IfSome now (CoordinatorAged (Now w taken)) → Each (LetterAged (Now w taken) (length w.steps)) letters
     → MoveAges w taken (coordinator_move w.actors txn (acts coordinator_fact own kept now (log_with kept append) letters))
 coordinator_acts_ages w taken txn kept now own append letters h aged_is letters_are =
@@ -203,6 +204,14 @@ begun_ages sc w sound h txn part c up =
     let t = submit_row_ages A place sc c aged.age m in
     coordinator_acts_ages w (step.Submit txn) txn part.log (Some effect.state) (what.Submitted txn ∷ []) effect.reaction.append effect.reaction.letters h (aged_now A place c effect t m) t.letters
 
+-- the row of a server on a mail that was sent
+pub server_sends_aged : (sc : Scenario) (w : State) (taken : Step) → WaitRightly sc w → Ages w → (n : ℕ) (mail : Mail) (at : ServerId) (part : Part Server) (s : Server) → WasSent w n mail (actor.Server at) → IsServerUp w at part s
+    → ServerAges (Now w taken) (length w.steps) (server_row sc s mail)
+server_sends_aged sc w taken rightly h n mail at part s sent up =
+    let now = ages_now w taken h in
+    let entries = subst (λ (u : Option Server). IfSome u (λ (t : Server). EachPlaced (EntryAged (Now w taken)) t.entries)) up.up (now.servers at.0 part up.found).entries in
+    server_row_ages (Now w taken) (length w.steps) sc s mail (rightly at part s up) entries (each_get (MailAged (Now w taken)) w.mails n mail now.sent sent.sent)
+
 -- ---- steps
 
 ages_cases : (sc : Scenario) (w : State) → WaitRightly sc w → IsSound sc w → Ages w → Cases sc w (MoveAges w)
@@ -211,10 +220,8 @@ ages_cases sc w rightly sound h =
       idle = λ taken happened e. record { actors_are = ages_now w taken h; letters = tt };
       server_received = λ n mail at part s sent up.
           let taken = step.Deliver n in
-          let now = ages_now w taken h in
-          let entries = subst (λ (u : Option Server). IfSome u (λ (t : Server). EachPlaced (EntryAged (Now w taken)) t.entries)) up.up (now.servers at.0 part up.found).entries in
           let effect = server_row sc s mail in
-          let t = server_row_ages (Now w taken) (length w.steps) sc s mail (rightly at part s up) entries (each_get (MailAged (Now w taken)) w.mails n mail now.sent sent.sent) in
+          let t = server_sends_aged sc w taken rightly h n mail at part s sent up in
           server_acts_ages w taken at part (Some effect.state) [] effect.reaction.append effect.reaction.letters h up.found
           (record { entries = t.entries; forces = t.forces; letters_are = t.letters });
       coordinator_received = λ n mail txn part c sent up.

@@ -333,7 +333,7 @@ prepares_lawful sc P S c kept round staple h e =
     }
 
 -- an order to each of these servers
-orders_lawful : (sc : Scenario) (txn : TxnId) (begun : Bool) (decided : Option Decision) (ended : Outcome) (c : Coordinator) (servers : List ServerId) → c.txn ≡ txn → begun ≡ true
+pub orders_lawful : (sc : Scenario) (txn : TxnId) (begun : Bool) (decided : Option Decision) (ended : Outcome) (c : Coordinator) (servers : List ServerId) → c.txn ≡ txn → begun ≡ true
     → option_map outcome_of decided ≡ Some ended → HaveItems sc txn servers
     → Each (LetterAgrees sc txn begun decided) (map (λ (at : ServerId). request c at (body.Decide (record { txn = c.txn; outcome = ended }))) servers)
 orders_lawful sc txn begun decided ended c [] same b d h = tt

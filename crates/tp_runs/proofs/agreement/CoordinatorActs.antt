@@ -77,7 +77,7 @@ fresh_decided sc P txn kept (Some (log.Decided d)) h = h.undecided
 fresh_decided sc P txn kept (Some _) h = tt
 
 -- a decision comes after the submission
-facts_follow_in_coordinator_acts : (sc : Scenario) (P : ServerId → Type 0) (facts : List Fact) (txn : TxnId) (kept : List Record) (append : Option Record) → IfSome append (IsFirst sc P txn kept) → (is_some (appended decision_in append) ≡ true → list_any (is_submission txn) facts ≡ true)
+pub facts_follow_in_coordinator_acts : (sc : Scenario) (P : ServerId → Type 0) (facts : List Fact) (txn : TxnId) (kept : List Record) (append : Option Record) → IfSome append (IsFirst sc P txn kept) → (is_some (appended decision_in append) ≡ true → list_any (is_submission txn) facts ≡ true)
     → Each (WhatFollows sc facts) (coordinator_facts append)
 facts_follow_in_coordinator_acts sc P facts txn kept None h submitted = tt
 facts_follow_in_coordinator_acts sc P facts txn kept (Some (log.Decided d)) h submitted = (subst (λ (t : TxnId). list_any (is_submission t) facts ≡ true) (sym h.own) (submitted refl), tt)

@@ -43,7 +43,7 @@ pub record Learns (s : Server) (effect : Effect Server) : Type 0 where
 pub opening_knows : (sc : Scenario) (at : ServerId) → KnowsTold sc at [] (opening sc at)
 opening_knows sc at admin exists = omega arith
 
-known_count : (admins : List Admin) (versions : List Version) → AreVersionsOf admins versions → length versions ≡ length admins
+pub known_count : (admins : List Admin) (versions : List Version) → AreVersionsOf admins versions → length versions ≡ length admins
 known_count [] [] h = refl
 known_count [] (version ∷ versions) h = absurd h
 known_count (admin ∷ admins) [] h = absurd h

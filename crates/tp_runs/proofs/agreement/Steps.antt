@@ -47,7 +47,7 @@ use Rattle.tp_offices.specs.declared.master.Master.{Master}
 
 -- ---- what a step says by itself
 
-silent_says : (sc : Scenario) (w : State) → SaysOnly sc w.facts []
+pub silent_says : (sc : Scenario) (w : State) → SaysOnly sc w.facts []
 silent_says sc w = record { follows = tt; no_submission = λ txn. refl; no_decision = λ txn. refl; no_settlement = λ at txn. refl }
 
 lost_says : (sc : Scenario) (w : State) (mail : ℕ) → SaysOnly sc w.facts (what.Lost mail ∷ [])

@@ -53,7 +53,7 @@ listed P (first ∷ table) zero (suc m) writes h new = h (suc m)
 listed P (first ∷ table) (suc n) zero writes h new = h zero
 listed P (first ∷ table) (suc n) (suc m) writes h new = listed (λ k. P (suc k)) table n m writes (λ k. h (suc k)) new
 
-writes_set_in_basics : (P : TxnId → TentativeWrite → Type 0) (store : Contents) (txn : TxnId) (writes : List TentativeWrite) → EachWrite P store → Each (P txn) writes → EachWrite P (with_writes store txn writes)
+pub writes_set_in_basics : (P : TxnId → TentativeWrite → Type 0) (store : Contents) (txn : TxnId) (writes : List TentativeWrite) → EachWrite P store → Each (P txn) writes → EachWrite P (with_writes store txn writes)
 writes_set_in_basics P store txn writes h new other = listed (λ k write. P (record { 0 = k }) write) store.tentative txn.0 other.0 writes (λ k. h (record { 0 = k })) new
 
 placed : (P : TentativeWrite → Type 0) (kept : TentativeWrite) (writes : List TentativeWrite) (write : TentativeWrite) (same latest : Bool) → Each P (kept ∷ writes) → P write → Each P (with_write writes write)
@@ -62,7 +62,7 @@ placed P kept writes write true true h new rest = (new, h.1)
 placed P kept writes write true false h new rest = h
 placed P kept writes write false latest h new rest = (h.0, rest)
 
-one_more_in_basics : (P : TentativeWrite → Type 0) (writes : List TentativeWrite) (write : TentativeWrite) → Each P writes → P write → Each P (with_write writes write)
+pub one_more_in_basics : (P : TentativeWrite → Type 0) (writes : List TentativeWrite) (write : TentativeWrite) → Each P writes → P write → Each P (with_write writes write)
 one_more_in_basics P [] write h new = (new, tt)
 one_more_in_basics P (kept ∷ writes) write h new = placed P kept writes write (is_on write.item kept) (nat_le kept.query write.query) h new (one_more_in_basics P writes write h.1 new)
 

@@ -110,7 +110,7 @@ prepares_say_none : (c : Coordinator) (turn : ℕ) (round : Round) (staple : Sta
 prepares_say_none c turn round staple [] = tt
 prepares_say_none c turn round staple (at ∷ servers) = (tt, prepares_say_none c turn round staple servers)
 
-orders_say_none : (c : Coordinator) (ended : Outcome) (servers : List ServerId) → Each IsBoundedLetter (map (λ (at : ServerId). coord.request c at (body.Decide (record { txn = c.txn; outcome = ended }))) servers)
+pub orders_say_none : (c : Coordinator) (ended : Outcome) (servers : List ServerId) → Each IsBoundedLetter (map (λ (at : ServerId). coord.request c at (body.Decide (record { txn = c.txn; outcome = ended }))) servers)
 orders_say_none c ended [] = tt
 orders_say_none c ended (at ∷ servers) = (tt, orders_say_none c ended servers)
 

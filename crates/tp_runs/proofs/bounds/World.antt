@@ -13,14 +13,14 @@ use Rattle.tp_model.specs.Words.what
 use Rattle.tp_model.specs.Words.{Body, Deed, Letter, Mail, Record, Scenario, ServerId, Settled, Step, Transaction, TxnId, What}
 use Rattle.tp_runs.proofs.agreement.Logs.{DecidedAs, IsAsked}
 use Rattle.tp_runs.proofs.agreement.Server.{RequestRests, open_unsettled}
-use Rattle.tp_runs.proofs.agreement.Steps.{mail_rests, request_rests, server_agrees, server_lawful}
+use Rattle.tp_runs.proofs.agreement.Steps.{mail_rests, request_rests, server_agrees}
 use Rattle.tp_runs.proofs.agreement.World.{Agrees, PreparesNamed}
 use Rattle.tp_runs.proofs.basics.Facts.{each_new_mail}
 use Rattle.tp_types.proofs.EachLemmas.{at_made, at_set, each_append, each_as, each_drop, each_flat_map, each_get, each_map, each_more, placed_none}
 use Rattle.tp_runs.proofs.basics.Stores.{opened_each}
 use Rattle.tp_runs.proofs.bounds.Coordinator.{CoordinatorBounds, CoordinatorLow, coordinator_row_bounds, repeats_bounded, submit_row_bounds}
 use Rattle.tp_runs.proofs.bounds.Numbers.{AreBefore, number_low, sums_exact, values_most}
-use Rattle.tp_runs.proofs.bounds.Server.{IsBoundedLetter, OrdersBounded, ServerBefore, server_row_bounds}
+use Rattle.tp_runs.proofs.bounds.Server.{IsBoundedLetter, OrdersBounded, ServerBounds, server_row_bounds}
 use Rattle.tp_runs.proofs.bounds.Values.{grown_in_range, log_in_range}
 use Rattle.tp_runs.proofs.ids.Queries.{have_homes}
 use Rattle.tp_runs.proofs.ids.Valid.{IsValid}
@@ -28,8 +28,8 @@ use Rattle.tp_runs.proofs.basics.Found.{of_some}
 use Rattle.tp_runs.proofs.known.World.{Pairs}
 use Rattle.tp_runs.proofs.deeds.Built.{opening_in_range}
 use Rattle.tp_recover.specs.Log.{values_by}
-use Rattle.tp_runs.proofs.serial_data.Rows.{RequestClear, deeds_in, server_row_keeps, values_length}
-use Rattle.tp_runs.proofs.serial_data.Steps.{received_clear}
+use Rattle.tp_runs.proofs.serial_data.Rows.{deeds_in, values_length}
+use Rattle.tp_runs.proofs.serial_data.Steps.{received_clear, server_brings}
 use Rattle.tp_runs.proofs.serial_data.UpOnLog.{EndsOnce, UpOnLog, acts_on_log, values_by_log}
 use Rattle.tp_runs.proofs.serial_data.Receiving.{record_ends}
 use Rattle.tp_runs.proofs.serial_data.World.{Serial, up_on_log}
@@ -82,7 +82,7 @@ pub record MoveBounds (sc : Scenario) (move : Move) : Type 0 where
   pub letters : Each IsBoundedLetter move.letters
   pub happened : Each IsBoundedWhat move.happened
 
-state_after_bounds : (sc : Scenario) (w : State) (taken : Step) (move : Move) → Bounds sc w → MoveBounds sc move → Bounds sc (state_after w taken move)
+pub state_after_bounds : (sc : Scenario) (w : State) (taken : Step) (move : Move) → Bounds sc w → MoveBounds sc move → Bounds sc (state_after w taken move)
 state_after_bounds sc w taken move h t =
     record {
       servers = t.servers;
@@ -165,26 +165,31 @@ orders_bounded sc w valid agrees serial n mail at part s sent up in_range items_
     ∙ grown_in_range sc s.store.values part.log (Some (log.Settled (settled_as d))) (serial.servers at.0 part up.found).tested in_range in
     values_most sc (values_by s.store.values d.outcome (deeds_in (entry_at s d.txn))) valid (values_length (length sc.items) d.outcome s.store.values (deeds_in (entry_at s d.txn)) items_are) range
 
+-- the row of a server on a mail that was sent
+pub server_sends_bounded : (sc : Scenario) (w : State) → IsValid sc → WaitRightly sc w → IsSound sc w → PreparesNamed w → Agrees sc w → Pairs sc w → Serial sc w → Bounds sc w → (n : ℕ) (mail : Mail) (at : ServerId) (part : Part Server) (s : Server)
+    → WasSent w n mail (actor.Server at) → IsServerUp w at part s → ServerBounds (server_row sc s mail)
+server_sends_bounded sc w valid rightly sound named agrees pairs serial h n mail at part s sent up =
+    let old : IsBoundedServer sc s = of_some (IsBoundedServer sc) part.up s up.up (h.servers at.0 part up.found).state in
+    let was : UpOnLog sc s part.log = up_on_log sc w at part s serial up.found up.up in
+    server_row_bounds sc (IsAsked sc w.actors.coordinators at) s mail (rightly at part s up)
+    (record { values = old.values; kept = record { writes = old.writes; settled = old.settled; entries = old.entries } })
+    (each_get IsBoundedMail w.mails n mail h.mails sent.sent) was.reads (received_clear sc w valid sound agrees pairs serial n mail at part s sent up)
+    (orders_bounded sc w valid agrees serial n mail at part s sent up old.in_range was.reads.items_are)
+
 receipt_by_server_in_bounds : (sc : Scenario) (w : State) → IsValid sc → WaitRightly sc w → IsSound sc w → PreparesNamed w → Agrees sc w → Pairs sc w → Serial sc w → Bounds sc w → (n : ℕ) (mail : Mail) (at : ServerId) (part : Part Server) (s : Server)
     → WasSent w n mail (actor.Server at) → IsServerUp w at part s → MoveBounds sc (server_move w.actors at (acts_by (server_fact at) [] part.log (server_row sc s mail)))
 receipt_by_server_in_bounds sc w valid rightly sound named agrees pairs serial h n mail at part s sent up =
-    let M = IsAsked sc w.actors.coordinators at in
     let effect = server_row sc s mail in
-    let old : IsBoundedServer sc s = of_some (IsBoundedServer sc) part.up s up.up (h.servers at.0 part up.found).state in
-    let was : UpOnLog sc s part.log = up_on_log sc w at part s serial up.found up.up in
-    let clear : RequestClear sc M s mail.letter.body = received_clear sc w valid sound agrees pairs serial n mail at part s sent up in
-    let keeps = server_row_keeps sc M s mail (rightly at part s up) was.reads clear in
-    let before : ServerBefore s = record { values = old.values; kept = record { writes = old.writes; settled = old.settled; entries = old.entries } } in
-    let row = server_row_bounds sc M s mail (rightly at part s up) before (each_get IsBoundedMail w.mails n mail h.mails sent.sent) was.reads clear
-    (orders_bounded sc w valid agrees serial n mail at part s sent up old.in_range was.reads.items_are) in
+    let row : ServerBounds effect = server_sends_bounded sc w valid rightly sound named agrees pairs serial h n mail at part s sent up in
+    let brings = server_brings sc w valid rightly sound named agrees pairs serial n mail at part s sent up in
     let after : UpOnLog sc effect.state (log_with part.log effect.reaction.append) =
-    acts_on_log sc M s part.log effect was (server_agrees sc w at part s agrees up) keeps (record_ends sc w at part effect.reaction.append agrees up.found (server_lawful sc w rightly named agrees n mail at part s sent up).rests) in
+    acts_on_log sc (IsAsked sc w.actors.coordinators at) s part.log effect (up_on_log sc w at part s serial up.found up.up) brings.agrees brings.keeps (record_ends sc w at part effect.reaction.append agrees up.found brings.rests) in
     let range : are_in_range sc.items effect.state.store.values ≡ true =
     ap (are_in_range sc.items) after.values ∙ log_in_range sc part.log effect.reaction.append (serial.servers at.0 part up.found).tested (h.servers at.0 part up.found).in_range in
     server_acts_bounds sc w at part (Some effect.state) [] effect.reaction.append effect.reaction.letters serial h up.found
     (record {
       in_range = range;
-      values = values_most sc effect.state.store.values valid keeps.reads.items_are range;
+      values = values_most sc effect.state.store.values valid brings.keeps.reads.items_are range;
       writes = row.kept.writes;
       settled = row.kept.settled;
       entries = row.kept.entries;
@@ -208,11 +213,17 @@ coordinator_acts_bounds sc w txn part now own append letters h found state told 
 low_of : (sc : Scenario) (w : State) (txn : TxnId) (part : Part Coordinator) (c : Coordinator) → Bounds sc w → IsCoordinatorUp w txn part c → CoordinatorLow c
 low_of sc w txn part c h up = of_some CoordinatorLow part.up c up.up (h.coordinators txn.0 part up.found).state
 
+-- the row of a coordinator on a mail that was sent
+pub coordinator_sends_bounded : (sc : Scenario) (w : State) → IsValid sc → Bounds sc w → (n : ℕ) (mail : Mail) (txn : TxnId) (part : Part Coordinator) (c : Coordinator) → WasSent w n mail (actor.Coordinator txn) → IsCoordinatorUp w txn part c
+    → CoordinatorBounds (coordinator_row sc c mail)
+coordinator_sends_bounded sc w valid h n mail txn part c sent up =
+    coordinator_row_bounds sc c mail valid (have_homes sc valid) (low_of sc w txn part c h up) (each_get IsBoundedMail w.mails n mail h.mails sent.sent)
+
 receipt_by_coordinator_in_bounds : (sc : Scenario) (w : State) → IsValid sc → Bounds sc w → (n : ℕ) (mail : Mail) (txn : TxnId) (part : Part Coordinator) (c : Coordinator) → WasSent w n mail (actor.Coordinator txn)
     → IsCoordinatorUp w txn part c → MoveBounds sc (coordinator_move w.actors txn (acts_by coordinator_fact [] part.log (coordinator_row sc c mail)))
 receipt_by_coordinator_in_bounds sc w valid h n mail txn part c sent up =
     let effect = coordinator_row sc c mail in
-    let row : CoordinatorBounds effect = coordinator_row_bounds sc c mail valid (have_homes sc valid) (low_of sc w txn part c h up) (each_get IsBoundedMail w.mails n mail h.mails sent.sent) in
+    let row : CoordinatorBounds effect = coordinator_sends_bounded sc w valid h n mail txn part c sent up in
     coordinator_acts_bounds sc w txn part (Some effect.state) [] effect.reaction.append effect.reaction.letters h up.found row.state tt row.forces row.letters
 
 begun_bounds : (sc : Scenario) (w : State) → IsValid sc → Bounds sc w → (txn : TxnId) (part : Part Coordinator) (c : Coordinator) → IsCoordinatorUp w txn part c → is_part_submitted (Some c) ≡ false

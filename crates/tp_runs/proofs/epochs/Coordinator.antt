@@ -73,7 +73,7 @@ prepares_keeps sc E A c round staple h e =
 
 -- ---- Vote
 
-orders_plain : (c : Coordinator) (ended : Outcome) (servers : List ServerId) → Each IsPlainLetter (coord.requests c (body.Decide (record { txn = c.txn; outcome = ended })) servers)
+pub orders_plain : (c : Coordinator) (ended : Outcome) (servers : List ServerId) → Each IsPlainLetter (coord.requests c (body.Decide (record { txn = c.txn; outcome = ended })) servers)
 orders_plain c ended [] = tt
 orders_plain c ended (at ∷ servers) = (tt, orders_plain c ended servers)
 

@@ -78,7 +78,7 @@ pub record MoveEpochs (sc : Scenario) (A : Asking) (w : State) (move : Move) : T
 abbrev pub StepEpochs : Scenario → State → Move → Type 0
 StepEpochs sc w move = MoveEpochs sc (asked_then (asked_in w.mails) move.letters) w move
 
-state_after_epochs : (sc : Scenario) (w : State) (taken : Step) (move : Move) → StepEpochs sc w move → Epochs sc (state_after w taken move)
+pub state_after_epochs : (sc : Scenario) (w : State) (taken : Step) (move : Move) → StepEpochs sc w move → Epochs sc (state_after w taken move)
 state_after_epochs sc w taken move t =
     let A = asked_then (asked_in w.mails) move.letters in
     let E = epoch_at move.actors.servers in
@@ -205,7 +205,7 @@ reply_told sc A E at epoch from (body.Done done) e h =
 reply_told sc A E at epoch from _ e h = tt
 
 -- a server that was up or down, and is up or down after it: what it forced and what it sent
-server_acts_epochs : (sc : Scenario) (w : State) (at : ServerId) (part : Part Server) (own : List What) (now : Option Server) (append : Option Record) (letters : List Letter) → Epochs sc w
+pub server_acts_epochs : (sc : Scenario) (w : State) (at : ServerId) (part : Part Server) (own : List What) (now : Option Server) (append : Option Record) (letters : List Letter) → Epochs sc w
     → slice_get w.actors.servers at.0 ≡ Some part → ServerEpochs sc (asked_in w.mails) at part.log now append letters
     → StepEpochs sc w (server_move w.actors at (acts (server_fact at) own part.log now (log_with part.log append) letters))
 server_acts_epochs sc w at part own now append letters h found t =
@@ -252,7 +252,7 @@ set_apart P xs k old new found others here n x e = by_number (k == n) refl (sym 
     by_number false apart f = others n x apart f
 
 -- a coordinator that was up or down, and is up or down after it
-coordinator_acts_epochs : (sc : Scenario) (w : State) (txn : TxnId) (part : Part Coordinator) (own : List What) (now : Option Coordinator) (append : Option Record) (letters : List Letter) → Epochs sc w
+pub coordinator_acts_epochs : (sc : Scenario) (w : State) (txn : TxnId) (part : Part Coordinator) (own : List What) (now : Option Coordinator) (append : Option Record) (letters : List Letter) → Epochs sc w
     → slice_get w.actors.coordinators txn.0 ≡ Some part → CoordinatorEpochs sc (epoch_at w.actors.servers) (asked_in w.mails) txn now letters
     → StepEpochs sc w (coordinator_move w.actors txn (acts coordinator_fact own part.log now (log_with part.log append) letters))
 coordinator_acts_epochs sc w txn part own now append letters h found t =
@@ -286,17 +286,22 @@ row_at sc A s at kept mail waits same made first named =
     (server_row_made sc A s kept mail waits (subst (λ (a : ServerId). ServerMade sc A a s kept) (sym same) made) (subst (λ (a : ServerId). QueryFirst sc (actor.Server a) mail.letter.body) (sym same) first)
     (subst (λ (a : ServerId). IfSome (naming_of mail.letter.body) (IsAsked A (actor.Server a))) (sym same) named))
 
+-- and so one that was sent
+pub server_sends_epochs : (sc : Scenario) (w : State) → WaitRightly sc w → IsSound sc w → Epochs sc w → (n : ℕ) (mail : Mail) (at : ServerId) (part : Part Server) (s : Server) → WasSent w n mail (actor.Server at) → IsServerUp w at part s
+    → ServerEpochs sc (asked_in w.mails) at part.log (Some (server_row sc s mail).state) (server_row sc s mail).reaction.append (server_row sc s mail).reaction.letters
+server_sends_epochs sc w rightly sound h n mail at part s sent up =
+    let A = asked_in w.mails in
+    let here : IsSoundServerUp sc at s = subst (λ (u : Option Server). IfSome u (IsSoundServerUp sc at)) up.up (sound.actors_are.servers at.0 part up.found).state in
+    let made : ServerMade sc A at s part.log = subst (λ (u : Option Server). IfSome u (λ (t : Server). ServerMade sc A at t part.log)) up.up (h.servers at.0 part up.found).state in
+    row_at sc A s at part.log mail (rightly at part s up) here.server_is made
+    (subst (λ (to : Actor). QueryFirst sc to mail.letter.body) sent.goes_to (each_get (λ (m : Mail). LetterFirst sc m.letter) w.mails n mail h.first sent.sent))
+    (subst (λ (to : Actor). IfSome (naming_of mail.letter.body) (IsAsked A to)) sent.goes_to (each_get (λ (m : Mail). LetterNamed A m.letter) w.mails n mail h.named sent.sent))
+
 receipt_by_server_in_epochs : (sc : Scenario) (w : State) → WaitRightly sc w → IsSound sc w → Epochs sc w → (n : ℕ) (mail : Mail) (at : ServerId) (part : Part Server) (s : Server) → WasSent w n mail (actor.Server at) → IsServerUp w at part s
     → StepEpochs sc w (server_move w.actors at (acts_by (server_fact at) [] part.log (server_row sc s mail)))
 receipt_by_server_in_epochs sc w rightly sound h n mail at part s sent up =
-    let A = asked_in w.mails in
     let effect = server_row sc s mail in
-    let here : IsSoundServerUp sc at s = subst (λ (u : Option Server). IfSome u (IsSoundServerUp sc at)) up.up (sound.actors_are.servers at.0 part up.found).state in
-    let made : ServerMade sc A at s part.log = subst (λ (u : Option Server). IfSome u (λ (t : Server). ServerMade sc A at t part.log)) up.up (h.servers at.0 part up.found).state in
-    server_acts_epochs sc w at part [] (Some effect.state) effect.reaction.append effect.reaction.letters h up.found
-    (row_at sc A s at part.log mail (rightly at part s up) here.server_is made
-    (subst (λ (to : Actor). QueryFirst sc to mail.letter.body) sent.goes_to (each_get (λ (m : Mail). LetterFirst sc m.letter) w.mails n mail h.first sent.sent))
-    (subst (λ (to : Actor). IfSome (naming_of mail.letter.body) (IsAsked A to)) sent.goes_to (each_get (λ (m : Mail). LetterNamed A m.letter) w.mails n mail h.named sent.sent)))
+    server_acts_epochs sc w at part [] (Some effect.state) effect.reaction.append effect.reaction.letters h up.found (server_sends_epochs sc w rightly sound h n mail at part s sent up)
 
 coordinator_keeps : (sc : Scenario) (w : State) (txn : TxnId) (part : Part Coordinator) (c : Coordinator) → Epochs sc w → IsCoordinatorUp w txn part c → c.txn ≡ txn
     → CoordinatorKeeps sc (epoch_at w.actors.servers) (asked_in w.mails c.txn) c

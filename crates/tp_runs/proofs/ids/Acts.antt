@@ -89,20 +89,26 @@ server_acts_sound sc at part now own append letters h e =
       };
     }
 
--- a server that is up and receives a mail to it
-pub server_receipt_sound : (sc : Scenario) (at : ServerId) (part : Part Server) (s : Server) (mail : Mail) → IsValid sc → AreRightWaits sc s → IsSoundServerPart sc at part → part.up ≡ Some s
-    → IsSoundBody sc (actor.Server at) mail.letter.body → IsSoundServerMove sc at (acts_by (server_fact at) [] part.log (server_row sc s mail))
-server_receipt_sound sc at part s mail valid waits h e m =
+-- the row of a server that is up, on a mail to it
+pub server_row_acts : (sc : Scenario) (at : ServerId) (part : Part Server) (s : Server) (mail : Mail) → IsValid sc → AreRightWaits sc s → IsSoundServerPart sc at part → part.up ≡ Some s → IsSoundBody sc (actor.Server at) mail.letter.body
+    → IsSoundServerAct sc at (Some (server_row sc s mail).state) [] (server_row sc s mail).reaction.append (server_row sc s mail).reaction.letters
+server_row_acts sc at part s mail valid waits h e m =
     let state : IsSoundServerUp sc at s = subst (λ (up : Option Server). IfSome up (IsSoundServerUp sc at)) e h.state in
     let effect = server_row sc s mail in
     let row : IsSoundServerEffect sc s effect = server_row_sound sc s mail valid waits state.sound (subst (λ (to : ServerId). IsSoundBody sc (actor.Server to) mail.letter.body) (sym state.server_is) m) in
-    server_acts_sound sc at part (Some effect.state) [] effect.reaction.append effect.reaction.letters h
-    (record {
+    record {
       state_is = record { server_is = row.same_server ∙ state.server_is; sound = row.state_is };
       own_are = tt;
       forces = subst (λ (to : ServerId). IfSome effect.reaction.append (IsSoundServerRecord sc to)) state.server_is row.forces;
       sends_only = row.sends_only;
-    })
+    }
+
+-- a server that is up and receives a mail to it
+pub server_receipt_sound : (sc : Scenario) (at : ServerId) (part : Part Server) (s : Server) (mail : Mail) → IsValid sc → AreRightWaits sc s → IsSoundServerPart sc at part → part.up ≡ Some s
+    → IsSoundBody sc (actor.Server at) mail.letter.body → IsSoundServerMove sc at (acts_by (server_fact at) [] part.log (server_row sc s mail))
+server_receipt_sound sc at part s mail valid waits h e m =
+    let effect = server_row sc s mail in
+    server_acts_sound sc at part (Some effect.state) [] effect.reaction.append effect.reaction.letters h (server_row_acts sc at part s mail valid waits h e m)
 
 -- ---- coordinators
 
@@ -148,15 +154,21 @@ coordinator_row_acts sc txn c own effect same told e =
       sends_only = e.sends_only;
     }
 
+-- the row of a coordinator that is up, on a mail to it
+pub coordinator_receives : (sc : Scenario) (txn : TxnId) (part : Part Coordinator) (c : Coordinator) (mail : Mail) → IsValid sc → IsSoundCoordinatorPart sc txn part → part.up ≡ Some c → IsActor sc mail.letter.from
+    → IsSoundRefusal sc mail.letter.from mail.letter.body → IsSoundBody sc (actor.Coordinator txn) mail.letter.body
+    → IsSoundCoordinatorAct sc txn (Some (coordinator_row sc c mail).state) [] (coordinator_row sc c mail).reaction.append (coordinator_row sc c mail).reaction.letters
+coordinator_receives sc txn part c mail valid h e a r m =
+    let state : IsSoundCoordinatorUp sc txn c = subst (λ (up : Option Coordinator). IfSome up (IsSoundCoordinatorUp sc txn)) e h.state in
+    let said : IsSoundBody sc (actor.Coordinator c.txn) mail.letter.body = subst (λ (to : TxnId). IsSoundBody sc (actor.Coordinator to) mail.letter.body) (sym state.txn_is) m in
+    coordinator_row_acts sc txn c [] (coordinator_row sc c mail) state.txn_is tt (coordinator_row_sound sc c mail valid state.sound a r said)
+
 -- a coordinator that is up and receives a mail to it
 pub coordinator_receipt_sound : (sc : Scenario) (txn : TxnId) (part : Part Coordinator) (c : Coordinator) (mail : Mail) → IsValid sc → IsSoundCoordinatorPart sc txn part → part.up ≡ Some c
     → IsActor sc mail.letter.from → IsSoundRefusal sc mail.letter.from mail.letter.body → IsSoundBody sc (actor.Coordinator txn) mail.letter.body → IsSoundCoordinatorMove sc txn (acts_by coordinator_fact [] part.log (coordinator_row sc c mail))
 coordinator_receipt_sound sc txn part c mail valid h e a r m =
-    let state : IsSoundCoordinatorUp sc txn c = subst (λ (up : Option Coordinator). IfSome up (IsSoundCoordinatorUp sc txn)) e h.state in
     let effect = coordinator_row sc c mail in
-    let said : IsSoundBody sc (actor.Coordinator c.txn) mail.letter.body = subst (λ (to : TxnId). IsSoundBody sc (actor.Coordinator to) mail.letter.body) (sym state.txn_is) m in
-    coordinator_acts_sound sc txn part (Some effect.state) [] effect.reaction.append effect.reaction.letters h
-    (coordinator_row_acts sc txn c [] effect state.txn_is tt (coordinator_row_sound sc c mail valid state.sound a r said))
+    coordinator_acts_sound sc txn part (Some effect.state) [] effect.reaction.append effect.reaction.letters h (coordinator_receives sc txn part c mail valid h e a r m)
 
 with_age_sound : (sc : Scenario) (c : Coordinator) (effect : Effect Coordinator) (place : ℕ) → IsSoundCoordinatorEffect sc c effect → IsSoundCoordinatorEffect sc c (with_age effect place)
 with_age_sound sc c effect place e =
@@ -240,7 +252,7 @@ pushes_sound sc held admin server h within exists =
 
 -- ---- before the first step
 
-known_sound : (sc : Scenario) (at : ServerId) (declared : Option ServerDecl) → IsValid sc → IsServer sc at → slice_get sc.servers at.0 ≡ declared
+pub known_sound : (sc : Scenario) (at : ServerId) (declared : Option ServerDecl) → IsValid sc → IsServer sc at → slice_get sc.servers at.0 ≡ declared
     → AreVersions sc (option_map_or (λ (d : ServerDecl). d.knows) declared [])
 known_sound sc at (Some declared) valid exists e = each_get (λ (d : ServerDecl). AreVersions sc d.knows) sc.servers at.0 declared valid.servers e
 known_sound sc at None valid exists e = absurd (missing sc.servers at.0 exists e)
@@ -270,7 +282,7 @@ servers_from_sound sc queries low (suc left) e =
     let later : Each (IsServer sc) (servers_from sc queries (low + 1) left) = servers_from_sound sc queries (low + 1) left (omega (arith, e)) in
     by_cond (Each (IsServer sc)) (list_any (is_at_server sc low) queries) (λ here. (omega (arith, e), later)) (λ not_here. later)
 
-servers_at_sound : (sc : Scenario) (declared : Option Transaction) → Each (IsServer sc) (option_map_or (servers_of sc) declared [])
+pub servers_at_sound : (sc : Scenario) (declared : Option Transaction) → Each (IsServer sc) (option_map_or (servers_of sc) declared [])
 servers_at_sound sc (Some declared) = servers_from_sound sc declared.queries 0 (length sc.servers) (omega arith)
 servers_at_sound sc None = tt
 

@@ -223,7 +223,7 @@ proofs_sound sc txn round e h =
     (replies_sound sc txn round.targets h))
 
 -- each of these servers is told the outcome
-orders_sound : (sc : Scenario) (c : Coordinator) (ended : Outcome) (servers : List ServerId) → IsSoundCoordinator sc c → Each (IsServer sc) servers → Each (IsSoundLetter sc) (decide_letters c ended servers)
+pub orders_sound : (sc : Scenario) (c : Coordinator) (ended : Outcome) (servers : List ServerId) → IsSoundCoordinator sc c → Each (IsServer sc) servers → Each (IsSoundLetter sc) (decide_letters c ended servers)
 orders_sound sc c ended servers h exist =
     each_map (IsServer sc) (IsSoundLetter sc) _ (λ server exists. request_sound sc c server _ h exists (record { txn = h.exists; goes_to = tt })) servers exist
 

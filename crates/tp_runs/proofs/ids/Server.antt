@@ -40,7 +40,8 @@ use Rattle.tp_server.specs.Verdicts.{admin_of, with_wants, verdict_on, verdicts_
 use Rattle.tp_store.proofs.OutsideLemmas.{first_is_least}
 use Rattle.tp_store.specs.Contents.{Contents}
 use Rattle.tp_store.specs.Laws.{IsLeastOutside}
-use Rattle.tp_store.specs.Rule.{first_outside_in, greater, newest_in, with_version, writes_of}
+use Rattle.tp_recover.specs.Kept.{version_at, with_all_told, with_told}
+use Rattle.tp_store.specs.Rule.{first_outside_in, greater, with_version, writes_of}
 use Rattle.tp_store.specs.Writes.{is_outside}
 
 -- what a server's act leaves is sound: its state, still of the same server, what it forces and what it sends
@@ -217,15 +218,28 @@ versions_set (admin ∷ admins) [] n new h of = absurd h
 versions_set (admin ∷ admins) (version ∷ versions) zero new h of = (of admin refl, h.1)
 versions_set (admin ∷ admins) (version ∷ versions) (suc n) new h of = (h.0, versions_set admins versions n new h.1 of)
 
--- what is known stays sound as a version is learnt that exists
-known_more : (sc : Scenario) (store : Contents) (admin : AdminId) (version : Version) → AreVersions sc store.known → IsVersion sc admin version → AreVersions sc (with_version store admin version).known
-known_more sc store admin version h v =
-    let old = version_of sc.admins store.known admin.0 (record { 0 = 1 }) h (slice_get_within sc.admins admin.0 v.declared v.declared_is) in
-    versions_set sc.admins store.known admin.0 (greater (newest_in store admin) version) h
+-- known versions stay sound as one is told that exists
+pub told_more : (sc : Scenario) (newest : List Version) (admin : AdminId) (version : Version) → AreVersions sc newest → IsVersion sc admin version → AreVersions sc (with_told newest admin.0 version)
+told_more sc newest admin version h v =
+    let known = version_at newest admin.0 in
+    let old = version_of sc.admins newest admin.0 (record { 0 = 1 }) h (slice_get_within sc.admins admin.0 v.declared v.declared_is) in
+    versions_set sc.admins newest admin.0 (greater known version) h
     (λ declared e.
     let one : old.0 ≡ declared = same_Some old.0 declared (sym old.1 ∙ e) in
     let other : v.declared ≡ declared = same_Some v.declared declared (sym v.declared_is ∙ e) in
-    greater_of declared (newest_in store admin) version (subst (λ (d : Admin). IsVersionOf d (newest_in store admin)) one old.2) (subst (λ (d : Admin). IsVersionOf d version) other v.in_library))
+    greater_of declared known version (subst (λ (d : Admin). IsVersionOf d known) one old.2) (subst (λ (d : Admin). IsVersionOf d version) other v.in_library))
+
+-- and as one of each is told
+pub all_told_more : (admins : List Admin) (newest told : List Version) → AreVersionsOf admins newest → AreVersionsOf admins told → AreVersionsOf admins (with_all_told newest told)
+all_told_more [] [] told h k = tt
+all_told_more [] (known ∷ newest) told h k = absurd h
+all_told_more (admin ∷ admins) [] told h k = absurd h
+all_told_more (admin ∷ admins) (known ∷ newest) [] h k = absurd k
+all_told_more (admin ∷ admins) (known ∷ newest) (version ∷ told) h k = (greater_of admin known version h.0 k.0, all_told_more admins newest told h.1 k.1)
+
+-- what is known stays sound as a version is learnt that exists
+known_more : (sc : Scenario) (store : Contents) (admin : AdminId) (version : Version) → AreVersions sc store.known → IsVersion sc admin version → AreVersions sc (with_version store admin version).known
+known_more sc store admin version h v = told_more sc store.known admin version h v
 
 -- what is among credentials that exist exists
 among_exists : (sc : Scenario) (creds : List CredId) (cred : CredId) → AreCreds sc creds → is_among creds cred ≡ true → IsCred sc cred

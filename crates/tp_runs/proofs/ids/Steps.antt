@@ -27,7 +27,7 @@ use Rattle.tp_offices.specs.declared.master.Master.{Master}
 -- ---- a move
 
 -- a step leaves sound actors, facts and letters
-record IsSoundMove (sc : Scenario) (move : Move) : Type 0 where
+pub record IsSoundMove (sc : Scenario) (move : Move) : Type 0 where
   pub actors_are : AreSoundActors sc move.actors
   pub left : IsSoundAct sc move.happened move.letters
 
@@ -41,7 +41,7 @@ idle_sound sc actors h (step.Lose mail) happened e = subst (λ (hs : List What).
 idle_sound sc actors h _ happened e = absurd e
 
 -- the servers after one of them acted
-servers_sound : (sc : Scenario) (actors : Actors) (at : ServerId) (part : Part Server) → AreSoundActors sc actors → IsSoundServerPart sc at part
+pub servers_sound : (sc : Scenario) (actors : Actors) (at : ServerId) (part : Part Server) → AreSoundActors sc actors → IsSoundServerPart sc at part
     → AreSoundActors sc (record actors { servers = slice_set actors.servers at.0 part })
 servers_sound sc actors at part h p =
     record {
@@ -52,7 +52,7 @@ servers_sound sc actors at part h p =
     }
 
 -- the coordinators after one of them acted
-coordinators_sound : (sc : Scenario) (actors : Actors) (txn : TxnId) (part : Part Coordinator) → AreSoundActors sc actors → IsSoundCoordinatorPart sc txn part
+pub coordinators_sound : (sc : Scenario) (actors : Actors) (txn : TxnId) (part : Part Coordinator) → AreSoundActors sc actors → IsSoundCoordinatorPart sc txn part
     → AreSoundActors sc (record actors { coordinators = slice_set actors.coordinators txn.0 part })
 coordinators_sound sc actors txn part h p =
     record {
@@ -71,7 +71,7 @@ master_sound : (sc : Scenario) (actors : Actors) (held : Master) → AreSoundAct
 master_sound sc actors held h m = record { servers = h.servers; coordinators = h.coordinators; authority = h.authority; master = m }
 
 -- what a mail that was sent says is sound
-letter_sound : (sc : Scenario) (w : State) (n : ℕ) (mail : Mail) (to : Actor) → IsSound sc w → WasSent w n mail to → IsActor sc mail.letter.from × IsSoundBody sc to mail.letter.body
+pub letter_sound : (sc : Scenario) (w : State) (n : ℕ) (mail : Mail) (to : Actor) → IsSound sc w → WasSent w n mail to → IsActor sc mail.letter.from × IsSoundBody sc to mail.letter.body
 letter_sound sc w n mail to h sent =
     let m : IsSoundLetter sc mail.letter = each_get (IsSoundMail sc) w.mails n mail h.mails_are sent.sent in
     (m.from_is_actor, subst (λ (t : Actor). IsSoundBody sc t mail.letter.body) sent.goes_to m.says)
@@ -116,7 +116,7 @@ sound_cases sc w valid rightly h =
 -- ---- a step
 
 -- a step that ends in a sound move leaves a sound world
-state_after_sound : (sc : Scenario) (w : State) (taken : Step) (move : Move) → IsSound sc w → IsSoundMove sc move → IsSound sc (state_after w taken move)
+pub state_after_sound : (sc : Scenario) (w : State) (taken : Step) (move : Move) → IsSound sc w → IsSoundMove sc move → IsSound sc (state_after w taken move)
 state_after_sound sc w taken move h t =
     record {
       actors_are = t.actors_are;

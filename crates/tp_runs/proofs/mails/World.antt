@@ -68,7 +68,7 @@ pub record MoveFew (w : State) (move : Move) : Type 0 where
   pub awaits : AwaitFew move.actors.coordinators
   pub letters : length move.letters + waiting move.actors.servers ≤ mails_most + waiting w.actors.servers
 
-state_after_few : (w : State) (taken : Step) (move : Move) → FewMails w → MoveFew w move → FewMails (state_after w taken move)
+pub state_after_few : (w : State) (taken : Step) (move : Move) → FewMails w → MoveFew w move → FewMails (state_after w taken move)
 state_after_few w taken move h t =
     record {
       awaits = t.awaits;
@@ -90,7 +90,7 @@ from_few sc queries low (suc left) =
     let later = from_few sc queries (low + 1) left in
     by_cond (λ (servers : List ServerId). length servers ≤ suc left) (list_any (is_at_server sc low) queries) (λ here. omega (arith, later)) (λ other. omega (arith, later))
 
-servers_few : (sc : Scenario) (txn : TxnId) → is_built sc ≡ true → length (servers_at sc txn) ≤ 16
+pub servers_few : (sc : Scenario) (txn : TxnId) → is_built sc ≡ true → length (servers_at sc txn) ≤ 16
 servers_few sc txn built = among (slice_get sc.txns txn.0)
   where
     among : (declared : Option Transaction) → length (option_map_or (servers_of sc) declared []) ≤ 16

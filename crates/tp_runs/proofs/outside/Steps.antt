@@ -121,7 +121,7 @@ coordinator_says : (part : Part Coordinator) (effect : Effect Coordinator) → o
 coordinator_says part effect = ap own_of (gained coordinator_fact part.log effect.reaction.append) ∙ own_coordinator_facts effect.reaction.append
 
 -- a move says by itself what its step is to say
-abbrev Says : Scenario → State → Step → Move → Type 0
+abbrev pub Says : Scenario → State → Step → Move → Type 0
 Says sc w taken move = own_of move.happened ≡ said_by sc (w.facts ++ facts_of (length w.steps) move.happened) (length w.steps) taken
 
 idle_says : (sc : Scenario) (w : State) (taken : Step) (happened : List What) → SaysIdle taken happened → Says sc w taken (idle_move w.actors happened)

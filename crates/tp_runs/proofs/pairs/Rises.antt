@@ -1,11 +1,12 @@
 -- A query that comes to an entry and was not answered comes after those that have run there.
-use Rattle.std.proofs.Common.{Contains, List, None, Some, [], ap, arith, is_some, option_map, refl, subst, suc, sym, true, ℕ, ⊎_elim, ◌+◌, ◌<◌, ◌∙◌, ◌∷◌, ◌≡◌, ◌≤◌}
+use Rattle.std.proofs.Common.{Bool, Contains, List, None, Some, [], ap, arith, false, is_some, option_map, refl, subst, suc, sym, true, zero, ℕ, ⊎_elim, ◌+◌, ◌<◌, ◌∙◌, ◌∷◌, ◌≡◌, ◌≤◌}
 use Rattle.std.proofs.lemmas.Bool.{cases_lt}
 use Rattle.tp_model.specs.Words.{Deed, QueryRequest}
 use Rattle.tp_runs.proofs.pairs.Fits.{EntryFits, Fits, IsFront, IsThere, QueryFits}
 use Rattle.tp_runs.proofs.basics.Found.{answer_in, of_some}
 use Rattle.tp_runs.proofs.pairs.Pair.{Pair, entry_held, held_up, numbers}
-use Rattle.tp_runs.proofs.pairs.Site.{IsUpto, Site, here, in_upto, upto_in}
+use Rattle.tp_runs.proofs.pairs.Site.{IsUpto, Site, here, in_upto, upto, upto_in, with_number}
+use Rattle.tp_runs.proofs.deeds.Rising.{AreRising, rising_more, rising_under}
 use Rattle.tp_runs.proofs.deeds.Tentative.{AreUpTo}
 use Rattle.tp_server.specs.declared.server.Entry.{Entry}
 
@@ -38,3 +39,14 @@ each_number (deed ∷ deeds) number h =
 pub rises : (s : Site) (p : Pair) (entry : Entry) (q : QueryRequest) → p.up ≡ true → p.entry ≡ Some entry → Fits s p → QueryFits s p q → answer_in q.query entry.answers ≡ None → entry.ballot ≡ None
     → AreUpTo q.query entry.deeds
 rises s p entry q up is h asked none unvoted = each_number entry.deeds q.query (unrun_upto s p entry q up is h asked none unvoted)
+
+-- ---- what is held
+
+upto_by : (s : Site) (last : ℕ) (b : Bool) → AreRising 0 (upto s last) last → AreRising 0 (with_number b (upto s last) (suc last)) (suc last)
+upto_by s last true h = rising_more 0 (upto s last) last (suc last) (omega arith) h
+upto_by s last false h = rising_under 0 (upto s last) last (suc last) (omega arith) h
+
+-- the numbers of the queries at the server rise
+pub upto_rises : (s : Site) (last : ℕ) → AreRising 0 (upto s last) last
+upto_rises s zero = omega arith
+upto_rises s (suc last) = upto_by s last (here s (suc last)) (upto_rises s last)

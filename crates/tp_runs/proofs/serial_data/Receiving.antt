@@ -43,7 +43,8 @@ vote_share sc w at part s p committed agrees h found a here d =
     let own : IsPreparedEntry s p.txn share.p = prepared_here s part.log p.txn share.p a share.prepared_is in
     here.deeds_are ∙ (ap (λ (entry : Entry). entry.deeds) (same_Some here.entry own.entry (sym here.found ∙ own.found)) ∙ (own.deeds_are ∙ share.deeds_are))
 
-record_shares : (sc : Scenario) (w : State) (at : ServerId) (part : Part Server) (s : Server) (append : Option Record) → Agrees sc w → Serial sc w → slice_get w.actors.servers at.0 ≡ Some part → ServerAgrees s part.log
+-- so it is of each record
+pub record_shares : (sc : Scenario) (w : State) (at : ServerId) (part : Part Server) (s : Server) (append : Option Record) → Agrees sc w → Serial sc w → slice_get w.actors.servers at.0 ≡ Some part → ServerAgrees s part.log
     → IfSome append (RecordHere (IsAsked sc w.actors.coordinators at) s) → IfSome append (Prepares (IsShareOf sc w at))
 record_shares sc w at part s None agrees h found a votes = tt
 record_shares sc w at part s (Some (log.Prepared p)) agrees h found a votes = λ committed d. vote_share sc w at part s p committed agrees h found a votes d

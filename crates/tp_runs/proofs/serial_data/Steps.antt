@@ -31,7 +31,7 @@ use Rattle.tp_runs.proofs.deeds.Ranges.{AreTested}
 use Rattle.tp_runs.proofs.deeds.Reads.{ReadsFrom}
 use Rattle.tp_runs.proofs.serial_data.Rows.{QueryRises, RequestClear, ServerReads, deeds_in, server_row_keeps}
 use Rattle.tp_runs.proofs.serial_data.OnLog.{no_log_reads}
-use Rattle.tp_runs.proofs.serial_data.Receiving.{server_receives_serial}
+use Rattle.tp_runs.proofs.serial_data.Receiving.{ServerReceives, server_receives_serial}
 use Rattle.tp_runs.proofs.serial_data.Settling.{unmoved_serial}
 use Rattle.tp_runs.proofs.serial_data.UpOnLog.{UpOnLog}
 use Rattle.tp_runs.proofs.deeds.Tentative.{AreLast, none_last}
@@ -111,12 +111,12 @@ received_clear sc w valid sound agrees pairs serial n mail at part s sent up =
     request_clear sc w at part s mail.letter.from mail.letter.body (of_some (IsLockedServer sc) part.up s up.up (serial.locked at.0 part up.found)) up pairs agrees serial (mail_sound sc w n mail (actor.Server at) sound sent)
     (mail_rests sc w n mail (actor.Server at) agrees sent) said
 
-receipt_by_server_in_serial_data : (sc : Scenario) (w : State) → IsValid sc → WaitRightly sc w → IsSound sc w → PreparesNamed w → Agrees sc w → Pairs sc w → Serial sc w → (n : ℕ) (mail : Mail) (at : ServerId) (part : Part Server) (s : Server)
-    → WasSent w n mail (actor.Server at) → IsServerUp w at part s → MoveSerial sc w (server_move w.actors at (acts_by (server_fact at) [] part.log (server_row sc s mail)))
-receipt_by_server_in_serial_data sc w valid rightly sound named agrees pairs h n mail at part s sent up =
+-- what a server that is up brings to the receipt of a mail that was sent
+pub server_brings : (sc : Scenario) (w : State) → IsValid sc → WaitRightly sc w → IsSound sc w → PreparesNamed w → Agrees sc w → Pairs sc w → Serial sc w → (n : ℕ) (mail : Mail) (at : ServerId) (part : Part Server) (s : Server)
+    → WasSent w n mail (actor.Server at) → IsServerUp w at part s → ServerReceives sc w at part s (server_row sc s mail)
+server_brings sc w valid rightly sound named agrees pairs h n mail at part s sent up =
     let was : UpOnLog sc s part.log = up_on_log sc w at part s h up.found up.up in
-    server_receives_serial sc w at part s (server_row sc s mail) agrees h
-    (record {
+    record {
       found = up.found;
       up = up.up;
       locked = of_some (IsLockedServer sc) part.up s up.up (h.locked at.0 part up.found);
@@ -124,7 +124,12 @@ receipt_by_server_in_serial_data sc w valid rightly sound named agrees pairs h n
       keeps = server_row_keeps sc (IsAsked sc w.actors.coordinators at) s mail (rightly at part s up) was.reads
           (received_clear sc w valid sound agrees pairs h n mail at part s sent up);
       rests = (server_lawful sc w rightly named agrees n mail at part s sent up).rests;
-    })
+    }
+
+receipt_by_server_in_serial_data : (sc : Scenario) (w : State) → IsValid sc → WaitRightly sc w → IsSound sc w → PreparesNamed w → Agrees sc w → Pairs sc w → Serial sc w → (n : ℕ) (mail : Mail) (at : ServerId) (part : Part Server) (s : Server)
+    → WasSent w n mail (actor.Server at) → IsServerUp w at part s → MoveSerial sc w (server_move w.actors at (acts_by (server_fact at) [] part.log (server_row sc s mail)))
+receipt_by_server_in_serial_data sc w valid rightly sound named agrees pairs h n mail at part s sent up =
+    server_receives_serial sc w at part s (server_row sc s mail) agrees h (server_brings sc w valid rightly sound named agrees pairs h n mail at part s sent up)
 
 receipt_by_coordinator_in_serial_data : (sc : Scenario) (w : State) → IsValid sc → IsSound sc w → Agrees sc w → Pairs sc w → Serial sc w → (n : ℕ) (mail : Mail) (txn : TxnId) (part : Part Coordinator) (c : Coordinator)
     → WasSent w n mail (actor.Coordinator txn) → IsCoordinatorUp w txn part c → MoveSerial sc w (coordinator_move w.actors txn (acts_by coordinator_fact [] part.log (coordinator_row sc c mail)))

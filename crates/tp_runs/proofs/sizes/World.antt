@@ -105,7 +105,7 @@ entry_few sc w at part s txn declared entry homes pairs up there found =
     omega (arith, ap length front.numbers_are, length-map entry.deeds number_of, upto_few site front.last, few)
 
 -- what a server forces is small, as its entries have few deeds
-abbrev ForcesSmallAtServer : Effect Server → Type 0
+abbrev pub ForcesSmallAtServer : Effect Server → Type 0
 ForcesSmallAtServer effect = IfSome effect.reaction.append IsSmallAtServer
 
 abbrev HasFewDeeds : Scenario → Server → Type 0
@@ -134,6 +134,11 @@ server_row_small sc s mail rightly few =
       pushed = λ push k. tt;
       resumed = λ effect grant q query entry value k h. h;
     })
+
+-- so it is of the row on each mail
+pub server_sends_small : (sc : Scenario) (w : State) → HaveHomes sc → WaitRightly sc w → Pairs sc w → (mail : Mail) (at : ServerId) (part : Part Server) (s : Server) → IsServerUp w at part s → ForcesSmallAtServer (server_row sc s mail)
+server_sends_small sc w homes rightly pairs mail at part s up =
+    server_row_small sc s mail (rightly at part s up) (λ txn declared entry there found. entry_few sc w at part s txn declared entry homes pairs up there found)
 
 -- ---- a coordinator acts
 
@@ -303,7 +308,7 @@ txn_declared sc txn exists = by_found (slice_get sc.txns txn.0) refl
     by_found None e = absurd (missing sc.txns txn.0 exists e)
     by_found (Some declared) e = (declared, e)
 
-received_small : (sc : Scenario) (w : State) → ArePlain sc → HaveHomes sc → IsValid sc → IsSound sc w → Agrees sc w → Pairs sc w → Trusts sc w → (n : ℕ) (mail : Mail) (txn : TxnId) (part : Part Coordinator) (c : Coordinator)
+pub received_small : (sc : Scenario) (w : State) → ArePlain sc → HaveHomes sc → IsValid sc → IsSound sc w → Agrees sc w → Pairs sc w → Trusts sc w → (n : ℕ) (mail : Mail) (txn : TxnId) (part : Part Coordinator) (c : Coordinator)
     → WasSent w n mail (actor.Coordinator txn) → IsCoordinatorUp w txn part c → IfSome (coordinator_row sc c mail).reaction.append IsSmallAtCoordinator
 received_small sc w plain homes valid sound agrees pairs trusts n mail txn part c sent up =
     let same : c.txn ≡ txn = own_txn sc w txn part c sound up.found up.up in
@@ -319,7 +324,7 @@ submit_small sc c age =
 
 -- ---- steps
 
-servers_small : (actors : Actors) (at : ServerId) (part : Part Server) (now : Option Server) (append : Option Record) → AreSmall actors → slice_get actors.servers at.0 ≡ Some part → IfSome append IsSmallAtServer
+pub servers_small : (actors : Actors) (at : ServerId) (part : Part Server) (now : Option Server) (append : Option Record) → AreSmall actors → slice_get actors.servers at.0 ≡ Some part → IfSome append IsSmallAtServer
     → AreSmall (record actors { servers = slice_set actors.servers at.0 (record { up = now; log = log_with part.log append }) })
 servers_small actors at part now append h found forces =
     record {
@@ -327,7 +332,7 @@ servers_small actors at part now append h found forces =
       coordinators = h.coordinators;
     }
 
-coordinators_small : (actors : Actors) (txn : TxnId) (part : Part Coordinator) (now : Option Coordinator) (append : Option Record) → AreSmall actors → slice_get actors.coordinators txn.0 ≡ Some part
+pub coordinators_small : (actors : Actors) (txn : TxnId) (part : Part Coordinator) (now : Option Coordinator) (append : Option Record) → AreSmall actors → slice_get actors.coordinators txn.0 ≡ Some part
     → IfSome append IsSmallAtCoordinator → AreSmall (record actors { coordinators = slice_set actors.coordinators txn.0 (record { up = now; log = log_with part.log append }) })
 coordinators_small actors txn part now append h found forces =
     record {
@@ -349,7 +354,7 @@ sizes_cases sc w plain homes valid rightly sound agrees pairs trusts h =
       idle = λ taken happened says. h;
       server_received = λ n mail at part s sent up.
           servers_small w.actors at part (Some (server_row sc s mail).state) (server_row sc s mail).reaction.append h up.found
-          (server_row_small sc s mail (rightly at part s up) (λ txn declared entry there found. entry_few sc w at part s txn declared entry homes pairs up there found));
+          (server_sends_small sc w homes rightly pairs mail at part s up);
       coordinator_received = λ n mail txn part c sent up.
           coordinators_small w.actors txn part (Some (coordinator_row sc c mail).state) (coordinator_row sc c mail).reaction.append h up.found
           (received_small sc w plain homes valid sound agrees pairs trusts n mail txn part c sent up);

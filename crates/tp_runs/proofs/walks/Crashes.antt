@@ -1,5 +1,5 @@
 -- Crashes and boots: what a theorem shows of each of these moves, of an actor that is up or down in any state. No step makes them yet.
-use Rattle.std.proofs.Common.{Bool, IfSome, List, None, Option, Some, [], false, if◌then◌else◌, slice_get, true, ℕ, ◌∷◌, ◌≡◌}
+use Rattle.std.proofs.Common.{Bool, IfSome, None, Option, Some, [], false, if◌then◌else◌, slice_get, true, ℕ, ◌∷◌, ◌≡◌}
 use Rattle.tp_model.specs.Words.actor
 use Rattle.tp_model.specs.Words.step
 use Rattle.tp_model.specs.Words.what
@@ -59,3 +59,23 @@ pub record CrashCases (sc : Scenario) (w : State) (P : Step → Move → Type 0)
       → P (step.Crash (actor.Coordinator txn) cut) (coordinator_move w.actors txn (goes_down coordinator_fact (what.Crashed (actor.Coordinator txn) ∷ []) part append))
   pub coordinator_booted : (txn : TxnId) (part : Part Coordinator) → IsTxn sc txn → slice_get w.actors.coordinators txn.0 ≡ Some part → part.up ≡ None
       → P (step.Boot (actor.Coordinator txn)) (coordinator_move w.actors txn (coordinator_boots sc txn part))
+
+-- what follows from P is shown of each
+pub crash_cases_as : (sc : Scenario) (w : State) (P Q : Step → Move → Type 0) → ((taken : Step) (move : Move) → P taken move → Q taken move) → CrashCases sc w P → CrashCases sc w Q
+crash_cases_as sc w P Q step h =
+    record {
+      server_crashed = λ at part s cut append up left. step _ _ (h.server_crashed at part s cut append up left);
+      server_booted = λ at part exists found down. step _ _ (h.server_booted at part exists found down);
+      coordinator_crashed = λ txn part c cut append exists up begun left. step _ _ (h.coordinator_crashed txn part c cut append exists up begun left);
+      coordinator_booted = λ txn part exists found down. step _ _ (h.coordinator_booted txn part exists found down);
+    }
+
+-- and what is shown by itself is shown together
+pub crash_cases_both : {sc : Scenario} {w : State} {P Q : Step → Move → Type 0} → CrashCases sc w P → CrashCases sc w Q → CrashCases sc w (λ taken move. P taken move × Q taken move)
+crash_cases_both h k =
+    record {
+      server_crashed = λ at part s cut append up left. (h.server_crashed at part s cut append up left, k.server_crashed at part s cut append up left);
+      server_booted = λ at part exists found down. (h.server_booted at part exists found down, k.server_booted at part exists found down);
+      coordinator_crashed = λ txn part c cut append exists up begun left. (h.coordinator_crashed txn part c cut append exists up begun left, k.coordinator_crashed txn part c cut append exists up begun left);
+      coordinator_booted = λ txn part exists found down. (h.coordinator_booted txn part exists found down, k.coordinator_booted txn part exists found down);
+    }
