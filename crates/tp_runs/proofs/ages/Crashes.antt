@@ -1,5 +1,5 @@
 -- Ages, crashes and boots: an entry has the age that is prepared, and a coordinator that boots knows none.
-use Rattle.std.proofs.Common.{None, Option, Some, [], length, slice_get, subst, ℕ, ◌∷◌, ◌≡◌}
+use Rattle.std.proofs.Common.{None, Option, Some, [], length, slice_get, subst, ◌∷◌, ◌≡◌}
 use Rattle.tp_model.specs.Facts.{outcome_of}
 use Rattle.tp_model.specs.Words.actor
 use Rattle.tp_model.specs.Words.log

@@ -1,7 +1,7 @@
 -- Agreement, crashes and boots: a crash leaves what the log says, and who boots agrees with it.
 use Rattle.tp_server.specs.Verdicts.{version_known}
 use Rattle.tp_store.specs.Rule.{known_at_first}
-use Rattle.std.proofs.Common.{IfSome, List, None, Option, Some, [], ap, arith, is_some, option_and_then, option_map, refl, slice_get, subst, sym, true, ℕ, ◌+◌, ◌<◌, ◌∙◌, ◌∷◌, ◌≡◌, ◌≤◌}
+use Rattle.std.proofs.Common.{IfSome, List, None, Option, Some, [], ap, arith, is_some, option_and_then, option_map, refl, slice_get, subst, sym, true, ℕ, ◌+◌, ◌∙◌, ◌∷◌, ◌≡◌}
 use Rattle.std.specs.Option.{option_or}
 use Rattle.tp_model.specs.Facts.{outcome_of}
 use Rattle.tp_model.specs.Words.actor

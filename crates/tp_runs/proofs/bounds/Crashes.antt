@@ -1,5 +1,5 @@
 -- Bounds, crashes and boots: a server that boots has the values that its log leaves, and the writes and deeds of what is prepared there.
-use Rattle.std.proofs.Common.{List, None, Option, Some, [], ap, length, refl, slice_get, subst, true, ℕ, ℤ, ◌∙◌, ◌∷◌, ◌≡◌}
+use Rattle.std.proofs.Common.{List, None, Option, Some, [], ap, length, refl, slice_get, subst, true, ◌∙◌, ◌∷◌, ◌≡◌}
 use Rattle.tp_model.specs.Facts.{outcome_of}
 use Rattle.tp_model.specs.SerialRun.{are_in_range}
 use Rattle.tp_model.specs.Words.actor
