@@ -3,6 +3,7 @@
 -- rows, World through acts, and Shown shows restarts.
 pub mod Coordinators
 pub mod Counted
+pub mod Crashes
 pub mod Servers
 pub mod Shown
 pub mod Since

@@ -10,7 +10,7 @@ use Rattle.tp_model.specs.Words.decision
 use Rattle.tp_model.specs.Words.log
 use Rattle.tp_model.specs.Words.outcome
 use Rattle.tp_model.specs.Words.what
-use Rattle.tp_model.specs.Words.{Actor, Decision, Mail, Prepared, Record, Scenario, ServerId, TxnId, Version, Outcome}
+use Rattle.tp_model.specs.Words.{Actor, AdminId, Decision, Mail, Prepared, Record, Scenario, ServerId, TxnId, Version, Outcome}
 use Rattle.tp_recover.proofs.HeldLemmas.{placed_is}
 use Rattle.tp_recover.proofs.KeptLemmas.{kept_law}
 use Rattle.tp_recover.specs.Held.{by_txn}
@@ -26,7 +26,7 @@ use Rattle.tp_server.specs.Row.{server_row}
 use Rattle.tp_server.specs.State.{Server}
 use Rattle.tp_machine.specs.Crashes.{goes_down, server_boots}
 use Rattle.tp_machine.specs.Machine.{State, acts_by, coordinator_fact, coordinator_move, log_with, server_fact, server_move, state_after}
-use Rattle.tp_machine.specs.Named.{IsServer}
+use Rattle.tp_machine.specs.Named.{IsAdmin, IsServer}
 use Rattle.tp_machine.specs.Parts.{Part}
 use Rattle.tp_runs.proofs.agreement.Coordinator.{IsFirst, all_but_all, orders_lawful, servers_at_have_items}
 use Rattle.tp_runs.proofs.agreement.CoordinatorActs.{CoordinatorActs, coordinator_acts_agrees, facts_follow_in_coordinator_acts}
@@ -84,17 +84,19 @@ booted_agrees sc at records each =
           ∙ (restored_votes (prepared_in txn records) ∙ ap (option_and_then cast_in) (sym (booted_entry sc at records each txn)));
     }
 
--- and knows what it tells
-booted_knows : (sc : Scenario) (at : ServerId) (records : List Record) → IsValid sc → IsServer sc at → Each (IsOfScenario sc) records → KnowsTold sc at (log_with records (Some log.Boot)) (booted sc at (kept sc at records))
-booted_knows sc at records valid there each admin exists =
+-- it knows the versions that its log tells of
+pub booted_version : (sc : Scenario) (at : ServerId) (records : List Record) (admin : AdminId) → IsValid sc → IsServer sc at → Each (IsOfScenario sc) records → IsAdmin sc admin
+    → (version_known (booted sc at (kept sc at records)) admin).0 ≡ known_in (first_known sc at admin) admin records
+booted_version sc at records admin valid there each exists =
     let k = kept sc at records in
     let says = kept_law sc at records each in
     let versions = known_count sc.admins (known_at_first sc at) (known_sound sc at (slice_get sc.servers at.0) valid there refl) in
     let admins = says.admins in
-    let known : (version_known (booted sc at k) admin).0 ≡ known_in (first_known sc at admin) admin records =
-    ap (λ (newest : List Version). (version_at newest admin.0).0) (prepared_keeps (kept_store sc at k) k.prepared).known ∙ says.newest admin (omega (arith, exists, versions, admins)) in
-    let still = known_still (first_known sc at admin) admin records (Some log.Boot) refl in
-    omega (arith, known, still)
+    ap (λ (newest : List Version). (version_at newest admin.0).0) (prepared_keeps (kept_store sc at k) k.prepared).known ∙ says.newest admin (omega (arith, exists, versions, admins))
+
+booted_knows : (sc : Scenario) (at : ServerId) (records : List Record) → IsValid sc → IsServer sc at → Each (IsOfScenario sc) records → KnowsTold sc at (log_with records (Some log.Boot)) (booted sc at (kept sc at records))
+booted_knows sc at records valid there each admin exists =
+    omega (arith, booted_version sc at records admin valid there each exists, known_still (first_known sc at admin) admin records (Some log.Boot) refl)
 
 -- and asks for what is prepared there
 booted_asks : (sc : Scenario) (at : ServerId) (records : List Record) → Each (IsOfScenario sc) records → Each (LetterKept at (log_with records (Some log.Boot))) (boot_row sc at (kept sc at records)).reaction.letters

@@ -1,9 +1,12 @@
 -- A server that boots, by its log: its entries and its store are those of what is prepared there.
-use Rattle.std.proofs.Common.{List, None, Option, Some, [], ap, arith, length, map, option_map, refl, slice_get, suc, sym, zero, ℕ, ⊎_elim, ◌<◌, ◌∙◌, ◌∷◌, ◌≡◌, ◌≤◌}
+use Rattle.std.proofs.Common.{Bool, List, None, Option, Some, [], ap, arith, length, map, option_map, refl, slice_get, suc, sym, zero, ℕ, ⊎_elim, ◌<◌, ◌∙◌, ◌∷◌, ◌≡◌, ◌≤◌}
 use Rattle.std.proofs.lemmas.List.{length-set}
 use Rattle.std.proofs.lemmas.Bool.{cases_lt}
 use Rattle.std.proofs.lemmas.Option.{same_Some, slice_get_past}
 use Rattle.std.specs.Option.{option_flatten}
+use Rattle.tp_lock.specs.Rule.{after_request, answer_at, lock_of}
+use Rattle.tp_lock.specs.Table.{Table}
+use Rattle.tp_lock.specs.declared.entry.LockEntry.{LockEntry}
 use Rattle.tp_model.specs.Words.action
 use Rattle.tp_model.specs.Words.log
 use Rattle.tp_model.specs.Words.{Action, Deed, Letter, Prepared, Record, Scenario, ServerId, Settled, TxnId}
@@ -15,9 +18,10 @@ use Rattle.tp_recover.specs.Kept.{kept, of_txn}
 use Rattle.tp_recover.specs.declared.kept.Kept.{Kept}
 use Rattle.tp_recover.specs.Laws.{IsOfScenario}
 use Rattle.tp_recover.specs.Log.{prepared_in, settled_in}
+use Rattle.tp_runs.proofs.basics.Locks.{EachLock, all_added, requested_locks}
 use Rattle.tp_runs.proofs.basics.Stores.{EachWrite, one_more_in_basics, writes_set_in_basics}
 use Rattle.tp_runs.specs.Sound.{IsSoundServerRecord}
-use Rattle.tp_server.specs.Booted.{booted, inquiry, restored, with_deed_kept, with_deeds_kept, with_prepared_kept, write_of}
+use Rattle.tp_server.specs.Booted.{booted, inquiry, restored, with_deed_kept, with_deeds_kept, with_deeds_locked, with_prepared_kept, with_prepared_locked, write_of}
 use Rattle.tp_server.specs.Row.{entry_at}
 use Rattle.tp_server.specs.State.{Server}
 use Rattle.tp_server.specs.declared.server.Entry.{Entry}
@@ -143,6 +147,24 @@ booted_settled sc at records each n s e = sym (kept_settled sc at records each (
 pub inquiries_are : (P : Letter → Type 0) (s : Server) → ((p : Prepared) → P (inquiry s p)) → (prepared : List Prepared) → Each P (map (inquiry s) prepared)
 inquiries_are P s step [] = tt
 inquiries_are P s step (p ∷ prepared) = (step p, inquiries_are P s step prepared)
+
+-- ---- locks
+
+-- P of the lock of a deed, whether it is granted or waits
+abbrev pub OfItsLock : (ℕ → LockEntry → Type 0) → TxnId → ℕ → Deed → Type 0
+OfItsLock P owner age deed = (held : Bool) → P deed.item.0 (lock_of owner age deed.action held)
+
+deeds_locks : (P : ℕ → LockEntry → Type 0) (owner : TxnId) (age : ℕ) (deeds : List Deed) (locks : Table) → Each (OfItsLock P owner age) deeds → EachLock P locks → EachLock P (with_deeds_locked owner age deeds locks)
+deeds_locks P owner age [] locks new h = h
+deeds_locks P owner age (deed ∷ deeds) locks new h =
+    let given = answer_at owner age deed.item deed.action locks in
+    deeds_locks P owner age deeds (after_request owner age deed.item deed.action locks) new.1
+    (requested_locks P owner age deed.item deed.action locks given refl h (all_added (P deed.item.0) owner age deed.action new.0 given))
+
+-- what holds of the lock of each deed that is prepared holds of each lock that is asked for
+pub prepared_locks : (P : ℕ → LockEntry → Type 0) (prepared : List Prepared) (locks : Table) → Each (λ (p : Prepared). Each (OfItsLock P p.txn p.age) p.deeds) prepared → EachLock P locks → EachLock P (with_prepared_locked prepared locks)
+prepared_locks P [] locks new h = h
+prepared_locks P (p ∷ prepared) locks new h = prepared_locks P prepared (with_deeds_locked p.txn p.age p.deeds locks) new.1 (deeds_locks P p.txn p.age p.deeds locks new.0 h)
 
 -- ---- the store
 

@@ -39,7 +39,7 @@ crashed_from who place facts = list_any (is_crash_from who place) facts
 first_counted : (who : Actor → Bool) (fact : Fact) (facts : List Fact) → crashes who (fact ∷ facts) ≡ cond (is_crash_of who fact) 1 0 + crashes who facts
 first_counted who fact facts = sum_by-cons (λ (f : Fact). cond (is_crash_of who f) 1 0) fact facts
 
-first_noted : (who : Actor → Bool) (w : What) (happened : List What) → noted who (w ∷ happened) ≡ cond (is_crash_what who w) 1 0 + noted who happened
+pub first_noted : (who : Actor → Bool) (w : What) (happened : List What) → noted who (w ∷ happened) ≡ cond (is_crash_what who w) 1 0 + noted who happened
 first_noted who w happened = sum_by-cons (λ (x : What). cond (is_crash_what who x) 1 0) w happened
 
 new_crashes : (who : Actor → Bool) (place : ℕ) (happened : List What) → crashes who (facts_of place happened) ≡ noted who happened

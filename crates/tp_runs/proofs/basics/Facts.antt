@@ -12,6 +12,7 @@ use Rattle.tp_model.specs.Words.what
 use Rattle.tp_model.specs.Facts.{before, commit_in_what, commit_of, is_decided_as, is_decided_what, is_decision, is_decision_what, is_earlier, is_settled_as, is_settled_what, is_settlement, is_settlement_what, is_submission, is_submission_what, outcome_of, record_of, same_outcome}
 use Rattle.tp_model.specs.Ids.{same_server, same_txn}
 use Rattle.tp_machine.specs.Machine.{State, facts_of, mails_of}
+use Rattle.tp_types.proofs.EachLemmas.{each_append}
 use Rattle.tp_types.specs.Each.{Each}
 
 -- ---- tests
@@ -105,6 +106,11 @@ each_new_mail P sent number (letter ∷ letters) h = (h.0, each_new_mail P sent 
 -- the facts after a step
 abbrev pub facts_after : State → List What → List Fact
 facts_after w happened = w.facts ++ facts_of (length w.steps) happened
+
+pub past_after : (w : State) (happened : List What) → ArePast (length w.steps) w.facts → ArePast (length w.steps + 1) (facts_after w happened)
+past_after w happened past =
+    let place = length w.steps in
+    each_append (λ (fact : Fact). fact.place < place + 1) w.facts (facts_of place happened) (past_as place (place + 1) (omega arith) w.facts past) (new_facts_past place happened)
 
 -- later facts change nothing before a place: the one law of growth
 pub record Grows (old new : List Fact) (place : ℕ) : Type 0 where

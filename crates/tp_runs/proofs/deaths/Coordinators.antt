@@ -32,7 +32,7 @@ pub record CoordinatorActsDie (sc : Scenario) (old : List Fact) (place : ℕ) (a
 abbrev pub ActDies : Scenario → List Fact → ℕ → Effect Coordinator → Type 0
 ActDies sc old place effect = CoordinatorActsDie sc old place effect.reaction.append effect.reaction.letters
 
-orders_none : (sc : Scenario) (facts : List Fact) (place : ℕ) (c : Coordinator) (ended : Outcome) (servers : List ServerId)
+pub orders_none : (sc : Scenario) (facts : List Fact) (place : ℕ) (c : Coordinator) (ended : Outcome) (servers : List ServerId)
     → Each (LetterDies sc facts place) (requests c (body.Decide (record { txn = c.txn; outcome = ended })) servers)
 orders_none sc facts place c ended [] = tt
 orders_none sc facts place c ended (at ∷ servers) = (tt, orders_none sc facts place c ended servers)

@@ -21,12 +21,12 @@ abbrev pub Told : State → Type 0
 Told w = (txn : TxnId) (place : ℕ) → slice_get w.steps place ≡ Some (step.Submit txn) → submitted_at txn w.facts ≡ Some place
 
 -- what a step that submits a transaction tells: it was not told before
-record IsNewlyTold (w : State) (txn : TxnId) (move : Move) : Type 0 where
+pub record IsNewlyTold (w : State) (txn : TxnId) (move : Move) : Type 0 where
   more : List What
   happened_is : move.happened ≡ what.Submitted txn ∷ more
   fresh : list_any (is_submission txn) w.facts ≡ false
 
-abbrev NewTold : State → Step → Move → Type 0
+abbrev pub NewTold : State → Step → Move → Type 0
 NewTold w taken move = (txn : TxnId) → taken ≡ step.Submit txn → IsNewlyTold w txn move
 
 -- ---- searches
@@ -74,7 +74,7 @@ found_placed : (test : Fact → Bool) (facts more : List Fact) (place : ℕ) (fi
 found_placed test facts more place None f e = absurd (cc)
 found_placed test facts more place (Some fact) f e = ap (option_map place_of) (find_first test facts more fact f) ∙ e
 
-state_after_told : (w : State) (taken : Step) (move : Move) → Told w → NewTold w taken move → Told (state_after w taken move)
+pub state_after_told : (w : State) (taken : Step) (move : Move) → Told w → NewTold w taken move → Told (state_after w taken move)
 state_after_told w taken move h t = λ txn place e.
     let more = facts_of (length w.steps) move.happened in
     ⊎_elim (λ (old : slice_get w.steps place ≡ Some (step.Submit txn)). found_placed (is_submission txn) w.facts more place (find (is_submission txn) w.facts) refl (h txn place old))

@@ -21,14 +21,14 @@ use Rattle.tp_runs.proofs.basics.Facts.{ArePast, each_new_fact, each_new_mail, f
 use Rattle.tp_types.proofs.EachLemmas.{at_made, at_set, each_append, each_as, each_get, placed_none}
 use Rattle.tp_runs.proofs.basics.Locks.{no_locks, stands_in_the_way}
 use Rattle.tp_runs.proofs.basics.Logs.{gained, listed}
-use Rattle.tp_runs.proofs.deaths.Coordinators.{CoordinatorActsDie, RecordDies, coordinator_row_dies, repeats_none, submit_row_dies}
+use Rattle.tp_runs.proofs.deaths.Coordinators.{ActDies, CoordinatorActsDie, RecordDies, coordinator_row_dies, repeats_none, submit_row_dies}
 use Rattle.tp_runs.proofs.deaths.Dying.{dies_for}
 use Rattle.tp_runs.proofs.deaths.Fit.{Adds, BodyDies, Death, DoneDies, FactDies, LetterDies, LockFits, WhatDies, body_dies_still, done_stays, what_dies_still}
 use Rattle.tp_runs.proofs.deaths.Servers.{AnswersDie, AskerKnown, ServerDies, server_row_dies}
 use Rattle.tp_runs.proofs.deaths.Told.{Told, told_next}
 use Rattle.tp_runs.proofs.basics.Found.{of_some}
 use Rattle.tp_runs.proofs.known.World.{HasPlaces, Pairs}
-use Rattle.tp_runs.proofs.walks.Steps.{Cases, IsServerUp, SaysIdle, WaitRightly, WasSent, machine_after_by}
+use Rattle.tp_runs.proofs.walks.Steps.{Cases, IsCoordinatorUp, IsServerUp, SaysIdle, WaitRightly, WasSent, machine_after_by}
 use Rattle.tp_recover.specs.Log.{settled_in}
 use Rattle.tp_machine.specs.Logs.{settled_by}
 use Rattle.tp_machine.specs.Machine.{Machine, Move, State, acts, acts_by, coordinator_fact, coordinator_move, facts_of, idle_move, log_with, machine_after, mails_of, opened_part, opening_state, refusal, server_fact, server_move, state_after, with_age}
@@ -86,7 +86,7 @@ new_mails_sent : (place number : ℕ) (letters : List Letter) → Each (λ (mail
 new_mails_sent place number [] = tt
 new_mails_sent place number (letter ∷ letters) = (omega arith, new_mails_sent place (number + 1) letters)
 
-state_after_deaths : (sc : Scenario) (w : State) (taken : Step) (move : Move) → ArePast (length w.steps) w.facts → Deaths sc w → MoveDies sc w move → Told (state_after w taken move) → Deaths sc (state_after w taken move)
+pub state_after_deaths : (sc : Scenario) (w : State) (taken : Step) (move : Move) → ArePast (length w.steps) w.facts → Deaths sc w → MoveDies sc w move → Told (state_after w taken move) → Deaths sc (state_after w taken move)
 state_after_deaths sc w taken move past h t told =
     let place = length w.steps in
     let now = facts_after w move.happened in
@@ -245,6 +245,18 @@ coordinator_acts_deaths sc w txn part now own append letters past h plain row =
           (subst (Each P) (sym tells) (decided_by_death sc after (length w.steps) append (row.forces after (adds w (own ++ gains) past))));
     }
 
+-- the row of a coordinator on a mail that was sent
+pub coordinator_sends_deaths : (sc : Scenario) (w : State) → IsSound sc w → Deaths sc w → (n : ℕ) (mail : Mail) (txn : TxnId) (part : Part Coordinator) (c : Coordinator) → WasSent w n mail (actor.Coordinator txn) → IsCoordinatorUp w txn part c
+    → ActDies sc w.facts (length w.steps) (coordinator_row sc c mail)
+coordinator_sends_deaths sc w sound h n mail txn part c sent up =
+    let heard : IsSoundBody sc (actor.Coordinator txn) mail.letter.body = mail_sound sc w n mail (actor.Coordinator txn) sound sent in
+    let same : c.txn ≡ txn = own_txn sc w txn part c sound up.found up.up in
+    coordinator_row_dies sc w.facts (length w.steps) c mail (each_get (λ (m : Mail). m.sent < length w.steps) w.mails n mail h.sent sent.sent) (each_get (MailDies sc w.facts) w.mails n mail h.mails sent.sent)
+    (λ done e. own_done done (subst (IsSoundBody sc (actor.Coordinator txn)) e heard).goes_to ∙ sym same)
+  where
+    own_done : (done : DoneReply) → actor.Coordinator txn ≡ actor.Coordinator done.txn → done.txn ≡ txn
+    own_done done e = cc
+
 -- ---- steps
 
 deaths_cases : (sc : Scenario) (w : State) → WaitRightly sc w → IsSound sc w → Agrees sc w → Ages w → Pairs sc w → Deaths sc w → Cases sc w (λ taken move. MoveDies sc w move)
@@ -253,12 +265,8 @@ deaths_cases sc w rightly sound a ages pairs h =
       idle = λ taken happened e. idle_deaths sc w taken happened h e;
       server_received = λ n mail at part s sent up. server_moves_in_deaths sc w n mail at part s rightly sound a ages pairs h sent up;
       coordinator_received = λ n mail txn part c sent up.
-          let heard : IsSoundBody sc (actor.Coordinator txn) mail.letter.body = mail_sound sc w n mail (actor.Coordinator txn) sound sent in
-          let same : c.txn ≡ txn = own_txn sc w txn part c sound up.found up.up in
           let effect = coordinator_row sc c mail in
-          coordinator_acts_deaths sc w txn part (Some effect.state) [] effect.reaction.append effect.reaction.letters a.past h tt
-          (coordinator_row_dies sc w.facts (length w.steps) c mail (each_get (λ (m : Mail). m.sent < length w.steps) w.mails n mail h.sent sent.sent) (each_get (MailDies sc w.facts) w.mails n mail h.mails sent.sent)
-          (λ done e. own_done txn done (subst (IsSoundBody sc (actor.Coordinator txn)) e heard).goes_to ∙ sym same));
+          coordinator_acts_deaths sc w txn part (Some effect.state) [] effect.reaction.append effect.reaction.letters a.past h tt (coordinator_sends_deaths sc w sound h n mail txn part c sent up);
       authority_told = λ n mail sent. still_deaths sc w [] (office.authority_row w.actors.authority mail).reaction.letters w.actors h refl tt (tells_no_death sc w.facts (length w.steps) w.actors.authority mail.letter.body);
       master_told = λ n mail sent. still_deaths sc w [] (master.master_row w.actors.master mail).reaction.letters w.actors h refl tt (newest_no_death sc w.facts (length w.steps) w.actors.master mail.letter.body);
       published = λ admin exists more.
@@ -271,9 +279,6 @@ deaths_cases sc w rightly sound a ages pairs h =
           coordinator_acts_deaths sc w txn part (Some effect.state) (what.Submitted txn ∷ []) effect.reaction.append effect.reaction.letters a.past h (λ facts. tt, tt) (submit_row_dies sc w.facts (length w.steps) c);
       timed = λ txn part c exists up begun. still_deaths sc w [] (repeats sc c c.phase) w.actors h refl tt (repeats_none sc w.facts (length w.steps) c);
     }
-  where
-    own_done : (txn : TxnId) (done : DoneReply) → actor.Coordinator txn ≡ actor.Coordinator done.txn → done.txn ≡ txn
-    own_done txn done e = cc
 
 -- a step that is not refused keeps that deaths are shown
 pub deaths_next : (sc : Scenario) (m : Machine) (taken : Step) → IsStepOf sc taken → refusal m.state taken ≡ None → WaitRightly sc m.state → IsSound sc m.state → Agrees sc m.state → Ages m.state → Pairs sc m.state → Deaths sc m.state

@@ -1,7 +1,6 @@
 -- Crashes and boots: what an actor that boots has of its log exists.
 use Rattle.std.proofs.Common.{List, None, Option, Some, [], fold, length, refl, slice_get, subst, sym, ℕ, ◌∷◌, ◌≡◌}
-use Rattle.tp_lock.specs.Rule.{after_request, answer_at, opening}
-use Rattle.tp_lock.specs.Table.{Table}
+use Rattle.tp_lock.specs.Rule.{opening}
 use Rattle.tp_lock.specs.declared.entry.LockEntry.{LockEntry}
 use Rattle.tp_model.specs.Facts.{outcome_of}
 use Rattle.tp_model.specs.Words.actor
@@ -20,15 +19,15 @@ use Rattle.tp_coord.specs.Booted as coord_boot
 use Rattle.tp_coord.specs.Opened.{servers_at}
 use Rattle.tp_coord.specs.Row.{coordinator_row}
 use Rattle.tp_coord.specs.State.{Coordinator}
-use Rattle.tp_server.specs.Booted.{boot_row, booted, inquiry, kept_store, restored, with_deeds_locked, with_prepared_locked, write_of}
+use Rattle.tp_server.specs.Booted.{boot_row, booted, inquiry, kept_store, restored, write_of}
 use Rattle.tp_server.specs.Row.{server_row}
 use Rattle.tp_server.specs.State.{Server}
 use Rattle.tp_machine.specs.Crashes.{goes_down, server_boots}
 use Rattle.tp_machine.specs.Machine.{State, acts_by, coordinator_fact, coordinator_move, server_fact, server_move, state_after}
 use Rattle.tp_machine.specs.Named.{IsServer, IsTxn}
 use Rattle.tp_machine.specs.Parts.{Part}
-use Rattle.tp_runs.proofs.basics.Booted.{aged_each, booted_entries, booted_settled, listed_each, prepared_each, prepared_keeps, records_of_scenario}
-use Rattle.tp_runs.proofs.basics.Locks.{EachLock, all_added, no_locks, requested_locks}
+use Rattle.tp_runs.proofs.basics.Booted.{OfItsLock, aged_each, booted_entries, booted_settled, listed_each, prepared_each, prepared_keeps, prepared_locks, records_of_scenario}
+use Rattle.tp_runs.proofs.basics.Locks.{no_locks}
 use Rattle.tp_runs.proofs.basics.Stores.{opened_each}
 use Rattle.tp_runs.proofs.ids.Acts.{IsSoundCoordinatorAct, coordinator_acts_sound, coordinator_receives, known_sound, server_acts_sound, server_row_acts, servers_at_sound}
 use Rattle.tp_runs.proofs.ids.Coordinator.{orders_sound}
@@ -38,7 +37,7 @@ use Rattle.tp_runs.proofs.ids.Valid.{IsValid}
 use Rattle.tp_runs.proofs.walks.Crashes.{CrashCases, LeftOfCoordinator, LeftOfServer, crash_cases_as, left_shown}
 use Rattle.tp_runs.proofs.walks.Steps.{IsCoordinatorUp, IsServerUp, WaitRightly}
 use Rattle.tp_runs.specs.Sound.{AreSoundVerdicts, AreVersions, IsItemOf, IsSound, IsSoundCoordinator, IsSoundCoordinatorRecord, IsSoundDeedAt, IsSoundEntry, IsSoundLetter, IsSoundMail, IsSoundPrepared, IsSoundServer, IsSoundServerPart, IsSoundServerRecord, IsWriteOf}
-use Rattle.tp_types.proofs.EachLemmas.{each_as, each_get, each_map}
+use Rattle.tp_types.proofs.EachLemmas.{each_as, each_get, each_map, each_of_all}
 use Rattle.tp_types.specs.Each.{Each, EachPlaced}
 
 -- ---- versions
@@ -67,17 +66,6 @@ newest_from sc at k (next ∷ records) h each = newest_from sc at (kept_step k n
 
 abbrev IsOwned : Scenario → ℕ → LockEntry → Type 0
 IsOwned sc item lock = IsTxn sc lock.owner
-
-deeds_owned : (sc : Scenario) (owner : TxnId) (age : ℕ) (deeds : List Deed) (locks : Table) → IsTxn sc owner → EachLock (IsOwned sc) locks → EachLock (IsOwned sc) (with_deeds_locked owner age deeds locks)
-deeds_owned sc owner age [] locks exists h = h
-deeds_owned sc owner age (deed ∷ deeds) locks exists h =
-    let given = answer_at owner age deed.item deed.action locks in
-    deeds_owned sc owner age deeds (after_request owner age deed.item deed.action locks) exists
-    (requested_locks (IsOwned sc) owner age deed.item deed.action locks given refl h (all_added (IsOwned sc deed.item.0) owner age deed.action (λ held. exists) given))
-
-all_owned : (sc : Scenario) (prepared : List Prepared) (locks : Table) → Each (λ (p : Prepared). IsTxn sc p.txn) prepared → EachLock (IsOwned sc) locks → EachLock (IsOwned sc) (with_prepared_locked prepared locks)
-all_owned sc [] locks exist h = h
-all_owned sc (p ∷ prepared) locks exist h = all_owned sc prepared (with_deeds_locked p.txn p.age p.deeds locks) exist.1 (deeds_owned sc p.txn p.age p.deeds locks exist.0 h)
 
 -- ---- a server that boots
 
@@ -113,7 +101,8 @@ booted_sound sc at records valid exists sound =
       entries = λ n entry e.
           let own = booted_entries sc at records each n entry e in
           subst (IsSoundEntry sc at (record { 0 = n })) own.entry_is (entry_sound sc at (record { 0 = n }) own.p own.own (votes n own.p own.placed));
-      locks = all_owned sc (by_age (by_txn k.prepared)) (opening (length sc.items)) (aged_each (λ (p : Prepared). IsTxn sc p.txn) k.prepared (λ n p e. (votes n p e).txn)) (no_locks (IsOwned sc) (length sc.items));
+      locks = prepared_locks (IsOwned sc) (by_age (by_txn k.prepared)) (opening (length sc.items))
+          (aged_each (λ (p : Prepared). Each (OfItsLock (IsOwned sc) p.txn p.age) p.deeds) k.prepared (λ n p e. each_of_all (OfItsLock (IsOwned sc) p.txn p.age) (λ deed held. (votes n p e).txn) p.deeds)) (no_locks (IsOwned sc) (length sc.items));
     }
 
 -- what it asks goes to coordinators that exist

@@ -91,7 +91,7 @@ pub record MovePairs (sc : Scenario) (w : State) (move : Move) : Type 0 where
   pub places : EachAt (λ (n : ℕ) (part : Part Server). IfSome part.up (HasPlaces sc)) move.actors.servers
   pub letters : Each (LetterPairs sc (pair_at move.actors)) move.letters
 
-state_after_pairs : (sc : Scenario) (w : State) (taken : Step) (move : Move) → Pairs sc w → MovePairs sc w move → Pairs sc (state_after w taken move)
+pub state_after_pairs : (sc : Scenario) (w : State) (taken : Step) (move : Move) → Pairs sc w → MovePairs sc w move → Pairs sc (state_after w taken move)
 state_after_pairs sc w taken move h t =
     let old : (mail : Mail) → LetterPairs sc (pair_at w.actors) mail.letter → LetterPairs sc (pair_at move.actors) mail.letter = λ mail said.
     body_stays sc (pair_at w.actors) (pair_at move.actors) mail.letter.from mail.letter.to mail.letter.body (λ txn at declared e. (t.next txn at declared e).follows) said in
@@ -217,9 +217,11 @@ order_decided sc w from at (body.Decide order) a h =
     decided_asker sc w order.txn at.0 (slice_get w.actors.coordinators order.txn.0) a refl (some_mapped outcome_of (decided_at w.actors.coordinators order.txn.0) order.outcome h.0)
 order_decided sc w from at _ a h = tt
 
-receipt_by_server_in_known : (sc : Scenario) (w : State) → WaitRightly sc w → IsSound sc w → Agrees sc w → Epochs sc w → Pairs sc w → (n : ℕ) (mail : Mail) (at : ServerId) (part : Part Server) (s : Server) → WasSent w n mail (actor.Server at)
-    → IsServerUp w at part s → MovePairs sc w (server_move w.actors at (acts_by (server_fact at) [] part.log (server_row sc s mail)))
-receipt_by_server_in_known sc w rightly sound a epochs h n mail at part s sent up =
+-- the row of a server that is up on a mail that was sent
+pub server_sends_pairs : (sc : Scenario) (w : State) → WaitRightly sc w → IsSound sc w → Agrees sc w → Epochs sc w → Pairs sc w → (n : ℕ) (mail : Mail) (at : ServerId) (part : Part Server) (s : Server) → WasSent w n mail (actor.Server at)
+    → IsServerUp w at part s
+    → ServerActsPairs sc at (λ txn. asker_at w.actors.coordinators txn.0 at.0) part.up part.log (Some (server_row sc s mail).state) (server_row sc s mail).reaction.append (server_row sc s mail).reaction.letters
+server_sends_pairs sc w rightly sound a epochs h n mail at part s sent up =
     let A : TxnId → Option Asker = λ txn. asker_at w.actors.coordinators txn.0 at.0 in
     let effect = server_row sc s mail in
     let own : IsSoundServerUp sc at s = of_some (IsSoundServerUp sc at) part.up s up.up (sound.actors_are.servers at.0 part up.found).state in
@@ -239,9 +241,14 @@ receipt_by_server_in_known sc w rightly sound a epochs h n mail at part s sent u
     server_row_pairs sc A s part.log mail (rightly at part s up) paired own.sound (subst (λ (m : ServerId). IsSoundBody sc (actor.Server m) mail.letter.body) (sym own.server_is) (mail_sound sc w n mail (actor.Server at) sound sent))
     (subst (λ (m : ServerId). RequestPairs sc m A (λ txn. pair_up txn (A txn) s part.log) mail.letter.body) (sym own.server_is) asked) in
     let now = Some effect.state in
-    server_acts_pairs sc w at part now [] effect.reaction.append effect.reaction.letters h up.found
-    (subst (λ (was : Option Server). ServerActsPairs sc at A was part.log now effect.reaction.append effect.reaction.letters) (sym up.up)
-    (subst (λ (m : ServerId). ServerActsPairs sc m A (Some s) part.log now effect.reaction.append effect.reaction.letters) own.server_is row))
+    subst (λ (was : Option Server). ServerActsPairs sc at A was part.log now effect.reaction.append effect.reaction.letters) (sym up.up)
+    (subst (λ (m : ServerId). ServerActsPairs sc m A (Some s) part.log now effect.reaction.append effect.reaction.letters) own.server_is row)
+
+receipt_by_server_in_known : (sc : Scenario) (w : State) → WaitRightly sc w → IsSound sc w → Agrees sc w → Epochs sc w → Pairs sc w → (n : ℕ) (mail : Mail) (at : ServerId) (part : Part Server) (s : Server) → WasSent w n mail (actor.Server at)
+    → IsServerUp w at part s → MovePairs sc w (server_move w.actors at (acts_by (server_fact at) [] part.log (server_row sc s mail)))
+receipt_by_server_in_known sc w rightly sound a epochs h n mail at part s sent up =
+    let effect = server_row sc s mail in
+    server_acts_pairs sc w at part (Some effect.state) [] effect.reaction.append effect.reaction.letters h up.found (server_sends_pairs sc w rightly sound a epochs h n mail at part s sent up)
 
 -- ---- a coordinator acts
 

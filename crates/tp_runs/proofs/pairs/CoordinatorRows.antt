@@ -408,7 +408,7 @@ counted_asker at c round other staple e =
     ap (λ (s : Stand). Some (record { stand = s; turn = c.turn; epoch = option_flatten (slice_get c.epochs at); deeds = c.deeds })) (sym (ap stand_of e)) ∙ sym (undecided_asker at c (ap is_undecided e))
 
 -- an order to end says nothing of deeds
-orders_ask : (sc : Scenario) (declared : Transaction) (txn : TxnId) (Q : ℕ → Pair) (c : Coordinator) (ended : Outcome) (servers : List ServerId)
+pub orders_ask : (sc : Scenario) (declared : Transaction) (txn : TxnId) (Q : ℕ → Pair) (c : Coordinator) (ended : Outcome) (servers : List ServerId)
     → Each (λ (letter : Letter). AskPairs sc declared txn Q letter.to letter.body) (coord.decide_letters c ended servers)
 orders_ask sc declared txn Q c ended [] = tt
 orders_ask sc declared txn Q c ended (at ∷ servers) = (tt, orders_ask sc declared txn Q c ended servers)

@@ -492,7 +492,7 @@ reply_stays sc at P Q next (body.Prepare r) h = absurd h
 reply_stays sc at P Q next (body.Validate v) h = absurd h
 reply_stays sc at P Q next _ h = tt
 
-all_both : (sc : Scenario) (at : ℕ) (P Q R : TxnId → Pair) → AllNext sc at P Q → AllNext sc at Q R → AllNext sc at P R
+pub all_both : (sc : Scenario) (at : ℕ) (P Q R : TxnId → Pair) → AllNext sc at P Q → AllNext sc at Q R → AllNext sc at P R
 all_both sc at P Q R first second txn declared found = next_both (site_of sc at declared) (P txn) (Q txn) (R txn) (first txn declared found) (second txn declared found)
 
 resumes_pairs : (sc : Scenario) (A : TxnId → Option Asker) (s : Server) (kept : List Record) (effect : Effect Server) (grant : Grant) (q : QueryRequest) (query : Query) (entry : Entry) (value : ℤ) → ServerPaired sc A s kept

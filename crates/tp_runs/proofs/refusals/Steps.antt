@@ -61,18 +61,18 @@ use Rattle.tp_offices.specs.Master as master
 -- ---- a coordinator's part
 
 -- a coordinator that has not decided after an act had not before it; and while it brings the servers to vote it does nothing else
-record LeavesOpen (old new : Coordinator) : Type 0 where
+pub record LeavesOpen (old new : Coordinator) : Type 0 where
   undecided : is_undecided old.phase ≡ true
   keeps : KeepsDeeds old new
 
 -- so it was up before the act
-record WasOpen (was : Option Coordinator) (new : Coordinator) : Type 0 where
+pub record WasOpen (was : Option Coordinator) (new : Coordinator) : Type 0 where
   old : Coordinator
   up : was ≡ Some old
   leaves : LeavesOpen old new
 
 -- what an act leaves awaited was awaited before it
-abbrev OpensNone : Option Coordinator → Option Coordinator → Type 0
+abbrev pub OpensNone : Option Coordinator → Option Coordinator → Type 0
 OpensNone was now = (next : Coordinator) → now ≡ Some next → is_undecided next.phase ≡ true → WasOpen was next
 
 -- the coordinator was awaited before an act, too
@@ -137,7 +137,7 @@ still_undecided sc c mail =
 
 -- ---- a coordinator decides
 
-abbrev DecisionShown : Scenario → State → List What → Record → Type 0
+abbrev pub DecisionShown : Scenario → State → List What → Record → Type 0
 DecisionShown sc w happened (log.Decided d) = WhatRefused sc (facts_after w happened) (length w.steps) (what.Decided d.txn d.decision)
 DecisionShown sc w happened _ = Unit {0}
 
@@ -158,7 +158,7 @@ abort_shown sc w happened txn server number value past h = λ declared e.
     refused_stays sc w.facts w.facts (before place (facts_after w happened)) happened place place place txn (refused_by server number value) declared
     (λ old. ap (list_any (is_settled_as server txn outcome.Abort)) all ∙ old) (omega arith) (omega arith) (h declared e)
 
-coordinator_row_shown : (sc : Scenario) (w : State) (txn : TxnId) (part : Part Coordinator) (c : Coordinator) (n : ℕ) (mail : Mail) → IsSound sc w → Agrees sc w → Refusals sc w → WasSent w n mail (actor.Coordinator txn)
+pub coordinator_row_shown : (sc : Scenario) (w : State) (txn : TxnId) (part : Part Coordinator) (c : Coordinator) (n : ℕ) (mail : Mail) → IsSound sc w → Agrees sc w → Refusals sc w → WasSent w n mail (actor.Coordinator txn)
     → IsCoordinatorUp w txn part c → IfSome (coordinator_row sc c mail).reaction.append (DecisionShown sc w (coordinator_facts (coordinator_row sc c mail).reaction.append))
 coordinator_row_shown sc w txn part c n mail sound a h sent up =
     coordinator_by sc c mail (λ (effect : Effect Coordinator). IfSome effect.reaction.append (DecisionShown sc w (coordinator_facts effect.reaction.append)))
@@ -202,7 +202,7 @@ coordinator_row_shown sc w txn part c n mail sound a h sent up =
 -- ---- what a step says by itself
 
 -- it aborts nothing at a server, and decides nothing
-abbrev IsQuietOwn : List What → Type 0
+abbrev pub IsQuietOwn : List What → Type 0
 IsQuietOwn own = Each IsQuiet own
 
 quiet_is_no_abort : (txn : TxnId) (w : What) → IsQuiet w → is_abort_what txn w ≡ false
@@ -210,7 +210,7 @@ quiet_is_no_abort txn (what.Settled at other ended) h = absurd h
 quiet_is_no_abort txn _ h = refl
 
 -- the first abort is among what is said besides
-quiet_abort : (txn : TxnId) (place : ℕ) (own more : List What) → IsQuietOwn own → first_abort_of txn (facts_of place (own ++ more)) ≡ first_abort_of txn (facts_of place more)
+pub quiet_abort : (txn : TxnId) (place : ℕ) (own more : List What) → IsQuietOwn own → first_abort_of txn (facts_of place (own ++ more)) ≡ first_abort_of txn (facts_of place more)
 quiet_abort txn place [] more h = refl
 quiet_abort txn place (w ∷ own) more h =
     ap (λ (b : Bool). option_map place_of (if b then Some (record { place = place; what = w }) else find (is_abort txn) (facts_of place (own ++ more)))) (quiet_is_no_abort txn w h.0) ∙ quiet_abort txn place own more h.1
@@ -228,7 +228,7 @@ none_told txn place (Some (log.Decided d)) = refl
 none_told txn place (Some _) = refl
 
 -- a coordinator that was up or down, and is up or down after it
-coordinator_moves_in_steps : (sc : Scenario) (w : State) (txn : TxnId) (part : Part Coordinator) (now : Option Coordinator) (own : List What) (append : Option Record) (letters : List Letter) → Refusals sc w
+pub coordinator_moves_in_steps : (sc : Scenario) (w : State) (txn : TxnId) (part : Part Coordinator) (now : Option Coordinator) (own : List What) (append : Option Record) (letters : List Letter) → Refusals sc w
     → slice_get w.actors.coordinators txn.0 ≡ Some part → OpensNone part.up now → IsQuietOwn own → IfSome append (DecisionShown sc w (own ++ coordinator_facts append))
     → MoveRefuses sc w (coordinator_move w.actors txn (acts coordinator_fact own part.log now (log_with part.log append) letters))
 coordinator_moves_in_steps sc w txn part now own append letters h found opens quiet shown =
@@ -249,15 +249,15 @@ coordinator_moves_in_steps sc w txn part now own append letters h found opens qu
 -- ---- a server settles
 
 -- a server settles the transaction of a coordinator that has not decided: that one brings the servers to vote, and the reason is shown
-record IsSettlementShown (sc : Scenario) (w : State) (at : ServerId) (happened : List What) (s : Settled) (awaiting : IsAwaiting w.actors.coordinators s.txn) : Type 0 where
-  prepares : (declared : Transaction) → slice_get sc.txns s.txn.0 ≡ Some declared → stand_of awaiting.c.phase ≡ Prepares
-  why : IfSome s.why (ReasonShown sc (facts_after w happened) (length w.steps + 1) at s.txn)
+pub record IsSettlementShown (sc : Scenario) (w : State) (at : ServerId) (happened : List What) (s : Settled) (awaiting : IsAwaiting w.actors.coordinators s.txn) : Type 0 where
+  pub prepares : (declared : Transaction) → slice_get sc.txns s.txn.0 ≡ Some declared → stand_of awaiting.c.phase ≡ Prepares
+  pub why : IfSome s.why (ReasonShown sc (facts_after w happened) (length w.steps + 1) at s.txn)
 
-abbrev SettlementShown : Scenario → State → ServerId → List What → Record → Type 0
+abbrev pub SettlementShown : Scenario → State → ServerId → List What → Record → Type 0
 SettlementShown sc w at happened (log.Settled s) = (awaiting : IsAwaiting w.actors.coordinators s.txn) → IsSettlementShown sc w at happened s awaiting
 SettlementShown sc w at happened _ = Unit {0}
 
-server_row_shown : (sc : Scenario) (w : State) (n : ℕ) (mail : Mail) (at : ServerId) (part : Part Server) (s : Server) → IsValid sc → WaitRightly sc w → IsSound sc w → Agrees sc w → Pairs sc w → Serial sc w → Remembers sc w
+pub server_row_shown : (sc : Scenario) (w : State) (n : ℕ) (mail : Mail) (at : ServerId) (part : Part Server) (s : Server) → IsValid sc → WaitRightly sc w → IsSound sc w → Agrees sc w → Pairs sc w → Serial sc w → Remembers sc w
     → Refusals sc w → WasSent w n mail (actor.Server at) → IsServerUp w at part s → IfSome (server_row sc s mail).reaction.append (SettlementShown sc w at (server_facts at (server_row sc s mail).reaction.append))
 server_row_shown sc w n mail at part s valid rightly sound a pairs serial known h sent up =
     server_by sc s mail (λ (effect : Effect Server). IfSome effect.reaction.append (SettlementShown sc w at (server_facts at effect.reaction.append))) (rightly at part s up)
@@ -338,7 +338,7 @@ shown_of : (sc : Scenario) (w : State) (at : ServerId) (told : List What) (appen
 shown_of sc w at told append order e k = subst (λ (x : Option Record). IfSome x (SettlementShown sc w at told)) e k
 
 -- a server that was up or down, and is up or down after it
-server_moves_in_steps : (sc : Scenario) (w : State) (at : ServerId) (part : Part Server) (now : Option Server) (own : List What) (append : Option Record) (letters : List Letter) → IsValid sc → Agrees sc w → Pairs sc w → Serial sc w
+pub server_moves_in_steps : (sc : Scenario) (w : State) (at : ServerId) (part : Part Server) (now : Option Server) (own : List What) (append : Option Record) (letters : List Letter) → IsValid sc → Agrees sc w → Pairs sc w → Serial sc w
     → Remembers sc w → Refusals sc w → slice_get w.actors.servers at.0 ≡ Some part → IsQuietOwn own → IfSome append (SettlementShown sc w at (own ++ server_facts at append))
     → MoveRefuses sc w (server_move w.actors at (acts (server_fact at) own part.log now (log_with part.log append) letters))
 server_moves_in_steps sc w at part now own append letters valid a pairs serial known h found quiet shown =

@@ -99,7 +99,7 @@ pub lost_same : (sc : Scenario) (txn : TxnId) (facts : List Fact) (declared : Tr
     → lost_work sc txn (facts ++ facts_of place happened) declared first ≡ lost_work sc txn facts declared first
 lost_same sc txn facts declared first place happened le = shown_same (is_own_server sc declared) txn first place facts happened le
 
-explained_same : (sc : Scenario) (txn : TxnId) (facts : List Fact) (refused : OutOfRange) (declared : Transaction) (first place : ℕ) (happened : List What) → first ≤ place
+pub explained_same : (sc : Scenario) (txn : TxnId) (facts : List Fact) (refused : OutOfRange) (declared : Transaction) (first place : ℕ) (happened : List What) → first ≤ place
     → is_explained_at sc txn (facts ++ facts_of place happened) refused declared first ≡ is_explained_at sc txn facts refused declared first
 explained_same sc txn facts refused declared first place happened le =
     ap (λ (lost : Bool). lost || is_run_value sc (facts ++ facts_of place happened) refused declared first) (lost_same sc txn facts declared first place happened le)

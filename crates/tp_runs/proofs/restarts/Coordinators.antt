@@ -38,7 +38,7 @@ prepares_since S R c turn round staple [] h kept = tt
 prepares_since S R c turn round staple (at ∷ servers) h kept =
     (h at.0 (coord.epoch_of c at) (some_is (kept_epoch c at) kept.0), prepares_since S R c turn round staple servers h kept.1)
 
-orders_since : (S : TxnId → ServerId → ℕ → Type 0) (R : TxnId → ServerId → Type 0) (c : Coordinator) (ended : Outcome) (servers : List ServerId)
+pub orders_since : (S : TxnId → ServerId → ℕ → Type 0) (R : TxnId → ServerId → Type 0) (c : Coordinator) (ended : Outcome) (servers : List ServerId)
     → Each (LetterSince S R) (coord.requests c (body.Decide (record { txn = c.txn; outcome = ended })) servers)
 orders_since S R c ended [] = tt
 orders_since S R c ended (at ∷ servers) = (tt, orders_since S R c ended servers)

@@ -59,7 +59,7 @@ since_stays steps more facts now txn who epoch g h =
     let since = h.since in
     record { place = h.place; submitted = found_still steps more h.place (step.Submit txn) h.submitted; since = omega (arith, same, since) }
 
-is_up : {S : Type 0} (up : Option S) (s : S) → up ≡ Some s → once (is_none up) ≡ 0
+pub is_up : {S : Type 0} (up : Option S) (s : S) → up ≡ Some s → once (is_none up) ≡ 0
 is_up None s e = absurd (cc)
 is_up (Some t) s e = refl
 

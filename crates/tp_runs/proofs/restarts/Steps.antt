@@ -120,17 +120,22 @@ stays_up : {S : Type 0} (up : Option S) (s : S) (boots : ℕ) → up ≡ Some s 
 stays_up None s boots e none = absurd (cc)
 stays_up (Some t) s boots e none = omega (arith, none)
 
-receipt_by_server_in_restarts : (sc : Scenario) (w : State) (n : ℕ) (mail : Mail) (at : ServerId) (part : Part Server) (s : Server) → WaitRightly sc w → IsSound sc w → Agrees sc w → Epochs sc w → Ages w → Pairs sc w → Told w → Restarts sc w
-    → WasSent w n mail (actor.Server at) → IsServerUp w at part s → MoveSince sc w (server_move w.actors at (acts_by (server_fact at) [] part.log (server_row sc s mail)))
-receipt_by_server_in_restarts sc w n mail at part s rightly sound a epochs ages pairs told h sent up =
+-- the row of a server on a mail that was sent
+pub server_sends_since : (sc : Scenario) (w : State) → WaitRightly sc w → IsSound sc w → Agrees sc w → Epochs sc w → Ages w → Pairs sc w → Told w → Restarts sc w → (n : ℕ) (mail : Mail) (at : ServerId) (part : Part Server) (s : Server)
+    → WasSent w n mail (actor.Server at) → IsServerUp w at part s → RowSince (SinceIn w.steps w.facts) (ShownIn w.facts (length w.steps)) at (server_row sc s mail)
+server_sends_since sc w rightly sound a epochs ages pairs told h n mail at part s sent up =
     let S = SinceIn w.steps w.facts in
     let R = ShownIn w.facts (length w.steps) in
     let own : s.server ≡ at = own_server sc w at part s sound up.found up.up in
-    let effect = server_row sc s mail in
     let here : EntriesSince S R at s = of_some (EntriesSince S R at) part.up s up.up (h.servers at.0 part up.found).state in
-    let row : RowSince S R at effect =
-    subst (λ (x : ServerId). RowSince S R x effect) own
-    (server_row_since S R sc s mail (rightly at part s up) (subst (λ (x : ServerId). EntriesSince S R x s) (sym own) here) (mail_known sc w n mail at part s sound a epochs ages pairs told h sent up own)) in
+    subst (λ (x : ServerId). RowSince S R x (server_row sc s mail)) own
+    (server_row_since S R sc s mail (rightly at part s up) (subst (λ (x : ServerId). EntriesSince S R x s) (sym own) here) (mail_known sc w n mail at part s sound a epochs ages pairs told h sent up own))
+
+receipt_by_server_in_restarts : (sc : Scenario) (w : State) (n : ℕ) (mail : Mail) (at : ServerId) (part : Part Server) (s : Server) → WaitRightly sc w → IsSound sc w → Agrees sc w → Epochs sc w → Ages w → Pairs sc w → Told w → Restarts sc w
+    → WasSent w n mail (actor.Server at) → IsServerUp w at part s → MoveSince sc w (server_move w.actors at (acts_by (server_fact at) [] part.log (server_row sc s mail)))
+receipt_by_server_in_restarts sc w n mail at part s rightly sound a epochs ages pairs told h sent up =
+    let effect = server_row sc s mail in
+    let row = server_sends_since sc w rightly sound a epochs ages pairs told h n mail at part s sent up in
     server_acts_since sc w at part (Some effect.state) [] effect.reaction.append effect.reaction.letters h up.found
     (record { state = row.entries; forces = row.forces; letters_are = row.letters; even = stays_up part.up s _ up.up row.no_boot; others = λ other apart. refl; own_says = λ facts. tt })
 
@@ -198,22 +203,29 @@ ended_shown sc w n mail txn c sound a deaths h sent same why ended = shown why e
           crashed = subst (λ (t : TxnId). ShownIn w.facts (length w.steps) t server) own (by_now reply.txn server (told k.vote_is));
         }
 
-receipt_by_coordinator_in_restarts : (sc : Scenario) (w : State) (n : ℕ) (mail : Mail) (txn : TxnId) (part : Part Coordinator) (c : Coordinator) → IsSound sc w → Agrees sc w → Epochs sc w → Deaths sc w → Restarts sc w
-    → WasSent w n mail (actor.Coordinator txn) → IsCoordinatorUp w txn part c → MoveSince sc w (coordinator_move w.actors txn (acts_by coordinator_fact [] part.log (coordinator_row sc c mail)))
-receipt_by_coordinator_in_restarts sc w n mail txn part c sound a epochs deaths h sent up =
+-- the row of a coordinator on a mail that was sent
+pub coordinator_sends_since : (sc : Scenario) (w : State) → IsSound sc w → Agrees sc w → Epochs sc w → Deaths sc w → Restarts sc w → (n : ℕ) (mail : Mail) (txn : TxnId) (part : Part Coordinator) (c : Coordinator)
+    → WasSent w n mail (actor.Coordinator txn) → IsCoordinatorUp w txn part c
+    → ActSince (SinceIn w.steps w.facts) (ShownIn w.facts (length w.steps)) (WasLostAt sc w.facts (length w.steps)) (IsHalted w.facts (length w.steps)) c.txn (coordinator_row sc c mail)
+coordinator_sends_since sc w sound a epochs deaths h n mail txn part c sent up =
     let S = SinceIn w.steps w.facts in
     let L = WasLostAt sc w.facts (length w.steps) in
     let H = IsHalted w.facts (length w.steps) in
     let same : c.txn ≡ txn = own_txn sc w txn part c sound up.found up.up in
-    let effect = coordinator_row sc c mail in
     let heard : IsSoundBody sc (actor.Coordinator txn) mail.letter.body = mail_sound sc w n mail (actor.Coordinator txn) sound sent in
-    let row : ActSince S (ShownIn w.facts (length w.steps)) L H c.txn effect =
     coordinator_row_since S (ShownIn w.facts mail.sent) (ShownIn w.facts (length w.steps)) L H sc c mail (kept_here sc w txn part c h up same) (round_kept sc w txn part c epochs up)
     (each_get (MailSince w.steps w.facts) w.mails n mail h.mails sent.sent)
     (λ done e. own_done_in_restarts txn done (subst (IsSoundBody sc (actor.Coordinator txn)) e heard).goes_to ∙ sym same)
-    (ended_shown sc w n mail txn c sound a deaths h sent same) in
+    (ended_shown sc w n mail txn c sound a deaths h sent same)
+
+receipt_by_coordinator_in_restarts : (sc : Scenario) (w : State) (n : ℕ) (mail : Mail) (txn : TxnId) (part : Part Coordinator) (c : Coordinator) → IsSound sc w → Agrees sc w → Epochs sc w → Deaths sc w → Restarts sc w
+    → WasSent w n mail (actor.Coordinator txn) → IsCoordinatorUp w txn part c → MoveSince sc w (coordinator_move w.actors txn (acts_by coordinator_fact [] part.log (coordinator_row sc c mail)))
+receipt_by_coordinator_in_restarts sc w n mail txn part c sound a epochs deaths h sent up =
+    let same : c.txn ≡ txn = own_txn sc w txn part c sound up.found up.up in
+    let effect = coordinator_row sc c mail in
+    let row = coordinator_sends_since sc w sound a epochs deaths h n mail txn part c sent up in
     coordinator_acts_since sc w txn part.log (Some effect.state) [] effect.reaction.append effect.reaction.letters h
-    (record { state = subst (λ (t : TxnId). KeptSince S t effect.state) same row.kept; letters_are = row.letters; servers = λ other. refl; down = λ down. absurd (cc); own_says = λ facts. tt; forces = row.forces })
+    (record { state = subst (λ (t : TxnId). KeptSince (SinceIn w.steps w.facts) t effect.state) same row.kept; letters_are = row.letters; servers = λ other. refl; down = λ down. absurd (cc); own_says = λ facts. tt; forces = row.forces })
 
 begun_since : (sc : Scenario) (w : State) (txn : TxnId) (part : Part Coordinator) (c : Coordinator) → IsSound sc w → Restarts sc w → IsCoordinatorUp w txn part c
     → MoveSince sc w (coordinator_move w.actors txn (acts_by coordinator_fact (what.Submitted txn ∷ []) part.log (with_age (submit_row sc c) (length w.steps))))

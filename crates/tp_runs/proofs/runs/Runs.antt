@@ -15,8 +15,10 @@ use Rattle.tp_runs.proofs.ages.World.{Ages, ages_next, ages_opening}
 use Rattle.tp_runs.proofs.deaths.World.{Deaths, deaths_next, deaths_opening}
 use Rattle.tp_runs.proofs.ages.Crashes.{ages_crashed}
 use Rattle.tp_runs.proofs.agreement.Crashes.{agrees_crashed}
+use Rattle.tp_runs.proofs.deaths.Crashes.{deaths_crashed}
 use Rattle.tp_runs.proofs.epochs.Crashes.{epochs_crashed}
 use Rattle.tp_runs.proofs.ids.Crashes.{sound_crashed}
+use Rattle.tp_runs.proofs.known.Crashes.{pairs_crashed}
 use Rattle.tp_runs.proofs.mails.Crashes.{few_crashed}
 use Rattle.tp_runs.proofs.outside.Crashes.{outside_crashed}
 use Rattle.tp_runs.proofs.sizes.Crashes.{sizes_crashed}
@@ -34,18 +36,22 @@ use Rattle.tp_runs.proofs.outside.Steps.{outside_next, outside_opening}
 use Rattle.tp_runs.proofs.known.Waiting.{wait_rightly}
 use Rattle.tp_runs.proofs.known.World.{Pairs, pairs_next, pairs_opening}
 use Rattle.tp_runs.proofs.refusals.Steps.{refusals_next, refusals_opening}
+use Rattle.tp_runs.proofs.refusals.Running.{Remembers}
+use Rattle.tp_runs.proofs.refusals.Crashes.{refusals_crashed}
 use Rattle.tp_runs.proofs.refusals.World.{Refusals}
 use Rattle.tp_runs.proofs.restarts.Steps.{restarts_next, restarts_opening}
+use Rattle.tp_runs.proofs.restarts.Crashes.{restarts_crashed}
 use Rattle.tp_runs.proofs.restarts.Uncrashed.{Uncrashed, coordinator_is_up, nobody_is_down, servers_up, uncrashed_next, uncrashed_opening}
 use Rattle.tp_runs.proofs.restarts.World.{Restarts}
 use Rattle.tp_runs.proofs.serial_data.Crashes.{serial_crashed}
 use Rattle.tp_runs.proofs.serial_data.End.{serial_facts, serial_values, values_at_end}
-use Rattle.tp_runs.proofs.serial_data.Lone.{AreLone, facts_lone, lone_next, lone_opening}
+use Rattle.tp_runs.proofs.serial_data.Lone.{AreLone, facts_lone, lone_crashed, lone_next, lone_opening}
 use Rattle.tp_runs.proofs.serial_data.Steps.{serial_next, serial_opening}
 use Rattle.tp_runs.proofs.serial_data.World.{Serial}
 use Rattle.tp_runs.proofs.sizes.Lengths.{all_fit}
 use Rattle.tp_runs.proofs.sizes.World.{Sizes, sizes_next, sizes_opening}
 use Rattle.tp_runs.proofs.trusted.End.{facts_caused, facts_trusted}
+use Rattle.tp_runs.proofs.trusted.Crashes.{trusts_crashed}
 use Rattle.tp_runs.proofs.trusted.Steps.{trusts_next, trusts_opening}
 use Rattle.tp_runs.proofs.trust.World.{Trusts}
 use Rattle.tp_runs.proofs.walks.Crashes.{CrashCases, crash_cases_as, crash_cases_both}
@@ -121,40 +127,40 @@ holds_after sc steps built exist = steps_hold sc (opening sc) steps built exist 
 
 -- ---- crashes and boots, which no step makes yet
 
--- what is shown of a world after each of them, room by room
-pub record StillHolds (sc : Scenario) (w : State) : Type 0 where
-  pub sound : IsSound sc w
-  pub agrees : Agrees sc w
-  pub epochs : Epochs sc w
-  pub ages : Ages w
-  pub outside : IsOutside sc w.steps w.facts
-  pub serial : Serial sc w
-  pub bounds : Bounds sc w
-  pub few : FewMails w
-  pub sizes : Sizes w
-
-pub holds_crashed : (sc : Scenario) (w : State) → is_built sc ≡ true → Holds sc w → CrashCases sc w (λ taken move. StillHolds sc (state_after w taken move))
+-- all that holds of every world holds after each of them
+pub holds_crashed : (sc : Scenario) (w : State) → is_built sc ≡ true → Holds sc w → CrashCases sc w (λ taken move. Holds sc (state_after w taken move))
 holds_crashed sc w built h =
     let rightly = wait_rightly sc w h.sound h.pairs in
     let valid : IsValid sc = valid_built sc built in
     let named : PreparesNamed w = prepares_named sc w h.epochs in
-    let first = crash_cases_both (sound_crashed sc w valid rightly h.sound) (crash_cases_both (agrees_crashed sc w valid rightly h.sound named h.agrees) (epochs_crashed sc w rightly h.sound h.epochs)) in
-    let next = crash_cases_both (ages_crashed sc w rightly h.sound h.ages) (crash_cases_both (outside_crashed sc w h.agrees.past h.outside) (few_crashed sc w built h.sound h.few)) in
-    let last = crash_cases_both (serial_crashed sc w valid rightly h.sound named h.agrees h.pairs h.serial)
-    (crash_cases_both (bounds_crashed sc w valid rightly h.sound named h.agrees h.pairs h.serial h.bounds) (sizes_crashed sc w (are_plain sc built) (have_homes sc valid) valid rightly h.sound h.agrees h.pairs h.trusts h.sizes)) in
-    crash_cases_as sc w _ (λ taken move. StillHolds sc (state_after w taken move))
+    let known : Remembers sc w = record { epochs = h.epochs; told = h.deaths.told; restarts = h.restarts } in
+    let ids = crash_cases_both (sound_crashed sc w valid rightly h.sound) (agrees_crashed sc w valid rightly h.sound named h.agrees) in
+    let epochs = crash_cases_both (epochs_crashed sc w rightly h.sound h.epochs) (ages_crashed sc w rightly h.sound h.ages) in
+    let deaths = crash_cases_both (deaths_crashed sc w h.sound h.agrees h.deaths) (restarts_crashed sc w rightly h.sound h.agrees h.epochs h.ages h.pairs h.deaths h.restarts) in
+    let outside = crash_cases_both (lone_crashed sc w h.agrees.past h.lone) (outside_crashed sc w h.agrees.past h.outside) in
+    let trusts = crash_cases_both (trusts_crashed sc w built rightly h.sound h.agrees h.pairs h.trusts) (pairs_crashed sc w rightly h.sound h.agrees h.epochs h.pairs) in
+    let serial = crash_cases_both (serial_crashed sc w valid rightly h.sound named h.agrees h.pairs h.serial) (refusals_crashed sc w valid rightly h.sound h.agrees h.pairs h.serial known h.refusals) in
+    let bounds = crash_cases_both (bounds_crashed sc w valid rightly h.sound named h.agrees h.pairs h.serial h.bounds) (few_crashed sc w built h.sound h.few) in
+    let sizes = sizes_crashed sc w (are_plain sc built) (have_homes sc valid) valid rightly h.sound h.agrees h.pairs h.trusts h.sizes in
+    crash_cases_as sc w _ (λ taken move. Holds sc (state_after w taken move))
     (λ taken move t. record {
-      sound = t.0.0;
-      agrees = t.0.1.0;
-      epochs = t.0.1.1;
-      ages = t.1.0.0;
-      outside = t.1.0.1.0;
-      serial = t.1.1.0;
-      bounds = t.1.1.1.0;
-      few = t.1.0.1.1;
-      sizes = t.1.1.1.1;
+      sound = t.0.0.0.0;
+      agrees = t.0.0.0.1;
+      epochs = t.0.0.1.0;
+      ages = t.0.0.1.1;
+      deaths = t.0.1.0.0;
+      restarts = t.0.1.0.1;
+      lone = t.0.1.1.0;
+      outside = t.0.1.1.1;
+      trusts = t.1.0.0.0;
+      pairs = t.1.0.0.1;
+      serial = t.1.0.1.0;
+      refusals = t.1.0.1.1;
+      bounds = t.1.1.0.0;
+      few = t.1.1.0.1;
+      sizes = t.1.1.1;
     })
-    (crash_cases_both first (crash_cases_both next last))
+    (crash_cases_both (crash_cases_both (crash_cases_both ids epochs) (crash_cases_both deaths outside)) (crash_cases_both (crash_cases_both trusts serial) (crash_cases_both bounds sizes)))
 
 -- ---- nobody is down, as long as no step crashes an actor
 

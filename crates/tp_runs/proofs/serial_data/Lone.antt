@@ -4,26 +4,29 @@ use Rattle.std.proofs.Common.{◌≡◌, ℕ, ◌+◌, ◌≤◌, ◌<◌, ◌==
 use Rattle.std.specs.List.{count_by}
 use Rattle.std.proofs.lemmas.Bool.Decides.{nat_tests}
 use Rattle.std.proofs.lemmas.List.Sums.{sum_by-cons}
-use Rattle.tp_model.specs.Words.{Fact, Record, Scenario, ServerId, Step, TxnId, What}
+use Rattle.tp_model.specs.Words.{Fact, Record, Scenario, ServerId, Step, What}
+use Rattle.tp_model.specs.Words.actor
 use Rattle.tp_model.specs.Words.decision
 use Rattle.tp_model.specs.Words.log
 use Rattle.tp_model.specs.Words.step
 use Rattle.tp_model.specs.Words.what
 use Rattle.tp_model.specs.Facts.{record_of}
 use Rattle.tp_model.specs.Commits.{are_lone, is_commit_at, is_commit_what, is_lone, is_lone_what}
+use Rattle.tp_coord.specs.Booted as coord_boot
 use Rattle.tp_coord.specs.State.{Coordinator}
 use Rattle.tp_machine.specs.Parts.{Part}
 use Rattle.tp_machine.specs.Machine.{Machine, State, Move, state_after, coordinator_fact, machine_after, facts_of, server_fact, log_with, refusal}
 use Rattle.tp_coord.specs.Row.{coordinator_row, submit_row}
 use Rattle.tp_server.specs.Row.{server_row}
+use Rattle.tp_server.specs.State.{Server}
 use Rattle.tp_runs.proofs.agreement.ServerActs.{server_facts}
 use Rattle.tp_runs.proofs.agreement.CoordinatorActs.{coordinator_facts}
 use Rattle.tp_runs.proofs.agreement.End.{member_counted}
 use Rattle.tp_runs.proofs.basics.Facts.{ArePast, all_from_each, count_append}
 use Rattle.tp_types.proofs.EachLemmas.{each_placed}
 use Rattle.tp_runs.proofs.basics.Logs.{gained}
+use Rattle.tp_runs.proofs.walks.Crashes.{CrashCases, crash_cases_as}
 use Rattle.tp_runs.proofs.walks.Steps.{Cases, SaysIdle, machine_after_by}
-use Rattle.tp_types.specs.Effect.{Effect}
 use Rattle.tp_machine.specs.Named.{IsStepOf}
 
 -- no place has two commits
@@ -123,13 +126,16 @@ of_one None = omega arith
 of_one (Some (log.Decided d)) = at_most (is_some (record_of d.decision))
 of_one (Some _) = omega arith
 
-coordinator_one : (sc : Scenario) (part : Part Coordinator) (effect : Effect Coordinator) → commits (flat_map coordinator_fact (drop (length part.log) (log_with part.log effect.reaction.append))) ≤ 1
-coordinator_one sc part effect =
-    subst (λ (told : List What). commits told ≤ 1) (sym (gained coordinator_fact part.log effect.reaction.append)) (of_one effect.reaction.append)
+server_one : (at : ServerId) (part : Part Server) (append : Option Record) → commits (flat_map (server_fact at) (drop (length part.log) (log_with part.log append))) ≤ 1
+server_one at part append = subst (λ (told : List What). commits told ≤ 1) (sym (gained (server_fact at) part.log append)) (by_none at append)
 
-after_submission : (txn : TxnId) (rest : List What) → commits rest ≤ 1 → commits (what.Submitted txn ∷ rest) ≤ 1
-after_submission txn rest h =
-    let whole : commits (what.Submitted txn ∷ rest) ≡ 0 + commits rest = sum_by-cons (λ z. cond (is_commit_what z) 1 0) (what.Submitted txn) rest in
+coordinator_one : (part : Part Coordinator) (append : Option Record) → commits (flat_map coordinator_fact (drop (length part.log) (log_with part.log append))) ≤ 1
+coordinator_one part append = subst (λ (told : List What). commits told ≤ 1) (sym (gained coordinator_fact part.log append)) (of_one append)
+
+-- what is no commit leaves as many
+after_other : (w : What) (rest : List What) → is_commit_what w ≡ false → commits rest ≤ 1 → commits (w ∷ rest) ≤ 1
+after_other w rest other h =
+    let whole : commits (w ∷ rest) ≡ 0 + commits rest = sum_by-cons (λ z. cond (is_commit_what z) 1 0) w rest ∙ ap (λ (b : Bool). cond b 1 0 + commits rest) other in
     omega (arith, whole, h)
 
 idle_one : (taken : Step) (happened : List What) → SaysIdle taken happened → commits happened ≤ 1
@@ -141,17 +147,15 @@ lone_cases : (sc : Scenario) (w : State) → Cases sc w (λ taken move. commits 
 lone_cases sc w =
     record {
       idle = idle_one;
-      server_received = λ n mail at part s sent up.
-          let append = (server_row sc s mail).reaction.append in
-          subst (λ (told : List What). commits told ≤ 1) (sym (gained (server_fact at) part.log append)) (by_none at append);
-      coordinator_received = λ n mail txn part c sent up. coordinator_one sc part (coordinator_row sc c mail);
+      server_received = λ n mail at part s sent up. server_one at part (server_row sc s mail).reaction.append;
+      coordinator_received = λ n mail txn part c sent up. coordinator_one part (coordinator_row sc c mail).reaction.append;
       authority_told = λ n mail sent. omega arith;
       master_told = λ n mail sent. omega arith;
       published = λ admin exists more. omega arith;
       pushed = λ admin server exists there. omega arith;
       ticked = λ by. omega arith;
       revoked = λ cred exists. omega arith;
-      begun = λ txn part c exists up new. after_submission txn (flat_map coordinator_fact (drop (length part.log) (log_with part.log (submit_row sc c).reaction.append))) (coordinator_one sc part (submit_row sc c));
+      begun = λ txn part c exists up new. after_other (what.Submitted txn) (flat_map coordinator_fact (drop (length part.log) (log_with part.log (submit_row sc c).reaction.append))) refl (coordinator_one part (submit_row sc c).reaction.append);
       timed = λ txn part c exists up begun. omega arith;
     }
 
@@ -164,3 +168,20 @@ lone_next sc m taken exists allowed count past h =
 
 pub lone_opening : AreLone []
 lone_opening place = omega arith
+
+-- ---- crashes and boots
+
+lone_crash_cases : (sc : Scenario) (w : State) → CrashCases sc w (λ taken move. commits move.happened ≤ 1)
+lone_crash_cases sc w =
+    record {
+      server_crashed = λ at part s cut append up left. after_other (what.Crashed (actor.Server at)) (flat_map (server_fact at) (drop (length part.log) (log_with part.log append))) refl (server_one at part append);
+      server_booted = λ at part exists found down. server_one at part (Some log.Boot);
+      coordinator_crashed = λ txn part c cut append exists up begun left.
+          after_other (what.Crashed (actor.Coordinator txn)) (flat_map coordinator_fact (drop (length part.log) (log_with part.log append))) refl (coordinator_one part append);
+      coordinator_booted = λ txn part exists found down. coordinator_one part (coord_boot.boot_row sc txn part.log).reaction.append;
+    }
+
+-- they keep it too
+pub lone_crashed : (sc : Scenario) (w : State) → ArePast (length w.steps) w.facts → AreLone w.facts → CrashCases sc w (λ taken move. AreLone (state_after w taken move).facts)
+lone_crashed sc w past h =
+    crash_cases_as sc w (λ taken move. commits move.happened ≤ 1) (λ taken move. AreLone (state_after w taken move).facts) (λ taken move one. state_after_lone w taken move past h one) (lone_crash_cases sc w)

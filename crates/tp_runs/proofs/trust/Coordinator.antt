@@ -271,12 +271,12 @@ now_kept sc c round staple server verdicts sent (body.Vote reply) e h = vote_kep
     vote_kept (vote.No why) k = k
 now_kept sc c round staple server verdicts sent _ e h = tt
 
-orders_fit : (sc : Scenario) (facts : List Fact) (place sent : ℕ) (c : Coordinator) (ended : Outcome) (servers : List ServerId)
+pub orders_fit : (sc : Scenario) (facts : List Fact) (place sent : ℕ) (c : Coordinator) (ended : Outcome) (servers : List ServerId)
     → Each (λ (letter : Letter). BodyFits sc facts place sent letter.body) (requests c (body.Decide (record { txn = c.txn; outcome = ended })) servers)
 orders_fit sc facts place sent c ended [] = tt
 orders_fit sc facts place sent c ended (at ∷ servers) = (tt, orders_fit sc facts place sent c ended servers)
 
-orders_timely : (sc : Scenario) (c : Coordinator) (now : Option Coordinator) (sent : ℕ) (ended : Outcome) (servers : List ServerId)
+pub orders_timely : (sc : Scenario) (c : Coordinator) (now : Option Coordinator) (sent : ℕ) (ended : Outcome) (servers : List ServerId)
     → Each (LetterOfTurn sc c.txn now sent) (requests c (body.Decide (record { txn = c.txn; outcome = ended })) servers)
 orders_timely sc c now sent ended [] = tt
 orders_timely sc c now sent ended (at ∷ servers) = (tt, orders_timely sc c now sent ended servers)

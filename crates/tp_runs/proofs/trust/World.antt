@@ -28,7 +28,7 @@ use Rattle.tp_runs.proofs.trust.Causes.{newer_stays, rounds_stay}
 use Rattle.tp_runs.proofs.trust.Instances.{commit_stays, so_far_stays}
 use Rattle.tp_runs.proofs.agreement.Known.{first_known}
 use Rattle.tp_runs.proofs.agreement.World.{Agrees}
-use Rattle.tp_runs.proofs.basics.Facts.{ArePast, before_past, count_append, each_new_fact, each_new_mail, facts_after, grows_with_facts, new_facts_past, past_as}
+use Rattle.tp_runs.proofs.basics.Facts.{ArePast, before_past, count_append, each_new_fact, each_new_mail, facts_after, grows_with_facts, past_after}
 use Rattle.tp_types.proofs.EachLemmas.{each_append, each_as}
 use Rattle.tp_runs.proofs.trust.Coordinator.{CauseFits, CoordinatorFits, DecisionFits}
 use Rattle.tp_runs.proofs.trust.Fit.{AuthorityFits, BodyFits, Later, MailFits, ServerFits, body_stays, maybe_stays, newest_rises, right_stays, server_stays}
@@ -219,11 +219,6 @@ no_publication admin place (w ∷ happened) h =
     still : (v : What) → IsStill v → is_publication_what admin v ≡ false
     still (what.Published other version) n = absurd n
     still _ n = refl
-
-past_after : (w : State) (happened : List What) → ArePast (length w.steps) w.facts → ArePast (length w.steps + 1) (facts_after w happened)
-past_after w happened past =
-    let place = length w.steps in
-    each_append (λ (fact : Fact). fact.place < place + 1) w.facts (facts_of place happened) (past_as place (place + 1) (omega arith) w.facts past) (new_facts_past place happened)
 
 -- the clock after a turn
 pub clock_after : (sc : Scenario) (w : State) (happened : List What) → ArePast (length w.steps) w.facts

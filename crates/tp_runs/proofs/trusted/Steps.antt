@@ -28,13 +28,13 @@ use Rattle.tp_runs.proofs.pairs.Fits.{Fits, PrepareFits}
 use Rattle.tp_runs.proofs.pairs.Pair.{Pair}
 use Rattle.tp_runs.proofs.pairs.Votes.{has_deeds}
 use Rattle.tp_runs.proofs.known.World.{Pairs, declared_by, pair_of_up}
-use Rattle.tp_runs.proofs.trust.Acts.{ActTrusts, act_trusts, coordinator_acts_trusts, own_timely, server_acts_trusts, tells_fit, tells_timely, timely_closed, unmoved_trusts}
+use Rattle.tp_runs.proofs.trust.Acts.{ActTrusts, ForcesPublished, act_trusts, coordinator_acts_trusts, own_timely, server_acts_trusts, tells_fit, tells_timely, timely_closed, unmoved_trusts}
 use Rattle.tp_runs.proofs.trust.Built.{ArePlain, are_plain, known_at_first}
 use Rattle.tp_runs.proofs.trust.Coordinator.{CoordinatorFits, CoordinatorTrusts, LetterOfTurn, PresentMail, RecordDecides, RowTrusts, coordinator_row_trusts, repeats_fit, repeats_timely, submit_row_trusts}
 use Rattle.tp_runs.proofs.trust.Fit.{BodyFits, IsSubmitted, Later, MailFits, ServerFits, maybe_stays}
 use Rattle.tp_runs.proofs.trust.Kept.{AreKept, IsKept, IsTrusted}
 use Rattle.tp_runs.proofs.trust.Offices.{newest_fits, newest_timely, none_revoked, opening_fits, published_trusts, pushed_fits, revoked_trusts, ticked_trusts}
-use Rattle.tp_runs.proofs.trust.Server.{NamedMail, RanMail, ServerTrusted, named_mail, server_row_trusts}
+use Rattle.tp_runs.proofs.trust.Server.{NamedMail, RanMail, ServerTrusted, ServerTrusts, named_mail, server_row_trusts}
 use Rattle.tp_runs.proofs.basics.Turns.{AreFew, IsOfNoOffice, IsTimely, Stamp, TurnFits, few_queries, stamp_of, timely_anywhere}
 use Rattle.tp_runs.proofs.trust.World.{BodyTimely, CoordinatorPartFits, MailTimely, MoveTrusts, ServerPartFits, StampFits, Timely, Trusts, coordinator_stays, later_with_facts, state_after_trusts, up_at, up_of}
 use Rattle.tp_runs.proofs.walks.Steps.{Cases, IsCoordinatorUp, IsServerUp, SaysIdle, WaitRightly, WasSent, machine_after_by}
@@ -104,14 +104,19 @@ ran_mail sc w at part s from (body.Prepare p) pairs up m asked = λ entry found 
     (subst (λ (pair : Pair). PrepareFits site pair p) seen (asked there.0 there.1)) epoch none
 ran_mail sc w at part s from _ pairs up m asked = tt
 
-receipt_by_server_in_trusted : (sc : Scenario) (w : State) → IsValid sc → WaitRightly sc w → IsSound sc w → ArePast (length w.steps) w.facts → Pairs sc w → Trusts sc w → (n : ℕ) (mail : Mail) (at : ServerId) (part : Part Server) (s : Server)
-    → WasSent w n mail (actor.Server at) → IsServerUp w at part s → MoveTrusts sc w (server_move w.actors at (acts_by (server_fact at) [] part.log (server_row sc s mail)))
-receipt_by_server_in_trusted sc w valid rightly sound past pairs h n mail at part s sent up =
+-- what is known of a server that is up
+server_sound : (sc : Scenario) (w : State) (at : ServerId) (part : Part Server) (s : Server) → IsSound sc w → IsServerUp w at part s → IsSoundServerUp sc at s
+server_sound sc w at part s sound up = subst (λ (u : Option Server). IfSome u (IsSoundServerUp sc at)) up.up (sound.actors_are.servers at.0 part up.found).state
+
+-- the row of a server on a mail that was sent
+pub server_sends_trusts : (sc : Scenario) (w : State) → IsValid sc → WaitRightly sc w → IsSound sc w → Pairs sc w → Trusts sc w → (n : ℕ) (mail : Mail) (at : ServerId) (part : Part Server) (s : Server)
+    → WasSent w n mail (actor.Server at) → IsServerUp w at part s
+    → ServerTrusts sc w.facts (length w.steps) (Timely sc w.actors.coordinators) (Some (server_row sc s mail).state) (server_row sc s mail).reaction.append (server_row sc s mail).reaction.letters
+server_sends_trusts sc w valid rightly sound pairs h n mail at part s sent up =
     let place = length w.steps in
     let T = Timely sc w.actors.coordinators in
-    let effect = server_row sc s mail in
     let m = mail_trusted sc w n mail (actor.Server at) sound h sent in
-    let here : IsSoundServerUp sc at s = subst (λ (u : Option Server). IfSome u (IsSoundServerUp sc at)) up.up (sound.actors_are.servers at.0 part up.found).state in
+    let here = server_sound sc w at part s sound up in
     let fits = h.servers at.0 part up.found in
     let trusted : ServerTrusted sc w.facts place T s = record {
       fits = subst (λ (u : Option Server). IfSome u (ServerFits sc w.facts place)) up.up fits.state;
@@ -119,14 +124,25 @@ receipt_by_server_in_trusted sc w valid rightly sound past pairs h n mail at par
     } in
     let said : BodyPairs sc (pair_at w.actors) mail.letter.from (actor.Server at) mail.letter.body =
     subst (λ (to : Actor). BodyPairs sc (pair_at w.actors) mail.letter.from to mail.letter.body) sent.goes_to (each_get (λ (m : Mail). LetterPairs sc (pair_at w.actors) m.letter) w.mails n mail pairs.mails sent.sent) in
-    let row =
     server_row_trusts sc w.facts place T s mail valid (rightly at part s up) here.sound (subst (λ (a : ServerId). IsSoundBody sc (actor.Server a) mail.letter.body) (sym here.server_is) m.says) trusted m.fits
     (subst (λ (a : ServerId). NamedMail sc a mail.letter.body) (sym here.server_is) (named_mail sc (pair_at w.actors) mail.letter.from at mail.letter.body said))
     (ran_mail sc w at part s mail.letter.from mail.letter.body pairs up m.says said)
-    (timely_closed sc w.actors.coordinators) (heard_anywhere sc w.actors.coordinators mail.sent mail.letter.body (of_no_office sc at mail.letter.body m.says) m.timely) in
+    (timely_closed sc w.actors.coordinators) (heard_anywhere sc w.actors.coordinators mail.sent mail.letter.body (of_no_office sc at mail.letter.body m.says) m.timely)
+
+-- what it forces tells of no version above the newest
+pub server_sends_published : (sc : Scenario) (w : State) → IsValid sc → WaitRightly sc w → IsSound sc w → Pairs sc w → Trusts sc w → (n : ℕ) (mail : Mail) (at : ServerId) (part : Part Server) (s : Server)
+    → WasSent w n mail (actor.Server at) → IsServerUp w at part s → ForcesPublished sc w.facts (length w.steps) (server_row sc s mail).reaction.append
+server_sends_published sc w valid rightly sound pairs h n mail at part s sent up = λ admin exists.
+    let effect = server_row sc s mail in
+    let fits : ServerFits sc w.facts (length w.steps) effect.state = (server_sends_trusts sc w valid rightly sound pairs h n mail at part s sent up).fits in
+    omega (arith, learns_told sc s effect admin (server_sound sc w at part s sound up).sound.known (row_learns sc s mail (rightly at part s up)) exists, fits.known admin exists)
+
+receipt_by_server_in_trusted : (sc : Scenario) (w : State) → IsValid sc → WaitRightly sc w → IsSound sc w → ArePast (length w.steps) w.facts → Pairs sc w → Trusts sc w → (n : ℕ) (mail : Mail) (at : ServerId) (part : Part Server) (s : Server)
+    → WasSent w n mail (actor.Server at) → IsServerUp w at part s → MoveTrusts sc w (server_move w.actors at (acts_by (server_fact at) [] part.log (server_row sc s mail)))
+receipt_by_server_in_trusted sc w valid rightly sound past pairs h n mail at part s sent up =
+    let effect = server_row sc s mail in
     server_acts_trusts sc w at part [] (Some effect.state) effect.reaction.append effect.reaction.letters past h up.found (record { still = tt; fit = λ facts. tt })
-    (λ admin exists. let fits : ServerFits sc w.facts place effect.state = row.fits in
-    omega (arith, learns_told sc s effect admin here.sound.known (row_learns sc s mail (rightly at part s up)) exists, fits.known admin exists)) row
+    (server_sends_published sc w valid rightly sound pairs h n mail at part s sent up) (server_sends_trusts sc w valid rightly sound pairs h n mail at part s sent up)
 
 coordinator_fits : (sc : Scenario) (w : State) (txn : TxnId) (part : Part Coordinator) (c : Coordinator) → Trusts sc w → IsCoordinatorUp w txn part c → CoordinatorFits sc w.facts (length w.steps) c
 coordinator_fits sc w txn part c h up = subst (λ (u : Option Coordinator). IfSome u (CoordinatorFits sc w.facts (length w.steps))) up.up (h.coordinators txn.0 part up.found)
