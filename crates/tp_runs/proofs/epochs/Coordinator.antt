@@ -2,7 +2,6 @@
 use Rattle.std.proofs.Common.{List, None, Option, Some, [], ap, false, is_some, map, refl, subst, sym, true, unwrap_or, ℕ, ◌∙◌, ◌∷◌, ◌≡◌}
 use Rattle.tp_types.specs.Effect.{Effect, ignores, sends}
 use Rattle.tp_model.specs.Words.body
-use Rattle.tp_model.specs.Words.cause
 use Rattle.tp_model.specs.Words.outcome
 use Rattle.tp_model.specs.Words.{Actor, Body, Mail, Outcome, Scenario, ServerId, Staple, Verdict}
 use Rattle.tp_runs.proofs.agreement.Coordinator.{idle_is}

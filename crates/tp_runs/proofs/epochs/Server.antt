@@ -1,7 +1,7 @@
 -- Epochs, the actors' rows: what a server does it does in its epoch, and of a server that has told its epoch a coordinator keeps and
 -- names the one that was asked. A says which epochs were asked, E the present epoch of each server.
 use Rattle.std.specs.Option.{option_map_or}
-use Rattle.std.proofs.Common.{Bool, IfSome, List, None, Option, Some, [], ap, arith, false, is_none, is_some, not, option_map, refl, subst, sym, true, ℕ, ℤ, ⊎_elim, ◌++◌, ◌+◌, ◌==◌, ◌∙◌, ◌∷◌, ◌≡◌, ◌≤◌}
+use Rattle.std.proofs.Common.{Bool, IfSome, List, None, Option, Some, [], ap, arith, false, is_none, is_some, not, option_map, refl, subst, sym, true, ℕ, ℤ, ⊎_elim, ◌==◌, ◌∙◌, ◌∷◌, ◌≡◌, ◌≤◌}
 use Rattle.std.proofs.lemmas.Bool.{eqb-true, not-false}
 use Rattle.std.proofs.lemmas.Option.{same_Some}
 use Rattle.tp_types.specs.Effect.{Effect, ignores, sends}

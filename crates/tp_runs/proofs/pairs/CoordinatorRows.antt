@@ -10,7 +10,6 @@ use Rattle.tp_model.specs.Queries.{is_at_server, item_of, query_at}
 use Rattle.tp_model.specs.Limits.{is_empty}
 use Rattle.tp_model.specs.Words.actor
 use Rattle.tp_model.specs.Words.body
-use Rattle.tp_model.specs.Words.cause
 use Rattle.tp_model.specs.Words.outcome
 use Rattle.tp_model.specs.Words.{Actor, Body, Deed, DoneReply, Item, Letter, Mail, Outcome, PrepareRequest, Query, QueryRequest, Scenario, ServerId, Staple, Transaction, TxnId, ValidateRequest}
 use Rattle.tp_runs.proofs.agreement.Coordinator.{idle_is}

@@ -1,5 +1,5 @@
 -- What the coordinator does by itself: it moves on to ask, to rest or to prepare, or it ends.
-use Rattle.std.proofs.Common.{◌≡◌, inl, ⊎_elim, ℕ, ◌<◌, ◌≤◌, List, [], length, Option, Some, None, is_some, IfSome, refl, sym, ap, subst, append-nil, arith}
+use Rattle.std.proofs.Common.{◌≡◌, inl, ⊎_elim, ℕ, ◌<◌, List, [], length, Option, Some, None, is_some, IfSome, refl, sym, ap, subst, append-nil, arith}
 use Rattle.tp_model.specs.Words.{Deed}
 use Rattle.tp_runs.proofs.basics.Phases.{Asks, Prepares, Stand}
 use Rattle.tp_runs.proofs.pairs.Fits.{AskerFits, EntryFits, Fits, Matches, OneMore}

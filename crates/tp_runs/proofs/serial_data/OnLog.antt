@@ -1,6 +1,6 @@
 -- Serial data, what is said of a server's log: what is prepared there has read the values that the log leaves, and is apart. No server needs to be up for it.
 use Rattle.std.specs.Option.{option_or}
-use Rattle.std.proofs.Common.{Bool, IfSome, List, None, Option, Some, [], ap, false, if◌then◌else◌, is_some, refl, subst, sym, true, ℤ, ◌++◌, ◌∙◌, ◌∷◌, ◌≡◌}
+use Rattle.std.proofs.Common.{Bool, IfSome, List, None, Option, Some, [], ap, false, if◌then◌else◌, is_some, refl, subst, sym, true, ℤ, ◌∙◌, ◌≡◌}
 use Rattle.std.proofs.lemmas.Bool.{eq-eqb}
 use Rattle.std.proofs.lemmas.Option.{cond_some, same_Some}
 use Rattle.tp_model.specs.Ids.{same_txn}

@@ -1,5 +1,5 @@
 -- Serial data, a server that is up and its log: the entries have read the server's values, which are those of its log, before and after an act.
-use Rattle.std.proofs.Common.{IfSome, List, None, Option, Some, ap, is_some, option_and_then, option_map, refl, subst, sym, true, ℤ, ◌∙◌, ◌∷◌, ◌≡◌}
+use Rattle.std.proofs.Common.{IfSome, List, None, Option, Some, ap, is_some, option_and_then, option_map, refl, subst, sym, true, ℤ, ◌∙◌, ◌≡◌}
 use Rattle.std.proofs.lemmas.Option.{same_Some}
 use Rattle.tp_types.specs.Effect.{Effect}
 use Rattle.tp_model.specs.SerialRun.{with_deeds}

@@ -1,7 +1,7 @@
 -- Trust of the facts: where the invariant holds, every commit is trusted and every abort has its cause.
 use Rattle.std.specs.List.{list_all}
 use Rattle.std.specs.Option.{option_map_or}
-use Rattle.std.proofs.Common.{Bool, IfSome, List, None, Option, Some, [], ap, arith, false, if◌then◌else◌, is_none, is_some, nat_le, not, refl, slice_get, subst, true, ℕ, ◌&&◌, ◌==◌, ◌||◌, ◌∙◌, ◌∷◌, ◌≡◌, ◌⊎◌}
+use Rattle.std.proofs.Common.{Bool, IfSome, List, None, Option, Some, [], ap, arith, false, is_none, is_some, nat_le, not, refl, slice_get, subst, true, ℕ, ◌&&◌, ◌||◌, ◌∙◌, ◌∷◌, ◌≡◌}
 use Rattle.std.proofs.lemmas.Bool.{and_from, and_parts, le-leb, lt-ltb}
 use Rattle.tp_types.proofs.ListLemmas.{three_from}
 use Rattle.tp_model.specs.Authorisation.{is_allowed, is_certified, is_own_query, is_true_verdict, policy_at, question_of}
@@ -13,7 +13,6 @@ use Rattle.tp_model.specs.Trust.{is_timely_reading, is_trusted, is_trusted_commi
 use Rattle.tp_model.specs.Versions.{newest}
 use Rattle.tp_model.specs.Words.cause
 use Rattle.tp_model.specs.Words.decision
-use Rattle.tp_model.specs.Words.scheme
 use Rattle.tp_model.specs.Words.what
 use Rattle.tp_model.specs.Words.{AdminId, Cause, CommitRecord, Denied, Fact, Instance, OutOfRange, Scenario, Transaction, TxnId, Verdict, What}
 use Rattle.tp_runs.proofs.trust.Instances.{IsTimelyReading, IsTrustedInstance}
