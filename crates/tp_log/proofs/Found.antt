@@ -8,7 +8,7 @@ use Rattle.tp_record.specs.Spelling.{spelling}
 use Rattle.tp_record.specs.mirrors.Readings.{body_at}
 use Rattle.tp_record.proofs.Bodies.{body_again}
 use Rattle.tp_log.specs.Images.{AreRecords, Gives, blocks}
-use Rattle.tp_log.specs.mirrors.Found.{found_from, found_next, records_in}
+use Rattle.tp_log.specs.Found.{found_from, found_next, records_in}
 
 found_ends : (turns : ℕ) (rs : List Record) (g : ℕ) (rest : List ℕ) → AreRecords rs → g ≢ 1 → length (blocks rs ++ g ∷ rest) ≤ turns → found_from turns (blocks rs ++ g ∷ rest) ≡ rs
 found_ends zero [] g rest are shut few = absurd (omega arith)

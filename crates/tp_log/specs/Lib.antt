@@ -1,3 +1,4 @@
+pub mod Found
 pub mod Images
 pub mod Logs
 pub mod Openings

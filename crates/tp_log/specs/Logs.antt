@@ -3,6 +3,7 @@ use Rattle.std.specs.Prelude.{◌≡◌, ◌⊎◌, ◌<◌, ◌≤◌, ◌&&◌
 use Rattle.std.specs.Coded.{Coded, code_by, coded×, coded_bool, coded_ℕ}
 use Rattle.tp_types.specs.declared.records.Record.{Record}
 use Rattle.tp_device.specs.Disks.{Call, DiskState, MayLeave, Sync, Write, clean_state}
+use Rattle.tp_device.specs.Memory.{Memory, fresh}
 use Rattle.tp_device.specs.declared.disk.DiskError.{DiskError}
 use Rattle.tp_device.specs.declared.disk.DiskError.TheVariants as disk_errors
 use Rattle.tp_types.specs.Faults.{Rose}
@@ -21,6 +22,10 @@ pub record LogState (D : Type 0) : Type 0 where
   pub disk : D
   pub gate : ℕ
   pub closed : Bool
+
+-- an empty log on a fresh disk in memory
+abbrev pub fresh_log : LogState Memory
+fresh_log = record { disk = fresh; gate = 0; closed = false }
 
 -- it is stored as the pair of its fields
 abbrev pub log_code : {D : Type 0} → Coded D → Coded (LogState D)

@@ -3,15 +3,14 @@
 //! What is promised, with the contract that carries it:
 //!
 //! - A log that was opened gives the records of the image, keeps them, and nothing on its disk is unsynced
-//!   (`Log::open`, `opened`: `records`, `kept`)
+//!   (`Log::opened`: `records`, `kept`)
 //! - Opening leaves a disk of more than one byte as a sync leaves it, and a shorter one with one closed gate,
 //!   synced. A crash at any moment of it leaves what `LeftOpening` says, and its calls are those of `Opens`.
-//!   The count of faults does not fall (`Log::open`, `opened`: `opens`)
+//!   The count of faults does not fall (`Log::opened`: `opens`)
 //! - It is refused as no log only where the image fails, at that place. It is refused as Device only where, by
-//!   calls as of `Opens` up to one that was refused, the given disk leads to one of which the count of faults
-//!   rose. `Log::open` gives the disk back, and says so of that one. Whatever the cause, a read of a disk of more
-//!   than one byte then gives what it gave (`Log::open`: `not_a_log`, `device`, `same`). `Log::opened` is the same
-//!   call, which gives the disk up (`not_a_log`, `device`)
+//!   calls as of `Opens` up to one that was refused, the given disk leads to the one that is given back, of which
+//!   the count of faults rose. Whatever the cause, a read of a disk of more than one byte then gives what it gave:
+//!   a log that is refused is never wiped (`Log::opened`: `not_a_log`, `device`, `same`)
 //! - Every image of bytes gives a list of records or fails at a place. It gives one list, which a function of
 //!   it finds, or fails at one place, and never both: so both answers are exact (`one_reading`: `some`;
 //!   `records`, `found`, `place`, `apart`)
@@ -26,18 +25,21 @@
 //!   the field `calls` of `Adds`, `Fails` and `Stays`)
 //! - Every image that a crash of a log's disk may leave gives the log's records; after an append that failed,
 //!   with the new one or without (`Log::disk`, `into_disk`: `kept`, `failed`)
-//! - A log over a disk in memory that is stopped after some calls of an append, and crashes, has the new record
-//!   exactly by `kept_after` (`Log::stop_after`, `crashed_in_append`: `kept`, `forced`, `refused`)
-//! - The same in place: after a crash the log is closed until it is read again, nothing on its disk is unsynced and no
-//!   call of it is stopped. Where the crash within an append is refused the log keeps its records (`Log::crash`,
-//!   `crash_in_append`, `run_on`). What the bytes of the disk give is read without a call of it, and a log is opened
-//!   anew without giving its disk up (`Log::records`, `reread`)
+//! - A log over a disk in memory that is stopped after some calls of an append, and crashes in place, has the new
+//!   record exactly by `kept_after`. It is closed until it is read again, nothing on its disk is unsynced, and no call
+//!   of it is stopped. Where such a crash is refused the log keeps its records (`Log::stop_after`, `crash`,
+//!   `crash_in_append`, `run_on`)
+//! - Where no call of the disk is stopped an append of a record that is not too long to an open log is refused for want
+//!   of memory alone, and the log keeps its records then (`Log::append_running`). A fresh log is open, on such a disk,
+//!   and empty (`Log::fresh`)
+//! - What the bytes of the disk give is read without a call of it, and a log is opened anew without giving its disk up
+//!   (`Log::records`, `reread`)
 #![tactic(auto)]
 
 ghost use Rattle.std.specs.Prelude.{◌≡◌, ◌<◌, ◌^◌, ℕ, List, All};
 ghost use Rattle.tp_types.specs.declared.records.Record.{Record};
 ghost use Rattle.tp_log.specs.Images.{FailsAt, Gives, HasReading};
-ghost use Rattle.tp_log.specs.mirrors.Found.{records_in};
+ghost use Rattle.tp_log.specs.Found.{records_in};
 
 mod block;
 mod calls;

@@ -45,7 +45,7 @@ impl<D: Disk> Log<D> {
     /// Opens the log that a disk holds, and gives its records. A disk of at most one byte gets a closed gate. What
     /// was unsynced on the disk is synced first, and one of more than one byte is only read then. Where it is refused
     /// the disk is given back.
-    pub fn open(alloc: Global, mut disk: D) -> Result<(Log<D>, List<Record>), (D, LogError)>
+    pub fn opened(alloc: Global, mut disk: D) -> Result<(Log<D>, List<Record>), (D, LogError)>
         ensures records { IfOk result (λ made. Gives (D.state disk).seen made.1) }
         ensures kept { IfOk result (λ made. Keeps D.state made.0 made.1) }
         // A disk of more than one byte is as a sync leaves it. A crash at any moment leaves what it might have left
@@ -86,29 +86,6 @@ impl<D: Disk> Log<D> {
                 }
             }
             Err(error) => Err((disk, error)),
-        }
-    }
-
-    /// Opens the log that a disk holds, as `open` does. Where the answer is a refusal the disk is given up, and of what
-    /// was done to it no more is told than `device` tells.
-    pub fn opened(alloc: Global, disk: D) -> Result<(Log<D>, List<Record>), LogError>
-        ensures records { IfOk result (λ made. Gives (D.state disk).seen made.1) }
-        ensures kept { IfOk result (λ made. Keeps D.state made.0 made.1) }
-        ensures opens { IfOk result (λ made.
-            Opens D.state D.left_since D.does D.faults disk made.0.disk) }
-        // Only where no records are given.
-        ensures not_a_log { IfErr result (λ error. IfNotALog error (FailsAt (D.state disk).seen)) }
-        // Only where a call was refused, and a fault counted. The disk is given up, so the clause speaks of some disk to
-        // which such calls lead from the given one.
-        ensures device { result ≡ Err LogError.Device
-            → (gone : D) × GivesUp D.state D.left_since D.does D.faults disk gone }
-    {
-        match Log::open(alloc, disk) {
-            Ok(made) => Ok(made),
-            Err((disk, error)) => {
-                drop(disk);
-                Err(error)
-            }
         }
     }
 
@@ -168,13 +145,49 @@ impl<D: Disk> Log<D> {
 }
 
 impl Log<MemoryDisk> {
-    ghost use Rattle.std.specs.Prelude.{◌≡◌, ◌≢◌, ◌<◌, ◌≤◌, [], ◌∷◌, List, length, Some, None, true, Err, IfErr, IfOk, OnErr, OnOk};
+    ghost use Rattle.std.specs.Prelude.{◌≡◌, ◌≢◌, ◌<◌, ◌≤◌, [], ◌∷◌, ◌++◌, List, length, Some, None, true, false, Err, IfErr, IfOk, OnErr, OnOk};
+    ghost use Rattle.tp_record.specs.Spelling.{spelling};
     ghost use Rattle.tp_types.specs.declared.records.Record.{Record};
     ghost use Rattle.tp_device.specs.Disks.{MayLeave, after_sync, clean_state};
     ghost use Rattle.tp_device.specs.Memory.{after_crash, disk_of};
     ghost use Rattle.tp_log.specs.Images.{FailsAt, Gives};
-    ghost use Rattle.tp_log.specs.Logs.{Keeps, kept_after};
+    ghost use Rattle.tp_log.specs.Logs.{Keeps, body_max, fresh_log, kept_after};
     ghost use Rattle.tp_log.specs.Refusals.{IfNotALog, IfUncalled};
+
+    /// An empty log on a disk of its own in memory, of which no call is stopped. It is what opening such a disk gives, for which
+    /// nothing is to be read.
+    pub fn fresh(alloc: Global) -> Result<Log<MemoryDisk>, NoMemory>
+        ensures { IfOk result (λ log. log ≡ fresh_log) }
+    {
+        Ok(Log {
+            disk: MemoryDisk::fresh(alloc)?,
+            gate: 0,
+            closed: false,
+        })
+    }
+
+    /// Appends a record that is not too long to an open log, on a disk of which no call is stopped: only memory is refused, and
+    /// then the log keeps its records.
+    pub fn append_running(&mut self, alloc: Global, r: &Record) -> Result<(), NoMemory>
+        requires was_open { self.old.closed ≡ false }
+        requires running { self.old.disk.left ≡ None }
+        requires fits { length (spelling r.now) ≤ body_max }
+        ensures kept { OnOk result ((records : List Record) → Keeps disk_of self.old records
+            → Keeps disk_of self.new (records ++ r.now ∷ [])) }
+        ensures stays { OnErr result ((records : List Record) → Keeps disk_of self.old records
+            → Keeps disk_of self.new records) }
+        ensures is_open { self.new.closed ≡ false }
+        ensures running { self.new.disk.left ≡ None }
+    {
+        match self.append(alloc, r) {
+            Ok(()) => Ok(()),
+            Err(LogError::NoMemory) => Err(NoMemory),
+            Err(LogError::Device) => unreachable!(),
+            Err(LogError::Closed) => unreachable!(),
+            Err(LogError::TooLong) => unreachable!(),
+            Err(LogError::NotALog { .. }) => unreachable!(),
+        }
+    }
 
     /// Lets so many further calls of the disk pass. The records stay.
     pub fn stop_after(&mut self, calls: u32)
@@ -188,30 +201,6 @@ impl Log<MemoryDisk> {
         ensures { self.new ≡ record self.old { disk = record self.old.disk { left = None } } }
     {
         self.disk.run_on();
-    }
-
-    /// Crashes within an append: so many of its calls of the disk pass, and what is then unsynced reads `fill`.
-    /// Gives the disk after the crash. A refusal is as of `append`.
-    /// It stands beside `append` as the crash within one that a scenario asks for, and carries its rule.
-    pub fn crashed_in_append(
-        mut self,
-        alloc: Global,
-        r: &Record,
-        calls: u32,
-        fill: u8,
-    ) -> Result<MemoryDisk, LogError>
-        // The record is there where all four calls passed, or three and the gate reads 1.
-        ensures kept { IfOk result (λ disk. (records : List Record) → Keeps disk_of self records
-            → Gives disk.disk.seen (kept_after calls fill records r.now)) }
-        ensures forced { IfOk result (λ disk. disk.disk ≡ clean_state disk.disk.seen) }
-        ensures refused { IfErr result (λ error. IfUncalled error self.closed r.now) }
-    {
-        self.stop_after(calls);
-        match self.append(alloc, r) {
-            Ok(()) => Ok(self.into_disk().crashed(fill)),
-            Err(LogError::Device) => Ok(self.into_disk().crashed(fill)),
-            Err(error) => Err(error),
-        }
     }
 
     /// Crashes the disk, on which what is unsynced then reads `fill`, and closes the log.
@@ -235,8 +224,10 @@ impl Log<MemoryDisk> {
         self.crash_with(alloc, 0);
     }
 
-    /// Crashes within an append, as `crashed_in_append` does, in place. The log then takes no record until it is read
-    /// again. A refusal is as of `append`, and is no crash. At each answer no call of the disk is stopped any more.
+    /// Crashes within an append, in place: so many of its calls of the disk pass, and what is then unsynced reads `fill`.
+    /// The log then takes no record until it is read again. A refusal is as of `append`, and is no crash. At each answer no
+    /// call of the disk is stopped any more.
+    /// It stands beside `append` as the crash within one that a scenario asks for, and carries its rule.
     pub fn crash_in_append(
         &mut self,
         alloc: Global,

@@ -1,4 +1,6 @@
 -- Lemmas on flags of mails, parts, the opening and the machine.
+pub mod Disks
+pub mod Fits
 pub mod Flags
 pub mod Machine
 pub mod Opened

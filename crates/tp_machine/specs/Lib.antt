@@ -1,4 +1,5 @@
 pub mod Crashes
+pub mod Fits
 pub mod Logs
 pub mod Machine
 pub mod Named

@@ -1,9 +1,14 @@
 -- What the logs of all actors say, by their numbers.
-use Rattle.std.specs.Prelude.{ℕ, List, slice_get, Bool, false, Option, option_and_then}
+use Rattle.std.specs.Prelude.{ℕ, List, [], slice_get, Bool, false, Option, is_some, option_and_then}
 use Rattle.std.specs.Option.{option_map_or}
-use Rattle.tp_model.specs.Words.{Decision, Prepared, Settled, TxnId}
+use Rattle.tp_model.specs.Words.{Actor, Decision, Prepared, Record, Settled, TxnId}
+use Rattle.tp_model.specs.Words.actor
 use Rattle.tp_recover.specs.Log.{decided_in, epoch_in, has_voted, prepared_in, settled_in}
 use Rattle.tp_coord.specs.State.{Coordinator}
+use Rattle.tp_device.specs.Disks.{MayLeave}
+use Rattle.tp_device.specs.Memory.{Memory}
+use Rattle.tp_log.specs.Images.{Gives}
+use Rattle.tp_machine.specs.declared.actors.Actors.{Actors}
 use Rattle.tp_machine.specs.Parts.{Part}
 use Rattle.tp_server.specs.State.{Server}
 
@@ -41,3 +46,23 @@ epoch_by part = epoch_in part.log
 -- the epoch of a server, by its number; 0, which is no epoch, where there is no such server
 abbrev pub epoch_at : List (Part Server) → ℕ → ℕ
 epoch_at servers at = option_map_or epoch_by (slice_get servers at) 0
+
+abbrev pub log_by : {S : Type 0} → Part S → List Record
+log_by part = part.log
+
+-- the records of an actor's log, by its name; an office has none
+abbrev pub records_of : Actors → Actor → List Record
+records_of actors (actor.Server at) = option_map_or log_by (slice_get actors.servers at.0) []
+records_of actors (actor.Coordinator txn) =
+    option_map_or log_by (slice_get actors.coordinators txn.0) []
+records_of actors _ = []
+
+-- whether there is an actor of this name that has a log
+abbrev pub has_log : Actors → Actor → Bool
+has_log actors (actor.Server at) = is_some (slice_get actors.servers at.0)
+has_log actors (actor.Coordinator txn) = is_some (slice_get actors.coordinators txn.0)
+has_log actors _ = false
+
+-- every image that a crash may leave of the disk gives exactly these records
+abbrev pub IsDiskOf : Memory → List Record → Type 0
+IsDiskOf disk records = (image : List ℕ) → MayLeave disk.disk image → Gives image records

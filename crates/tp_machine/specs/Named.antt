@@ -26,6 +26,12 @@ IsCrasher sc (actor.Server at) = IsServer sc at
 IsCrasher sc (actor.Coordinator txn) = IsTxn sc txn
 IsCrasher sc _ = ⊥
 
+-- the actor exists, as offices always do
+abbrev pub IsActor : Scenario → Actor → Type 0
+IsActor sc (actor.Server at) = IsServer sc at
+IsActor sc (actor.Coordinator txn) = IsTxn sc txn
+IsActor sc _ = Unit {0}
+
 -- what a step names exists
 abbrev pub IsStepOf : Scenario → Step → Type 0
 IsStepOf sc (step.Submit txn) = IsTxn sc txn

@@ -1,12 +1,14 @@
 -- A world as its callers see it.
-use Rattle.std.specs.Prelude.{◌≡◌, Bool, true, false, Some, None}
-use Rattle.tp_model.specs.Words.{Scenario, Step}
+use Rattle.std.specs.Prelude.{◌≡◌, length, Bool, true, false, Some, None}
+use Rattle.tp_model.specs.Words.{Actor, Scenario, Step}
+use Rattle.tp_model.specs.Words.actor
 use Rattle.tp_model.specs.Words.step
 use Rattle.tp_model.specs.Built.{is_built}
 use Rattle.tp_machine.specs.declared.actors.Actors.{Actors}
 use Rattle.tp_machine.specs.declared.history.History.{History}
 use Rattle.tp_machine.specs.declared.error.StepError.{StepError}
-use Rattle.tp_machine.specs.mirrors.Acts.{SameUp}
+use Rattle.tp_machine.specs.Fits.{AllFitLogs}
+use Rattle.tp_machine.specs.mirrors.Acts.{HasEitherLogs, SameUp}
 use Rattle.tp_machine.specs.mirrors.Flags.{marked}
 use Rattle.tp_types.specs.Each.{Each}
 use Rattle.tp_machine.specs.Named.{IsStepOf}
@@ -47,10 +49,24 @@ abbrev pub HasItsFacts : WorldView → Type 0
 HasItsFacts world =
     world.machine.state.facts ≡ (after world.scenario world.machine.state.steps).state.facts
 
--- what is so of every world: its scenario is of the form that is built, its steps name what exists, and its facts are those
--- that they give; and while it is not given up it is reached
+-- there is one actor for each server, and one for each transaction
+pub record HasAllActors (sc : Scenario) (actors : Actors) : Type 0 where
+  pub servers : length actors.servers ≡ length sc.servers
+  pub coordinators : length actors.coordinators ≡ length sc.txns
+
+-- the actor is an office, which has no log
+abbrev pub is_office : Actor → Bool
+is_office actor.Authority = true
+is_office actor.Master = true
+is_office _ = false
+
+-- what is so of every world: its scenario is of the form that is built, no run of it makes a record that a log does not take, its
+-- actors are all there, its steps name what exists, and its facts are those that they give; and while it is not given up it is
+-- reached
 pub record IsWorld (world : WorldView) : Type 0 where
   pub built : is_built world.scenario ≡ true
+  pub fit : AllFitLogs world.scenario
+  pub whole : HasAllActors world.scenario world.machine.state.actors
   pub named : Each (IsStepOf world.scenario) world.machine.state.steps
   pub told : HasItsFacts world
   pub reached : IsReached world
@@ -79,8 +95,9 @@ pub record Refuses (old new : WorldView) (taken : Step) (why : StepError) : Type
   pub reason : refusal old.machine.state taken ≡ Some why
   pub unchanged : new ≡ old
 
--- the world is given up: its facts, steps and mails, which of these are undelivered, and which actors are down, stay
-pub record GivesUp (old new : WorldView) : Type 0 where
+-- the world is given up in a step: its facts, steps and mails, which of these are undelivered, and which actors are down, stay.
+-- Each actor's log is that from before the step, or that after it
+pub record GivesUp (old new : WorldView) (taken : Step) : Type 0 where
   pub scenario : new.scenario ≡ old.scenario
   pub given_up : new.given_up ≡ true
   pub facts : new.machine.state.facts ≡ old.machine.state.facts
@@ -88,3 +105,6 @@ pub record GivesUp (old new : WorldView) : Type 0 where
   pub mails : new.machine.state.mails ≡ old.machine.state.mails
   pub undelivered : new.machine.undelivered ≡ old.machine.undelivered
   pub up : SameUp old.machine.state.actors new.machine.state.actors
+  pub logs : HasEitherLogs old.machine.state.actors
+      (machine_after old.scenario old.machine taken).state.actors
+      new.machine.state.actors

@@ -1,3 +1,4 @@
 pub mod Acts
+pub mod Disks
 pub mod Flags
 pub mod History

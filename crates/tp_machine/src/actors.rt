@@ -1,5 +1,5 @@
 //! All the actors of a world, and what a step does to them.
-ghost use Rattle.std.specs.Prelude.{◌≡◌, ◌+◌, ◌<◌, ◌^◌, ◌∷◌, [], length, map, slice_get, true, IfOk};
+ghost use Rattle.std.specs.Prelude.{◌≡◌, ◌+◌, ◌<◌, ◌^◌, ◌∷◌, [], length, map, slice_get, true, is_some, IfOk, IfSome, OnErr};
 ghost use Rattle.std.specs.Option.{option_copied};
 ghost use Rattle.tp_machine.specs.Machine as machine;
 ghost use Rattle.tp_server.specs.Verdicts.{HasFewRules};
@@ -9,6 +9,7 @@ ghost use Rattle.tp_offices.specs.Master as office;
 use crate::part::{Act, Part, coordinator_submits, coordinator_takes, no_act, server_takes};
 use std::alloc::Global;
 use tp_coord::Coordinator;
+use tp_device::MemoryDisk;
 use tp_lock::PlainLocks;
 use tp_offices::{Authority, Master, NoMore};
 use tp_server::Server;
@@ -30,7 +31,9 @@ pub struct Actors {
 }
 
 impl Actors {
-    ghost use Rattle.tp_machine.specs.mirrors.Acts.{Moves, SameUp};
+    ghost use Rattle.tp_machine.specs.Fits.{FitLogs};
+    ghost use Rattle.tp_machine.specs.Logs as logs;
+    ghost use Rattle.tp_machine.specs.mirrors.Acts.{Moves, SameLogs, SameUp};
 
     /// The actors as they stand before the first step.
     pub fn opened(alloc: Global, scenario: &Scenario) -> Result<Actors, NoMemory>
@@ -68,6 +71,25 @@ impl Actors {
         }
     }
 
+    /// The disk of an actor's log; None exactly where there is no such server and no such coordinator.
+    pub fn disk(&self, actor: Actor) -> Option<&MemoryDisk>
+        ensures some { is_some result ≡ logs.has_log self.now actor }
+        ensures kept { IfSome (option_copied result)
+            (λ disk. logs.IsDiskOf disk (logs.records_of self.now actor)) }
+    {
+        match actor {
+            Actor::Server(at) => match self.servers.get(at.0 as usize) {
+                None => None,
+                Some(part) => Some(part.disk()),
+            },
+            Actor::Coordinator(txn) => match self.coordinators.get(txn.0 as usize) {
+                None => None,
+                Some(part) => Some(part.disk()),
+            },
+            _ => None,
+        }
+    }
+
     /// The value of each item.
     pub fn values(&self, alloc: Global, items: &[Item]) -> Result<List<i128>, NoMemory>
         ensures { IfOk result (λ values.
@@ -76,18 +98,22 @@ impl Actors {
         item_values(alloc, self.servers.as_slice(), items)
     }
 
-    /// A mail is delivered to its actor. After NoMemory the actors are up as before, and nothing else is said of them.
+    /// A mail is delivered to its actor. After NoMemory the actors are up as before, and so are their logs; nothing else is
+    /// said of them.
     pub fn receive(
         &mut self,
         alloc: Global,
         scenario: &Scenario,
         mail: &Mail,
     ) -> Result<Act, NoMemory>
-        requires { HasFewRules scenario.now }
+        requires few { HasFewRules scenario.now }
+        requires fits { FitLogs
+            (machine.receipt scenario.now self.old mail.now mail.now.letter.to).actors }
         ensures ok { IfOk result (λ act.
             Moves
             (machine.receipt scenario.now self.old mail.now mail.now.letter.to) self.new act) }
         ensures up { SameUp self.old self.new }
+        ensures logs { OnErr result (SameLogs self.old self.new) }
     {
         match mail.letter.to {
             Actor::Server(at) => self.to_server(alloc, scenario, mail, at),
@@ -104,13 +130,16 @@ impl Actors {
         mail: &Mail,
         at: ServerId,
     ) -> Result<Act, NoMemory>
-        requires { HasFewRules scenario.now }
+        requires few { HasFewRules scenario.now }
+        requires fits { FitLogs
+            (machine.to_server scenario.now self.old mail.now at (slice_get self.old.servers at.0)).actors }
         ensures ok { IfOk result (λ act.
             Moves
             (machine.to_server scenario.now self.old mail.now at
             (slice_get self.old.servers at.0))
             self.new act) }
         ensures up { SameUp self.old self.new }
+        ensures logs { OnErr result (SameLogs self.old self.new) }
     {
         match self.servers.get_mut(at.0 as usize) {
             None => Ok(no_act(alloc)),
@@ -125,12 +154,16 @@ impl Actors {
         mail: &Mail,
         txn: TxnId,
     ) -> Result<Act, NoMemory>
+        requires fits { FitLogs
+            (machine.to_coordinator scenario.now self.old mail.now txn
+            (slice_get self.old.coordinators txn.0)).actors }
         ensures ok { IfOk result (λ act.
             Moves
             (machine.to_coordinator scenario.now self.old mail.now txn
             (slice_get self.old.coordinators txn.0))
             self.new act) }
         ensures up { SameUp self.old self.new }
+        ensures logs { OnErr result (SameLogs self.old self.new) }
     {
         match self.coordinators.get_mut(txn.0 as usize) {
             None => Ok(no_act(alloc)),
@@ -163,6 +196,7 @@ impl Actors {
         requires { office.has_more self.old.master admin ≡ true }
         ensures ok { IfOk result (λ act. Moves (machine.publishes self.old admin) self.new act) }
         ensures up { SameUp self.old self.new }
+        ensures logs { SameLogs self.old self.new }
     {
         match self.master.publish(admin) {
             Err(NoMore) => unreachable!(),
@@ -200,6 +234,7 @@ impl Actors {
         requires { self.old.authority.clock + by < clock_end }
         ensures ok { IfOk result (λ act. Moves (machine.ticks self.old by) self.new act) }
         ensures up { SameUp self.old self.new }
+        ensures logs { SameLogs self.old self.new }
     {
         let happened = List::of_one(alloc, What::Ticked(by))?;
         self.authority.tick(by);
@@ -213,6 +248,7 @@ impl Actors {
     pub fn revoke(&mut self, alloc: Global, cred: CredId) -> Result<Act, NoMemory>
         ensures ok { IfOk result (λ act. Moves (machine.revokes self.old cred) self.new act) }
         ensures up { SameUp self.old self.new }
+        ensures logs { SameLogs self.old self.new }
     {
         let happened = List::of_one(alloc, What::Revoked(cred))?;
         self.authority.revoke(cred);
@@ -222,7 +258,7 @@ impl Actors {
         })
     }
 
-    /// A transaction is submitted at a place. After NoMemory the actors are up as before.
+    /// A transaction is submitted at a place. After NoMemory the actors are up as before, and so are their logs.
     pub fn submit(
         &mut self,
         alloc: Global,
@@ -230,9 +266,11 @@ impl Actors {
         txn: TxnId,
         place: Place,
     ) -> Result<Act, NoMemory>
+        requires fits { FitLogs (machine.submission scenario.now self.old txn place).actors }
         ensures ok { IfOk result (λ act.
             Moves (machine.submission scenario.now self.old txn place) self.new act) }
         ensures up { SameUp self.old self.new }
+        ensures logs { OnErr result (SameLogs self.old self.new) }
     {
         match self.coordinators.get_mut(txn.0 as usize) {
             None => Ok(Act {
@@ -305,7 +343,7 @@ fn opened_servers(alloc: Global, scenario: &Scenario) -> Result<List<Part<Server
     for number in 0..scenario.servers.len() as u32 {
         let locks = Locks::opened(alloc, scenario.items.len())?;
         let server = Server::opened(alloc, scenario, ServerId(number), locks)?;
-        made.push(Part::opened(alloc, server))?;
+        made.push(Part::opened(alloc, server)?)?;
     }
     Ok(made)
 }
@@ -323,7 +361,7 @@ fn idle_coordinators(
     let mut made = List::new(alloc);
     for number in 0..scenario.txns.len() as u32 {
         let coordinator = Coordinator::idle(alloc, scenario, TxnId(number))?;
-        made.push(Part::opened(alloc, coordinator))?;
+        made.push(Part::opened(alloc, coordinator)?)?;
     }
     Ok(made)
 }

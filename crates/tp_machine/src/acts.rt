@@ -3,7 +3,8 @@ ghost use Rattle.std.specs.Prelude.{◌≡◌, ◌+◌, ◌<◌, length, false, 
 ghost use Rattle.std.specs.Option.{option_copied, option_map_or};
 ghost use Rattle.tp_coord.specs.Row.{is_armed};
 ghost use Rattle.tp_model.specs.Words.step;
-ghost use Rattle.tp_machine.specs.mirrors.Acts.{Moves, SameUp};
+ghost use Rattle.tp_machine.specs.Fits.{FitLogs};
+ghost use Rattle.tp_machine.specs.mirrors.Acts.{HasEitherLogs, Moves, SameLogs, SameUp};
 ghost use Rattle.tp_machine.specs.mirrors.History.{SameHistory};
 ghost use Rattle.tp_machine.specs.Machine as machine;
 ghost use Rattle.tp_machine.specs.WorldView.{IsBuiltStep, machine_of, state_of};
@@ -143,11 +144,16 @@ pub fn act(
     requires few { HasFewRules scenario.now }
     requires built { IsBuiltStep taken.now }
     requires allowed { machine.refusal (state_of actors.old history.old) taken.now ≡ None }
+    requires fits { FitLogs
+        (machine.machine_after scenario.now (machine_of actors.old history.old) taken.now).state.actors }
     ensures ok { OnOk result
         (machine_of actors.new history.new
         ≡ machine.machine_after scenario.now (machine_of actors.old history.old) taken.now) }
     ensures same_history { OnErr result (SameHistory history.old history.new) }
     ensures up { SameUp actors.old actors.new }
+    ensures logs { OnErr result (HasEitherLogs actors.old
+        (machine.machine_after scenario.now (machine_of actors.old history.old) taken.now).state.actors
+        actors.new) }
 {
     match *taken {
         Step::Submit { txn } => submit(actors, history, alloc, scenario, txn),
@@ -170,12 +176,17 @@ fn submit(
     scenario: &Scenario,
     txn: TxnId,
 ) -> Result<(), NoMemory>
+    requires fits { FitLogs
+        (machine.submission scenario.now actors.old txn (length history.old.steps)).actors }
     ensures ok { OnOk result
         (machine_of actors.new history.new
         ≡ machine.machine_after scenario.now (machine_of actors.old history.old)
         (step.Submit txn)) }
     ensures same_history { OnErr result (SameHistory history.old history.new) }
     ensures up { SameUp actors.old actors.new }
+    ensures logs { OnErr result (HasEitherLogs actors.old
+        (machine.submission scenario.now actors.old txn (length history.old.steps)).actors
+        actors.new) }
 {
     let act = actors.submit(alloc, scenario, txn, history.steps.len() as u64)?;
     history.note(Step::Submit { txn }, act.happened, act.letters)
@@ -190,12 +201,17 @@ fn deliver(
 ) -> Result<(), NoMemory>
     requires few { HasFewRules scenario.now }
     requires sent { mail < length history.old.mails }
+    requires fits { FitLogs
+        (machine.delivery scenario.now actors.old (slice_get history.old.mails mail)).actors }
     ensures ok { OnOk result
         (machine_of actors.new history.new
         ≡ machine.machine_after scenario.now (machine_of actors.old history.old)
         (step.Deliver mail)) }
     ensures same_history { OnErr result (SameHistory history.old history.new) }
     ensures up { SameUp actors.old actors.new }
+    ensures logs { OnErr result (HasEitherLogs actors.old
+        (machine.delivery scenario.now actors.old (slice_get history.old.mails mail)).actors
+        actors.new) }
 {
     let act = receive(actors, alloc, scenario, history.mails.as_slice(), mail)?;
     history.note(Step::Deliver { mail }, act.happened, act.letters)?;
@@ -216,6 +232,7 @@ fn publish(
         (machine.publishes actors.old admin)) }
     ensures same_history { OnErr result (SameHistory history.old history.new) }
     ensures up { SameUp actors.old actors.new }
+    ensures logs { SameLogs actors.old actors.new }
 {
     let act = actors.publish(alloc, admin)?;
     history.note(Step::Publish { admin }, act.happened, act.letters)
@@ -276,6 +293,7 @@ fn tick(actors: &mut Actors, history: &mut History, alloc: Global, by: u64) -> R
         (machine.ticks actors.old by)) }
     ensures same_history { OnErr result (SameHistory history.old history.new) }
     ensures up { SameUp actors.old actors.new }
+    ensures logs { SameLogs actors.old actors.new }
 {
     let act = actors.tick(alloc, by)?;
     history.note(Step::Tick { by }, act.happened, act.letters)
@@ -293,6 +311,7 @@ fn revoke(
         (machine.revokes actors.old cred)) }
     ensures same_history { OnErr result (SameHistory history.old history.new) }
     ensures up { SameUp actors.old actors.new }
+    ensures logs { SameLogs actors.old actors.new }
 {
     let act = actors.revoke(alloc, cred)?;
     history.note(Step::Revoke { cred }, act.happened, act.letters)
@@ -305,11 +324,14 @@ fn receive(
     mails: &[Mail],
     mail: u64,
 ) -> Result<Act, NoMemory>
-    requires { HasFewRules scenario.now }
+    requires few { HasFewRules scenario.now }
+    requires fits { FitLogs
+        (machine.delivery scenario.now actors.old (slice_get mails.now mail)).actors }
     ensures ok { IfOk result (λ act.
         Moves
         (machine.delivery scenario.now actors.old (slice_get mails.now mail)) actors.new act) }
     ensures up { SameUp actors.old actors.new }
+    ensures logs { OnErr result (SameLogs actors.old actors.new) }
 {
     match mails.get(mail as usize) {
         None => Ok(no_act(alloc)),

@@ -6,9 +6,11 @@
 //! - A step that is done was not refused by the machine, and gives exactly the machine's next state
 //!   (`World::step`: `ok`)
 //! - A refused step has exactly the machine's reason, and changes nothing (`World::step`: `refused`)
-//! - Where memory is refused the world is given up; its facts, steps and mails stay, and so does who is up. A
-//!   world that is given up only answers that memory was refused (`World::step`: `memory`, `ok`, `refused`;
-//!   `World::ending`: `given_up`)
+//! - Where memory is refused the world is given up; its facts, steps and mails stay, and so does who is up. Each
+//!   actor's log is that from before the step, or that after it. A world that is given up only answers that memory
+//!   was refused (`World::step`: `memory`, `ok`, `refused`; `World::ending`: `given_up`)
+//! - Whatever image a crash may leave of an actor's disk, it gives exactly the records that the machine has of the
+//!   actor, also in a world that is given up; the offices alone have no disk (`World::disk`: `kept`, `none`)
 //! - A world that is not given up is the machine of its scenario after the steps that it shows; its scenario is
 //!   built, its steps name what exists, and its facts are those that they give, also of a world that is given
 //!   up (`World::facts`: `reached`, `built`, `named`, `of_steps`; `World::scenario`: `built`)
@@ -17,8 +19,10 @@
 //! - The oldest undelivered mail is the first of the undelivered ones, and it was sent (`World::oldest`:
 //!   `value`, `sent`)
 //!
-//! `World::start` asks that the scenario has the built form; `World::step` that the step is no crash and no boot
-//! (`built`), and that what it names exists in the scenario (`ids`).
+//! `World::start` asks that the scenario has the built form (`built`), and that no run of it makes a record that is too
+//! long for a log (`fit`), which holds of every such scenario (`tp_runs`); `World::step` that the step is no crash and
+//! no boot (`built`), and that what it names exists in the scenario (`ids`). So no log refuses a record but for want of
+//! memory, and no disk fails.
 #![tactic(auto)]
 
 mod actors;

@@ -1,12 +1,15 @@
 //! The world: the machine of a scenario and the steps that were done.
-ghost use Rattle.std.specs.Prelude.{◌≡◌, ◌≢◌, ℕ, ◌==◌, ◌<◌, ◌≤◌, ◌*◌, length, true, false, Some, None, IfOk, IfErr, IfSome, OnOk, OnErr, IsErrOf, IsErr, slice_get};
+ghost use Rattle.std.specs.Prelude.{◌≡◌, ◌≢◌, ℕ, ◌==◌, ◌<◌, ◌≤◌, ◌*◌, length, true, false, Some, None, is_none, IfOk, IfErr, IfSome, OnOk, OnErr, IsErrOf, IsErr, slice_get};
+ghost use Rattle.std.specs.Option.{option_copied};
 ghost use Rattle.std.specs.List.{list_any};
 ghost use Rattle.tp_model.specs.Built as built;
 ghost use Rattle.tp_machine.specs.declared.error.StepError.{StepError};
-ghost use Rattle.tp_machine.specs.WorldView.{start, IsReached, IsBuiltStep, HasItsFacts, Does, Refuses, GivesUp};
+ghost use Rattle.tp_machine.specs.WorldView.{start, IsReached, IsBuiltStep, HasItsFacts, Does, Refuses, GivesUp, is_office};
+ghost use Rattle.tp_machine.specs.Fits.{AllFitLogs};
+ghost use Rattle.tp_machine.specs.Logs.{IsDiskOf, records_of};
 ghost use Rattle.tp_machine.specs.Machine as machine;
 ghost use Rattle.tp_types.specs.Each.{Each};
-ghost use Rattle.tp_machine.specs.Named.{IsStepOf};
+ghost use Rattle.tp_machine.specs.Named.{IsActor, IsStepOf};
 
 use crate::actors::Actors;
 use crate::acts::{act, is_armed, is_submitted, refusal};
@@ -14,6 +17,7 @@ use crate::error::StepError;
 use crate::history::History;
 use std::alloc::Global;
 use std::marker::Model;
+use tp_device::MemoryDisk;
 use tp_types::{Actor, Ending, Fact, List, NoMemory, Scenario, Step, TryClone, TxnId};
 
 /// A scenario's cluster after the steps that were done. Contracts see the scenario, whether the world is given up, and the
@@ -49,9 +53,11 @@ impl Model for World {
 }
 
 impl World {
-    /// The world of a scenario before the first step.
+    /// The world of a scenario before the first step. That no run of it makes a record that a log does not take holds of every
+    /// scenario that is run; it is shown where all runs are spoken of.
     pub fn start(alloc: Global, scenario: &Scenario) -> Result<World, NoMemory>
-        requires { built.is_built scenario.now ≡ true }
+        requires built { built.is_built scenario.now ≡ true }
+        requires fit { AllFitLogs scenario.now }
         ensures { IfOk result (λ world. world ≡ start scenario.now) }
     {
         let actors = Actors::opened(alloc, scenario)?;
@@ -64,14 +70,14 @@ impl World {
     }
 
     /// Does a step. A refused step changes nothing. Where memory is refused the world is given up, and each later step answers
-    /// NoMemory.
+    /// NoMemory; each actor's log is then that from before the step, or that after it.
     pub fn step(&mut self, alloc: Global, taken: &Step) -> Result<(), StepError>
         requires built { IsBuiltStep taken.now }
         requires ids { IsStepOf self.old.scenario taken.now }
         ensures ok { OnOk result (Does self.old self.new taken.now) }
         ensures refused { IfErr result (λ why.
             why ≢ StepError.NoMemory → Refuses self.old self.new taken.now why) }
-        ensures memory { IsErrOf result StepError.NoMemory → GivesUp self.old self.new }
+        ensures memory { IsErrOf result StepError.NoMemory → GivesUp self.old self.new taken.now }
     {
         if self.given_up {
             return Err(StepError::NoMemory);
@@ -139,6 +145,17 @@ impl World {
         ensures { result ≡ machine.is_down self.now.machine.state.actors actor.now }
     {
         self.actors.is_down(*actor)
+    }
+
+    /// The disk of an actor's log; None exactly where the actor is an office. Every image that a crash may leave of it gives exactly
+    /// the records that the machine has of the actor, also once the world is given up.
+    pub fn disk(&self, actor: &Actor) -> Option<&MemoryDisk>
+        requires ids { IsActor self.now.scenario actor.now }
+        ensures none { is_none result ≡ is_office actor.now }
+        ensures kept { IfSome (option_copied result)
+            (λ disk. IsDiskOf disk (records_of self.now.machine.state.actors actor.now)) }
+    {
+        self.actors.disk(*actor)
     }
 
     /// Whether a mail of this number was sent, and is neither delivered nor lost.

@@ -36,7 +36,7 @@ fn holds(rt: &(impl Abort + AllocGlobal), mut disk: MemoryDisk, bytes: &[u8]) ->
 
 /// The log on a disk, and its records.
 fn opened(rt: &(impl Abort + AllocGlobal), disk: MemoryDisk) -> (Log<MemoryDisk>, List<Record>) {
-    Log::opened(rt.alloc(), disk).expect(rt, "a log")
+    Log::opened(rt.alloc(), disk).ok().expect(rt, "a log")
 }
 
 /// A log on a fresh disk, which gives no records.
@@ -79,7 +79,10 @@ fn refusal(rt: &impl AllocGlobal, disk: MemoryDisk) -> Option<LogError> {
             drop(log);
             None
         }
-        Err(error) => Some(error),
+        Err((disk, error)) => {
+            drop(disk);
+            Some(error)
+        }
     }
 }
 
@@ -117,7 +120,7 @@ fn given_back(
     disk: MemoryDisk,
     bytes: &[u8],
 ) -> Option<(LogError, bool)> {
-    match Log::open(rt.alloc(), disk) {
+    match Log::opened(rt.alloc(), disk) {
         Ok((log, records)) => {
             drop(records);
             drop(log);
@@ -149,14 +152,16 @@ fn a_log_has_the_bytes_of_the_format(rt: HostRuntime) {
     assert!(rt; gives(&rt, &ONE_BOOT, &[0, 0, 0, 1, 1]));
 }
 
-/// How many records are found after a crash that let so many calls of an append to a log of one record pass.
+/// How many records are found on the disk after a crash that let so many calls of an append to a log of one record pass.
 fn found_after(rt: &(impl Abort + AllocGlobal), number: usize, calls: u32, fill: u8) -> usize {
-    let (log, records) = opened(rt, disk_of(rt, &ONE_BOOT));
+    let (mut log, records) = opened(rt, disk_of(rt, &ONE_BOOT));
     drop(records);
     let record = record(rt, number);
-    let crashed = log.crashed_in_append(rt.alloc(), &record, calls, fill);
+    let crashed = log.crash_in_append(rt.alloc(), &record, calls, fill);
     drop(record);
-    count_of(rt, crashed.expect(rt, "a disk"))
+    let count = count_of(rt, log.into_disk());
+    assert!(*rt; crashed.is_ok());
+    count
 }
 
 #[test]
@@ -255,6 +260,14 @@ fn a_crash_in_place_keeps_a_record_whose_gate_is_open(rt: HostRuntime) {
         }
     }
     assert!(rt; found_in_place(&rt, 0, 3, 1) == 2);
+}
+
+#[test]
+fn a_fresh_log_takes_records(rt: HostRuntime) {
+    let mut log = Log::fresh(rt.alloc()).expect(&rt, "memory for a log");
+    let appended = log.append_running(rt.alloc(), &Record::Boot);
+    let is_one_boot = holds(&rt, log.into_disk(), &ONE_BOOT);
+    assert!(rt; appended.is_ok() && is_one_boot);
 }
 
 #[test]

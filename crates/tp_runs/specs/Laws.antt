@@ -1,6 +1,6 @@
 -- What holds of every run of the machine.
 use Rattle.std.specs.Prelude.{◌≡◌, ◌*◌, ◌≤◌, ◌&&◌, Bool, List, length, not, true, ℕ}
-use Rattle.tp_model.specs.Words.{Record, Scenario, Step, TxnId}
+use Rattle.tp_model.specs.Words.{Scenario, Step, TxnId}
 use Rattle.tp_model.specs.Built.{is_built}
 use Rattle.tp_model.specs.SerialRun.{store_of}
 use Rattle.tp_model.specs.TrustedHistory.{TrustedSoFar, have_ended}
@@ -8,11 +8,8 @@ use Rattle.tp_machine.specs.declared.actors.Actors.{Actors}
 use Rattle.tp_machine.specs.Machine.{State, after, ending_of, is_armed_at, is_submitted}
 use Rattle.tp_machine.specs.WorldView.{WorldView}
 use Rattle.tp_types.specs.Each.{Each}
-use Rattle.tp_coord.specs.State.{Coordinator}
+use Rattle.tp_machine.specs.Fits.{AllFitLogs}
 use Rattle.tp_machine.specs.Named.{IsStepOf, IsTxn}
-use Rattle.tp_machine.specs.Parts.{Part}
-use Rattle.tp_record.specs.Spelling.{spelling}
-use Rattle.tp_server.specs.State.{Server}
 
 -- the history of a state is trusted at this moment
 abbrev pub IsTrustedState : Scenario → State → Type 0
@@ -69,22 +66,7 @@ SendsFewMails =
     (sc : Scenario) (steps : List Step) → is_built sc ≡ true → Each (IsStepOf sc) steps
     → length (after sc steps).state.mails ≤ mails_most * length steps
 
--- the most bytes that a log takes of a record (`body_max` of tp_log)
-abbrev pub body_most : ℕ
-body_most = 1048576
-
--- the record is not too long for a log
-abbrev pub FitsLog : Record → Type 0
-FitsLog kept = length (spelling kept) ≤ body_most
-
--- no record on an actor's log is too long
-pub record FitLogs (w : State) : Type 0 where
-  pub servers : Each (λ (part : Part Server). Each FitsLog part.log) w.actors.servers
-  pub coordinators : Each (λ (part : Part Coordinator). Each FitsLog part.log) w.actors.coordinators
-
 -- of every scenario that is run, after every list of steps that name what exists, each record on each actor's log fits
 -- a log
 abbrev pub AlwaysFitLogs : Type 0
-AlwaysFitLogs =
-    (sc : Scenario) (steps : List Step) → is_built sc ≡ true → Each (IsStepOf sc) steps
-    → FitLogs (after sc steps).state
+AlwaysFitLogs = (sc : Scenario) → is_built sc ≡ true → AllFitLogs sc

@@ -2,14 +2,26 @@
 ghost use Rattle.std.specs.Prelude.{◌≡◌, ◌≤◌, ◌*◌, length, true, false, IfOk, IsErr, OnOk};
 ghost use Rattle.tp_model.specs.SerialRun.{overlay, store_of};
 ghost use Rattle.tp_model.specs.TrustedHistory.{have_ended};
+ghost use Rattle.tp_model.specs.Built as built;
 ghost use Rattle.tp_machine.specs.Machine.{ending_of};
+ghost use Rattle.tp_machine.specs.WorldView as views;
 ghost use Rattle.tp_runs.specs.Bounded.{AreBounded};
 ghost use Rattle.tp_runs.specs.Laws.{HasAllEnds, IsTrustedSoFar, mails_most};
 ghost use Rattle.tp_runs.specs.Sound.{IsSound};
 
+use crate::laws::records_fit;
 use std::alloc::Global;
 use tp_machine::World;
-use tp_types::{Ending, Fact, List, NoMemory};
+use tp_types::{Ending, Fact, List, NoMemory, Scenario};
+
+/// The world of a scenario before its first step. No run of it makes a record that a log does not take.
+pub fn start(alloc: Global, scenario: &Scenario) -> Result<World, NoMemory>
+    requires { built.is_built scenario.now ≡ true }
+    ensures { IfOk result (λ world. world ≡ views.start scenario.now) }
+{
+    records_fit();
+    World::start(alloc, scenario)
+}
 
 /// What happened so far, in order. It is a trusted history at every moment; all that mails, records and facts name exists; and all
 /// values are far from the ends of their numbers.

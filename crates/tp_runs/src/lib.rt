@@ -31,7 +31,8 @@
 //! - The law behind it: of every scenario that is run, no list of steps that name what exists sends more than
 //!   128 times as many mails as it has steps (`laws::mails_are_few`)
 //! - Of every scenario that is run, after every list of steps that name what exists, no record on an actor's log is
-//!   too long for a log (`laws::records_fit`)
+//!   too long for a log (`laws::records_fit`); so the world of each such scenario can be started, and its actors force
+//!   what they log without a refusal but for want of memory (`history::start`)
 //!
 //! These hold after every list of steps, in any order, with losses, timers, and deliveries of any mail ever sent;
 //! agreement, trust with causes, and serial data also of a world that was given up. The calls lean on the condition of

@@ -1,5 +1,5 @@
 -- How far a drain has come after so many of its steps.
-use Rattle.std.proofs.Common.{◌≡◌, ◌≢◌, ℕ, ◌+◌, ◌-◌, ◌<◌, ◌≤◌, List, [], ◌∷◌, ◌++◌, length, take, drop, true, false, Option, Some, None, is_some, is_none, zero, suc, if◌then◌else◌, refl, sym, ap, subst, ◌∙◌, arith}
+use Rattle.std.proofs.Common.{◌≡◌, ◌≢◌, ℕ, ◌+◌, ◌-◌, ◌<◌, ◌≤◌, List, [], ◌∷◌, ◌++◌, length, take, drop, true, false, Option, Some, None, is_some, is_none, zero, suc, slice_get, if◌then◌else◌, refl, sym, ap, subst, ◌∙◌, arith}
 use Rattle.std.specs.Option.{option_map_or}
 use Rattle.std.specs.Prelude.{Err, IsErrOf}
 use Rattle.std.proofs.Math.Seq.{take-add}
@@ -23,6 +23,12 @@ drop_more k xs y ys e = sym (drop-drop 1 k xs) ∙ ap (drop 1) e
 
 within_more : {A : Type 0} (k : ℕ) (xs : List A) (y : A) (ys : List A) → drop k xs ≡ y ∷ ys → k < length xs
 within_more k xs y ys e = omega (arith, length-drop k xs, ap length e)
+
+next_at : {A : Type 0} (k : ℕ) (xs : List A) (y : A) (ys : List A) → drop k xs ≡ y ∷ ys → slice_get xs k ≡ Some y
+next_at zero [] y ys e = absurd cc
+next_at {A} zero (x ∷ xs) y ys e = ap (λ (zs : List A). slice_get zs 0) e
+next_at (suc k) [] y ys e = absurd cc
+next_at (suc k) (x ∷ xs) y ys e = next_at k xs y ys e
 
 none_more : {A : Type 0} (k : ℕ) (xs : List A) → drop k xs ≡ [] → length xs ≤ k
 none_more k xs e = omega (arith, length-drop k xs, ap length e)
@@ -140,17 +146,18 @@ is_spent old new budget cursor taken so e =
 
 -- memory is refused in the next step
 pub stops : (old mid new : WorldView) (budget count cursor : ℕ) (taken : Step) → SoFar old mid budget count cursor → count < budget
-    → Some taken ≡ next_of mid.scenario mid.machine cursor → refusal mid.machine.state taken ≡ None → GivesUp mid new → Stops old new budget
+    → Some taken ≡ next_of mid.scenario mid.machine cursor → refusal mid.machine.state taken ≡ None → GivesUp mid new taken → Stops old new budget
 stops old mid new budget count cursor taken so more e ok gave =
     record {
       count = count;
-      within = within_more count (steps_of old budget) taken _ (rest_more old mid budget count cursor taken so more e ok);
-      gave_up = subst (λ (w : WorldView). GivesUp w new) so.now gave;
+      next = taken;
+      is_next = next_at count (steps_of old budget) taken _ (rest_more old mid budget count cursor taken so more e ok);
+      gave_up = subst (λ (w : WorldView). GivesUp w new taken) so.now gave;
     }
 
 -- a step that is not refused fails only for want of memory
 pub gives_up : (old new : WorldView) (taken : Step) (why : StepError) → refusal old.machine.state taken ≡ None
-    → (why ≢ error.NoMemory → Refuses old new taken why) → (IsErrOf {T = Unit {0}} (Err why) error.NoMemory → GivesUp old new) → GivesUp old new
+    → (why ≢ error.NoMemory → Refuses old new taken why) → (IsErrOf {T = Unit {0}} (Err why) error.NoMemory → GivesUp old new taken) → GivesUp old new taken
 gives_up old new taken (error.NoSuchMail mail mails) ok refused memory =
     let r = refused (λ h. cc) in
     absurd (cc (ok, r.reason))

@@ -82,8 +82,9 @@ pub record IsSpent (old new : WorldView) (budget : ℕ) : Type 0 where
 -- memory was refused in one of those steps, after the ones before it were done
 pub record Stops (old new : WorldView) (budget : ℕ) : Type 0 where
   pub count : ℕ
-  pub within : count < length (steps_of old budget)
-  pub gave_up : GivesUp (world_after old (take count (steps_of old budget))) new
+  pub next : Step
+  pub is_next : slice_get (steps_of old budget) count ≡ Some next
+  pub gave_up : GivesUp (world_after old (take count (steps_of old budget))) new next
 
 -- ---- how many steps are allowed
 

@@ -91,7 +91,7 @@ fn run(alloc: Global, scenario: &Scenario) -> Result<Answer, NoMemory>
     requires { built.is_built scenario.now ≡ true }
     ensures { IfOk result (IsReported scenario.now) }
 {
-    let mut world = World::start(alloc, scenario)?;
+    let mut world = history::start(alloc, scenario)?;
     let answer = run_in(alloc, &mut world, scenario);
     drop(world);
     answer

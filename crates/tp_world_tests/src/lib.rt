@@ -1,7 +1,12 @@
-//! The tests of what stands on the machine: calls on a world that no scenario makes, reports of facts that no run yields yet, and
+//! The tests of what stands on the machine: calls on a world that no scenario makes, a world
+//! that is refused memory, reports of facts that no run yields yet, and
 //! top calls whose source or sinks fail. Expected values were worked out by hand. Whole runs are the cases of tp_cases.
 #![tactic(auto)]
 
+#[cfg(test)]
+mod part;
+#[cfg(test)]
+mod refused;
 #[cfg(test)]
 mod report;
 #[cfg(test)]

@@ -3,6 +3,7 @@
 use crate::run::FIRST;
 use std::process::Abort;
 use tp_machine::{StepError, World};
+use tp_runs::history::start as start_of;
 use tp_scenario::read;
 use tp_top::auto::{Drained, bound, drain, next};
 use tp_types::{Fact, Step, TxnId, What};
@@ -15,7 +16,7 @@ const BOUND: u64 = (2 * 27 + 3 + 1) * 16 * 2 * 2 + 1 + 1 + 2;
 
 fn start(rt: &(impl Abort + AllocGlobal)) -> World {
     let scenario = read(rt.alloc(), FIRST.as_bytes()).ok();
-    let made = World::start(rt.alloc(), &scenario.expect(rt, "a scenario"));
+    let made = start_of(rt.alloc(), &scenario.expect(rt, "a scenario"));
     made.ok().expect(rt, "memory for a world")
 }
 

@@ -99,10 +99,15 @@ steps_next sc m (step.Lose mail) h = refl
 steps_next sc m (step.Timer txn) h = refl
 steps_next sc m _ h = absurd h
 
+-- the machine after these steps and one more that is not refused
+pub after_next : (sc : Scenario) (m : Machine) (taken : Step) → m ≡ after sc m.state.steps → refusal m.state taken ≡ None → after sc (m.state.steps ++ taken ∷ []) ≡ machine_after sc m taken
+after_next sc m taken reached ok =
+    after_steps-snoc sc (opening sc) m.state.steps taken
+    ∙ (ap (λ (k : Machine). after_step sc k taken) (sym reached) ∙ allowed sc m taken (refusal m.state taken) ok)
+
 -- a machine that its steps give is given by them after one more step
 pub reached_next : (sc : Scenario) (m next : Machine) (taken : Step) → IsBuiltStep taken → m ≡ after sc m.state.steps → refusal m.state taken ≡ None
     → next ≡ machine_after sc m taken → next ≡ after sc next.state.steps
 reached_next sc m next taken is_taken reached ok e =
     let steps : next.state.steps ≡ m.state.steps ++ taken ∷ [] = ap (λ (k : Machine). k.state.steps) e ∙ steps_next sc m taken is_taken in
-    let more = after_steps-snoc sc (opening sc) m.state.steps taken in
-    e ∙ sym (ap (after sc) steps ∙ (more ∙ (ap (λ (k : Machine). after_step sc k taken) (sym reached) ∙ allowed sc m taken (refusal m.state taken) ok)))
+    e ∙ sym (ap (after sc) steps ∙ after_next sc m taken reached ok)

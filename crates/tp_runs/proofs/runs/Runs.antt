@@ -56,7 +56,8 @@ use Rattle.tp_runs.proofs.trusted.Steps.{trusts_next, trusts_opening}
 use Rattle.tp_runs.proofs.trust.World.{Trusts}
 use Rattle.tp_runs.proofs.walks.Crashes.{CrashCases, crash_cases_as, crash_cases_both}
 use Rattle.tp_runs.specs.Bounded.{AreBounded}
-use Rattle.tp_runs.specs.Laws.{FitLogs, HasAllCommits, HasAllEnds, IsTrustedState, mails_most}
+use Rattle.tp_runs.specs.Laws.{HasAllCommits, HasAllEnds, IsTrustedState, mails_most}
+use Rattle.tp_machine.specs.Fits.{AllFitLogs}
 use Rattle.tp_machine.specs.Machine.{Machine, State, after, after_step, after_steps, is_down, machine_after, opening, opening_state, refusal, state_after}
 use Rattle.tp_types.specs.Each.{Each}
 use Rattle.tp_runs.specs.Sound.{IsSound}
@@ -218,8 +219,8 @@ pub sends_few : (sc : Scenario) (steps : List Step) → is_built sc ≡ true →
 sends_few sc steps built exist = omega (arith, few_mails (after sc steps).state (holds_after sc steps built exist).few, steps_counted sc (opening sc) steps)
 
 -- and no record on an actor's log is too long for a log
-pub always_fit : (sc : Scenario) (steps : List Step) → is_built sc ≡ true → Each (IsStepOf sc) steps → FitLogs (after sc steps).state
-always_fit sc steps built exist = let h = holds_after sc steps built exist in all_fit sc (after sc steps).state (valid_built sc built) h.sound h.sizes
+pub always_fit : (sc : Scenario) → is_built sc ≡ true → AllFitLogs sc
+always_fit sc built steps exist = let h = holds_after sc steps built exist in all_fit sc (after sc steps).state (valid_built sc built) h.sound h.sizes
 
 -- ---- the same of a world that the steps give
 

@@ -19,7 +19,7 @@ use Rattle.tp_record.specs.Spelling as spell
 use Rattle.tp_record.specs.Spelling.{content, list, long, option, short, value}
 use Rattle.tp_runs.proofs.basics.Uses.{creds_few}
 use Rattle.tp_runs.proofs.ids.Valid.{IsValid}
-use Rattle.tp_runs.specs.Laws.{FitLogs, FitsLog}
+use Rattle.tp_machine.specs.Fits.{FitLogs, FitsLog}
 use Rattle.tp_runs.proofs.sizes.Counts.{IsSmallAtCoordinator, IsSmallAtServer, IsSmallCause, IsSmallCommit, IsSmallDecision, IsSmallInstance, IsSmallVote}
 use Rattle.tp_runs.proofs.sizes.World.{Sizes}
 use Rattle.tp_runs.specs.Sound.{AreVersionsOf, IsSound, IsSoundCommit, IsSoundCoordinatorRecord, IsSoundDecision, IsSoundInstance, IsSoundPrepared, IsSoundProof, IsSoundServerRecord, IsSoundVerdict}
@@ -247,7 +247,7 @@ coordinator_fits sc txn kept valid h few = omega (arith, spelled_most kept 28814
 -- ---- the world
 
 -- no record on an actor's log is too long
-pub all_fit : (sc : Scenario) (w : State) → IsValid sc → IsSound sc w → Sizes w → FitLogs w
+pub all_fit : (sc : Scenario) (w : State) → IsValid sc → IsSound sc w → Sizes w → FitLogs w.actors
 all_fit sc w valid sound h =
     record {
       servers = each_placed (λ (part : Part Server). Each FitsLog part.log) w.actors.servers

@@ -1,9 +1,11 @@
 use Rattle.std.proofs.Common.{◌≡◌, [], ◌∷◌, ◌++◌, ap, sym, subst, ◌∙◌}
 use Rattle.tp_machine.specs.Machine.{Machine, after}
-use Rattle.tp_machine.specs.WorldView.{WorldView, machine_of}
+use Rattle.tp_machine.specs.WorldView.{HasAllActors, WorldView, machine_of}
 use Rattle.tp_types.specs.Each.{Each}
 use Rattle.tp_machine.specs.Named.{IsStepOf}
-use Rattle.tp_machine.proofs.basics.Machine.{reached_next, steps_next}
+use Rattle.tp_machine.specs.Fits.{FitLogs}
+use Rattle.tp_machine.proofs.basics.Fits.{all_after, all_stay}
+use Rattle.tp_machine.proofs.basics.Machine.{after_next, reached_next, steps_next}
 use Rattle.tp_machine.proofs.basics.Rules.{few_rules}
 use Rattle.tp_types.proofs.EachLemmas.{each_more}
 use Rattle.tp_machine.proofs.world.World.step.Goals as goal
@@ -20,6 +22,8 @@ invariant_of-self c =
     let reached : new ≡ after sc new.state.steps = reached_next sc old new taken c.requires.built (c.self.invariant.reached c.if-self.false) (sym c.in-None.ensures) c.in-Ok.ensures.ok in
     record {
       built = c.self.invariant.built;
+      fit = c.self.invariant.fit;
+      whole = subst (λ (m : Machine). HasAllActors sc m.state.actors) (sym c.in-Ok.ensures.ok) (all_after sc old taken c.self.invariant.whole);
       named = named;
       told = ap (λ (m : Machine). m.state.facts) reached;
       reached = λ up. reached;
@@ -27,3 +31,12 @@ invariant_of-self c =
 
 pub act-requires-clause-few : goal.act-requires-clause-few
 act-requires-clause-few c = few_rules c.self.inside.scenario c.self.invariant.built
+
+pub act-requires-clause-fits : goal.act-requires-clause-fits
+act-requires-clause-fits c =
+    let sc = c.self.inside.scenario in
+    let taken = c.args.taken.now in
+    let old = machine_of c.self.inside.actors c.self.inside.history in
+    let exists : IsStepOf sc taken = subst (λ (w : WorldView). IsStepOf w.scenario taken) (sym c.self.view_is) c.requires.ids in
+    subst (λ (m : Machine). FitLogs m.state.actors) (after_next sc old taken (c.self.invariant.reached c.if-self.false) (sym c.in-None.ensures))
+    (c.self.invariant.fit (old.state.steps ++ taken ∷ []) (each_more (IsStepOf sc) old.state.steps taken c.self.invariant.named exists))

@@ -1,0 +1,29 @@
+-- Records that a log takes.
+use Rattle.std.specs.Prelude.{length, ◌≤◌, List}
+use Rattle.tp_coord.specs.State.{Coordinator}
+use Rattle.tp_log.specs.Logs.{body_max}
+use Rattle.tp_model.specs.Words.{Record, Scenario, Step}
+use Rattle.tp_record.specs.Spelling.{spelling}
+use Rattle.tp_server.specs.State.{Server}
+use Rattle.tp_types.specs.Each.{Each}
+use Rattle.tp_machine.specs.declared.actors.Actors.{Actors}
+use Rattle.tp_machine.specs.Machine.{after}
+use Rattle.tp_machine.specs.Named.{IsStepOf}
+use Rattle.tp_machine.specs.Parts.{Part}
+
+-- the record is not too long for a log
+abbrev pub FitsLog : Record → Type 0
+FitsLog kept = length (spelling kept) ≤ body_max
+
+-- nor is any on an actor's log
+abbrev pub HasShortLog : {S : Type 0} → Part S → Type 0
+HasShortLog part = Each FitsLog part.log
+
+-- no record on an actor's log is too long
+pub record FitLogs (actors : Actors) : Type 0 where
+  pub servers : Each (λ (part : Part Server). HasShortLog part) actors.servers
+  pub coordinators : Each (λ (part : Part Coordinator). HasShortLog part) actors.coordinators
+
+-- nor is any after a list of steps that name what exists
+abbrev pub AllFitLogs : Scenario → Type 0
+AllFitLogs sc = (steps : List Step) → Each (IsStepOf sc) steps → FitLogs (after sc steps).state.actors
