@@ -151,7 +151,7 @@ fn all_is_kept_by_transaction(rt: HostRuntime) {
     assert!(rt; kept.epoch == 1 && kept.in_order.len() == 1);
     assert!(rt; has_settled(&kept, 0) && !has_prepared(&kept, 0));
     assert!(rt; has_prepared(&kept, 1) && !has_settled(&kept, 1));
-    assert!(rt; kept.values.as_slice() == [8, 0, MOST]);
+    assert!(rt; kept.values.as_slice() == [8, 0, MOST].as_slice());
     drop(kept);
 }
 
