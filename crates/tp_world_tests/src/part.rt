@@ -38,6 +38,10 @@ fn an_actor_keeps_its_log_over_a_crash(rt: HostRuntime) {
 /// How many records an actor has that crashed within its second append, after so many calls of its disk.
 fn cut_after(rt: &(impl Abort + AllocGlobal), calls: u32, fill: u8) -> usize {
     let mut part = logged_once(rt);
+    if part.is_down() {
+        drop(part);
+        return 0;
+    }
     let cut = part.cut(rt.alloc(), &Record::Boot, calls, fill);
     cut.expect(rt, "memory for a record");
     reread(rt, part)

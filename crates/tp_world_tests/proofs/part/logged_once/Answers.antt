@@ -1,0 +1,7 @@
+use Rattle.std.proofs.Common.{arith}
+use Rattle.tp_record.specs.Spelling.{short}
+use Rattle.tp_world_tests.proofs.part.logged_once.Goals as goal
+
+pub force-forced-requires-clause-fits : goal.force-forced-requires-clause-fits
+unfolding short
+force-forced-requires-clause-fits c = omega arith
