@@ -31,6 +31,9 @@ use spelled::{Spelled, write_count};
 use std::alloc::Global;
 use tp_types::{List, NoMemory, Record, Text};
 
+/// Room for the content of a usual record, in bytes, so that it does not grow as it is written.
+const USUAL: usize = 256;
+
 /// The one spelling of a record. It is meant for records whose spelling has fewer than 2^32 bytes: of a longer one
 /// the length field has the lowest 32 bits, and no reader finds the record again.
 /// It asks nothing of the record, since a log has to tell one that is too long from one that fits, and so spells
@@ -40,9 +43,10 @@ pub fn encode(alloc: Global, r: &Record) -> Result<Text, NoMemory>
     ensures spelled { IfOk result (λ text. text.0 ≡ spell.spelling r.now) }
     ensures range { OnOk result (IsInRange r.now) }
 {
-    let mut content = Vec::new(alloc);
+    let mut content = Vec::with_capacity(alloc, USUAL)?;
     r.write_to(&mut content)?;
-    let mut body = Vec::new(alloc);
+    // a log puts one byte behind the body
+    let mut body = Vec::with_capacity(alloc, content.len().saturating_add(5))?;
     write_count(&mut body, content.len())?;
     body.extend_from_slice(&content)?;
     Ok(Text(List::from_vec(body)))
