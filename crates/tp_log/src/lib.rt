@@ -30,8 +30,8 @@
 //!   of it is stopped. Where such a crash is refused the log keeps its records (`Log::stop_after`, `crash`,
 //!   `crash_in_append`, `run_on`)
 //! - Where no call of the disk is stopped an append of a record that is not too long to an open log is refused for want
-//!   of memory alone, and the log keeps its records then (`Log::append_running`). A fresh log is open, on such a disk,
-//!   and empty (`Log::fresh`)
+//!   of memory alone, and the log keeps its records then (`Log::append_running`, `is_open`). A fresh log is open, on
+//!   such a disk, and empty (`Log::fresh`)
 //! - What the bytes of the disk give is read without a call of it, and a log is opened anew without giving its disk up
 //!   (`Log::records`, `reread`)
 #![tactic(auto)]

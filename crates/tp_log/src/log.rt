@@ -145,7 +145,7 @@ impl<D: Disk> Log<D> {
 }
 
 impl Log<MemoryDisk> {
-    ghost use Rattle.std.specs.Prelude.{◌≡◌, ◌≢◌, ◌<◌, ◌≤◌, [], ◌∷◌, ◌++◌, List, length, Some, None, true, false, Err, IfErr, IfOk, OnErr, OnOk};
+    ghost use Rattle.std.specs.Prelude.{◌≡◌, ◌≢◌, ◌<◌, ◌≤◌, [], ◌∷◌, ◌++◌, List, length, Some, None, true, false, not, Err, IfErr, IfOk, OnErr, OnOk};
     ghost use Rattle.tp_record.specs.Spelling.{spelling};
     ghost use Rattle.tp_types.specs.declared.records.Record.{Record};
     ghost use Rattle.tp_device.specs.Disks.{MayLeave, after_sync, clean_state};
@@ -201,6 +201,13 @@ impl Log<MemoryDisk> {
         ensures { self.new ≡ record self.old { disk = record self.old.disk { left = None } } }
     {
         self.disk.run_on();
+    }
+
+    /// Whether the log takes records: no append has failed, and it did not crash since it was read.
+    pub fn is_open(&self) -> bool
+        ensures { result ≡ not self.now.closed }
+    {
+        !self.closed
     }
 
     /// Crashes the disk, on which what is unsynced then reads `fill`, and closes the log.

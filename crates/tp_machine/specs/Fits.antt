@@ -1,8 +1,9 @@
 -- Records that a log takes.
-use Rattle.std.specs.Prelude.{length, ◌≤◌, List}
+use Rattle.std.specs.Prelude.{length, ◌≤◌, List, Some}
 use Rattle.tp_coord.specs.State.{Coordinator}
 use Rattle.tp_log.specs.Logs.{body_max}
 use Rattle.tp_model.specs.Words.{Record, Scenario, Step}
+use Rattle.tp_model.specs.Words.step
 use Rattle.tp_record.specs.Spelling.{spelling}
 use Rattle.tp_server.specs.State.{Server}
 use Rattle.tp_types.specs.Each.{Each}
@@ -23,6 +24,11 @@ HasShortLog part = Each FitsLog part.log
 pub record FitLogs (actors : Actors) : Type 0 where
   pub servers : Each (λ (part : Part Server). HasShortLog part) actors.servers
   pub coordinators : Each (λ (part : Part Coordinator). HasShortLog part) actors.coordinators
+
+-- the step by which a step begins: where an actor crashes in the receipt of a mail that receipt, else the step itself
+abbrev pub received : Step → Step
+received (step.Crash who (Some cut)) = step.Deliver cut.mail
+received taken = taken
 
 -- nor is any after a list of steps that name what exists
 abbrev pub AllFitLogs : Scenario → Type 0

@@ -1,4 +1,3 @@
-pub mod Crashes
 pub mod Fits
 pub mod Logs
 pub mod Machine

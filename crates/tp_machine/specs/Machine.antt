@@ -1,8 +1,8 @@
 -- The cluster as a machine: its state, what a step does to it, and the state after a list of steps.
-use Rattle.std.specs.Prelude.{ℕ, ◌+◌, ◌-◌, ◌==◌, List, [], ◌∷◌, ◌++◌, length, map, filter, drop, slice_get, slice_set, Bool, true, false, not, Option, Some, None, is_some, is_none, nat_lt, unwrap_or, ℤ, if◌then◌else◌}
+use Rattle.std.specs.Prelude.{ℕ, ◌+◌, ◌-◌, ◌==◌, ◌&&◌, ◌||◌, List, [], ◌∷◌, ◌++◌, length, map, filter, drop, slice_get, slice_set, Bool, true, false, not, Option, Some, None, is_some, is_none, nat_le, nat_lt, option_and_then, unwrap_or, ℤ, if◌then◌else◌}
 use Rattle.std.specs.List.{flat_map, range_with_len}
 use Rattle.std.specs.Option.{option_map_or, option_or}
-use Rattle.tp_model.specs.Words.{Actor, AdminId, CredId, Ending, Fact, Item, Letter, Mail, Record, Scenario, ServerId, Step, TxnId, What}
+use Rattle.tp_model.specs.Words.{Actor, AdminId, CredId, Cut, Ending, Fact, Item, Letter, Mail, Record, Scenario, ServerId, Step, TxnId, What}
 use Rattle.tp_model.specs.Words.actor
 use Rattle.tp_model.specs.Words.log
 use Rattle.tp_model.specs.Words.step
@@ -14,11 +14,14 @@ use Rattle.tp_machine.specs.declared.error.StepError.TheVariants as error
 use Rattle.tp_machine.specs.Parts.{Part}
 use Rattle.tp_server.specs.State.{Server}
 use Rattle.tp_types.specs.Effect.{Effect}
+use Rattle.tp_recover.specs.Kept.{kept}
+use Rattle.tp_coord.specs.Booted as coord_boot
 use Rattle.tp_coord.specs.Opened as coord
 use Rattle.tp_coord.specs.Row.{coordinator_row, is_armed, is_begun, submit_row, timer_row, coordinator_with_age}
 use Rattle.tp_offices.specs.Authority as office
 use Rattle.tp_offices.specs.Master as master
 use Rattle.tp_offices.specs.declared.master.Master.{Master}
+use Rattle.tp_server.specs.Booted as server_boot
 use Rattle.tp_server.specs.Opened as server
 use Rattle.tp_server.specs.Row.{server_row}
 
@@ -264,6 +267,109 @@ times sc actors txn =
           (slice_get actors.coordinators txn.0) [];
     }
 
+-- ---- crashes
+
+-- an actor goes down, with what its log has gained by then; nothing is sent
+abbrev pub goes_down : {S : Type 0} → (Record → List What) → List What → Part S → Option Record
+    → PartMove S
+goes_down fact own part append = acts fact own part.log None (log_with part.log append) []
+
+-- a record is on the log where all four calls of its append passed, or three did and its gate, which was not synced, reads 1
+abbrev pub is_kept : Cut → Bool
+is_kept cut = nat_le 4 cut.calls || (cut.calls == 3 && cut.fill == 1)
+
+-- what a cut leaves of the record that was to be forced
+abbrev pub cut_record : Cut → Option Record → Option Record
+cut_record cut None = None
+cut_record cut (Some forced) = if is_kept cut then Some forced else None
+
+-- the record that a server forces on a mail, while it is up
+abbrev pub server_forces : Scenario → Option Server → Mail → Option Record
+server_forces sc None mail = None
+server_forces sc (Some s) mail = (server_row sc s mail).reaction.append
+
+-- what is left of a server's receipt where it crashes in one
+abbrev pub server_left : Scenario → List Mail → Option Server → Option Cut → Option Record
+server_left sc mails up None = None
+server_left sc mails up (Some cut) =
+    cut_record cut (option_and_then (server_forces sc up) (slice_get mails cut.mail))
+
+abbrev pub server_crashes : Scenario → List Mail → ServerId → Option Cut → Part Server
+    → PartMove Server
+server_crashes sc mails at cut part =
+    goes_down (server_fact at) (what.Crashed (actor.Server at) ∷ []) part
+    (server_left sc mails part.up cut)
+
+-- the record that a coordinator forces on a mail, while it is up
+abbrev pub coordinator_forces : Scenario → Option Coordinator → Mail → Option Record
+coordinator_forces sc None mail = None
+coordinator_forces sc (Some c) mail = (coordinator_row sc c mail).reaction.append
+
+-- what is left of a coordinator's receipt where it crashes in one
+abbrev pub coordinator_left : Scenario → List Mail → Option Coordinator → Option Cut
+    → Option Record
+coordinator_left sc mails up None = None
+coordinator_left sc mails up (Some cut) =
+    cut_record cut (option_and_then (coordinator_forces sc up) (slice_get mails cut.mail))
+
+abbrev pub coordinator_crashes : Scenario → List Mail → TxnId → Option Cut → Part Coordinator
+    → PartMove Coordinator
+coordinator_crashes sc mails txn cut part =
+    goes_down coordinator_fact (what.Crashed (actor.Coordinator txn) ∷ []) part
+    (coordinator_left sc mails part.up cut)
+
+abbrev pub crash_of_server : Scenario → Actors → List Mail → ServerId → Option Cut
+    → Option (Part Server) → Move
+crash_of_server sc actors mails at cut None =
+    idle_move actors (what.Crashed (actor.Server at) ∷ [])
+crash_of_server sc actors mails at cut (Some part) =
+    server_move actors at (server_crashes sc mails at cut part)
+
+abbrev pub crash_of_coordinator : Scenario → Actors → List Mail → TxnId → Option Cut
+    → Option (Part Coordinator) → Move
+crash_of_coordinator sc actors mails txn cut None =
+    idle_move actors (what.Crashed (actor.Coordinator txn) ∷ [])
+crash_of_coordinator sc actors mails txn cut (Some part) =
+    coordinator_move actors txn (coordinator_crashes sc mails txn cut part)
+
+-- an actor crashes; with a cut it does so in the receipt of a mail. The offices never do
+abbrev pub crashes : Scenario → Actors → List Mail → Actor → Option Cut → Move
+crashes sc actors mails (actor.Server at) cut =
+    crash_of_server sc actors mails at cut (slice_get actors.servers at.0)
+crashes sc actors mails (actor.Coordinator txn) cut =
+    crash_of_coordinator sc actors mails txn cut (slice_get actors.coordinators txn.0)
+crashes sc actors mails who cut = idle_move actors (what.Crashed who ∷ [])
+
+-- ---- boots
+
+-- a server boots by what its log comes to
+abbrev pub server_boots : Scenario → ServerId → Part Server → PartMove Server
+server_boots sc at part =
+    acts_by (server_fact at) [] part.log (server_boot.boot_row sc at (kept sc at part.log))
+
+abbrev pub coordinator_boots : Scenario → TxnId → Part Coordinator → PartMove Coordinator
+coordinator_boots sc txn part =
+    acts_by coordinator_fact [] part.log (coord_boot.boot_row sc txn part.log)
+
+abbrev pub boot_of_server : Scenario → Actors → ServerId → Option (Part Server) → Move
+boot_of_server sc actors at None = idle_move actors []
+boot_of_server sc actors at (Some part) = server_move actors at (server_boots sc at part)
+
+abbrev pub boot_of_coordinator : Scenario → Actors → TxnId → Option (Part Coordinator) → Move
+boot_of_coordinator sc actors txn None = idle_move actors []
+boot_of_coordinator sc actors txn (Some part) =
+    coordinator_move actors txn (coordinator_boots sc txn part)
+
+-- an actor boots
+abbrev pub boots : Scenario → Actors → Actor → Move
+boots sc actors (actor.Server at) =
+    boot_of_server sc actors at (slice_get actors.servers at.0)
+boots sc actors (actor.Coordinator txn) =
+    boot_of_coordinator sc actors txn (slice_get actors.coordinators txn.0)
+boots sc actors who = idle_move actors []
+
+-- ---- the machine after a step
+
 -- the numbers but this one
 abbrev pub without_number : List ℕ → ℕ → List ℕ
 without_number numbers number = filter (λ (other : ℕ). not (other == number)) numbers
@@ -288,10 +394,6 @@ machine_after_loss m mail =
     (state_after m.state (step.Lose mail) (idle_move m.state.actors (what.Lost mail ∷ [])))
     (without_number m.undelivered mail)
 
--- a step that is not built changes nothing so far
-abbrev pub unbuilt_step : Machine → Machine
-unbuilt_step m = m
-
 -- the machine after a step that is not refused
 abbrev pub machine_after : Scenario → Machine → Step → Machine
 machine_after sc m (step.Submit txn) =
@@ -310,7 +412,14 @@ machine_after sc m (step.Tick by) = does m (step.Tick by) (ticks m.state.actors 
 machine_after sc m (step.Revoke cred) = does m (step.Revoke cred) (revokes m.state.actors cred)
 machine_after sc m (step.Timer txn) =
     does m (step.Timer txn) (times sc m.state.actors txn)
-machine_after sc m _ = unbuilt_step m
+machine_after sc m (step.Crash who None) =
+    does m (step.Crash who None) (crashes sc m.state.actors m.state.mails who None)
+machine_after sc m (step.Crash who (Some cut)) =
+    with_new m.state
+    (state_after m.state (step.Crash who (Some cut))
+    (crashes sc m.state.actors m.state.mails who (Some cut)))
+    (without_number m.undelivered cut.mail)
+machine_after sc m (step.Boot who) = does m (step.Boot who) (boots sc m.state.actors who)
 
 -- a coordinator that is down was submitted before
 abbrev pub is_part_submitted : Option Coordinator → Bool
@@ -359,6 +468,44 @@ unsubmitted actors txn = if is_submitted actors txn then None else Some (error.N
 abbrev pub down_now : Actors → Actor → Option StepError
 down_now actors who = if is_down actors who then Some (error.IsDown who) else None
 
+-- an actor that is up
+abbrev pub up_now : Actors → Actor → Option StepError
+up_now actors who = if is_down actors who then None else Some (error.NotDown who)
+
+-- a coordinator whose transaction was not submitted; a server was there always
+abbrev pub unsubmitted_actor : Actors → Actor → Option StepError
+unsubmitted_actor actors (actor.Coordinator txn) = unsubmitted actors txn
+unsubmitted_actor actors _ = None
+
+-- the mail of a cut was sent
+abbrev pub missing_cut : List Mail → Option Cut → Option StepError
+missing_cut mails None = None
+missing_cut mails (Some cut) = missing_mail mails cut.mail
+
+abbrev pub same_actor : Actor → Actor → Bool
+same_actor (actor.Server one) (actor.Server other) = one.0 == other.0
+same_actor (actor.Coordinator one) (actor.Coordinator other) = one.0 == other.0
+same_actor actor.Master actor.Master = true
+same_actor actor.Authority actor.Authority = true
+same_actor _ _ = false
+
+-- a mail to another actor
+abbrev pub sent_elsewhere : Actor → ℕ → Option Mail → Option StepError
+sent_elsewhere who number None = None
+sent_elsewhere who number (Some mail) =
+    if same_actor mail.letter.to who then None else Some (error.NotItsMail number)
+
+abbrev pub cut_elsewhere : List Mail → Actor → Option Cut → Option StepError
+cut_elsewhere mails who None = None
+cut_elsewhere mails who (Some cut) = sent_elsewhere who cut.mail (slice_get mails cut.mail)
+
+-- why a crash is refused, if it is
+abbrev pub crash_refusal : State → Actor → Option Cut → Option StepError
+crash_refusal w who cut =
+    option_or (missing_cut w.mails cut)
+    (option_or (unsubmitted_actor w.actors who)
+    (option_or (down_now w.actors who) (cut_elsewhere w.mails who cut)))
+
 -- why a step is refused, if it is
 abbrev pub refusal : State → Step → Option StepError
 refusal w (step.Submit txn) =
@@ -369,6 +516,8 @@ refusal w (step.Publish admin) = none_left w.actors.master admin
 refusal w (step.Tick by) = too_late w.actors.authority.clock by
 refusal w (step.Timer txn) =
     option_or (unsubmitted w.actors txn) (down_now w.actors (actor.Coordinator txn))
+refusal w (step.Crash who cut) = crash_refusal w who cut
+refusal w (step.Boot who) = option_or (unsubmitted_actor w.actors who) (up_now w.actors who)
 refusal w _ = None
 
 -- a step that is refused changes nothing
@@ -418,30 +567,32 @@ after sc taken = after_steps sc (opening sc) taken
 
 -- ---- what is seen
 
--- what a server that is down holds is not built, so the opening value is shown so far
-abbrev pub unbuilt_value : ℤ → ℤ
-unbuilt_value opening = opening
+-- the values at a server: while it is down, those that its log leaves
+abbrev pub values_by_log : Scenario → ServerId → List Record → Option Server → List ℤ
+values_by_log sc at records None = (kept sc at records).values
+values_by_log sc at records (Some s) = s.store.values
 
-abbrev pub value_up : Option Server → ℕ → ℤ → ℤ
-value_up None item opening = unbuilt_value opening
-value_up (Some s) item opening = unwrap_or (slice_get s.store.values item) opening
+abbrev pub value_up : Scenario → ServerId → Part Server → ℕ → ℤ → ℤ
+value_up sc at part item opening =
+    unwrap_or (slice_get (values_by_log sc at part.log part.up) item) opening
 
 -- the value of an item at its server
-abbrev pub item_value : List (Part Server) → ℕ → Item → ℤ
-item_value servers item declared =
-    option_map_or (λ (part : Part Server). value_up part.up item declared.value)
+abbrev pub item_value : Scenario → List (Part Server) → ℕ → Item → ℤ
+item_value sc servers item declared =
+    option_map_or
+    (λ (part : Part Server). value_up sc declared.server part item declared.value)
     (slice_get servers declared.server.0) declared.value
 
 -- the values of items, the first having this number
-abbrev pub item_values : List (Part Server) → ℕ → List Item → List ℤ
-item_values servers first [] = []
-item_values servers first (item ∷ items) =
-    item_value servers first item ∷ item_values servers (first + 1) items
+abbrev pub item_values : Scenario → List (Part Server) → ℕ → List Item → List ℤ
+item_values sc servers first [] = []
+item_values sc servers first (item ∷ items) =
+    item_value sc servers first item ∷ item_values sc servers (first + 1) items
 
 -- how many steps and mails there were, and the value of each item
 abbrev pub ending_of : Scenario → State → Ending
 ending_of sc w = record {
   steps = length w.steps;
   mails = length w.mails;
-  values = item_values w.actors.servers 0 sc.items;
+  values = item_values sc w.actors.servers 0 sc.items;
 }

@@ -2,7 +2,6 @@
 use Rattle.std.specs.Prelude.{◌≡◌, length, Bool, true, false, Some, None}
 use Rattle.tp_model.specs.Words.{Actor, Scenario, Step}
 use Rattle.tp_model.specs.Words.actor
-use Rattle.tp_model.specs.Words.step
 use Rattle.tp_model.specs.Built.{is_built}
 use Rattle.tp_machine.specs.declared.actors.Actors.{Actors}
 use Rattle.tp_machine.specs.declared.history.History.{History}
@@ -70,18 +69,6 @@ pub record IsWorld (world : WorldView) : Type 0 where
   pub named : Each (IsStepOf world.scenario) world.machine.state.steps
   pub told : HasItsFacts world
   pub reached : IsReached world
-
--- a step of a kind that is built: every one but a crash and a boot
-abbrev pub IsBuiltStep : Step → Type 0
-IsBuiltStep (step.Submit txn) = Unit {0}
-IsBuiltStep (step.Deliver mail) = Unit {0}
-IsBuiltStep (step.Publish admin) = Unit {0}
-IsBuiltStep (step.Push admin server) = Unit {0}
-IsBuiltStep (step.Tick by) = Unit {0}
-IsBuiltStep (step.Revoke cred) = Unit {0}
-IsBuiltStep (step.Lose mail) = Unit {0}
-IsBuiltStep (step.Timer txn) = Unit {0}
-IsBuiltStep _ = ⊥
 
 -- the step was not refused, and was done
 pub record Does (old new : WorldView) (taken : Step) : Type 0 where

@@ -1,21 +1,26 @@
 //! All the actors of a world, and what a step does to them.
-ghost use Rattle.std.specs.Prelude.{◌≡◌, ◌+◌, ◌<◌, ◌^◌, ◌∷◌, [], length, map, slice_get, true, is_some, IfOk, IfSome, OnErr};
+ghost use Rattle.std.specs.Prelude.{◌≡◌, ◌+◌, ◌<◌, ◌^◌, ◌∷◌, [], List, Some, length, map, slice_get, true, is_some, IfOk, IfSome, OnErr};
 ghost use Rattle.std.specs.Option.{option_copied};
 ghost use Rattle.tp_machine.specs.Machine as machine;
+ghost use Rattle.tp_model.specs.Words.actor;
 ghost use Rattle.tp_server.specs.Verdicts.{HasFewRules};
 ghost use Rattle.tp_offices.specs.Authority.{clock_end};
 ghost use Rattle.tp_offices.specs.Master as office;
 
-use crate::part::{Act, Part, coordinator_submits, coordinator_takes, no_act, server_takes};
+use crate::part::{
+    Act, Part, coordinator_crashes_in, coordinator_submits, coordinator_takes, crashed, no_act,
+    server_crashes_in, server_takes,
+};
 use std::alloc::Global;
 use tp_coord::Coordinator;
 use tp_device::MemoryDisk;
 use tp_lock::PlainLocks;
 use tp_offices::{Authority, Master, NoMore};
+use tp_recover::kept_of;
 use tp_server::Server;
 use tp_types::{
-    Actor, AdminId, CredId, Item, List, Mail, NoMemory, Place, Reaction, Scenario, ServerId, TxnId,
-    What, both,
+    Actor, AdminId, CredId, Cut, Item, List, Mail, NoMemory, Place, Reaction, Scenario, ServerId,
+    TxnId, What, both,
 };
 
 /// The table of locks that each server keeps.
@@ -33,7 +38,8 @@ pub struct Actors {
 impl Actors {
     ghost use Rattle.tp_machine.specs.Fits.{FitLogs};
     ghost use Rattle.tp_machine.specs.Logs as logs;
-    ghost use Rattle.tp_machine.specs.mirrors.Acts.{Moves, SameLogs, SameUp};
+    ghost use Rattle.tp_machine.specs.mirrors.Acts.{Moves, SameLogs, SameUp, with_down};
+    ghost use Rattle.tp_model.specs.Words.{Mail};
 
     /// The actors as they stand before the first step.
     pub fn opened(alloc: Global, scenario: &Scenario) -> Result<Actors, NoMemory>
@@ -91,11 +97,108 @@ impl Actors {
     }
 
     /// The value of each item.
-    pub fn values(&self, alloc: Global, items: &[Item]) -> Result<List<i128>, NoMemory>
+    pub fn values(&self, alloc: Global, scenario: &Scenario) -> Result<List<i128>, NoMemory>
         ensures { IfOk result (λ values.
-            values ≡ machine.item_values self.now.servers 0 items.now) }
+            values ≡ machine.item_values scenario.now self.now.servers 0 scenario.now.items) }
     {
-        item_values(alloc, self.servers.as_slice(), items)
+        item_values(
+            alloc,
+            scenario,
+            self.servers.as_slice(),
+            scenario.items.as_slice(),
+        )
+    }
+
+    /// An actor crashes in the receipt of a mail to it: what is left of it is on its log. It goes down once that is noted. After
+    /// NoMemory the actors are up as before, and so are their logs; nothing else is said of them.
+    pub fn crash_in(
+        &mut self,
+        alloc: Global,
+        scenario: &Scenario,
+        actor: Actor,
+        mail: &Mail,
+        cut: Cut,
+    ) -> Result<Act, NoMemory>
+        requires few { HasFewRules scenario.now }
+        requires fits { FitLogs (machine.receipt scenario.now self.old mail.now actor).actors }
+        ensures ok { IfOk result (λ act. (mails : List Mail)
+            → slice_get mails cut.mail ≡ Some mail.now
+            → Moves (machine.crashes scenario.now self.old mails actor (Some cut))
+            (with_down self.new actor) act) }
+        ensures up { SameUp self.old self.new }
+        ensures logs { OnErr result (SameLogs self.old self.new) }
+    {
+        match actor {
+            Actor::Server(at) => self.server_crash_in(alloc, scenario, at, mail, cut),
+            Actor::Coordinator(txn) => self.coordinator_crash_in(alloc, scenario, txn, mail, cut),
+            _ => crashed(alloc, What::Crashed(actor)),
+        }
+    }
+
+    fn server_crash_in(
+        &mut self,
+        alloc: Global,
+        scenario: &Scenario,
+        at: ServerId,
+        mail: &Mail,
+        cut: Cut,
+    ) -> Result<Act, NoMemory>
+        requires few { HasFewRules scenario.now }
+        requires fits { FitLogs
+            (machine.receipt scenario.now self.old mail.now (actor.Server at)).actors }
+        ensures ok { IfOk result (λ act. (mails : List Mail)
+            → slice_get mails cut.mail ≡ Some mail.now
+            → Moves (machine.crashes scenario.now self.old mails (actor.Server at) (Some cut))
+            (with_down self.new (actor.Server at)) act) }
+        ensures up { SameUp self.old self.new }
+        ensures logs { OnErr result (SameLogs self.old self.new) }
+    {
+        match self.servers.get_mut(at.0 as usize) {
+            None => crashed(alloc, What::Crashed(Actor::Server(at))),
+            Some(part) => server_crashes_in(part, alloc, scenario, at, mail, cut),
+        }
+    }
+
+    fn coordinator_crash_in(
+        &mut self,
+        alloc: Global,
+        scenario: &Scenario,
+        txn: TxnId,
+        mail: &Mail,
+        cut: Cut,
+    ) -> Result<Act, NoMemory>
+        requires fits { FitLogs
+            (machine.receipt scenario.now self.old mail.now (actor.Coordinator txn)).actors }
+        ensures ok { IfOk result (λ act. (mails : List Mail)
+            → slice_get mails cut.mail ≡ Some mail.now
+            → Moves (machine.crashes scenario.now self.old mails (actor.Coordinator txn) (Some cut))
+            (with_down self.new (actor.Coordinator txn)) act) }
+        ensures up { SameUp self.old self.new }
+        ensures logs { OnErr result (SameLogs self.old self.new) }
+    {
+        match self.coordinators.get_mut(txn.0 as usize) {
+            None => crashed(alloc, What::Crashed(Actor::Coordinator(txn))),
+            Some(part) => coordinator_crashes_in(part, alloc, scenario, txn, mail, cut),
+        }
+    }
+
+    /// An actor goes down, and its disk crashes. The offices never do.
+    pub fn goes_down(&mut self, alloc: Global, actor: Actor)
+        ensures { self.new ≡ with_down self.old actor }
+    {
+        match actor {
+            Actor::Server(at) => {
+                if let Some(part) = self.servers.get_mut(at.0 as usize) {
+                    part.crash(alloc);
+                }
+            }
+            Actor::Coordinator(txn) => {
+                if let Some(part) = self.coordinators.get_mut(txn.0 as usize) {
+                    part.crash(alloc);
+                }
+            }
+            _ => {}
+        }
     }
 
     /// A mail is delivered to its actor. After NoMemory the actors are up as before, and so are their logs; nothing else is
@@ -302,34 +405,56 @@ fn repeats_of(alloc: Global, scenario: &Scenario, up: Option<&Coordinator>) -> R
 
 fn item_values(
     alloc: Global,
+    scenario: &Scenario,
     servers: &[Part<Server<Locks>>],
     items: &[Item],
 ) -> Result<List<i128>, NoMemory>
-    ensures { IfOk result (λ values. values ≡ machine.item_values servers.now 0 items.now) }
+    ensures { IfOk result (λ values.
+        values ≡ machine.item_values scenario.now servers.now 0 items.now) }
 {
     let mut values = List::new(alloc);
     for (at, item) in items.iter().enumerate() {
-        values.push(item_value(servers, at, item))?;
+        values.push(item_value(alloc, scenario, servers, at, item)?)?;
     }
     Ok(values)
 }
 
-fn item_value(servers: &[Part<Server<Locks>>], at: usize, item: &Item) -> i128
-    ensures { result ≡ machine.item_value servers.now at item.now }
+fn item_value(
+    alloc: Global,
+    scenario: &Scenario,
+    servers: &[Part<Server<Locks>>],
+    at: usize,
+    item: &Item,
+) -> Result<i128, NoMemory>
+    ensures { IfOk result (λ value. value ≡ machine.item_value scenario.now servers.now at item.now) }
 {
+    let opening = i128::from(item.value);
     match servers.get(item.server.0 as usize) {
-        None => i128::from(item.value),
-        Some(part) => value_up(part.state(), at, i128::from(item.value)),
+        None => Ok(opening),
+        Some(part) => value_up(alloc, scenario, item.server, part, at, opening),
     }
 }
 
-fn value_up(up: Option<&Server<Locks>>, at: usize, opening: i128) -> i128
-    ensures { result ≡ machine.value_up (option_copied up.entry) at opening }
+/// The value of an item at a server. While that is down its log is read for it.
+fn value_up(
+    alloc: Global,
+    scenario: &Scenario,
+    server: ServerId,
+    part: &Part<Server<Locks>>,
+    at: usize,
+    opening: i128,
+) -> Result<i128, NoMemory>
+    ensures { IfOk result (λ value.
+        value ≡ machine.value_up scenario.now server part.now at opening) }
 {
-    match up {
-        // what a server that is down holds is unbuilt
-        None => opening,
-        Some(server) => server.value(at).unwrap_or(opening),
+    if let Some(state) = part.state() {
+        return Ok(state.value(at).unwrap_or(opening));
+    }
+    let records = part.records(alloc)?;
+    let kept = kept_of(alloc, scenario, server, &records)?;
+    match kept.values.get(at) {
+        None => Ok(opening),
+        Some(value) => Ok(*value),
     }
 }
 

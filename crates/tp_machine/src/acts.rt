@@ -1,25 +1,29 @@
 //! What a step does to the actors and the history.
-ghost use Rattle.std.specs.Prelude.{◌≡◌, ◌+◌, ◌<◌, length, false, true, Some, None, slice_get, IfOk, OnOk, OnErr};
+ghost use Rattle.std.specs.Prelude.{◌≡◌, ◌+◌, ◌<◌, ◌^◌, [], length, false, true, Some, None, slice_get, IfOk, OnOk, OnErr};
 ghost use Rattle.std.specs.Option.{option_copied, option_map_or};
 ghost use Rattle.tp_coord.specs.Row.{is_armed};
+ghost use Rattle.tp_model.specs.Words.actor;
 ghost use Rattle.tp_model.specs.Words.step;
-ghost use Rattle.tp_machine.specs.Fits.{FitLogs};
-ghost use Rattle.tp_machine.specs.mirrors.Acts.{HasEitherLogs, Moves, SameLogs, SameUp};
-ghost use Rattle.tp_machine.specs.mirrors.History.{SameHistory};
+ghost use Rattle.tp_model.specs.Words.{Scenario};
+ghost use Rattle.tp_machine.specs.Fits.{FitLogs, received};
+ghost use Rattle.tp_machine.specs.mirrors.Acts.{HasEitherLogs, Moves, SameLogs, SameUp, with_down};
+ghost use Rattle.tp_machine.specs.mirrors.History.{Notes, SameHistory};
 ghost use Rattle.tp_machine.specs.Machine as machine;
-ghost use Rattle.tp_machine.specs.WorldView.{IsBuiltStep, machine_of, state_of};
+ghost use Rattle.tp_machine.specs.WorldView.{machine_of, state_of};
 ghost use Rattle.tp_server.specs.Verdicts.{HasFewRules};
 ghost use Rattle.tp_offices.specs.Authority.{clock_end};
 ghost use Rattle.tp_offices.specs.Master as office;
 
-use crate::actors::Actors;
+use crate::actors::{Actors, Locks};
 use crate::error::StepError;
 use crate::history::History;
-use crate::part::{Act, loss, no_act};
+use crate::part::{Act, coordinator_boots, crashed, loss, no_act, server_boots};
 use std::alloc::Global;
 use tp_coord::Coordinator;
 use tp_offices::{CLOCK_END, Master};
-use tp_types::{Actor, AdminId, CredId, Mail, NoMemory, Scenario, ServerId, Step, TxnId};
+use tp_types::{
+    Actor, AdminId, CredId, Cut, List, Mail, NoMemory, Scenario, ServerId, Step, TxnId, What,
+};
 
 /// Whether a transaction was submitted.
 pub fn is_submitted(actors: &Actors, txn: TxnId) -> bool
@@ -79,7 +83,87 @@ pub fn refusal(actors: &Actors, history: &History, taken: &Step) -> Option<StepE
             Some(why) => Some(why),
             None => down_now(actors, Actor::Coordinator(txn)),
         },
+        Step::Crash { actor, cut } => crash_refusal(actors, history, actor, cut),
+        Step::Boot { actor } => match unsubmitted_actor(actors, actor) {
+            Some(why) => Some(why),
+            None => up_now(actors, actor),
+        },
         _ => None,
+    }
+}
+
+fn crash_refusal(
+    actors: &Actors,
+    history: &History,
+    actor: Actor,
+    cut: Option<Cut>,
+) -> Option<StepError>
+    ensures { result ≡ machine.crash_refusal (state_of actors.now history.now) actor cut }
+{
+    let mails = history.mails.as_slice();
+    if let Some(why) = missing_cut(mails, cut) {
+        return Some(why);
+    }
+    if let Some(why) = unsubmitted_actor(actors, actor) {
+        return Some(why);
+    }
+    match down_now(actors, actor) {
+        Some(why) => Some(why),
+        None => cut_elsewhere(mails, actor, cut),
+    }
+}
+
+/// A coordinator whose transaction was not submitted.
+fn unsubmitted_actor(actors: &Actors, actor: Actor) -> Option<StepError>
+    ensures { result ≡ machine.unsubmitted_actor actors.now actor }
+{
+    match actor {
+        Actor::Coordinator(txn) => unsubmitted(actors, txn),
+        _ => None,
+    }
+}
+
+fn up_now(actors: &Actors, actor: Actor) -> Option<StepError>
+    ensures { result ≡ machine.up_now actors.now actor }
+{
+    if actors.is_down(actor) {
+        None
+    } else {
+        Some(StepError::NotDown { actor })
+    }
+}
+
+fn missing_cut(mails: &[Mail], cut: Option<Cut>) -> Option<StepError>
+    ensures { result ≡ machine.missing_cut mails.now cut }
+{
+    match cut {
+        None => None,
+        Some(cut) => missing_mail(mails, cut.mail),
+    }
+}
+
+fn same_actor(one: Actor, other: Actor) -> bool
+    ensures { result ≡ machine.same_actor one other }
+{
+    match (one, other) {
+        (Actor::Server(one), Actor::Server(other)) => one.0 == other.0,
+        (Actor::Coordinator(one), Actor::Coordinator(other)) => one.0 == other.0,
+        (Actor::Master, Actor::Master) => true,
+        (Actor::Authority, Actor::Authority) => true,
+        _ => false,
+    }
+}
+
+/// A cut in the receipt of a mail to another actor.
+fn cut_elsewhere(mails: &[Mail], actor: Actor, cut: Option<Cut>) -> Option<StepError>
+    ensures { result ≡ machine.cut_elsewhere mails.now actor cut }
+{
+    let cut = cut?;
+    let mail = mails.get(cut.mail as usize)?;
+    if same_actor(mail.letter.to, actor) {
+        None
+    } else {
+        Some(StepError::NotItsMail { mail: cut.mail })
     }
 }
 
@@ -142,15 +226,16 @@ pub fn act(
     taken: &Step,
 ) -> Result<(), NoMemory>
     requires few { HasFewRules scenario.now }
-    requires built { IsBuiltStep taken.now }
+    requires servers { length scenario.now.servers < 2 ^ 32 }
     requires allowed { machine.refusal (state_of actors.old history.old) taken.now ≡ None }
     requires fits { FitLogs
-        (machine.machine_after scenario.now (machine_of actors.old history.old) taken.now).state.actors }
+        (machine.machine_after scenario.now (machine_of actors.old history.old)
+        (received taken.now)).state.actors }
     ensures ok { OnOk result
         (machine_of actors.new history.new
         ≡ machine.machine_after scenario.now (machine_of actors.old history.old) taken.now) }
     ensures same_history { OnErr result (SameHistory history.old history.new) }
-    ensures up { SameUp actors.old actors.new }
+    ensures up { OnErr result (SameUp actors.old actors.new) }
     ensures logs { OnErr result (HasEitherLogs actors.old
         (machine.machine_after scenario.now (machine_of actors.old history.old) taken.now).state.actors
         actors.new) }
@@ -164,9 +249,175 @@ pub fn act(
         Step::Revoke { cred } => revoke(actors, history, alloc, cred),
         Step::Lose { mail } => lose(actors, history, alloc, mail),
         Step::Timer { txn } => timer(actors, history, alloc, scenario, txn),
-        // a step that is unbuilt: a crash, a boot
-        _ => Ok(()),
+        Step::Crash { actor, cut: None } => crash(actors, history, alloc, actor),
+        Step::Crash {
+            actor,
+            cut: Some(cut),
+        } => crash_in(actors, history, alloc, scenario, actor, cut),
+        Step::Boot {
+            actor: Actor::Server(at),
+        } => boot_server(actors, history, alloc, scenario, at),
+        Step::Boot {
+            actor: Actor::Coordinator(txn),
+        } => boot_coordinator(actors, history, alloc, scenario, txn),
+        // the offices never crash
+        Step::Boot { actor } => boots_nobody(history, alloc, actor),
     }
+}
+
+/// An actor crashes. It goes down last, where nothing can be refused any more.
+fn crash(
+    actors: &mut Actors,
+    history: &mut History,
+    alloc: Global,
+    actor: Actor,
+) -> Result<(), NoMemory>
+    ensures ok { (sc : Scenario) → OnOk result
+        (machine_of actors.new history.new
+        ≡ machine.machine_after sc (machine_of actors.old history.old)
+        (step.Crash actor None)) }
+    ensures same_history { OnErr result (SameHistory history.old history.new) }
+    ensures same_actors { OnErr result (actors.new ≡ actors.old) }
+{
+    let act = crashed(alloc, What::Crashed(actor))?;
+    history.note(Step::Crash { actor, cut: None }, act.happened, act.letters)?;
+    actors.goes_down(alloc, actor);
+    Ok(())
+}
+
+/// An actor crashes in the receipt of a mail. Its log has what is left of it before that is noted.
+fn crash_in(
+    actors: &mut Actors,
+    history: &mut History,
+    alloc: Global,
+    scenario: &Scenario,
+    actor: Actor,
+    cut: Cut,
+) -> Result<(), NoMemory>
+    requires few { HasFewRules scenario.now }
+    requires sent { cut.mail < length history.old.mails }
+    requires its { machine.cut_elsewhere history.old.mails actor (Some cut) ≡ None }
+    requires fits { FitLogs
+        (machine.delivery scenario.now actors.old (slice_get history.old.mails cut.mail)).actors }
+    ensures ok { OnOk result
+        (machine_of actors.new history.new
+        ≡ machine.machine_after scenario.now (machine_of actors.old history.old)
+        (step.Crash actor (Some cut))) }
+    ensures same_history { OnErr result (SameHistory history.old history.new) }
+    ensures up { OnErr result (SameUp actors.old actors.new) }
+    ensures logs { OnErr result (HasEitherLogs actors.old
+        (machine.crashes scenario.now actors.old history.old.mails actor (Some cut)).actors
+        actors.new) }
+{
+    let act = receive_cut(
+        actors,
+        alloc,
+        scenario,
+        history.mails.as_slice(),
+        actor,
+        cut,
+    )?;
+    let taken = Step::Crash {
+        actor,
+        cut: Some(cut),
+    };
+    history.note(taken, act.happened, act.letters)?;
+    history.mark(cut.mail as usize);
+    actors.goes_down(alloc, actor);
+    Ok(())
+}
+
+fn receive_cut(
+    actors: &mut Actors,
+    alloc: Global,
+    scenario: &Scenario,
+    mails: &[Mail],
+    actor: Actor,
+    cut: Cut,
+) -> Result<Act, NoMemory>
+    requires few { HasFewRules scenario.now }
+    requires sent { cut.mail < length mails.now }
+    requires its { machine.cut_elsewhere mails.now actor (Some cut) ≡ None }
+    requires fits { FitLogs
+        (machine.delivery scenario.now actors.old (slice_get mails.now cut.mail)).actors }
+    ensures ok { IfOk result (λ act.
+        Moves (machine.crashes scenario.now actors.old mails.now actor (Some cut))
+        (with_down actors.new actor) act) }
+    ensures up { SameUp actors.old actors.new }
+    ensures logs { OnErr result (SameLogs actors.old actors.new) }
+{
+    match mails.get(cut.mail as usize) {
+        None => crashed(alloc, What::Crashed(actor)),
+        Some(found) => actors.crash_in(alloc, scenario, actor, found, cut),
+    }
+}
+
+/// A server boots by its log. It comes up last, where nothing can be refused any more.
+fn boot_server(
+    actors: &mut Actors,
+    history: &mut History,
+    alloc: Global,
+    scenario: &Scenario,
+    at: ServerId,
+) -> Result<(), NoMemory>
+    requires fits { FitLogs (machine.boots scenario.now actors.old (actor.Server at)).actors }
+    ensures ok { OnOk result
+        (machine_of actors.new history.new
+        ≡ machine.machine_after scenario.now (machine_of actors.old history.old)
+        (step.Boot (actor.Server at))) }
+    ensures same_history { OnErr result (SameHistory history.old history.new) }
+    ensures up { OnErr result (SameUp actors.old actors.new) }
+    ensures logs { OnErr result (HasEitherLogs actors.old
+        (machine.boots scenario.now actors.old (actor.Server at)).actors
+        actors.new) }
+{
+    let actor = Actor::Server(at);
+    let Some(part) = actors.servers.get_mut(at.0 as usize) else {
+        return boots_nobody(history, alloc, actor);
+    };
+    let locks = Locks::opened(alloc, scenario.items.len())?;
+    let (state, act) = server_boots(part, alloc, scenario, at, locks)?;
+    history.note(Step::Boot { actor }, act.happened, act.letters)?;
+    part.comes_up(state);
+    Ok(())
+}
+
+/// A coordinator boots by its log, in the same way.
+fn boot_coordinator(
+    actors: &mut Actors,
+    history: &mut History,
+    alloc: Global,
+    scenario: &Scenario,
+    txn: TxnId,
+) -> Result<(), NoMemory>
+    requires few { length scenario.now.servers < 2 ^ 32 }
+    requires fits { FitLogs (machine.boots scenario.now actors.old (actor.Coordinator txn)).actors }
+    ensures ok { OnOk result
+        (machine_of actors.new history.new
+        ≡ machine.machine_after scenario.now (machine_of actors.old history.old)
+        (step.Boot (actor.Coordinator txn))) }
+    ensures same_history { OnErr result (SameHistory history.old history.new) }
+    ensures up { OnErr result (SameUp actors.old actors.new) }
+    ensures logs { OnErr result (HasEitherLogs actors.old
+        (machine.boots scenario.now actors.old (actor.Coordinator txn)).actors
+        actors.new) }
+{
+    let actor = Actor::Coordinator(txn);
+    let Some(part) = actors.coordinators.get_mut(txn.0 as usize) else {
+        return boots_nobody(history, alloc, actor);
+    };
+    let (state, act) = coordinator_boots(part, alloc, scenario, txn)?;
+    history.note(Step::Boot { actor }, act.happened, act.letters)?;
+    part.comes_up(state);
+    Ok(())
+}
+
+/// Nobody boots.
+fn boots_nobody(history: &mut History, alloc: Global, actor: Actor) -> Result<(), NoMemory>
+    ensures ok { OnOk result (Notes history.old history.new (step.Boot actor) [] []) }
+    ensures same_history { OnErr result (SameHistory history.old history.new) }
+{
+    history.note(Step::Boot { actor }, List::new(alloc), List::new(alloc))
 }
 
 fn submit(

@@ -12,6 +12,10 @@ pub enum StepError {
     NotSubmitted { txn: TxnId },
     /// The actor is down.
     IsDown { actor: Actor },
+    /// The actor is up.
+    NotDown { actor: Actor },
+    /// The mail was sent to another actor.
+    NotItsMail { mail: u64 },
     /// The newest version of the administrator's policy is the last in the library.
     NoMore { admin: AdminId },
     /// The clock is at this moment, and would pass the last one, 2^63 - 1.

@@ -20,13 +20,14 @@
 //!   `value`, `sent`)
 //!
 //! `World::start` asks that the scenario has the built form (`built`), and that no run of it makes a record that is too
-//! long for a log (`fit`), which holds of every such scenario (`tp_runs`); `World::step` that the step is no crash and
-//! no boot (`built`), and that what it names exists in the scenario (`ids`). So no log refuses a record but for want of
-//! memory, and no disk fails.
+//! long for a log (`fit`), which holds of every such scenario (`tp_runs`); `World::step` that what the step names
+//! exists in the scenario, and that no office is to crash or to boot (`ids`). So no log refuses a record but for want
+//! of memory, and no disk fails outside a cut.
 #![tactic(auto)]
 
 mod actors;
 mod acts;
+mod disks;
 mod error;
 mod history;
 mod part;

@@ -1,28 +1,32 @@
 //! An actor with its log, and what it does to both when it acts.
-ghost use Rattle.std.specs.Prelude.{◌≡◌, [], ◌∷◌, ◌++◌, None, false, true, IfOk, IfSome, OnErr, OnOk};
+ghost use Rattle.std.specs.Prelude.{◌≡◌, ◌<◌, ◌^◌, [], ◌∷◌, ◌++◌, Some, None, false, true, length, IfOk, IfSome, OnErr, OnOk};
 ghost use Rattle.std.specs.Option.{option_copied, option_map_or};
-ghost use Rattle.tp_log.specs.Logs.{kept_after};
+ghost use Rattle.tp_lock.specs.Rule as lock;
 ghost use Rattle.tp_machine.specs.Fits.{FitsLog, HasShortLog};
 ghost use Rattle.tp_machine.specs.Logs.{IsDiskOf};
-ghost use Rattle.tp_machine.specs.mirrors.Acts.{Acts};
+ghost use Rattle.tp_machine.specs.mirrors.Acts as acts;
+ghost use Rattle.tp_machine.specs.mirrors.Acts.{Acts, Boots};
 ghost use Rattle.tp_machine.specs.Machine as machine;
+ghost use Rattle.tp_model.specs.Words.actor;
 ghost use Rattle.tp_model.specs.Words.what;
 ghost use Rattle.tp_server.specs.Verdicts.{HasFewRules};
 
+use crate::disks::{force, tear};
 use std::alloc::Global;
 use std::marker::Model;
 use tp_coord::Coordinator;
 use tp_device::MemoryDisk;
 use tp_lock::LockTable;
 use tp_log::{Log, LogError};
+use tp_recover::kept_of;
 use tp_server::Server;
 use tp_types::{
-    Letter, List, Mail, NoMemory, Place, Reaction, Record, Scenario, ServerId, TryClone, TxnId,
-    What,
+    Actor, Cut, Letter, List, Mail, NoMemory, Place, Reaction, Record, Scenario, ServerId,
+    TryClone, TxnId, What,
 };
 
 /// An actor's state, which is None while it is down, and its write-ahead log on a disk of its own in memory, on which
-/// nothing is unsynced between two steps. Contracts see the log as the list of records that the bytes of the disk give.
+/// nothing is unsynced between two calls. Contracts see the log as the list of records that the bytes of the disk give.
 #[derive(Drop)]
 pub struct Part<S> {
     up: Option<S>,
@@ -30,7 +34,6 @@ pub struct Part<S> {
 }
 
 impl<S> Model for Part<S> {
-    ghost use Rattle.std.specs.Prelude.{is_some};
     ghost use Rattle.tp_machine.specs.Parts as parts;
     ghost use Rattle.tp_machine.specs.mirrors.Disks.{IsForced, records_on};
 
@@ -38,7 +41,7 @@ impl<S> Model for Part<S> {
 
     ghost view = { λ p. record { up = p.up; log = records_on p.log } };
 
-    ghost invariant = { λ p. IsForced (is_some p.up) p.log };
+    ghost invariant = { λ p. IsForced p.log };
 }
 
 impl<S: Drop> Part<S> {
@@ -55,10 +58,9 @@ impl<S: Drop> Part<S> {
         }
     }
 
-    /// Forces what an act gives to the log of an actor that is up: once it is answered the record outlives a crash.
+    /// Forces what an act gives to the actor's log: once it is answered the record outlives a crash.
     pub fn force(&mut self, alloc: Global, append: &Option<Record>) -> Result<(), NoMemory>
-        requires up { machine.is_part_down self.old ≡ false }
-        requires fits { IfSome append.now FitsLog }
+        requires { IfSome append.now FitsLog }
         ensures ok { OnOk result (self.new ≡ record self.old {
           log = machine.log_with self.old.log append.now;
         }) }
@@ -66,45 +68,35 @@ impl<S: Drop> Part<S> {
     {
         match append {
             None => Ok(()),
-            Some(forced) => self.log.append_running(alloc, forced),
+            Some(forced) => force(&mut self.log, alloc, forced),
         }
     }
 
-    /// The actor crashes: its state is gone, and its log stays.
+    /// The disk crashes as what an act gives is forced: so many of its calls pass, and what is then unsynced reads the fill. The
+    /// actor itself goes down by `crash`, once that is noted. Where memory is refused the disk does not crash.
+    pub fn cut(&mut self, alloc: Global, append: &Option<Record>, cut: Cut) -> Result<(), NoMemory>
+        requires { IfSome append.now FitsLog }
+        ensures ok { OnOk result (self.new ≡ record self.old {
+          log = machine.log_with self.old.log (machine.cut_record cut append.now);
+        }) }
+        ensures err { OnErr result (self.new ≡ self.old) }
+    {
+        match append {
+            None => Ok(()),
+            Some(forced) => tear(&mut self.log, alloc, forced, cut),
+        }
+    }
+
+    /// The actor goes down, and its disk crashes. Its state is gone, and its log stays. It takes no memory.
     pub fn crash(&mut self, alloc: Global)
-        ensures { self.new ≡ record self.old { up = None } }
+        ensures { self.new ≡ acts.down_part self.old }
     {
         self.log.crash(alloc);
         self.up = None;
     }
 
-    /// An actor that is up crashes as it forces a record: so many calls of its disk pass, and what is then unsynced on
-    /// it reads `fill`. Where memory is refused it does not crash.
-    pub fn cut(&mut self, alloc: Global, r: &Record, calls: u32, fill: u8) -> Result<(), NoMemory>
-        requires up { machine.is_part_down self.old ≡ false }
-        requires fits { FitsLog r.now }
-        ensures ok { OnOk result (self.new ≡ record {
-          up = None;
-          log = kept_after calls fill self.old.log r.now;
-        }) }
-        ensures err { OnErr result (self.new ≡ self.old) }
-    {
-        match self.log.crash_in_append(alloc, r, calls, fill) {
-            Ok(()) => {
-                self.up = None;
-                Ok(())
-            }
-            Err(LogError::NoMemory) => Err(NoMemory),
-            Err(LogError::Device) => unreachable!(),
-            Err(LogError::Closed) => unreachable!(),
-            Err(LogError::TooLong) => unreachable!(),
-            Err(LogError::NotALog { .. }) => unreachable!(),
-        }
-    }
-
-    /// The records that the disk of an actor that is down gives. Its log is open then.
+    /// The records that the disk gives, by which an actor boots.
     pub fn reread(&mut self, alloc: Global) -> Result<List<Record>, NoMemory>
-        requires down { machine.is_part_down self.old ≡ true }
         ensures records { IfOk result (λ records. records ≡ self.old.log) }
         ensures same { self.new ≡ self.old }
     {
@@ -118,11 +110,25 @@ impl<S: Drop> Part<S> {
         }
     }
 
+    /// The actor comes up with this state.
+    pub fn comes_up(&mut self, state: S)
+        ensures { self.new ≡ record self.old { up = Some state } }
+    {
+        self.up = Some(state);
+    }
+
     /// The disk of the actor's log. Every image that a crash may leave of it gives exactly the log's records.
     pub fn disk(&self) -> &MemoryDisk
         ensures { IsDiskOf result.now self.now.log }
     {
         self.log.disk()
+    }
+
+    /// The records that the disk gives now, for who looks on.
+    pub fn records(&self, alloc: Global) -> Result<List<Record>, NoMemory>
+        ensures { IfOk result (λ records. records ≡ self.now.log) }
+    {
+        self.log.records(alloc)
     }
 
     /// Whether the actor is down.
@@ -242,6 +248,176 @@ pub fn coordinator_submits(
     note_decision(alloc, &mut happened, &append)?;
     part.force(alloc, &append)?;
     Ok(Act { happened, letters })
+}
+
+/// A server crashes in the receipt of a mail: what is left of it is on its log. It goes down once that is noted, and is up until
+/// then, with nothing said of its state. After NoMemory its log is as before.
+#[tactic(auto, using(crate::proofs::basics::Crashes::told_of))]
+pub fn server_crashes_in<L: LockTable + Drop>(
+    part: &mut Part<Server<L>>,
+    alloc: Global,
+    scenario: &Scenario,
+    at: ServerId,
+    mail: &Mail,
+    cut: Cut,
+) -> Result<Act, NoMemory>
+    requires few { HasFewRules scenario.now }
+    requires fits { IfSome (machine.server_forces scenario.now part.old.up mail.now) FitsLog }
+    ensures ok { IfOk result (λ act.
+        Acts
+        (machine.goes_down (machine.server_fact at) (what.Crashed (actor.Server at) ∷ []) part.old
+        (machine.cut_record cut (machine.server_forces scenario.now part.old.up mail.now)))
+        (acts.down_part part.new) act) }
+    ensures up { machine.is_part_down part.new ≡ machine.is_part_down part.old }
+    ensures log { OnErr result (part.new.log ≡ part.old.log) }
+{
+    let Some(server) = &mut part.up else {
+        return crashed(alloc, What::Crashed(Actor::Server(at)));
+    };
+    let Reaction { append, letters: _ } = server.receive(alloc, scenario, mail)?;
+    let happened = server_cut_facts(alloc, at, cut, &append)?;
+    part.cut(alloc, &append, cut)?;
+    Ok(Act {
+        happened,
+        letters: List::new(alloc),
+    })
+}
+
+/// A coordinator crashes in the receipt of a mail, in the same way.
+#[tactic(auto, using(crate::proofs::basics::Crashes::told_of))]
+pub fn coordinator_crashes_in(
+    part: &mut Part<Coordinator>,
+    alloc: Global,
+    scenario: &Scenario,
+    txn: TxnId,
+    mail: &Mail,
+    cut: Cut,
+) -> Result<Act, NoMemory>
+    requires fits { IfSome (machine.coordinator_forces scenario.now part.old.up mail.now) FitsLog }
+    ensures ok { IfOk result (λ act.
+        Acts
+        (machine.goes_down machine.coordinator_fact (what.Crashed (actor.Coordinator txn) ∷ [])
+        part.old
+        (machine.cut_record cut (machine.coordinator_forces scenario.now part.old.up mail.now)))
+        (acts.down_part part.new) act) }
+    ensures up { machine.is_part_down part.new ≡ machine.is_part_down part.old }
+    ensures log { OnErr result (part.new.log ≡ part.old.log) }
+{
+    let Some(coordinator) = &mut part.up else {
+        return crashed(alloc, What::Crashed(Actor::Coordinator(txn)));
+    };
+    let Reaction { append, letters: _ } = coordinator.receive(alloc, scenario, mail)?;
+    let happened = coordinator_cut_facts(alloc, txn, cut, &append)?;
+    part.cut(alloc, &append, cut)?;
+    Ok(Act {
+        happened,
+        letters: List::new(alloc),
+    })
+}
+
+/// A crash, of which nothing is left.
+pub fn crashed(alloc: Global, crash: What) -> Result<Act, NoMemory>
+    ensures { IfOk result (λ act. act ≡ record { happened = crash ∷ []; letters = [] }) }
+{
+    Ok(Act {
+        happened: List::of_one(alloc, crash)?,
+        letters: List::new(alloc),
+    })
+}
+
+/// Whether a cut leaves the record that was to be forced.
+fn is_kept(cut: Cut) -> bool
+    ensures { result ≡ machine.is_kept cut }
+{
+    cut.calls >= 4 || (cut.calls == 3 && cut.fill == 1)
+}
+
+/// What happened where a server crashed in a receipt: its crash, and what its log then tells.
+fn server_cut_facts(
+    alloc: Global,
+    at: ServerId,
+    cut: Cut,
+    append: &Option<Record>,
+) -> Result<List<What>, NoMemory>
+    ensures { IfOk result (λ facts. facts ≡ what.Crashed (actor.Server at)
+        ∷ option_map_or (machine.server_fact at) (machine.cut_record cut append.now) []) }
+{
+    let mut happened = List::of_one(alloc, What::Crashed(Actor::Server(at)))?;
+    match append {
+        Some(Record::Settled(settled)) if is_kept(cut) => {
+            happened.push(What::Settled(at, settled.txn, settled.outcome))?;
+        }
+        _ => {}
+    }
+    Ok(happened)
+}
+
+/// The same of a coordinator.
+fn coordinator_cut_facts(
+    alloc: Global,
+    txn: TxnId,
+    cut: Cut,
+    append: &Option<Record>,
+) -> Result<List<What>, NoMemory>
+    ensures { IfOk result (λ facts. facts ≡ what.Crashed (actor.Coordinator txn)
+        ∷ option_map_or machine.coordinator_fact (machine.cut_record cut append.now) []) }
+{
+    let mut happened = List::of_one(alloc, What::Crashed(Actor::Coordinator(txn)))?;
+    if is_kept(cut) {
+        note_decision(alloc, &mut happened, append)?;
+    }
+    Ok(happened)
+}
+
+/// A server boots by its log, on which one boot more is then. It comes up with the state that is answered once that is noted.
+pub fn server_boots<L: LockTable + Drop>(
+    part: &mut Part<Server<L>>,
+    alloc: Global,
+    scenario: &Scenario,
+    at: ServerId,
+    locks: L,
+) -> Result<(Server<L>, Act), NoMemory>
+    requires locks { L.table locks ≡ lock.opening (length scenario.now.items) }
+    requires fits { HasShortLog (machine.server_boots scenario.now at part.old).part }
+    ensures ok { IfOk result (λ made.
+        Boots (machine.server_boots scenario.now at part.old) part.new made.0 made.1) }
+    ensures up { machine.is_part_down part.new ≡ machine.is_part_down part.old }
+    ensures log { OnErr result (part.new.log ≡ part.old.log) }
+{
+    let records = part.reread(alloc)?;
+    let kept = kept_of(alloc, scenario, at, &records)?;
+    let (state, reaction) = Server::booted(alloc, scenario, at, kept, locks)?;
+    let Reaction { append, letters } = reaction;
+    part.force(alloc, &append)?;
+    let act = Act {
+        happened: List::new(alloc),
+        letters,
+    };
+    Ok((state, act))
+}
+
+/// A coordinator boots by its log, in the same way.
+#[tactic(auto, using(crate::proofs::basics::Crashes::told_of))]
+pub fn coordinator_boots(
+    part: &mut Part<Coordinator>,
+    alloc: Global,
+    scenario: &Scenario,
+    txn: TxnId,
+) -> Result<(Coordinator, Act), NoMemory>
+    requires few { length scenario.now.servers < 2 ^ 32 }
+    requires fits { HasShortLog (machine.coordinator_boots scenario.now txn part.old).part }
+    ensures ok { IfOk result (λ made.
+        Boots (machine.coordinator_boots scenario.now txn part.old) part.new made.0 made.1) }
+    ensures up { machine.is_part_down part.new ≡ machine.is_part_down part.old }
+    ensures log { OnErr result (part.new.log ≡ part.old.log) }
+{
+    let records = part.reread(alloc)?;
+    let (state, reaction) = Coordinator::booted(alloc, scenario, txn, &records)?;
+    let Reaction { append, letters } = reaction;
+    let mut happened = List::new(alloc);
+    note_decision(alloc, &mut happened, &append)?;
+    part.force(alloc, &append)?;
+    Ok((state, Act { happened, letters }))
 }
 
 fn server_facts(

@@ -4,7 +4,7 @@ ghost use Rattle.std.specs.Option.{option_copied};
 ghost use Rattle.std.specs.List.{list_any};
 ghost use Rattle.tp_model.specs.Built as built;
 ghost use Rattle.tp_machine.specs.declared.error.StepError.{StepError};
-ghost use Rattle.tp_machine.specs.WorldView.{start, IsReached, IsBuiltStep, HasItsFacts, Does, Refuses, GivesUp, is_office};
+ghost use Rattle.tp_machine.specs.WorldView.{start, IsReached, HasItsFacts, Does, Refuses, GivesUp, is_office};
 ghost use Rattle.tp_machine.specs.Fits.{AllFitLogs};
 ghost use Rattle.tp_machine.specs.Logs.{IsDiskOf, records_of};
 ghost use Rattle.tp_machine.specs.Machine as machine;
@@ -72,7 +72,6 @@ impl World {
     /// Does a step. A refused step changes nothing. Where memory is refused the world is given up, and each later step answers
     /// NoMemory; each actor's log is then that from before the step, or that after it.
     pub fn step(&mut self, alloc: Global, taken: &Step) -> Result<(), StepError>
-        requires built { IsBuiltStep taken.now }
         requires ids { IsStepOf self.old.scenario taken.now }
         ensures ok { OnOk result (Does self.old self.new taken.now) }
         ensures refused { IfErr result (λ why.
@@ -208,7 +207,7 @@ impl World {
         Ok(Ending {
             steps: self.history.steps.len() as u64,
             mails: self.history.mails.len() as u64,
-            values: self.actors.values(alloc, self.scenario.items.as_slice())?,
+            values: self.actors.values(alloc, &self.scenario)?,
         })
     }
 }

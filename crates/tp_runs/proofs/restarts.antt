@@ -8,5 +8,4 @@ pub mod Servers
 pub mod Shown
 pub mod Since
 pub mod Steps
-pub mod Uncrashed
 pub mod World

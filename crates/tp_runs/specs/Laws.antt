@@ -1,11 +1,12 @@
 -- What holds of every run of the machine.
 use Rattle.std.specs.Prelude.{◌≡◌, ◌*◌, ◌≤◌, ◌&&◌, Bool, List, length, not, true, ℕ}
+use Rattle.tp_model.specs.Words.actor
 use Rattle.tp_model.specs.Words.{Scenario, Step, TxnId}
 use Rattle.tp_model.specs.Built.{is_built}
 use Rattle.tp_model.specs.SerialRun.{store_of}
 use Rattle.tp_model.specs.TrustedHistory.{TrustedSoFar, have_ended}
 use Rattle.tp_machine.specs.declared.actors.Actors.{Actors}
-use Rattle.tp_machine.specs.Machine.{State, after, ending_of, is_armed_at, is_submitted}
+use Rattle.tp_machine.specs.Machine.{State, after, ending_of, is_armed_at, is_down, is_submitted}
 use Rattle.tp_machine.specs.WorldView.{WorldView}
 use Rattle.tp_types.specs.Each.{Each}
 use Rattle.tp_machine.specs.Fits.{AllFitLogs}
@@ -24,10 +25,11 @@ abbrev pub HasAllCommits : Scenario → State → Type 0
 HasAllCommits sc w =
     have_ended sc w.facts 0 sc.txns ≡ true → (ending_of sc w).values ≡ store_of sc w.facts
 
--- the transaction was submitted, and no request of it is outstanding: where its coordinator is up, each of its servers has acknowledged
--- its end
+-- the transaction was submitted, and its coordinator is up and has no request outstanding: each of its servers has acknowledged its end
 abbrev pub is_finished : Actors → TxnId → Bool
-is_finished actors txn = is_submitted actors txn && not (is_armed_at actors txn)
+is_finished actors txn =
+    is_submitted actors txn && not (is_down actors (actor.Coordinator txn))
+    && not (is_armed_at actors txn)
 
 -- each transaction is finished
 abbrev pub AreFinished : Scenario → State → Type 0
@@ -56,7 +58,8 @@ HasAlwaysAllEnds =
     → HasAllEnds sc (after sc steps).state
 
 -- so many mails come on each step, if each query that waits counts as one more: a server that boots asks the coordinator of each
--- transaction that it has prepared, and a scenario has at most 128 transactions; no step that is built so far sends more than 16
+-- transaction that it has prepared, and a scenario has at most 128 transactions; no other step sends more than 16, but for the queries that
+-- it lets go on
 abbrev pub mails_most : ℕ
 mails_most = 128
 

@@ -23,8 +23,8 @@ pub fn start(alloc: Global, scenario: &Scenario) -> Result<World, NoMemory>
     World::start(alloc, scenario)
 }
 
-/// What happened so far, in order. It is a trusted history at every moment; all that mails, records and facts name exists; and all
-/// values are far from the ends of their numbers.
+/// What happened so far, in order. It is a trusted history at every moment, whoever is down; all that mails, records and
+/// facts name exists; and all values are far from the ends of their numbers.
 pub fn facts(world: &World) -> &List<Fact>
     ensures value { result.now ≡ world.now.machine.state.facts }
     ensures so_far { world.now.given_up ≡ false → IsTrustedSoFar world.now }
@@ -57,8 +57,8 @@ pub fn undelivered_count(world: &World) -> u64
 }
 
 /// How many steps and mails there were, and the value of each item: its opening value, overlaid by the commits that its
-/// server has settled. Where every transaction is finished, each has ended at all its servers, and these are the values that all
-/// commits leave.
+/// server has settled, also while that server is down, by what its log leaves. Where every transaction is finished, its
+/// coordinator up, each has ended at all its servers, and these are the values that all commits leave.
 pub fn ending(world: &World, alloc: Global) -> Result<Ending, NoMemory>
     ensures value { IfOk result (λ ending.
         ending ≡ ending_of world.now.scenario world.now.machine.state) }

@@ -17,11 +17,11 @@
 //! - Every commit of every world is serial, and the only one of its place (`data::serial`: `data`, `lone`)
 //! - The history that a world shows is trusted at every moment: all of the above, and what comes from outside
 //!   is what its steps say (`TrustedSoFar`) (`history::facts`: `so_far`)
-//! - Each item's value at any moment is its opening value, overlaid by the commits that its server has settled;
-//!   where every transaction has ended at all its servers these are the values that all commits leave
-//!   (`history::ending`: `overlaid`, `whole`)
-//! - Where each transaction was submitted and no request of it is outstanding, each was decided, and settled so at
-//!   each of its servers (`history::ending`: `ended`)
+//! - Each item's value at any moment is its opening value, overlaid by the commits that its server has settled,
+//!   whether that server is up or down; where every transaction has ended at all its servers these are the values that
+//!   all commits leave (`history::ending`: `overlaid`, `whole`)
+//! - Where each transaction was submitted, and its coordinator is up and has no request outstanding, each was decided,
+//!   and settled so at each of its servers (`history::ending`: `ended`)
 //! - The law behind these: of every scenario that is run, after every list of steps that name what exists, the
 //!   history is trusted so far; where all transactions are finished they have ended; and where they have ended the
 //!   values are those of all commits (`laws::histories_are_trusted`: `trusted`, `ended`, `whole`)
@@ -34,7 +34,8 @@
 //!   too long for a log (`laws::records_fit`); so the world of each such scenario can be started, and its actors force
 //!   what they log without a refusal but for want of memory (`history::start`)
 //!
-//! These hold after every list of steps, in any order, with losses, timers, and deliveries of any mail ever sent;
+//! These hold after every list of steps, in any order, with losses, timers, deliveries of any mail ever sent, and
+//! crashes and boots of servers and coordinators, where a crash in a receipt leaves the record of that receipt or nothing;
 //! agreement, trust with causes, and serial data also of a world that was given up. The calls lean on the condition of
 //! `World::start`, that the scenario has the built form, and on that of `World::step`; the laws ask both of
 //! their scenario and their steps. Each call takes from `World::facts` that the world is what its steps give.

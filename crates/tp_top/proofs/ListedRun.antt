@@ -1,4 +1,4 @@
--- The listed steps: they name what exists, are of kinds that are built, and where none is refused all are done.
+-- The listed steps: they name what exists, and where none is refused all are done.
 use Rattle.std.proofs.Common.{◌≡◌, ℕ, ◌+◌, List, [], ◌∷◌, ◌++◌, drop, take, true, false, Option, Some, None, refl, sym, ap, subst, ◌∙◌}
 use Rattle.std.specs.List.{list_all}
 use Rattle.std.proofs.lemmas.Bool.{and_parts, ltb-true}
@@ -12,7 +12,7 @@ use Rattle.tp_model.specs.Valid.{is_admin, is_server, is_valid_step}
 use Rattle.tp_model.proofs.RuleLemmas.{stage_built, valid_built}
 use Rattle.tp_machine.specs.declared.error.StepError.{StepError}
 use Rattle.tp_machine.specs.Machine.{Machine, after_steps, machine_after, refusal}
-use Rattle.tp_machine.specs.WorldView.{Does, IsBuiltStep, Refuses, WorldView}
+use Rattle.tp_machine.specs.WorldView.{Does, Refuses, WorldView}
 use Rattle.tp_types.specs.Each.{Each}
 use Rattle.tp_machine.specs.Named.{IsStepOf}
 use Rattle.tp_machine.proofs.basics.Machine.{after_steps-snoc}
@@ -38,19 +38,6 @@ plain_exists sc (step.Crash who cut) valid plain = absurd (cc)
 plain_exists sc (step.Boot who) valid plain = absurd (cc)
 plain_exists sc (step.Timer txn) valid plain = ltb-true _ _ valid
 
--- and is of a kind that is built
-plain_kind : (taken : Step) → is_plain_step taken ≡ true → IsBuiltStep taken
-plain_kind (step.Submit txn) plain = tt
-plain_kind (step.Tick by) plain = tt
-plain_kind (step.Revoke cred) plain = tt
-plain_kind (step.Deliver mail) plain = tt
-plain_kind (step.Publish admin) plain = tt
-plain_kind (step.Push admin server) plain = tt
-plain_kind (step.Lose mail) plain = tt
-plain_kind (step.Crash who cut) plain = absurd (cc)
-plain_kind (step.Boot who) plain = absurd (cc)
-plain_kind (step.Timer txn) plain = tt
-
 all_exist : (sc : Scenario) (steps : List Step) → list_all (is_valid_step sc) steps ≡ true → are_plain_steps steps ≡ true → Each (IsStepOf sc) steps
 all_exist sc [] valid plain = tt
 all_exist sc (taken ∷ steps) valid plain =
@@ -58,18 +45,9 @@ all_exist sc (taken ∷ steps) valid plain =
     let p = and_parts (is_plain_step taken) (are_plain_steps steps) plain in
     (plain_exists sc taken v.0 p.0, all_exist sc steps v.1 p.1)
 
-all_kinds : (steps : List Step) → are_plain_steps steps ≡ true → Each IsBuiltStep steps
-all_kinds [] plain = tt
-all_kinds (taken ∷ steps) plain =
-    let p = and_parts (is_plain_step taken) (are_plain_steps steps) plain in
-    (plain_kind taken p.0, all_kinds steps p.1)
-
 pub listed_exist : (sc : Scenario) → is_built sc ≡ true → Each (IsStepOf sc) sc.steps
 listed_exist sc built =
     all_exist sc sc.steps (and_parts (has_count 0 steps_limit sc.steps) (list_all (is_valid_step sc) sc.steps) (valid_built sc built).steps).1 (stage_built sc built).steps
-
-pub listed_kinds : (sc : Scenario) → is_built sc ≡ true → Each IsBuiltStep sc.steps
-listed_kinds sc built = all_kinds sc.steps (stage_built sc built).steps
 
 -- ---- none is refused
 

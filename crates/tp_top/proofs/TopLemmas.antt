@@ -6,7 +6,7 @@ use Rattle.std.proofs.lemmas.List.{length-append, append-nil}
 use Rattle.std.specs.Prelude.{IfSome}
 use Rattle.std.specs.Io.KnownBytes.{Appends, Consumes}
 use Rattle.tp_model.specs.Words.step
-use Rattle.tp_model.specs.Words.{Scenario, Step, TxnId}
+use Rattle.tp_model.specs.Words.{Actor, Scenario, Step, TxnId}
 use Rattle.tp_scenario.proofs.ReadLemmas.{says_one}
 use Rattle.tp_io.specs.Whole.{TakesAtMost, TakesExactly, input_max}
 use Rattle.tp_scenario.specs.declared.from_bytes.ScenarioError.{ScenarioError}
@@ -15,7 +15,7 @@ use Rattle.tp_top.specs.declared.status.Status.{Status}
 use Rattle.tp_top.specs.declared.status.Status.TheVariants.{Done, Refused, NoMemory, Budget}
 use Rattle.tp_machine.specs.declared.actors.Actors.{Actors}
 use Rattle.tp_machine.specs.Machine.{Machine, after_step, ending_of}
-use Rattle.tp_top.specs.Auto.{automatic_from, cursor_after, first_armed, is_quiet, lowest_unsubmitted, next_by, next_of}
+use Rattle.tp_top.specs.Auto.{automatic_from, cursor_after, first_armed, is_quiet, lowest_down, lowest_unsubmitted, next_by, next_of}
 use Rattle.tp_top.specs.Headline.{PrintsTrusted, comes_by_itself}
 use Rattle.tp_top.specs.Refusals.{refusal_line, step_line}
 use Rattle.tp_top.specs.Input.{AreRefused, Reads, TakesAll}
@@ -52,15 +52,20 @@ unasked_by_itself : (found armed : Option TxnId) (taken : Step) → option_or (o
 unasked_by_itself None armed taken e = chosen_by_itself (λ (txn : TxnId). step.Timer txn) (λ txn. refl) armed taken e
 unasked_by_itself (Some txn) armed taken e = chosen_by_itself (λ (t : TxnId). step.Submit t) (λ t. refl) (Some txn) taken e
 
-next_by_itself : (sc : Scenario) (actors : Actors) (cursor : ℕ) (oldest : Option ℕ) (taken : Step) → next_by sc actors cursor oldest ≡ Some taken → comes_by_itself taken ≡ true
-next_by_itself sc actors cursor None taken e = unasked_by_itself (lowest_unsubmitted sc actors) (first_armed sc actors cursor) taken e
-next_by_itself sc actors cursor (Some mail) taken e = subst (λ (s : Step). comes_by_itself s ≡ true) (same_Some (step.Deliver mail) taken e) refl
+running_by_itself : (sc : Scenario) (actors : Actors) (cursor : ℕ) (oldest : Option ℕ) (taken : Step) → next_by sc actors cursor oldest ≡ Some taken → comes_by_itself taken ≡ true
+running_by_itself sc actors cursor None taken e = unasked_by_itself (lowest_unsubmitted sc actors) (first_armed sc actors cursor) taken e
+running_by_itself sc actors cursor (Some mail) taken e = subst (λ (s : Step). comes_by_itself s ≡ true) (same_Some (step.Deliver mail) taken e) refl
+
+next_by_itself : (sc : Scenario) (m : Machine) (cursor : ℕ) (down : Option Actor) (taken : Step) → option_or (option_map (λ (who : Actor). step.Boot who) down) (next_by sc m.state.actors cursor (slice_get m.undelivered 0)) ≡ Some taken
+    → comes_by_itself taken ≡ true
+next_by_itself sc m cursor None taken e = running_by_itself sc m.state.actors cursor (slice_get m.undelivered 0) taken e
+next_by_itself sc m cursor (Some who) taken e = subst (λ (s : Step). comes_by_itself s ≡ true) (same_Some (step.Boot who) taken e) refl
 
 rest_by_themselves : (sc : Scenario) (left cursor : ℕ) (m : Machine) (next : Option Step) → next_of sc m cursor ≡ next → ((after : ℕ) (k : Machine) → list_all comes_by_itself (automatic_from sc left after k) ≡ true)
     → list_all comes_by_itself (option_map_or (λ (taken : Step). taken ∷ automatic_from sc left (cursor_after taken cursor) (after_step sc m taken)) next []) ≡ true
 rest_by_themselves sc left cursor m None e rest = refl
 rest_by_themselves sc left cursor m (Some taken) e rest =
-    let here : comes_by_itself taken ≡ true = next_by_itself sc m.state.actors cursor (slice_get m.undelivered 0) taken e in
+    let here : comes_by_itself taken ≡ true = next_by_itself sc m cursor (lowest_down sc m.state.actors) taken e in
     let later : list_all comes_by_itself (automatic_from sc left (cursor_after taken cursor) (after_step sc m taken)) ≡ true = rest (cursor_after taken cursor) (after_step sc m taken) in
     grind arith
 

@@ -1,11 +1,11 @@
 -- The history of a whole run is trusted: the invariants of every world, and the end of the one run.
-use Rattle.std.proofs.Common.{◌≡◌, ℕ, zero, suc, ◌+◌, ◌-◌, ◌<◌, ◌≤◌, ◌==◌, List, [], ◌∷◌, ◌++◌, length, drop, take, find, cond, nat_lt, slice_get, Bool, true, false, not, Option, Some, None, option_map, if◌then◌else◌, refl, sym, ap, subst, ◌∙◌, arith, append_assoc}
+use Rattle.std.proofs.Common.{◌≡◌, ℕ, zero, suc, ◌+◌, ◌-◌, ◌<◌, ◌≤◌, ◌==◌, List, [], ◌∷◌, ◌++◌, length, nat_lt, slice_get, Bool, true, false, not, Option, Some, None, option_map, if◌then◌else◌, refl, sym, ap, subst, ◌∙◌, arith, append_assoc}
 use Rattle.std.specs.List.{range_with_len}
 use Rattle.std.specs.Option.{option_or}
 use Rattle.std.proofs.lemmas.Bool.Decides.{nat_tests}
 use Rattle.std.proofs.lemmas.List.{append_assoc, append-nil, length-append}
 use Rattle.std.proofs.lemmas.Option.{same_Some}
-use Rattle.tp_model.specs.Words.{Scenario, Step, TxnId}
+use Rattle.tp_model.specs.Words.{Actor, Scenario, Step, TxnId}
 use Rattle.tp_model.specs.Words.step
 use Rattle.tp_model.specs.Words.what
 use Rattle.tp_model.specs.Built.{is_built}
@@ -13,19 +13,18 @@ use Rattle.tp_model.specs.TrustedHistory.{TrustedHistory, TrustedSoFar, have_end
 use Rattle.tp_machine.specs.declared.error.StepError.{StepError}
 use Rattle.tp_machine.specs.declared.error.StepError.TheVariants as error
 use Rattle.tp_runs.specs.Laws.{HasAllCommits, HasAllEnds, IsTrustedState}
-use Rattle.tp_machine.specs.Machine.{Machine, Move, State, after, after_step, after_steps, delivery, ending_of, idle_move, is_armed_at, is_submitted, machine_after, mails_of, opening, publishes, pushes, refusal, revokes, state_after, submission, ticks, times, with_new, without_number}
-use Rattle.tp_machine.specs.WorldView.{IsBuiltStep}
+use Rattle.tp_machine.specs.Machine.{Machine, Move, State, after, after_step, after_steps, boots, crashes, delivery, ending_of, idle_move, is_submitted, machine_after, mails_of, opening, publishes, pushes, refusal, revokes, state_after, submission, ticks, times, with_new, without_number}
 use Rattle.tp_types.specs.Each.{Each}
 use Rattle.tp_machine.specs.Named.{IsStepOf, IsTxn}
 use Rattle.tp_machine.proofs.basics.Machine.{steps_next}
 use Rattle.tp_machine.proofs.basics.Timers.{timer_allowed}
-use Rattle.tp_types.proofs.EachLemmas.{each_append, each_as, each_drop, each_filter, each_map}
-use Rattle.tp_top.specs.Auto.{automatic_from, cursor_after, first_armed, is_quiet, lowest_unsubmitted, next_by, next_of, txns_of}
+use Rattle.tp_types.proofs.EachLemmas.{each_append, each_as, each_filter}
+use Rattle.tp_top.specs.Auto.{automatic_from, cursor_after, first_armed, is_quiet, lowest_down, lowest_unsubmitted, next_by, next_of, txns_of}
 use Rattle.tp_top.specs.Listed.{refused_from}
 use Rattle.tp_top.specs.Run.{all_steps, automatic, automatic_bound, final, first_refused, after_listed}
 use Rattle.tp_top.proofs.AutoLemmas.{after_allowed, automatic-none, automatic-some}
-use Rattle.tp_top.proofs.NextLemmas.{armed_found, below, found_holds, quiet_finished, txns_exist}
-use Rattle.tp_top.proofs.ListedRun.{listed_exist, listed_kinds, none_refused}
+use Rattle.tp_top.proofs.NextLemmas.{armed_found, below, boot_allowed, down_found, found_holds, quiet_finished, txns_exist}
+use Rattle.tp_top.proofs.ListedRun.{listed_exist, none_refused}
 
 -- ---- the undelivered mails were sent
 
@@ -59,14 +58,16 @@ sent_next sc m (step.Push admin server) h = sent_after m.state (step.Push admin 
 sent_next sc m (step.Tick by) h = sent_after m.state (step.Tick by) (ticks m.state.actors by) m.undelivered h
 sent_next sc m (step.Revoke cred) h = sent_after m.state (step.Revoke cred) (revokes m.state.actors cred) m.undelivered h
 sent_next sc m (step.Timer txn) h = sent_after m.state (step.Timer txn) (times sc m.state.actors txn) m.undelivered h
-sent_next sc m _ h = h
+sent_next sc m (step.Crash who None) h = sent_after m.state (step.Crash who None) (crashes sc m.state.actors m.state.mails who None) m.undelivered h
+sent_next sc m (step.Crash who (Some cut)) h =
+    sent_after m.state (step.Crash who (Some cut)) (crashes sc m.state.actors m.state.mails who (Some cut)) (without_number m.undelivered cut.mail) (sent_without m.state m.undelivered cut.mail h)
+sent_next sc m (step.Boot who) h = sent_after m.state (step.Boot who) (boots sc m.state.actors who) m.undelivered h
 
 -- ---- the next automatic step is done
 
--- it names what exists, is of a kind that is built, and is not refused
+-- it names what exists, and is not refused
 record IsDone (sc : Scenario) (m : Machine) (taken : Step) : Type 0 where
   pub exists : IsStepOf sc taken
-  pub kind : IsBuiltStep taken
   pub allowed : refusal m.state taken ≡ None
 
 first_holds : (P : ℕ → Type 0) (numbers : List ℕ) (number : ℕ) → Each P numbers → slice_get numbers 0 ≡ Some number → P number
@@ -89,26 +90,33 @@ submit_done sc m None taken e f = absurd (cc)
 submit_done sc m (Some txn) taken e f =
     let facts = found_holds (IsTxn sc) (λ (t : TxnId). not (is_submitted m.state.actors t)) (txns_of sc) txn (txns_exist sc) e in
     subst (IsDone sc m) (same_Some (step.Submit txn) taken f)
-    (record { exists = facts.0; kind = tt; allowed = submitted_allowed (is_submitted m.state.actors txn) (error.AlreadySubmitted txn) facts.1 })
+    (record { exists = facts.0; allowed = submitted_allowed (is_submitted m.state.actors txn) (error.AlreadySubmitted txn) facts.1 })
 
 timer_done : (sc : Scenario) (m : Machine) (cursor : ℕ) (found : Option TxnId) (taken : Step) → first_armed sc m.state.actors cursor ≡ found → option_map (λ (txn : TxnId). step.Timer txn) found ≡ Some taken
     → IsDone sc m taken
 timer_done sc m cursor None taken e f = absurd (cc)
 timer_done sc m cursor (Some txn) taken e f =
     let facts = armed_found sc m.state.actors cursor txn e in
-    subst (IsDone sc m) (same_Some (step.Timer txn) taken f) (record { exists = facts.0; kind = tt; allowed = timer_allowed m.state txn facts.1 })
+    subst (IsDone sc m) (same_Some (step.Timer txn) taken f) (record { exists = facts.0; allowed = timer_allowed m.state txn facts.1 })
 
 unasked_done : (sc : Scenario) (m : Machine) (cursor : ℕ) (found : Option TxnId) (taken : Step) → lowest_unsubmitted sc m.state.actors ≡ found
     → option_or (option_map (λ (txn : TxnId). step.Submit txn) found) (option_map (λ (txn : TxnId). step.Timer txn) (first_armed sc m.state.actors cursor)) ≡ Some taken → IsDone sc m taken
 unasked_done sc m cursor None taken e f = timer_done sc m cursor (first_armed sc m.state.actors cursor) taken refl f
 unasked_done sc m cursor (Some txn) taken e f = submit_done sc m (Some txn) taken e f
 
-next_done : (sc : Scenario) (m : Machine) (cursor : ℕ) (oldest : Option ℕ) (taken : Step) → AreSent m → slice_get m.undelivered 0 ≡ oldest → next_by sc m.state.actors cursor oldest ≡ Some taken → IsDone sc m taken
-next_done sc m cursor None taken h e f = unasked_done sc m cursor (lowest_unsubmitted sc m.state.actors) taken refl f
-next_done sc m cursor (Some mail) taken h e f =
+running_done : (sc : Scenario) (m : Machine) (cursor : ℕ) (oldest : Option ℕ) (taken : Step) → AreSent m → slice_get m.undelivered 0 ≡ oldest → next_by sc m.state.actors cursor oldest ≡ Some taken → IsDone sc m taken
+running_done sc m cursor None taken h e f = unasked_done sc m cursor (lowest_unsubmitted sc m.state.actors) taken refl f
+running_done sc m cursor (Some mail) taken h e f =
     let low : mail < length m.state.mails = first_holds (λ (number : ℕ). number < length m.state.mails) m.undelivered mail h e in
     subst (IsDone sc m) (same_Some (step.Deliver mail) taken f)
-    (record { exists = tt; kind = tt; allowed = mail_allowed (length m.state.mails) mail (nat_lt mail (length m.state.mails)) (error.NoSuchMail mail (length m.state.mails)) low refl })
+    (record { exists = tt; allowed = mail_allowed (length m.state.mails) mail (nat_lt mail (length m.state.mails)) (error.NoSuchMail mail (length m.state.mails)) low refl })
+
+next_done : (sc : Scenario) (m : Machine) (cursor : ℕ) (down : Option Actor) (taken : Step) → AreSent m → lowest_down sc m.state.actors ≡ down
+    → option_or (option_map (λ (who : Actor). step.Boot who) down) (next_by sc m.state.actors cursor (slice_get m.undelivered 0)) ≡ Some taken → IsDone sc m taken
+next_done sc m cursor None taken h e f = running_done sc m cursor (slice_get m.undelivered 0) taken h refl f
+next_done sc m cursor (Some who) taken h e f =
+    let facts = down_found sc m.state.actors who e in
+    subst (IsDone sc m) (same_Some (step.Boot who) taken f) (record { exists = facts.0; allowed = boot_allowed m.state who facts.1 })
 
 -- ---- steps that are done
 
@@ -123,14 +131,14 @@ done_first sc m taken others d rest =
     record {
       exist = (d.exists, rest.exist);
       steps_are = ap (λ (k : Machine). (after_steps sc k others).state.steps) (after_allowed sc m taken d.allowed)
-          ∙ (rest.steps_are ∙ (ap (λ (steps : List Step). steps ++ others) (steps_next sc m taken d.kind) ∙ append_assoc m.state.steps (taken ∷ []) others));
+          ∙ (rest.steps_are ∙ (ap (λ (steps : List Step). steps ++ others) (steps_next sc m taken) ∙ append_assoc m.state.steps (taken ∷ []) others));
     }
 
 by_next : (sc : Scenario) (left cursor : ℕ) (m : Machine) (next : Option Step) → next_of sc m cursor ≡ next → AreSent m
     → ((cursor : ℕ) (k : Machine) → AreSent k → AreDone sc k (automatic_from sc left cursor k)) → AreDone sc m (automatic_from sc (suc left) cursor m)
 by_next sc left cursor m None e h rest = subst (AreDone sc m) (sym (automatic-none sc (suc left) cursor m e)) (record { exist = tt; steps_are = sym (append-nil m.state.steps) })
 by_next sc left cursor m (Some taken) e h rest =
-    let done : IsDone sc m taken = next_done sc m cursor (slice_get m.undelivered 0) taken h refl e in
+    let done : IsDone sc m taken = next_done sc m cursor (lowest_down sc m.state.actors) taken h refl e in
     subst (AreDone sc m) (sym (automatic-some sc left cursor m taken e done.allowed))
     (done_first sc m taken (automatic_from sc left (cursor_after taken cursor) (machine_after sc m taken)) done
     (rest (cursor_after taken cursor) (machine_after sc m taken) (sent_next sc m taken h)))
@@ -159,16 +167,16 @@ done_after sc m first more f g =
     }
 
 -- listed steps of which none is refused are done
-listed_done : (sc : Scenario) (m : Machine) (at : ℕ) (steps : List Step) → Each (IsStepOf sc) steps → Each IsBuiltStep steps → refused_from sc m at steps ≡ None → AreDone sc m steps
-listed_done sc m at [] exist kinds none = record { exist = tt; steps_are = sym (append-nil m.state.steps) }
-listed_done sc m at (taken ∷ steps) exist kinds none =
+listed_done : (sc : Scenario) (m : Machine) (at : ℕ) (steps : List Step) → Each (IsStepOf sc) steps → refused_from sc m at steps ≡ None → AreDone sc m steps
+listed_done sc m at [] exist none = record { exist = tt; steps_are = sym (append-nil m.state.steps) }
+listed_done sc m at (taken ∷ steps) exist none =
     let n = none_refused sc m at taken steps none in
-    done_first sc m taken steps (record { exists = exist.0; kind = kinds.0; allowed = n.allowed })
-    (listed_done sc (machine_after sc m taken) (at + 1) steps exist.1 kinds.1 n.rest)
+    done_first sc m taken steps (record { exists = exist.0; allowed = n.allowed })
+    (listed_done sc (machine_after sc m taken) (at + 1) steps exist.1 n.rest)
 
 -- the machine then has exactly these steps
 pub listed_steps : (sc : Scenario) → is_built sc ≡ true → first_refused sc ≡ None → (after_listed sc).state.steps ≡ sc.steps
-listed_steps sc built lawful = (listed_done sc (opening sc) 0 sc.steps (listed_exist sc built) (listed_kinds sc built) lawful).steps_are
+listed_steps sc built lawful = (listed_done sc (opening sc) 0 sc.steps (listed_exist sc built) lawful).steps_are
 
 -- and the undelivered mails after them were sent
 listed_sent : (sc : Scenario) (m : Machine) (at : ℕ) (steps : List Step) → refused_from sc m at steps ≡ None → AreSent m → AreSent (after_steps sc m steps)
@@ -182,7 +190,7 @@ listed_sent sc m at (taken ∷ steps) none h =
 all_done : (sc : Scenario) → is_built sc ≡ true → first_refused sc ≡ None → AreDone sc (opening sc) (all_steps sc)
 all_done sc built lawful =
     done_after sc (opening sc) sc.steps (automatic sc)
-    (listed_done sc (opening sc) 0 sc.steps (listed_exist sc built) (listed_kinds sc built) lawful)
+    (listed_done sc (opening sc) 0 sc.steps (listed_exist sc built) lawful)
     (automatic_done sc (automatic_bound sc) 0 (after_listed sc) (listed_sent sc (opening sc) 0 sc.steps lawful tt))
 
 steps_of : (sc : Scenario) → is_built sc ≡ true → first_refused sc ≡ None → (final sc).state.steps ≡ all_steps sc

@@ -2,10 +2,11 @@
 use Rattle.std.specs.Prelude.{◌≡◌, ◌<◌, ℕ, ◌+◌, ◌*◌, max, List, [], ◌∷◌, length, map, drop, find, fold, slice_get, take, Bool, false, not, Option, Some, None, is_none, option_map, zero, suc}
 use Rattle.std.specs.List.{range_with_len}
 use Rattle.std.specs.Option.{option_map_or, option_or}
-use Rattle.tp_model.specs.Words.{Scenario, Step, Transaction, TxnId}
+use Rattle.tp_model.specs.Words.{Actor, Scenario, ServerId, Step, Transaction, TxnId}
+use Rattle.tp_model.specs.Words.actor
 use Rattle.tp_model.specs.Words.step
 use Rattle.tp_machine.specs.declared.actors.Actors.{Actors}
-use Rattle.tp_machine.specs.Machine.{Machine, after_step, after_steps, is_armed_at, is_submitted}
+use Rattle.tp_machine.specs.Machine.{Machine, after_step, after_steps, is_armed_at, is_down, is_submitted}
 use Rattle.tp_machine.specs.WorldView.{GivesUp, WorldView}
 
 -- ---- which step is next
@@ -13,6 +14,24 @@ use Rattle.tp_machine.specs.WorldView.{GivesUp, WorldView}
 -- the scenario's transactions, in order
 abbrev pub txns_of : Scenario → List TxnId
 txns_of sc = map (λ (n : ℕ). record { 0 = n }) (range_with_len 0 (length sc.txns))
+
+-- the scenario's servers, in order
+abbrev pub servers_of : Scenario → List ServerId
+servers_of sc = map (λ (n : ℕ). record { 0 = n }) (range_with_len 0 (length sc.servers))
+
+abbrev pub server_down : Scenario → Actors → Option ServerId
+server_down sc actors =
+    find (λ (at : ServerId). is_down actors (actor.Server at)) (servers_of sc)
+
+abbrev pub coordinator_down : Scenario → Actors → Option TxnId
+coordinator_down sc actors =
+    find (λ (txn : TxnId). is_down actors (actor.Coordinator txn)) (txns_of sc)
+
+-- the lowest actor that is down, servers before coordinators
+abbrev pub lowest_down : Scenario → Actors → Option Actor
+lowest_down sc actors =
+    option_or (option_map (λ (at : ServerId). actor.Server at) (server_down sc actors))
+    (option_map (λ (txn : TxnId). actor.Coordinator txn) (coordinator_down sc actors))
 
 -- the lowest transaction that is not submitted
 abbrev pub lowest_unsubmitted : Scenario → Actors → Option TxnId
@@ -31,9 +50,11 @@ next_by sc actors cursor None =
     option_or (option_map (λ (txn : TxnId). step.Submit txn) (lowest_unsubmitted sc actors))
     (option_map (λ (txn : TxnId). step.Timer txn) (first_armed sc actors cursor))
 
--- the next automatic step, if there is one; timers are looked for from the cursor on
+-- the next automatic step, if there is one. Before all else who is down boots; timers are looked for from the cursor on
 abbrev pub next_of : Scenario → Machine → ℕ → Option Step
-next_of sc m cursor = next_by sc m.state.actors cursor (slice_get m.undelivered 0)
+next_of sc m cursor =
+    option_or (option_map (λ (who : Actor). step.Boot who) (lowest_down sc m.state.actors))
+    (next_by sc m.state.actors cursor (slice_get m.undelivered 0))
 
 -- a timer that fired moves the cursor behind its transaction
 abbrev pub cursor_after : Step → ℕ → ℕ

@@ -8,11 +8,12 @@ use Rattle.tp_model.specs.Words.{Ending, Fact, Scenario, Step}
 use Rattle.tp_top.specs.Input.{Reads, TakesAll}
 use Rattle.tp_top.specs.ReportText.{report_text}
 
--- a step that the automatic phase may take: a submission of a transaction, the delivery of a mail, or a timer
+-- a step that the automatic phase may take: a submission of a transaction, the delivery of a mail, a timer, or a boot
 abbrev pub comes_by_itself : Step → Bool
 comes_by_itself (step.Submit txn) = true
 comes_by_itself (step.Deliver mail) = true
 comes_by_itself (step.Timer txn) = true
+comes_by_itself (step.Boot who) = true
 comes_by_itself _ = false
 
 -- the input was read whole as a scenario, and exactly the report of a trusted history of it was written, whose steps are the listed ones and then such

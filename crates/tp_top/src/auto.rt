@@ -1,16 +1,15 @@
 //! The automatic phase: what happens by itself when no step is listed, until the world is quiet.
-ghost use Rattle.std.specs.Prelude.{◌≡◌, ◌≢◌, ◌<◌, ◌≤◌, ◌^◌, true, false, None, drop, find, length, take, IfSome};
+ghost use Rattle.std.specs.Prelude.{◌≡◌, ◌≢◌, ◌<◌, ◌≤◌, ◌^◌, true, false, None, drop, find, length, slice_get, take, IfSome};
 ghost use Rattle.tp_model.specs.Words.step;
 ghost use Rattle.tp_model.specs.Built as built;
 ghost use Rattle.tp_machine.specs.Machine.{is_armed_at, is_submitted, refusal};
-ghost use Rattle.tp_machine.specs.WorldView.{IsBuiltStep};
 ghost use Rattle.tp_machine.specs.Named.{IsStepOf, IsTxn};
 ghost use Rattle.tp_top.specs.Auto as automatic;
 ghost use Rattle.tp_top.specs.Auto.{Drains, IsSpent, Stops, is_quiet, lowest_unsubmitted, next_of};
 
 use std::alloc::Global;
 use tp_machine::World;
-use tp_types::{Scenario, Step, Transaction, TxnId};
+use tp_types::{Actor, Scenario, ServerId, Step, Transaction, TxnId};
 
 /// How a drain ended.
 #[derive(Drop)]
@@ -74,12 +73,43 @@ fn first_armed(world: &World, cursor: u32) -> Option<TxnId>
     }
 }
 
-/// The next step that comes by itself, or None where the world is quiet: the oldest undelivered mail is delivered, or else
-/// the lowest transaction that is not submitted is submitted, or else the timer of the first armed transaction at or after the
-/// cursor fires, going round.
-pub fn next(world: &World, cursor: u32) -> Option<Step>
-    ensures value { result ≡ next_of world.now.scenario world.now.machine cursor }
-    ensures built { IfSome result IsBuiltStep }
+/// The lowest server that is down.
+#[tactic(auto, using(crate::proofs::BoundLemmas::few_servers_built))]
+fn server_down(world: &World) -> Option<ServerId>
+    ensures value { result
+        ≡ automatic.server_down world.now.scenario world.now.machine.state.actors }
+{
+    (0..world.scenario().servers.len() as u32)
+        .map(ServerId)
+        .find(|at| world.down(&Actor::Server(*at)))
+}
+
+/// The lowest coordinator that is down.
+#[tactic(auto, using(crate::proofs::BoundLemmas::few_txns_built))]
+fn coordinator_down(world: &World) -> Option<TxnId>
+    ensures value { result
+        ≡ automatic.coordinator_down world.now.scenario world.now.machine.state.actors }
+{
+    (0..world.scenario().txns.len() as u32)
+        .map(TxnId)
+        .find(|txn| world.down(&Actor::Coordinator(*txn)))
+}
+
+/// The lowest actor that is down, servers before coordinators.
+fn lowest_down(world: &World) -> Option<Actor>
+    ensures value { result
+        ≡ automatic.lowest_down world.now.scenario world.now.machine.state.actors }
+{
+    match server_down(world) {
+        Some(at) => Some(Actor::Server(at)),
+        None => coordinator_down(world).map(Actor::Coordinator),
+    }
+}
+
+/// The next step that comes by itself where nobody is down.
+fn next_running(world: &World, cursor: u32) -> Option<Step>
+    ensures value { result ≡ automatic.next_by world.now.scenario world.now.machine.state.actors
+        cursor (slice_get world.now.machine.undelivered 0) }
     ensures ids { IfSome result (IsStepOf world.now.scenario) }
     ensures allowed { IfSome result (λ step. refusal world.now.machine.state step ≡ None) }
 {
@@ -89,6 +119,20 @@ pub fn next(world: &World, cursor: u32) -> Option<Step>
             Some(txn) => Some(Step::Submit { txn }),
             None => first_armed(world, cursor).map(|txn| Step::Timer { txn }),
         },
+    }
+}
+
+/// The next step that comes by itself, or None where the world is quiet: the lowest actor that is down boots, or else the
+/// oldest undelivered mail is delivered, or else the lowest transaction that is not submitted is submitted, or else the timer of
+/// the first armed transaction at or after the cursor fires, going round.
+pub fn next(world: &World, cursor: u32) -> Option<Step>
+    ensures value { result ≡ next_of world.now.scenario world.now.machine cursor }
+    ensures ids { IfSome result (IsStepOf world.now.scenario) }
+    ensures allowed { IfSome result (λ step. refusal world.now.machine.state step ≡ None) }
+{
+    match lowest_down(world) {
+        Some(actor) => Some(Step::Boot { actor }),
+        None => next_running(world, cursor),
     }
 }
 

@@ -1,6 +1,5 @@
 //! The listed steps: they are done in order, until one is refused.
 ghost use Rattle.std.specs.Prelude.{◌≡◌, false, IfOk};
-ghost use Rattle.tp_machine.specs.WorldView.{IsBuiltStep};
 ghost use Rattle.tp_types.specs.Each.{Each};
 ghost use Rattle.tp_machine.specs.Named.{IsStepOf};
 ghost use Rattle.tp_top.specs.mirrors.Answers.{Follows};
@@ -24,7 +23,6 @@ pub fn follow(
     alloc: Global,
     steps: &[Step],
 ) -> Result<Option<StepRefusal>, NoMemory>
-    requires kinds { Each IsBuiltStep steps.now }
     requires ids { Each (IsStepOf world.old.scenario) steps.now }
     requires up { world.old.given_up ≡ false }
     ensures { IfOk result (Follows world.old world.new steps.now) }

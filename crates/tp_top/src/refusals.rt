@@ -116,6 +116,11 @@ fn put_step_fault(line: &mut Vec<u8>, scenario: &Scenario, why: StepError) -> Re
             put(line, b" isdown ")?;
             put_actor(line, scenario, actor)
         }
+        StepError::NotDown { actor } => {
+            put(line, b" notdown ")?;
+            put_actor(line, scenario, actor)
+        }
+        StepError::NotItsMail { mail } => put_after(line, b" notitsmail ", mail),
         StepError::NoMore { admin } => {
             put(line, b" nomore ")?;
             put_admin(line, scenario, admin)

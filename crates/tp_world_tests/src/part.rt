@@ -2,7 +2,7 @@
 use crate::refused::count;
 use std::process::Abort;
 use tp_machine::Part;
-use tp_types::Record;
+use tp_types::{Cut, Record};
 
 /// An actor that has forced one record. What its state is makes no difference here.
 fn logged_once(rt: &(impl Abort + AllocGlobal)) -> Part<u64> {
@@ -38,13 +38,37 @@ fn an_actor_keeps_its_log_over_a_crash(rt: HostRuntime) {
 /// How many records an actor has that crashed within its second append, after so many calls of its disk.
 fn cut_after(rt: &(impl Abort + AllocGlobal), calls: u32, fill: u8) -> usize {
     let mut part = logged_once(rt);
-    if part.is_down() {
-        drop(part);
-        return 0;
-    }
-    let cut = part.cut(rt.alloc(), &Record::Boot, calls, fill);
-    cut.expect(rt, "memory for a record");
+    let cut = Cut {
+        mail: 0,
+        calls,
+        fill,
+    };
+    let torn = part.cut(rt.alloc(), &Some(Record::Boot), cut);
+    part.crash(rt.alloc());
+    torn.expect(rt, "memory for a record");
     reread(rt, part)
+}
+
+/// How many records an actor has that booted after such a crash, with one more for its boot, and whether it is up.
+fn booted_after(rt: &(impl Abort + AllocGlobal), calls: u32) -> Option<usize> {
+    let mut part = logged_once(rt);
+    let cut = Cut {
+        mail: 0,
+        calls,
+        fill: 0,
+    };
+    let torn = part.cut(rt.alloc(), &Some(Record::Boot), cut);
+    part.crash(rt.alloc());
+    let forced = part.force(rt.alloc(), &Some(Record::Boot));
+    part.comes_up(8);
+    let is_up = part.state() == Some(&8);
+    let count = count(part.disk().content());
+    drop(part);
+    if torn.is_ok() && forced.is_ok() && is_up {
+        Some(count)
+    } else {
+        None
+    }
 }
 
 #[test]
@@ -56,4 +80,10 @@ fn an_actor_crashes_within_an_append(rt: HostRuntime) {
             assert!(rt; cut_after(&rt, calls, fill) == wanted);
         }
     }
+}
+
+#[test]
+fn an_actor_boots_on_what_is_left(rt: HostRuntime) {
+    assert!(rt; booted_after(&rt, 2) == Some(2));
+    assert!(rt; booted_after(&rt, 4) == Some(3));
 }

@@ -1,28 +1,27 @@
 -- What the disk of an actor's log holds.
-use Rattle.std.proofs.Common.{◌≡◌, inl, inr, ℕ, ◌<◌, ◌≤◌, List, [], ◌∷◌, ◌++◌, length, None, Option, Some, Bool, true, false, Result, Ok, Err, OnErr, OnOk, refl, sym, ap, subst, ◌∙◌, arith}
-use Rattle.std.specs.Prelude.{is_none, is_some}
+use Rattle.std.proofs.Common.{◌≡◌, inl, inr, ℕ, ◌<◌, ◌≤◌, List, [], ◌∷◌, ◌++◌, length, None, Option, Some, Bool, true, false, if◌then◌else◌, Result, Ok, Err, OnErr, OnOk, refl, sym, ap, subst, ◌∙◌, arith}
 use Rattle.std.proofs.lemmas.Bool.{cases_lt}
 use Rattle.tp_device.specs.Disks.{DiskState, MayLeave, after_sync, clean_state}
 use Rattle.tp_device.specs.Memory.{Memory, disk_of}
 use Rattle.tp_log.specs.Images.{Gives}
-use Rattle.tp_log.specs.Logs.{Keeps, LogState, fresh_log}
+use Rattle.tp_log.specs.Logs.{Keeps, LogState, fresh_log, kept_after}
 use Rattle.tp_log.proofs.Appends.{clean_image}
 use Rattle.tp_log.proofs.Blocks.{gives_one}
 use Rattle.tp_log.proofs.Found.{gives_found}
-use Rattle.tp_model.specs.Words.{Record}
+use Rattle.tp_model.specs.Words.{Cut, Record}
 use Rattle.tp_machine.specs.Logs.{IsDiskOf}
-use Rattle.tp_machine.specs.Machine.{is_part_down}
+use Rattle.tp_machine.specs.Machine.{cut_record, is_kept, log_with}
 use Rattle.tp_machine.specs.Parts.{Part}
 use Rattle.tp_machine.specs.mirrors.Disks.{IsForced, records_on}
 
--- a log holds these records on its disk, and the actor is up or down
-pub record HasRecords (up : Bool) (log : LogState Memory) (records : List Record) : Type 0 where
-  pub forced : IsForced up log
+-- a log has these records on its disk
+pub record HasRecords (log : LogState Memory) (records : List Record) : Type 0 where
+  pub forced : IsForced log
   pub same : records_on log ≡ records
 
 -- one that keeps them does
-pub kept_records : (up : Bool) (log : LogState Memory) (records : List Record) → Keeps disk_of log records → log.disk.left ≡ None → HasRecords up log records
-kept_records up log records keeps running =
+pub kept_records : (log : LogState Memory) (records : List Record) → Keeps disk_of log records → log.disk.left ≡ None → HasRecords log records
+kept_records log records keeps running =
     let gives : Gives log.disk.disk.seen records = inr keeps.at_gate.ends in
     let same : records_on log ≡ records = gives_found log.disk.disk.seen records gives in
     record {
@@ -30,15 +29,14 @@ kept_records up log records keeps running =
         gives = subst (Gives log.disk.disk.seen) (sym same) gives;
         forced = keeps.forced;
         running = running;
-        is_open = λ _. keeps.still_open;
         keeps = λ _. subst (Keeps disk_of log) (sym same) keeps;
       };
       same = same;
     }
 
--- so does one that is closed, of an actor that is down, whose bytes give them
+-- so does one that is closed, whose bytes give them
 pub closed_records : (log : LogState Memory) (records : List Record) → Gives log.disk.disk.seen records → log.disk.disk ≡ clean_state log.disk.disk.seen → log.disk.left ≡ None → log.closed ≡ true
-    → HasRecords false log records
+    → HasRecords log records
 closed_records log records gives forced running closed =
     let same : records_on log ≡ records = gives_found log.disk.disk.seen records gives in
     record {
@@ -46,16 +44,15 @@ closed_records log records gives forced running closed =
         gives = subst (Gives log.disk.disk.seen) (sym same) gives;
         forced = forced;
         running = running;
-        is_open = λ e. absurd cc;
         keeps = λ e. absurd (cc (closed, e));
       };
       same = same;
     }
 
 -- so does a fresh one, which has none
-pub fresh_records : HasRecords true fresh_log []
+pub fresh_records : HasRecords fresh_log []
 fresh_records =
-    kept_records true fresh_log []
+    kept_records fresh_log []
     (record {
       still_open = refl;
       at_gate = record {
@@ -67,8 +64,8 @@ fresh_records =
     refl
 
 -- every image that a crash may leave of it gives its records
-pub forced_disk : (up : Bool) (log : LogState Memory) → IsForced up log → IsDiskOf log.disk (records_on log)
-forced_disk up log h image left =
+pub forced_disk : (log : LogState Memory) → IsForced log → IsDiskOf log.disk (records_on log)
+forced_disk log h image left =
     let same = clean_image log.disk.disk.seen image (subst (λ (s : DiskState). MayLeave s image) h.forced left) in
     subst (λ (t : List ℕ). Gives t (records_on log)) (sym same) h.gives
 
@@ -77,47 +74,41 @@ forced_disk up log h image left =
 abbrev pub part_of : {S : Type 0} → Option S → List Record → Part S
 part_of up records = record { up = up; log = records }
 
-up_or_down : {S : Type 0} (up : Option S) → is_none up ≡ false → is_some up ≡ true
-up_or_down None h = absurd cc
-up_or_down (Some s) h = refl
-
-not_up : {S : Type 0} (up : Option S) → is_none up ≡ true → is_some up ≡ false
-not_up None h = refl
-not_up (Some s) h = absurd cc
-
-pub stands_up : {S : Type 0} (up : Option S) (records : List Record) (part : Part S) → part_of up records ≡ part → is_part_down part ≡ false → is_some up ≡ true
-stands_up up records part same h = up_or_down up (ap is_part_down same ∙ h)
-
-pub stands_down : {S : Type 0} (up : Option S) (records : List Record) (part : Part S) → part_of up records ≡ part → is_part_down part ≡ true → is_some up ≡ false
-stands_down up records part same h = not_up up (ap is_part_down same ∙ h)
-
 pub log_in : {S : Type 0} (up : Option S) (records : List Record) (part : Part S) → part_of up records ≡ part → records ≡ part.log
 log_in {S} up records part same = ap (λ (p : Part S). p.log) same
+
+-- what a cut leaves of an append is the record or nothing
+pub torn : (cut : Cut) (kept : List Record) (r : Record) → kept_after cut.calls cut.fill kept r ≡ log_with kept (cut_record cut (Some r))
+torn cut kept r = by_case (is_kept cut)
+  where
+    by_case : (b : Bool) → (if b then kept ++ r ∷ [] else kept) ≡ log_with kept (if b then Some r else None)
+    by_case true = refl
+    by_case false = refl
 
 -- ---- an append
 
 -- what an append left, as it answered: one record more, or what was there
-pub record Appended {E : Type 0} (up : Bool) (old new : LogState Memory) (r : Record) (result : Result (Unit {0}) E) : Type 0 where
-  pub forced : IsForced up new
+pub record Appended {E : Type 0} (old new : LogState Memory) (r : Record) (result : Result (Unit {0}) E) : Type 0 where
+  pub forced : IsForced new
   pub one_more : OnOk result (records_on new ≡ records_on old ++ r ∷ [])
   pub same : OnErr result (records_on new ≡ records_on old)
 
-pub appended : {E : Type 0} (up : Bool) (old new : LogState Memory) (r : Record) (result : Result (Unit {0}) E) → IsForced up old → up ≡ true
+pub appended : {E : Type 0} (old new : LogState Memory) (r : Record) (result : Result (Unit {0}) E) → IsForced old → old.closed ≡ false
     → OnOk result ((records : List Record) → Keeps disk_of old records → Keeps disk_of new (records ++ r ∷ []))
     → OnErr result ((records : List Record) → Keeps disk_of old records → Keeps disk_of new records)
-    → new.disk.left ≡ None → Appended up old new r result
-appended up old new r (Ok x) h is_up kept stays running =
-    let now = kept_records up new (records_on old ++ r ∷ []) (kept (records_on old) (h.keeps (h.is_open is_up))) running in
+    → new.disk.left ≡ None → Appended old new r result
+appended old new r (Ok x) h is_open kept stays running =
+    let now = kept_records new (records_on old ++ r ∷ []) (kept (records_on old) (h.keeps is_open)) running in
     record { forced = now.forced; one_more = now.same; same = tt }
-appended up old new r (Err e) h is_up kept stays running =
-    let now = kept_records up new (records_on old) (stays (records_on old) (h.keeps (h.is_open is_up))) running in
+appended old new r (Err e) h is_open kept stays running =
+    let now = kept_records new (records_on old) (stays (records_on old) (h.keeps is_open)) running in
     record { forced = now.forced; one_more = tt; same = now.same }
 
 -- ---- a crash
 
--- one that crashed with nothing unsynced holds what it held
-pub crash_records : (up : Bool) (old new : LogState Memory) → IsForced up old → new.disk ≡ record old.disk { left = None } → new.closed ≡ true → HasRecords false new (records_on old)
-crash_records up old new h disk closed =
+-- one that crashed with nothing unsynced has what it had
+pub crash_records : (old new : LogState Memory) → IsForced old → new.disk ≡ record old.disk { left = None } → new.closed ≡ true → HasRecords new (records_on old)
+crash_records old new h disk closed =
     let state : new.disk.disk ≡ old.disk.disk = ap (λ (m : Memory). m.disk) disk in
     let seen : new.disk.disk.seen ≡ old.disk.disk.seen = ap (λ (s : DiskState). s.seen) state in
     closed_records new (records_on old) (subst (λ (t : List ℕ). Gives t (records_on old)) (sym seen) h.gives)
@@ -128,22 +119,22 @@ crash_records up old new h disk closed =
 abbrev synced : LogState Memory → Memory
 synced log = record log.disk { disk = after_sync log.disk.disk }
 
--- one that was opened anew holds what it held
-pub reread_records : (up : Bool) (old new : LogState Memory) (records : List Record) → IsForced up old → Gives old.disk.disk.seen records → Keeps disk_of new records
+-- one that was opened anew has what it had
+pub reread_records : (old new : LogState Memory) (records : List Record) → IsForced old → Gives old.disk.disk.seen records → Keeps disk_of new records
     → (1 < length old.disk.disk.seen → new.disk ≡ synced old)
     → (length old.disk.disk.seen ≤ 1 → new.disk ≡ record old.disk { disk = clean_state (0 ∷ []) })
-    → HasRecords up new (records_on old)
-reread_records up old new records h gives keeps long short =
+    → HasRecords new (records_on old)
+reread_records old new records h gives keeps long short =
     let same : records ≡ records_on old = gives_one old.disk.disk.seen records (records_on old) gives h.gives in
     let running : new.disk.left ≡ None = elim (cases_lt 1 (length old.disk.disk.seen)) [
       | inl lt ↦ ap (λ (m : Memory). m.left) (long lt) ∙ h.running
       | inr le ↦ ap (λ (m : Memory). m.left) (short le) ∙ h.running
     ] in
-    kept_records up new (records_on old) (subst (Keeps disk_of new) same keeps) running
+    kept_records new (records_on old) (subst (Keeps disk_of new) same keeps) running
 
--- and so does one that could not be
-pub unread_records : (up : Bool) (old new : LogState Memory) → IsForced up old → new.disk ≡ synced old → new.closed ≡ true → HasRecords false new (records_on old)
-unread_records up old new h disk closed =
+-- and so has one that could not be
+pub unread_records : (old new : LogState Memory) → IsForced old → new.disk ≡ synced old → new.closed ≡ true → HasRecords new (records_on old)
+unread_records old new h disk closed =
     let state : new.disk.disk ≡ after_sync old.disk.disk = ap (λ (m : Memory). m.disk) disk in
     let seen : new.disk.disk.seen ≡ old.disk.disk.seen = ap (λ (s : DiskState). s.seen) state in
     closed_records new (records_on old) (subst (λ (t : List ℕ). Gives t (records_on old)) (sym seen) h.gives)

@@ -1,18 +1,25 @@
 -- Records that a log takes, and how many actors there are.
-use Rattle.std.proofs.Common.{◌≡◌, ℕ, zero, suc, ◌+◌, List, [], ◌∷◌, ◌++◌, length, map, slice_get, slice_set, Option, None, Some, IfSome, refl, sym, ap, subst, ◌∙◌}
+use Rattle.std.proofs.Common.{◌≡◌, ℕ, zero, suc, ◌+◌, List, [], ◌∷◌, ◌++◌, length, map, slice_get, slice_set, Option, None, Some, IfSome, Bool, true, false, if◌then◌else◌, refl, sym, ap, subst, ◌∙◌}
+use Rattle.std.specs.Option.{option_or}
+use Rattle.std.proofs.lemmas.Bool.{eqb-true}
 use Rattle.std.proofs.lemmas.List.{length-map}
 use Rattle.std.proofs.lemmas.List.FromFn.{length-map-range_with_len}
 use Rattle.tp_coord.specs.Opened as coord
 use Rattle.tp_coord.specs.State.{Coordinator}
-use Rattle.tp_model.specs.Words.{Actor, Mail, Record, Scenario, ServerId, Step, TxnId}
+use Rattle.tp_model.specs.Words.{Actor, Cut, Mail, Record, Scenario, ServerId, Step, TxnId}
 use Rattle.tp_model.specs.Words.actor
 use Rattle.tp_model.specs.Words.step
 use Rattle.tp_server.specs.Opened as server
 use Rattle.tp_server.specs.State.{Server}
 use Rattle.tp_types.specs.Each.{Each}
 use Rattle.tp_machine.specs.declared.actors.Actors.{Actors}
-use Rattle.tp_machine.specs.Fits.{FitsLog}
-use Rattle.tp_machine.specs.Machine.{Machine, delivery, log_with, machine_after, opened_actors, opened_part, receipt, submission_by, to_coordinator, to_server, is_part_down}
+use Rattle.tp_machine.specs.Fits.{FitLogs, FitsLog, HasShortLog, received}
+use Rattle.tp_machine.specs.declared.error.StepError.{StepError}
+use Rattle.tp_machine.specs.declared.error.StepError.TheVariants as error
+use Rattle.tp_coord.specs.Row.{coordinator_row}
+use Rattle.tp_server.specs.Row.{server_row}
+use Rattle.tp_machine.specs.Named.{IsStepOf}
+use Rattle.tp_machine.specs.Machine.{Machine, coordinator_forces, coordinator_takes_up, same_actor, sent_elsewhere, server_forces, server_takes_up, boot_of_coordinator, boot_of_server, boots, crash_of_coordinator, crash_of_server, crashes, delivery, log_with, machine_after, missing_mail, opened_actors, opened_part, receipt, refusal, State, submission_by, to_coordinator, to_server, is_part_down}
 use Rattle.tp_machine.specs.Parts.{Part}
 use Rattle.tp_machine.specs.WorldView.{HasAllActors}
 use Rattle.tp_machine.specs.mirrors.Acts.{SameUp}
@@ -34,6 +41,46 @@ put_has P [] zero old new found h = absurd cc
 put_has P [] (suc n) old new found h = absurd cc
 put_has P (x ∷ xs) zero old new found h = h.0
 put_has P (x ∷ xs) (suc n) old new found h = put_has P xs n old new found h.1
+
+-- the record that a receipt forces is not too long where nothing on the log is after it
+pub server_forces_fit : (sc : Scenario) (at : ServerId) (part : Part Server) (mail : Mail) (up : Option Server) → HasShortLog (server_takes_up sc at part mail up).part → IfSome (server_forces sc up mail) FitsLog
+server_forces_fit sc at part mail None h = tt
+server_forces_fit sc at part mail (Some s) h = appended_fits part.log (server_row sc s mail).reaction.append h
+
+pub coordinator_forces_fit : (sc : Scenario) (part : Part Coordinator) (mail : Mail) (up : Option Coordinator) → HasShortLog (coordinator_takes_up sc part mail up).part → IfSome (coordinator_forces sc up mail) FitsLog
+coordinator_forces_fit sc part mail None h = tt
+coordinator_forces_fit sc part mail (Some c) h = appended_fits part.log (coordinator_row sc c mail).reaction.append h
+
+-- ---- whose mail it is
+
+same_actor_is : (one other : Actor) → same_actor one other ≡ true → one ≡ other
+same_actor_is (actor.Server one) (actor.Server other) e = ap (λ (n : ℕ). actor.Server (record { 0 = n })) (eqb-true one.0 other.0 e)
+same_actor_is (actor.Coordinator one) (actor.Coordinator other) e = ap (λ (n : ℕ). actor.Coordinator (record { 0 = n })) (eqb-true one.0 other.0 e)
+same_actor_is actor.Master actor.Master e = refl
+same_actor_is actor.Authority actor.Authority e = refl
+same_actor_is (actor.Server one) (actor.Coordinator other) e = absurd cc
+same_actor_is (actor.Server one) actor.Master e = absurd cc
+same_actor_is (actor.Server one) actor.Authority e = absurd cc
+same_actor_is (actor.Coordinator one) (actor.Server other) e = absurd cc
+same_actor_is (actor.Coordinator one) actor.Master e = absurd cc
+same_actor_is (actor.Coordinator one) actor.Authority e = absurd cc
+same_actor_is actor.Master (actor.Server other) e = absurd cc
+same_actor_is actor.Master (actor.Coordinator other) e = absurd cc
+same_actor_is actor.Master actor.Authority e = absurd cc
+same_actor_is actor.Authority (actor.Server other) e = absurd cc
+same_actor_is actor.Authority (actor.Coordinator other) e = absurd cc
+same_actor_is actor.Authority actor.Master e = absurd cc
+
+not_elsewhere : (who : Actor) (number : ℕ) (mail : Mail) (b : Bool) → same_actor mail.letter.to who ≡ b → (if b then None else Some (error.NotItsMail number)) ≡ None → mail.letter.to ≡ who
+not_elsewhere who number mail true e none = same_actor_is mail.letter.to who e
+not_elsewhere who number mail false e none = absurd cc
+
+-- a receipt in which an actor may crash is its own
+pub own_receipt : (sc : Scenario) (actors : Actors) (who : Actor) (number : ℕ) (found : Option Mail) (mail : Mail) → found ≡ Some mail → sent_elsewhere who number found ≡ None
+    → FitLogs (delivery sc actors found).actors → FitLogs (receipt sc actors mail who).actors
+own_receipt sc actors who number found mail e its fits =
+    let to : mail.letter.to ≡ who = not_elsewhere who number mail (same_actor mail.letter.to who) refl (subst (λ (o : Option Mail). sent_elsewhere who number o ≡ None) e its) in
+    subst (λ (a : Actor). FitLogs (receipt sc actors mail a).actors) to (subst (λ (o : Option Mail). FitLogs (delivery sc actors o).actors) e fits)
 
 -- ---- how many actors there are
 
@@ -77,6 +124,36 @@ at_submission : (sc : Scenario) (actors : Actors) (txn : TxnId) (place : ℕ) (f
 at_submission sc actors txn place None h = h
 at_submission sc actors txn place (Some part) h = coordinator_put sc actors txn.0 _ h
 
+server_crashed : (sc : Scenario) (actors : Actors) (mails : List Mail) (at : ServerId) (cut : Option Cut) (found : Option (Part Server)) → HasAllActors sc actors
+    → HasAllActors sc (crash_of_server sc actors mails at cut found).actors
+server_crashed sc actors mails at cut None h = h
+server_crashed sc actors mails at cut (Some part) h = server_put sc actors at.0 _ h
+
+coordinator_crashed : (sc : Scenario) (actors : Actors) (mails : List Mail) (txn : TxnId) (cut : Option Cut) (found : Option (Part Coordinator)) → HasAllActors sc actors
+    → HasAllActors sc (crash_of_coordinator sc actors mails txn cut found).actors
+coordinator_crashed sc actors mails txn cut None h = h
+coordinator_crashed sc actors mails txn cut (Some part) h = coordinator_put sc actors txn.0 _ h
+
+at_crash : (sc : Scenario) (actors : Actors) (mails : List Mail) (who : Actor) (cut : Option Cut) → HasAllActors sc actors → HasAllActors sc (crashes sc actors mails who cut).actors
+at_crash sc actors mails (actor.Server at) cut h = server_crashed sc actors mails at cut (slice_get actors.servers at.0) h
+at_crash sc actors mails (actor.Coordinator txn) cut h = coordinator_crashed sc actors mails txn cut (slice_get actors.coordinators txn.0) h
+at_crash sc actors mails actor.Authority cut h = h
+at_crash sc actors mails actor.Master cut h = h
+
+server_booted : (sc : Scenario) (actors : Actors) (at : ServerId) (found : Option (Part Server)) → HasAllActors sc actors → HasAllActors sc (boot_of_server sc actors at found).actors
+server_booted sc actors at None h = h
+server_booted sc actors at (Some part) h = server_put sc actors at.0 _ h
+
+coordinator_booted : (sc : Scenario) (actors : Actors) (txn : TxnId) (found : Option (Part Coordinator)) → HasAllActors sc actors → HasAllActors sc (boot_of_coordinator sc actors txn found).actors
+coordinator_booted sc actors txn None h = h
+coordinator_booted sc actors txn (Some part) h = coordinator_put sc actors txn.0 _ h
+
+at_boot : (sc : Scenario) (actors : Actors) (who : Actor) → HasAllActors sc actors → HasAllActors sc (boots sc actors who).actors
+at_boot sc actors (actor.Server at) h = server_booted sc actors at (slice_get actors.servers at.0) h
+at_boot sc actors (actor.Coordinator txn) h = coordinator_booted sc actors txn (slice_get actors.coordinators txn.0) h
+at_boot sc actors actor.Authority h = h
+at_boot sc actors actor.Master h = h
+
 -- no step brings or takes an actor
 pub all_after : (sc : Scenario) (m : Machine) (taken : Step) → HasAllActors sc m.state.actors → HasAllActors sc (machine_after sc m taken).state.actors
 all_after sc m (step.Submit txn) h = at_submission sc m.state.actors txn (length m.state.steps) (slice_get m.state.actors.coordinators txn.0) h
@@ -87,8 +164,9 @@ all_after sc m (step.Push admin server) h = h
 all_after sc m (step.Tick by) h = record { servers = h.servers; coordinators = h.coordinators }
 all_after sc m (step.Revoke cred) h = record { servers = h.servers; coordinators = h.coordinators }
 all_after sc m (step.Timer txn) h = h
-all_after sc m (step.Crash who cut) h = h
-all_after sc m (step.Boot who) h = h
+all_after sc m (step.Crash who None) h = at_crash sc m.state.actors m.state.mails who None h
+all_after sc m (step.Crash who (Some cut)) h = at_crash sc m.state.actors m.state.mails who (Some cut) h
+all_after sc m (step.Boot who) h = at_boot sc m.state.actors who h
 
 as_many : {S : Type 0} (old new : List (Part S)) → map is_part_down new ≡ map is_part_down old → length new ≡ length old
 as_many old new same = sym (length-map new is_part_down) ∙ ap length same ∙ length-map old is_part_down
@@ -99,3 +177,36 @@ all_stay sc old new same h = record {
   servers = as_many old.servers new.servers same.servers ∙ h.servers;
   coordinators = as_many old.coordinators new.coordinators same.coordinators ∙ h.coordinators;
 }
+
+-- ---- the step by which a step begins
+
+first_none : {A : Type 0} (first second : Option A) → option_or first second ≡ None → first ≡ None
+first_none None second e = refl
+first_none (Some x) second e = absurd cc
+
+-- it is not refused where the step is not
+pub received_allowed : (w : State) (taken : Step) → refusal w taken ≡ None → refusal w (received taken) ≡ None
+received_allowed w (step.Crash who (Some cut)) ok = first_none (missing_mail w.mails cut.mail) _ ok
+received_allowed w (step.Crash who None) ok = ok
+received_allowed w (step.Submit txn) ok = ok
+received_allowed w (step.Deliver mail) ok = ok
+received_allowed w (step.Lose mail) ok = ok
+received_allowed w (step.Publish admin) ok = ok
+received_allowed w (step.Push admin server) ok = ok
+received_allowed w (step.Tick by) ok = ok
+received_allowed w (step.Revoke cred) ok = ok
+received_allowed w (step.Timer txn) ok = ok
+received_allowed w (step.Boot who) ok = ok
+
+pub received_named : (sc : Scenario) (taken : Step) → IsStepOf sc taken → IsStepOf sc (received taken)
+received_named sc (step.Crash who (Some cut)) h = tt
+received_named sc (step.Crash who None) h = h
+received_named sc (step.Submit txn) h = h
+received_named sc (step.Deliver mail) h = h
+received_named sc (step.Lose mail) h = h
+received_named sc (step.Publish admin) h = h
+received_named sc (step.Push admin server) h = h
+received_named sc (step.Tick by) h = h
+received_named sc (step.Revoke cred) h = h
+received_named sc (step.Timer txn) h = h
+received_named sc (step.Boot who) h = h

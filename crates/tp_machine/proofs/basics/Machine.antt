@@ -12,7 +12,7 @@ use Rattle.tp_machine.specs.mirrors.Acts.{Moves}
 use Rattle.tp_machine.specs.mirrors.Flags.{marked}
 use Rattle.tp_machine.specs.mirrors.History.{Notes}
 use Rattle.tp_machine.specs.Machine.{State, Machine, Move, state_after, facts_of, mails_of, with_new, without_number, after, after_step, after_steps, machine_after, opening, refusal}
-use Rattle.tp_machine.specs.WorldView.{IsBuiltStep, machine_of, state_of}
+use Rattle.tp_machine.specs.WorldView.{machine_of, state_of}
 use Rattle.tp_machine.proofs.basics.Flags.{length_mails_of, marked-mails_of, marked-mails_of_cleared}
 
 pub same_state : (actors actors' : Actors) (mails mails' : List Mail) (facts facts' : List Fact) (steps steps' : List Step)
@@ -88,16 +88,18 @@ allowed : (sc : Scenario) (m : Machine) (taken : Step) (why : Option StepError) 
 allowed sc m taken None e = refl
 allowed sc m taken (Some why) e = absurd (cc)
 
-pub steps_next : (sc : Scenario) (m : Machine) (taken : Step) → IsBuiltStep taken → (machine_after sc m taken).state.steps ≡ m.state.steps ++ taken ∷ []
-steps_next sc m (step.Submit txn) h = refl
-steps_next sc m (step.Deliver mail) h = refl
-steps_next sc m (step.Publish admin) h = refl
-steps_next sc m (step.Push admin server) h = refl
-steps_next sc m (step.Tick by) h = refl
-steps_next sc m (step.Revoke cred) h = refl
-steps_next sc m (step.Lose mail) h = refl
-steps_next sc m (step.Timer txn) h = refl
-steps_next sc m _ h = absurd h
+pub steps_next : (sc : Scenario) (m : Machine) (taken : Step) → (machine_after sc m taken).state.steps ≡ m.state.steps ++ taken ∷ []
+steps_next sc m (step.Submit txn) = refl
+steps_next sc m (step.Deliver mail) = refl
+steps_next sc m (step.Publish admin) = refl
+steps_next sc m (step.Push admin server) = refl
+steps_next sc m (step.Tick by) = refl
+steps_next sc m (step.Revoke cred) = refl
+steps_next sc m (step.Lose mail) = refl
+steps_next sc m (step.Crash who None) = refl
+steps_next sc m (step.Crash who (Some cut)) = refl
+steps_next sc m (step.Boot who) = refl
+steps_next sc m (step.Timer txn) = refl
 
 -- the machine after these steps and one more that is not refused
 pub after_next : (sc : Scenario) (m : Machine) (taken : Step) → m ≡ after sc m.state.steps → refusal m.state taken ≡ None → after sc (m.state.steps ++ taken ∷ []) ≡ machine_after sc m taken
@@ -106,8 +108,8 @@ after_next sc m taken reached ok =
     ∙ (ap (λ (k : Machine). after_step sc k taken) (sym reached) ∙ allowed sc m taken (refusal m.state taken) ok)
 
 -- a machine that its steps give is given by them after one more step
-pub reached_next : (sc : Scenario) (m next : Machine) (taken : Step) → IsBuiltStep taken → m ≡ after sc m.state.steps → refusal m.state taken ≡ None
+pub reached_next : (sc : Scenario) (m next : Machine) (taken : Step) → m ≡ after sc m.state.steps → refusal m.state taken ≡ None
     → next ≡ machine_after sc m taken → next ≡ after sc next.state.steps
-reached_next sc m next taken is_taken reached ok e =
-    let steps : next.state.steps ≡ m.state.steps ++ taken ∷ [] = ap (λ (k : Machine). k.state.steps) e ∙ steps_next sc m taken is_taken in
+reached_next sc m next taken reached ok e =
+    let steps : next.state.steps ≡ m.state.steps ++ taken ∷ [] = ap (λ (k : Machine). k.state.steps) e ∙ steps_next sc m taken in
     e ∙ sym (ap (after sc) steps ∙ after_next sc m taken reached ok)

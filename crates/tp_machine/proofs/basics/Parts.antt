@@ -1,6 +1,7 @@
 -- Laws of actors that are up or down.
 use Rattle.std.proofs.Common.{◌≡◌, ℕ, zero, suc, ◌<◌, List, [], ◌∷◌, length, map, slice_get, slice_set, slice_index_or, Option, None, Some, Result, OnErr, IfOk, refl, sym, ap, subst, ◌∙◌, Bool, false, true, arith}
 use Rattle.std.proofs.lemmas.Result.{IfOk-weaker, on_err_weaker}
+use Rattle.std.specs.Prelude.{Err, Ok, unwrap_or}
 use Rattle.std.proofs.Math.Seq.{map-set_same}
 use Rattle.tp_coord.specs.State.{Coordinator}
 use Rattle.tp_model.specs.Words.{Mail, Scenario, ServerId, TxnId}
@@ -21,6 +22,9 @@ same_up parts at old new here kept = map-set_same is_part_down parts at new old 
 pub same_logs : {S : Type 0} → (parts : List (Part S)) (at : ℕ) (old new : Part S) → old ≡ slice_index_or parts at old → new.log ≡ old.log
     → map log_by (slice_set parts at new) ≡ map log_by parts
 same_logs parts at old new here kept = map-set_same log_by parts at new old (kept ∙ ap log_by here)
+
+some_inj : {A : Type 0} (x y : A) → Some x ≡ Some y → x ≡ y
+some_inj {A} x y e = ap (λ (o : Option A). unwrap_or o x) e
 
 -- ---- the member of a list that is changed in place
 
@@ -75,3 +79,22 @@ submission_moves sc actors txn place part now result found did =
     IfOk-weaker result _ _
     (λ act h. subst (λ (o : Option (Part Coordinator)). Moves (submission_by sc actors txn place o) (record actors { coordinators = slice_set actors.coordinators txn.0 now }) act) (sym found)
     (coordinator_moved actors txn (coordinator_submits sc part txn place) now act h)) did
+
+-- what is read off each member stays where one is put that reads the same
+pub put_same : {A B : Type 0} (f : A → B) (xs : List A) (n : ℕ) (old new : A) → slice_get xs n ≡ Some old → f new ≡ f old → map f (slice_set xs n new) ≡ map f xs
+put_same f [] zero old new found same = refl
+put_same f [] (suc n) old new found same = refl
+put_same {A} {B} f (x ∷ xs) zero old new found same = ap (λ (y : B). y ∷ map f xs) (same ∙ sym (ap f (some_inj x old found)))
+put_same f (x ∷ xs) (suc n) old new found same = ap (λ ys. f x ∷ ys) (put_same f xs n old new found same)
+
+-- two that read the same may be put
+pub put_alike : {A B : Type 0} (f : A → B) (xs : List A) (n : ℕ) (one other : A) → f one ≡ f other → map f (slice_set xs n one) ≡ map f (slice_set xs n other)
+put_alike f [] zero one other same = refl
+put_alike f [] (suc n) one other same = refl
+put_alike {A} {B} f (x ∷ xs) zero one other same = ap (λ (y : B). y ∷ map f xs) same
+put_alike f (x ∷ xs) (suc n) one other same = ap (λ ys. f x ∷ ys) (put_alike f xs n one other same)
+
+-- what is so is so where a call is refused
+pub on_err_any : {T E P : Type 0} (r : Result T E) → P → OnErr r P
+on_err_any (Ok x) p = tt
+on_err_any (Err e) p = p

@@ -1,5 +1,9 @@
 -- What the code of an act promises: it did what the machine says.
-use Rattle.std.specs.Prelude.{◌≡◌, ◌⊎◌, map}
+use Rattle.std.specs.Prelude.{◌≡◌, ◌⊎◌, Option, Some, None, map, slice_get, slice_set}
+use Rattle.tp_model.specs.Words.actor
+use Rattle.tp_model.specs.Words.{Actor, ServerId, TxnId}
+use Rattle.tp_coord.specs.State.{Coordinator}
+use Rattle.tp_server.specs.State.{Server}
 use Rattle.tp_machine.specs.declared.actors.Actors.{Actors}
 use Rattle.tp_machine.specs.declared.part.Act.{Act}
 use Rattle.tp_machine.specs.Parts.{Part}
@@ -31,3 +35,33 @@ pub record SameLogs (old new : Actors) : Type 0 where
 -- the logs are those from before a step, or those after it
 abbrev pub HasEitherLogs : Actors → Actors → Actors → Type 0
 HasEitherLogs old next new = SameLogs old new ⊎ SameLogs next new
+
+-- ---- who is up changes last
+
+-- a part once it is down
+abbrev pub down_part : {S : Type 0} → Part S → Part S
+down_part part = record part { up = None }
+
+abbrev pub with_server_down : Actors → ServerId → Option (Part Server) → Actors
+with_server_down actors at None = actors
+with_server_down actors at (Some part) =
+    record actors { servers = slice_set actors.servers at.0 (down_part part) }
+
+abbrev pub with_coordinator_down : Actors → TxnId → Option (Part Coordinator) → Actors
+with_coordinator_down actors txn None = actors
+with_coordinator_down actors txn (Some part) =
+    record actors { coordinators = slice_set actors.coordinators txn.0 (down_part part) }
+
+-- the actors once this one is down
+abbrev pub with_down : Actors → Actor → Actors
+with_down actors (actor.Server at) = with_server_down actors at (slice_get actors.servers at.0)
+with_down actors (actor.Coordinator txn) =
+    with_coordinator_down actors txn (slice_get actors.coordinators txn.0)
+with_down actors _ = actors
+
+-- an actor made this move but for its state, which comes last
+pub record Boots {S : Type 0} (move : PartMove S) (part : Part S) (state : S) (act : Act)
+    : Type 0 where
+  pub part_is : record part { up = Some state } ≡ move.part
+  pub happened_is : act.happened ≡ move.happened
+  pub letters_are : act.letters ≡ move.letters

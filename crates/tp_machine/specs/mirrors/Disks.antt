@@ -1,5 +1,5 @@
 -- What an actor's disk holds of its log.
-use Rattle.std.specs.Prelude.{◌≡◌, Bool, List, None, false, true}
+use Rattle.std.specs.Prelude.{◌≡◌, List, None, false}
 use Rattle.tp_device.specs.Disks.{clean_state}
 use Rattle.tp_device.specs.Memory.{Memory, disk_of}
 use Rattle.tp_log.specs.Found.{records_in}
@@ -11,11 +11,10 @@ use Rattle.tp_types.specs.declared.records.Record.{Record}
 abbrev pub records_on : LogState Memory → List Record
 records_on log = records_in log.disk.disk.seen
 
--- the disk of an actor's log: its bytes give records, nothing on it is unsynced, and no call of it is stopped. The log is open
--- while the actor is up; where it is open it keeps these records
-pub record IsForced (up : Bool) (log : LogState Memory) : Type 0 where
+-- the disk of an actor's log: its bytes give records, nothing on it is unsynced, and no call of it is stopped. Where the log is open
+-- it keeps these records
+pub record IsForced (log : LogState Memory) : Type 0 where
   pub gives : Gives log.disk.disk.seen (records_on log)
   pub forced : log.disk.disk ≡ clean_state log.disk.disk.seen
   pub running : log.disk.left ≡ None
-  pub is_open : up ≡ true → log.closed ≡ false
   pub keeps : log.closed ≡ false → Keeps disk_of log (records_on log)

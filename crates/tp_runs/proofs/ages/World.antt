@@ -12,7 +12,7 @@ use Rattle.tp_runs.proofs.agreement.World.{Agrees}
 use Rattle.tp_runs.proofs.basics.Facts.{each_new_mail}
 use Rattle.tp_types.proofs.EachLemmas.{at_made, at_set, each_append, each_as, each_get, placed_none}
 use Rattle.tp_runs.proofs.basics.Logs.{prepared_grown}
-use Rattle.tp_runs.proofs.walks.Steps.{Cases, IsCoordinatorUp, IsServerUp, WaitRightly, WasSent, machine_after_by}
+use Rattle.tp_runs.proofs.walks.Steps.{Cases, IsCoordinatorUp, IsServerUp, KeepsUp, WaitRightly, WasSent, machine_after_by}
 use Rattle.tp_recover.specs.Log.{prepared_in}
 use Rattle.tp_machine.specs.Machine.{Machine, Move, State, acts, acts_by, coordinator_fact, coordinator_move, log_with, machine_after, mails_of, opened_part, opening_state, refusal, server_fact, server_move, state_after, with_age}
 use Rattle.tp_machine.specs.Parts.{Part}
@@ -248,10 +248,10 @@ ages_cases sc w rightly sound h =
     }
 
 -- a step that is not refused keeps what is said of ages
-pub ages_next : (sc : Scenario) (m : Machine) (taken : Step) → IsStepOf sc taken → refusal m.state taken ≡ None → WaitRightly sc m.state → IsSound sc m.state → Agrees sc m.state → Ages m.state → Ages (machine_after sc m taken).state
-ages_next sc m taken exists allowed rightly sound a h =
+pub ages_next : (sc : Scenario) (m : Machine) (taken : Step) → IsStepOf sc taken → KeepsUp taken → refusal m.state taken ≡ None → WaitRightly sc m.state → IsSound sc m.state → Agrees sc m.state → Ages m.state → Ages (machine_after sc m taken).state
+ages_next sc m taken exists stays allowed rightly sound a h =
     machine_after_by sc m (MoveAges m.state) Ages (ages_cases sc m.state rightly sound h) a.coordinator_count
-    (λ taken_is move t. state_after_ages m.state taken_is move t) h taken exists allowed
+    (λ taken_is move t. state_after_ages m.state taken_is move t) taken exists stays allowed
 
 -- before the first step nobody knows an age
 pub ages_opening : (sc : Scenario) → Ages (opening_state sc)

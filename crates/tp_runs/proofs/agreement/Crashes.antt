@@ -24,7 +24,7 @@ use Rattle.tp_coord.specs.State.{Coordinator}
 use Rattle.tp_server.specs.Booted.{boot_row, booted, inquiry, kept_store, restored}
 use Rattle.tp_server.specs.Row.{server_row}
 use Rattle.tp_server.specs.State.{Server}
-use Rattle.tp_machine.specs.Crashes.{goes_down, server_boots}
+use Rattle.tp_machine.specs.Machine.{goes_down, server_boots}
 use Rattle.tp_machine.specs.Machine.{State, acts_by, coordinator_fact, coordinator_move, log_with, server_fact, server_move, state_after}
 use Rattle.tp_machine.specs.Named.{IsAdmin, IsServer}
 use Rattle.tp_machine.specs.Parts.{Part}

@@ -1,14 +1,15 @@
 -- A transaction that is finished has ended: it was submitted and decided, and each of its servers has settled it so. Agreement says it alone:
--- a coordinator that awaits nothing any more has heard of each server, and what a server has settled is what was decided.
+-- a coordinator that is up and awaits nothing any more has heard of each server, and what a server has settled is what was decided.
 use Rattle.std.specs.List.{list_any}
 use Rattle.std.specs.Option.{option_map_or}
-use Rattle.std.proofs.Common.{Bool, IfSome, List, None, Option, Some, [], ap, arith, false, is_some, length, not, option_and_then, option_map, refl, slice_get, subst, suc, sym, true, ℕ, ◌&&◌, ◌+◌, ◌<◌, ◌||◌, ◌∙◌, ◌∷◌, ◌≡◌}
+use Rattle.std.proofs.Common.{Bool, IfSome, List, None, Option, Some, [], ap, arith, false, is_none, is_some, length, not, option_and_then, option_map, refl, slice_get, subst, suc, sym, true, ℕ, ◌&&◌, ◌+◌, ◌<◌, ◌||◌, ◌∙◌, ◌∷◌, ◌≡◌}
 use Rattle.std.proofs.lemmas.Bool.{and_from, and_parts, or_left, or_right}
 use Rattle.std.proofs.lemmas.Option.{same_Some, slice_get_within}
 use Rattle.tp_types.proofs.EachLemmas.{each_as}
 use Rattle.tp_model.specs.Facts.{is_decided_as, is_settled_as, is_submission, outcome_of, same_outcome}
 use Rattle.tp_model.specs.Queries.{servers_of}
 use Rattle.tp_model.specs.TrustedHistory.{ended_as, has_ended, have_ended}
+use Rattle.tp_model.specs.Words.actor
 use Rattle.tp_model.specs.Words.outcome
 use Rattle.tp_model.specs.Words.{Decision, Fact, Outcome, Scenario, ServerId, Settled, Transaction, TxnId}
 use Rattle.tp_coord.specs.Opened.{servers_at}
@@ -17,9 +18,9 @@ use Rattle.tp_coord.specs.State.{Coordinator}
 use Rattle.tp_coord.specs.declared.coordinator.Phase.TheVariants as phase
 use Rattle.tp_coord.specs.declared.coordinator.Phase.{Phase}
 use Rattle.tp_machine.specs.Logs.{decided_at, decided_by, settled_at}
-use Rattle.tp_machine.specs.Machine.{State, is_armed_at, is_part_submitted, is_submitted}
+use Rattle.tp_machine.specs.Machine.{State, is_armed_at, is_down, is_part_down, is_part_submitted, is_submitted}
 use Rattle.tp_machine.specs.Parts.{Part}
-use Rattle.tp_types.specs.Each.{Each, EachAt}
+use Rattle.tp_types.specs.Each.{Each}
 use Rattle.tp_recover.specs.Log.{decided_in}
 use Rattle.tp_runs.proofs.agreement.Coordinator.{AllBut, PhaseAgrees, PhaseRests}
 use Rattle.tp_runs.proofs.agreement.End.{settled_part}
@@ -127,19 +128,20 @@ not_so : (b : Bool) → not b ≡ true → b ≡ false
 not_so false e = refl
 not_so true e = absurd (cc)
 
-txn_ended : (sc : Scenario) (w : State) (txn : TxnId) (declared : Transaction) → IsSound sc w → Agrees sc w → EachAt (λ (n : ℕ) (part : Part Coordinator). is_some part.up ≡ true) w.actors.coordinators
-    → is_submitted w.actors txn ≡ true → is_armed_at w.actors txn ≡ false → slice_get sc.txns txn.0 ≡ Some declared → has_ended sc w.facts txn declared ≡ true
-txn_ended sc w txn declared sound h ups submitted unarmed found = by_part (slice_get w.actors.coordinators txn.0) refl submitted unarmed
+-- it was submitted, and its coordinator is up and awaits nothing
+txn_ended : (sc : Scenario) (w : State) (txn : TxnId) (declared : Transaction) → IsSound sc w → Agrees sc w → is_submitted w.actors txn ≡ true → is_down w.actors (actor.Coordinator txn) ≡ false → is_armed_at w.actors txn ≡ false
+    → slice_get sc.txns txn.0 ≡ Some declared → has_ended sc w.facts txn declared ≡ true
+txn_ended sc w txn declared sound h submitted running unarmed found = by_part (slice_get w.actors.coordinators txn.0) refl submitted running unarmed
   where
-    by_up : (part : Part Coordinator) (up : Option Coordinator) → slice_get w.actors.coordinators txn.0 ≡ Some part → part.up ≡ up → is_part_submitted up ≡ true → option_map_or is_armed up false ≡ false
+    by_up : (part : Part Coordinator) (up : Option Coordinator) → slice_get w.actors.coordinators txn.0 ≡ Some part → part.up ≡ up → is_part_submitted up ≡ true → is_none up ≡ false → option_map_or is_armed up false ≡ false
         → has_ended sc w.facts txn declared ≡ true
-    by_up part None there e s a = let here : is_some part.up ≡ true = ups txn.0 part there in let none : is_some part.up ≡ false = ap is_some e in absurd (cc)
-    by_up part (Some c) there e s a = let ended = is_ended_phase c.phase s a in coordinator_ended sc w txn declared part c ended.0 sound h found there e ended.1
+    by_up part None there e s r a = absurd (cc)
+    by_up part (Some c) there e s r a = let ended = is_ended_phase c.phase s a in coordinator_ended sc w txn declared part c ended.0 sound h found there e ended.1
 
     by_part : (part : Option (Part Coordinator)) → slice_get w.actors.coordinators txn.0 ≡ part → option_map_or (λ (p : Part Coordinator). is_part_submitted p.up) part false ≡ true
-        → option_map_or (λ (p : Part Coordinator). option_map_or is_armed p.up false) part false ≡ false → has_ended sc w.facts txn declared ≡ true
-    by_part None there s a = absurd (cc)
-    by_part (Some part) there s a = by_up part part.up there refl s a
+        → option_map_or is_part_down part false ≡ false → option_map_or (λ (p : Part Coordinator). option_map_or is_armed p.up false) part false ≡ false → has_ended sc w.facts txn declared ≡ true
+    by_part None there s r a = absurd (cc)
+    by_part (Some part) there s r a = by_up part part.up there refl s r a
 
 -- ---- all transactions
 
@@ -155,14 +157,14 @@ ended_from sc facts first (one ∷ txns) h =
     next n = omega arith
 
 -- where each is finished, each has ended
-pub all_ended : (sc : Scenario) (w : State) → IsSound sc w → Agrees sc w → EachAt (λ (n : ℕ) (part : Part Coordinator). is_some part.up ≡ true) w.actors.coordinators → AreFinished sc w
-    → have_ended sc w.facts 0 sc.txns ≡ true
-all_ended sc w sound h ups finished =
+pub all_ended : (sc : Scenario) (w : State) → IsSound sc w → Agrees sc w → AreFinished sc w → have_ended sc w.facts 0 sc.txns ≡ true
+all_ended sc w sound h finished =
     ended_from sc w.facts 0 sc.txns
     (λ n declared found.
     let own : 0 + n ≡ n = omega arith in
     let txn : TxnId = record { 0 = n } in
     let exists : n < length sc.txns = slice_get_within sc.txns n declared found in
-    let parts = and_parts (is_submitted w.actors txn) (not (is_armed_at w.actors txn)) (finished txn exists) in
+    let rests = and_parts (is_submitted w.actors txn && not (is_down w.actors (actor.Coordinator txn))) (not (is_armed_at w.actors txn)) (finished txn exists) in
+    let begun = and_parts (is_submitted w.actors txn) (not (is_down w.actors (actor.Coordinator txn))) rests.0 in
     subst (λ (k : ℕ). has_ended sc w.facts (record { 0 = k }) declared ≡ true) (sym own)
-    (txn_ended sc w txn declared sound h ups parts.0 (not_so (is_armed_at w.actors txn) parts.1) found))
+    (txn_ended sc w txn declared sound h begun.0 (not_so (is_down w.actors (actor.Coordinator txn)) begun.1) (not_so (is_armed_at w.actors txn) rests.1) found))

@@ -25,7 +25,7 @@ use Rattle.tp_runs.proofs.basics.Ids.{same_txn_from, same_txn_is}
 use Rattle.tp_types.proofs.EachLemmas.{at_made, each_get, placed_none, unset_at}
 use Rattle.tp_runs.proofs.basics.Logs.{listed}
 use Rattle.tp_runs.proofs.ids.Queries.{have_homes}
-use Rattle.tp_runs.proofs.walks.Steps.{Cases, IsCoordinatorUp, IsServerUp, SaysIdle, WasSent, WaitRightly, machine_after_by}
+use Rattle.tp_runs.proofs.walks.Steps.{Cases, IsCoordinatorUp, IsServerUp, KeepsUp, SaysIdle, WaitRightly, WasSent, machine_after_by}
 use Rattle.tp_recover.specs.Log.{decided_in, prepared_in, settled_in}
 use Rattle.tp_machine.specs.Logs.{decided_at, decided_by, prepared_by, settled_at, settled_by}
 use Rattle.tp_machine.specs.Machine.{Machine, State, acts_by, coordinator_fact, coordinator_move, idle_move, is_part_submitted, log_with, machine_after, opened_actors, opened_part, opening_state, refusal, server_fact, server_move, with_age}
@@ -289,10 +289,10 @@ agrees_cases sc w valid first rightly sound named h =
     }
 
 -- a step that is not refused keeps agreement
-pub agrees_next : (sc : Scenario) (m : Machine) (taken : Step) → IsValid sc → SendFirst sc → IsStepOf sc taken → refusal m.state taken ≡ None → WaitRightly sc m.state → IsSound sc m.state → PreparesNamed m.state → Agrees sc m.state → Agrees sc (machine_after sc m taken).state
-agrees_next sc m taken valid first exists allowed rightly sound named h =
+pub agrees_next : (sc : Scenario) (m : Machine) (taken : Step) → IsValid sc → SendFirst sc → IsStepOf sc taken → KeepsUp taken → refusal m.state taken ≡ None → WaitRightly sc m.state → IsSound sc m.state → PreparesNamed m.state → Agrees sc m.state → Agrees sc (machine_after sc m taken).state
+agrees_next sc m taken valid first exists stays allowed rightly sound named h =
     machine_after_by sc m (λ taken move. MoveAgrees sc m.state move) (Agrees sc) (agrees_cases sc m.state valid first rightly sound named h) h.coordinator_count
-    (λ taken move t. state_after_agrees sc m.state taken move h t) h taken exists allowed
+    (λ taken move t. state_after_agrees sc m.state taken move h t) taken exists stays allowed
 
 -- ---- before the first step
 

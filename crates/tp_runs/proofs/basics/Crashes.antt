@@ -2,7 +2,7 @@
 -- actors meant are those that pass a test.
 use Rattle.std.specs.List.{count_by, list_any}
 use Rattle.std.proofs.Common.{Bool, List, [], ap, arith, cond, false, nat_le, nat_lt, refl, sym, true, ℕ, ⊎_elim, ◌&&◌, ◌++◌, ◌+◌, ◌∙◌, ◌∷◌, ◌≡◌, ◌≤◌, ◌||◌}
-use Rattle.std.proofs.lemmas.Bool.{and_from, and_left, and_parts, and_right, le-ltb, leb-true, lt-ltb, ltb-true, or_cases, or_from, or_left, or_parts, or_right}
+use Rattle.std.proofs.lemmas.Bool.{and_from, and_parts, and_right, le-ltb, leb-true, lt-ltb, ltb-true, or_cases, or_from, or_left, or_parts, or_right}
 use Rattle.std.proofs.lemmas.Bool.Decides.{nat_tests}
 use Rattle.std.proofs.lemmas.List.Elements.{filter-append}
 use Rattle.std.proofs.lemmas.List.Folds.{list_any-append}
@@ -162,21 +162,6 @@ shown_among_others who other txn place facts wider e =
     (λ fact h.
     let parts = and_parts (is_crash_of who fact) (is_within txn place facts fact.place) h in
     and_from (is_crash_of other fact) (is_within txn place facts fact.place) (wider fact.what parts.0) parts.1) facts e
-
-one_noted : (b : Bool) (rest : ℕ) → cond b 1 0 + rest ≡ 0 → b ≡ false
-one_noted false rest e = refl
-one_noted true rest e = absurd (omega (arith, e))
-
-none_among : (who : Actor → Bool) (txn : TxnId) (place : ℕ) (all facts : List Fact) → crashes who facts ≡ 0 → list_any (is_crash_within who txn place all) facts ≡ false
-none_among who txn place all [] none = refl
-none_among who txn place all (fact ∷ facts) none =
-    let sum : cond (is_crash_of who fact) 1 0 + crashes who facts ≡ 0 = sym (first_counted who fact facts) ∙ none in
-    or_from (is_crash_within who txn place all fact) (list_any (is_crash_within who txn place all) facts)
-    (and_left (is_crash_of who fact) (is_within txn place all fact.place) (one_noted (is_crash_of who fact) (crashes who facts) sum)) (none_among who txn place all facts (omega (arith, sum)))
-
--- where no crash is noted none is shown
-pub none_shown : (who : Actor → Bool) (txn : TxnId) (place : ℕ) (facts : List Fact) → crashes who facts ≡ 0 → crashed_within who txn place facts ≡ false
-none_shown who txn place facts none = none_among who txn place facts facts none
 
 -- ---- places that are past
 

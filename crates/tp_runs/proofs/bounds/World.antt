@@ -33,7 +33,7 @@ use Rattle.tp_runs.proofs.serial_data.Steps.{received_clear, server_brings}
 use Rattle.tp_runs.proofs.serial_data.UpOnLog.{EndsOnce, UpOnLog, acts_on_log, values_by_log}
 use Rattle.tp_runs.proofs.serial_data.Receiving.{record_ends}
 use Rattle.tp_runs.proofs.serial_data.World.{Serial, up_on_log}
-use Rattle.tp_runs.proofs.walks.Steps.{Cases, IsCoordinatorUp, IsServerUp, SaysIdle, WaitRightly, WasSent, machine_after_by}
+use Rattle.tp_runs.proofs.walks.Steps.{Cases, IsCoordinatorUp, IsServerUp, KeepsUp, SaysIdle, WaitRightly, WasSent, machine_after_by}
 use Rattle.tp_runs.specs.Bounded.{AreBounded, IsBoundedCoordinator, IsBoundedEntry, IsBoundedFact, IsBoundedMail, IsBoundedRecord, IsBoundedServer, IsBoundedServerPart, IsBoundedSettled, IsBoundedWhat, IsBoundedWrite}
 use Rattle.tp_machine.specs.Machine.{Machine, Move, State, acts, acts_by, coordinator_fact, coordinator_move, facts_of, idle_move, is_part_submitted, log_with, machine_after, mails_of, opened_part, opening_state, refusal, server_fact, server_move, state_after, with_age}
 use Rattle.tp_machine.specs.Parts.{Part}
@@ -254,11 +254,11 @@ bounds_cases sc w valid rightly sound named agrees pairs serial h =
     }
 
 -- a step that is not refused keeps all values within their bounds
-pub bounds_next : (sc : Scenario) (m : Machine) (taken : Step) → IsValid sc → IsStepOf sc taken → refusal m.state taken ≡ None → WaitRightly sc m.state → IsSound sc m.state → PreparesNamed m.state → Agrees sc m.state → Pairs sc m.state → Serial sc m.state
+pub bounds_next : (sc : Scenario) (m : Machine) (taken : Step) → IsValid sc → IsStepOf sc taken → KeepsUp taken → refusal m.state taken ≡ None → WaitRightly sc m.state → IsSound sc m.state → PreparesNamed m.state → Agrees sc m.state → Pairs sc m.state → Serial sc m.state
     → Bounds sc m.state → Bounds sc (machine_after sc m taken).state
-bounds_next sc m taken valid exists allowed rightly sound named agrees pairs serial h =
+bounds_next sc m taken valid exists stays allowed rightly sound named agrees pairs serial h =
     machine_after_by sc m (λ taken move. MoveBounds sc move) (Bounds sc) (bounds_cases sc m.state valid rightly sound named agrees pairs serial h) agrees.coordinator_count
-    (λ taken move t. state_after_bounds sc m.state taken move h t) h taken exists allowed
+    (λ taken move t. state_after_bounds sc m.state taken move h t) taken exists stays allowed
 
 -- ---- before the first step
 

@@ -12,7 +12,7 @@ use Rattle.tp_model.specs.Words.{Fact, Scenario, Step, TxnId, What}
 use Rattle.tp_runs.proofs.agreement.Logs.{once, submitted_count, submitted_up}
 use Rattle.tp_runs.proofs.agreement.World.{Agrees}
 use Rattle.tp_runs.proofs.basics.Facts.{any_submitted, said, submissions}
-use Rattle.tp_runs.proofs.walks.Steps.{Cases, SaysIdle, machine_after_by}
+use Rattle.tp_runs.proofs.walks.Steps.{Cases, KeepsUp, SaysIdle, machine_after_by}
 use Rattle.tp_coord.specs.Row.{submit_row}
 use Rattle.tp_machine.specs.Machine.{Machine, Move, State, acts_by, coordinator_fact, coordinator_move, facts_of, log_with, machine_after, refusal, state_after, with_age}
 use Rattle.tp_machine.specs.Named.{IsStepOf}
@@ -122,6 +122,6 @@ told_cases sc w a =
     submit_is : (one other : TxnId) → step.Submit one ≡ step.Submit other → one ≡ other
     submit_is one other e = cc
 
-pub told_next : (sc : Scenario) (m : Machine) (taken : Step) → IsStepOf sc taken → refusal m.state taken ≡ None → Agrees sc m.state → Told m.state → Told (machine_after sc m taken).state
-told_next sc m taken exists allowed a h =
-    machine_after_by sc m (NewTold m.state) Told (told_cases sc m.state a) a.coordinator_count (λ taken_is move t. state_after_told m.state taken_is move h t) h taken exists allowed
+pub told_next : (sc : Scenario) (m : Machine) (taken : Step) → IsStepOf sc taken → KeepsUp taken → refusal m.state taken ≡ None → Agrees sc m.state → Told m.state → Told (machine_after sc m taken).state
+told_next sc m taken exists stays allowed a h =
+    machine_after_by sc m (NewTold m.state) Told (told_cases sc m.state a) a.coordinator_count (λ taken_is move t. state_after_told m.state taken_is move h t) taken exists stays allowed

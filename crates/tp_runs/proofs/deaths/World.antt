@@ -28,7 +28,7 @@ use Rattle.tp_runs.proofs.deaths.Servers.{AnswersDie, AskerKnown, ServerDies, se
 use Rattle.tp_runs.proofs.deaths.Told.{Told, told_next}
 use Rattle.tp_runs.proofs.basics.Found.{of_some}
 use Rattle.tp_runs.proofs.known.World.{HasPlaces, Pairs}
-use Rattle.tp_runs.proofs.walks.Steps.{Cases, IsCoordinatorUp, IsServerUp, SaysIdle, WaitRightly, WasSent, machine_after_by}
+use Rattle.tp_runs.proofs.walks.Steps.{Cases, IsCoordinatorUp, IsServerUp, KeepsUp, SaysIdle, WaitRightly, WasSent, machine_after_by}
 use Rattle.tp_recover.specs.Log.{settled_in}
 use Rattle.tp_machine.specs.Logs.{settled_by}
 use Rattle.tp_machine.specs.Machine.{Machine, Move, State, acts, acts_by, coordinator_fact, coordinator_move, facts_of, idle_move, log_with, machine_after, mails_of, opened_part, opening_state, refusal, server_fact, server_move, state_after, with_age}
@@ -281,11 +281,11 @@ deaths_cases sc w rightly sound a ages pairs h =
     }
 
 -- a step that is not refused keeps that deaths are shown
-pub deaths_next : (sc : Scenario) (m : Machine) (taken : Step) → IsStepOf sc taken → refusal m.state taken ≡ None → WaitRightly sc m.state → IsSound sc m.state → Agrees sc m.state → Ages m.state → Pairs sc m.state → Deaths sc m.state
+pub deaths_next : (sc : Scenario) (m : Machine) (taken : Step) → IsStepOf sc taken → KeepsUp taken → refusal m.state taken ≡ None → WaitRightly sc m.state → IsSound sc m.state → Agrees sc m.state → Ages m.state → Pairs sc m.state → Deaths sc m.state
     → Deaths sc (machine_after sc m taken).state
-deaths_next sc m taken exists allowed rightly sound a ages pairs h =
+deaths_next sc m taken exists stays allowed rightly sound a ages pairs h =
     machine_after_by sc m (λ taken_is move. MoveDies sc m.state move) (λ w. Told w → Deaths sc w) (deaths_cases sc m.state rightly sound a ages pairs h) a.coordinator_count
-    (λ taken_is move t told. state_after_deaths sc m.state taken_is move a.past h t told) (λ told. h) taken exists allowed (told_next sc m taken exists allowed a h.told)
+    (λ taken_is move t told. state_after_deaths sc m.state taken_is move a.past h t told) taken exists stays allowed (told_next sc m taken exists stays allowed a h.told)
 
 -- before the first step nothing was asked
 pub deaths_opening : (sc : Scenario) → Deaths sc (opening_state sc)

@@ -25,7 +25,7 @@ use Rattle.tp_runs.proofs.epochs.Coordinator.{IsMail, coordinator_row_keeps, sub
 use Rattle.tp_runs.proofs.epochs.Kept.{CoordinatorEpochs, CoordinatorKeeps}
 use Rattle.tp_runs.proofs.epochs.Server.{BodyTold, DoneMade, DoneTold, EntryMade, IsPlainLetter, LetterFirst, LetterTold, LettersEpochs, PreparedMade, QueryFirst, RecordMade, ReplyMade, ServerEpochs, ServerMade, WaitsMade, epoch_rises, plain_letters, plain_names_none, server_row_made}
 use Rattle.tp_server.proofs.Rows.{AreRightWaits}
-use Rattle.tp_runs.proofs.walks.Steps.{Cases, IsCoordinatorUp, IsServerUp, WaitRightly, WasSent, machine_after_by}
+use Rattle.tp_runs.proofs.walks.Steps.{Cases, IsCoordinatorUp, IsServerUp, KeepsUp, WaitRightly, WasSent, machine_after_by}
 use Rattle.tp_recover.specs.Log.{epoch_in, preparation_in, prepared_in}
 use Rattle.tp_machine.specs.Logs.{epoch_at, epoch_by, prepared_by}
 use Rattle.tp_machine.specs.Machine.{Machine, Move, State, acts, acts_by, coordinator_fact, coordinator_move, is_part_submitted, log_with, machine_after, mails_of, opened_part, opening_state, refusal, server_fact, server_move, state_after, with_age}
@@ -397,10 +397,10 @@ epochs_cases sc w homes rightly sound a h =
     }
 
 -- a step that is not refused keeps what is said of epochs
-pub epochs_next : (sc : Scenario) (m : Machine) (taken : Step) → HaveHomes sc → IsStepOf sc taken → refusal m.state taken ≡ None → WaitRightly sc m.state → IsSound sc m.state → Agrees sc m.state → Epochs sc m.state → Epochs sc (machine_after sc m taken).state
-epochs_next sc m taken homes exists allowed rightly sound a h =
+pub epochs_next : (sc : Scenario) (m : Machine) (taken : Step) → HaveHomes sc → IsStepOf sc taken → KeepsUp taken → refusal m.state taken ≡ None → WaitRightly sc m.state → IsSound sc m.state → Agrees sc m.state → Epochs sc m.state → Epochs sc (machine_after sc m taken).state
+epochs_next sc m taken homes exists stays allowed rightly sound a h =
     machine_after_by sc m (λ taken move. StepEpochs sc m.state move) (Epochs sc) (epochs_cases sc m.state homes rightly sound a h) a.coordinator_count
-    (λ taken move t. state_after_epochs sc m.state taken move t) h taken exists allowed
+    (λ taken move t. state_after_epochs sc m.state taken move t) taken exists stays allowed
 
 -- ---- before the first step
 

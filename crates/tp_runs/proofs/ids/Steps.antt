@@ -9,7 +9,7 @@ use Rattle.tp_runs.proofs.basics.Facts.{each_new_fact, each_new_mail}
 use Rattle.tp_types.proofs.EachLemmas.{at_made, at_set, each_append, each_get}
 use Rattle.tp_runs.proofs.ids.Acts.{IsSoundAct, authority_sends_sound, coordinator_begun_sound, coordinator_idle_sound, coordinator_receipt_sound, coordinator_repeats_sound, master_sends_sound, none_sound, published_exists, published_sound, pushes_sound, revoked_sound, server_opening_sound, server_receipt_sound}
 use Rattle.tp_runs.proofs.ids.Valid.{IsValid, valid_built}
-use Rattle.tp_runs.proofs.walks.Steps.{Cases, SaysIdle, WaitRightly, WasSent, machine_after_by}
+use Rattle.tp_runs.proofs.walks.Steps.{Cases, KeepsUp, SaysIdle, WaitRightly, WasSent, machine_after_by}
 use Rattle.tp_machine.specs.Machine.{Machine, Move, State, facts_of, idle_move, machine_after, mails_of, opened_part, opening_state, refusal, state_after}
 use Rattle.tp_machine.specs.Parts.{Part}
 use Rattle.tp_runs.specs.Sound.{AreSoundActors, IsActor, IsSound, IsSoundAuthority, IsSoundBody, IsSoundCoordinatorPart, IsSoundFact, IsSoundLetter, IsSoundMail, IsSoundMaster, IsSoundServerPart, IsSoundWhat}
@@ -147,8 +147,8 @@ sound_opening sc built =
     }
 
 -- a step that names what exists keeps the world sound
-pub sound_next : (sc : Scenario) (m : Machine) (taken : Step) → is_built sc ≡ true → IsStepOf sc taken → refusal m.state taken ≡ None → length m.state.actors.coordinators ≡ length sc.txns
+pub sound_next : (sc : Scenario) (m : Machine) (taken : Step) → is_built sc ≡ true → IsStepOf sc taken → KeepsUp taken → refusal m.state taken ≡ None → length m.state.actors.coordinators ≡ length sc.txns
     → WaitRightly sc m.state → IsSound sc m.state → IsSound sc (machine_after sc m taken).state
-sound_next sc m taken built exists allowed count rightly h =
+sound_next sc m taken built exists stays allowed count rightly h =
     machine_after_by sc m (λ taken move. IsSoundMove sc move) (IsSound sc) (sound_cases sc m.state (valid_built sc built) rightly h) count
-    (λ taken move t. state_after_sound sc m.state taken move h t) h taken exists allowed
+    (λ taken move t. state_after_sound sc m.state taken move h t) taken exists stays allowed

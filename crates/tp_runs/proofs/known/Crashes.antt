@@ -20,7 +20,7 @@ use Rattle.tp_server.specs.Booted.{boot_row, booted, restored}
 use Rattle.tp_server.specs.Row.{entry_at, server_row}
 use Rattle.tp_server.specs.State.{Server}
 use Rattle.tp_server.specs.declared.server.Entry.{Entry}
-use Rattle.tp_machine.specs.Crashes.{goes_down, server_boots}
+use Rattle.tp_machine.specs.Machine.{goes_down, server_boots}
 use Rattle.tp_machine.specs.Machine.{State, acts_by, coordinator_fact, coordinator_move, log_with, server_fact, server_move, state_after}
 use Rattle.tp_machine.specs.Named.{IsTxn}
 use Rattle.tp_machine.specs.Parts.{Part}

@@ -41,7 +41,7 @@ use Rattle.tp_runs.proofs.trust.Phases.{PhaseFits}
 use Rattle.tp_runs.proofs.trust.Rounds.{few_rounds, round_names}
 use Rattle.tp_runs.proofs.basics.Turns.{AreFew, few_queries, low_query, low_round, low_validation, query_count}
 use Rattle.tp_runs.proofs.trust.World.{Trusts}
-use Rattle.tp_runs.proofs.walks.Steps.{Cases, IsCoordinatorUp, IsServerUp, WaitRightly, WasSent, machine_after_by}
+use Rattle.tp_runs.proofs.walks.Steps.{Cases, IsCoordinatorUp, IsServerUp, KeepsUp, WaitRightly, WasSent, machine_after_by}
 use Rattle.tp_recover.specs.Log.{decided_in}
 use Rattle.tp_machine.specs.Logs.{decided_at, decided_by, epoch_at}
 use Rattle.tp_machine.specs.Machine.{Machine, Move, State, acts, acts_by, coordinator_fact, coordinator_move, idle_coordinators, is_part_submitted, log_with, machine_after, mails_of, opened_part, opened_servers, opening_state, refusal, server_fact, server_move, state_after, with_age}
@@ -530,12 +530,12 @@ pairs_cases sc w built valid few rightly sound a epochs trusts h =
     }
 
 -- a step that is not refused keeps what is said of deeds and epochs
-pub pairs_next : (sc : Scenario) (m : Machine) (taken : Step) → is_built sc ≡ true → IsStepOf sc taken → refusal m.state taken ≡ None → WaitRightly sc m.state → IsSound sc m.state → Agrees sc m.state → Epochs sc m.state → Trusts sc m.state
+pub pairs_next : (sc : Scenario) (m : Machine) (taken : Step) → is_built sc ≡ true → IsStepOf sc taken → KeepsUp taken → refusal m.state taken ≡ None → WaitRightly sc m.state → IsSound sc m.state → Agrees sc m.state → Epochs sc m.state → Trusts sc m.state
     → Pairs sc m.state → Pairs sc (machine_after sc m taken).state
-pairs_next sc m taken built exists allowed rightly sound a epochs trusts h =
+pairs_next sc m taken built exists stays allowed rightly sound a epochs trusts h =
     machine_after_by sc m (λ taken move. MovePairs sc m.state move) (Pairs sc)
     (pairs_cases sc m.state built (valid_built sc built) (few_queries sc (rules.valid_built sc built)) rightly sound a epochs trusts h) a.coordinator_count
-    (λ taken move t. state_after_pairs sc m.state taken move h t) h taken exists allowed
+    (λ taken move t. state_after_pairs sc m.state taken move h t) taken exists stays allowed
 
 -- ---- before the first step
 

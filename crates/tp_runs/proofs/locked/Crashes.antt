@@ -9,7 +9,7 @@ use Rattle.tp_runs.proofs.locked.Booted.{PreparedApart, booted_locked}
 use Rattle.tp_runs.proofs.locked.World.{ServersLocked, server_acts_locked}
 use Rattle.tp_runs.proofs.walks.Crashes.{CrashCases}
 use Rattle.tp_runs.specs.Sound.{IsSound}
-use Rattle.tp_machine.specs.Crashes.{server_boots}
+use Rattle.tp_machine.specs.Machine.{server_boots}
 use Rattle.tp_machine.specs.Machine.{State, server_move}
 use Rattle.tp_machine.specs.Parts.{Part}
 use Rattle.tp_server.specs.Booted.{boot_row, booted}

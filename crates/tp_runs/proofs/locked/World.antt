@@ -17,7 +17,7 @@ use Rattle.tp_runs.proofs.locked.Fit.{EntryLocked, LockWaits, Locked}
 use Rattle.tp_runs.proofs.locked.Servers.{AskerPlaced, server_row_locked}
 use Rattle.tp_runs.proofs.basics.Found.{of_some}
 use Rattle.tp_runs.proofs.known.World.{HasPlaces, Pairs}
-use Rattle.tp_runs.proofs.walks.Steps.{Cases, IsServerUp, WaitRightly, WasSent, machine_after_by}
+use Rattle.tp_runs.proofs.walks.Steps.{Cases, IsServerUp, KeepsUp, WaitRightly, WasSent, machine_after_by}
 use Rattle.tp_machine.specs.Machine.{Machine, State, acts, acts_by, log_with, machine_after, opened_part, opening_state, refusal, server_fact, server_move}
 use Rattle.tp_machine.specs.Parts.{Part}
 use Rattle.tp_types.specs.Each.{EachAt}
@@ -83,11 +83,11 @@ locked_cases sc w rightly sound pairs h =
     }
 
 -- a step that is not refused keeps what locks keep
-pub locked_next : (sc : Scenario) (m : Machine) (taken : Step) → IsStepOf sc taken → refusal m.state taken ≡ None → WaitRightly sc m.state → IsSound sc m.state → Agrees sc m.state → Pairs sc m.state → ServersLocked sc m.state.actors.servers
+pub locked_next : (sc : Scenario) (m : Machine) (taken : Step) → IsStepOf sc taken → KeepsUp taken → refusal m.state taken ≡ None → WaitRightly sc m.state → IsSound sc m.state → Agrees sc m.state → Pairs sc m.state → ServersLocked sc m.state.actors.servers
     → ServersLocked sc (machine_after sc m taken).state.actors.servers
-locked_next sc m taken exists allowed rightly sound a pairs h =
+locked_next sc m taken exists stays allowed rightly sound a pairs h =
     machine_after_by sc m (λ taken_is move. ServersLocked sc move.actors.servers) (λ w. ServersLocked sc w.actors.servers) (locked_cases sc m.state rightly sound pairs h) a.coordinator_count
-    (λ taken_is move t. t) h taken exists allowed
+    (λ taken_is move t. t) taken exists stays allowed
 
 -- ---- before the first step
 

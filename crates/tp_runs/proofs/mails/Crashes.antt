@@ -19,7 +19,7 @@ use Rattle.tp_coord.specs.Opened.{idle, servers_at}
 use Rattle.tp_coord.specs.Row as coord
 use Rattle.tp_coord.specs.State.{Coordinator}
 use Rattle.tp_server.specs.Booted.{boot_row, booted, inquiry, restored}
-use Rattle.tp_machine.specs.Crashes.{server_boots}
+use Rattle.tp_machine.specs.Machine.{server_boots}
 use Rattle.tp_machine.specs.Machine.{State, acts_by, coordinator_fact, coordinator_move, server_move, state_after}
 use Rattle.tp_machine.specs.Parts.{Part}
 use Rattle.tp_runs.proofs.basics.Booted.{records_of_scenario}

@@ -8,16 +8,16 @@ use Rattle.std.proofs.lemmas.Option.{same_Some}
 use Rattle.tp_model.specs.Built.{is_built}
 use Rattle.tp_model.specs.Queries.{is_at_server, servers_from, servers_of}
 use Rattle.tp_model.specs.Words.body
-use Rattle.tp_model.specs.Words.step
 use Rattle.tp_model.specs.Words.what
 use Rattle.tp_model.specs.Words.{Body, Letter, Mail, Query, Record, Scenario, ServerId, Step, Transaction, TxnId, What}
 use Rattle.tp_model.proofs.RuleLemmas.{few_servers, valid_built}
 use Rattle.tp_runs.proofs.agreement.Steps.{coordinator_agrees}
 use Rattle.tp_runs.proofs.agreement.World.{Agrees}
 use Rattle.tp_machine.proofs.basics.Flags.{length_mails_of}
+use Rattle.tp_machine.proofs.basics.Machine.{steps_next}
 use Rattle.tp_types.proofs.EachLemmas.{at_made, at_set, by_cond}
 use Rattle.tp_runs.proofs.mails.Actors.{AwaitsFew, coordinator_row_sends, repeats_sends, server_row_sends, submit_row_sends, waits_in}
-use Rattle.tp_runs.proofs.walks.Steps.{Cases, IsCoordinatorUp, IsServerUp, WaitRightly, machine_after_by}
+use Rattle.tp_runs.proofs.walks.Steps.{Cases, IsCoordinatorUp, IsServerUp, KeepsUp, WaitRightly, machine_after_by}
 use Rattle.tp_machine.specs.Machine.{Machine, Move, State, acts, acts_by, after_step, after_steps, coordinator_fact, coordinator_move, log_with, machine_after, mails_of, opened_part, opening_state, refusal, server_fact, server_move, state_after, with_age}
 use Rattle.tp_machine.specs.Parts.{Part}
 use Rattle.tp_types.specs.Each.{EachAt}
@@ -172,10 +172,10 @@ few_cases sc w built rightly a h =
     }
 
 -- a step that is not refused sends few mails
-pub few_next : (sc : Scenario) (m : Machine) (taken : Step) → is_built sc ≡ true → IsStepOf sc taken → refusal m.state taken ≡ None → WaitRightly sc m.state → Agrees sc m.state → FewMails m.state → FewMails (machine_after sc m taken).state
-few_next sc m taken built exists allowed rightly a h =
+pub few_next : (sc : Scenario) (m : Machine) (taken : Step) → is_built sc ≡ true → IsStepOf sc taken → KeepsUp taken → refusal m.state taken ≡ None → WaitRightly sc m.state → Agrees sc m.state → FewMails m.state → FewMails (machine_after sc m taken).state
+few_next sc m taken built exists stays allowed rightly a h =
     machine_after_by sc m (λ taken_is move. MoveFew m.state move) FewMails (few_cases sc m.state built rightly a h) a.coordinator_count
-    (λ taken_is move t. state_after_few m.state taken_is move h t) h taken exists allowed
+    (λ taken_is move t. state_after_few m.state taken_is move h t) taken exists stays allowed
 
 -- where no query waits at each server none does
 none_waiting : (parts : List (Part Server)) → EachAt (λ (n : ℕ) (part : Part Server). waits_of part.up ≡ 0) parts → waiting parts ≡ 0
@@ -204,15 +204,7 @@ few_opening sc =
 
 -- a step that is taken is done at most once
 step_counted : (sc : Scenario) (m : Machine) (taken : Step) → length (machine_after sc m taken).state.steps ≤ length m.state.steps + 1
-step_counted sc m (step.Submit txn) = omega (arith, length-append m.state.steps (step.Submit txn ∷ []))
-step_counted sc m (step.Deliver mail) = omega (arith, length-append m.state.steps (step.Deliver mail ∷ []))
-step_counted sc m (step.Lose mail) = omega (arith, length-append m.state.steps (step.Lose mail ∷ []))
-step_counted sc m (step.Publish admin) = omega (arith, length-append m.state.steps (step.Publish admin ∷ []))
-step_counted sc m (step.Push admin server) = omega (arith, length-append m.state.steps (step.Push admin server ∷ []))
-step_counted sc m (step.Tick by) = omega (arith, length-append m.state.steps (step.Tick by ∷ []))
-step_counted sc m (step.Revoke cred) = omega (arith, length-append m.state.steps (step.Revoke cred ∷ []))
-step_counted sc m (step.Timer txn) = omega (arith, length-append m.state.steps (step.Timer txn ∷ []))
-step_counted sc m _ = omega arith
+step_counted sc m taken = omega (arith, ap length (steps_next sc m taken), length-append m.state.steps (taken ∷ []))
 
 taken_counted : (sc : Scenario) (m : Machine) (taken : Step) (why : Option StepError) → length (if is_some why then m else machine_after sc m taken).state.steps ≤ length m.state.steps + 1
 taken_counted sc m taken None = step_counted sc m taken

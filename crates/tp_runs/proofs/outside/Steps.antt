@@ -22,7 +22,7 @@ use Rattle.tp_runs.proofs.agreement.ServerActs.{server_facts}
 use Rattle.tp_runs.proofs.basics.Facts.{ArePast, Grows, all_from_each, earlier_passes, facts_after, grows_with_facts, new_facts_past, past_as}
 use Rattle.tp_runs.proofs.basics.Logs.{gained}
 use Rattle.tp_types.proofs.EachLemmas.{each_append}
-use Rattle.tp_runs.proofs.walks.Steps.{Cases, SaysIdle, machine_after_by}
+use Rattle.tp_runs.proofs.walks.Steps.{Cases, KeepsUp, SaysIdle, machine_after_by}
 use Rattle.tp_types.specs.Effect.{Effect}
 use Rattle.tp_machine.specs.Named.{IsAdmin, IsStepOf}
 use Rattle.tp_runs.proofs.trust.World.{MasterFits}
@@ -157,11 +157,11 @@ outside_cases sc w fits =
     }
 
 -- a step keeps that the facts from outside are what the steps say
-pub outside_next : (sc : Scenario) (m : Machine) (taken : Step) → IsStepOf sc taken → refusal m.state taken ≡ None → length m.state.actors.coordinators ≡ length sc.txns
+pub outside_next : (sc : Scenario) (m : Machine) (taken : Step) → IsStepOf sc taken → KeepsUp taken → refusal m.state taken ≡ None → length m.state.actors.coordinators ≡ length sc.txns
     → ArePast (length m.state.steps) m.state.facts → MasterFits sc m.state.facts (length m.state.steps) m.state.actors.master → IsOutside sc m.state.steps m.state.facts → IsOutside sc (machine_after sc m taken).state.steps (machine_after sc m taken).state.facts
-outside_next sc m taken exists allowed count past fits h =
+outside_next sc m taken exists stays allowed count past fits h =
     machine_after_by sc m (Says sc m.state) (λ w. IsOutside sc w.steps w.facts) (outside_cases sc m.state fits) count
-    (λ taken move says. state_after_outside sc m.state taken move past h says) h taken exists allowed
+    (λ taken move says. state_after_outside sc m.state taken move past h says) taken exists stays allowed
 
 -- before the first step nothing was said
 pub outside_opening : (sc : Scenario) → IsOutside sc [] []

@@ -22,7 +22,7 @@ use Rattle.tp_coord.specs.Row.{refused_by}
 use Rattle.tp_coord.specs.State.{Coordinator}
 use Rattle.tp_server.specs.Booted.{boot_row, booted}
 use Rattle.tp_server.specs.State.{Server}
-use Rattle.tp_machine.specs.Crashes.{goes_down}
+use Rattle.tp_machine.specs.Machine.{goes_down}
 use Rattle.tp_machine.specs.Machine.{State, coordinator_fact, coordinator_move, facts_of, server_fact, server_move, state_after}
 use Rattle.tp_machine.specs.Parts.{Part}
 use Rattle.tp_runs.proofs.agreement.CoordinatorActs.{coordinator_facts}

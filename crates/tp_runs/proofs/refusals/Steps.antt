@@ -39,7 +39,7 @@ use Rattle.tp_runs.proofs.serial_data.World.{Serial}
 use Rattle.tp_scheme.specs.declared.moves.Point.TheVariants as point
 use Rattle.tp_coord.proofs.Rows.{ByLoss, ByOlder, ByProof, ByRefusal, ByRestart, Gained, IsEnded, IsPassed, QueryRan, coordinator_by, submit_by, with_gained}
 use Rattle.tp_server.proofs.Rows.{server_by}
-use Rattle.tp_runs.proofs.walks.Steps.{Cases, IsCoordinatorUp, IsServerUp, SaysIdle, WasSent, WaitRightly, machine_after_by}
+use Rattle.tp_runs.proofs.walks.Steps.{Cases, IsCoordinatorUp, IsServerUp, KeepsUp, SaysIdle, WaitRightly, WasSent, machine_after_by}
 use Rattle.tp_recover.specs.Log.{settled_in, settlement_in}
 use Rattle.tp_machine.specs.Logs.{decided_at, decided_by, settled_at, settled_by}
 use Rattle.tp_machine.specs.Machine.{Machine, State, acts, coordinator_fact, coordinator_move, facts_of, idle_move, log_with, machine_after, opened_part, opening_state, refusal, server_fact, server_move, with_age}
@@ -428,11 +428,11 @@ refusals_cases sc w valid rightly sound a pairs serial known h =
     }
 
 -- a step that is not refused keeps what is said of refusals
-pub refusals_next : (sc : Scenario) (m : Machine) (taken : Step) → IsValid sc → IsStepOf sc taken → refusal m.state taken ≡ None → WaitRightly sc m.state → IsSound sc m.state → Agrees sc m.state → Pairs sc m.state → Serial sc m.state
+pub refusals_next : (sc : Scenario) (m : Machine) (taken : Step) → IsValid sc → IsStepOf sc taken → KeepsUp taken → refusal m.state taken ≡ None → WaitRightly sc m.state → IsSound sc m.state → Agrees sc m.state → Pairs sc m.state → Serial sc m.state
     → Remembers sc m.state → Refusals sc m.state → Refusals sc (machine_after sc m taken).state
-refusals_next sc m taken valid exists allowed rightly sound a pairs serial known h =
+refusals_next sc m taken valid exists stays allowed rightly sound a pairs serial known h =
     machine_after_by sc m (λ taken_is move. MoveRefuses sc m.state move) (Refusals sc) (refusals_cases sc m.state valid rightly sound a pairs serial known h) a.coordinator_count
-    (λ taken_is move t. state_after_refusals sc m.state taken_is move a.past h t) h taken exists allowed
+    (λ taken_is move t. state_after_refusals sc m.state taken_is move a.past h t) taken exists stays allowed
 
 -- before the first step nothing is settled
 pub refusals_opening : (sc : Scenario) → Refusals sc (opening_state sc)

@@ -52,7 +52,7 @@ use Rattle.tp_runs.proofs.restarts.Servers.{IsKnownMail, RowSince, server_row_si
 use Rattle.tp_runs.proofs.restarts.Shown.{other_epoch, restart_shown}
 use Rattle.tp_runs.proofs.restarts.Since.{BodySince, CauseSince, DoneSince, EntriesSince, EntrySince, KeptSince, LetterSince, PartSince, QuerySince, VotedSince}
 use Rattle.tp_runs.proofs.restarts.World.{IsHalted, MailSince, MoveSince, Restarts, ShownIn, SinceIn, WasLostAt, coordinator_acts_since, server_acts_since, state_after_since, still_since}
-use Rattle.tp_runs.proofs.walks.Steps.{Cases, IsCoordinatorUp, IsServerUp, SaysIdle, WaitRightly, WasSent, machine_after_by}
+use Rattle.tp_runs.proofs.walks.Steps.{Cases, IsCoordinatorUp, IsServerUp, KeepsUp, SaysIdle, WaitRightly, WasSent, machine_after_by}
 use Rattle.tp_runs.specs.Sound.{IsSound, IsSoundBody, IsSoundQuery}
 
 -- ---- a server receives a mail
@@ -284,11 +284,11 @@ restarts_cases sc w rightly sound a epochs ages pairs deaths h =
     }
 
 -- a step that is not refused keeps what is said of restarts
-pub restarts_next : (sc : Scenario) (m : Machine) (taken : Step) → IsStepOf sc taken → refusal m.state taken ≡ None → WaitRightly sc m.state → IsSound sc m.state → Agrees sc m.state → Epochs sc m.state → Ages m.state → Pairs sc m.state
+pub restarts_next : (sc : Scenario) (m : Machine) (taken : Step) → IsStepOf sc taken → KeepsUp taken → refusal m.state taken ≡ None → WaitRightly sc m.state → IsSound sc m.state → Agrees sc m.state → Epochs sc m.state → Ages m.state → Pairs sc m.state
     → Deaths sc m.state → Restarts sc m.state → Restarts sc (machine_after sc m taken).state
-restarts_next sc m taken exists allowed rightly sound a epochs ages pairs deaths h =
+restarts_next sc m taken exists stays allowed rightly sound a epochs ages pairs deaths h =
     machine_after_by sc m (λ taken_is move. MoveSince sc m.state move) (Restarts sc) (restarts_cases sc m.state rightly sound a epochs ages pairs deaths h) a.coordinator_count
-    (λ taken_is move t. state_after_since sc m.state taken_is move h t) h taken exists allowed
+    (λ taken_is move t. state_after_since sc m.state taken_is move h t) taken exists stays allowed
 
 -- before the first step nobody has crashed, and nobody keeps an epoch
 pub restarts_opening : (sc : Scenario) → Restarts sc (opening_state sc)

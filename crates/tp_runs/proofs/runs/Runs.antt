@@ -1,5 +1,5 @@
 -- All invariants together, after every list of steps that name what exists.
-use Rattle.std.proofs.Common.{List, None, Option, Some, [], ap, arith, false, if◌then◌else◌, is_some, length, refl, subst, sym, true, ◌*◌, ◌∙◌, ◌∷◌, ◌≡◌, ◌≤◌}
+use Rattle.std.proofs.Common.{List, None, Option, Some, [], ap, arith, if◌then◌else◌, is_some, length, refl, subst, sym, true, ◌*◌, ◌∙◌, ◌∷◌, ◌≡◌, ◌≤◌}
 use Rattle.tp_model.specs.Agreement.{is_agreed}
 use Rattle.tp_model.specs.Built.{is_built}
 use Rattle.tp_model.specs.Causes.{is_caused}
@@ -7,7 +7,7 @@ use Rattle.tp_model.specs.Commits.{are_lone}
 use Rattle.tp_model.specs.Outside.{IsOutside}
 use Rattle.tp_model.specs.SerialRun.{is_serial}
 use Rattle.tp_model.specs.Trust.{is_trusted}
-use Rattle.tp_model.specs.Words.{Actor, Fact, Scenario, Step}
+use Rattle.tp_model.specs.Words.{Fact, Scenario, Step}
 use Rattle.tp_runs.proofs.trust.Built.{are_plain}
 use Rattle.tp_runs.proofs.ids.Valid.{IsValid, valid_built}
 use Rattle.tp_runs.proofs.ids.Built.{send_first}
@@ -41,7 +41,6 @@ use Rattle.tp_runs.proofs.refusals.Crashes.{refusals_crashed}
 use Rattle.tp_runs.proofs.refusals.World.{Refusals}
 use Rattle.tp_runs.proofs.restarts.Steps.{restarts_next, restarts_opening}
 use Rattle.tp_runs.proofs.restarts.Crashes.{restarts_crashed}
-use Rattle.tp_runs.proofs.restarts.Uncrashed.{Uncrashed, coordinator_is_up, nobody_is_down, servers_up, uncrashed_next, uncrashed_opening}
 use Rattle.tp_runs.proofs.restarts.World.{Restarts}
 use Rattle.tp_runs.proofs.serial_data.Crashes.{serial_crashed}
 use Rattle.tp_runs.proofs.serial_data.End.{serial_facts, serial_values, values_at_end}
@@ -54,11 +53,12 @@ use Rattle.tp_runs.proofs.trusted.End.{facts_caused, facts_trusted}
 use Rattle.tp_runs.proofs.trusted.Crashes.{trusts_crashed}
 use Rattle.tp_runs.proofs.trusted.Steps.{trusts_next, trusts_opening}
 use Rattle.tp_runs.proofs.trust.World.{Trusts}
-use Rattle.tp_runs.proofs.walks.Crashes.{CrashCases, crash_cases_as, crash_cases_both}
+use Rattle.tp_runs.proofs.walks.Crashes.{CrashCases, crash_cases_as, crash_cases_both, every_step_by}
+use Rattle.tp_runs.proofs.walks.Steps.{KeepsUp}
 use Rattle.tp_runs.specs.Bounded.{AreBounded}
 use Rattle.tp_runs.specs.Laws.{HasAllCommits, HasAllEnds, IsTrustedState, mails_most}
 use Rattle.tp_machine.specs.Fits.{AllFitLogs}
-use Rattle.tp_machine.specs.Machine.{Machine, State, after, after_step, after_steps, is_down, machine_after, opening, opening_state, refusal, state_after}
+use Rattle.tp_machine.specs.Machine.{Machine, State, after, after_step, after_steps, machine_after, opening, opening_state, refusal, state_after}
 use Rattle.tp_types.specs.Each.{Each}
 use Rattle.tp_runs.specs.Sound.{IsSound}
 use Rattle.tp_machine.specs.Named.{IsStepOf}
@@ -88,48 +88,32 @@ pub holds_opening : (sc : Scenario) → is_built sc ≡ true → Holds sc (openi
 holds_opening sc built =
     record { sound = sound_opening sc built; agrees = agrees_opening sc; epochs = epochs_opening sc; ages = ages_opening sc; deaths = deaths_opening sc; restarts = restarts_opening sc; lone = lone_opening; outside = outside_opening sc; trusts = trusts_opening sc built; pairs = pairs_opening sc; serial = serial_opening sc (valid_built sc built); refusals = refusals_opening sc; bounds = bounds_opening sc (valid_built sc built); few = few_opening sc; sizes = sizes_opening sc }
 
--- each invariant may lean on all the others before the step
-pub holds_next : (sc : Scenario) (m : Machine) (taken : Step) → is_built sc ≡ true → IsStepOf sc taken → refusal m.state taken ≡ None → Holds sc m.state → Holds sc (machine_after sc m taken).state
-holds_next sc m taken built exists allowed h =
+-- each invariant may lean on all the others before the step. So it is where each actor is up or down as it was
+holds_running : (sc : Scenario) (m : Machine) (taken : Step) → is_built sc ≡ true → IsStepOf sc taken → KeepsUp taken → refusal m.state taken ≡ None → Holds sc m.state → Holds sc (machine_after sc m taken).state
+holds_running sc m taken built exists stays allowed h =
     let rightly = wait_rightly sc m.state h.sound h.pairs in
     let valid : IsValid sc = valid_built sc built in
     let named : PreparesNamed m.state = prepares_named sc m.state h.epochs in
     record {
-      sound = sound_next sc m taken built exists allowed h.agrees.coordinator_count rightly h.sound;
-      agrees = agrees_next sc m taken valid (send_first sc built (have_homes sc valid)) exists allowed rightly h.sound named h.agrees;
-      epochs = epochs_next sc m taken (have_homes sc valid) exists allowed rightly h.sound h.agrees h.epochs;
-      ages = ages_next sc m taken exists allowed rightly h.sound h.agrees h.ages;
-      deaths = deaths_next sc m taken exists allowed rightly h.sound h.agrees h.ages h.pairs h.deaths;
-      restarts = restarts_next sc m taken exists allowed rightly h.sound h.agrees h.epochs h.ages h.pairs h.deaths h.restarts;
-      lone = lone_next sc m taken exists allowed h.agrees.coordinator_count h.agrees.past h.lone;
-      outside = outside_next sc m taken exists allowed h.agrees.coordinator_count h.agrees.past h.trusts.master h.outside;
-      trusts = trusts_next sc m taken built exists allowed rightly h.sound h.agrees h.pairs h.trusts;
-      pairs = pairs_next sc m taken built exists allowed rightly h.sound h.agrees h.epochs h.trusts h.pairs;
-      serial = serial_next sc m taken valid exists allowed rightly h.sound named h.agrees h.pairs h.serial;
-      refusals = refusals_next sc m taken valid exists allowed rightly h.sound h.agrees h.pairs h.serial (record { epochs = h.epochs; told = h.deaths.told; restarts = h.restarts }) h.refusals;
-      bounds = bounds_next sc m taken valid exists allowed rightly h.sound named h.agrees h.pairs h.serial h.bounds;
-      few = few_next sc m taken built exists allowed rightly h.agrees h.few;
-      sizes = sizes_next sc m taken (are_plain sc built) (have_homes sc valid) valid exists allowed rightly h.sound h.agrees h.pairs h.trusts h.sizes;
+      sound = sound_next sc m taken built exists stays allowed h.agrees.coordinator_count rightly h.sound;
+      agrees = agrees_next sc m taken valid (send_first sc built (have_homes sc valid)) exists stays allowed rightly h.sound named h.agrees;
+      epochs = epochs_next sc m taken (have_homes sc valid) exists stays allowed rightly h.sound h.agrees h.epochs;
+      ages = ages_next sc m taken exists stays allowed rightly h.sound h.agrees h.ages;
+      deaths = deaths_next sc m taken exists stays allowed rightly h.sound h.agrees h.ages h.pairs h.deaths;
+      restarts = restarts_next sc m taken exists stays allowed rightly h.sound h.agrees h.epochs h.ages h.pairs h.deaths h.restarts;
+      lone = lone_next sc m taken exists stays allowed h.agrees.coordinator_count h.agrees.past h.lone;
+      outside = outside_next sc m taken exists stays allowed h.agrees.coordinator_count h.agrees.past h.trusts.master h.outside;
+      trusts = trusts_next sc m taken built exists stays allowed rightly h.sound h.agrees h.pairs h.trusts;
+      pairs = pairs_next sc m taken built exists stays allowed rightly h.sound h.agrees h.epochs h.trusts h.pairs;
+      serial = serial_next sc m taken valid exists stays allowed rightly h.sound named h.agrees h.pairs h.serial;
+      refusals = refusals_next sc m taken valid exists stays allowed rightly h.sound h.agrees h.pairs h.serial (record { epochs = h.epochs; told = h.deaths.told; restarts = h.restarts }) h.refusals;
+      bounds = bounds_next sc m taken valid exists stays allowed rightly h.sound named h.agrees h.pairs h.serial h.bounds;
+      few = few_next sc m taken built exists stays allowed rightly h.agrees h.few;
+      sizes = sizes_next sc m taken (are_plain sc built) (have_homes sc valid) valid exists stays allowed rightly h.sound h.agrees h.pairs h.trusts h.sizes;
     }
 
-step_holds : (sc : Scenario) (m : Machine) (taken : Step) (why : Option StepError) → refusal m.state taken ≡ why → is_built sc ≡ true → IsStepOf sc taken → Holds sc m.state
-    → Holds sc (if is_some why then m else machine_after sc m taken).state
-step_holds sc m taken None e built exists h = holds_next sc m taken built exists e h
-step_holds sc m taken (Some why) e built exists h = h
-
-steps_hold : (sc : Scenario) (m : Machine) (steps : List Step) → is_built sc ≡ true → Each (IsStepOf sc) steps → Holds sc m.state → Holds sc (after_steps sc m steps).state
-steps_hold sc m [] built exist h = h
-steps_hold sc m (taken ∷ steps) built exist h =
-    steps_hold sc (after_step sc m taken) steps built exist.1 (step_holds sc m taken (refusal m.state taken) refl built exist.0 h)
-
--- after every list of steps
-pub holds_after : (sc : Scenario) (steps : List Step) → is_built sc ≡ true → Each (IsStepOf sc) steps → Holds sc (after sc steps).state
-holds_after sc steps built exist = steps_hold sc (opening sc) steps built exist (holds_opening sc built)
-
--- ---- crashes and boots, which no step makes yet
-
--- all that holds of every world holds after each of them
-pub holds_crashed : (sc : Scenario) (w : State) → is_built sc ≡ true → Holds sc w → CrashCases sc w (λ taken move. Holds sc (state_after w taken move))
+-- and after each crash and each boot
+holds_crashed : (sc : Scenario) (w : State) → is_built sc ≡ true → Holds sc w → CrashCases sc w (λ taken move. Holds sc (state_after w taken move))
 holds_crashed sc w built h =
     let rightly = wait_rightly sc w h.sound h.pairs in
     let valid : IsValid sc = valid_built sc built in
@@ -163,29 +147,30 @@ holds_crashed sc w built h =
     })
     (crash_cases_both (crash_cases_both (crash_cases_both ids epochs) (crash_cases_both deaths outside)) (crash_cases_both (crash_cases_both trusts serial) (crash_cases_both bounds sizes)))
 
--- ---- nobody is down, as long as no step crashes an actor
+-- so all of it holds after any step that is not refused
+pub holds_next : (sc : Scenario) (m : Machine) (taken : Step) → is_built sc ≡ true → IsStepOf sc taken → refusal m.state taken ≡ None → Holds sc m.state → Holds sc (machine_after sc m taken).state
+holds_next sc m taken built exists allowed h =
+    every_step_by sc m (Holds sc) (holds_crashed sc m.state built h) h.agrees.server_count h.agrees.coordinator_count taken exists allowed
+    (λ stays. holds_running sc m taken built exists stays allowed h)
 
-step_uncrashed : (sc : Scenario) (m : Machine) (taken : Step) (why : Option StepError) → refusal m.state taken ≡ why → IsStepOf sc taken → Agrees sc m.state → Uncrashed m.state
-    → Uncrashed (if is_some why then m else machine_after sc m taken).state
-step_uncrashed sc m taken None e exists a h = uncrashed_next sc m taken exists e a h
-step_uncrashed sc m taken (Some why) e exists a h = h
+step_holds : (sc : Scenario) (m : Machine) (taken : Step) (why : Option StepError) → refusal m.state taken ≡ why → is_built sc ≡ true → IsStepOf sc taken → Holds sc m.state
+    → Holds sc (if is_some why then m else machine_after sc m taken).state
+step_holds sc m taken None e built exists h = holds_next sc m taken built exists e h
+step_holds sc m taken (Some why) e built exists h = h
 
-steps_uncrashed : (sc : Scenario) (m : Machine) (steps : List Step) → is_built sc ≡ true → Each (IsStepOf sc) steps → Holds sc m.state → Uncrashed m.state → Uncrashed (after_steps sc m steps).state
-steps_uncrashed sc m [] built exist h u = u
-steps_uncrashed sc m (taken ∷ steps) built exist h u =
-    steps_uncrashed sc (after_step sc m taken) steps built exist.1 (step_holds sc m taken (refusal m.state taken) refl built exist.0 h)
-    (step_uncrashed sc m taken (refusal m.state taken) refl exist.0 h.agrees u)
+steps_hold : (sc : Scenario) (m : Machine) (steps : List Step) → is_built sc ≡ true → Each (IsStepOf sc) steps → Holds sc m.state → Holds sc (after_steps sc m steps).state
+steps_hold sc m [] built exist h = h
+steps_hold sc m (taken ∷ steps) built exist h =
+    steps_hold sc (after_step sc m taken) steps built exist.1 (step_holds sc m taken (refusal m.state taken) refl built exist.0 h)
 
-pub uncrashed_after : (sc : Scenario) (steps : List Step) → is_built sc ≡ true → Each (IsStepOf sc) steps → Uncrashed (after sc steps).state
-uncrashed_after sc steps built exist = steps_uncrashed sc (opening sc) steps built exist (holds_opening sc built) (uncrashed_opening sc)
-
-pub nobody_down_after : (sc : Scenario) (steps : List Step) → is_built sc ≡ true → Each (IsStepOf sc) steps → (who : Actor) → is_down (after sc steps).state.actors who ≡ false
-nobody_down_after sc steps built exist who = nobody_is_down sc (after sc steps).state (uncrashed_after sc steps built exist) (holds_after sc steps built exist).restarts who
+-- after every list of steps
+pub holds_after : (sc : Scenario) (steps : List Step) → is_built sc ≡ true → Each (IsStepOf sc) steps → Holds sc (after sc steps).state
+holds_after sc steps built exist = steps_hold sc (opening sc) steps built exist (holds_opening sc built)
 
 -- ---- what the facts show
 
-shows : (sc : Scenario) (w : State) → is_built sc ≡ true → Holds sc w → Uncrashed w → IsTrustedState sc w
-shows sc w built h none =
+shows : (sc : Scenario) (w : State) → is_built sc ≡ true → Holds sc w → IsTrustedState sc w
+shows sc w built h =
     record {
       outside = h.outside;
       agreed = facts_agreed sc w h.agrees;
@@ -193,26 +178,23 @@ shows sc w built h none =
       caused = facts_caused sc w built h.sound h.refusals h.deaths h.restarts h.trusts;
       serial = serial_facts sc w h.serial;
       lone = facts_lone w.facts h.lone;
-      values_are = serial_values sc w (valid_built sc built) h.agrees h.serial (servers_up sc w none h.restarts);
+      values_are = serial_values sc w (valid_built sc built) h.sound h.agrees h.serial;
     }
 
 -- after every list of steps the history is trusted so far
 pub always_trusted : (sc : Scenario) (steps : List Step) → is_built sc ≡ true → Each (IsStepOf sc) steps → IsTrustedState sc (after sc steps).state
-always_trusted sc steps built exist = shows sc (after sc steps).state built (holds_after sc steps built exist) (uncrashed_after sc steps built exist)
+always_trusted sc steps built exist = shows sc (after sc steps).state built (holds_after sc steps built exist)
 
 -- where all transactions are finished they have ended
 pub has_all_ends : (sc : Scenario) (steps : List Step) → is_built sc ≡ true → Each (IsStepOf sc) steps → HasAllEnds sc (after sc steps).state
-has_all_ends sc steps built exist finished =
-    let w = (after sc steps).state in
-    let h = holds_after sc steps built exist in
-    all_ended sc w h.sound h.agrees (λ n part found. coordinator_is_up sc w (record { 0 = n }) part (uncrashed_after sc steps built exist) h.restarts found) finished
+has_all_ends sc steps built exist finished = let h = holds_after sc steps built exist in all_ended sc (after sc steps).state h.sound h.agrees finished
 
 -- and where all transactions have ended the values are those of all commits
 pub has_all_commits : (sc : Scenario) (steps : List Step) → is_built sc ≡ true → Each (IsStepOf sc) steps → HasAllCommits sc (after sc steps).state
 has_all_commits sc steps built exist ended =
     let w = (after sc steps).state in
     let h = holds_after sc steps built exist in
-    serial_values sc w (valid_built sc built) h.agrees h.serial (servers_up sc w (uncrashed_after sc steps built exist) h.restarts) ∙ values_at_end sc w (valid_built sc built) h.agrees h.serial ended
+    serial_values sc w (valid_built sc built) h.sound h.agrees h.serial ∙ values_at_end sc w (valid_built sc built) h.agrees h.serial ended
 
 -- and few mails were sent
 pub sends_few : (sc : Scenario) (steps : List Step) → is_built sc ≡ true → Each (IsStepOf sc) steps → length (after sc steps).state.mails ≤ mails_most * length steps

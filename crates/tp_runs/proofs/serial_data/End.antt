@@ -18,19 +18,23 @@ use Rattle.tp_runs.proofs.agreement.World.{Agrees}
 use Rattle.tp_runs.proofs.basics.Facts.{all_from_each, any_settled}
 use Rattle.tp_types.proofs.EachLemmas.{each_from_all}
 use Rattle.tp_types.proofs.EachLemmas.{each_get, missing}
+use Rattle.tp_runs.proofs.basics.Booted.{records_of_scenario}
 use Rattle.tp_runs.proofs.basics.Logs.{listed}
 use Rattle.tp_runs.proofs.basics.Servers.{among_servers}
 use Rattle.tp_runs.proofs.ids.Valid.{IsValid, IsValidItem}
 use Rattle.tp_runs.proofs.deeds.Lengths.{overlaid_length, store_length}
 use Rattle.tp_runs.proofs.serial_data.Unsettled.{IsUnsettled}
-use Rattle.tp_runs.proofs.serial_data.World.{Serial, values_here}
+use Rattle.tp_runs.proofs.serial_data.World.{Serial, up_on_log}
 use Rattle.tp_machine.specs.Logs.{settled_at}
-use Rattle.tp_machine.specs.Machine.{State, ending_of, item_value, item_values, value_up}
+use Rattle.tp_machine.specs.Machine.{State, ending_of, item_value, item_values, value_up, values_by_log}
 use Rattle.tp_machine.specs.Parts.{Part}
-use Rattle.tp_types.specs.Each.{Each, EachAt}
+use Rattle.tp_recover.proofs.KeptLemmas.{kept_law}
+use Rattle.tp_recover.specs.Log.{values_in}
+use Rattle.tp_types.specs.Each.{Each}
 use Rattle.tp_machine.specs.Named.{IsServer}
 use Rattle.tp_coord.specs.Opened.{servers_at}
 use Rattle.tp_server.specs.State.{Server}
+use Rattle.tp_runs.specs.Sound.{IsSound}
 
 -- ---- commits
 
@@ -45,49 +49,51 @@ unwrapped None default there = absurd (there refl)
 unwrapped (Some value) default there = refl
 
 -- values by their places are the list
-values_from : (servers : List (Part Server)) (first : ℕ) (items : List Item) (store : List ℤ) → length store ≡ length items
-    → ((n : ℕ) (item : Item) → slice_get items n ≡ Some item → slice_get store n ≡ Some (item_value servers (first + n) item)) → item_values servers first items ≡ store
-values_from servers first [] [] e h = refl
-values_from servers first [] (value ∷ store) e h = absurd (omega (arith, e))
-values_from servers first (item ∷ items) [] e h = absurd (omega (arith, e))
-values_from servers first (item ∷ items) (value ∷ store) e h =
+values_from : (sc : Scenario) (servers : List (Part Server)) (first : ℕ) (items : List Item) (store : List ℤ) → length store ≡ length items
+    → ((n : ℕ) (item : Item) → slice_get items n ≡ Some item → slice_get store n ≡ Some (item_value sc servers (first + n) item)) → item_values sc servers first items ≡ store
+values_from sc servers first [] [] e h = refl
+values_from sc servers first [] (value ∷ store) e h = absurd (omega (arith, e))
+values_from sc servers first (item ∷ items) [] e h = absurd (omega (arith, e))
+values_from sc servers first (item ∷ items) (value ∷ store) e h =
     let now : length store ≡ length items = omega (arith, e) in
     let first_is : first + 0 ≡ first = omega arith in
-    let here : value ≡ item_value servers first item =
-    same_Some value (item_value servers first item) (h 0 item refl ∙ ap (λ (n : ℕ). Some (item_value servers n item)) first_is) in
-    let later : item_values servers (first + 1) items ≡ store =
-    values_from servers (first + 1) items store now (λ n other found. h (suc n) other found ∙ ap (λ (m : ℕ). Some (item_value servers m other)) (next n)) in
-    ap (λ (v : ℤ). v ∷ item_values servers (first + 1) items) (sym here) ∙ ap (λ (vs : List ℤ). value ∷ vs) later
+    let here : value ≡ item_value sc servers first item =
+    same_Some value (item_value sc servers first item) (h 0 item refl ∙ ap (λ (n : ℕ). Some (item_value sc servers n item)) first_is) in
+    let later : item_values sc servers (first + 1) items ≡ store =
+    values_from sc servers (first + 1) items store now (λ n other found. h (suc n) other found ∙ ap (λ (m : ℕ). Some (item_value sc servers m other)) (next n)) in
+    ap (λ (v : ℤ). v ∷ item_values sc servers (first + 1) items) (sym here) ∙ ap (λ (vs : List ℤ). value ∷ vs) later
   where
     next : (n : ℕ) → first + suc n ≡ (first + 1) + n
     next n = omega arith
 
--- each server is up
-abbrev pub ServersUp : List (Part Server) → Type 0
-ServersUp servers = EachAt (λ (n : ℕ) (part : Part Server). is_some part.up ≡ true) servers
+-- the values at a server, up or down, are those of its log
+values_on_log : (sc : Scenario) (w : State) (at : ServerId) (part : Part Server) (up : Option Server) → IsSound sc w → Serial sc w → slice_get w.actors.servers at.0 ≡ Some part → part.up ≡ up
+    → values_by_log sc at part.log up ≡ values_in sc part.log
+values_on_log sc w at part None sound h found e = (kept_law sc at part.log (records_of_scenario sc at part.log (sound.actors_are.servers at.0 part found).records)).values
+values_on_log sc w at part (Some s) sound h found e = (up_on_log sc w at part s h found e).values
 
--- the value of an item at a server that is up is the store's
-value_here : (sc : Scenario) (w : State) (n : ℕ) (item : Item) (part : Part Server) (up : Option Server) → Serial sc w → slice_get sc.items n ≡ Some item → slice_get w.actors.servers item.server.0 ≡ Some part
-    → part.up ≡ up → is_some up ≡ true → slice_get (overlay sc w.facts) n ≡ Some (value_up up n item.value)
-value_here sc w n item part None h found there e up = absurd (cc)
-value_here sc w n item part (Some s) h found there e up =
-    let same : slice_get s.store.values n ≡ slice_get (overlay sc w.facts) n = values_here sc w item.server part s h there e n item found refl in
+-- so the value of an item is the one that settled commits leave
+value_here : (sc : Scenario) (w : State) (n : ℕ) (item : Item) (part : Part Server) → IsSound sc w → Serial sc w → slice_get sc.items n ≡ Some item → slice_get w.actors.servers item.server.0 ≡ Some part
+    → slice_get (overlay sc w.facts) n ≡ Some (value_up sc item.server part n item.value)
+value_here sc w n item part sound h found there =
+    let same : slice_get (values_by_log sc item.server part.log part.up) n ≡ slice_get (overlay sc w.facts) n =
+    ap (λ (values : List ℤ). slice_get values n) (values_on_log sc w item.server part part.up sound h there refl) ∙ (h.servers item.server.0 part there).kept n item found refl in
     let within : n < length (overlay sc w.facts) = omega (arith, slice_get_within sc.items n item found, overlaid_length sc w.facts) in
     unwrapped (slice_get (overlay sc w.facts) n) item.value (missing (overlay sc w.facts) n within)
     ∙ ap (λ (v : Option ℤ). Some (unwrap_or v item.value)) (sym same)
 
-value_at : (sc : Scenario) (w : State) (n : ℕ) (item : Item) (part : Option (Part Server)) → IsValid sc → Agrees sc w → Serial sc w → ServersUp w.actors.servers → slice_get sc.items n ≡ Some item → slice_get w.actors.servers item.server.0 ≡ part
-    → slice_get (overlay sc w.facts) n ≡ Some (option_map_or (λ (p : Part Server). value_up p.up n item.value) part item.value)
-value_at sc w n item None valid agrees h up found there =
+value_at : (sc : Scenario) (w : State) (n : ℕ) (item : Item) (part : Option (Part Server)) → IsValid sc → IsSound sc w → Agrees sc w → Serial sc w → slice_get sc.items n ≡ Some item → slice_get w.actors.servers item.server.0 ≡ part
+    → slice_get (overlay sc w.facts) n ≡ Some (option_map_or (λ (p : Part Server). value_up sc item.server p n item.value) part item.value)
+value_at sc w n item None valid sound agrees h found there =
     let exists : IsServer sc item.server = (each_get (IsValidItem sc) sc.items n item valid.items found).server in
     absurd (missing w.actors.servers item.server.0 (omega (arith, exists, agrees.server_count)) there)
-value_at sc w n item (Some part) valid agrees h up found there = value_here sc w n item part part.up h found there refl (up item.server.0 part there)
+value_at sc w n item (Some part) valid sound agrees h found there = value_here sc w n item part sound h found there
 
--- where each server is up, each item has the value that settled commits leave
-pub serial_values : (sc : Scenario) (w : State) → IsValid sc → Agrees sc w → Serial sc w → ServersUp w.actors.servers → (ending_of sc w).values ≡ overlay sc w.facts
-serial_values sc w valid agrees h up =
-    values_from w.actors.servers 0 sc.items (overlay sc w.facts) (overlaid_length sc w.facts)
-    (λ n item found. value_at sc w n item (slice_get w.actors.servers item.server.0) valid agrees h up found refl ∙ ap (λ (m : ℕ). Some (item_value w.actors.servers m item)) (none_before n))
+-- each item has the value that settled commits leave, whether its server is up or down
+pub serial_values : (sc : Scenario) (w : State) → IsValid sc → IsSound sc w → Agrees sc w → Serial sc w → (ending_of sc w).values ≡ overlay sc w.facts
+serial_values sc w valid sound agrees h =
+    values_from sc w.actors.servers 0 sc.items (overlay sc w.facts) (overlaid_length sc w.facts)
+    (λ n item found. value_at sc w n item (slice_get w.actors.servers item.server.0) valid sound agrees h found refl ∙ ap (λ (m : ℕ). Some (item_value sc w.actors.servers m item)) (none_before n))
   where
     none_before : (n : ℕ) → n ≡ 0 + n
     none_before n = omega arith

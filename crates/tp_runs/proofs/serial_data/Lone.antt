@@ -26,7 +26,7 @@ use Rattle.tp_runs.proofs.basics.Facts.{ArePast, all_from_each, count_append}
 use Rattle.tp_types.proofs.EachLemmas.{each_placed}
 use Rattle.tp_runs.proofs.basics.Logs.{gained}
 use Rattle.tp_runs.proofs.walks.Crashes.{CrashCases, crash_cases_as}
-use Rattle.tp_runs.proofs.walks.Steps.{Cases, SaysIdle, machine_after_by}
+use Rattle.tp_runs.proofs.walks.Steps.{Cases, KeepsUp, SaysIdle, machine_after_by}
 use Rattle.tp_machine.specs.Named.{IsStepOf}
 
 -- no place has two commits
@@ -160,11 +160,11 @@ lone_cases sc w =
     }
 
 -- a step keeps that no place has two commits
-pub lone_next : (sc : Scenario) (m : Machine) (taken : Step) → IsStepOf sc taken → refusal m.state taken ≡ None → length m.state.actors.coordinators ≡ length sc.txns
+pub lone_next : (sc : Scenario) (m : Machine) (taken : Step) → IsStepOf sc taken → KeepsUp taken → refusal m.state taken ≡ None → length m.state.actors.coordinators ≡ length sc.txns
     → ArePast (length m.state.steps) m.state.facts → AreLone m.state.facts → AreLone (machine_after sc m taken).state.facts
-lone_next sc m taken exists allowed count past h =
+lone_next sc m taken exists stays allowed count past h =
     machine_after_by sc m (λ taken move. commits move.happened ≤ 1) (λ w. AreLone w.facts) (lone_cases sc m.state) count
-    (λ taken move one. state_after_lone m.state taken move past h one) h taken exists allowed
+    (λ taken move one. state_after_lone m.state taken move past h one) taken exists stays allowed
 
 pub lone_opening : AreLone []
 lone_opening place = omega arith

@@ -36,7 +36,7 @@ use Rattle.tp_runs.proofs.serial_data.Settling.{unmoved_serial}
 use Rattle.tp_runs.proofs.serial_data.UpOnLog.{UpOnLog}
 use Rattle.tp_runs.proofs.deeds.Tentative.{AreLast, none_last}
 use Rattle.tp_runs.proofs.serial_data.World.{MoveSerial, Serial, ServerPartSerial, state_after_serial, up_on_log}
-use Rattle.tp_runs.proofs.walks.Steps.{Cases, IsCoordinatorUp, IsServerUp, SaysIdle, WaitRightly, WasSent, machine_after_by}
+use Rattle.tp_runs.proofs.walks.Steps.{Cases, IsCoordinatorUp, IsServerUp, KeepsUp, SaysIdle, WaitRightly, WasSent, machine_after_by}
 use Rattle.tp_recover.specs.Log.{prepared_in}
 use Rattle.tp_machine.specs.Logs.{decided_at, decided_by}
 use Rattle.tp_machine.specs.Machine.{Machine, State, acts_by, coordinator_fact, coordinator_move, idle_move, is_part_submitted, machine_after, opened_part, opening_state, refusal, server_fact, server_move, with_age}
@@ -184,11 +184,11 @@ serial_cases sc w valid rightly sound named agrees pairs h =
     }
 
 -- a step that is not refused keeps data serial
-pub serial_next : (sc : Scenario) (m : Machine) (taken : Step) → IsValid sc → IsStepOf sc taken → refusal m.state taken ≡ None → WaitRightly sc m.state → IsSound sc m.state → PreparesNamed m.state → Agrees sc m.state → Pairs sc m.state → Serial sc m.state
+pub serial_next : (sc : Scenario) (m : Machine) (taken : Step) → IsValid sc → IsStepOf sc taken → KeepsUp taken → refusal m.state taken ≡ None → WaitRightly sc m.state → IsSound sc m.state → PreparesNamed m.state → Agrees sc m.state → Pairs sc m.state → Serial sc m.state
     → Serial sc (machine_after sc m taken).state
-serial_next sc m taken valid exists allowed rightly sound named agrees pairs h =
+serial_next sc m taken valid exists stays allowed rightly sound named agrees pairs h =
     machine_after_by sc m (λ taken move. MoveSerial sc m.state move) (λ w. ServersLocked sc w.actors.servers → Serial sc w) (serial_cases sc m.state valid rightly sound named agrees pairs h) agrees.coordinator_count
-    (λ taken move t locked. state_after_serial sc m.state taken move agrees h t locked) (λ locked. h) taken exists allowed (locked_next sc m taken exists allowed rightly sound agrees pairs h.locked)
+    (λ taken move t locked. state_after_serial sc m.state taken move agrees h t locked) taken exists stays allowed (locked_next sc m taken exists stays allowed rightly sound agrees pairs h.locked)
 
 -- ---- before the first step
 

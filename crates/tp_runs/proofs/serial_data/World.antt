@@ -252,8 +252,3 @@ state_after_serial sc w taken move agrees h t locked =
 -- what is known of a server that is up
 pub up_on_log : (sc : Scenario) (w : State) (at : ServerId) (part : Part Server) (s : Server) → Serial sc w → slice_get w.actors.servers at.0 ≡ Some part → part.up ≡ Some s → UpOnLog sc s part.log
 up_on_log sc w at part s h found up = subst (λ (u : Option Server). IfSome u (λ (now : Server). UpOnLog sc now part.log)) up (h.servers at.0 part found).state
-
--- its items have the values that settled commits leave
-pub values_here : (sc : Scenario) (w : State) (at : ServerId) (part : Part Server) (s : Server) → Serial sc w → slice_get w.actors.servers at.0 ≡ Some part → part.up ≡ Some s → HoldsValues sc at (overlay sc w.facts) s.store.values
-values_here sc w at part s h found up n item item_is here =
-    ap (λ (values : List ℤ). slice_get values n) (up_on_log sc w at part s h found up).values ∙ (h.servers at.0 part found).kept n item item_is here

@@ -47,7 +47,7 @@ use Rattle.tp_runs.proofs.sizes.Counts.{IsSmallAtCoordinator, IsSmallAtServer, I
 use Rattle.tp_runs.proofs.trust.Coordinator.{CommitFits, DecisionFits, RecordDecides}
 use Rattle.tp_runs.proofs.trust.World.{Trusts}
 use Rattle.tp_runs.proofs.trusted.Steps.{received_row_trusts}
-use Rattle.tp_runs.proofs.walks.Steps.{Cases, IsCoordinatorUp, IsServerUp, WaitRightly, WasSent, machine_after_by}
+use Rattle.tp_runs.proofs.walks.Steps.{Cases, IsCoordinatorUp, IsServerUp, KeepsUp, WaitRightly, WasSent, machine_after_by}
 use Rattle.tp_runs.specs.Sound.{IsSound}
 use Rattle.tp_server.proofs.Rows.{AreRightWaits, server_by}
 use Rattle.tp_server.specs.Opened as server_opened
@@ -370,12 +370,12 @@ sizes_cases sc w plain homes valid rightly sound agrees pairs trusts h =
     }
 
 -- a step that is not refused forces small records
-pub sizes_next : (sc : Scenario) (m : Machine) (taken : Step) → ArePlain sc → HaveHomes sc → IsValid sc → IsStepOf sc taken → refusal m.state taken ≡ None → WaitRightly sc m.state → IsSound sc m.state → Agrees sc m.state → Pairs sc m.state → Trusts sc m.state
+pub sizes_next : (sc : Scenario) (m : Machine) (taken : Step) → ArePlain sc → HaveHomes sc → IsValid sc → IsStepOf sc taken → KeepsUp taken → refusal m.state taken ≡ None → WaitRightly sc m.state → IsSound sc m.state → Agrees sc m.state → Pairs sc m.state → Trusts sc m.state
     → Sizes m.state → Sizes (machine_after sc m taken).state
-sizes_next sc m taken plain homes valid exists allowed rightly sound agrees pairs trusts h =
+sizes_next sc m taken plain homes valid exists stays allowed rightly sound agrees pairs trusts h =
     machine_after_by sc m (λ taken move. AreSmall move.actors) Sizes
     (sizes_cases sc m.state plain homes valid rightly sound agrees pairs trusts h) agrees.coordinator_count
-    (λ taken move small. small) h taken exists allowed
+    (λ taken move small. small) taken exists stays allowed
 
 -- before the first step all logs are empty
 pub sizes_opening : (sc : Scenario) → Sizes (opening_state sc)

@@ -18,7 +18,7 @@ use Rattle.tp_coord.specs.State.{Coordinator}
 use Rattle.tp_server.specs.Booted.{boot_row, booted}
 use Rattle.tp_server.specs.Row.{ballot_of, server_row}
 use Rattle.tp_server.specs.State.{Server}
-use Rattle.tp_machine.specs.Crashes.{goes_down, server_boots}
+use Rattle.tp_machine.specs.Machine.{goes_down, server_boots}
 use Rattle.tp_machine.specs.Machine.{State, acts_by, coordinator_fact, coordinator_move, server_fact, server_move, state_after}
 use Rattle.tp_machine.specs.Parts.{Part}
 use Rattle.tp_runs.proofs.agreement.Crashes.{booted_version}

@@ -37,7 +37,7 @@ use Rattle.tp_runs.proofs.trust.Offices.{newest_fits, newest_timely, none_revoke
 use Rattle.tp_runs.proofs.trust.Server.{NamedMail, RanMail, ServerTrusted, ServerTrusts, named_mail, server_row_trusts}
 use Rattle.tp_runs.proofs.basics.Turns.{AreFew, IsOfNoOffice, IsTimely, Stamp, TurnFits, few_queries, stamp_of, timely_anywhere}
 use Rattle.tp_runs.proofs.trust.World.{BodyTimely, CoordinatorPartFits, MailTimely, MoveTrusts, ServerPartFits, StampFits, Timely, Trusts, coordinator_stays, later_with_facts, state_after_trusts, up_at, up_of}
-use Rattle.tp_runs.proofs.walks.Steps.{Cases, IsCoordinatorUp, IsServerUp, SaysIdle, WaitRightly, WasSent, machine_after_by}
+use Rattle.tp_runs.proofs.walks.Steps.{Cases, IsCoordinatorUp, IsServerUp, KeepsUp, SaysIdle, WaitRightly, WasSent, machine_after_by}
 use Rattle.tp_machine.specs.Machine.{Machine, State, acts_by, coordinator_fact, coordinator_move, facts_of, idle_move, is_part_submitted, machine_after, opened_part, opening_state, refusal, server_fact, server_move, with_age}
 use Rattle.tp_machine.specs.Parts.{Part}
 use Rattle.tp_types.specs.Each.{Each}
@@ -264,12 +264,12 @@ trusts_cases sc w built valid few rightly sound a pairs h =
     }
 
 -- a step that is not refused keeps what trust rests on
-pub trusts_next : (sc : Scenario) (m : Machine) (taken : Step) → is_built sc ≡ true → IsStepOf sc taken → refusal m.state taken ≡ None → WaitRightly sc m.state → IsSound sc m.state → Agrees sc m.state → Pairs sc m.state → Trusts sc m.state
+pub trusts_next : (sc : Scenario) (m : Machine) (taken : Step) → is_built sc ≡ true → IsStepOf sc taken → KeepsUp taken → refusal m.state taken ≡ None → WaitRightly sc m.state → IsSound sc m.state → Agrees sc m.state → Pairs sc m.state → Trusts sc m.state
     → Trusts sc (machine_after sc m taken).state
-trusts_next sc m taken built exists allowed rightly sound a pairs h =
+trusts_next sc m taken built exists stays allowed rightly sound a pairs h =
     machine_after_by sc m (λ taken move. MoveTrusts sc m.state move) (Trusts sc)
     (trusts_cases sc m.state built (valid_built sc built) (few_queries sc (rules.valid_built sc built)) rightly sound a pairs h) a.coordinator_count
-    (λ taken move t. state_after_trusts sc m.state taken move a h t) h taken exists allowed
+    (λ taken move t. state_after_trusts sc m.state taken move a h t) taken exists stays allowed
 
 -- ---- before the first step
 

@@ -1,5 +1,5 @@
--- One walk of a step: what a theorem shows of each kind of step it shows of every step. A new kind of step is a new field here, and a
--- field of each theorem's cases.
+-- One walk of a step after which each actor is up or down as it was: what a theorem shows of each kind of these it shows of all. A new kind
+-- of step is a new field here, and a field of each theorem's cases. Crashes and boots have a walk of their own.
 use Rattle.std.proofs.Common.{◌≡◌, ℕ, List, [], ◌∷◌, length, slice_get, Bool, true, false, Option, Some, None, is_none, if◌then◌else◌, refl, sym, subst, arith}
 use Rattle.std.specs.Option.{option_map_or, option_or}
 use Rattle.tp_model.specs.Words.{Actor, AdminId, CredId, Mail, Scenario, ServerId, Step, TxnId, What}
@@ -45,7 +45,13 @@ pub record IsCoordinatorUp (w : State) (txn : TxnId) (part : Part Coordinator) (
   pub found : slice_get w.actors.coordinators txn.0 ≡ Some part
   pub up : part.up ≡ Some c
 
--- what is to be shown of the kinds of steps that are built: P of the step and of its move
+-- after the step each actor is up or down as it was: it crashes none and boots none
+abbrev pub KeepsUp : Step → Type 0
+KeepsUp (step.Crash who cut) = ⊥
+KeepsUp (step.Boot who) = ⊥
+KeepsUp _ = Unit {0}
+
+-- what is to be shown of the kinds of these steps: P of the step and of its move
 pub record Cases (sc : Scenario) (w : State) (P : Step → Move → Type 0) : Type 0 where
   pub idle : (taken : Step) (happened : List What) → SaysIdle taken happened → P taken (idle_move w.actors happened)
   pub server_received : (n : ℕ) (mail : Mail) (at : ServerId) (part : Part Server) (s : Server) → WasSent w n mail (actor.Server at) → IsServerUp w at part s
@@ -137,31 +143,32 @@ timed_by_part sc w P cases txn (Some part) count exists e submitted running = ti
 
 -- ---- publications
 
--- a publication that is not refused finds a version in the library
-there_is_more : (b : Bool) (why : StepError) → (if b then None else Some why) ≡ None → b ≡ true
-there_is_more true why e = refl
-there_is_more false why e = absurd (cc)
+-- what is not refused meets its condition, as a publication that finds a version in the library
+pub is_met : (b : Bool) (why : StepError) → (if b then None else Some why) ≡ None → b ≡ true
+is_met true why e = refl
+is_met false why e = absurd (cc)
 
 -- ---- steps
 
--- what is shown of each case holds of the state after any step that is not refused; a step of a kind that is not built changes nothing
+-- what is shown of each case holds of the state after any of these steps that is not refused
 pub machine_after_by : (sc : Scenario) (m : Machine) (P : Step → Move → Type 0) (Q : State → Type 0) → Cases sc m.state P → length m.state.actors.coordinators ≡ length sc.txns
-    → ((taken : Step) (move : Move) → P taken move → Q (state_after m.state taken move)) → Q m.state
-    → (taken : Step) → IsStepOf sc taken → refusal m.state taken ≡ None → Q (machine_after sc m taken).state
-machine_after_by sc m P Q cases count ends unchanged (step.Submit txn) exists allowed =
+    → ((taken : Step) (move : Move) → P taken move → Q (state_after m.state taken move))
+    → (taken : Step) → IsStepOf sc taken → KeepsUp taken → refusal m.state taken ≡ None → Q (machine_after sc m taken).state
+machine_after_by sc m P Q cases count ends (step.Submit txn) exists stays allowed =
     ends (step.Submit txn) (submission sc m.state.actors txn (length m.state.steps))
     (submission_by_part sc m.state P cases txn (slice_get m.state.actors.coordinators txn.0) count exists refl (not_kept (error.AlreadySubmitted txn) (is_submitted m.state.actors txn) allowed))
-machine_after_by sc m P Q cases count ends unchanged (step.Deliver mail) exists allowed =
+machine_after_by sc m P Q cases count ends (step.Deliver mail) exists stays allowed =
     ends (step.Deliver mail) (delivery sc m.state.actors (slice_get m.state.mails mail)) (delivery_by sc m.state P cases mail (slice_get m.state.mails mail) refl)
-machine_after_by sc m P Q cases count ends unchanged (step.Lose mail) exists allowed =
+machine_after_by sc m P Q cases count ends (step.Lose mail) exists stays allowed =
     ends (step.Lose mail) (idle_move m.state.actors (what.Lost mail ∷ [])) (cases.idle (step.Lose mail) (what.Lost mail ∷ []) refl)
-machine_after_by sc m P Q cases count ends unchanged (step.Publish admin) exists allowed =
-    ends (step.Publish admin) (publishes m.state.actors admin) (cases.published admin exists (there_is_more (master.has_more m.state.actors.master admin) (error.NoMore admin) allowed))
-machine_after_by sc m P Q cases count ends unchanged (step.Push admin server) exists allowed =
+machine_after_by sc m P Q cases count ends (step.Publish admin) exists stays allowed =
+    ends (step.Publish admin) (publishes m.state.actors admin) (cases.published admin exists (is_met (master.has_more m.state.actors.master admin) (error.NoMore admin) allowed))
+machine_after_by sc m P Q cases count ends (step.Push admin server) exists stays allowed =
     ends (step.Push admin server) (pushes m.state.actors admin server) (cases.pushed admin server exists.0 exists.1)
-machine_after_by sc m P Q cases count ends unchanged (step.Tick by) exists allowed = ends (step.Tick by) (ticks m.state.actors by) (cases.ticked by)
-machine_after_by sc m P Q cases count ends unchanged (step.Revoke cred) exists allowed = ends (step.Revoke cred) (revokes m.state.actors cred) (cases.revoked cred exists)
-machine_after_by sc m P Q cases count ends unchanged (step.Timer txn) exists allowed =
+machine_after_by sc m P Q cases count ends (step.Tick by) exists stays allowed = ends (step.Tick by) (ticks m.state.actors by) (cases.ticked by)
+machine_after_by sc m P Q cases count ends (step.Revoke cred) exists stays allowed = ends (step.Revoke cred) (revokes m.state.actors cred) (cases.revoked cred exists)
+machine_after_by sc m P Q cases count ends (step.Timer txn) exists stays allowed =
     let parts = is_timed (is_submitted m.state.actors txn) (is_down m.state.actors (actor.Coordinator txn)) (error.NotSubmitted txn) (error.IsDown (actor.Coordinator txn)) allowed in
     ends (step.Timer txn) (times sc m.state.actors txn) (timed_by_part sc m.state P cases txn (slice_get m.state.actors.coordinators txn.0) count exists refl parts.0 parts.1)
-machine_after_by sc m P Q cases count ends unchanged _ exists allowed = unchanged
+machine_after_by sc m P Q cases count ends (step.Crash who cut) exists stays allowed = absurd stays
+machine_after_by sc m P Q cases count ends (step.Boot who) exists stays allowed = absurd stays

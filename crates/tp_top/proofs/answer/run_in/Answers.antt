@@ -1,14 +1,10 @@
 use Rattle.std.proofs.Common.{List, sym, subst}
 use Rattle.tp_model.specs.Words.{Step}
-use Rattle.tp_machine.specs.WorldView.{IsBuiltStep, WorldView}
+use Rattle.tp_machine.specs.WorldView.{WorldView}
 use Rattle.tp_types.specs.Each.{Each}
 use Rattle.tp_machine.specs.Named.{IsStepOf}
-use Rattle.tp_top.proofs.ListedRun.{listed_exist, listed_kinds}
+use Rattle.tp_top.proofs.ListedRun.{listed_exist}
 use Rattle.tp_top.proofs.answer.run_in.Goals as goal
-
-pub follow-requires-clause-kinds : goal.follow-requires-clause-kinds
-follow-requires-clause-kinds c =
-    subst (λ (steps : List Step). Each IsBuiltStep steps) (sym c.as_slice.ensures) (listed_kinds c.args.scenario.now c.requires.built)
 
 pub follow-requires-clause-ids : goal.follow-requires-clause-ids
 follow-requires-clause-ids c =

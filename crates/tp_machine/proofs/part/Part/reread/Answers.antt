@@ -1,11 +1,9 @@
-use Rattle.std.proofs.Common.{List, ap, false, subst, sym, ◌∙◌}
-use Rattle.std.specs.Prelude.{Bool, is_some}
-use Rattle.tp_device.specs.Memory.{Memory}
+use Rattle.std.proofs.Common.{ap, ◌∙◌}
 use Rattle.tp_log.specs.Logs.{LogState}
+use Rattle.tp_device.specs.Memory.{Memory}
 use Rattle.tp_log.proofs.Blocks.{fails_not, gives_one}
-use Rattle.tp_machine.specs.Parts.{Part}
-use Rattle.tp_machine.specs.mirrors.Disks.{IsForced, records_on}
-use Rattle.tp_machine.proofs.basics.Disks.{log_in, reread_records, stands_down, unread_records}
+use Rattle.tp_machine.specs.mirrors.Disks.{records_on}
+use Rattle.tp_machine.proofs.basics.Disks.{log_in, reread_records, unread_records}
 use Rattle.tp_machine.proofs.part.Part.reread.Goals as goal
 use Rattle.tp_machine.proofs.part.Part.reread.Goals.{in-Ok, in-Err-NoMemory}
 
@@ -17,18 +15,15 @@ unreachable-requires-in-Err-NotALog g c =
 
 pub invariant_of-self : goal.invariant_of-self
 invariant_of-self g c =
-    let up = c.self.inside.up in
     let before = c.self.inside.log in
     let after = c.reread.new.self in
     elim c.match-reread.branch [
       | in-Ok w ↦
           let done = w.in-Ok.ensures in
-          (reread_records (is_some up) before after w.in-Ok.records c.self.invariant done.records done.kept done.long done.short).forced
+          (reread_records before after w.in-Ok.records c.self.invariant done.records done.kept done.long done.short).forced
       | in-Err-NoMemory w ↦
           let stays = w.in-Err-NoMemory.ensures.stays in
-          let down = stands_down up (records_on before) c.args.self.now c.self.view_is c.requires.down in
-          subst (λ (b : Bool). IsForced b after) (sym down)
-          (unread_records (is_some up) before after c.self.invariant (ap (λ (l : LogState Memory). l.disk) stays) (ap (λ (l : LogState Memory). l.closed) stays)).forced
+          (unread_records before after c.self.invariant (ap (λ (l : LogState Memory). l.disk) stays) (ap (λ (l : LogState Memory). l.closed) stays)).forced
     ]
 
 pub returns-clause-records : goal.returns-clause-records

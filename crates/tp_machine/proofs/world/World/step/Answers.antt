@@ -1,10 +1,11 @@
-use Rattle.std.proofs.Common.{◌≡◌, [], ◌∷◌, ◌++◌, ap, sym, subst, ◌∙◌}
+use Rattle.std.proofs.Common.{◌≡◌, [], ◌∷◌, ◌++◌, ap, arith, sym, subst, ◌∙◌}
+use Rattle.tp_model.proofs.RuleLemmas.{few_servers, valid_built}
 use Rattle.tp_machine.specs.Machine.{Machine, after}
 use Rattle.tp_machine.specs.WorldView.{HasAllActors, WorldView, machine_of}
 use Rattle.tp_types.specs.Each.{Each}
 use Rattle.tp_machine.specs.Named.{IsStepOf}
-use Rattle.tp_machine.specs.Fits.{FitLogs}
-use Rattle.tp_machine.proofs.basics.Fits.{all_after, all_stay}
+use Rattle.tp_machine.specs.Fits.{FitLogs, received}
+use Rattle.tp_machine.proofs.basics.Fits.{all_after, received_allowed, received_named}
 use Rattle.tp_machine.proofs.basics.Machine.{after_next, reached_next, steps_next}
 use Rattle.tp_machine.proofs.basics.Rules.{few_rules}
 use Rattle.tp_types.proofs.EachLemmas.{each_more}
@@ -17,9 +18,9 @@ invariant_of-self c =
     let old = machine_of c.self.inside.actors c.self.inside.history in
     let new = machine_of c.act.new.actors c.act.new.history in
     let exists : IsStepOf sc taken = subst (λ (w : WorldView). IsStepOf w.scenario taken) (sym c.self.view_is) c.requires.ids in
-    let steps : new.state.steps ≡ old.state.steps ++ taken ∷ [] = ap (λ (m : Machine). m.state.steps) c.in-Ok.ensures.ok ∙ steps_next sc old taken c.requires.built in
+    let steps : new.state.steps ≡ old.state.steps ++ taken ∷ [] = ap (λ (m : Machine). m.state.steps) c.in-Ok.ensures.ok ∙ steps_next sc old taken in
     let named : Each (IsStepOf sc) new.state.steps = subst (Each (IsStepOf sc)) (sym steps) (each_more (IsStepOf sc) old.state.steps taken c.self.invariant.named exists) in
-    let reached : new ≡ after sc new.state.steps = reached_next sc old new taken c.requires.built (c.self.invariant.reached c.if-self.false) (sym c.in-None.ensures) c.in-Ok.ensures.ok in
+    let reached : new ≡ after sc new.state.steps = reached_next sc old new taken (c.self.invariant.reached c.if-self.false) (sym c.in-None.ensures) c.in-Ok.ensures.ok in
     record {
       built = c.self.invariant.built;
       fit = c.self.invariant.fit;
@@ -28,6 +29,9 @@ invariant_of-self c =
       told = ap (λ (m : Machine). m.state.facts) reached;
       reached = λ up. reached;
     }
+
+pub act-requires-clause-servers : goal.act-requires-clause-servers
+act-requires-clause-servers c = let few = few_servers c.self.inside.scenario (valid_built c.self.inside.scenario c.self.invariant.built) in omega (arith, few)
 
 pub act-requires-clause-few : goal.act-requires-clause-few
 act-requires-clause-few c = few_rules c.self.inside.scenario c.self.invariant.built
@@ -38,5 +42,6 @@ act-requires-clause-fits c =
     let taken = c.args.taken.now in
     let old = machine_of c.self.inside.actors c.self.inside.history in
     let exists : IsStepOf sc taken = subst (λ (w : WorldView). IsStepOf w.scenario taken) (sym c.self.view_is) c.requires.ids in
-    subst (λ (m : Machine). FitLogs m.state.actors) (after_next sc old taken (c.self.invariant.reached c.if-self.false) (sym c.in-None.ensures))
-    (c.self.invariant.fit (old.state.steps ++ taken ∷ []) (each_more (IsStepOf sc) old.state.steps taken c.self.invariant.named exists))
+    let ok = sym c.in-None.ensures in
+    subst (λ (m : Machine). FitLogs m.state.actors) (after_next sc old (received taken) (c.self.invariant.reached c.if-self.false) (received_allowed old.state taken ok))
+    (c.self.invariant.fit (old.state.steps ++ received taken ∷ []) (each_more (IsStepOf sc) old.state.steps (received taken) c.self.invariant.named (received_named sc taken exists)))

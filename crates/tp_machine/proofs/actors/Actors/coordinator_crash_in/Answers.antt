@@ -1,0 +1,52 @@
+use Rattle.std.proofs.Common.{refl, subst}
+use Rattle.std.proofs.lemmas.Result.{IfOk-weaker, on_err_weaker}
+use Rattle.std.specs.Prelude.{Option}
+use Rattle.tp_coord.specs.State.{Coordinator}
+use Rattle.tp_machine.specs.Fits.{FitLogs, HasShortLog}
+use Rattle.tp_machine.specs.Machine.{coordinator_takes, to_coordinator}
+use Rattle.tp_machine.specs.Parts.{Part}
+use Rattle.tp_machine.proofs.basics.Crashes.{coordinator_cuts, nobody_cuts_either}
+use Rattle.tp_machine.proofs.basics.Fits.{coordinator_forces_fit, put_has}
+use Rattle.tp_machine.proofs.basics.Parts.{member, no_member, same_logs, same_up}
+use Rattle.tp_machine.proofs.actors.Actors.coordinator_crash_in.Goals as goal
+
+pub coordinator_crashes_in-requires : goal.coordinator_crashes_in-requires
+coordinator_crashes_in-requires c =
+    let actors = c.args.self.now in
+    let part = c.in-Some.part.now in
+    let found = member actors.coordinators c.args.txn.0 part (c.in-Some.ensures.variant.0 refl) c.in-Some.ensures.item.1 in
+    record {
+      fits = coordinator_forces_fit c.args.scenario.now part c.args.mail.now part.up
+          (put_has (λ (p : Part Coordinator). HasShortLog p) actors.coordinators c.args.txn.0 part (coordinator_takes c.args.scenario.now part c.args.mail.now).part found
+          (subst (λ (o : Option (Part Coordinator)). FitLogs (to_coordinator c.args.scenario.now actors c.args.mail.now c.args.txn o).actors) found c.requires.fits).coordinators);
+    }
+
+pub returns-in-None-clause-ok : goal.returns-in-None-clause-ok
+returns-in-None-clause-ok c =
+    IfOk-weaker c.crashed.result _ _
+    (λ act e mails sent. nobody_cuts_either c.args.scenario.now c.args.self.now mails c.args.txn c.args.cut act (no_member c.args.self.now.coordinators c.args.txn.0 c.in-None.ensures.variant.1) e)
+    c.crashed.ensures
+
+pub returns-in-Some-clause-ok : goal.returns-in-Some-clause-ok
+returns-in-Some-clause-ok c =
+    let part = c.in-Some.part.now in
+    let found = member c.args.self.now.coordinators c.args.txn.0 part (c.in-Some.ensures.variant.0 refl) c.in-Some.ensures.item.1 in
+    IfOk-weaker c.coordinator_crashes_in.result _ _
+    (λ act h mails sent. coordinator_cuts c.args.scenario.now c.args.self.now mails c.args.txn c.args.cut c.args.mail.now part c.coordinator_crashes_in.new.part act found sent h)
+    c.coordinator_crashes_in.ensures.ok
+
+pub returns-in-Some-clause-up : goal.returns-in-Some-clause-up
+returns-in-Some-clause-up c =
+    record {
+      coordinators = same_up c.args.self.now.coordinators c.args.txn.0 c.in-Some.part.now c.coordinator_crashes_in.new.part c.in-Some.ensures.item.1 c.coordinator_crashes_in.ensures.up;
+      servers = refl;
+    }
+
+pub returns-in-Some-clause-logs : goal.returns-in-Some-clause-logs
+returns-in-Some-clause-logs c =
+    on_err_weaker c.coordinator_crashes_in.result
+    (λ log. record {
+      coordinators = same_logs c.args.self.now.coordinators c.args.txn.0 c.in-Some.part.now c.coordinator_crashes_in.new.part c.in-Some.ensures.item.1 log;
+      servers = refl;
+    })
+    c.coordinator_crashes_in.ensures.log

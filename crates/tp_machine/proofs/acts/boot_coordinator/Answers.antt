@@ -1,0 +1,72 @@
+use Rattle.std.proofs.Common.{inl, inr, refl, ap, subst, sym, ◌∙◌}
+use Rattle.std.proofs.lemmas.Result.{on_ok_weaker}
+use Rattle.std.specs.Prelude.{[], Option, Some, slice_get, slice_set}
+use Rattle.tp_model.specs.Words.actor
+use Rattle.tp_model.specs.Words.step
+use Rattle.tp_coord.specs.State.{Coordinator}
+use Rattle.tp_machine.specs.declared.actors.Actors.{Actors}
+use Rattle.tp_machine.specs.Fits.{FitLogs, HasShortLog}
+use Rattle.tp_machine.specs.Logs.{log_by}
+use Rattle.tp_machine.specs.Machine.{boot_of_coordinator, coordinator_boots}
+use Rattle.tp_machine.specs.Parts.{Part}
+use Rattle.tp_machine.specs.mirrors.Acts.{Moves, SameLogs, SameUp}
+use Rattle.tp_machine.proofs.basics.Crashes.{coordinator_boot_moves, nobody_boots_coordinator, coordinator_boot_logs}
+use Rattle.tp_machine.proofs.basics.Fits.{put_has}
+use Rattle.tp_machine.proofs.basics.Machine.{machine_noted}
+use Rattle.tp_machine.proofs.basics.Parts.{member, no_member, on_err_any, same_logs, same_up}
+use Rattle.tp_machine.proofs.acts.boot_coordinator.Goals as goal
+
+pub returns-in_default-clause-ok : goal.returns-in_default-clause-ok
+returns-in_default-clause-ok c =
+    let actors = c.args.actors.now in
+    let none = no_member actors.coordinators c.args.txn.0 c.in_default.ensures.variant.1 in
+    on_ok_weaker c.boots_nobody.result
+    (machine_noted actors actors c.args.history.now c.boots_nobody.new.history (step.Boot (actor.Coordinator c.args.txn)) _ (record { happened = []; letters = [] }) (nobody_boots_coordinator c.args.scenario.now actors c.args.txn none))
+    c.boots_nobody.ensures.ok
+
+pub coordinator_boots-requires-clause-fits : goal.coordinator_boots-requires-clause-fits
+coordinator_boots-requires-clause-fits c =
+    let actors = c.args.actors.now in
+    let part = c.in-Some.part.now in
+    let found = member actors.coordinators c.args.txn.0 part (c.in-Some.ensures.variant.0 refl) c.in-Some.ensures.item.1 in
+    put_has (λ (p : Part Coordinator). HasShortLog p) actors.coordinators c.args.txn.0 part (coordinator_boots c.args.scenario.now c.args.txn part).part found
+    (subst (λ (o : Option (Part Coordinator)). FitLogs (boot_of_coordinator c.args.scenario.now actors c.args.txn o).actors) found c.requires.fits).coordinators
+
+pub returns-in_err-state-clause-up : goal.returns-in_err-state-clause-up
+returns-in_err-state-clause-up c =
+    let same : SameUp c.args.actors.now (record c.args.actors.now { coordinators = slice_set c.args.actors.now.coordinators c.args.txn.0 c.coordinator_boots.new.part }) = record {
+      coordinators = same_up c.args.actors.now.coordinators c.args.txn.0 c.in-Some.part.now c.coordinator_boots.new.part c.in-Some.ensures.item.1 c.coordinator_boots.ensures.up;
+      servers = refl;
+    } in
+    on_err_any _ same
+
+pub returns-in_err-state-clause-logs : goal.returns-in_err-state-clause-logs
+returns-in_err-state-clause-logs c =
+    on_err_any _ (inl (record {
+      coordinators = same_logs c.args.actors.now.coordinators c.args.txn.0 c.in-Some.part.now c.coordinator_boots.new.part c.in-Some.ensures.item.1 c.in_err-state.ensures.log;
+      servers = refl;
+    }))
+
+pub returns-in_err-note-clause-up : goal.returns-in_err-note-clause-up
+returns-in_err-note-clause-up c =
+    let same : SameUp c.args.actors.now (record c.args.actors.now { coordinators = slice_set c.args.actors.now.coordinators c.args.txn.0 c.coordinator_boots.new.part }) = record {
+      coordinators = same_up c.args.actors.now.coordinators c.args.txn.0 c.in-Some.part.now c.coordinator_boots.new.part c.in-Some.ensures.item.1 c.coordinator_boots.ensures.up;
+      servers = refl;
+    } in
+    on_err_any _ same
+
+pub returns-in_err-note-clause-logs : goal.returns-in_err-note-clause-logs
+returns-in_err-note-clause-logs c =
+    let part = c.in-Some.part.now in
+    let found = member c.args.actors.now.coordinators c.args.txn.0 part (c.in-Some.ensures.variant.0 refl) c.in-Some.ensures.item.1 in
+    on_err_any _ (inr (coordinator_boot_logs c.args.scenario.now c.args.actors.now c.args.txn part c.coordinator_boots.new.part c.in_ok-state.state c.in_ok-state.act found c.in_ok-state.ensures.ok))
+
+pub returns-clause-ok : goal.returns-clause-ok
+returns-clause-ok c =
+    let actors = c.args.actors.now in
+    let part = c.in-Some.part.now in
+    let found = member actors.coordinators c.args.txn.0 part (c.in-Some.ensures.variant.0 refl) c.in-Some.ensures.item.1 in
+    machine_noted actors _ c.args.history.now c.note.new.self (step.Boot (actor.Coordinator c.args.txn)) _ c.in_ok-state.act
+    (subst (λ (p : Part Coordinator). Moves (boot_of_coordinator c.args.scenario.now actors c.args.txn (slice_get actors.coordinators c.args.txn.0)) (record actors { coordinators = slice_set actors.coordinators c.args.txn.0 p }) c.in_ok-state.act) (sym c.comes_up.ensures)
+    (coordinator_boot_moves c.args.scenario.now actors c.args.txn part c.coordinator_boots.new.part c.in_ok-state.state c.in_ok-state.act found c.in_ok-state.ensures.ok))
+    c.in_ok-note.ensures.ok

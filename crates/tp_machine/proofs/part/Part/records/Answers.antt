@@ -1,0 +1,13 @@
+use Rattle.std.proofs.Common.{◌∙◌}
+use Rattle.std.proofs.lemmas.Result.{IfOk-weaker}
+use Rattle.tp_log.proofs.Blocks.{gives_one}
+use Rattle.tp_machine.specs.mirrors.Disks.{records_on}
+use Rattle.tp_machine.proofs.basics.Disks.{log_in}
+use Rattle.tp_machine.proofs.part.Part.records.Goals as goal
+
+pub returns : goal.returns
+returns g c =
+    let log = c.self.inside.log in
+    IfOk-weaker c.records.result _ _
+    (λ records gives. gives_one log.disk.disk.seen records (records_on log) gives c.self.invariant.gives ∙ log_in c.self.inside.up (records_on log) c.args.self.now c.self.view_is)
+    c.records.ensures
