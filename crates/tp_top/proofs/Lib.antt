@@ -5,3 +5,4 @@ pub mod NextLemmas
 pub mod RunLemmas
 pub mod TopLemmas
 pub mod TrustedRun
+pub mod UpLemmas

@@ -6,6 +6,8 @@ ghost use Rattle.tp_machine.specs.Machine.{is_armed_at, is_submitted, refusal};
 ghost use Rattle.tp_machine.specs.Named.{IsStepOf, IsTxn};
 ghost use Rattle.tp_top.specs.Auto as automatic;
 ghost use Rattle.tp_top.specs.Auto.{Drains, IsSpent, Stops, is_quiet, lowest_unsubmitted, next_of};
+ghost use Rattle.tp_top.specs.mirrors.Ups as ups;
+ghost use Rattle.tp_top.specs.mirrors.Ups.{KnowsUp};
 
 use std::alloc::Global;
 use tp_machine::World;
@@ -136,6 +138,29 @@ pub fn next(world: &World, cursor: u32) -> Option<Step>
     }
 }
 
+/// The next step. Who is down is not looked for where it is known that nobody is.
+fn next_knowing(world: &World, cursor: u32, all_up: bool) -> Option<Step>
+    requires { KnowsUp all_up world.now }
+    ensures value { result ≡ next_of world.now.scenario world.now.machine cursor }
+    ensures ids { IfSome result (IsStepOf world.now.scenario) }
+    ensures allowed { IfSome result (λ step. refusal world.now.machine.state step ≡ None) }
+{
+    if all_up {
+        return next_running(world, cursor);
+    }
+    next(world, cursor)
+}
+
+/// Whether after an automatic step each actor is up or down as before.
+fn keeps_up(taken: &Step) -> bool
+    ensures { result ≡ ups.keeps_up taken.now }
+{
+    matches!(
+        taken,
+        Step::Submit { .. } | Step::Deliver { .. } | Step::Timer { .. }
+    )
+}
+
 /// Where timers are looked for after a step of a scenario.
 #[tactic(auto, using(crate::proofs::BoundLemmas::few_txns_built))]
 fn cursor_after(scenario: &Scenario, taken: &Step, cursor: u32) -> u32
@@ -150,7 +175,8 @@ fn cursor_after(scenario: &Scenario, taken: &Step, cursor: u32) -> u32
 }
 
 /// Takes automatic steps until the world is quiet, or so many of them were taken, or memory is refused. A world that was
-/// given up before stays as it is.
+/// given up before stays as it is. Who is down is looked for at the first step and after each boot alone, as no other automatic
+/// step takes an actor down.
 pub fn drain(world: &mut World, alloc: Global, budget: u64) -> Drained
     ensures steps { result ≢ Drained.NoMemory → Drains world.old world.new budget }
     ensures quiet { result ≡ Drained.Quiet → is_quiet world.new.scenario world.new.machine ≡ true }
@@ -165,19 +191,23 @@ pub fn drain(world: &mut World, alloc: Global, budget: u64) -> Drained
         return Drained::NoMemory;
     }
     let mut cursor = 0;
+    let mut all_up = false;
     for _turn in 0..budget {
-        match next(world, cursor) {
+        match next_knowing(world, cursor, all_up) {
             None => return Drained::Quiet,
             Some(step) => {
                 let after = cursor_after(world.scenario(), &step, cursor);
                 match world.step(alloc, &step) {
-                    Ok(()) => cursor = after,
+                    Ok(()) => {
+                        cursor = after;
+                        all_up = keeps_up(&step);
+                    }
                     Err(_) => return Drained::NoMemory,
                 }
             }
         }
     }
-    match next(world, cursor) {
+    match next_knowing(world, cursor, all_up) {
         None => Drained::Quiet,
         Some(_) => Drained::Budget,
     }
