@@ -15,4 +15,4 @@ plain_at (first ∷ others) (suc n) txn h e = plain_at others n txn (and_parts (
 
 -- each transaction is deferred, under view
 pub plain_built : (sc : Scenario) (n : ℕ) (txn : Transaction) → is_built sc ≡ true → slice_get sc.txns n ≡ Some txn → is_plain_txn txn ≡ true
-plain_built sc n txn h e = plain_at sc.txns n txn (stage_built sc h).txns e
+plain_built sc n txn h e = plain_at sc.txns n txn (stage_built sc h) e

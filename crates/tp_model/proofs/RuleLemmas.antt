@@ -7,7 +7,7 @@ use Rattle.tp_types.proofs.ListLemmas.{three_parts}
 use Rattle.tp_model.specs.Words.{Scenario}
 use Rattle.tp_model.specs.Built.{is_built}
 use Rattle.tp_model.specs.Limits.{clock_limit, has_count, is_from_to}
-use Rattle.tp_model.specs.Stage.{are_plain_steps, are_plain_txns, is_stage}
+use Rattle.tp_model.specs.Stage.{are_plain_txns, is_stage}
 use Rattle.tp_model.specs.Valid.{IsValid, are_distinct, are_valid_from, is_valid_txn, same_server_name, same_txn_name, are_valid_admins, are_valid_clients, are_valid_creds, are_valid_items, are_valid_officers, are_valid_publishers, are_valid_servers, are_valid_steps, are_valid_txns, has_valid_data, has_valid_policies, has_valid_scripts, is_valid}
 
 -- what a valid scenario keeps
@@ -41,21 +41,11 @@ few_servers sc h = count_most 1 16 (length sc.servers) (three_parts (has_count 1
 pub few_txns : (sc : Scenario) → IsValid sc → length sc.txns ≤ 128
 few_txns sc h = count_most 0 128 (length sc.txns) (three_parts (has_count 0 128 sc.txns) (list_all (is_valid_txn sc) sc.txns) (are_distinct same_txn_name sc.txns) h.txns).0
 
--- the conditions of the present stage
-pub record IsStage (sc : Scenario) : Type 0 where
-  pub txns : are_plain_txns sc.txns ≡ true
-  pub steps : are_plain_steps sc.steps ≡ true
-
-pub stage_of : (sc : Scenario) → is_stage sc ≡ true → IsStage sc
-stage_of sc h =
-    let whole = and_parts (are_plain_txns sc.txns) (are_plain_steps sc.steps) h in
-    record { txns = whole.0; steps = whole.1 }
-
 -- a built scenario is valid, and of the present stage
 pub valid_built : (sc : Scenario) → is_built sc ≡ true → IsValid sc
 unfolding is_built
 valid_built sc h = rules_of sc (and_parts (is_valid sc) (is_stage sc) h).0
 
-pub stage_built : (sc : Scenario) → is_built sc ≡ true → IsStage sc
+pub stage_built : (sc : Scenario) → is_built sc ≡ true → are_plain_txns sc.txns ≡ true
 unfolding is_built
-stage_built sc h = stage_of sc (and_parts (is_valid sc) (is_stage sc) h).1
+stage_built sc h = (and_parts (is_valid sc) (is_stage sc) h).1

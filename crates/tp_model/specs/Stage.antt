@@ -1,12 +1,9 @@
--- What of a valid scenario is built so far: transactions that are deferred under view, and every step but a crash and a boot. It widens as more is built, and then is no condition any more.
+-- What of a valid scenario is built so far: transactions that are deferred under view, and every step. It widens as more is built, and then is no condition any more.
 use Rattle.std.specs.Prelude.{◌&&◌, List, Bool, true, false}
 use Rattle.std.specs.List.{list_all}
-use Rattle.tp_model.specs.Words.{Level, Scenario, Scheme, Step, Transaction}
+use Rattle.tp_model.specs.Words.{Level, Scenario, Scheme, Transaction}
 use Rattle.tp_model.specs.Words.level
 use Rattle.tp_model.specs.Words.scheme
-use Rattle.tp_model.specs.Words.step
-
--- ---- transactions
 
 abbrev pub is_deferred : Scheme → Bool
 is_deferred scheme.Deferred = true
@@ -24,21 +21,6 @@ is_plain_txn txn = is_deferred txn.scheme && is_view txn.level
 abbrev pub are_plain_txns : List Transaction → Bool
 are_plain_txns txns = list_all is_plain_txn txns
 
--- ---- steps
-
--- the step is no crash and no boot
-abbrev pub is_plain_step : Step → Bool
-is_plain_step (step.Crash who cut) = false
-is_plain_step (step.Boot who) = false
-is_plain_step _ = true
-
--- each of the steps is plain
-abbrev pub are_plain_steps : List Step → Bool
-are_plain_steps steps = list_all is_plain_step steps
-
--- ---- the whole
-
 -- the scenario has no form that is not built
 abbrev pub is_stage : Scenario → Bool
-is_stage scenario =
-    are_plain_txns scenario.txns && are_plain_steps scenario.steps
+is_stage scenario = are_plain_txns scenario.txns

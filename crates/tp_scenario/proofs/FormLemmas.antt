@@ -1,15 +1,15 @@
 -- A scenario without a form that is not built is of the present stage.
-use Rattle.std.proofs.Common.{◌≡◌, ℕ, ◌+◌, ◌&&◌, List, [], ◌∷◌, Bool, true, false, not, if◌then◌else◌, Option, Some, None, option_map, refl}
+use Rattle.std.proofs.Common.{◌≡◌, ℕ, ◌+◌, ◌&&◌, List, [], ◌∷◌, Bool, true, false, if◌then◌else◌, Option, Some, None, refl}
 use Rattle.std.proofs.lemmas.Bool.{and_from}
 use Rattle.std.specs.List.{list_all}
-use Rattle.tp_model.specs.Words.{Scenario, Step, Transaction}
-use Rattle.tp_model.specs.Stage.{are_plain_steps, are_plain_txns, is_deferred, is_plain_step, is_plain_txn, is_stage, is_view}
+use Rattle.tp_model.specs.Words.{Scenario, Transaction}
+use Rattle.tp_model.specs.Stage.{are_plain_txns, is_deferred, is_plain_txn, is_stage, is_view}
 use Rattle.tp_scenario.specs.declared.path.Key.TheVariants.{Transactions, Scheme, Level}
 use Rattle.tp_scenario.specs.declared.path.Path.TheVariants.{Field}
 use Rattle.tp_scenario.specs.declared.path.Site.{Site}
 use Rattle.tp_scenario.specs.declared.path.Site.TheVariants.{At}
 use Rattle.std.specs.Option.{option_or}
-use Rattle.tp_scenario.specs.Forms.{first_form, listed_form, step_site, steps_form, txn_form, txns_form}
+use Rattle.tp_scenario.specs.Forms.{first_form, txn_form, txns_form}
 
 first_none : (one other : Option Site) → option_or one other ≡ None → one ≡ None
 first_none None other e = refl
@@ -18,12 +18,6 @@ first_none (Some site) other e = cc
 second_none : (one other : Option Site) → option_or one other ≡ None → other ≡ None
 second_none None other e = e
 second_none (Some site) other e = cc
-
-unmapped : {A : Type 0} (f : A → Site) (found : Option A) → option_map f found ≡ None → found ≡ None
-unmapped f None e = refl
-unmapped f (Some x) e = cc
-
--- ---- transactions
 
 txn_none : (at : ℕ) (txn : Transaction) → txn_form at txn ≡ None → is_plain_txn txn ≡ true
 txn_none at txn e = by_tests (is_deferred txn.scheme) (is_view txn.level) e
@@ -40,23 +34,6 @@ txns_none at (txn ∷ txns) e =
     (txn_none at txn (first_none (txn_form at txn) (txns_form (at + 1) txns) e))
     (txns_none (at + 1) txns (second_none (txn_form at txn) (txns_form (at + 1) txns) e))
 
--- ---- steps
-
-steps_none : (at : ℕ) (steps : List Step) → steps_form at steps ≡ None → are_plain_steps steps ≡ true
-steps_none at [] e = refl
-steps_none at (taken ∷ steps) e = by_test (is_plain_step taken) refl (steps_none (at + 1) steps) e
-  where
-    by_test : (plain : Bool) → is_plain_step taken ≡ plain → (steps_form (at + 1) steps ≡ None → are_plain_steps steps ≡ true) → (if not plain then Some at else steps_form (at + 1) steps) ≡ None
-        → (is_plain_step taken && are_plain_steps steps) ≡ true
-    by_test true t later f = and_from _ _ t (later f)
-    by_test false t later f = absurd (cc)
-
--- ---- the whole
-
 pub stage_of_none : (sc : Scenario) → first_form sc ≡ None → is_stage sc ≡ true
 unfolding first_form
-stage_of_none sc e =
-    let listed : listed_form sc ≡ None = second_none (txns_form 0 sc.txns) (listed_form sc) e in
-    and_from (are_plain_txns sc.txns) (are_plain_steps sc.steps)
-    (txns_none 0 sc.txns (first_none (txns_form 0 sc.txns) (listed_form sc) e))
-    (steps_none 0 sc.steps (unmapped step_site (steps_form 0 sc.steps) listed))
+stage_of_none sc e = txns_none 0 sc.txns e

@@ -4,7 +4,7 @@ ghost use Rattle.tp_model.specs.Stage as stage;
 ghost use Rattle.tp_scenario.specs.Forms as forms;
 
 use crate::path::{Key, Path, Site};
-use tp_types::{Level, Scenario, Scheme, Step, Transaction};
+use tp_types::{Level, Scenario, Scheme, Transaction};
 
 fn is_deferred(scheme: Scheme) -> bool
     ensures { result ≡ stage.is_deferred scheme }
@@ -47,33 +47,10 @@ fn txns_form(txns: &[Transaction]) -> Option<Site>
     None
 }
 
-fn is_step_form(step: Step) -> bool
-    ensures { result ≡ forms.is_step_form step }
-{
-    matches!(step, Step::Crash { .. } | Step::Boot { .. })
-}
-
-fn steps_form(steps: &[Step]) -> Option<usize>
-    ensures { result ≡ forms.steps_form 0 steps.now }
-{
-    for (at, step) in steps.iter().enumerate() {
-        if is_step_form(*step) {
-            return Some(at);
-        }
-    }
-    None
-}
-
 /// The first place at which a form stands that is not built yet.
 #[tactic(auto, unfolding(crate::specs::Forms::first_form))]
 pub(crate) fn first_form(scenario: &Scenario) -> Option<Site>
     ensures { result ≡ forms.first_form scenario.now }
 {
-    match txns_form(scenario.txns.as_slice()) {
-        Some(site) => Some(site),
-        None => match steps_form(scenario.steps.as_slice()) {
-            None => None,
-            Some(at) => Some(Site::At(Path::Member(Key::Steps, at))),
-        },
-    }
+    txns_form(scenario.txns.as_slice())
 }

@@ -1,20 +1,21 @@
 -- The listed steps: they name what exists, and where none is refused all are done.
 use Rattle.std.proofs.Common.{◌≡◌, ℕ, ◌+◌, List, [], ◌∷◌, ◌++◌, drop, take, true, false, Option, Some, None, refl, sym, ap, subst, ◌∙◌}
 use Rattle.std.specs.List.{list_all}
+use Rattle.std.specs.Option.{option_map_or}
 use Rattle.std.proofs.lemmas.Bool.{and_parts, ltb-true}
 use Rattle.std.proofs.lemmas.Option.{none-some}
-use Rattle.tp_model.specs.Words.{Scenario, Step}
+use Rattle.tp_model.specs.Words.{Actor, Scenario, Step}
+use Rattle.tp_model.specs.Words.actor
 use Rattle.tp_model.specs.Words.step
 use Rattle.tp_model.specs.Built.{is_built}
 use Rattle.tp_model.specs.Limits.{has_count, steps_limit}
-use Rattle.tp_model.specs.Stage.{are_plain_steps, is_plain_step}
-use Rattle.tp_model.specs.Valid.{is_admin, is_server, is_valid_step}
-use Rattle.tp_model.proofs.RuleLemmas.{stage_built, valid_built}
+use Rattle.tp_model.specs.Valid.{is_admin, is_server, is_valid_cut, is_valid_step, may_crash}
+use Rattle.tp_model.proofs.RuleLemmas.{valid_built}
 use Rattle.tp_machine.specs.declared.error.StepError.{StepError}
 use Rattle.tp_machine.specs.Machine.{Machine, after_steps, machine_after, refusal}
 use Rattle.tp_machine.specs.WorldView.{Does, Refuses, WorldView}
 use Rattle.tp_types.specs.Each.{Each}
-use Rattle.tp_machine.specs.Named.{IsStepOf}
+use Rattle.tp_machine.specs.Named.{IsCrasher, IsStepOf}
 use Rattle.tp_machine.proofs.basics.Machine.{after_steps-snoc}
 use Rattle.tp_top.proofs.AutoLemmas.{after_allowed, drop_more, take_more}
 use Rattle.tp_top.specs.declared.listed.StepRefusal.{StepRefusal}
@@ -24,30 +25,36 @@ use Rattle.tp_top.specs.mirrors.Answers.{Follows}
 
 -- ---- each listed step
 
--- a plain step of a valid scenario names what exists
-plain_exists : (sc : Scenario) (taken : Step) → is_valid_step sc taken ≡ true → is_plain_step taken ≡ true → IsStepOf sc taken
-plain_exists sc (step.Submit txn) valid plain = ltb-true _ _ valid
-plain_exists sc (step.Tick by) valid plain = tt
-plain_exists sc (step.Revoke cred) valid plain = ltb-true _ _ valid
-plain_exists sc (step.Deliver mail) valid plain = tt
-plain_exists sc (step.Publish admin) valid plain = ltb-true _ _ valid
-plain_exists sc (step.Push admin server) valid plain =
-    let parts = and_parts (is_admin sc admin) (is_server sc server) valid in (ltb-true _ _ parts.0, ltb-true _ _ parts.1)
-plain_exists sc (step.Lose mail) valid plain = tt
-plain_exists sc (step.Crash who cut) valid plain = absurd (cc)
-plain_exists sc (step.Boot who) valid plain = absurd (cc)
-plain_exists sc (step.Timer txn) valid plain = ltb-true _ _ valid
+-- who may crash exists, and is no office
+crasher_exists : (sc : Scenario) (who : Actor) → may_crash sc who ≡ true → IsCrasher sc who
+crasher_exists sc (actor.Server at) valid = ltb-true _ _ valid
+crasher_exists sc (actor.Coordinator txn) valid = ltb-true _ _ valid
+crasher_exists sc actor.Master valid = absurd (cc)
+crasher_exists sc actor.Authority valid = absurd (cc)
 
-all_exist : (sc : Scenario) (steps : List Step) → list_all (is_valid_step sc) steps ≡ true → are_plain_steps steps ≡ true → Each (IsStepOf sc) steps
-all_exist sc [] valid plain = tt
-all_exist sc (taken ∷ steps) valid plain =
+-- a step of a valid scenario names what exists
+step_exists : (sc : Scenario) (taken : Step) → is_valid_step sc taken ≡ true → IsStepOf sc taken
+step_exists sc (step.Submit txn) valid = ltb-true _ _ valid
+step_exists sc (step.Tick by) valid = tt
+step_exists sc (step.Revoke cred) valid = ltb-true _ _ valid
+step_exists sc (step.Deliver mail) valid = tt
+step_exists sc (step.Publish admin) valid = ltb-true _ _ valid
+step_exists sc (step.Push admin server) valid =
+    let parts = and_parts (is_admin sc admin) (is_server sc server) valid in (ltb-true _ _ parts.0, ltb-true _ _ parts.1)
+step_exists sc (step.Lose mail) valid = tt
+step_exists sc (step.Crash who cut) valid = crasher_exists sc who (and_parts (may_crash sc who) (option_map_or is_valid_cut cut true) valid).0
+step_exists sc (step.Boot who) valid = crasher_exists sc who valid
+step_exists sc (step.Timer txn) valid = ltb-true _ _ valid
+
+all_exist : (sc : Scenario) (steps : List Step) → list_all (is_valid_step sc) steps ≡ true → Each (IsStepOf sc) steps
+all_exist sc [] valid = tt
+all_exist sc (taken ∷ steps) valid =
     let v = and_parts (is_valid_step sc taken) (list_all (is_valid_step sc) steps) valid in
-    let p = and_parts (is_plain_step taken) (are_plain_steps steps) plain in
-    (plain_exists sc taken v.0 p.0, all_exist sc steps v.1 p.1)
+    (step_exists sc taken v.0, all_exist sc steps v.1)
 
 pub listed_exist : (sc : Scenario) → is_built sc ≡ true → Each (IsStepOf sc) sc.steps
 listed_exist sc built =
-    all_exist sc sc.steps (and_parts (has_count 0 steps_limit sc.steps) (list_all (is_valid_step sc) sc.steps) (valid_built sc built).steps).1 (stage_built sc built).steps
+    all_exist sc sc.steps (and_parts (has_count 0 steps_limit sc.steps) (list_all (is_valid_step sc) sc.steps) (valid_built sc built).steps).1
 
 -- ---- none is refused
 
