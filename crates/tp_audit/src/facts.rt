@@ -3,10 +3,8 @@ ghost use Rattle.std.specs.Prelude.{◌≡◌};
 ghost use Rattle.tp_model.specs.Agreement as agreement;
 ghost use Rattle.tp_model.specs.Facts as history;
 
-use tp_model::has_query_at;
-use tp_types::{
-    Decision, Fact, List, Outcome, Place, Scenario, ServerId, Transaction, TxnId, What,
-};
+use tp_model::{has_query_at, outcome_of};
+use tp_types::{Fact, List, Outcome, Place, Scenario, ServerId, Transaction, TxnId, What};
 
 /// The fact is a submission of the transaction.
 pub fn is_submission(txn: TxnId, fact: &Fact) -> bool
@@ -35,15 +33,6 @@ pub fn is_settlement(at: ServerId, txn: TxnId, fact: &Fact) -> bool
     match &fact.what {
         What::Settled(server, other, _) => *server == at && *other == txn,
         _ => false,
-    }
-}
-
-fn outcome_of(decision: &Decision) -> Outcome
-    ensures { result ≡ history.outcome_of decision.now }
-{
-    match decision {
-        Decision::Commit(_) => Outcome::Commit,
-        Decision::Abort(_) => Outcome::Abort,
     }
 }
 

@@ -1,13 +1,13 @@
 //! A coordinator that boots: what it has by its log, and what it sends.
 ghost use Rattle.std.specs.Prelude.{◌≡◌, ◌<◌, ◌^◌, length, IfOk};
 ghost use Rattle.tp_types.specs.Effect.{Gives};
-ghost use Rattle.tp_model.specs.Facts as facts;
 ghost use Rattle.tp_coord.specs.Booted as rule;
 
 use crate::coordinator::Coordinator;
 use std::alloc::Global;
+use tp_model::outcome_of;
 use tp_recover::decision_of;
-use tp_types::{Cause, Decision, List, NoMemory, Outcome, Reaction, Record, Scenario, TxnId};
+use tp_types::{Cause, List, NoMemory, Reaction, Record, Scenario, TxnId};
 
 impl Coordinator {
     /// A coordinator that boots, with the records of its log, and what it wants done. What it had decided is sent to
@@ -32,15 +32,5 @@ impl Coordinator {
             Err(error) => Err(error),
             Ok(reaction) => Ok((coordinator, reaction)),
         }
-    }
-}
-
-/// How a decision ends its transaction.
-fn outcome_of(decision: &Decision) -> Outcome
-    ensures { result ≡ facts.outcome_of decision.now }
-{
-    match decision {
-        Decision::Commit(_) => Outcome::Commit,
-        Decision::Abort(_) => Outcome::Abort,
     }
 }

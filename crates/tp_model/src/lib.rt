@@ -5,10 +5,12 @@
 //! - The helpers on queries and levels compute what `specs/Queries` and `specs/Levels` define (`item_of`,
 //!   `query_at`, `only`, `servers_of`, `has_query_at`, `level_of`, `is_global`, `reads_master`)
 //! - The newest version at a place is computed as `specs/Versions` defines it (`newest_at`, `publications`)
+//! - How a decision ends its transaction is what `specs/Facts` says (`outcome_of`)
 //! - What a rule is about, what satisfies an atom, and a policy's rule by its number are computed as
 //!   `specs/Policies` and `specs/Authorisation` define them (`matches`, `meets`, `rule_in`)
 #![tactic(auto)]
 
+mod decision;
 mod deeds;
 mod level;
 mod limits;
@@ -16,6 +18,7 @@ mod policy;
 mod query;
 mod versions;
 
+pub use decision::outcome_of;
 pub use deeds::deed_of;
 pub use level::{is_global, level_of, reads_master};
 pub use limits::{
