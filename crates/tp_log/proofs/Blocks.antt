@@ -69,7 +69,7 @@ same_place (r ∷ rs) (s ∷ ss) b c ar as' nb nc e =
 -- ---- images
 
 -- an image of at most one byte that ends by a gate has no record
-short_ends : (image : List ℕ) (rs : List Record) → length image ≤ 1 → Ends image rs → rs ≡ []
+pub short_ends : (image : List ℕ) (rs : List Record) → length image ≤ 1 → Ends image rs → rs ≡ []
 short_ends image [] short e = refl
 short_ends image (r ∷ rs) short e =
     let size : length (blocks (r ∷ rs) ++ e.gate ∷ e.rest) ≡ 1 + length (spelling r ++ blocks rs) + (1 + length e.rest) = omega (arith, length-append (blocks (r ∷ rs)) (e.gate ∷ e.rest)) in

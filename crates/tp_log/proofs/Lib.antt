@@ -1,6 +1,7 @@
 pub mod Answering
 pub mod AppendAnswers
 pub mod Appends
+pub mod Behind
 pub mod Blocks
 pub mod Found
 pub mod InPlace

@@ -25,6 +25,11 @@ pub record Ends (image : List ℕ) (records : List Record) : Type 0 where
 abbrev pub Gives : List ℕ → List Record → Type 0
 Gives image records = ((length image ≤ 1) × (records ≡ [])) ⊎ Ends image records
 
+-- the image gives the one records and then the others, and this is the place of the gate between them
+pub record GivesBehind (image : List ℕ) (place : ℕ) (before more : List Record) : Type 0 where
+  pub gives : Gives image (before ++ more)
+  pub place_is : place ≡ length (blocks before)
+
 -- no record and a next gate stand at the front
 abbrev pub NoneStands : List ℕ → Type 0
 NoneStands behind =

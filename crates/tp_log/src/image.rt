@@ -2,7 +2,7 @@
 ghost use Rattle.std.specs.Prelude.{◌≡◌, ◌≢◌, ◌<◌, ◌++◌, ◌∷◌, ℕ, List, length, drop, Err, IfOk, IfErr, MatchOption};
 ghost use Rattle.tp_record.specs.Records.{IsRecord};
 ghost use Rattle.tp_record.specs.Spelling.{spelling};
-ghost use Rattle.tp_log.specs.Images.{FailsAt, NoneStands};
+ghost use Rattle.tp_log.specs.Images.{FailsAt, Gives, NoneStands, blocks};
 ghost use Rattle.tp_log.specs.Logs.{IsAt};
 ghost use Rattle.tp_log.specs.Refusals.{IfNotALog};
 
@@ -71,4 +71,23 @@ pub(crate) fn records_of(alloc: Global, image: &[u8]) -> Result<Found, LogError>
         records,
         gate: (image.len() - rest.len()) as u64,
     })
+}
+
+/// The records of an image that gives some.
+pub(crate) fn given_by(alloc: Global, image: &[u8]) -> Result<Found, NoMemory>
+    requires { (records : List Record) × Gives image.now records }
+    ensures records { IfOk result (λ found. Gives image.now found.records) }
+    ensures gate { IfOk result (λ found. found.gate ≡ length (blocks found.records)) }
+{
+    if image.len() <= 1 {
+        return Ok(Found {
+            records: List::new(alloc),
+            gate: 0,
+        });
+    }
+    match records_of(alloc, image) {
+        Ok(found) => Ok(found),
+        Err(LogError::NotALog { .. }) => unreachable!(),
+        Err(_) => Err(NoMemory),
+    }
 }

@@ -33,7 +33,8 @@
 //!   of memory alone, and the log keeps its records then (`Log::append_running`, `is_open`). A fresh log is open, on
 //!   such a disk, and empty (`Log::fresh`)
 //! - What the bytes of the disk give is read without a call of it, and a log is opened anew without giving its disk up
-//!   (`Log::records`, `reread`)
+//!   (`Log::records`, `reread`). From a gate on, of which the log told the place, just the records behind it are given
+//!   (`Log::gate`, `reread_behind`)
 #![tactic(auto)]
 
 ghost use Rattle.std.specs.Prelude.{◌≡◌, ◌<◌, ◌^◌, ℕ, List, All};

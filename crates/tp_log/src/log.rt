@@ -2,7 +2,7 @@
 use crate::block::block_of;
 use crate::calls::force;
 use crate::error::LogError;
-use crate::image::records_of;
+use crate::image::{given_by, records_of};
 use crate::opening::taken;
 use crate::running::{sync_running, write_gate_running};
 use std::alloc::Global;
@@ -150,7 +150,7 @@ impl Log<MemoryDisk> {
     ghost use Rattle.tp_types.specs.declared.records.Record.{Record};
     ghost use Rattle.tp_device.specs.Disks.{MayLeave, after_sync, clean_state};
     ghost use Rattle.tp_device.specs.Memory.{after_crash, disk_of};
-    ghost use Rattle.tp_log.specs.Images.{FailsAt, Gives};
+    ghost use Rattle.tp_log.specs.Images.{FailsAt, Gives, GivesBehind};
     ghost use Rattle.tp_log.specs.Logs.{Keeps, body_max, fresh_log, kept_after};
     ghost use Rattle.tp_log.specs.Refusals.{IfNotALog, IfUncalled};
 
@@ -278,15 +278,7 @@ impl Log<MemoryDisk> {
         requires gives { (records : List Record) × Gives self.now.disk.disk.seen records }
         ensures { IfOk result (λ records. Gives self.now.disk.disk.seen records) }
     {
-        let image = self.disk.content();
-        if image.len() <= 1 {
-            return Ok(List::new(alloc));
-        }
-        match records_of(alloc, image) {
-            Ok(found) => Ok(found.records),
-            Err(LogError::NotALog { .. }) => unreachable!(),
-            Err(_) => Err(NoMemory),
-        }
+        Ok(given_by(alloc, self.disk.content())?.records)
     }
 
     /// Opens the log anew on its disk, as `opened` does, in place, and gives its records. The log is closed where it is
@@ -318,6 +310,49 @@ impl Log<MemoryDisk> {
         }
         let found = records_of(alloc, self.disk.content())?;
         self.gate = found.gate;
+        self.closed = false;
+        Ok(found.records)
+    }
+
+    /// The place of the gate that ends an open log: what is appended later is read behind it.
+    pub fn gate(&self) -> u64
+        ensures { result ≡ self.now.gate }
+    {
+        self.gate
+    }
+
+    /// Opens the log anew, as `reread` does, and gives its records from the gate at this place on. Those before it are not
+    /// looked at. The place is that of a gate of the log, as `gate` has told it; 0 is that of the first. The log is closed where
+    /// memory is refused.
+    pub fn reread_behind(&mut self, alloc: Global, place: u64) -> Result<List<Record>, NoMemory>
+        requires running { self.old.disk.left ≡ None }
+        requires gate { (before more : List Record)
+            × GivesBehind self.old.disk.disk.seen place before more }
+        ensures records { IfOk result (λ found. (before more : List Record)
+            → GivesBehind self.old.disk.disk.seen place before more → found ≡ more) }
+        ensures kept { OnOk result ((records : List Record)
+            → Gives self.old.disk.disk.seen records → Keeps disk_of self.new records) }
+        // A disk of more than one byte is as a sync leaves it. A shorter one holds a closed gate.
+        ensures long { OnOk result (1 < length self.old.disk.disk.seen
+            → self.new.disk ≡ record self.old.disk { disk = after_sync self.old.disk.disk }) }
+        ensures short { OnOk result (length self.old.disk.disk.seen ≤ 1
+            → self.new.disk ≡ record self.old.disk { disk = clean_state (0 ∷ []) }) }
+        ensures stays { OnErr result (self.new ≡ record self.old {
+          disk = record self.old.disk { disk = after_sync self.old.disk.disk };
+          closed = true;
+        }) }
+    {
+        self.closed = true;
+        sync_running(&mut self.disk);
+        if self.disk.len() <= 1 {
+            write_gate_running(&mut self.disk)?;
+            self.gate = 0;
+            self.closed = false;
+            return Ok(List::new(alloc));
+        }
+        let behind = self.disk.content().split_at(place as usize).1;
+        let found = given_by(alloc, behind)?;
+        self.gate = place + found.gate;
         self.closed = false;
         Ok(found.records)
     }
