@@ -2,7 +2,7 @@
 use crate::made::list;
 use crate::small_scenario::small;
 use std::process::Abort;
-use tp_recover::{Held, Kept, by_age, decision_of, held, kept_of};
+use tp_recover::{Held, Kept, add_apart, by_age, decision_of, held, kept_apart, kept_of};
 use tp_types::{
     Action, Cause, CommitRecord, Decided, Decision, Deed, ItemId, List, Outcome, Prepared, Record,
     ServerId, Settled, TryClone, TxnId, Version,
@@ -152,6 +152,26 @@ fn all_is_kept_by_transaction(rt: HostRuntime) {
     assert!(rt; has_settled(&kept, 0) && !has_prepared(&kept, 0));
     assert!(rt; has_prepared(&kept, 1) && !has_settled(&kept, 1));
     assert!(rt; kept.values.as_slice() == [8, 0, MOST].as_slice());
+    drop(kept);
+}
+
+/// What is kept of a log of two boots and a vote, whose boots are counted.
+fn kept_beside_its_boots(rt: &(impl Abort + AllocGlobal)) -> Kept {
+    let scenario = small(rt);
+    let mut others = List::new(rt.alloc());
+    let records = list(rt, [Record::Boot, vote(rt, 0, 4, 0, 8), Record::Boot]);
+    let boots = add_apart(&mut others, records).expect(rt, "memory for a record");
+    assert!(*rt; boots == 2 && others.len() == 1);
+    let found = kept_apart(rt.alloc(), &scenario, ServerId(0), &others, 2);
+    drop(scenario);
+    drop(others);
+    found.expect(rt, "memory for what is kept")
+}
+
+#[test]
+fn boots_are_counted_beside_the_others(rt: HostRuntime) {
+    let kept = kept_beside_its_boots(&rt);
+    assert!(rt; kept.epoch == 3 && has_prepared(&kept, 0) && !has_prepared(&kept, 1));
     drop(kept);
 }
 

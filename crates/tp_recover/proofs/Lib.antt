@@ -1,4 +1,5 @@
 pub mod AgeLemmas
+pub mod BootsApart
 pub mod HeldLemmas
 pub mod KeptLemmas
 pub mod LogLemmas

@@ -8,7 +8,7 @@ use Rattle.tp_recover.specs.declared.kept.Kept.{Kept}
 use Rattle.tp_recover.specs.declared.answer.Held.{Held}
 use Rattle.tp_recover.specs.Held.{are_rising}
 use Rattle.tp_recover.specs.Kept.{kept, kept_step, of_txn, version_at}
-use Rattle.tp_recover.specs.Log.{epoch_in, known_in, prepared_in, settled_in, settlements_in, values_in}
+use Rattle.tp_recover.specs.Log.{decided_in, epoch_in, known_in, prepared_in, settled_in, settlements_in, values_in, without_boots}
 
 -- a vote or a settlement is of a transaction of the scenario
 abbrev pub IsOfScenario : Scenario → Record → Type 0
@@ -46,6 +46,19 @@ abbrev pub KeptSaysLog : Type 0
 KeptSaysLog =
     (sc : Scenario) (at : ServerId) (records : List Record) → Each (IsOfScenario sc) records
     → SaysLog sc at (kept sc at records) records
+
+-- ---- boots apart
+
+-- a boot counts in the epoch alone: all else that is kept is what the other records come to
+abbrev pub KeptApart : Type 0
+KeptApart =
+    (sc : Scenario) (at : ServerId) (records : List Record)
+    → kept sc at records ≡ record (kept sc at (without_boots records)) { epoch = epoch_in records }
+
+-- nor does a boot decide
+abbrev pub DecidedApart : Type 0
+DecidedApart =
+    (records : List Record) → decided_in (without_boots records) ≡ decided_in records
 
 -- ---- what is answered
 

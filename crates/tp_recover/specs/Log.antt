@@ -73,6 +73,12 @@ boots_in [] = 0
 boots_in (log.Boot ∷ kept) = boots_in kept + 1
 boots_in (first ∷ kept) = boots_in kept
 
+-- the other records, in their order
+abbrev pub without_boots : List Record → List Record
+without_boots [] = []
+without_boots (log.Boot ∷ kept) = without_boots kept
+without_boots (first ∷ kept) = first ∷ without_boots kept
+
 -- the server's epoch: one, and one more for each boot
 abbrev pub epoch_in : List Record → ℕ
 epoch_in kept = boots_in kept + 1

@@ -7,3 +7,10 @@ pub fn logs_are_kept()
     ensures step { laws.StepSaysLog }
     ensures whole { laws.KeptSaysLog }
 {}
+
+/// What is kept of a log is what its records that are no boots come to, but for the epoch, which is one more than the boots.
+/// What a coordinator has decided stands in those records too.
+pub fn boots_stand_apart()
+    ensures kept { laws.KeptApart }
+    ensures decided { laws.DecidedApart }
+{}

@@ -14,6 +14,8 @@
 //!   that order (`by_age`)
 //! - What is kept while records are taken in is what the log says so far, and stays so with each record
 //!   (`logs_are_kept`: `whole`, `step`)
+//! - Where the boots of a log are counted, and its other records stand apart, the same is kept of it, and the same decided
+//!   (`add_apart`, `kept_apart`; `boots_stand_apart`)
 //!
 //! No call asks a condition of its caller: of a transaction that is not there nothing is prepared, and each of its
 //! settlements is listed; what is told of an administrator, or written of an item, that is not there is lost.
@@ -21,6 +23,7 @@
 
 mod ages;
 mod answer;
+mod apart;
 mod decided;
 mod kept;
 mod laws;
@@ -30,7 +33,8 @@ mod versions;
 
 pub use ages::by_age;
 pub use answer::Held;
+pub use apart::{add_apart, kept_apart};
 pub use decided::decision_of;
 pub use kept::Kept;
-pub use laws::logs_are_kept;
+pub use laws::{boots_stand_apart, logs_are_kept};
 pub use recovery::{held, kept_of};
