@@ -6,6 +6,7 @@ pub mod Flags
 pub mod Machine
 pub mod Opened
 pub mod Parts
+pub mod Pasts
 pub mod Rules
 pub mod Start
 pub mod Timers

@@ -31,6 +31,7 @@ mod disks;
 mod error;
 mod history;
 mod part;
+mod past;
 mod world;
 
 pub use actors::Actors;

@@ -1,6 +1,7 @@
 //! An actor with its log, and what it does to both when it acts.
-ghost use Rattle.std.specs.Prelude.{◌≡◌, ◌<◌, ◌^◌, [], ◌∷◌, ◌++◌, Some, None, false, true, length, IfOk, IfSome, OnErr, OnOk};
+ghost use Rattle.std.specs.Prelude.{◌≡◌, ◌+◌, ◌<◌, ◌^◌, [], ◌∷◌, ◌++◌, Some, None, false, true, length, IfOk, IfSome, OnErr, OnOk};
 ghost use Rattle.std.specs.Option.{option_copied, option_map_or};
+ghost use Rattle.tp_coord.specs.Booted.{boot_row};
 ghost use Rattle.tp_lock.specs.Rule as lock;
 ghost use Rattle.tp_machine.specs.Fits.{FitsLog, HasShortLog};
 ghost use Rattle.tp_machine.specs.Logs.{IsDiskOf};
@@ -9,16 +10,19 @@ ghost use Rattle.tp_machine.specs.mirrors.Acts.{Acts, Boots};
 ghost use Rattle.tp_machine.specs.Machine as machine;
 ghost use Rattle.tp_model.specs.Words.actor;
 ghost use Rattle.tp_model.specs.Words.what;
+ghost use Rattle.tp_recover.specs.Kept.{kept};
 ghost use Rattle.tp_server.specs.Verdicts.{HasFewRules};
+ghost use Rattle.tp_types.specs.Effect.{Gives};
 
 use crate::disks::{force, tear};
+use crate::past::Past;
 use std::alloc::Global;
 use std::marker::Model;
 use tp_coord::Coordinator;
 use tp_device::MemoryDisk;
 use tp_lock::LockTable;
-use tp_log::{Log, LogError};
-use tp_recover::kept_of;
+use tp_log::Log;
+use tp_recover::{Kept, kept_apart};
 use tp_server::Server;
 use tp_types::{
     Actor, Cut, Letter, List, Mail, NoMemory, Place, Reaction, Record, Scenario, ServerId,
@@ -31,17 +35,19 @@ use tp_types::{
 pub struct Part<S> {
     up: Option<S>,
     log: Log<MemoryDisk>,
+    past: Past,
 }
 
 impl<S> Model for Part<S> {
     ghost use Rattle.tp_machine.specs.Parts as parts;
-    ghost use Rattle.tp_machine.specs.mirrors.Disks.{IsForced, records_on};
+    ghost use Rattle.tp_machine.specs.mirrors.Disks.{records_on};
+    ghost use Rattle.tp_machine.specs.mirrors.Pasts.{IsReadOf};
 
     ghost Value = { parts.Part S };
 
     ghost view = { λ p. record { up = p.up; log = records_on p.log } };
 
-    ghost invariant = { λ p. IsForced p.log };
+    ghost invariant = { λ p. IsReadOf p.past p.log };
 }
 
 impl<S: Drop> Part<S> {
@@ -54,6 +60,7 @@ impl<S: Drop> Part<S> {
             Ok(log) => Ok(Part {
                 up: Some(state),
                 log,
+                past: Past::unread(alloc),
             }),
         }
     }
@@ -95,19 +102,20 @@ impl<S: Drop> Part<S> {
         self.up = None;
     }
 
-    /// The records that the disk gives, by which an actor boots.
-    pub fn reread(&mut self, alloc: Global) -> Result<List<Record>, NoMemory>
-        ensures records { IfOk result (λ records. records ≡ self.old.log) }
+    /// All that is kept of the records that the disk gives, by which a server boots. Of these it reads those alone that the
+    /// log gained since it was read last. One more boot can be counted.
+    pub fn kept(
+        &mut self,
+        alloc: Global,
+        scenario: &Scenario,
+        server: ServerId,
+    ) -> Result<Kept, NoMemory>
+        ensures kept { IfOk result (λ made. made ≡ kept scenario.now server self.old.log) }
+        ensures epoch { IfOk result (λ made. made.epoch + 1 < 2 ^ 64) }
         ensures same { self.new ≡ self.old }
     {
-        match self.log.reread(alloc) {
-            Ok(records) => Ok(records),
-            Err(LogError::NoMemory) => Err(NoMemory),
-            Err(LogError::Device) => unreachable!(),
-            Err(LogError::Closed) => unreachable!(),
-            Err(LogError::TooLong) => unreachable!(),
-            Err(LogError::NotALog { .. }) => unreachable!(),
-        }
+        self.past.read_on(alloc, &mut self.log)?;
+        kept_apart(alloc, scenario, server, &self.past.others, self.past.boots)
     }
 
     /// The actor comes up with this state.
@@ -143,6 +151,24 @@ impl<S: Drop> Part<S> {
         ensures { option_copied result ≡ self.now.up }
     {
         self.up.as_ref()
+    }
+}
+
+impl Part<Coordinator> {
+    /// The coordinator that boots by the records that the disk gives, and what it wants done.
+    fn booted(
+        &mut self,
+        alloc: Global,
+        scenario: &Scenario,
+        txn: TxnId,
+    ) -> Result<(Coordinator, Reaction), NoMemory>
+        requires { length scenario.now.servers < 2 ^ 32 }
+        ensures made { IfOk result (λ made.
+            Gives (boot_row scenario.now txn self.old.log) made.0 made.1) }
+        ensures same { self.new ≡ self.old }
+    {
+        self.past.read_on(alloc, &mut self.log)?;
+        Coordinator::booted(alloc, scenario, txn, &self.past.others)
     }
 }
 
@@ -384,8 +410,7 @@ pub fn server_boots<L: LockTable + Drop>(
     ensures up { machine.is_part_down part.new ≡ machine.is_part_down part.old }
     ensures log { OnErr result (part.new.log ≡ part.old.log) }
 {
-    let records = part.reread(alloc)?;
-    let kept = kept_of(alloc, scenario, at, &records)?;
+    let kept = part.kept(alloc, scenario, at)?;
     let (state, reaction) = Server::booted(alloc, scenario, at, kept, locks)?;
     let Reaction { append, letters } = reaction;
     part.force(alloc, &append)?;
@@ -411,8 +436,7 @@ pub fn coordinator_boots(
     ensures up { machine.is_part_down part.new ≡ machine.is_part_down part.old }
     ensures log { OnErr result (part.new.log ≡ part.old.log) }
 {
-    let records = part.reread(alloc)?;
-    let (state, reaction) = Coordinator::booted(alloc, scenario, txn, &records)?;
+    let (state, reaction) = part.booted(alloc, scenario, txn)?;
     let Reaction { append, letters } = reaction;
     let mut happened = List::new(alloc);
     note_decision(alloc, &mut happened, &append)?;

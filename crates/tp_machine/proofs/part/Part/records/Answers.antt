@@ -9,5 +9,5 @@ pub returns : goal.returns
 returns g c =
     let log = c.self.inside.log in
     IfOk-weaker c.records.result _ _
-    (λ records gives. gives_one log.disk.disk.seen records (records_on log) gives c.self.invariant.gives ∙ log_in c.self.inside.up (records_on log) c.args.self.now c.self.view_is)
+    (λ records gives. gives_one log.disk.disk.seen records (records_on log) gives c.self.invariant.disk.gives ∙ log_in c.self.inside.up (records_on log) c.args.self.now c.self.view_is)
     c.records.ensures
