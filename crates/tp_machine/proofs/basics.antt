@@ -1,4 +1,5 @@
 -- Lemmas on flags of mails, parts, the opening and the machine.
+pub mod Acted
 pub mod Crashes
 pub mod Disks
 pub mod Fits

@@ -8,7 +8,7 @@ ghost use Rattle.tp_offices.specs.Authority.{clock_end};
 ghost use Rattle.tp_offices.specs.Master as office;
 
 use crate::part::{
-    Act, Part, coordinator_crashes_in, coordinator_submits, coordinator_takes, crashed, no_act,
+    Act, Part, alone, coordinator_crashes_in, coordinator_submits, coordinator_takes, no_act,
     server_crashes_in, server_takes,
 };
 use std::alloc::Global;
@@ -131,7 +131,7 @@ impl Actors {
         match actor {
             Actor::Server(at) => self.server_crash_in(alloc, scenario, at, mail, cut),
             Actor::Coordinator(txn) => self.coordinator_crash_in(alloc, scenario, txn, mail, cut),
-            _ => crashed(alloc, What::Crashed(actor)),
+            _ => alone(alloc, What::Crashed(actor)),
         }
     }
 
@@ -154,7 +154,7 @@ impl Actors {
         ensures logs { OnErr result (SameLogs self.old self.new) }
     {
         match self.servers.get_mut(at.0 as usize) {
-            None => crashed(alloc, What::Crashed(Actor::Server(at))),
+            None => alone(alloc, What::Crashed(Actor::Server(at))),
             Some(part) => server_crashes_in(part, alloc, scenario, at, mail, cut),
         }
     }
@@ -177,7 +177,7 @@ impl Actors {
         ensures logs { OnErr result (SameLogs self.old self.new) }
     {
         match self.coordinators.get_mut(txn.0 as usize) {
-            None => crashed(alloc, What::Crashed(Actor::Coordinator(txn))),
+            None => alone(alloc, What::Crashed(Actor::Coordinator(txn))),
             Some(part) => coordinator_crashes_in(part, alloc, scenario, txn, mail, cut),
         }
     }

@@ -17,7 +17,7 @@ ghost use Rattle.tp_offices.specs.Master as office;
 use crate::actors::{Actors, Locks};
 use crate::error::StepError;
 use crate::history::History;
-use crate::part::{Act, coordinator_boots, crashed, loss, no_act, server_boots};
+use crate::part::{Act, alone, coordinator_boots, no_act, server_boots};
 use std::alloc::Global;
 use tp_coord::Coordinator;
 use tp_offices::{CLOCK_END, Master};
@@ -279,7 +279,7 @@ fn crash(
     ensures same_history { OnErr result (SameHistory history.old history.new) }
     ensures same_actors { OnErr result (actors.new ≡ actors.old) }
 {
-    let act = crashed(alloc, What::Crashed(actor))?;
+    let act = alone(alloc, What::Crashed(actor))?;
     history.note(Step::Crash { actor, cut: None }, act.happened, act.letters)?;
     actors.goes_down(alloc, actor);
     Ok(())
@@ -347,7 +347,7 @@ fn receive_cut(
     ensures logs { OnErr result (SameLogs actors.old actors.new) }
 {
     match mails.get(cut.mail as usize) {
-        None => crashed(alloc, What::Crashed(actor)),
+        None => alone(alloc, What::Crashed(actor)),
         Some(found) => actors.crash_in(alloc, scenario, actor, found, cut),
     }
 }
@@ -377,9 +377,16 @@ fn boot_server(
     };
     let locks = Locks::opened(alloc, scenario.items.len())?;
     let (state, act) = server_boots(part, alloc, scenario, at, locks)?;
-    history.note(Step::Boot { actor }, act.happened, act.letters)?;
-    part.comes_up(state);
-    Ok(())
+    match history.note(Step::Boot { actor }, act.happened, act.letters) {
+        Ok(()) => {
+            part.comes_up(state);
+            Ok(())
+        }
+        Err(NoMemory) => {
+            drop(state);
+            Err(NoMemory)
+        }
+    }
 }
 
 /// A coordinator boots by its log, in the same way.
@@ -407,9 +414,16 @@ fn boot_coordinator(
         return boots_nobody(history, alloc, actor);
     };
     let (state, act) = coordinator_boots(part, alloc, scenario, txn)?;
-    history.note(Step::Boot { actor }, act.happened, act.letters)?;
-    part.comes_up(state);
-    Ok(())
+    match history.note(Step::Boot { actor }, act.happened, act.letters) {
+        Ok(()) => {
+            part.comes_up(state);
+            Ok(())
+        }
+        Err(NoMemory) => {
+            drop(state);
+            Err(NoMemory)
+        }
+    }
 }
 
 /// Nobody boots.
@@ -513,7 +527,7 @@ fn lose(actors: &Actors, history: &mut History, alloc: Global, mail: u64) -> Res
         ≡ machine.machine_after_loss (machine_of actors.now history.old) mail) }
     ensures same_history { OnErr result (SameHistory history.old history.new) }
 {
-    let act = loss(alloc, mail)?;
+    let act = alone(alloc, What::Lost(mail))?;
     history.note(Step::Lose { mail }, act.happened, act.letters)?;
     history.mark(mail as usize);
     Ok(())

@@ -1,5 +1,5 @@
 //! An actor with its log, and what it does to both when it acts.
-ghost use Rattle.std.specs.Prelude.{◌≡◌, ◌+◌, ◌<◌, ◌^◌, [], ◌∷◌, ◌++◌, Some, None, false, true, length, IfOk, IfSome, OnErr, OnOk};
+ghost use Rattle.std.specs.Prelude.{◌≡◌, ◌+◌, ◌<◌, ◌^◌, [], ◌∷◌, ◌++◌, List, Some, None, false, true, length, IfOk, IfSome, OnErr, OnOk};
 ghost use Rattle.std.specs.Option.{option_copied, option_map_or};
 ghost use Rattle.tp_coord.specs.Booted.{boot_row};
 ghost use Rattle.tp_lock.specs.Rule as lock;
@@ -10,6 +10,7 @@ ghost use Rattle.tp_machine.specs.mirrors.Acts.{Acts, Boots};
 ghost use Rattle.tp_machine.specs.Machine as machine;
 ghost use Rattle.tp_model.specs.Words.actor;
 ghost use Rattle.tp_model.specs.Words.what;
+ghost use Rattle.tp_model.specs.Words.{What};
 ghost use Rattle.tp_recover.specs.Kept.{kept};
 ghost use Rattle.tp_server.specs.Verdicts.{HasFewRules};
 ghost use Rattle.tp_types.specs.Effect.{Gives};
@@ -189,14 +190,65 @@ pub fn no_act(alloc: Global) -> Act
     }
 }
 
-/// A mail is lost, and no actor acts.
-pub fn loss(alloc: Global, mail: u64) -> Result<Act, NoMemory>
-    ensures { IfOk result (λ act. act ≡ record { happened = what.Lost mail ∷ []; letters = [] }) }
+/// This happened, and no actor acted.
+pub fn alone(alloc: Global, happened: What) -> Result<Act, NoMemory>
+    ensures { IfOk result (λ act. act ≡ record { happened = happened ∷ []; letters = [] }) }
 {
     Ok(Act {
-        happened: List::of_one(alloc, What::Lost(mail))?,
+        happened: List::of_one(alloc, happened)?,
         letters: List::new(alloc),
     })
+}
+
+/// What an act gives is forced, where what happened in it was told. After NoMemory nothing was forced.
+fn noted<S: Drop>(
+    part: &mut Part<S>,
+    alloc: Global,
+    append: &Option<Record>,
+    happened: Result<List<What>, NoMemory>,
+) -> Result<List<What>, NoMemory>
+    requires { IfSome append.now FitsLog }
+    ensures forced { OnOk result (part.new ≡ record part.old {
+      log = machine.log_with part.old.log append.now;
+    }) }
+    ensures told { (facts : List What) → IfOk happened (λ told. told ≡ facts)
+        → IfOk result (λ told. told ≡ facts) }
+    ensures err { OnErr result (part.new ≡ part.old) }
+{
+    let happened = happened?;
+    match part.force(alloc, append) {
+        Ok(()) => Ok(happened),
+        Err(NoMemory) => {
+            drop(happened);
+            Err(NoMemory)
+        }
+    }
+}
+
+/// The same where the disk crashes as that is forced.
+fn torn<S: Drop>(
+    part: &mut Part<S>,
+    alloc: Global,
+    append: &Option<Record>,
+    happened: Result<List<What>, NoMemory>,
+    cut: Cut,
+) -> Result<List<What>, NoMemory>
+    requires { IfSome append.now FitsLog }
+    ensures torn { OnOk result (part.new ≡ record part.old {
+      log = machine.log_with part.old.log (machine.cut_record cut append.now);
+    }) }
+    ensures told { (facts : List What) → IfOk happened (λ told. told ≡ facts)
+        → IfOk result (λ told. told ≡ facts) }
+    ensures err { OnErr result (part.new ≡ part.old) }
+{
+    let happened = happened?;
+    match part.cut(alloc, append, cut) {
+        Ok(()) => Ok(happened),
+        Err(NoMemory) => {
+            drop(happened);
+            Err(NoMemory)
+        }
+    }
 }
 
 /// A server receives a mail. After NoMemory nothing is said of its state, but that it is up as before; its log is as before.
@@ -218,9 +270,18 @@ pub fn server_takes<L: LockTable + Drop>(
         return Ok(no_act(alloc));
     };
     let Reaction { append, letters } = server.receive(alloc, scenario, mail)?;
-    let happened = server_facts(alloc, at, &append)?;
-    part.force(alloc, &append)?;
-    Ok(Act { happened, letters })
+    let happened = server_facts(alloc, at, &append);
+    match noted(part, alloc, &append, happened) {
+        Ok(happened) => {
+            drop(append);
+            Ok(Act { happened, letters })
+        }
+        Err(NoMemory) => {
+            drop(append);
+            drop(letters);
+            Err(NoMemory)
+        }
+    }
 }
 
 /// A coordinator receives a mail. After NoMemory nothing is said of its state, but that it is up as before; its log is as
@@ -241,10 +302,18 @@ pub fn coordinator_takes(
         return Ok(no_act(alloc));
     };
     let Reaction { append, letters } = coordinator.receive(alloc, scenario, mail)?;
-    let mut happened = List::new(alloc);
-    note_decision(alloc, &mut happened, &append)?;
-    part.force(alloc, &append)?;
-    Ok(Act { happened, letters })
+    let happened = coordinator_facts(alloc, &append);
+    match noted(part, alloc, &append, happened) {
+        Ok(happened) => {
+            drop(append);
+            Ok(Act { happened, letters })
+        }
+        Err(NoMemory) => {
+            drop(append);
+            drop(letters);
+            Err(NoMemory)
+        }
+    }
 }
 
 /// A coordinator's transaction is submitted at a place. After NoMemory it is up as before, and its log is as before.
@@ -262,18 +331,23 @@ pub fn coordinator_submits(
     ensures up { machine.is_part_down part.new ≡ machine.is_part_down part.old }
     ensures log { OnErr result (part.new.log ≡ part.old.log) }
 {
-    let mut happened = List::of_one(alloc, What::Submitted(txn))?;
     let Some(coordinator) = &mut part.up else {
-        return Ok(Act {
-            happened,
-            letters: List::new(alloc),
-        });
+        return alone(alloc, What::Submitted(txn));
     };
     let Reaction { append, letters } = coordinator.submit(alloc, scenario)?;
     coordinator.placed(place);
-    note_decision(alloc, &mut happened, &append)?;
-    part.force(alloc, &append)?;
-    Ok(Act { happened, letters })
+    let happened = with_decision(alloc, What::Submitted(txn), &append);
+    match noted(part, alloc, &append, happened) {
+        Ok(happened) => {
+            drop(append);
+            Ok(Act { happened, letters })
+        }
+        Err(NoMemory) => {
+            drop(append);
+            drop(letters);
+            Err(NoMemory)
+        }
+    }
 }
 
 /// A server crashes in the receipt of a mail: what is left of it is on its log. It goes down once that is noted, and is up until
@@ -298,13 +372,14 @@ pub fn server_crashes_in<L: LockTable + Drop>(
     ensures log { OnErr result (part.new.log ≡ part.old.log) }
 {
     let Some(server) = &mut part.up else {
-        return crashed(alloc, What::Crashed(Actor::Server(at)));
+        return alone(alloc, What::Crashed(Actor::Server(at)));
     };
-    let Reaction { append, letters: _ } = server.receive(alloc, scenario, mail)?;
-    let happened = server_cut_facts(alloc, at, cut, &append)?;
-    part.cut(alloc, &append, cut)?;
+    let append = server.receive(alloc, scenario, mail)?.append;
+    let happened = server_cut_facts(alloc, at, cut, &append);
+    let torn = torn(part, alloc, &append, happened, cut);
+    drop(append);
     Ok(Act {
-        happened,
+        happened: torn?,
         letters: List::new(alloc),
     })
 }
@@ -330,23 +405,14 @@ pub fn coordinator_crashes_in(
     ensures log { OnErr result (part.new.log ≡ part.old.log) }
 {
     let Some(coordinator) = &mut part.up else {
-        return crashed(alloc, What::Crashed(Actor::Coordinator(txn)));
+        return alone(alloc, What::Crashed(Actor::Coordinator(txn)));
     };
-    let Reaction { append, letters: _ } = coordinator.receive(alloc, scenario, mail)?;
-    let happened = coordinator_cut_facts(alloc, txn, cut, &append)?;
-    part.cut(alloc, &append, cut)?;
+    let append = coordinator.receive(alloc, scenario, mail)?.append;
+    let happened = coordinator_cut_facts(alloc, txn, cut, &append);
+    let torn = torn(part, alloc, &append, happened, cut);
+    drop(append);
     Ok(Act {
-        happened,
-        letters: List::new(alloc),
-    })
-}
-
-/// A crash, of which nothing is left.
-pub fn crashed(alloc: Global, crash: What) -> Result<Act, NoMemory>
-    ensures { IfOk result (λ act. act ≡ record { happened = crash ∷ []; letters = [] }) }
-{
-    Ok(Act {
-        happened: List::of_one(alloc, crash)?,
+        happened: torn?,
         letters: List::new(alloc),
     })
 }
@@ -388,11 +454,12 @@ fn coordinator_cut_facts(
     ensures { IfOk result (λ facts. facts ≡ what.Crashed (actor.Coordinator txn)
         ∷ option_map_or machine.coordinator_fact (machine.cut_record cut append.now) []) }
 {
-    let mut happened = List::of_one(alloc, What::Crashed(Actor::Coordinator(txn)))?;
+    let crash = What::Crashed(Actor::Coordinator(txn));
     if is_kept(cut) {
-        note_decision(alloc, &mut happened, append)?;
+        with_decision(alloc, crash, append)
+    } else {
+        List::of_one(alloc, crash)
     }
-    Ok(happened)
 }
 
 /// A server boots by its log, on which one boot more is then. It comes up with the state that is answered once that is noted.
@@ -413,12 +480,22 @@ pub fn server_boots<L: LockTable + Drop>(
     let kept = part.kept(alloc, scenario, at)?;
     let (state, reaction) = Server::booted(alloc, scenario, at, kept, locks)?;
     let Reaction { append, letters } = reaction;
-    part.force(alloc, &append)?;
-    let act = Act {
-        happened: List::new(alloc),
-        letters,
-    };
-    Ok((state, act))
+    let forced = part.force(alloc, &append);
+    drop(append);
+    match forced {
+        Ok(()) => Ok((
+            state,
+            Act {
+                happened: List::new(alloc),
+                letters,
+            },
+        )),
+        Err(NoMemory) => {
+            drop(letters);
+            drop(state);
+            Err(NoMemory)
+        }
+    }
 }
 
 /// A coordinator boots by its log, in the same way.
@@ -438,10 +515,17 @@ pub fn coordinator_boots(
 {
     let (state, reaction) = part.booted(alloc, scenario, txn)?;
     let Reaction { append, letters } = reaction;
-    let mut happened = List::new(alloc);
-    note_decision(alloc, &mut happened, &append)?;
-    part.force(alloc, &append)?;
-    Ok((state, Act { happened, letters }))
+    let happened = coordinator_facts(alloc, &append);
+    let told = noted(part, alloc, &append, happened);
+    drop(append);
+    match told {
+        Ok(happened) => Ok((state, Act { happened, letters })),
+        Err(NoMemory) => {
+            drop(letters);
+            drop(state);
+            Err(NoMemory)
+        }
+    }
 }
 
 fn server_facts(
@@ -457,6 +541,29 @@ fn server_facts(
         }
         _ => Ok(List::new(alloc)),
     }
+}
+
+fn coordinator_facts(alloc: Global, append: &Option<Record>) -> Result<List<What>, NoMemory>
+    ensures { IfOk result (λ facts.
+        facts ≡ option_map_or machine.coordinator_fact append.now []) }
+{
+    let mut facts = List::new(alloc);
+    note_decision(alloc, &mut facts, append)?;
+    Ok(facts)
+}
+
+/// What happened first, and the decision that the log gains if there is one.
+fn with_decision(
+    alloc: Global,
+    first: What,
+    append: &Option<Record>,
+) -> Result<List<What>, NoMemory>
+    ensures { IfOk result (λ facts.
+        facts ≡ first ∷ option_map_or machine.coordinator_fact append.now []) }
+{
+    let mut facts = List::of_one(alloc, first)?;
+    note_decision(alloc, &mut facts, append)?;
+    Ok(facts)
 }
 
 fn note_decision(

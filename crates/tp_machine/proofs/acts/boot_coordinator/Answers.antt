@@ -47,26 +47,25 @@ returns-in_err-state-clause-logs c =
       servers = refl;
     }))
 
-pub returns-in_err-note-clause-up : goal.returns-in_err-note-clause-up
-returns-in_err-note-clause-up c =
-    let same : SameUp c.args.actors.now (record c.args.actors.now { coordinators = slice_set c.args.actors.now.coordinators c.args.txn.0 c.coordinator_boots.new.part }) = record {
+pub returns-in-Err-clause-up : goal.returns-in-Err-clause-up
+returns-in-Err-clause-up c =
+    record {
       coordinators = same_up c.args.actors.now.coordinators c.args.txn.0 c.in-Some.part.now c.coordinator_boots.new.part c.in-Some.ensures.item.1 c.coordinator_boots.ensures.up;
       servers = refl;
-    } in
-    on_err_any _ same
+    }
 
-pub returns-in_err-note-clause-logs : goal.returns-in_err-note-clause-logs
-returns-in_err-note-clause-logs c =
+pub returns-in-Err-clause-logs : goal.returns-in-Err-clause-logs
+returns-in-Err-clause-logs c =
     let part = c.in-Some.part.now in
     let found = member c.args.actors.now.coordinators c.args.txn.0 part (c.in-Some.ensures.variant.0 refl) c.in-Some.ensures.item.1 in
-    on_err_any _ (inr (coordinator_boot_logs c.args.scenario.now c.args.actors.now c.args.txn part c.coordinator_boots.new.part c.in_ok-state.state c.in_ok-state.act found c.in_ok-state.ensures.ok))
+    inr (coordinator_boot_logs c.args.scenario.now c.args.actors.now c.args.txn part c.coordinator_boots.new.part c.in_ok-state.state c.in_ok-state.act found c.in_ok-state.ensures.ok)
 
-pub returns-clause-ok : goal.returns-clause-ok
-returns-clause-ok c =
+pub returns-in-Ok-clause-ok : goal.returns-in-Ok-clause-ok
+returns-in-Ok-clause-ok c =
     let actors = c.args.actors.now in
     let part = c.in-Some.part.now in
     let found = member actors.coordinators c.args.txn.0 part (c.in-Some.ensures.variant.0 refl) c.in-Some.ensures.item.1 in
     machine_noted actors _ c.args.history.now c.note.new.self (step.Boot (actor.Coordinator c.args.txn)) _ c.in_ok-state.act
     (subst (λ (p : Part Coordinator). Moves (boot_of_coordinator c.args.scenario.now actors c.args.txn (slice_get actors.coordinators c.args.txn.0)) (record actors { coordinators = slice_set actors.coordinators c.args.txn.0 p }) c.in_ok-state.act) (sym c.comes_up.ensures)
     (coordinator_boot_moves c.args.scenario.now actors c.args.txn part c.coordinator_boots.new.part c.in_ok-state.state c.in_ok-state.act found c.in_ok-state.ensures.ok))
-    c.in_ok-note.ensures.ok
+    c.in-Ok.ensures.ok

@@ -23,9 +23,9 @@ coordinator_crashes_in-requires c =
 
 pub returns-in-None-clause-ok : goal.returns-in-None-clause-ok
 returns-in-None-clause-ok c =
-    IfOk-weaker c.crashed.result _ _
+    IfOk-weaker c.alone.result _ _
     (λ act e mails sent. nobody_cuts_either c.args.scenario.now c.args.self.now mails c.args.txn c.args.cut act (no_member c.args.self.now.coordinators c.args.txn.0 c.in-None.ensures.variant.1) e)
-    c.crashed.ensures
+    c.alone.ensures
 
 pub returns-in-Some-clause-ok : goal.returns-in-Some-clause-ok
 returns-in-Some-clause-ok c =

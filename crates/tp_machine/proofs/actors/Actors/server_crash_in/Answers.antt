@@ -21,9 +21,9 @@ server_crashes_in-requires-clause-fits c =
 
 pub returns-in-None-clause-ok : goal.returns-in-None-clause-ok
 returns-in-None-clause-ok c =
-    IfOk-weaker c.crashed.result _ _
+    IfOk-weaker c.alone.result _ _
     (λ act e mails sent. nobody_cuts c.args.scenario.now c.args.self.now mails c.args.at c.args.cut act (no_member c.args.self.now.servers c.args.at.0 c.in-None.ensures.variant.1) e)
-    c.crashed.ensures
+    c.alone.ensures
 
 pub returns-in-Some-clause-ok : goal.returns-in-Some-clause-ok
 returns-in-Some-clause-ok c =

@@ -1,0 +1,18 @@
+use Rattle.std.proofs.Common.{[], ◌∷◌, ap, refl}
+use Rattle.tp_model.specs.Words.actor
+use Rattle.tp_model.specs.Words.what
+use Rattle.tp_server.specs.Row.{server_row}
+use Rattle.tp_server.specs.State.{Server}
+use Rattle.tp_machine.specs.Parts.{Part}
+use Rattle.tp_machine.specs.mirrors.Disks.{records_on}
+use Rattle.tp_machine.specs.Machine.{server_fact}
+use Rattle.tp_machine.proofs.basics.Acted.{torn_acted}
+use Rattle.tp_machine.proofs.part.server_crashes_in.Goals as goal
+
+pub returns-clause-ok : goal.returns-clause-ok
+returns-clause-ok g c =
+    let gave = c.in_ok-append.ensures in
+    rw (← c.part.view_is, c.in-Some.is)
+    (torn_acted (server_fact c.args.at) (what.Crashed (actor.Server c.args.at) ∷ []) (record { up = c.part.inside.up; log = records_on c.part.inside.log }) c.torn-torn.new.part _ c.args.cut c.in_ok-append.field-0 (server_row c.args.scenario.now c.in-Some.server c.args.mail.now).reaction
+    c.in_ok-torn.field-0 c.new.result gave.reaction_is refl (ap (λ (p : Part Server). p.log) c.in_ok-torn.ensures.torn)
+    (c.in_ok-torn.ensures.told _ c.server_cut_facts-happened.ensures) c.new.ensures)
