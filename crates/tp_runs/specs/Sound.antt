@@ -1,6 +1,6 @@
 -- What is asked of each actor, mail, record and fact of a world: that all they name exists, that a deed does to an item what its query
 -- says, and that a write is asked with a value. What bounds the values stands in Bounded.
-use Rattle.std.specs.Prelude.{IfSome, List, Option, Some, [], is_some, length, option_and_then, option_map, slice_get, true, ℕ, ◌<◌, ◌∷◌, ◌≡◌, ◌≤◌, is_none, ◌&&◌, false}
+use Rattle.std.specs.Prelude.{IfSome, List, Option, Some, [], is_some, length, option_and_then, option_map, slice_get, true, ℕ, ◌∷◌, ◌≡◌, ◌≤◌, is_none, ◌&&◌, false}
 use Rattle.std.specs.List.{IsDistinct}
 use Rattle.tp_model.specs.Authorisation.{action_of}
 use Rattle.tp_model.specs.Ids.{same_cred}
@@ -12,8 +12,6 @@ use Rattle.tp_model.specs.Words.cause
 use Rattle.tp_model.specs.Words.decision
 use Rattle.tp_model.specs.Words.log
 use Rattle.tp_model.specs.Words.no
-use Rattle.tp_model.specs.Words.query
-use Rattle.tp_model.specs.Words.scheme
 use Rattle.tp_model.specs.Words.vote
 use Rattle.tp_model.specs.Words.what
 use Rattle.tp_model.specs.Words.{Actor, Admin, AdminId, Answer, Body, Cause, CommitRecord, CredId, Decided, Decision, Deed, Denied, Died, DoneReply, Fact, Instance, Item, ItemId, Letter, Mail, Met, Newer, NewestReply, No, OutOfRange, PrepareRequest, Prepared, PushNotice, Query, QueryRequest, Record, Scenario, ServerId, Settled, Staple, TellReply, Transaction, TxnId, ValidateRequest, Verdict, VerdictsReply, Version, Vote, VoteReply, What}

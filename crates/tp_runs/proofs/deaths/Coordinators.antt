@@ -1,6 +1,5 @@
 -- Deaths for an older transaction, the coordinator's rows: an abort by one is shown by the answer that it came of.
-use Rattle.std.proofs.Common.{IfSome, List, Option, [], ap, arith, map, subst, true, ℕ, ◌<◌, ◌∷◌, ◌≡◌}
-use Rattle.std.proofs.lemmas.Bool.{eqb-true}
+use Rattle.std.proofs.Common.{IfSome, List, Option, [], arith, map, subst, true, ℕ, ◌<◌, ◌∷◌, ◌≡◌}
 use Rattle.tp_types.specs.Effect.{Effect}
 use Rattle.tp_model.specs.Facts.{was_submitted}
 use Rattle.tp_model.specs.Words.actor
@@ -11,8 +10,9 @@ use Rattle.tp_model.specs.Words.outcome
 use Rattle.tp_model.specs.Words.what
 use Rattle.tp_model.specs.Words.decision
 use Rattle.tp_model.specs.Words.{Actor, Answer, Cause, DoneReply, Fact, Letter, Mail, Outcome, Record, Scenario, ServerId, TxnId}
-use Rattle.tp_coord.specs.Row.{awaited_in, coordinator_row, is_from, next_turn, prepare_letter, repeats, requests, staple_of, submit_row}
+use Rattle.tp_coord.specs.Row.{awaited_in, coordinator_row, next_turn, prepare_letter, repeats, requests, staple_of, submit_row}
 use Rattle.tp_coord.specs.State.{Coordinator}
+use Rattle.tp_runs.proofs.epochs.Kept.{from_server}
 use Rattle.tp_runs.proofs.deaths.Fit.{Adds, AnswerSent, BodyDies, Death, LetterDies, WhatDies, body_dies_still, death_shown}
 use Rattle.tp_coord.proofs.Rows.{ByLoss, ByOlder, ByProof, ByRefusal, ByRestart, IsEnded, coordinator_by, submit_by, timer_by}
 use Rattle.tp_machine.specs.Machine.{with_age}
@@ -41,12 +41,6 @@ all_none : (sc : Scenario) (facts : List Fact) (place : ℕ) (f : ServerId → L
 all_none sc facts place f h [] = tt
 all_none sc facts place f h (at ∷ servers) = (h at, all_none sc facts place f h servers)
 
-server_from : (from : Actor) (server : ServerId) → is_from from server ≡ true → from ≡ actor.Server server
-server_from (actor.Server at) server e = ap (λ (n : ℕ). actor.Server (record { 0 = n })) (eqb-true at.0 server.0 e)
-server_from (actor.Coordinator txn) server e = absurd (cc)
-server_from actor.Authority server e = absurd (cc)
-server_from actor.Master server e = absurd (cc)
-
 -- the answer names a death, and was sent after the submission
 told_death : (sc : Scenario) (facts : List Fact) (at : ServerId) (sent : ℕ) (done : DoneReply) (other : TxnId) (given : Answer) → given ≡ answer.Died other → AnswerSent sc facts at sent done given
     → Death sc facts at done.txn other done.query × (was_submitted done.txn sent facts ≡ true)
@@ -74,7 +68,7 @@ coordinator_row_dies sc old place c mail less h own =
     cause_dies _ (ByOlder done server asked other k) facts a = λ declared there.
         let still = body_dies_still sc old facts place mail.sent mail.letter.from mail.letter.body a (omega (arith, less)) h in
         let said : BodyDies sc facts mail.sent (actor.Server server) (body.Done done) =
-        subst (λ (from : Actor). BodyDies sc facts mail.sent from (body.Done done)) (server_from mail.letter.from server k.from_is) (subst (BodyDies sc facts mail.sent mail.letter.from) k.said_is still) in
+        subst (λ (from : Actor). BodyDies sc facts mail.sent from (body.Done done)) (from_server mail.letter.from server k.from_is) (subst (BodyDies sc facts mail.sent mail.letter.from) k.said_is still) in
         let told = told_death sc facts server mail.sent done other done.answer k.answer_is said in
         let same : done.txn ≡ c.txn = own done k.said_is in
         death_shown sc facts place server c.txn other done.query mail.sent declared (subst (λ (t : TxnId). Death sc facts server t other done.query) same told.0)
